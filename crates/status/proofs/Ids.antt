@@ -1,0 +1,30 @@
+-- What a text that is no identifier lacks.
+use Rattle.std.proofs.Common.{◌≡◌, ℕ, List, drop, sym, ap, ◌∙◌, arith, subst, Option, Some, None, IfNone}
+use Rattle.std.specs.Fmt.{decimal}
+use Rattle.std.specs.Str.{IsCharBoundary}
+use Rattle.std.proofs.lemmas.Str.{IsCharBoundary-from_drop, IsUtf8-from_ascii}
+use Rattle.std.proofs.lemmas.Fmt.{IsAscii-decimal, decimal_injective}
+use Rattle.units.specs.Text.{IsNumberText}
+use Rattle.status.specs.Facts.{IsTransactionNumber}
+use Rattle.status.specs.Id.{id_text}
+use Rattle.status.specs.declared.id.TransactionId.{TransactionId}
+
+-- behind the code of an identifier a text can be cut
+boundary : (t : TransactionId) → IsCharBoundary (id_text t) 2
+boundary t = let range = t.in_range in IsCharBoundary-from_drop (id_text t) 2 (omega arith) (IsUtf8-from_ascii (decimal t.number) (IsAscii-decimal t.number (omega arith)))
+
+pub no_boundary : (text : List ℕ) → (IsCharBoundary text 2 → ⊥) → (t : TransactionId) → text ≡ id_text t → ⊥
+no_boundary text never t e = never (subst (λ s. IsCharBoundary s 2) (sym e) (boundary t))
+
+-- the number that stands behind the code
+pub number_behind : (text rest : List ℕ) (n : ℕ) → rest ≡ drop 2 text → IsNumberText rest n → (t : TransactionId) → text ≡ id_text t → n ≡ t.number
+number_behind text rest n behind is t e =
+    let range = t.in_range in
+    let same : decimal n ≡ decimal t.number = sym is.0 ∙ behind ∙ ap (drop 2) e in
+    let small = is.1 in
+    decimal_injective n t.number (omega arith) (omega arith) same
+
+pub no_such : (o : Option TransactionId) (text : List ℕ) (n : ℕ) → ((t : TransactionId) → text ≡ id_text t → n ≡ t.number) → IfNone o (IsTransactionNumber n → ⊥)
+    → IfNone o ((t : TransactionId) → text ≡ id_text t → ⊥)
+no_such (Some t) text n same h = tt
+no_such None text n same h = λ t e. h (subst IsTransactionNumber (sym (same t e)) t.in_range)

@@ -1,0 +1,5 @@
+pub mod Facts
+pub mod Id
+pub mod Moment
+pub mod Status
+pub mod Rows

@@ -1,0 +1,14 @@
+//! Transactions: their identifiers, their statuses, the status tables of the three roles, and moments.
+#![tactic(auto)]
+
+mod id;
+mod moment;
+mod tables;
+#[cfg(test)]
+mod tests;
+mod words;
+
+pub use id::TransactionId;
+pub use moment::{Moment, MomentFault};
+pub use tables::row;
+pub use words::{Known, Role, Row, RowInput, Status};

@@ -1,0 +1,61 @@
+//! Whole seconds since the epoch, and the texts that name them.
+ghost use Rattle.std.specs.Prelude.{◌≡◌, ◌≤◌, IfOk, IfErr, IfSome, IfNone};
+ghost use Rattle.status.specs.Facts.{last_moment};
+
+use jiff::Timestamp;
+use thiserror::Error;
+
+/// A whole second from 1970-01-01T00:00:00Z (0) to 9998-12-31T23:59:59Z (253,370,764,799).
+#[derive(Clone, Copy, Debug, PartialEq, Eq, PartialOrd, Ord)]
+pub struct Moment {
+    pub seconds: u64,
+    pub ghost in_range: { seconds ≤ last_moment },
+}
+
+/// Why a text names no moment.
+#[derive(Clone, Copy, Debug, PartialEq, Eq, Error)]
+pub enum MomentFault {
+    /// It names no instant, one with a part of a second, or one out of range.
+    #[error("no moment")]
+    Text,
+    /// Never answered today, since reading an instant takes no memory.
+    #[error("out of memory")]
+    NoMemory,
+}
+
+impl Moment {
+    ghost use Rattle.status.specs.Moment.{IsMomentText};
+    ghost use Rattle.status.specs.declared.moment.Moment.{Moment};
+    ghost use Rattle.status.specs.declared.moment.MomentFault.TheVariants.{Text};
+
+    /// The moment that many seconds after the epoch, where it lies in the range.
+    pub fn new(seconds: u64) -> Option<Moment>
+        ensures some { IfSome result (λ m. m.seconds ≡ seconds) }
+        ensures none { IfNone result (seconds ≤ last_moment → ⊥) }
+    {
+        if seconds <= 253_370_764_799 {
+            Some(Moment { seconds })
+        } else {
+            None
+        }
+    }
+
+    /// The moment that a text names: one that `jiff` reads as an instant, that has no part of a
+    /// second and lies in the range.
+    pub fn read(text: &str) -> Result<Moment, MomentFault>
+        ensures ok { IfOk result (λ m. IsMomentText text.now m) }
+        ensures fault { IfErr result (λ e. (e ≡ Text) × ((m : Moment) → IsMomentText text.now m → ⊥)) }
+    {
+        let Ok(instant) = text.parse::<Timestamp>() else {
+            return Err(MomentFault::Text);
+        };
+        let seconds = instant.as_second();
+        if instant.subsec_nanosecond() != 0 || seconds < 0 {
+            return Err(MomentFault::Text);
+        }
+        match Moment::new(seconds as u64) {
+            Some(moment) => Ok(moment),
+            None => Err(MomentFault::Text),
+        }
+    }
+}

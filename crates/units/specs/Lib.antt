@@ -1,0 +1,4 @@
+pub mod Facts
+pub mod Text
+pub mod Code
+pub mod Block

@@ -1,0 +1,19 @@
+//! Registry codes, nodes, units and blocks of units, their texts, and what every crate above shares:
+//! refusals, want of memory and lists.
+#![tactic(auto)]
+
+mod block;
+mod code;
+mod items;
+mod memory;
+mod refusal;
+#[cfg(test)]
+mod tests;
+mod text;
+
+pub use block::{Block, BlockFault, Kind, Period, RawBlock, Unit};
+pub use code::{Code, Node};
+pub use items::Items;
+pub use memory::NoMemory;
+pub use refusal::Refusal;
+pub use text::{cut, number};

@@ -1,0 +1,62 @@
+//! What a command answers where it does not do its work.
+
+use std::fmt;
+use thiserror::Error;
+
+/// What is wrong with a line of an input.
+#[derive(Clone, Copy, Debug, PartialEq, Eq)]
+pub enum Cause {
+    /// The scheme's line is no JSON.
+    NotJson,
+    /// The scheme's line is JSON, and no scheme.
+    Shape,
+    /// The line is no event.
+    Order,
+    /// There is no line, or the line has no newline.
+    Truncated,
+    /// The line is over its limit, or has the first byte over the input's.
+    TooLong,
+}
+
+impl fmt::Display for Cause {
+    ghost use Rattle.std.specs.Prelude.{Some};
+    ghost use Rattle.operator.specs.Faults.{cause_text};
+
+    ghost output = { λ c. Some (cause_text c) };
+
+    fn fmt<W: fmt::Write>(&self, f: &mut fmt::Formatter<W>) -> fmt::Result {
+        match self {
+            Cause::NotJson => write!(f, "not-json"),
+            Cause::Shape => write!(f, "shape"),
+            Cause::Order => write!(f, "order"),
+            Cause::Truncated => write!(f, "truncated"),
+            Cause::TooLong => write!(f, "too-long"),
+        }
+    }
+}
+
+/// Why a command failed, and where.
+#[derive(Clone, Copy, Debug, PartialEq, Eq, Error)]
+pub enum OpFault {
+    /// The first line of the input that has a fault, counted from 1, and its fault.
+    #[error("line {line}: {cause}")]
+    Input { line: u64, cause: Cause },
+    /// The input could not be read.
+    #[error("read failed")]
+    Read,
+    /// The output could not be written, but for that many of its first bytes.
+    #[error("write failed after {0} bytes")]
+    Write(u64),
+    #[error("out of memory")]
+    NoMemory,
+}
+
+impl OpFault {
+    /// The program's exit status.
+    pub fn status(&self) -> u8 {
+        match self {
+            OpFault::Input { .. } | OpFault::Read | OpFault::Write(_) => 3,
+            OpFault::NoMemory => 5,
+        }
+    }
+}

@@ -1,0 +1,14 @@
+//! All nodes and the bag of posted messages: one world, which moves by events.
+#![tactic(auto)]
+
+mod bag;
+mod event;
+mod nodes;
+mod table;
+pub mod thin;
+mod views;
+
+pub use bag::World;
+pub use event::{Outcome, WorldEvent};
+pub use nodes::{Posted, Station};
+pub use table::{Debt, Holding};

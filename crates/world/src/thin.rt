@@ -1,0 +1,11 @@
+//! The thin rules: a scheme of two registries, messages, inputs and a verdict for the accepted path
+//! of whole allotted blocks.
+
+mod messages;
+mod reading;
+mod registries;
+mod rules;
+
+pub use messages::{Content, Input, Message};
+pub use registries::{Allotment, Member, Scheme, SchemeFault};
+pub use rules::{Transition, Verdict, judge, status_in};

@@ -1,12 +1,15 @@
 -- What a text that is no identifier lacks.
-use Rattle.std.proofs.Common.{◌≡◌, ℕ, List, drop, sym, ap, ◌∙◌, arith, subst, Option, Some, None, IfNone}
+use Rattle.std.proofs.Common.{◌≡◌, ℕ, List, drop, sym, ap, ◌∙◌, arith, subst, Option, Some, None, IfNone, Bool, true, false, true≢false, refl}
 use Rattle.std.specs.Fmt.{decimal}
 use Rattle.std.specs.Str.{IsCharBoundary}
 use Rattle.std.proofs.lemmas.Str.{IsCharBoundary-from_drop, IsUtf8-from_ascii}
 use Rattle.std.proofs.lemmas.Fmt.{IsAscii-decimal, decimal_injective}
 use Rattle.units.specs.Text.{IsNumberText}
 use Rattle.status.specs.Facts.{IsTransactionNumber}
-use Rattle.status.specs.Id.{id_text}
+use Rattle.units.specs.declared.code.Code.{Code}
+use Rattle.std.specs.Coded.{×_prop, le_prop}
+use Rattle.std.proofs.lemmas.Bool.{le-leb}
+use Rattle.status.specs.Id.{id_text, is_number, number_from, id_if, id_at}
 use Rattle.status.specs.declared.id.TransactionId.{TransactionId}
 
 -- behind the code of an identifier a text can be cut
@@ -28,3 +31,21 @@ pub no_such : (o : Option TransactionId) (text : List ℕ) (n : ℕ) → ((t : T
     → IfNone o ((t : TransactionId) → text ≡ id_text t → ⊥)
 no_such (Some t) text n same h = tt
 no_such None text n same h = λ t e. h (subst IsTransactionNumber (sym (same t e)) t.in_range)
+
+-- an identifier has one proof of its range
+one_range : (n : ℕ) → IsProp (IsTransactionNumber n)
+one_range n = ×_prop le_prop le_prop
+
+abbrev id : (c : Code) (n : ℕ) → IsTransactionNumber n → TransactionId
+id c n h = record { code = c; number = n; in_range = h }
+
+in_test : (t : TransactionId) → is_number t.number ≡ true
+in_test t = let range = t.in_range in rw (le-leb 1 t.number range.0, le-leb t.number 999_999 range.1) refl
+
+id_if-some : (t : TransactionId) (b : Bool) (e : is_number t.number ≡ b) → id_if t.code t.number b e ≡ Some t
+id_if-some t true e = ap (λ h. Some (id t.code t.number h)) (one_range t.number (number_from t.number e) t.in_range)
+id_if-some t false e = absurd (true≢false (sym (in_test t) ∙ e))
+
+-- `id_at` gives every identifier back
+pub id_at-some : (t : TransactionId) → id_at t.code t.number ≡ Some t
+id_at-some t = id_if-some t (is_number t.number) refl

@@ -1,5 +1,5 @@
 -- The names of the statuses.
-use Rattle.std.specs.Prelude.{ℕ, List, codes}
+use Rattle.std.specs.Prelude.{ℕ, List, codes, Bool, ◌==◌}
 use Rattle.status.specs.declared.words.Status.{Status}
 use Rattle.status.specs.declared.words.Status.TheVariants.{Proposed, Checked, Accepted, Rejected, Terminated, Cancelled, Completed}
 
@@ -11,3 +11,15 @@ status_text Rejected = codes "Rejected"
 status_text Terminated = codes "Terminated"
 status_text Cancelled = codes "Cancelled"
 status_text Completed = codes "Completed"
+
+abbrev pub status_index : Status → ℕ
+status_index Proposed = 0
+status_index Checked = 1
+status_index Accepted = 2
+status_index Rejected = 3
+status_index Terminated = 4
+status_index Cancelled = 5
+status_index Completed = 6
+
+abbrev pub same_status : Status → Status → Bool
+same_status a b = status_index a == status_index b

@@ -16,13 +16,14 @@ pub struct TransactionId {
 }
 
 impl TransactionId {
-    ghost use Rattle.status.specs.Id.{id_text};
+    ghost use Rattle.status.specs.Id.{id_text, id_at};
     ghost use Rattle.status.specs.declared.id.TransactionId.{TransactionId};
 
     /// The identifier of that code and number, where the number is 1 to 999,999.
     pub fn new(code: Code, number: u32) -> Option<TransactionId>
         ensures some { IfSome result (λ t. (t.code ≡ code) × (t.number ≡ number)) }
         ensures none { IfNone result (IsTransactionNumber number → ⊥) }
+        ensures value { result ≡ id_at code number }
     {
         if (1..=999_999).contains(&number) {
             Some(TransactionId { code, number })

@@ -2,3 +2,5 @@ pub mod Facts
 pub mod Text
 pub mod Code
 pub mod Block
+pub mod Unit
+pub mod Keys

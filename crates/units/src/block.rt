@@ -190,6 +190,7 @@ impl fmt::Display for RawBlock {
 
 impl Block {
     ghost use Rattle.units.specs.Block.{IsRawText, raw_text};
+    ghost use Rattle.units.specs.Unit.{has_unit};
     ghost use Rattle.units.specs.declared.block.RawBlock.{RawBlock};
 
     /// The block of these numbers, or `Range`.
@@ -236,6 +237,16 @@ impl Block {
         ensures { IfOk result (λ s. string_bytes s ≡ raw_text self.now.raw) }
     {
         Ok(format!(in alloc; "{self}")?)
+    }
+
+    /// Whether it has that unit.
+    pub fn has(&self, unit: &Unit) -> bool
+        ensures { result ≡ has_unit self.now.raw unit.now }
+    {
+        self.raw.origin == unit.origin
+            && self.raw.period == unit.period
+            && self.raw.first <= unit.number
+            && unit.number <= self.raw.last
     }
 
     /// How many units it has.

@@ -1,1 +1,6 @@
 pub mod Messages
+pub mod History
+pub mod Verdict
+pub mod World
+pub mod Views
+pub mod Holdings

@@ -29,19 +29,12 @@ struct Place {
     mark: Option<TransactionId>,
 }
 
-fn has_unit(block: &Block, unit: &Unit) -> bool {
-    block.raw.origin == unit.origin
-        && block.raw.period == unit.period
-        && block.raw.first <= unit.number
-        && unit.number <= block.raw.last
-}
-
 pub(crate) fn covers(blocks: &[Block], unit: &Unit) -> bool {
-    blocks.iter().any(|b| has_unit(b, unit))
+    blocks.iter().any(|b| b.has(unit))
 }
 
 fn kind_in(blocks: &[Block], unit: &Unit) -> Option<Kind> {
-    let block = blocks.iter().find(|b| has_unit(b, unit))?;
+    let block = blocks.iter().find(|b| b.has(unit))?;
     Some(block.raw.kind)
 }
 

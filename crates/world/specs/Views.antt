@@ -1,0 +1,80 @@
+-- What a world shows: of every node the committed journal and the tail behind it.
+use Rattle.std.specs.Prelude.{◌≡◌, ℕ, suc, ◌+◌, ◌&&◌, not, cond, ◌<◌, ◌↔◌, ◌⊎◌, Bool, true, false, List, [], ◌∷◌, map, filter, flat_map, reverse, sum_by, Contains, Option, Some, None, option_map, option_and_then}
+use Rattle.std.specs.List.{filter_map}
+use Rattle.units.specs.Code.{same_code}
+use Rattle.units.specs.Unit.{has_unit, covers}
+use Rattle.units.specs.declared.code.Code.{Code}
+use Rattle.units.specs.declared.code.Node.{Node}
+use Rattle.units.specs.declared.code.Node.TheVariants.{Itl, Registry}
+use Rattle.units.specs.declared.block.Unit.{Unit as Serial}
+use Rattle.status.specs.Status.{same_status}
+use Rattle.status.specs.declared.id.TransactionId.{TransactionId}
+use Rattle.status.specs.declared.words.Status.{Status}
+use Rattle.status.specs.declared.words.Status.TheVariants.{Proposed, Completed}
+use Rattle.world.specs.declared.thin.messages.Input.{Input}
+use Rattle.world.specs.declared.thin.registries.Member.{Member}
+use Rattle.world.specs.declared.thin.rules.Transition.{Transition}
+use Rattle.world.specs.declared.table.Debt.{Debt}
+use Rattle.world.specs.History.{Entry, transitions, stands, stands_at, newest, number_of, holds, spendable, gives}
+use Rattle.world.specs.Verdict.{history, member}
+use Rattle.world.specs.World.{World, Station, station, journal}
+
+-- a node's journal with its tail, and the committed part of it; of a node that isn't there none
+abbrev pub journal_of : World → Node → Option (List Input)
+journal_of w n = option_map journal (station w n)
+
+abbrev pub committed_of : World → Node → Option (List Input)
+committed_of w n = option_map (λ s. s.committed) (station w n)
+
+-- the transitions of a node's journal with its tail
+abbrev pub live_in : World → Option Station → List Transition
+live_in w None = []
+live_in w (Some s) = transitions (history w.scheme s.node (journal s))
+
+abbrev pub live : World → Node → List Transition
+live w n = live_in w (station w n)
+
+-- how a transaction stands at a node
+abbrev pub status_at : World → Node → TransactionId → Option Status
+status_at w n t = stands (live w n) t
+
+-- ---- holding and owing a unit
+
+abbrev pub is_held : World → Code → Serial → Bool
+is_held w c s = held_by (member w.scheme c)
+  where
+    held_by : Option Member → Bool
+    held_by None = false
+    held_by (Some m) = holds m (live w (Registry m.code)) s
+
+abbrev pub is_spendable : World → Code → Serial → Bool
+is_spendable w c s = spendable_by (member w.scheme c)
+  where
+    spendable_by : Option Member → Bool
+    spendable_by None = false
+    spendable_by (Some m) = spendable m (live w (Registry m.code)) s
+
+-- the transition completes its transaction at the initiator, and the acquirer has not completed it
+abbrev pub owes : World → Code → Transition → Bool
+owes w c x = same_code x.id.code c && (same_status x.new Completed && not (stands_at (live w (Registry x.content.acquirer)) x.id Completed))
+
+-- how many transactions owe the unit
+abbrev pub owed : World → Serial → ℕ
+owed w s = sum_by (λ m. number_of (λ x. owes w m.code x && covers x.content.units s) (live w (Registry m.code))) w.scheme.members
+
+-- ---- transactions and debts
+
+-- a registry's own proposals, in the order of their numbers
+abbrev pub proposals : Code → List Transition → List Transition
+proposals c ts = reverse (filter (λ x. same_code x.id.code c && same_status x.new Proposed) ts)
+
+-- the transactions in their initiators' journals, by code and then by number
+abbrev pub transactions : World → List Transition
+transactions w = flat_map (λ m. proposals m.code (live w (Registry m.code))) w.scheme.members
+
+abbrev pub debt_of : World → Transition → Option Debt
+debt_of w x = option_and_then (λ y. cond (owes w x.id.code y) (Some (record { id = x.id; units = y.content.units })) None) (newest (live w (Registry x.id.code)) x.id)
+
+-- the transactions that owe their units, in the same order
+abbrev pub due : World → List Debt
+due w = filter_map (debt_of w) (transactions w)

@@ -1,5 +1,5 @@
 -- The orders of codes and units: by their fields in turn.
-use Rattle.std.specs.Ordering.{Ordering}
+use Rattle.std.specs.declared.cmp.Ordering.{Ordering}
 use Rattle.units.specs.declared.code.Code.{Code}
 use Rattle.units.specs.declared.block.Unit.{Unit as Serial}
 use Rattle.units.specs.contracts.code.CodeOrd.TheImpl.{cmp-value as code-order}

@@ -1,7 +1,6 @@
 -- What a journal says: the transitions of its inputs, and what is read off them.
 -- A history is the list of a journal's inputs with their transitions, the newest first.
 use Rattle.std.specs.Prelude.{ℕ, ◌+◌, ◌==◌, ◌&&◌, not, cond, Bool, false, List, [], ◌∷◌, ◌++◌, map, filter, find, flat_map, length, Option, Some, None, option_map, is_some}
-use Rattle.std.specs.List.{list_any}
 use Rattle.std.specs.Option.{option_to_list}
 use Rattle.units.specs.Code.{same_code}
 use Rattle.units.specs.Unit.{has_unit, covers}
@@ -16,6 +15,7 @@ use Rattle.status.specs.declared.words.Status.{Status}
 use Rattle.status.specs.declared.words.Status.TheVariants.{Proposed, Completed}
 use Rattle.world.specs.declared.thin.messages.Input.{Input}
 use Rattle.world.specs.declared.thin.messages.Message.{Message}
+use Rattle.world.specs.declared.thin.registries.Allotment.{Allotment}
 use Rattle.world.specs.declared.thin.registries.Member.{Member}
 use Rattle.world.specs.declared.thin.rules.Transition.{Transition}
 
@@ -24,9 +24,9 @@ pub record Entry : Type 0 where
   pub transitions : List Transition
 
 -- the transitions in turn, the newest entry's first
-abbrev pub transitions : List Entry → List Transition
-transitions [] = []
-transitions (e ∷ es) = e.transitions ++ transitions es
+abbrev pub transitions_of : List Entry → List Transition
+transitions_of [] = []
+transitions_of (e ∷ es) = e.transitions ++ transitions_of es
 
 -- ---- where a transaction stands
 
@@ -63,8 +63,11 @@ pub record Lot : Type 0 where
   pub block : Block
 
 -- what a registry has at the start
+abbrev pub lots_of : Allotment → List Lot
+lots_of a = map (λ b. record { account = a.account; block = b }) a.units
+
 abbrev pub lots : Member → List Lot
-lots m = flat_map (λ a. map (λ b. record { account = a.account; block = b }) a.units) m.allotted
+lots m = flat_map lots_of m.allotted
 
 -- the lot that the unit is allotted in
 abbrev pub lot_of : Member → Serial → Option Lot

@@ -1,6 +1,6 @@
 -- What a node answers to an input after a journal, by the thin rules: a registry proposes one whole
 -- allotted block, and the rows of the accepted path are all that is recorded.
-use Rattle.std.specs.Prelude.{ℕ, ◌+◌, ◌==◌, ◌&&◌, ◌||◌, not, cond, nat_le, Bool, true, false, List, [], ◌∷◌, ◌++◌, find, length, Option, Some, None, option_map, option_and_then}
+use Rattle.std.specs.Prelude.{ℕ, ◌+◌, ◌==◌, ◌&&◌, not, cond, nat_le, Bool, false, List, [], ◌∷◌, find, length, Option, Some, None, option_map, option_and_then}
 use Rattle.std.specs.List.{list_any}
 use Rattle.units.specs.Code.{same_code}
 use Rattle.units.specs.Unit.{same_raw}
@@ -33,7 +33,7 @@ use Rattle.world.specs.declared.thin.registries.Member.{Member}
 use Rattle.world.specs.declared.thin.rules.Transition.{Transition}
 use Rattle.world.specs.declared.thin.rules.Verdict.{Verdict}
 use Rattle.world.specs.declared.thin.rules.Verdict.TheVariants.{Enters, Refused}
-use Rattle.world.specs.History.{Entry, Lot, transitions, newest, stands, lots, number_of}
+use Rattle.world.specs.History.{Entry, Lot, transitions_of, newest, stands, lots, number_of}
 
 -- ---- the scheme
 
@@ -66,8 +66,11 @@ enters scheme es x = cond (nat_le scheme.records (length es)) (Refused 49) (Ente
 -- ---- orders
 
 -- the allotted block of that account that is the ordered one
+abbrev pub lot_block : ℕ → RawBlock → List Lot → Option Block
+lot_block account raw ls = option_map (λ l. l.block) (find (λ l. (l.account == account) && same_raw l.block.raw raw) ls)
+
 abbrev pub allotted_block : Member → ℕ → RawBlock → Option Block
-allotted_block m account raw = option_map (λ l. l.block) (find (λ l. (l.account == account) && same_raw l.block.raw raw) (lots m))
+allotted_block m account raw = lot_block account raw (lots m)
 
 -- a block that was proposed is reserved until its transfer completes, and gone from then on
 abbrev pub was_proposed : Code → List Transition → RawBlock → Bool
@@ -90,8 +93,8 @@ offer scheme c es _ _ = Refused 46
 
 abbrev pub propose : Scheme → Code → List Entry → ℕ → Code → ℕ → List RawBlock → Verdict
 propose scheme c es account to to_account (raw ∷ []) =
-    cond (may_offer scheme c (transitions es) raw to to_account)
-    (offer scheme c es (next_id c (transitions es)) (option_map (content_of account to to_account) (option_and_then (λ m. allotted_block m account raw) (member scheme c))))
+    cond (may_offer scheme c (transitions_of es) raw to to_account)
+    (offer scheme c es (next_id c (transitions_of es)) (option_map (content_of account to to_account) (option_and_then (λ m. allotted_block m account raw) (member scheme c))))
     (Refused 46)
 propose scheme c es account to to_account _ = Refused 46
 
@@ -132,15 +135,19 @@ move scheme n es t _ _ = Refused 46
 
 abbrev pub hear : Scheme → Node → List Entry → Message → Verdict
 hear scheme n es (Proposal from to t status k) =
-    move scheme n es t (Some k) (option_and_then (new_status n t (stands (transitions es) t)) (proposal_input n status))
+    move scheme n es t (Some k) (option_and_then (new_status n t (stands (transitions_of es) t)) (proposal_input n status))
 hear scheme n es (Notification from to t status) =
-    move scheme n es t (option_map (λ x. x.content) (newest (transitions es) t)) (option_and_then (new_status n t (stands (transitions es) t)) (notice_input status))
+    move scheme n es t (option_map (λ x. x.content) (newest (transitions_of es) t)) (option_and_then (new_status n t (stands (transitions_of es) t)) (notice_input status))
 
 -- ---- the verdict
 
+-- a registry takes propose orders, the log none
+abbrev pub order : Scheme → Node → List Entry → ℕ → Code → ℕ → List RawBlock → Verdict
+order scheme Itl es account to to_account units = Refused 46
+order scheme (Registry c) es account to to_account units = propose scheme c es account to to_account units
+
 unfoldable pub verdict : Scheme → Node → List Entry → Input → Verdict
-verdict scheme Itl es (Propose account to to_account units) = Refused 46
-verdict scheme (Registry c) es (Propose account to to_account units) = propose scheme c es account to to_account units
+verdict scheme n es (Propose account to to_account units) = order scheme n es account to to_account units
 verdict scheme n es (Received message moment) = hear scheme n es message
 
 -- the transitions of an answer

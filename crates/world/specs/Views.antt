@@ -1,11 +1,11 @@
 -- What a world shows: of every node the committed journal and the tail behind it.
-use Rattle.std.specs.Prelude.{◌≡◌, ℕ, suc, ◌+◌, ◌&&◌, not, cond, ◌<◌, ◌↔◌, ◌⊎◌, Bool, true, false, List, [], ◌∷◌, map, filter, flat_map, reverse, sum_by, Contains, Option, Some, None, option_map, option_and_then}
+use Rattle.std.specs.Prelude.{ℕ, ◌&&◌, not, cond, Bool, false, List, [], filter, flat_map, reverse, sum_by, Option, Some, None, option_map, option_and_then}
 use Rattle.std.specs.List.{filter_map}
 use Rattle.units.specs.Code.{same_code}
-use Rattle.units.specs.Unit.{has_unit, covers}
+use Rattle.units.specs.Unit.{covers}
 use Rattle.units.specs.declared.code.Code.{Code}
 use Rattle.units.specs.declared.code.Node.{Node}
-use Rattle.units.specs.declared.code.Node.TheVariants.{Itl, Registry}
+use Rattle.units.specs.declared.code.Node.TheVariants.{Registry}
 use Rattle.units.specs.declared.block.Unit.{Unit as Serial}
 use Rattle.status.specs.Status.{same_status}
 use Rattle.status.specs.declared.id.TransactionId.{TransactionId}
@@ -15,7 +15,7 @@ use Rattle.world.specs.declared.thin.messages.Input.{Input}
 use Rattle.world.specs.declared.thin.registries.Member.{Member}
 use Rattle.world.specs.declared.thin.rules.Transition.{Transition}
 use Rattle.world.specs.declared.table.Debt.{Debt}
-use Rattle.world.specs.History.{Entry, transitions, stands, stands_at, newest, number_of, holds, spendable, gives}
+use Rattle.world.specs.History.{transitions_of, stands, stands_at, newest, number_of, holds, spendable}
 use Rattle.world.specs.Verdict.{history, member}
 use Rattle.world.specs.World.{World, Station, station, journal}
 
@@ -29,7 +29,7 @@ committed_of w n = option_map (λ s. s.committed) (station w n)
 -- the transitions of a node's journal with its tail
 abbrev pub live_in : World → Option Station → List Transition
 live_in w None = []
-live_in w (Some s) = transitions (history w.scheme s.node (journal s))
+live_in w (Some s) = transitions_of (history w.scheme s.node (journal s))
 
 abbrev pub live : World → Node → List Transition
 live w n = live_in w (station w n)

@@ -92,6 +92,9 @@ fn copied_members(alloc: Global, members: &[Member]) -> Result<Items<Member>, No
 }
 
 impl Scheme {
+    ghost use Rattle.std.specs.Option.{option_copied};
+    ghost use Rattle.world.specs.Verdict.{member};
+
     /// An equal scheme, or `NoMemory`.
     pub fn copy(&self, alloc: Global) -> Result<Scheme, NoMemory>
         ensures { IfOk result (λ s. s ≡ self.now) }
@@ -103,7 +106,9 @@ impl Scheme {
     }
 
     /// The registry of that code.
-    pub fn member(&self, code: Code) -> Option<&Member> {
+    pub fn member(&self, code: Code) -> Option<&Member>
+        ensures { option_copied result ≡ member self.now code }
+    {
         self.members.as_slice().iter().find(|m| m.code == code)
     }
 }

@@ -2,5 +2,6 @@ pub mod Messages
 pub mod History
 pub mod Verdict
 pub mod World
+pub mod Kept
 pub mod Views
 pub mod Holdings

@@ -1,5 +1,5 @@
 -- The world: every node's committed journal, tail and running flag, and all messages ever posted.
-use Rattle.std.specs.Prelude.{ℕ, cond, nat_le, Bool, true, false, List, [], ◌∷◌, ◌++◌, take, drop, length, map, find, slice_get, Option, Some, None}
+use Rattle.std.specs.Prelude.{ℕ, cond, nat_le, Bool, true, false, List, [], ◌∷◌, ◌++◌, take, drop, length, map, find, slice_get, Option, Some, None, option_and_then}
 use Rattle.units.specs.Code.{same_node}
 use Rattle.units.specs.declared.code.Node.{Node}
 use Rattle.units.specs.declared.code.Node.TheVariants.{Itl, Registry}
@@ -67,41 +67,59 @@ opening scheme = record {
   bag = [];
 }
 
--- ---- one event
+-- ---- what a node does
 
--- at a running node; elsewhere it isn't possible
-abbrev pub at_running : World → Option Station → (Station → Stepped) → Stepped
-at_running w None f = stays w NotPossible
-at_running w (Some s) f = cond s.runs (f s) (stays w NotPossible)
+-- the node as it is then, and what came of it
+pub record Turn : Type 0 where
+  pub station : Station
+  pub outcome : Outcome
+
+abbrev pub rests : Station → Outcome → Turn
+rests s outcome = record { station = s; outcome = outcome }
+
+-- a stopped node does nothing
+abbrev pub running : Station → Turn → Turn
+running s turn = cond s.runs turn (rests s NotPossible)
 
 -- the input goes to the end of the tail where it is recorded
-abbrev pub answered : World → Station → Input → Verdict → Stepped
-answered w s input (Enters x) = record {
-  world = put w (record s { tail = s.tail ++ input ∷ [] });
+abbrev pub answered : Station → Input → Verdict → Turn
+answered s input (Enters x) = record {
+  station = record s { tail = s.tail ++ input ∷ [] };
   outcome = Recorded (length (journal s));
 }
-answered w s input IsRepeat = stays w Repeat
-answered w s input IsLate = stays w Late
-answered w s input (IsRefused c) = stays w (Refused c)
+answered s input IsRepeat = rests s Repeat
+answered s input IsLate = rests s Late
+answered s input (IsRefused c) = rests s (Refused c)
 
-abbrev pub answer : World → Input → Station → Stepped
-answer w input s = answered w s input (verdict w.scheme s.node (history w.scheme s.node (journal s)) input)
+abbrev pub take_input : Scheme → Input → Station → Turn
+take_input scheme input s = running s (answered s input (verdict scheme s.node (history scheme s.node (journal s)) input))
+
+-- the first `count` records of the tail are committed, where it has so many
+abbrev pub commit : ℕ → Station → Turn
+commit count s = running s (cond (nat_le count (length s.tail))
+    (record {
+      station = record s { committed = s.committed ++ take count s.tail; tail = drop count s.tail };
+      outcome = Done;
+    })
+    (rests s NotPossible))
+
+-- the message with that key, of a running node where its record is committed
+abbrev pub sent : Scheme → ℕ → Station → Option Message
+sent scheme key s = cond s.runs (slice_get (sends (history scheme s.node s.committed)) key) None
+
+-- ---- one event
+
+-- the world after a node's turn; an event at a node that isn't there isn't possible
+abbrev pub at_node : World → Option Station → (Station → Turn) → Stepped
+at_node w None f = stays w NotPossible
+at_node w (Some s) f = record { world = put w (f s).station; outcome = (f s).outcome }
 
 -- an input that this kind of node takes as an order
 abbrev pub is_order : Node → Input → Bool
 is_order (Registry c) (Propose account to to_account units) = true
 is_order _ _ = false
 
--- the first `count` records of the tail are committed
-abbrev pub commit : World → ℕ → Station → Stepped
-commit w count s = cond (nat_le count (length s.tail))
-    (record {
-      world = put w (record s { committed = s.committed ++ take count s.tail; tail = drop count s.tail });
-      outcome = Done;
-    })
-    (stays w NotPossible)
-
--- the message of a committed record goes into the bag
+-- a message goes into the bag
 abbrev pub posted : World → Node → ℕ → Option Message → Stepped
 posted w n key None = stays w NotPossible
 posted w n key (Some m) = record {
@@ -109,18 +127,15 @@ posted w n key (Some m) = record {
   outcome = Done;
 }
 
-abbrev pub post : World → ℕ → Station → Stepped
-post w key s = posted w s.node key (slice_get (sends (history w.scheme s.node s.committed)) key)
-
 -- a message of the bag comes to its addressee
 abbrev pub deliver : World → Moment → Option Posted → Stepped
 deliver w moment None = stays w NotPossible
-deliver w moment (Some p) = at_running w (station w (receiver p.message)) (answer w (Received p.message moment))
+deliver w moment (Some p) = at_node w (station w (receiver p.message)) (take_input w.scheme (Received p.message moment))
 
 unfoldable pub step : World → WorldEvent → Stepped
-step w (Take n input) = cond (is_order n input) (at_running w (station w n) (answer w input)) (stays w NotPossible)
-step w (Commit n count) = at_running w (station w n) (commit w count)
-step w (Post n key) = at_running w (station w n) (post w key)
+step w (Take n input) = cond (is_order n input) (at_node w (station w n) (take_input w.scheme input)) (stays w NotPossible)
+step w (Commit n count) = at_node w (station w n) (commit count)
+step w (Post n key) = posted w n key (option_and_then (sent w.scheme key) (station w n))
 step w (Deliver index moment) = deliver w moment (slice_get w.bag index)
 
 -- ---- a list of events

@@ -1,0 +1,56 @@
+-- A world after one of its nodes has done something.
+use Rattle.std.proofs.Common.{◌≡◌, ℕ, List, map, get_or, Option, Some, None, option_map, refl, sym, ap, ◌∙◌}
+use Rattle.std.proofs.Math.ListN.{set}
+use Rattle.std.specs.List.{position_from}
+use Rattle.units.specs.declared.code.Node.{Node}
+use Rattle.world.specs.declared.event.Outcome.{Outcome}
+use Rattle.world.specs.declared.event.Outcome.TheVariants.{NotPossible}
+use Rattle.world.specs.declared.thin.registries.Scheme.{Scheme}
+use Rattle.status.specs.declared.moment.Moment.{Moment}
+use Rattle.world.specs.declared.thin.messages.Message.{Message}
+use Rattle.world.specs.declared.thin.messages.Input.TheVariants.{Received}
+use Rattle.world.specs.Messages.{receiver}
+use Rattle.world.specs.declared.nodes.Posted.{Posted}
+use Rattle.world.specs.declared.nodes.Station.{Station as Kept}
+use Rattle.world.specs.World.{Station, World, Turn, Stepped, station, put, at_node, stays, deliver, take_input}
+use Rattle.world.specs.Kept.{seen}
+use Rattle.world.proofs.Places.{is_of, IsPlace, place_find, place_put, place_node, place_none, same_seen}
+
+abbrev pub whole : Scheme → List Kept → List Posted → World
+whole scheme ss bag = record { scheme = scheme; stations = map seen ss; bag = bag }
+
+abbrev pub after : World → Outcome → Stepped
+after w o = record { world = w; outcome = o }
+
+abbrev pub turn : Kept → Outcome → Turn
+turn s o = record { station = seen s; outcome = o }
+
+pub turned : (scheme : Scheme) (ss : List Kept) (bag : List Posted) (n : Node) (at : ℕ) (old new : Kept) (o : Outcome) (f : Station → Turn) → IsPlace ss n at → old ≡ get_or ss at old → new.node ≡ old.node
+    → turn new o ≡ f (seen old) → after (whole scheme (set ss at new) bag) o ≡ at_node (whole scheme ss bag) (station (whole scheme ss bag) n) f
+turned scheme ss bag n at old new o f place is node does =
+    let w = whole scheme ss bag in
+    let here : station w n ≡ Some (seen old) = place_find ss n at old place ∙ ap (λ (s : Kept). Some (seen s)) (sym is) in
+    let its : new.node ≡ n = node ∙ ap (λ (s : Kept). s.node) is ∙ place_node ss n at old place in
+    ap (λ (l : List Station). after (record w { stations = l }) o) (sym (place_put ss n at new its place))
+    ∙ ap (λ (t : Turn). after (put w t.station) t.outcome) does
+    ∙ sym (ap (λ (x : Option Station). at_node w x f) here)
+
+pub absent : (scheme : Scheme) (ss : List Kept) (bag : List Posted) (n : Node) (f : Station → Turn) → position_from (is_of n) 0 ss ≡ None
+    → after (whole scheme ss bag) NotPossible ≡ at_node (whole scheme ss bag) (station (whole scheme ss bag) n) f
+absent scheme ss bag n f none = sym (ap (λ (x : Option Station). at_node (whole scheme ss bag) x f) (place_none ss n none))
+
+pub still : (scheme : Scheme) (ss : List Kept) (bag : List Posted) (at : ℕ) (old new : Kept) → old ≡ get_or ss at old → seen new ≡ seen old → whole scheme (set ss at new) bag ≡ whole scheme ss bag
+still scheme ss bag at old new is e = ap (λ (l : List Station). record (whole scheme ss bag) { stations = l }) (same_seen ss at old new is e)
+
+-- ---- messages
+
+pub delivered : (w : World) (moment : Moment) (o : Option Posted) (m : Message) → option_map (λ (p : Posted). p.message) o ≡ Some m
+    → deliver w moment o ≡ at_node w (station w (receiver m)) (take_input w.scheme (Received m moment))
+delivered w moment None m e = cc
+delivered w moment (Some p) m e =
+    let same : p.message ≡ m = cc in
+    ap (λ (x : Message). at_node w (station w (receiver x)) (take_input w.scheme (Received x moment))) same
+
+pub undelivered : (w : World) (moment : Moment) (o : Option Posted) → option_map (λ (p : Posted). p.message) o ≡ None → deliver w moment o ≡ stays w NotPossible
+undelivered w moment None e = refl
+undelivered w moment (Some p) e = cc

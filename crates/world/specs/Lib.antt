@@ -1,1 +1,3 @@
 pub mod Messages
+pub mod SchemeText
+pub mod SchemeReading

@@ -1,10 +1,10 @@
 -- Blocks that have a unit in common or none, and the blocks of many allotments.
 use Rattle.std.proofs.Common.{◌≡◌, ◌⊎◌, inl, inr, ℕ, zero, suc, ◌-◌, ◌+◌, ◌<◌, ◌≤◌, List, [], ◌∷◌, ◌++◌, length, get_or, take, drop, refl, sym, ap, subst, ◌∙◌, arith, append_assoc, length-drop}
-use Rattle.std.specs.List.{All, AllPairs}
+use Rattle.std.specs.List.{AllPairs}
 use Rattle.std.proofs.lemmas.List.{take_more, take_all, append-nil, get_or-drop, get_or_default}
 use Rattle.units.specs.declared.block.Block.{Block}
 use Rattle.world.specs.SchemeText.{blocks_of, all_blocks, AreApart}
-use Rattle.world.specs.SchemeReading.{Alike, Meet}
+use Rattle.world.specs.SchemeReading.{Meet}
 use Rattle.world.specs.declared.thin.registries.Allotment.{Allotment}
 use Rattle.world.specs.declared.thin.registries.Member.{Member}
 
@@ -18,9 +18,9 @@ order (suc m) (suc n) = elim (order m n) [ inl h ↦ inl (omega arith) | inr h �
 
 pub meet_shares : (a b : Block) → Meet a b → AreApart a b → ⊥
 meet_shares a b m apart = elim (order a.raw.first b.raw.first) [
-    inl lt ↦ apart b.raw.origin b.raw.period b.raw.first (m.0.0, m.0.1, (omega arith), m.1.1) (refl, refl, (omega arith), (let r = b.in_range in omega arith))
+  | inl lt ↦ apart b.raw.origin b.raw.period b.raw.first (m.0.0, m.0.1, (omega arith), m.1.1) (refl, refl, (omega arith), (let r = b.in_range in omega arith))
   | inr le ↦ apart b.raw.origin b.raw.period a.raw.first (m.0.0, m.0.1, (omega arith), (let r = a.in_range in omega arith)) (refl, refl, le, m.1.0)
-  ]
+]
 
 pub apart_where : (a b : Block) → (Meet a b → ⊥) → AreApart a b
 apart_where a b none origin period n p q =
@@ -53,16 +53,16 @@ pub apart_more : (bs : List Block) (i : ℕ) (a : Block) → i < length bs → a
     → ((k j : ℕ) (d : Block) → k < i → k < j → j < length bs → AreApart (get_or bs k d) (get_or bs j d))
     → (k j : ℕ) (d : Block) → k < i + 1 → k < j → j < length bs → AreApart (get_or bs k d) (get_or bs j d)
 apart_more bs i a lt is none before k j d below after within = elim (order k i) [
-    inl less ↦ before k j d less after within
+  | inl less ↦ before k j d less after within
   | inr le ↦
-    let same : i ≡ k = omega arith in
-    let p = j - (i + 1) in
-    let at : (i + 1) + p ≡ j = omega arith in
-    let inside : p < length (rest_of bs i) = subst (λ cs. p < length cs) (sym (rest_is bs i)) (let l = length-drop (i + 1) bs in omega arith) in
-    let there : get_or (rest_of bs i) p d ≡ get_or bs j d = ap (λ cs. get_or cs p d) (rest_is bs i) ∙ get_or-drop (i + 1) bs p d ∙ ap (λ n. get_or bs n d) at in
-    let here : a ≡ get_or bs k d = is ∙ get_or_default bs i a d lt ∙ ap (λ n. get_or bs n d) same in
-    subst (λ b. AreApart b (get_or bs j d)) here (apart_where a (get_or bs j d) (λ m. none p d inside (subst (Meet a) (sym there) m)))
-  ]
+      let same : i ≡ k = omega arith in
+      let p = j - (i + 1) in
+      let at : (i + 1) + p ≡ j = omega arith in
+      let inside : p < length (rest_of bs i) = subst (λ cs. p < length cs) (sym (rest_is bs i)) (let l = length-drop (i + 1) bs in omega arith) in
+      let there : get_or (rest_of bs i) p d ≡ get_or bs j d = ap (λ cs. get_or cs p d) (rest_is bs i) ∙ get_or-drop (i + 1) bs p d ∙ ap (λ n. get_or bs n d) at in
+      let here : a ≡ get_or bs k d = is ∙ get_or_default bs i a d lt ∙ ap (λ n. get_or bs n d) same in
+      subst (λ b. AreApart b (get_or bs j d)) here (apart_where a (get_or bs j d) (λ m. none p d inside (subst (Meet a) (sym there) m)))
+]
 
 -- ---- the blocks of allotments
 

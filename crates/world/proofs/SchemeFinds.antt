@@ -1,12 +1,12 @@
 -- What one part of a scheme finds or lacks, seen from the whole.
-use Rattle.std.proofs.Common.{◌≡◌, ◌⊎◌, inl, inr, ℕ, suc, ◌+◌, ◌<◌, ◌≤◌, List, [], ◌∷◌, ◌++◌, length, get_or, map, codes, Option, Some, None, refl, sym, ap, subst, ◌∙◌, arith, Result, Ok, Err}
+use Rattle.std.proofs.Common.{◌≡◌, ℕ, ◌<◌, ◌≤◌, List, [], ◌∷◌, length, get_or, codes, Option, Some, None, refl, sym, ap, subst, ◌∙◌, arith, Result, Ok, Err}
 use Rattle.std.specs.Result.{IsErrAnd}
 use Rattle.std.specs.Prelude.{option_and_then}
 use Rattle.serde_json.specs.Data.{Data, null, boolean, number, string, array, object, Items, no_items, item}
 use Rattle.serde_json.specs.Find.{get, as_array}
 use Rattle.serde_json.specs.View.{view, items_view}
 use Rattle.serde_json.specs.declared.value.Value.{Value}
-use Rattle.world.specs.SchemeText.{HasAt, EachIs, HasList, HasNoTwins, IsAccount, AreAccounts, ArePair}
+use Rattle.world.specs.SchemeText.{HasAt, EachIs, HasNoTwins, IsAccount, AreAccounts, ArePair}
 use Rattle.world.specs.SchemeReading.{Finds, HasPair}
 use Rattle.world.specs.declared.thin.registries.Member.{Member}
 use Rattle.world.specs.declared.thin.registries.SchemeFault.{SchemeFault}
@@ -61,12 +61,12 @@ pub accounts_found : (d : Data) (vs us : List Value) (r : Result (List ℕ) Sche
     → Finds (λ xs. EachIs IsAccount (items_view us) xs × HasNoTwins xs) r → Finds (AreAccounts d) r
 accounts_found d vs us r e same few f =
     finds_same (λ xs. EachIs IsAccount (items_view us) xs × HasNoTwins xs) (AreAccounts d) r
-    ( λ xs p. let each : EachIs IsAccount (items_view vs) xs = subst (λ ws. EachIs IsAccount (items_view ws) xs) same p.0 in
-              let long = each_length IsAccount vs xs each in
-              record { each = (items_view vs, list_here d (codes "accounts") (items_view vs) e, each); apart = p.1; few = omega arith })
-    ( λ xs are. let items = items_same d (codes "accounts") (items_view vs) are.each.0 e are.each.1 in
-                let each : EachIs IsAccount (items_view vs) xs = subst (λ ds. EachIs IsAccount ds xs) (sym items) are.each.2 in
-                (subst (λ ws. EachIs IsAccount (items_view ws) xs) (sym same) each, are.apart))
+    (λ xs p. let each : EachIs IsAccount (items_view vs) xs = subst (λ ws. EachIs IsAccount (items_view ws) xs) same p.0 in
+    let long = each_length IsAccount vs xs each in
+    record { each = (items_view vs, list_here d (codes "accounts") (items_view vs) e, each); apart = p.1; few = omega arith })
+    (λ xs are. let items = items_same d (codes "accounts") (items_view vs) are.each.0 e are.each.1 in
+    let each : EachIs IsAccount (items_view vs) xs = subst (λ ds. EachIs IsAccount ds xs) (sym items) are.each.2 in
+    (subst (λ ws. EachIs IsAccount (items_view ws) xs) (sym same) each, are.apart))
     f
 
 -- ---- two registries
@@ -93,8 +93,8 @@ pair_found d vs us one other r e same two first second f =
     let items = ap items_view listed in
     finds_same (ArePair (view one) (view other)) (HasPair d) r
     (λ ms p. (view one, view other, list_here d (codes "registries") _ (ap Some (sym items) ∙ e), p))
-    ( λ ms p. let told : item (view one) (item (view other) no_items) ≡ item p.0 (item p.1 no_items) = sym items ∙ items_same d (codes "registries") (items_view vs) _ e p.2 in
-              let left : p.0 ≡ view one = cc (told) in
-              let right : p.1 ≡ view other = cc (told) in
-              subst (λ x. ArePair x (view other) ms) left (subst (λ x. ArePair p.0 x ms) right p.3) )
+    (λ ms p. let told : item (view one) (item (view other) no_items) ≡ item p.0 (item p.1 no_items) = sym items ∙ items_same d (codes "registries") (items_view vs) _ e p.2 in
+    let left : p.0 ≡ view one = cc (told) in
+    let right : p.1 ≡ view other = cc (told) in
+    subst (λ x. ArePair x (view other) ms) left (subst (λ x. ArePair p.0 x ms) right p.3))
     f

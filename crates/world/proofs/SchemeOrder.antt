@@ -1,17 +1,16 @@
 -- The order of codes, by their letters.
-use Rattle.std.proofs.Common.{◌≡◌, ◌⊎◌, inl, inr, ℕ, ◌<◌, ◌≤◌, Bool, true, false, Ordering, Less, Equal, Greater, nat_cmp, sym, ap, ◌∙◌, refl, arith, Some}
+use Rattle.std.proofs.Common.{◌≡◌, ◌⊎◌, inl, inr, ℕ, ◌<◌, Bool, true, false, Ordering, Less, Equal, Greater, nat_cmp, sym, ap, ◌∙◌, refl, arith, Some}
 use Rattle.std.specs.Ordering.{partial_ordering_then, is_lt, is_some_and}
 use Rattle.std.specs.Cmp.{nat_cmp_is}
-use Rattle.std.proofs.lemmas.Bool.Decides.{nat_tests}
 use Rattle.units.specs.declared.code.Code.{Code}
 use Rattle.world.specs.SchemeText.{IsBefore}
 use Rattle.world.proofs.SchemeBlocks.{order}
 
 tri : (m n : ℕ) → (m < n) ⊎ ((m ≡ n) ⊎ (n < m))
 tri m n = elim (order m n) [
-    inl lt ↦ inl lt
+  | inl lt ↦ inl lt
   | inr le ↦ elim (order n m) [ inl lt ↦ inr (inr lt) | inr ge ↦ inr (inl (omega arith)) ]
-  ]
+]
 
 abbrev tells : Code → Code → Bool
 tells a b = is_some_and is_lt (partial_ordering_then (Some (nat_cmp a.first b.first)) (Some (nat_cmp a.second b.second)))
@@ -21,18 +20,18 @@ case a b x y e f = ap (λ o. is_some_and is_lt (partial_ordering_then (Some o) (
 
 pub before_where : (a b : Code) → tells a b ≡ true → IsBefore a b
 before_where a b t = elim (tri a.first b.first) [
-    inl lt ↦ inl lt
+  | inl lt ↦ inl lt
   | inr more ↦ elim more [
-      inl same ↦ elim (tri a.second b.second) [
-        inl lt ↦ inr (same, lt)
+    | inl same ↦ elim (tri a.second b.second) [
+      | inl lt ↦ inr (same, lt)
       | inr rest ↦ elim rest [
-          inl e ↦ absurd (no (case a b Equal Equal (nat_cmp_is a.first b.first Equal same) (nat_cmp_is a.second b.second Equal e) ∙ t))
+        | inl e ↦ absurd (no (case a b Equal Equal (nat_cmp_is a.first b.first Equal same) (nat_cmp_is a.second b.second Equal e) ∙ t))
         | inr gt ↦ absurd (no (case a b Equal Greater (nat_cmp_is a.first b.first Equal same) (nat_cmp_is a.second b.second Greater gt) ∙ t))
-        ]
       ]
-    | inr gt ↦ absurd (no (case a b Greater (nat_cmp a.second b.second) (nat_cmp_is a.first b.first Greater gt) refl ∙ t))
     ]
+    | inr gt ↦ absurd (no (case a b Greater (nat_cmp a.second b.second) (nat_cmp_is a.first b.first Greater gt) refl ∙ t))
   ]
+]
   where
     no : false ≡ true → ⊥
     no e = cc

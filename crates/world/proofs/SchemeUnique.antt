@@ -1,13 +1,13 @@
 -- A value describes one scheme at most.
-use Rattle.std.proofs.Common.{true, false, rules, bytes_eq, codes, if◌then◌else◌, ◌≡◌, ◌⊎◌, inl, inr, ℕ, ◌+◌, ◌^◌, ◌<◌, ◌≤◌, List, [], ◌∷◌, ◌++◌, length, Option, Some, None, refl, sym, ap, subst, ◌∙◌, arith}
+use Rattle.std.proofs.Common.{true, rules, bytes_eq, codes, if◌then◌else◌, ◌≡◌, ℕ, ◌^◌, ◌<◌, List, Some, refl, sym, ap, subst, ◌∙◌, arith}
 use Rattle.std.proofs.Math.Bridge.{le_prop}
-use mathlib.Core.HLevel.{is_prop→PathP, ×_prop}
+use mathlib.Core.HLevel.{is_prop→PathP}
 use Rattle.std.specs.Fmt.{decimal}
 use Rattle.std.proofs.lemmas.Fmt.{decimal_injective}
 use Rattle.units.specs.Facts.{IsLetter, IsRange}
 use Rattle.units.specs.Text.{IsFreeOf}
 use Rattle.units.specs.Code.{code_text}
-use Rattle.units.specs.Block.{kind_text, period_text, raw_text, IsRawText}
+use Rattle.units.specs.Block.{kind_text, period_text, IsRawText}
 use Rattle.units.specs.declared.code.Code.{Code}
 use Rattle.units.specs.declared.block.RawBlock.{RawBlock}
 use Rattle.units.specs.declared.block.Block.{Block}
@@ -17,12 +17,10 @@ use Rattle.units.specs.declared.block.Kind.{Kind}
 use Rattle.units.specs.declared.block.Kind.TheVariants.{Aau, Rmu, Eru, Cer, Tcer, Lcer}
 use Rattle.units.proofs.Numbers.{decimal_free}
 use Rattle.units.proofs.Cuts.{cut_once}
-
-use Rattle.serde_json.specs.Data.{Data, unsigned, boolean, number, string, array, Items, no_items, item}
-use Rattle.world.specs.SchemeText.{HasKeys, HasAt, EachIs, HasList, HasNoTwins, IsAccount, IsKind, IsBlock, AreAccounts, AreKinds, IsAllotment, IsMember}
+use Rattle.serde_json.specs.Data.{Data, unsigned, boolean, number, string, array}
+use Rattle.world.specs.SchemeText.{HasAt, EachIs, HasList, IsAccount, IsKind, IsBlock, AreAccounts, AreKinds, IsAllotment, IsMember}
 use Rattle.world.specs.declared.thin.registries.Allotment.{Allotment}
 use Rattle.world.specs.declared.thin.registries.Member.{Member}
-
 use Rattle.world.proofs.SchemeLists.{each_one}
 use Rattle.std.specs.Prelude.{Result, Ok, Err, IfNone}
 use Rattle.std.specs.Result.{result_ok}

@@ -1,17 +1,15 @@
 -- The two registries of a scheme, and what all their blocks make of it.
-use Rattle.std.proofs.Common.{◌≡◌, ◌⊎◌, inl, inr, ℕ, ◌<◌, ◌≤◌, List, [], ◌∷◌, length, codes, Some, Result, Ok, Err, refl, sym, ap, subst, ◌∙◌, arith}
+use Rattle.std.proofs.Common.{◌≡◌, inl, inr, ℕ, ◌<◌, ◌≤◌, List, [], ◌∷◌, length, Some, Result, Ok, Err, sym, ap, subst, ◌∙◌, arith}
 use Rattle.std.specs.List.{AllPairs}
-use Rattle.std.specs.Prelude.{IfOk, IsUtf8}
-use Rattle.serde_json.specs.Data.{Data, array, no_items, item}
-use Rattle.serde_json.specs.Find.{get}
+use Rattle.std.specs.Prelude.{IfOk}
+use Rattle.serde_json.specs.Data.{Data, unsigned, number, array, no_items, item}
 use Rattle.serde_json.specs.Read.{read}
 use Rattle.units.specs.declared.block.Block.{Block}
-use Rattle.world.specs.SchemeText.{HasAt, IsMember, all_blocks, AreApart, IsBefore, ArePair, IsScheme, IsSchemeText}
+use Rattle.world.specs.SchemeText.{all_blocks, AreApart, IsBefore, ArePair, IsScheme, IsSchemeText}
 use Rattle.world.specs.SchemeReading.{Finds, HasPair}
 use Rattle.world.specs.declared.thin.registries.Member.{Member}
 use Rattle.world.specs.declared.thin.registries.Scheme.{Scheme}
 use Rattle.world.specs.declared.thin.registries.SchemeFault.{SchemeFault}
-use Rattle.world.specs.declared.thin.registries.SchemeFault.TheVariants.{NotJson, Shape, NoMemory}
 use Rattle.world.proofs.SchemeUnique.{member_one}
 use Rattle.world.proofs.SchemeOrder.{not_both_before}
 
@@ -28,13 +26,13 @@ crossed a b c d p q e f =
 pair_one : (one other : Data) (ms ns : List Member) → ArePair one other ms → ArePair one other ns → ms ≡ ns
 pair_one one other ms ns p q =
     let same : p.first ∷ p.second ∷ [] ≡ q.first ∷ q.second ∷ [] = elim p.listed [
-      inl a ↦ elim q.listed [
-        inl b ↦ same_pair p.first p.second q.first q.second (member_one one p.first q.first a.0 b.0) (member_one other p.second q.second a.1 b.1)
-      | inr b ↦ absurd (crossed p.first p.second q.first q.second p.ordered q.ordered (member_one one p.first q.second a.0 b.0) (member_one other p.second q.first a.1 b.1))
+      | inl a ↦ elim q.listed [
+        | inl b ↦ same_pair p.first p.second q.first q.second (member_one one p.first q.first a.0 b.0) (member_one other p.second q.second a.1 b.1)
+        | inr b ↦ absurd (crossed p.first p.second q.first q.second p.ordered q.ordered (member_one one p.first q.second a.0 b.0) (member_one other p.second q.first a.1 b.1))
       ]
-    | inr a ↦ elim q.listed [
-        inl b ↦ absurd (crossed p.first p.second q.first q.second p.ordered q.ordered (member_one other p.first q.second a.1 b.1) (member_one one p.second q.first a.0 b.0))
-      | inr b ↦ same_pair p.first p.second q.first q.second (member_one other p.first q.first a.1 b.1) (member_one one p.second q.second a.0 b.0)
+      | inr a ↦ elim q.listed [
+        | inl b ↦ absurd (crossed p.first p.second q.first q.second p.ordered q.ordered (member_one other p.first q.second a.1 b.1) (member_one one p.second q.first a.0 b.0))
+        | inr b ↦ same_pair p.first p.second q.first q.second (member_one other p.first q.first a.1 b.1) (member_one one p.second q.second a.0 b.0)
       ]
     ] in
     p.are ∙ same ∙ sym q.are
@@ -48,6 +46,13 @@ members_one d ms ns p q =
 
 pub pair_of : (d : Data) (s : Scheme) → IsScheme d s → HasPair d s.members
 pair_of d s is = (is.one, is.other, is.registries, is.members)
+
+scheme_one : (d : Data) (s t : Scheme) → IsScheme d s → IsScheme d t → s ≡ t
+scheme_one d s t p q =
+    let members : s.members ≡ t.members = members_one d s.members t.members (pair_of d s p) (pair_of d t q) in
+    let told : Some (number (unsigned s.records)) ≡ Some (number (unsigned t.records)) = sym p.records ∙ q.records in
+    let records : s.records ≡ t.records = cc (told) in
+    λ i. record { records = records i; members = members i }
 
 -- ---- what all blocks make of it
 
@@ -66,13 +71,10 @@ module _ (d : Data) (ms us : List Member) (bs : List Block) (pair : HasPair d ms
 
 -- ---- texts
 
-pub text_found : (bytes : List ℕ) (d : Data) (r : Result Scheme SchemeFault) → IsUtf8 bytes → read bytes ≡ Some d → Finds (IsScheme d) r → IfOk r (λ s. IsSchemeText bytes s)
-text_found bytes d (Ok s) utf8 reads f = record { utf8 = utf8; value = d; reads = reads; is = f }
-text_found bytes d (Err e) utf8 reads f = tt
-
-pub not_shaped : (bytes : List ℕ) (d : Data) (r : Result Scheme SchemeFault) → IsUtf8 bytes → read bytes ≡ Some d → Finds (IsScheme d) r → r ≡ Err Shape
-    → IsUtf8 bytes × ((e : Data) × (read bytes ≡ Some e) × ((s : Scheme) → IsScheme e s → ⊥))
-not_shaped bytes d r utf8 reads f is = (utf8, (d, reads, subst (Finds (IsScheme d)) is f))
-
-pub not_unread : (d : Data) (r : Result Scheme SchemeFault) → Finds (IsScheme d) r → r ≡ Err NotJson → ⊥
-not_unread d r f is = subst (Finds (IsScheme d)) is f
+-- a text is one scheme at most
+pub one_found : (bytes : List ℕ) (d : Data) (r : Result Scheme SchemeFault) → read bytes ≡ Some d → Finds (IsScheme d) r → IfOk r (λ s. (t : Scheme) → IsSchemeText bytes t → t ≡ s)
+one_found bytes d (Err e) reads f = tt
+one_found bytes d (Ok s) reads f = λ t text.
+    let told : Some text.value ≡ Some d = sym text.reads ∙ reads in
+    let same : text.value ≡ d = cc (told) in
+    scheme_one d t s (subst (λ e. IsScheme e t) same text.is) f

@@ -1,7 +1,7 @@
 -- What the code that reads schemes follows; no public contract cites it.
 use Rattle.std.specs.Prelude.{◌≡◌, ℕ, ◌≤◌, List, Option, option_and_then, Result, Ok, Err, codes}
-use Rattle.serde_json.specs.Data.{Data, Items, no_items, item, number, unsigned, array}
-use Rattle.serde_json.specs.Find.{get, as_str, as_number, as_u64, as_bool, as_array}
+use Rattle.serde_json.specs.Data.{Data, no_items, item, number, unsigned, array}
+use Rattle.serde_json.specs.Find.{get, as_str, as_number, as_u64}
 use Rattle.units.specs.declared.block.Block.{Block}
 use Rattle.world.specs.SchemeText.{HasAt, ArePair}
 use Rattle.world.specs.declared.thin.registries.Member.{Member}

@@ -1,5 +1,5 @@
 -- The grammar of schemes: which JSON values describe which schemes.
-use Rattle.std.specs.Prelude.{◌≡◌, ◌≢◌, ◌⊎◌, ℕ, ◌<◌, ◌≤◌, List, [], ◌∷◌, ◌++◌, length, codes, Bool, Option, Some, option_map, IsUtf8}
+use Rattle.std.specs.Prelude.{◌≡◌, ◌≢◌, ◌⊎◌, ℕ, ◌<◌, ◌≤◌, List, [], ◌∷◌, ◌++◌, length, codes, Some, option_map, IsUtf8}
 use Rattle.std.specs.List.{AllPairs, Contains}
 use Rattle.serde_json.specs.Data.{Data, unsigned, boolean, number, string, array, Items, no_items, item}
 use Rattle.serde_json.specs.Find.{get, as_object}

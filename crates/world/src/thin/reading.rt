@@ -16,7 +16,7 @@ use crate::thin::fields::{bool_at, has_keys, list_at, number_at, text_at};
 use crate::thin::registries::{Allotment, Member, Scheme, SchemeFault};
 use serde_json::Value;
 use std::alloc::{AllocError, AllocFailed, Global};
-use units::{Block, Code, Items, Kind, NoMemory};
+use units::{Block, Code, Items, Kind};
 
 const MOST_ACCOUNTS: usize = 1_000;
 
@@ -208,11 +208,7 @@ fn each_allotment(
     Ok(Items::from_vec(allotted))
 }
 
-fn allotted(
-    alloc: Global,
-    value: &Value,
-    accounts: &[u64],
-) -> Result<Items<Allotment>, SchemeFault>
+fn allotted(alloc: Global, value: &Value, accounts: &[u64]) -> Result<Items<Allotment>, SchemeFault>
     ensures { Finds (HasList (IsAllotment accounts.now) (view value.now) (codes "allotted")) result }
 {
     let Some(list) = list_at(value, "allotted") else {
@@ -361,6 +357,7 @@ impl Scheme {
     /// JSON that describes no scheme.
     pub fn read(alloc: Global, bytes: &[u8]) -> Result<Scheme, SchemeFault>
         ensures ok { IfOk result (λ s. IsSchemeText bytes.now s) }
+        ensures only { IfOk result (λ s. (t : Scheme) → IsSchemeText bytes.now t → t ≡ s) }
         ensures not_json { result ≡ Err NotJson → IsUtf8 bytes.now → read bytes.now ≡ None }
         ensures shape { result ≡ Err Shape → IsUtf8 bytes.now × ((d : Data) × (read bytes.now ≡ Some d) × ((s : Scheme) → IsScheme d s → ⊥)) }
     {

@@ -1,5 +1,5 @@
 use Rattle.serde_json.specs.View.{view}
-use Rattle.std.proofs.Common.{arith, sym, subst, ◌<◌, ◌≤◌, length, ◌∙◌}
+use Rattle.std.proofs.Common.{arith, ◌<◌, ◌≤◌, length}
 use Rattle.world.proofs.SchemeFinds.{many_none, accounts_found}
 use Rattle.world.proofs.thin.reading.accounts.Goals as goal
 

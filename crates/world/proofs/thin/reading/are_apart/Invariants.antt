@@ -1,4 +1,4 @@
-use Rattle.std.proofs.Common.{◌≡◌, ℕ, ◌<◌, length, get_or}
+use Rattle.std.proofs.Common.{ℕ, ◌<◌, length, get_or}
 use Rattle.units.specs.declared.block.Block.{Block}
 use Rattle.world.specs.SchemeText.{AreApart}
 use Rattle.world.proofs.thin.reading.are_apart.Given as goal

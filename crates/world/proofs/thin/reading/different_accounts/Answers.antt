@@ -1,4 +1,4 @@
-use Rattle.std.proofs.Common.{eqb, sym, subst, ◌∙◌, ap}
+use Rattle.std.proofs.Common.{eqb, sym, ◌∙◌, ap}
 use Rattle.std.proofs.lemmas.Bool.{eqb-true, eq-eqb}
 use Rattle.std.specs.List.{list_any}
 use Rattle.world.specs.SchemeText.{IsAccount}
@@ -19,7 +19,8 @@ returns-then-contains c xs p =
 pub loop-value-preserved : goal.loop-value-preserved
 loop-value-preserved c =
     let e = c.if-contains.ensures.value ∙ ap (list_any (λ y. eqb y c.in-Some.account)) c.deref.ensures.value in
-    rw c.in_ok-push.ensures.items
-    ( each_more IsAccount c.args.values.now c.loop-value.value-index c.loop-value.accounts.items c.value-item.result c.in-Some.account c.loop-value-test.true c.value-item.is c.loop-value.invariant.0
-      c.in-Some.ensures.some
-    , no_twins_push c.loop-value.accounts.items c.in-Some.account c.loop-value.invariant.1 (not_in_list eqb eq-eqb c.loop-value.accounts.items c.in-Some.account (sym e)) )
+    rw c.in_ok-push.ensures.items (
+      each_more IsAccount c.args.values.now c.loop-value.value-index c.loop-value.accounts.items c.value-item.result c.in-Some.account c.loop-value-test.true c.value-item.is c.loop-value.invariant.0
+          c.in-Some.ensures.some,
+      no_twins_push c.loop-value.accounts.items c.in-Some.account c.loop-value.invariant.1 (not_in_list eqb eq-eqb c.loop-value.accounts.items c.in-Some.account (sym e)),
+    )

@@ -1,4 +1,4 @@
-use Rattle.std.proofs.Common.{sym, subst, ◌∙◌, ap}
+use Rattle.std.proofs.Common.{sym, ◌∙◌, ap}
 use Rattle.units.specs.contracts.block.KindPartialEq.TheImpl.{ghosts}
 use Rattle.std.specs.List.{list_any}
 use Rattle.world.specs.SchemeText.{IsKind}
@@ -19,7 +19,8 @@ returns-then-contains c xs p =
 pub loop-value-preserved : goal.loop-value-preserved
 loop-value-preserved c =
     let e = c.if-contains.ensures.value ∙ ap (list_any (λ y. ghosts.eq y c.in-Some.kind)) c.deref.ensures.value in
-    rw c.in_ok-push.ensures.items
-    ( each_more IsKind c.args.values.now c.loop-value.value-index c.loop-value.kinds.items c.value-item.result c.in-Some.kind c.loop-value-test.true c.value-item.is c.loop-value.invariant.0
-      c.in-Some.ensures.some
-    , no_twins_push c.loop-value.kinds.items c.in-Some.kind c.loop-value.invariant.1 (not_in_list ghosts.eq kind_eq_itself c.loop-value.kinds.items c.in-Some.kind (sym e)) )
+    rw c.in_ok-push.ensures.items (
+      each_more IsKind c.args.values.now c.loop-value.value-index c.loop-value.kinds.items c.value-item.result c.in-Some.kind c.loop-value-test.true c.value-item.is c.loop-value.invariant.0
+          c.in-Some.ensures.some,
+      no_twins_push c.loop-value.kinds.items c.in-Some.kind c.loop-value.invariant.1 (not_in_list ghosts.eq kind_eq_itself c.loop-value.kinds.items c.in-Some.kind (sym e)),
+    )

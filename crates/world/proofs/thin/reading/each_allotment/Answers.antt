@@ -8,7 +8,7 @@ pub returns-in_err-allotment : goal.returns-in_err-allotment
 returns-in_err-allotment c =
     lacks_too (IsAllotment c.args.accounts.now (view c.value-item.result)) (EachIs (IsAllotment c.args.accounts.now) (items_view c.args.values.now)) c.in_err-allotment.field-0.0 c.from_residual.result
     c.from_residual.ensures.1
-    ( λ ys each. let m = met_at (IsAllotment c.args.accounts.now) c.args.values.now c.loop-value.value-index c.value-item.result ys c.loop-value-test.true c.value-item.is each in (m.here, m.is) )
+    (λ ys each. let m = met_at (IsAllotment c.args.accounts.now) c.args.values.now c.loop-value.value-index c.value-item.result ys c.loop-value-test.true c.value-item.is each in (m.here, m.is))
     c.in_err-allotment.ensures
 
 pub loop-value-preserved : goal.loop-value-preserved

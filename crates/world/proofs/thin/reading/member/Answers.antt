@@ -10,8 +10,11 @@ returns-in_err-allotted c =
     let d = view c.args.value.now in
     lacks_too (HasList (IsAllotment c.as_slice.result.now) d (codes "allotted")) (IsMember d) c.in_err-allotted.field-0.0 c.from_residual-in_err-allotted.result
     c.from_residual-in_err-allotted.ensures.1
-    ( λ m is. (m.allotted, subst (λ xs. HasList (IsAllotment xs) d (codes "allotted") m.allotted)
-      (accounts_one d m.accounts c.in_ok-accounts.accounts is.accounts c.in_ok-accounts.ensures ∙ sym c.as_slice.ensures) is.allotted) )
+    (λ m is. (
+      m.allotted,
+      subst (λ xs. HasList (IsAllotment xs) d (codes "allotted") m.allotted)
+          (accounts_one d m.accounts c.in_ok-accounts.accounts is.accounts c.in_ok-accounts.ensures ∙ sym c.as_slice.ensures) is.allotted,
+    ))
     c.in_err-allotted.ensures
 
 pub returns-in_err-kinds : goal.returns-in_err-kinds

@@ -1,4 +1,4 @@
-use Rattle.std.proofs.Common.{inl, inr, sym}
+use Rattle.std.proofs.Common.{inl, inr}
 use Rattle.world.proofs.thin.reading.pair.Goals as goal
 
 pub returns-in_ok-in_order : goal.returns-in_ok-in_order

@@ -1,7 +1,7 @@
-use Rattle.std.proofs.Common.{◌∙◌, ap, sym, ◌<◌, ◌≤◌, length, arith, subst}
+use Rattle.std.proofs.Common.{◌∙◌, sym, ◌<◌, ◌≤◌, length, arith, subst}
 use Rattle.std.specs.List.{AllPairs}
 use Rattle.serde_json.specs.View.{view}
-use Rattle.world.specs.SchemeText.{IsScheme, all_blocks, AreApart}
+use Rattle.world.specs.SchemeText.{IsScheme, AreApart}
 use Rattle.world.specs.SchemeReading.{HasPair}
 use Rattle.world.proofs.SchemeFinds.{lacks_too}
 use Rattle.world.proofs.SchemeWhole.{pair_of, too_many, not_apart, blocks_are}

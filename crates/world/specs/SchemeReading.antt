@@ -8,7 +8,7 @@ use Rattle.world.specs.declared.thin.registries.Member.{Member}
 use Rattle.world.specs.declared.thin.registries.SchemeFault.{SchemeFault}
 use Rattle.world.specs.declared.thin.registries.SchemeFault.TheVariants.{NotJson, Shape, NoMemory}
 
--- the text, the number, the truth value and the items at a key
+-- the text and the number at a key
 abbrev pub text_at : List ℕ → Data → Option (List ℕ)
 text_at key d = option_and_then as_str (get key d)
 

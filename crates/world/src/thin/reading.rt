@@ -1,7 +1,7 @@
 //! Reading a scheme from JSON.
-ghost use Rattle.std.specs.Prelude.{◌≡◌, ◌++◌, ◌↔◌, ℕ, ◌+◌, ◌<◌, ◌≤◌, List, [], ◌∷◌, Some, None, Err, IfOk, OnOk, IfSome, IfNone, IsTrue, IsUtf8, codes, length, true, false};
+ghost use Rattle.std.specs.Prelude.{◌≡◌, ◌++◌, ◌↔◌, ℕ, ◌<◌, [], ◌∷◌, Some, None, Err, IfOk, OnOk, IfSome, IfNone, IsTrue, IsUtf8, codes, length, true, false};
 ghost use Rattle.std.specs.List.{All, AllPairs, slice_index_or};
-ghost use Rattle.serde_json.specs.Data.{Data, boolean, string, item, no_items, array};
+ghost use Rattle.serde_json.specs.Data.{Data, boolean, string};
 ghost use Rattle.serde_json.specs.Read.{read};
 ghost use Rattle.serde_json.specs.View.{view, items_view};
 ghost use Rattle.units.specs.Code.{code_text};
@@ -46,19 +46,21 @@ impl<T: Drop> From<AllocFailed<T>> for SchemeFault {
     }
 }
 
+// How many records a journal may have.
 fn records(value: &Value) -> Result<u64, SchemeFault>
     ensures { Finds (AreRecords (view value.now)) result }
 {
     let Some(records) = number_at(value, "records") else {
         return Err(SchemeFault::Shape);
     };
-    if records >= 1 && records <= MOST_RECORDS {
+    if (1..=MOST_RECORDS).contains(&records) {
         Ok(records)
     } else {
         Err(SchemeFault::Shape)
     }
 }
 
+// The registry's code.
 fn code(value: &Value) -> Result<Code, SchemeFault>
     ensures { Finds (λ c. HasAt (view value.now) (codes "code") (string (code_text c))) result }
 {
@@ -68,24 +70,27 @@ fn code(value: &Value) -> Result<Code, SchemeFault>
     Code::read(text).ok_or(SchemeFault::Shape)
 }
 
+// Whether the registry may take part in transfers.
 fn eligible(value: &Value) -> Result<bool, SchemeFault>
     ensures { Finds (λ b. HasAt (view value.now) (codes "eligible") (boolean b)) result }
 {
     bool_at(value, "eligible").ok_or(SchemeFault::Shape)
 }
 
+// The account of that number.
 fn account(value: &Value) -> Option<u64>
     ensures some { IfSome result (λ n. IsAccount (view value.now) n) }
     ensures none { IfNone result ((n : ℕ) → IsAccount (view value.now) n → ⊥) }
 {
     let number = value.as_u64()?;
-    if number >= 1 && number <= LAST_ACCOUNT {
+    if (1..=LAST_ACCOUNT).contains(&number) {
         Some(number)
     } else {
         None
     }
 }
 
+// The kind that the value names.
 fn kind(value: &Value) -> Option<Kind>
     ensures some { IfSome result (λ k. IsKind (view value.now) k) }
     ensures none { IfNone result ((k : Kind) → IsKind (view value.now) k → ⊥) }
@@ -94,6 +99,7 @@ fn kind(value: &Value) -> Option<Kind>
     Kind::read(text)
 }
 
+// The block that the value writes.
 fn block(value: &Value) -> Option<Block>
     ensures some { IfSome result (λ b. IsBlock (view value.now) b) }
     ensures none { IfNone result ((b : Block) → IsBlock (view value.now) b → ⊥) }
@@ -102,6 +108,7 @@ fn block(value: &Value) -> Option<Block>
     Block::read(text).ok()
 }
 
+// The accounts of an array, where none stands twice.
 fn different_accounts(alloc: Global, values: &[Value]) -> Result<Items<u64>, SchemeFault>
     ensures { Finds (λ xs. EachIs IsAccount (items_view values.now) xs × HasNoTwins xs) result }
 {
@@ -118,6 +125,7 @@ fn different_accounts(alloc: Global, values: &[Value]) -> Result<Items<u64>, Sch
     Ok(Items::from_vec(accounts))
 }
 
+// The kinds of an array, where none stands twice.
 fn different_kinds(alloc: Global, values: &[Value]) -> Result<Items<Kind>, SchemeFault>
     ensures { Finds (λ xs. EachIs IsKind (items_view values.now) xs × HasNoTwins xs) result }
 {
@@ -134,6 +142,7 @@ fn different_kinds(alloc: Global, values: &[Value]) -> Result<Items<Kind>, Schem
     Ok(Items::from_vec(kinds))
 }
 
+// The blocks of an array.
 fn each_block(alloc: Global, values: &[Value]) -> Result<Items<Block>, SchemeFault>
     ensures { Finds (EachIs IsBlock (items_view values.now)) result }
 {
@@ -147,6 +156,7 @@ fn each_block(alloc: Global, values: &[Value]) -> Result<Items<Block>, SchemeFau
     Ok(Items::from_vec(blocks))
 }
 
+// The registry's accounts.
 fn accounts(alloc: Global, value: &Value) -> Result<Items<u64>, SchemeFault>
     ensures { Finds (AreAccounts (view value.now)) result }
 {
@@ -159,6 +169,7 @@ fn accounts(alloc: Global, value: &Value) -> Result<Items<u64>, SchemeFault>
     different_accounts(alloc, list.as_slice())
 }
 
+// The kinds of units that the registry takes.
 fn kinds(alloc: Global, value: &Value) -> Result<Items<Kind>, SchemeFault>
     ensures { Finds (AreKinds (view value.now)) result }
 {
@@ -168,6 +179,7 @@ fn kinds(alloc: Global, value: &Value) -> Result<Items<Kind>, SchemeFault>
     different_kinds(alloc, list.as_slice())
 }
 
+// The blocks of an allotment.
 fn units(alloc: Global, value: &Value) -> Result<Items<Block>, SchemeFault>
     ensures { Finds (HasList IsBlock (view value.now) (codes "units")) result }
 {
@@ -177,6 +189,7 @@ fn units(alloc: Global, value: &Value) -> Result<Items<Block>, SchemeFault>
     each_block(alloc, list.as_slice())
 }
 
+// What one of the accounts has at the start.
 fn allotment(alloc: Global, value: &Value, accounts: &[u64]) -> Result<Allotment, SchemeFault>
     ensures { Finds (IsAllotment accounts.now (view value.now)) result }
 {
@@ -193,6 +206,7 @@ fn allotment(alloc: Global, value: &Value, accounts: &[u64]) -> Result<Allotment
     Ok(Allotment { account, units })
 }
 
+// The allotments of an array.
 fn each_allotment(
     alloc: Global,
     values: &[Value],
@@ -208,6 +222,7 @@ fn each_allotment(
     Ok(Items::from_vec(allotted))
 }
 
+// What the registry's accounts have at the start.
 fn allotted(alloc: Global, value: &Value, accounts: &[u64]) -> Result<Items<Allotment>, SchemeFault>
     ensures { Finds (HasList (IsAllotment accounts.now) (view value.now) (codes "allotted")) result }
 {
@@ -217,6 +232,7 @@ fn allotted(alloc: Global, value: &Value, accounts: &[u64]) -> Result<Items<Allo
     each_allotment(alloc, list.as_slice(), accounts)
 }
 
+// A registry.
 fn member(alloc: Global, value: &Value) -> Result<Member, SchemeFault>
     ensures { Finds (IsMember (view value.now)) result }
 {
@@ -237,6 +253,7 @@ fn member(alloc: Global, value: &Value) -> Result<Member, SchemeFault>
     })
 }
 
+// The two registries, one after the other.
 fn in_order(alloc: Global, first: Member, second: Member) -> Result<Items<Member>, AllocError>
     ensures { IfOk result (λ ms. ms ≡ first ∷ second ∷ []) }
 {
@@ -246,12 +263,14 @@ fn in_order(alloc: Global, first: Member, second: Member) -> Result<Items<Member
     Ok(Items::from_vec(members))
 }
 
+// Whether the first code comes first in byte order.
 fn is_before(a: Code, b: Code) -> bool
     ensures { IsTrue result ↔ IsBefore a b }
 {
     a < b
 }
 
+// Two registries, in byte order of their codes.
 fn pair(alloc: Global, one: &Value, other: &Value) -> Result<Items<Member>, SchemeFault>
     ensures { Finds (ArePair (view one.now) (view other.now)) result }
 {
@@ -266,6 +285,7 @@ fn pair(alloc: Global, one: &Value, other: &Value) -> Result<Items<Member>, Sche
     }
 }
 
+// Whether the units of both have one origin and period.
 fn are_alike(a: &Block, b: &Block) -> bool
     ensures { IsTrue result ↔ Alike a.now b.now }
 {
@@ -275,8 +295,9 @@ fn are_alike(a: &Block, b: &Block) -> bool
     a.raw.period == b.raw.period
 }
 
+// Whether a unit is in both blocks, whatever their kinds.
 fn overlaps(a: &Block, b: &Block) -> bool
-    ensures { IsTrue result ↔ Alike a.now b.now × ((a.now.raw.first ≤ b.now.raw.last) × (b.now.raw.first ≤ a.now.raw.last)) }
+    ensures { IsTrue result ↔ Meet a.now b.now }
 {
     if !are_alike(a, b) {
         return false;
@@ -284,6 +305,7 @@ fn overlaps(a: &Block, b: &Block) -> bool
     a.raw.first <= b.raw.last && b.raw.first <= a.raw.last
 }
 
+// Whether a unit of the block is in one of the others.
 fn overlaps_any(block: &Block, others: &[Block]) -> bool
     ensures some { result ≡ true → (k : ℕ) × (k < length others.now) × Meet block.now (slice_index_or others.now k block.now) }
     ensures none { result ≡ false → All (λ o. Meet block.now o → ⊥) others.now }
@@ -291,6 +313,7 @@ fn overlaps_any(block: &Block, others: &[Block]) -> bool
     others.iter().any(|other| overlaps(block, other))
 }
 
+// Puts the blocks of all the allotments behind those that are there.
 fn push_units(all: &mut Vec<Block>, allotted: &[Allotment]) -> Result<(), AllocError>
     ensures { OnOk result (all.new.items ≡ all.old.items ++ blocks_of allotted.now) }
 {
@@ -300,6 +323,7 @@ fn push_units(all: &mut Vec<Block>, allotted: &[Allotment]) -> Result<(), AllocE
     Ok(())
 }
 
+// All blocks that the registries allot.
 fn allotted_blocks(alloc: Global, members: &[Member]) -> Result<Vec<Block>, AllocError>
     ensures { IfOk result (λ v. v.items ≡ all_blocks members.now) }
 {
@@ -310,6 +334,7 @@ fn allotted_blocks(alloc: Global, members: &[Member]) -> Result<Vec<Block>, Allo
     Ok(all)
 }
 
+// Whether no unit is in two of the blocks.
 fn are_apart(blocks: &[Block]) -> bool
     ensures { IsTrue result ↔ AllPairs AreApart blocks.now }
 {
@@ -321,6 +346,7 @@ fn are_apart(blocks: &[Block]) -> bool
     true
 }
 
+// The two registries of a scheme.
 fn members(alloc: Global, value: &Value) -> Result<Items<Member>, SchemeFault>
     ensures { Finds (HasPair (view value.now)) result }
 {
@@ -334,6 +360,7 @@ fn members(alloc: Global, value: &Value) -> Result<Items<Member>, SchemeFault>
     pair(alloc, &values[0], &values[1])
 }
 
+// The scheme that the value describes.
 fn scheme(alloc: Global, value: &Value) -> Result<Scheme, SchemeFault>
     ensures { Finds (IsScheme (view value.now)) result }
 {

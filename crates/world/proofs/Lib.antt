@@ -6,3 +6,9 @@ pub mod Turns
 pub mod Places
 pub mod Worlds
 pub mod Opening
+pub mod SchemeUnique
+pub mod SchemeLists
+pub mod SchemeFinds
+pub mod SchemeBlocks
+pub mod SchemeOrder
+pub mod SchemeWhole

@@ -5,3 +5,5 @@ pub mod World
 pub mod Kept
 pub mod Views
 pub mod Holdings
+pub mod SchemeText
+pub mod SchemeReading

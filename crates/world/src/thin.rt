@@ -1,6 +1,7 @@
 //! The thin rules: a scheme of two registries, messages, inputs and a verdict for the accepted path
 //! of whole allotted blocks.
 
+mod fields;
 mod messages;
 mod reading;
 mod registries;

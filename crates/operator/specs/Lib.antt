@@ -1,3 +1,4 @@
+pub mod EventLines
 pub mod Faults
 pub mod Streams
 pub mod Words

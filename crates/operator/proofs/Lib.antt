@@ -1,1 +1,2 @@
+pub mod FirstLines
 pub mod LineWords

@@ -1,4 +1,5 @@
 pub mod EventLines
 pub mod Faults
+pub mod Lines
 pub mod Streams
 pub mod Words

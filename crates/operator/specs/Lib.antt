@@ -1,3 +1,6 @@
+pub mod EventLines
 pub mod Faults
+pub mod Lines
+pub mod Report
 pub mod Streams
 pub mod Words

@@ -1,6 +1,7 @@
 //! The command `rehearse`: a written list of events, run from the opening world of a scheme.
 
-ghost use Rattle.std.specs.Prelude.{◌<◌, length, IfOk};
+ghost use Rattle.std.specs.Prelude.{◌≡◌, ◌<◌, length, Err, IfOk, IfErr};
+ghost use Rattle.operator.specs.Lines.{IsLine, IsLineFault, IsTooLong, IsTruncated};
 
 use crate::events::{LineFault, event_of};
 use crate::fault::{Cause, OpFault};
@@ -31,14 +32,15 @@ fn scheme_of(alloc: Global, line: &[u8]) -> Result<Scheme, OpFault> {
 /// The first line of `bytes`, and what is behind its newline. `room` is how many more bytes the
 /// input may have.
 fn first_line(bytes: &[u8], room: usize) -> Result<(&[u8], &[u8]), Cause>
+    ensures ok { IfOk result (λ p. IsLine bytes.now room p.0.now p.1.now) }
+    ensures fault { IfErr result (λ cause. IsLineFault bytes.now room cause) }
+    ensures too_long { IsTooLong bytes.now room → result ≡ Err Cause.TooLong }
+    ensures truncated { IsTruncated bytes.now room → result ≡ Err Cause.Truncated }
     ensures shorter { IfOk result (λ p. length p.1.now < length bytes.now) }
 {
     let within = bytes.len().min(room);
     match memchr(b'\n', &bytes[..within]) {
-        Some(at) if at <= LONGEST_LINE => match bytes.get(at..) {
-            Some([_, rest @ ..]) => Ok((&bytes[..at], rest)),
-            _ => Err(Cause::Truncated),
-        },
+        Some(at) if at <= LONGEST_LINE => Ok((&bytes[..at], &bytes[at + 1..])),
         Some(_) => Err(Cause::TooLong),
         None if bytes.len() > room || bytes.len() > LONGEST_LINE => Err(Cause::TooLong),
         None => Err(Cause::Truncated),

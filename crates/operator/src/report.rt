@@ -1,16 +1,24 @@
 //! The report's text.
+ghost use Rattle.std.specs.Prelude.{◌≡◌, ◌+◌, ◌++◌, min, OnOk, codes, string_bytes, sum_by};
+ghost use Rattle.std.specs.List.{flat_map};
+ghost use Rattle.operator.specs.Report.{debt_lines, due_line, due_units, free_units, greatest_sum, held_units, holding_line, outcome_line, owed_line, owed_lines, registry_lines, stock_lines, sums_line, table_text, transaction_line, units_of};
 
 use status::{Status, TransactionId};
 use std::alloc::{AllocError, Global};
 use std::fmt;
 use std::fmt::Write;
-use units::{Code, NoMemory, Node};
+use units::{Block, Code, Items, NoMemory, Node};
 use world::{Debt, Holding, Outcome, World};
 
 #[derive(Drop)]
 struct OutcomeText(Outcome);
 
 impl fmt::Display for OutcomeText {
+    ghost use Rattle.std.specs.Prelude.{Some};
+    ghost use Rattle.operator.specs.Report.{outcome_text};
+
+    ghost output = { λ t. Some (outcome_text t.0) };
+
     fn fmt<W: fmt::Write>(&self, f: &mut fmt::Formatter<W>) -> fmt::Result {
         match self.0 {
             Outcome::Recorded(place) => write!(f, "recorded {place}"),
@@ -24,15 +32,22 @@ impl fmt::Display for OutcomeText {
 }
 
 /// Adds the line of an event's outcome.
-pub fn push_outcome(text: &mut String, event: u64, outcome: Outcome) -> Result<(), AllocError> {
+pub fn push_outcome(text: &mut String, event: u64, outcome: Outcome) -> Result<(), AllocError>
+    ensures { OnOk result (string_bytes text.new ≡ string_bytes text.old ++ outcome_line event outcome) }
+{
     let outcome = OutcomeText(outcome);
     writeln!(text, "{event} {outcome}")
 }
 
 #[derive(Drop)]
-struct StatusText(Option<Status>);
+struct StandingText(Option<Status>);
 
-impl fmt::Display for StatusText {
+impl fmt::Display for StandingText {
+    ghost use Rattle.std.specs.Prelude.{Some};
+    ghost use Rattle.operator.specs.Report.{standing_text};
+
+    ghost output = { λ t. Some (standing_text t.0) };
+
     fn fmt<W: fmt::Write>(&self, f: &mut fmt::Formatter<W>) -> fmt::Result {
         match self.0 {
             Some(status) => write!(f, "{status}"),
@@ -45,6 +60,11 @@ impl fmt::Display for StatusText {
 struct MarkText(Option<TransactionId>);
 
 impl fmt::Display for MarkText {
+    ghost use Rattle.std.specs.Prelude.{Some};
+    ghost use Rattle.operator.specs.Report.{mark_text};
+
+    ghost output = { λ t. Some (mark_text t.0) };
+
     fn fmt<W: fmt::Write>(&self, f: &mut fmt::Formatter<W>) -> fmt::Result {
         match self.0 {
             Some(id) => write!(f, "{id}"),
@@ -53,30 +73,68 @@ impl fmt::Display for MarkText {
     }
 }
 
-fn push_transaction(
-    text: &mut String,
-    world: &World,
+/// How a transaction stands at its three nodes, `None` where it is not known.
+#[derive(Clone, Copy, Debug, PartialEq, Eq)]
+struct Standing {
     id: TransactionId,
     acquirer: Code,
-) -> Result<(), AllocError> {
+    at_initiator: Option<Status>,
+    at_log: Option<Status>,
+    at_acquirer: Option<Status>,
+}
+
+/// What a registry holds.
+#[derive(Debug, Drop)]
+struct Stock {
+    code: Code,
+    holdings: Items<Holding>,
+}
+
+fn push_standing(text: &mut String, standing: &Standing) -> Result<(), AllocError>
+    ensures { OnOk result (string_bytes text.new ≡ string_bytes text.old ++ transaction_line standing.now) }
+{
+    let id = standing.id;
     let initiator = id.code;
-    let first = StatusText(world.status(Node::Registry(initiator), id));
-    let middle = StatusText(world.status(Node::Itl, id));
-    let last = StatusText(world.status(Node::Registry(acquirer), id));
+    let first = StandingText(standing.at_initiator);
+    let middle = StandingText(standing.at_log);
+    let acquirer = standing.acquirer;
+    let last = StandingText(standing.at_acquirer);
     writeln!(
         text,
         "transaction {id} {initiator} {first} ITL {middle} {acquirer} {last}"
     )
 }
 
-fn push_holding(text: &mut String, code: Code, holding: &Holding) -> Result<(), AllocError> {
+fn push_holding(text: &mut String, code: Code, holding: &Holding) -> Result<(), AllocError>
+    ensures { OnOk result (string_bytes text.new ≡ string_bytes text.old ++ holding_line code holding.now) }
+{
     let account = holding.account;
     let block = holding.block;
     let mark = MarkText(holding.mark);
     writeln!(text, "holds {code} {account} {block} {mark}")
 }
 
-fn held_in(holdings: &[Holding]) -> u64 {
+fn push_holdings(text: &mut String, code: Code, holdings: &[Holding]) -> Result<(), AllocError>
+    ensures { OnOk result (string_bytes text.new ≡ string_bytes text.old ++ flat_map (holding_line code) holdings.now) }
+{
+    for holding in holdings {
+        push_holding(text, code, holding)?;
+    }
+    Ok(())
+}
+
+fn free_units(holding: &Holding) -> u64
+    ensures { result ≡ free_units holding.now }
+{
+    match holding.mark {
+        Some(_) => 0,
+        None => holding.block.count(),
+    }
+}
+
+fn held_in(holdings: &[Holding]) -> u64
+    ensures { result ≡ min (sum_by held_units holdings.now) greatest_sum }
+{
     let mut count = 0u64;
     for holding in holdings {
         count = count.saturating_add(holding.block.count());
@@ -84,64 +142,156 @@ fn held_in(holdings: &[Holding]) -> u64 {
     count
 }
 
-fn free_in(holdings: &[Holding]) -> u64 {
+fn free_in(holdings: &[Holding]) -> u64
+    ensures { result ≡ min (sum_by free_units holdings.now) greatest_sum }
+{
     let mut count = 0u64;
     for holding in holdings {
-        if holding.mark.is_none() {
-            count = count.saturating_add(holding.block.count());
-        }
+        count = count.saturating_add(free_units(holding));
     }
     count
 }
 
-fn push_registry(text: &mut String, code: Code, holdings: &[Holding]) -> Result<(), AllocError> {
-    let held = held_in(holdings);
-    let free = free_in(holdings);
-    writeln!(text, "registry {code} held {held} spendable {free}")?;
-    for holding in holdings {
-        push_holding(text, code, holding)?;
-    }
-    Ok(())
+fn push_sums(text: &mut String, code: Code, held: u64, free: u64) -> Result<(), AllocError>
+    ensures { OnOk result (string_bytes text.new ≡ string_bytes text.old ++ sums_line code held free) }
+{
+    writeln!(text, "registry {code} held {held} spendable {free}")
 }
 
-fn owed_in(debts: &[Debt]) -> u64 {
+/// Adds what a registry holds.
+fn push_registry(text: &mut String, code: Code, holdings: &[Holding]) -> Result<(), AllocError>
+    ensures { OnOk result (string_bytes text.new ≡ string_bytes text.old ++ registry_lines code holdings.now) }
+{
+    push_sums(text, code, held_in(holdings), free_in(holdings))?;
+    push_holdings(text, code, holdings)
+}
+
+/// How many units the blocks have, the sum of `before` included.
+fn units_in(before: u64, blocks: &[Block]) -> u64
+    ensures { result ≡ min (before + sum_by units_of blocks.now) greatest_sum }
+{
+    let mut count = before;
+    for block in blocks {
+        count = count.saturating_add(block.count());
+    }
+    count
+}
+
+fn owed_in(debts: &[Debt]) -> u64
+    ensures { result ≡ min (sum_by due_units debts.now) greatest_sum }
+{
     let mut count = 0u64;
     for debt in debts {
-        for block in debt.units.as_slice() {
-            count = count.saturating_add(block.count());
-        }
+        count = units_in(count, debt.units.as_slice());
     }
     count
 }
 
-fn push_debt(text: &mut String, debt: &Debt) -> Result<(), AllocError> {
-    let id = debt.id;
-    for block in debt.units.as_slice() {
+fn push_due(text: &mut String, id: TransactionId, blocks: &[Block]) -> Result<(), AllocError>
+    ensures { OnOk result (string_bytes text.new ≡ string_bytes text.old ++ flat_map (due_line id) blocks.now) }
+{
+    for block in blocks {
         writeln!(text, "due {id} {block}")?;
     }
     Ok(())
 }
 
-fn push_debts(text: &mut String, debts: &[Debt]) -> Result<(), AllocError> {
-    let owed = owed_in(debts);
-    writeln!(text, "owed {owed}")?;
+fn push_each_debt(text: &mut String, debts: &[Debt]) -> Result<(), AllocError>
+    ensures { OnOk result (string_bytes text.new ≡ string_bytes text.old ++ flat_map debt_lines debts.now) }
+{
     for debt in debts {
-        push_debt(text, debt)?;
+        push_due(text, debt.id, debt.units.as_slice())?;
     }
+    Ok(())
+}
+
+fn push_owed(text: &mut String, debts: &[Debt]) -> Result<(), AllocError>
+    ensures { OnOk result (string_bytes text.new ≡ string_bytes text.old ++ owed_line debts.now) }
+{
+    let owed = owed_in(debts);
+    writeln!(text, "owed {owed}")
+}
+
+/// Adds what is owed, and the report's last line.
+fn push_debts(text: &mut String, debts: &[Debt]) -> Result<(), AllocError>
+    ensures { OnOk result (string_bytes text.new ≡ string_bytes text.old ++ owed_lines debts.now) }
+{
+    push_owed(text, debts)?;
+    push_each_debt(text, debts)?;
     writeln!(text, "end")
+}
+
+fn push_standings(text: &mut String, standings: &[Standing]) -> Result<(), AllocError>
+    ensures { OnOk result (string_bytes text.new ≡ string_bytes text.old ++ flat_map transaction_line standings.now) }
+{
+    for standing in standings {
+        push_standing(text, standing)?;
+    }
+    Ok(())
+}
+
+fn push_stocks(text: &mut String, stocks: &[Stock]) -> Result<(), AllocError>
+    ensures { OnOk result (string_bytes text.new ≡ string_bytes text.old ++ flat_map stock_lines stocks.now) }
+{
+    for stock in stocks {
+        push_registry(text, stock.code, stock.holdings.as_slice())?;
+    }
+    Ok(())
+}
+
+/// Adds a table: the transactions, what each registry holds, and what is owed.
+fn push_rows(
+    text: &mut String,
+    standings: &[Standing],
+    stocks: &[Stock],
+    debts: &[Debt],
+) -> Result<(), AllocError>
+    ensures { OnOk result (string_bytes text.new ≡ string_bytes text.old ++ table_text standings.now stocks.now debts.now) }
+{
+    push_standings(text, standings)?;
+    push_stocks(text, stocks)?;
+    push_debts(text, debts)
+}
+
+/// The transactions of a world.
+fn standings_in(alloc: Global, world: &World) -> Result<Vec<Standing>, NoMemory> {
+    let mut standings = Vec::new(alloc);
+    for (id, acquirer) in world.transactions(alloc)? {
+        standings.push(Standing {
+            id,
+            acquirer,
+            at_initiator: world.status(Node::Registry(id.code), id),
+            at_log: world.status(Node::Itl, id),
+            at_acquirer: world.status(Node::Registry(acquirer), id),
+        })?;
+    }
+    Ok(standings)
+}
+
+/// What the registries of a world hold, in the scheme's order.
+fn stocks_in(alloc: Global, world: &World) -> Result<Vec<Stock>, NoMemory> {
+    let mut stocks = Vec::new(alloc);
+    for member in world.scheme().members.as_slice() {
+        if let Some(holdings) = world.holdings(alloc, member.code)? {
+            stocks.push(Stock {
+                code: member.code,
+                holdings: Items::from_vec(holdings),
+            })?;
+        }
+    }
+    Ok(stocks)
 }
 
 /// Adds the table of a world.
 pub fn push_table(alloc: Global, text: &mut String, world: &World) -> Result<(), NoMemory> {
-    for (id, acquirer) in world.transactions(alloc)? {
-        push_transaction(text, world, id, acquirer)?;
-    }
-    for member in world.scheme().members.as_slice() {
-        if let Some(holdings) = world.holdings(alloc, member.code)? {
-            push_registry(text, member.code, holdings.as_slice())?;
-        }
-    }
+    let standings = standings_in(alloc, world)?;
+    let stocks = stocks_in(alloc, world)?;
     let debts = world.due(alloc)?;
-    push_debts(text, debts.as_slice())?;
+    push_rows(
+        text,
+        standings.as_slice(),
+        stocks.as_slice(),
+        debts.as_slice(),
+    )?;
     Ok(())
 }

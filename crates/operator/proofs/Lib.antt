@@ -1,0 +1,3 @@
+pub mod FirstLines
+pub mod LineWords
+pub mod Texts

@@ -1,0 +1,9 @@
+use Rattle.std.proofs.Common.{sym, ◌∙◌}
+use Rattle.operator.proofs.LineWords.{no_event, no_text}
+use Rattle.operator.proofs.events.event_of.Goals as goal
+
+pub returns-in_default-clause-order : goal.returns-in_default-clause-order
+returns-in_default-clause-order c = λ was. no_text _ c.in_default.ensures.cases.0
+
+pub returns-clause-order : goal.returns-clause-order
+returns-clause-order c = λ was. no_event _ _ _ (sym c.in-Ok.ensures.cases.0 ∙ c.in-Some.ensures.some.0) c.in-Some.ensures.some.1 (c.event_with.ensures.order was)

@@ -1,0 +1,39 @@
+-- The lines of an input, each with a newline at its end.
+use Rattle.std.specs.Prelude.{◌≡◌, ℕ, ◌+◌, ◌<◌, ◌≤◌, List, ◌∷◌, ◌++◌, length, ◌⊎◌}
+use Rattle.units.specs.Text.{IsFreeOf}
+use Rattle.operator.specs.declared.fault.Cause.{Cause}
+use Rattle.operator.specs.declared.fault.Cause.TheVariants.{Truncated, TooLong}
+
+-- the greatest length of a line in bytes, its newline left out
+abbrev pub longest_line : ℕ
+longest_line = 1_048_576
+
+-- up to their first newline the bytes are `line`, and behind it `rest`
+pub record Begins (bytes line rest : List ℕ) : Type 0 where
+  pub spelled : bytes ≡ line ++ 10 ∷ rest
+  pub free : IsFreeOf 10 line
+
+-- the first line of the bytes, with both limits kept. `room` is how many more bytes the input may have
+pub record IsLine (bytes : List ℕ) (room : ℕ) (line rest : List ℕ) : Type 0 where
+  pub begins : Begins bytes line rest
+  pub short : length line ≤ longest_line
+  pub within : length line + 1 ≤ room
+
+-- the first line is over its limit, or has the first byte over the input's, be it its newline. A line
+-- without a newline goes on to the end of the bytes
+abbrev pub IsTooLong : List ℕ → ℕ → Type 0
+IsTooLong bytes room =
+    ((line rest : List ℕ) × Begins bytes line rest × ((longest_line < length line) ⊎ (room < length line + 1)))
+    ⊎ (IsFreeOf 10 bytes × ((longest_line < length bytes) ⊎ (room < length bytes)))
+
+-- there is no newline, and nothing is too long
+pub record IsTruncated (bytes : List ℕ) (room : ℕ) : Type 0 where
+  pub free : IsFreeOf 10 bytes
+  pub short : length bytes ≤ longest_line
+  pub within : length bytes ≤ room
+
+-- what is wrong with the first line
+abbrev pub IsLineFault : List ℕ → ℕ → Cause → Type 0
+IsLineFault bytes room TooLong = IsTooLong bytes room
+IsLineFault bytes room Truncated = IsTruncated bytes room
+IsLineFault bytes room _ = ⊥

@@ -1,5 +1,5 @@
 -- What a registry holds, as blocks in order.
-use Rattle.std.specs.Prelude.{◌≡◌, ℕ, suc, ◌+◌, ◌<◌, ◌↔◌, ◌⊎◌, true, List, [], ◌∷◌, Any, Option, Some, None}
+use Rattle.std.specs.Prelude.{◌≡◌, ℕ, suc, ◌<◌, ◌↔◌, ◌⊎◌, true, List, [], ◌∷◌, Any, Option, Some}
 use Rattle.std.specs.declared.cmp.Ordering.TheVariants.{Less}
 use Rattle.units.specs.Keys.{unit_cmp}
 use Rattle.units.specs.Unit.{has_unit}

@@ -4,3 +4,4 @@ pub mod Verdict
 pub mod World
 pub mod Views
 pub mod Holdings
+pub mod Readings

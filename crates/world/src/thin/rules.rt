@@ -1,6 +1,9 @@
 //! What a node answers to an input, by the thin rules: a registry proposes one whole allotted block,
 //! and the rows of the accepted path are all that is recorded.
 
+ghost use Rattle.std.specs.Prelude.{◌≡◌, option_copied};
+ghost use Rattle.world.specs.History.{newest, stands};
+
 use crate::thin::messages::{Content, Input, Message};
 use crate::thin::registries::{Member, Scheme};
 use status::{Known, Role, Row, RowInput, Status, TransactionId, row};
@@ -30,12 +33,16 @@ pub enum Verdict {
     Refused(u16),
 }
 
-fn newest(transitions: &VecDeque<Transition>, id: TransactionId) -> Option<&Transition> {
+fn newest(transitions: &VecDeque<Transition>, id: TransactionId) -> Option<&Transition>
+    ensures { option_copied result ≡ newest transitions.now.items id }
+{
     transitions.iter().find(|t| t.id == id)
 }
 
 /// How a transaction stands by a node's transitions, the newest first.
-pub fn status_in(transitions: &VecDeque<Transition>, id: TransactionId) -> Option<Status> {
+pub fn status_in(transitions: &VecDeque<Transition>, id: TransactionId) -> Option<Status>
+    ensures { result ≡ stands transitions.now.items id }
+{
     let transition = newest(transitions, id)?;
     Some(transition.new)
 }

@@ -12,3 +12,4 @@ pub mod SchemeFinds
 pub mod SchemeBlocks
 pub mod SchemeOrder
 pub mod SchemeWhole
+pub mod Allotted

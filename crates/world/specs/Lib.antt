@@ -7,3 +7,4 @@ pub mod Views
 pub mod Holdings
 pub mod SchemeText
 pub mod SchemeReading
+pub mod Readings

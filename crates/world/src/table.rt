@@ -1,5 +1,11 @@
 //! What the report's table says of a world: transactions, holdings and debts.
 
+ghost use Rattle.std.specs.Prelude.{◌≡◌, ◌&&◌, option_map, option_copied, find};
+ghost use Rattle.units.specs.Code.{same_code};
+ghost use Rattle.units.specs.Unit.{covers};
+ghost use Rattle.world.specs.History.{block_with, completes, gives, credits, lot_of, credited_place, number_of, holds, stands_at, reserver, place};
+ghost use Rattle.world.specs.Readings.{lot, place_at};
+
 use crate::thin::{Member, Transition, status_in};
 use status::{Status, TransactionId};
 use std::alloc::Global;
@@ -29,46 +35,93 @@ struct Place {
     mark: Option<TransactionId>,
 }
 
-pub(crate) fn covers(blocks: &[Block], unit: &Unit) -> bool {
+pub(crate) fn covers(blocks: &[Block], unit: &Unit) -> bool
+    ensures { result ≡ covers blocks.now unit.now }
+{
     blocks.iter().any(|b| b.has(unit))
 }
 
-fn kind_in(blocks: &[Block], unit: &Unit) -> Option<Kind> {
-    let block = blocks.iter().find(|b| b.has(unit))?;
-    Some(block.raw.kind)
+/// The block that has the unit.
+fn block_with<'a>(blocks: &'a [Block], unit: &Unit) -> Option<&'a Block>
+    ensures { option_copied result ≡ block_with blocks.now unit.now }
+{
+    blocks.iter().find(|b| b.has(unit))
 }
 
 /// The transition completes a transfer of the unit.
-fn completes(transition: &Transition, unit: &Unit) -> bool {
+fn completes(transition: &Transition, unit: &Unit) -> bool
+    ensures { result ≡ completes unit.now transition.now }
+{
     transition.new == Status::Completed && covers(transition.content.units.as_slice(), unit)
 }
 
-/// The account and the kind that a unit was allotted with at that registry.
-fn allotted_place(member: &Member, unit: &Unit) -> Option<(u64, Kind)> {
+/// The transition completes a transfer of the unit out of the registry of that code.
+fn gives(code: Code, transition: &Transition, unit: &Unit) -> bool
+    ensures { result ≡ gives code unit.now transition.now }
+{
+    transition.id.code == code && completes(transition, unit)
+}
+
+/// The transition completes a transfer of the unit into the registry of that code.
+fn credits(code: Code, transition: &Transition, unit: &Unit) -> bool
+    ensures { result ≡ credits code unit.now transition.now }
+{
+    transition.id.code != code && completes(transition, unit)
+}
+
+/// The account and the block that a unit was allotted in at that registry.
+fn lot_of(member: &Member, unit: &Unit) -> Option<(u64, Block)>
+    ensures { option_map lot result ≡ lot_of member.now unit.now }
+{
     for allotment in member.allotted.as_slice() {
-        if let Some(kind) = kind_in(allotment.units.as_slice(), unit) {
-            return Some((allotment.account, kind));
+        if let Some(block) = block_with(allotment.units.as_slice(), unit) {
+            return Some((allotment.account, *block));
         }
     }
     None
 }
 
+/// How many transfers of the unit out of the registry the transitions complete.
+fn given(code: Code, transitions: &VecDeque<Transition>, unit: &Unit) -> usize
+    ensures { result ≡ number_of (gives code unit.now) transitions.now.items }
+{
+    transitions.iter().filter(|t| gives(code, t, unit)).count()
+}
+
+/// How many transfers of the unit into the registry the transitions complete.
+fn credited(code: Code, transitions: &VecDeque<Transition>, unit: &Unit) -> usize
+    ensures { result ≡ number_of (credits code unit.now) transitions.now.items }
+{
+    transitions
+        .iter()
+        .filter(|t| credits(code, t, unit))
+        .count()
+}
+
 /// A registry holds a unit that was allotted there or credited, and not given since.
-pub(crate) fn is_held(member: &Member, transitions: &VecDeque<Transition>, unit: &Unit) -> bool {
-    let code = member.code;
-    let given = transitions
-        .iter()
-        .filter(|t| t.id.code == code && completes(t, unit))
-        .count();
-    let credited = transitions
-        .iter()
-        .filter(|t| t.id.code != code && completes(t, unit))
-        .count();
-    let allotted = match allotted_place(member, unit) {
-        Some(_) => 1u64,
-        None => 0,
-    };
-    allotted.saturating_add(credited as u64) == (given as u64).saturating_add(1)
+pub(crate) fn is_held(member: &Member, transitions: &VecDeque<Transition>, unit: &Unit) -> bool
+    ensures { result ≡ holds member.now transitions.now.items unit.now }
+{
+    let given = given(member.code, transitions, unit) as u128;
+    let credited = credited(member.code, transitions, unit) as u128;
+    match lot_of(member, unit) {
+        Some(_) => 1 + credited == given + 1,
+        None => credited == given + 1,
+    }
+}
+
+/// The transition's transfer of that unit stands Proposed at its initiator.
+fn reserves(
+    code: Code,
+    transitions: &VecDeque<Transition>,
+    transition: &Transition,
+    unit: &Unit,
+) -> bool
+    ensures { result ≡ (same_code transition.now.id.code code && (stands_at transitions.now.items transition.now.id Status.Proposed && covers transition.now.content.units unit.now)) }
+{
+    transition.id.code == code
+        && status_in(transitions, transition.id) == Some(Status::Proposed)
+        && covers(transition.content.units.as_slice(), unit)
 }
 
 /// The transfer of that unit which stands Proposed at its initiator.
@@ -76,13 +129,40 @@ pub(crate) fn reserving(
     code: Code,
     transitions: &VecDeque<Transition>,
     unit: &Unit,
-) -> Option<TransactionId> {
-    let transition = transitions.iter().find(|t| {
-        t.id.code == code
-            && status_in(transitions, t.id) == Some(Status::Proposed)
-            && covers(t.content.units.as_slice(), unit)
-    })?;
+) -> Option<TransactionId>
+    ensures { result ≡ reserver code transitions.now.items unit.now }
+{
+    let transition = transitions
+        .iter()
+        .find(|t| reserves(code, transitions, t, unit))?;
     Some(transition.id)
+}
+
+/// The newest transition that completes a transfer of the unit into the registry of that code.
+fn last_credit<'a>(
+    code: Code,
+    transitions: &'a VecDeque<Transition>,
+    unit: &Unit,
+) -> Option<&'a Transition>
+    ensures { option_copied result ≡ find (credits code unit.now) transitions.now.items }
+{
+    transitions.iter().find(|t| credits(code, t, unit))
+}
+
+/// The account and the kind that a transfer brings a unit with.
+fn credited_place(transition: &Transition, unit: &Unit) -> Option<(u64, Kind)>
+    ensures { option_map place_at result ≡ credited_place transition.now unit.now }
+{
+    let block = block_with(transition.content.units.as_slice(), unit)?;
+    Some((transition.content.to_account, block.raw.kind))
+}
+
+/// The account and the kind that a unit was allotted with at that registry.
+fn allotted_place(member: &Member, unit: &Unit) -> Option<(u64, Kind)>
+    ensures { option_map place_at result ≡ option_map (λ l. place_at (l.account, l.block.raw.kind)) (lot_of member.now unit.now) }
+{
+    let (account, block) = lot_of(member, unit)?;
+    Some((account, block.raw.kind))
 }
 
 /// The account and the kind of a unit at a registry: as credited last, else as allotted.
@@ -90,16 +170,11 @@ fn account_and_kind(
     member: &Member,
     transitions: &VecDeque<Transition>,
     unit: &Unit,
-) -> Option<(u64, Kind)> {
-    let code = member.code;
-    let credited = transitions
-        .iter()
-        .find(|t| t.id.code != code && completes(t, unit));
-    match credited {
-        Some(transition) => {
-            let kind = kind_in(transition.content.units.as_slice(), unit)?;
-            Some((transition.content.to_account, kind))
-        }
+) -> Option<(u64, Kind)>
+    ensures { option_map place_at result ≡ place member.now transitions.now.items unit.now }
+{
+    match last_credit(member.code, transitions, unit) {
+        Some(transition) => credited_place(transition, unit),
         None => allotted_place(member, unit),
     }
 }

@@ -13,3 +13,4 @@ pub mod SchemeBlocks
 pub mod SchemeOrder
 pub mod SchemeWhole
 pub mod Allotted
+pub mod Shown

@@ -40,19 +40,20 @@ status_at w n t = stands (live w n) t
 
 -- ---- holding and owing a unit
 
+-- at a registry of the scheme, by what it did
+abbrev pub held_by : World → Option Member → Option Station → Serial → Bool
+held_by w (Some m) (Some st) s = holds m (live_in w (Some st)) s
+held_by w _ _ s = false
+
 abbrev pub is_held : World → Code → Serial → Bool
-is_held w c s = held_by (member w.scheme c)
-  where
-    held_by : Option Member → Bool
-    held_by None = false
-    held_by (Some m) = holds m (live w (Registry m.code)) s
+is_held w c s = held_by w (member w.scheme c) (station w (Registry c)) s
+
+abbrev pub spendable_by : World → Option Member → Option Station → Serial → Bool
+spendable_by w (Some m) (Some st) s = spendable m (live_in w (Some st)) s
+spendable_by w _ _ s = false
 
 abbrev pub is_spendable : World → Code → Serial → Bool
-is_spendable w c s = spendable_by (member w.scheme c)
-  where
-    spendable_by : Option Member → Bool
-    spendable_by None = false
-    spendable_by (Some m) = spendable m (live w (Registry m.code)) s
+is_spendable w c s = spendable_by w (member w.scheme c) (station w (Registry c)) s
 
 -- the transition completes its transaction at the initiator, and the acquirer has not completed it
 abbrev pub owes : World → Code → Transition → Bool

@@ -34,7 +34,7 @@ impl Model for World {
     ghost invariant = { λ w. All (IsKept w.scheme) w.stations.items };
 }
 
-fn place_of(stations: &[Station], node: Node) -> Option<usize>
+pub(crate) fn place_of(stations: &[Station], node: Node) -> Option<usize>
     ensures { result ≡ position_from (λ s. same_node s.node node) 0 stations.now }
 {
     stations.iter().position(|s| s.node == node)

@@ -1,147 +1,98 @@
 //! What a world shows: of every node the committed journal and the tail behind it.
+ghost use Rattle.std.specs.Prelude.{◌≡◌, ◌++◌, ◌&&◌, not, map, length, slice_get, find, IfOk, IfSome, OnOk, option_map, option_and_then, sum_by};
+ghost use Rattle.std.specs.Option.{option_copied};
+ghost use Rattle.units.specs.Unit.{covers};
+ghost use Rattle.world.specs.History.{number_of, spendable, stands_at};
+ghost use Rattle.world.specs.Verdict.{member};
+ghost use Rattle.world.specs.World.{station};
+ghost use Rattle.world.specs.Kept.{seen, IsKept};
+ghost use Rattle.world.specs.Views.{journal_of, committed_of, live, status_at, is_held, is_spendable, owes, owed, proposals, transactions, due};
 
-use crate::bag::World;
+use crate::bag::{World, place_of};
 use crate::nodes::{Posted, Station};
-use crate::table::{Debt, Holding, covers, holdings_of, is_held, reserving};
-use crate::thin::{Input, Scheme, Transition, status_in};
+use crate::table::{Debt, Holding, holdings_of, is_held, reserving};
+use crate::thin::{Input, Member, Scheme, Transition, status_in};
 use status::{Status, TransactionId};
 use std::alloc::Global;
+use std::collections::VecDeque;
 use units::{Code, NoMemory, Node, Unit};
+
+fn is_spendable(member: &Member, transitions: &VecDeque<Transition>, unit: &Unit) -> bool
+    ensures { result ≡ spendable member.now transitions.now.items unit.now }
+{
+    is_held(member, transitions, unit) && reserving(member.code, transitions, unit).is_none()
+}
 
 impl World {
     /// The scheme that the world opened with.
-    pub fn scheme(&self) -> &Scheme {
+    pub fn scheme(&self) -> &Scheme
+        ensures { result.now ≡ self.now.scheme }
+    {
         &self.scheme
     }
 
-    fn station(&self, node: Node) -> Option<&Station> {
-        self.stations.iter().find(|s| s.node == node)
+    fn station(&self, node: Node) -> Option<&Station>
+        ensures seen { option_map seen (option_copied result) ≡ station self.now node }
+        ensures kept { IfSome result (λ s. IsKept self.now.scheme s.now) }
+    {
+        let at = place_of(self.stations.as_slice(), node)?;
+        Some(&self.stations[at])
     }
 
     /// How a transaction stands at a node, `None` where it is not known there.
-    pub fn status(&self, node: Node, id: TransactionId) -> Option<Status> {
+    pub fn status(&self, node: Node, id: TransactionId) -> Option<Status>
+        ensures { result ≡ status_at self.now node id }
+    {
         let station = self.station(node)?;
         status_in(&station.transitions, id)
     }
 
     /// Whether a registry holds a unit.
-    pub fn held(&self, registry: Code, unit: &Unit) -> bool {
-        match (
-            self.scheme.member(registry),
-            self.station(Node::Registry(registry)),
-        ) {
-            (Some(member), Some(station)) => is_held(member, &station.transitions, unit),
-            _ => false,
-        }
+    pub fn held(&self, registry: Code, unit: &Unit) -> bool
+        ensures { result ≡ is_held self.now registry unit.now }
+    {
+        let Some(member) = self.scheme.member(registry) else {
+            return false;
+        };
+        let Some(station) = self.station(Node::Registry(registry)) else {
+            return false;
+        };
+        is_held(member, &station.transitions, unit)
     }
 
     /// Whether a registry holds a unit and has not reserved it.
-    pub fn spendable(&self, registry: Code, unit: &Unit) -> bool {
-        match (
-            self.scheme.member(registry),
-            self.station(Node::Registry(registry)),
-        ) {
-            (Some(member), Some(station)) => {
-                is_held(member, &station.transitions, unit)
-                    && reserving(registry, &station.transitions, unit).is_none()
-            }
-            _ => false,
-        }
-    }
-
-    /// Completed at its initiator, and not at its acquirer.
-    fn owes(&self, transition: &Transition) -> bool {
-        transition.new == Status::Completed
-            && self.status(Node::Registry(transition.content.acquirer), transition.id)
-                != Some(Status::Completed)
-    }
-
-    /// How many transactions owe a unit: completed at the initiator and not at the acquirer.
-    pub fn owed(&self, unit: &Unit) -> usize {
-        let mut count = 0usize;
-        for member in self.scheme.members.as_slice() {
-            if let Some(station) = self.station(Node::Registry(member.code)) {
-                let owing = station
-                    .transitions
-                    .iter()
-                    .filter(|t| {
-                        t.id.code == member.code
-                            && self.owes(t)
-                            && covers(t.content.units.as_slice(), unit)
-                    })
-                    .count();
-                count = count.saturating_add(owing);
-            }
-        }
-        count
+    pub fn spendable(&self, registry: Code, unit: &Unit) -> bool
+        ensures { result ≡ is_spendable self.now registry unit.now }
+    {
+        let Some(member) = self.scheme.member(registry) else {
+            return false;
+        };
+        let Some(station) = self.station(Node::Registry(registry)) else {
+            return false;
+        };
+        is_spendable(member, &station.transitions, unit)
     }
 
     /// The message at that place of the bag, with the node that posted it and its key there.
-    pub fn bag_message(&self, index: u64) -> Option<&Posted> {
+    pub fn bag_message(&self, index: u64) -> Option<&Posted>
+        ensures { option_copied result ≡ slice_get self.now.bag index }
+    {
         self.bag.get(index as usize)
     }
 
     /// A node's journal, the tail included. `None` where the scheme has no such node.
-    pub fn journal(&self, node: Node) -> Option<&[Input]> {
+    pub fn journal(&self, node: Node) -> Option<&[Input]>
+        ensures { option_copied result ≡ journal_of self.now node }
+    {
         let station = self.station(node)?;
         Some(station.journal.as_slice())
     }
 
     /// A node's committed journal. `None` where the scheme has no such node.
-    pub fn committed(&self, node: Node) -> Option<&[Input]> {
+    pub fn committed(&self, node: Node) -> Option<&[Input]>
+        ensures { option_copied result ≡ committed_of self.now node }
+    {
         let station = self.station(node)?;
-        station.journal.as_slice().get(..station.committed)
-    }
-
-    /// The transactions in their initiators' journals, by code and then by number, each with its
-    /// acquirer.
-    pub fn transactions(&self, alloc: Global) -> Result<Vec<(TransactionId, Code)>, NoMemory> {
-        let mut transactions = Vec::new(alloc);
-        for member in self.scheme.members.as_slice() {
-            if let Some(station) = self.station(Node::Registry(member.code)) {
-                for transition in station.transitions.iter().rev() {
-                    if transition.id.code == member.code && transition.new == Status::Proposed {
-                        transactions.push((transition.id, transition.content.acquirer))?;
-                    }
-                }
-            }
-        }
-        Ok(transactions)
-    }
-
-    /// What a registry holds as blocks in order. `None` where the scheme has no such registry.
-    pub fn holdings(
-        &self,
-        alloc: Global,
-        registry: Code,
-    ) -> Result<Option<Vec<Holding>>, NoMemory> {
-        match (
-            self.scheme.member(registry),
-            self.station(Node::Registry(registry)),
-        ) {
-            (Some(member), Some(station)) => {
-                Ok(Some(holdings_of(alloc, member, &station.transitions)?))
-            }
-            _ => Ok(None),
-        }
-    }
-
-    /// The transactions that owe their units, by code and then by number.
-    pub fn due(&self, alloc: Global) -> Result<Vec<Debt>, NoMemory> {
-        let mut due = Vec::new(alloc);
-        for (id, _) in self.transactions(alloc)? {
-            if let Some(station) = self.station(Node::Registry(id.code)) {
-                let last = station.transitions.iter().find(|t| t.id == id);
-                if let Some(transition) = last {
-                    if self.owes(transition) {
-                        due.push(Debt {
-                            id,
-                            units: transition.content.units.copy()?,
-                        })?;
-                    }
-                }
-            }
-        }
-        Ok(due)
+        Some(&station.journal[..station.committed])
     }
 }

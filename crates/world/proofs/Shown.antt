@@ -1,0 +1,22 @@
+-- What a world shows of a node, by what the node keeps.
+use Rattle.std.proofs.Common.{◌≡◌, List, [], ◌∷◌, Option, Some, None, option_map, refl, sym, ap, ◌∙◌}
+use Rattle.units.specs.declared.code.Node.{Node}
+use Rattle.world.specs.declared.thin.messages.Input.{Input}
+use Rattle.world.specs.declared.thin.registries.Scheme.{Scheme}
+use Rattle.world.specs.declared.thin.rules.Transition.{Transition}
+use Rattle.world.specs.declared.nodes.Station.{Station as Kept}
+use Rattle.world.specs.History.{transitions_of}
+use Rattle.world.specs.Verdict.{history}
+use Rattle.world.specs.World.{World, Station, station}
+use Rattle.world.specs.Kept.{seen, IsKept}
+use Rattle.world.specs.Views.{live, live_in}
+use Rattle.world.proofs.Turns.{journal-seen}
+
+pub live_kept : (w : World) (s : Kept) → IsKept w.scheme s → s.transitions.items ≡ live_in w (Some (seen s))
+live_kept w s kept = kept.made ∙ sym (ap (λ (l : List Input). transitions_of (history w.scheme s.node l)) (journal-seen s))
+
+pub live_there : (w : World) (n : Node) (s : Kept) → IsKept w.scheme s → station w n ≡ Some (seen s) → s.transitions.items ≡ live w n
+live_there w n s kept is = live_kept w s kept ∙ sym (ap (live_in w) is)
+
+pub live_nowhere : (w : World) (n : Node) → station w n ≡ None → live w n ≡ []
+live_nowhere w n is = ap (live_in w) is

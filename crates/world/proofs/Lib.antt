@@ -14,3 +14,4 @@ pub mod SchemeOrder
 pub mod SchemeWhole
 pub mod Allotted
 pub mod Shown
+pub mod Dues

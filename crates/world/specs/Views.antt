@@ -1,5 +1,5 @@
 -- What a world shows: of every node the committed journal and the tail behind it.
-use Rattle.std.specs.Prelude.{ℕ, ◌&&◌, not, cond, Bool, false, List, [], filter, flat_map, reverse, sum_by, Option, Some, None, option_map, option_and_then}
+use Rattle.std.specs.Prelude.{◌≡◌, ◌&&◌, not, cond, Bool, false, List, [], map, filter, flat_map, reverse, Option, Some, None, option_map, option_and_then}
 use Rattle.std.specs.List.{filter_map}
 use Rattle.units.specs.Code.{same_code}
 use Rattle.units.specs.Unit.{covers}
@@ -59,23 +59,35 @@ is_spendable w c s = spendable_by w (member w.scheme c) (station w (Registry c))
 abbrev pub owes : World → Code → Transition → Bool
 owes w c x = same_code x.id.code c && (same_status x.new Completed && not (stands_at (live w (Registry x.content.acquirer)) x.id Completed))
 
--- how many transactions owe the unit
-abbrev pub owed : World → Serial → ℕ
-owed w s = sum_by (λ m. number_of (λ x. owes w m.code x && covers x.content.units s) (live w (Registry m.code))) w.scheme.members
-
 -- ---- transactions and debts
 
--- a registry's own proposals, in the order of their numbers
+-- the transition proposes a transaction of this registry
+abbrev pub proposes : Code → Transition → Bool
+proposes c x = same_code x.id.code c && same_status x.new Proposed
+
+-- a registry's own proposals, the oldest first, which is the order of their numbers
 abbrev pub proposals : Code → List Transition → List Transition
-proposals c ts = reverse (filter (λ x. same_code x.id.code c && same_status x.new Proposed) ts)
+proposals c ts = reverse (filter (proposes c) ts)
 
 -- the transactions in their initiators' journals, by code and then by number
 abbrev pub transactions : World → List Transition
 transactions w = flat_map (λ m. proposals m.code (live w (Registry m.code))) w.scheme.members
 
-abbrev pub debt_of : World → Transition → Option Debt
-debt_of w x = option_and_then (λ y. cond (owes w x.id.code y) (Some (record { id = x.id; units = y.content.units })) None) (newest (live w (Registry x.id.code)) x.id)
+-- a transaction and its acquirer
+abbrev pub parties : Transition → TransactionId × Code
+parties x = (x.id, x.content.acquirer)
 
--- the transactions that owe their units, in the same order
+-- the transaction owes its units, if its last record at the initiator says so
+abbrev pub debt_if : World → TransactionId → Transition → Option Debt
+debt_if w t x = cond (owes w t.code x) (Some (record { id = t; units = x.content.units })) None
+
+abbrev pub debt_of : World → TransactionId → Option Debt
+debt_of w t = option_and_then (debt_if w t) (newest (live w (Registry t.code)) t)
+
+-- the transactions that owe their units, by code and then by number
 abbrev pub due : World → List Debt
-due w = filter_map (debt_of w) (transactions w)
+due w = filter_map (λ x. debt_of w x.id) (transactions w)
+
+-- the transactions that owe the unit
+abbrev pub owed : World → Serial → List TransactionId
+owed w s = map (λ d. d.id) (filter (λ d. covers d.units s) (due w))

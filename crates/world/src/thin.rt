@@ -9,4 +9,5 @@ mod rules;
 
 pub use messages::{Content, Input, Message};
 pub use registries::{Allotment, Member, Scheme, SchemeFault};
+pub(crate) use rules::{is_proposal, newest};
 pub use rules::{Transition, Verdict, judge, status_in};

@@ -1,19 +1,20 @@
 //! What a world shows: of every node the committed journal and the tail behind it.
-ghost use Rattle.std.specs.Prelude.{◌≡◌, ◌++◌, ◌&&◌, not, map, length, slice_get, find, IfOk, IfSome, OnOk, option_map, option_and_then, sum_by};
-ghost use Rattle.std.specs.Option.{option_copied};
+ghost use Rattle.std.specs.Prelude.{◌≡◌, ◌++◌, ◌&&◌, map, filter, slice_get, IfOk, IfSome, OnOk, option_map};
+ghost use Rattle.std.specs.Option.{option_copied, option_to_list};
+ghost use Rattle.units.specs.Code.{same_code};
 ghost use Rattle.units.specs.Unit.{covers};
-ghost use Rattle.world.specs.History.{number_of, spendable, stands_at};
-ghost use Rattle.world.specs.Verdict.{member};
+ghost use Rattle.status.specs.Status.{same_status};
+ghost use Rattle.world.specs.History.{spendable, is_status};
 ghost use Rattle.world.specs.World.{station};
 ghost use Rattle.world.specs.Kept.{seen, IsKept};
-ghost use Rattle.world.specs.Views.{journal_of, committed_of, live, status_at, is_held, is_spendable, owes, owed, proposals, transactions, due};
+ghost use Rattle.world.specs.Views.{journal_of, committed_of, live, status_at, is_held, is_spendable, owes, owed, parties, proposals, proposes, transactions, debt_of, due};
 
 use crate::bag::{World, place_of};
 use crate::nodes::{Posted, Station};
-use crate::table::{Debt, Holding, holdings_of, is_held, reserving};
-use crate::thin::{Input, Member, Scheme, Transition, status_in};
+use crate::table::{Debt, covers, is_held, reserving};
+use crate::thin::{Input, Member, Scheme, Transition, is_proposal, newest, status_in};
 use status::{Status, TransactionId};
-use std::alloc::Global;
+use std::alloc::{AllocError, Global};
 use std::collections::VecDeque;
 use units::{Code, NoMemory, Node, Unit};
 
@@ -21,6 +22,80 @@ fn is_spendable(member: &Member, transitions: &VecDeque<Transition>, unit: &Unit
     ensures { result ≡ spendable member.now transitions.now.items unit.now }
 {
     is_held(member, transitions, unit) && reserving(member.code, transitions, unit).is_none()
+}
+
+fn completes_own(code: Code, transition: &Transition) -> bool
+    ensures { result ≡ (same_code transition.now.id.code code && same_status transition.now.new Status.Completed) }
+{
+    transition.id.code == code && transition.new == Status::Completed
+}
+
+fn is_completed(status: Option<Status>) -> bool
+    ensures { result ≡ is_status status Status.Completed }
+{
+    match status {
+        Some(status) => status == Status::Completed,
+        None => false,
+    }
+}
+
+fn parties(transition: &Transition) -> (TransactionId, Code)
+    ensures { result ≡ parties transition.now }
+{
+    (transition.id, transition.content.acquirer)
+}
+
+fn newest_proposals(
+    alloc: Global,
+    transitions: &VecDeque<Transition>,
+    code: Code,
+) -> Result<Vec<(TransactionId, Code)>, AllocError>
+    ensures { IfOk result (λ v. v.items ≡ map parties (filter (proposes code) transitions.now.items)) }
+{
+    transitions
+        .iter()
+        .filter(|t| is_proposal(t, code))
+        .map(parties)
+        .collect(alloc)
+}
+
+/// A registry's own proposals, the oldest first.
+fn proposals_in(
+    alloc: Global,
+    transitions: &VecDeque<Transition>,
+    code: Code,
+) -> Result<Vec<(TransactionId, Code)>, NoMemory>
+    ensures { IfOk result (λ v. v.items ≡ map parties (proposals code transitions.now.items)) }
+{
+    let mut proposals = newest_proposals(alloc, transitions, code)?;
+    proposals.reverse();
+    Ok(proposals)
+}
+
+fn add_debt(due: &mut Vec<Debt>, debt: Option<Debt>) -> Result<(), NoMemory>
+    ensures { OnOk result (due.new.items ≡ due.old.items ++ option_to_list debt) }
+{
+    if let Some(debt) = debt {
+        due.push(debt)?;
+    }
+    Ok(())
+}
+
+fn owes_unit(debt: &Debt, unit: &Unit) -> bool
+    ensures { result ≡ covers debt.now.units unit.now }
+{
+    covers(debt.units.as_slice(), unit)
+}
+
+fn owing(alloc: Global, due: &[Debt], unit: &Unit) -> Result<Vec<TransactionId>, NoMemory>
+    ensures { IfOk result (λ v. v.items ≡ map (λ d. d.id) (filter (λ d. covers d.units unit.now) due.now)) }
+{
+    let ids = due
+        .iter()
+        .filter(|d| owes_unit(d, unit))
+        .map(|d| d.id)
+        .collect(alloc)?;
+    Ok(ids)
 }
 
 impl World {
@@ -94,5 +169,82 @@ impl World {
     {
         let station = self.station(node)?;
         Some(&station.journal[..station.committed])
+    }
+
+    /// The transition completes its transaction at that initiator, and its acquirer has not
+    /// completed it.
+    fn owes(&self, code: Code, transition: &Transition) -> bool
+        ensures { result ≡ owes self.now code transition.now }
+    {
+        completes_own(code, transition)
+            && !is_completed(self.status(
+                Node::Registry(transition.content.acquirer),
+                transition.id,
+            ))
+    }
+
+    /// A registry's own transactions in the order of their numbers, each with its acquirer.
+    fn own_transactions(
+        &self,
+        alloc: Global,
+        code: Code,
+    ) -> Result<Vec<(TransactionId, Code)>, NoMemory>
+        ensures { IfOk result (λ v. v.items ≡ map parties (proposals code (live self.now (Node.Registry code)))) }
+    {
+        match self.station(Node::Registry(code)) {
+            Some(station) => proposals_in(alloc, &station.transitions, code),
+            None => Ok(Vec::new(alloc)),
+        }
+    }
+
+    /// The transactions in their initiators' journals, by code and then by number, each with its
+    /// acquirer.
+    pub fn transactions(&self, alloc: Global) -> Result<Vec<(TransactionId, Code)>, NoMemory>
+        ensures { IfOk result (λ v. v.items ≡ map parties (transactions self.now)) }
+    {
+        let mut all = Vec::new(alloc);
+        for member in self.scheme.members.as_slice() {
+            let own = self.own_transactions(alloc, member.code)?;
+            all.extend_from_slice(own.as_slice())?;
+        }
+        Ok(all)
+    }
+
+    /// What a transaction owes, if it is completed at its initiator and not at its acquirer.
+    fn debt(&self, id: TransactionId) -> Result<Option<Debt>, NoMemory>
+        ensures { IfOk result (λ d. d ≡ debt_of self.now id) }
+    {
+        let Some(station) = self.station(Node::Registry(id.code)) else {
+            return Ok(None);
+        };
+        let Some(last) = newest(&station.transitions, id) else {
+            return Ok(None);
+        };
+        if !self.owes(id.code, last) {
+            return Ok(None);
+        }
+        let units = last.content.units.copy()?;
+        Ok(Some(Debt { id, units }))
+    }
+
+    /// The transactions that owe their units, by code and then by number.
+    pub fn due(&self, alloc: Global) -> Result<Vec<Debt>, NoMemory>
+        ensures { IfOk result (λ v. v.items ≡ due self.now) }
+    {
+        let transactions = self.transactions(alloc)?;
+        let mut due = Vec::new(alloc);
+        for (id, _) in transactions.as_slice() {
+            let debt = self.debt(*id)?;
+            add_debt(&mut due, debt)?;
+        }
+        Ok(due)
+    }
+
+    /// The transactions that owe a unit, by code and then by number.
+    pub fn owed(&self, alloc: Global, unit: &Unit) -> Result<Vec<TransactionId>, NoMemory>
+        ensures { IfOk result (λ v. v.items ≡ owed self.now unit.now) }
+    {
+        let due = self.due(alloc)?;
+        owing(alloc, due.as_slice(), unit)
     }
 }

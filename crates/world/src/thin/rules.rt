@@ -40,7 +40,7 @@ pub enum Verdict {
     Refused(u16),
 }
 
-fn newest(transitions: &VecDeque<Transition>, id: TransactionId) -> Option<&Transition>
+pub fn newest(transitions: &VecDeque<Transition>, id: TransactionId) -> Option<&Transition>
     ensures { option_copied result ≡ newest transitions.now.items id }
 {
     transitions.iter().find(|t| t.id == id)
@@ -232,7 +232,7 @@ fn has_account(scheme: &Scheme, code: Code, account: u64) -> bool
     }
 }
 
-fn is_proposal(transition: &Transition, code: Code) -> bool
+pub fn is_proposal(transition: &Transition, code: Code) -> bool
     ensures { result ≡ (same_code transition.now.id.code code && same_status transition.now.new Status.Proposed) }
 {
     transition.id.code == code && transition.new == Status::Proposed

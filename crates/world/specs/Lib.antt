@@ -5,3 +5,4 @@ pub mod World
 pub mod Views
 pub mod Holdings
 pub mod Readings
+pub mod Stretches

@@ -15,3 +15,7 @@ pub mod SchemeWhole
 pub mod Allotted
 pub mod Shown
 pub mod Dues
+pub mod UnitOrder
+pub mod UnitReadings
+pub mod HoldingLists
+pub mod UnitWalk

@@ -8,3 +8,4 @@ pub mod Holdings
 pub mod SchemeText
 pub mod SchemeReading
 pub mod Readings
+pub mod Stretches

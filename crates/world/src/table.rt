@@ -1,16 +1,24 @@
 //! What the report's table says of a world: transactions, holdings and debts.
 
-ghost use Rattle.std.specs.Prelude.{◌≡◌, ◌&&◌, option_map, option_copied, find};
+ghost use Rattle.std.specs.Prelude.{◌≡◌, ℕ, ◌+◌, ◌-◌, ◌&&◌, ◌++◌, true, option_map, option_copied, find, Option, All, IfSome, IfNone, IfOk, OnOk};
+ghost use Rattle.std.specs.Bool.{OnTrue, OnFalse};
+ghost use Rattle.std.specs.List.Sorted.{IsSorted};
 ghost use Rattle.units.specs.Code.{same_code};
-ghost use Rattle.units.specs.Unit.{covers};
+ghost use Rattle.units.specs.Facts.{IsRange};
+ghost use Rattle.units.specs.Keys.{unit_cmp};
+ghost use Rattle.units.specs.Unit.{covers, same_period};
+ghost use Rattle.units.specs.declared.block.Kind.{Kind};
+ghost use Rattle.status.specs.declared.id.TransactionId.{TransactionId};
 ghost use Rattle.world.specs.History.{block_with, completes, gives, credits, lot_of, credited_place, number_of, holds, stands_at, reserver, place};
+ghost use Rattle.world.specs.Holdings.{IsHeldSo, GoesOn, AreInOrder, AreHoldings, first_unit, last_unit};
 ghost use Rattle.world.specs.Readings.{lot, place_at};
+ghost use Rattle.world.specs.Stretches.{IsBelow, IsUpTo, ends_in, allotted_ends, moved_ends, AllKnown, HasEnds, IsWhole, IsBetween, IsStretch, IsNoStretch, AreSoFar, StandAlike, Follow, IsJoined, IsPlace, IsAdded};
 
-use crate::thin::{Member, Transition, status_in};
+use crate::thin::{Allotment, Member, Transition, status_in};
 use status::{Status, TransactionId};
 use std::alloc::Global;
-use std::collections::{BTreeSet, VecDeque};
-use units::{Block, Code, Items, Kind, NoMemory, Unit};
+use std::collections::VecDeque;
+use units::{Block, Code, Items, Kind, NoMemory, Period, Unit};
 
 /// Units of one kind that stand in an account, all free or all reserved by one transaction.
 #[derive(Clone, Copy, Debug, PartialEq, Eq)]
@@ -179,7 +187,10 @@ fn account_and_kind(
     }
 }
 
-fn place_of(member: &Member, transitions: &VecDeque<Transition>, unit: &Unit) -> Option<Place> {
+fn place_of(member: &Member, transitions: &VecDeque<Transition>, unit: &Unit) -> Option<Place>
+    ensures some { IfSome result (λ p. IsHeldSo member.now transitions.now.items unit.now p.account p.kind p.mark) }
+    ensures none { IfNone result ((account : ℕ) (kind : Kind) (mark : Option TransactionId) → IsHeldSo member.now transitions.now.items unit.now account kind mark → ⊥) }
+{
     if !is_held(member, transitions, unit) {
         return None;
     }
@@ -191,7 +202,10 @@ fn place_of(member: &Member, transitions: &VecDeque<Transition>, unit: &Unit) ->
     })
 }
 
-fn add_ends(ends: &mut BTreeSet<Unit>, blocks: &[Block]) -> Result<(), NoMemory> {
+/// Adds the first units of the blocks, and the units behind their last ones.
+fn add_ends(ends: &mut Vec<Unit>, blocks: &[Block]) -> Result<(), NoMemory>
+    ensures { OnOk result (ends.new.items ≡ ends.old.items ++ ends_in blocks.now) }
+{
     for block in blocks {
         let raw = block.raw;
         let first = Unit {
@@ -204,8 +218,26 @@ fn add_ends(ends: &mut BTreeSet<Unit>, blocks: &[Block]) -> Result<(), NoMemory>
             period: raw.period,
             number: raw.last + 1,
         };
-        ends.insert(first)?;
-        ends.insert(behind)?;
+        ends.push(first)?;
+        ends.push(behind)?;
+    }
+    Ok(())
+}
+
+fn add_allotted_ends(ends: &mut Vec<Unit>, allotted: &[Allotment]) -> Result<(), NoMemory>
+    ensures { OnOk result (ends.new.items ≡ ends.old.items ++ allotted_ends allotted.now) }
+{
+    for allotment in allotted {
+        add_ends(ends, allotment.units.as_slice())?;
+    }
+    Ok(())
+}
+
+fn add_moved_ends(ends: &mut Vec<Unit>, transitions: &VecDeque<Transition>) -> Result<(), NoMemory>
+    ensures { OnOk result (ends.new.items ≡ ends.old.items ++ moved_ends transitions.now.items) }
+{
+    for transition in transitions {
+        add_ends(ends, transition.content.units.as_slice())?;
     }
     Ok(())
 }
@@ -216,15 +248,27 @@ fn ends_of(
     alloc: Global,
     member: &Member,
     transitions: &VecDeque<Transition>,
-) -> Result<BTreeSet<Unit>, NoMemory> {
-    let mut ends = BTreeSet::new(alloc);
-    for allotment in member.allotted.as_slice() {
-        add_ends(&mut ends, allotment.units.as_slice())?;
-    }
-    for transition in transitions {
-        add_ends(&mut ends, transition.content.units.as_slice())?;
-    }
+) -> Result<Vec<Unit>, NoMemory>
+    ensures sorted { IfOk result (λ ends. IsSorted unit_cmp ends.items) }
+    ensures known { IfOk result (λ ends. AllKnown (HasEnds ends.items) member.now transitions.now.items) }
+{
+    let mut ends = Vec::new(alloc);
+    add_allotted_ends(&mut ends, member.allotted.as_slice())?;
+    add_moved_ends(&mut ends, transitions)?;
+    ends.sort_unstable();
     Ok(ends)
+}
+
+/// The block from one unit to before another of its origin and period.
+fn block_between(from: &Unit, to: &Unit, kind: Kind) -> Option<Block>
+    ensures some { IfSome result (λ b. IsBetween b from.now to.now kind) }
+    ensures none { IfNone result (same_code from.now.origin to.now.origin ≡ true → same_period from.now.period to.now.period ≡ true → IsRange from.now.number (to.now.number - 1) → ⊥) }
+{
+    if from.origin != to.origin || from.period != to.period {
+        return None;
+    }
+    let last = to.number.checked_sub(1)?;
+    Block::new(from.origin, from.period, kind, from.number, last).ok()
 }
 
 /// The units from one end to before the next, where they are held.
@@ -233,13 +277,12 @@ fn holding_between(
     transitions: &VecDeque<Transition>,
     from: &Unit,
     to: &Unit,
-) -> Option<Holding> {
-    if from.origin != to.origin || from.period != to.period {
-        return None;
-    }
+) -> Option<Holding>
+    ensures some { IfSome result (λ h. IsStretch h from.now to.now × IsHeldSo member.now transitions.now.items from.now h.account h.block.raw.kind h.mark) }
+    ensures none { IfNone result (IsNoStretch member.now transitions.now.items from.now to.now) }
+{
     let place = place_of(member, transitions, from)?;
-    let last = to.number.checked_sub(1)?;
-    let block = Block::new(from.origin, from.period, place.kind, from.number, last).ok()?;
+    let block = block_between(from, to, place.kind)?;
     Some(Holding {
         account: place.account,
         block,
@@ -247,18 +290,78 @@ fn holding_between(
     })
 }
 
-/// The units of both follow one another and stand alike.
-fn is_next(one: &Holding, other: &Holding) -> bool {
-    let (a, b) = (one.block.raw, other.block.raw);
-    one.account == other.account
-        && one.mark == other.mark
-        && a.origin == b.origin
-        && a.period == b.period
-        && a.kind == b.kind
-        && a.last + 1 == b.first
+fn is_same_id(one: TransactionId, other: TransactionId) -> bool
+    ensures yes { OnTrue result (one ≡ other) }
+    ensures no { OnFalse result (one ≡ other → ⊥) }
+{
+    one == other
 }
 
-fn joined(one: &Holding, other: &Holding) -> Option<Holding> {
+fn is_same_mark(one: Option<TransactionId>, other: Option<TransactionId>) -> bool
+    ensures yes { OnTrue result (one ≡ other) }
+    ensures no { OnFalse result (one ≡ other → ⊥) }
+{
+    match (one, other) {
+        (None, None) => true,
+        (Some(one), Some(other)) => is_same_id(one, other),
+        _ => false,
+    }
+}
+
+fn is_same_kind(one: Kind, other: Kind) -> bool
+    ensures yes { OnTrue result (one ≡ other) }
+    ensures no { OnFalse result (one ≡ other → ⊥) }
+{
+    one == other
+}
+
+fn is_same_period(one: Period, other: Period) -> bool
+    ensures yes { OnTrue result (one ≡ other) }
+    ensures no { OnFalse result (one ≡ other → ⊥) }
+{
+    one == other
+}
+
+fn is_same_code(one: Code, other: Code) -> bool
+    ensures yes { OnTrue result (one ≡ other) }
+    ensures no { OnFalse result (one ≡ other → ⊥) }
+{
+    one == other
+}
+
+/// The units of both have the same account, kind and mark.
+fn stand_alike(one: &Holding, other: &Holding) -> bool
+    ensures yes { OnTrue result (StandAlike one.now other.now) }
+    ensures no { OnFalse result (StandAlike one.now other.now → ⊥) }
+{
+    one.account == other.account
+        && is_same_mark(one.mark, other.mark)
+        && is_same_kind(one.block.raw.kind, other.block.raw.kind)
+}
+
+/// The units of the second block follow those of the first one.
+fn follow(one: &Block, other: &Block) -> bool
+    ensures yes { OnTrue result (Follow one.now.raw other.now.raw) }
+    ensures no { OnFalse result (Follow one.now.raw other.now.raw → ⊥) }
+{
+    one.raw.last + 1 == other.raw.first
+        && is_same_code(one.raw.origin, other.raw.origin)
+        && is_same_period(one.raw.period, other.raw.period)
+}
+
+/// The units of both follow one another and stand alike.
+fn is_next(one: &Holding, other: &Holding) -> bool
+    ensures yes { OnTrue result (GoesOn one.now other.now) }
+    ensures no { OnFalse result (GoesOn one.now other.now → ⊥) }
+{
+    stand_alike(one, other) && follow(&one.block, &other.block)
+}
+
+/// Both as one, where they follow one another and stand alike.
+fn joined(one: &Holding, other: &Holding) -> Option<Holding>
+    ensures some { IfSome result (λ whole. IsJoined one.now other.now whole) }
+    ensures none { IfNone result (GoesOn one.now other.now → ⊥) }
+{
     if !is_next(one, other) {
         return None;
     }
@@ -272,17 +375,75 @@ fn joined(one: &Holding, other: &Holding) -> Option<Holding> {
     })
 }
 
-/// Puts a holding behind the others, as one with the last of them where they stand alike.
-fn put(holdings: &mut Vec<Holding>, holding: Holding) -> Result<(), NoMemory> {
-    if let Some(last) = holdings.last() {
-        if let Some(whole) = joined(last, &holding) {
-            holdings.pop();
-            holdings.push(whole)?;
+/// Behind all holdings of that account and the lower ones.
+fn place_for(holdings: &[Holding], account: u64) -> usize
+    ensures { IsPlace holdings.now account result }
+{
+    for (i, holding) in holdings.iter().enumerate() {
+        if account < holding.account {
+            return i;
+        }
+    }
+    holdings.len()
+}
+
+/// Puts a holding behind the others of its account, as one with the last of them where they go on.
+fn add(holdings: &mut Vec<Holding>, holding: Holding) -> Result<(), NoMemory>
+    requires in_order { AreInOrder holdings.old.items }
+    requires behind { All (λ g. IsBelow (last_unit g) (first_unit holding)) holdings.old.items }
+    ensures { OnOk result (IsAdded holdings.old.items holding holdings.new.items) }
+{
+    let at = place_for(holdings.as_slice(), holding.account);
+    if at > 0 {
+        if let Some(whole) = joined(&holdings[at - 1], &holding) {
+            holdings[at - 1] = whole;
             return Ok(());
         }
     }
-    holdings.push(holding)?;
+    holdings.insert(at, holding)?;
     Ok(())
+}
+
+/// From the holdings of all units below one end to those below the next.
+fn extend(
+    holdings: &mut Vec<Holding>,
+    member: &Member,
+    transitions: &VecDeque<Transition>,
+    from: &Unit,
+    to: &Unit,
+) -> Result<(), NoMemory>
+    requires so_far { AreSoFar member.now transitions.now.items from.now holdings.old.items }
+    requires whole { AllKnown (IsWhole from.now to.now) member.now transitions.now.items }
+    requires up { IsUpTo from.now to.now }
+    ensures { OnOk result (AreSoFar member.now transitions.now.items to.now holdings.new.items) }
+{
+    match holding_between(member, transitions, from, to) {
+        Some(holding) => add(holdings, holding),
+        None => Ok(()),
+    }
+}
+
+/// The holdings, by a walk from end to end. The first stretch is empty.
+fn walked(
+    alloc: Global,
+    member: &Member,
+    transitions: &VecDeque<Transition>,
+    ends: &[Unit],
+) -> Result<Vec<Holding>, NoMemory>
+    requires sorted { IsSorted unit_cmp ends.now }
+    requires known { AllKnown (HasEnds ends.now) member.now transitions.now.items }
+    ensures { IfOk result (λ hs. AreHoldings member.now transitions.now.items hs.items) }
+{
+    let mut holdings = Vec::new(alloc);
+    if ends.is_empty() {
+        return Ok(holdings);
+    }
+    let mut from = ends[0];
+    for to in ends {
+        extend(&mut holdings, member, transitions, &from, to)?;
+        from = *to;
+    }
+    Ok(holdings)
 }
 
 /// What a registry holds as blocks in the order of account, origin, period and first number,
@@ -291,22 +452,9 @@ pub(crate) fn holdings_of(
     alloc: Global,
     member: &Member,
     transitions: &VecDeque<Transition>,
-) -> Result<Vec<Holding>, NoMemory> {
+) -> Result<Vec<Holding>, NoMemory>
+    ensures { IfOk result (λ hs. AreHoldings member.now transitions.now.items hs.items) }
+{
     let ends = ends_of(alloc, member, transitions)?;
-    let mut parts = Vec::new(alloc);
-    let mut from: Option<Unit> = None;
-    for to in &ends {
-        if let Some(from) = from {
-            if let Some(holding) = holding_between(member, transitions, &from, to) {
-                parts.push(holding)?;
-            }
-        }
-        from = Some(*to);
-    }
-    parts.sort_by_key(|h| h.account)?;
-    let mut holdings = Vec::new(alloc);
-    for holding in parts {
-        put(&mut holdings, holding)?;
-    }
-    Ok(holdings)
+    walked(alloc, member, transitions, ends.as_slice())
 }

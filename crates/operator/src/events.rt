@@ -185,6 +185,7 @@ fn event_with(alloc: Global, verb: &str, words: &str) -> Result<WorldEvent, Line
 pub fn event_of(alloc: Global, line: &[u8]) -> Result<WorldEvent, LineFault>
     ensures ok { IfOk result (λ e. IsEventLine line.now e) }
     ensures order { result ≡ Err LineFault.Order → (e : WorldEvent) → IsEventLine line.now e → ⊥ }
+    ensures one { (e : WorldEvent) → IsEventLine line.now e → IfOk result (λ r. r ≡ e) }
 {
     let Ok(line) = from_utf8(line) else {
         return Err(LineFault::Order);

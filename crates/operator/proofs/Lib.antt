@@ -1,3 +1,4 @@
 pub mod FirstLines
 pub mod LineWords
+pub mod OneEvent
 pub mod Texts

@@ -33,14 +33,14 @@ behind : (xs : List ℕ) (b : ℕ) (ys : List ℕ) → (b ≡ 32 → ⊥) → Is
 behind [] b ys h p q = (h, q)
 behind (x ∷ xs) b ys h p q = (p.0, behind xs b ys h p.1 q)
 
-code_free : (c : Code) → IsFreeOf 32 (code_text c)
+pub code_free : (c : Code) → IsFreeOf 32 (code_text c)
 code_free c = let l = c.letters in ((λ e. absurd (omega arith)), ((λ e. absurd (omega arith)), tt))
 
-node_free : (n : Node) → IsFreeOf 32 (node_text n)
+pub node_free : (n : Node) → IsFreeOf 32 (node_text n)
 node_free Itl = ((λ e. absurd (omega arith)), ((λ e. absurd (omega arith)), ((λ e. absurd (omega arith)), tt)))
 node_free (Registry c) = code_free c
 
-number_free : (n : ℕ) → n < 10 ^ 18 → IsFreeOf 32 (decimal n)
+pub number_free : (n : ℕ) → n < 10 ^ 18 → IsFreeOf 32 (decimal n)
 number_free n = decimal_free 32 n (λ e. cc)
 
 period_free : (p : Period) → IsFreeOf 32 (period_text p)
@@ -55,7 +55,7 @@ kind_free Cer = ((λ e. absurd (omega arith)), ((λ e. absurd (omega arith)), ((
 kind_free Tcer = ((λ e. absurd (omega arith)), ((λ e. absurd (omega arith)), ((λ e. absurd (omega arith)), ((λ e. absurd (omega arith)), tt))))
 kind_free Lcer = ((λ e. absurd (omega arith)), ((λ e. absurd (omega arith)), ((λ e. absurd (omega arith)), ((λ e. absurd (omega arith)), tt))))
 
-raw_free : (r : RawBlock) → IsShort r → IsFreeOf 32 (raw_text r)
+pub raw_free : (r : RawBlock) → IsShort r → IsFreeOf 32 (raw_text r)
 raw_free r short =
     behind (code_text r.origin) 58 (period_text r.period ++ 58 ∷ (decimal r.first ++ 45 ∷ (decimal r.last ++ 58 ∷ kind_text r.kind))) (λ e. absurd (omega arith)) (code_free r.origin)
     (behind (period_text r.period) 58 (decimal r.first ++ 45 ∷ (decimal r.last ++ 58 ∷ kind_text r.kind)) (λ e. absurd (omega arith)) (period_free r.period)
@@ -66,7 +66,7 @@ raw_free r short =
 pub no_cut : (words a b : List ℕ) → IsFreeOf 32 words → words ≡ a ++ 32 ∷ b → ⊥
 no_cut words a b free e = cut_not_free 32 a b (subst (IsFreeOf 32) e free)
 
-first_word : (words a b c d : List ℕ) → IsFreeOf 32 a → IsFreeOf 32 c → words ≡ a ++ 32 ∷ b → words ≡ c ++ 32 ∷ d → (a ≡ c) × (b ≡ d)
+pub first_word : (words a b c d : List ℕ) → IsFreeOf 32 a → IsFreeOf 32 c → words ≡ a ++ 32 ∷ b → words ≡ c ++ 32 ∷ d → (a ≡ c) × (b ≡ d)
 first_word words a b c d p q e f = cut_once 32 a b c d p q (sym e ∙ f)
 
 pub no_node : (words w rest : List ℕ) → words ≡ w ++ 32 ∷ rest → IsFreeOf 32 w → ((n : Node) → w ≡ node_text n → ⊥)
@@ -184,7 +184,7 @@ no_order words rest m k c e small never n account code to_account units are =
     never to_account units (record { spelled = behind_code d rest u c code refl two; fits = are.to_account_fits; short = are.short })
 
 -- the verb of a line, and what is behind it
-verb_free : (event : WorldEvent) → IsFreeOf 32 (verb_text event)
+pub verb_free : (event : WorldEvent) → IsFreeOf 32 (verb_text event)
 verb_free (Take n i) = ((λ e. absurd (omega arith)), ((λ e. absurd (omega arith)), ((λ e. absurd (omega arith)), ((λ e. absurd (omega arith)), ((λ e. absurd (omega arith)), ((λ e. absurd (omega arith)), ((λ e. absurd (omega arith)), tt)))))))
 verb_free (Commit n k) = ((λ e. absurd (omega arith)), ((λ e. absurd (omega arith)), ((λ e. absurd (omega arith)), ((λ e. absurd (omega arith)), ((λ e. absurd (omega arith)), ((λ e. absurd (omega arith)), tt))))))
 verb_free (Post n k) = ((λ e. absurd (omega arith)), ((λ e. absurd (omega arith)), ((λ e. absurd (omega arith)), ((λ e. absurd (omega arith)), tt))))

@@ -11,22 +11,16 @@ ghost use Rattle.operator.specs.EventLines.{AreBlocks, AreDelivery, AreNodeAndNu
 use status::Moment;
 use std::alloc::Global;
 use std::str::from_utf8;
-use units::{Code, Items, NoMemory, Node, RawBlock, cut, number};
+use units::{Code, Items, Node, RawBlock, cut, number};
 use world::WorldEvent;
 use world::thin::Input;
 
 /// Why a line gives no event.
 #[derive(Clone, Copy, Debug, PartialEq, Eq)]
 pub enum LineFault {
-    /// It is no event.
+    /// It writes no event.
     Order,
     NoMemory,
-}
-
-impl From<NoMemory> for LineFault {
-    fn from(_: NoMemory) -> LineFault {
-        LineFault::NoMemory
-    }
 }
 
 /// The node that the first word writes, and what is behind the space.
@@ -104,7 +98,7 @@ fn units(alloc: Global, words: &str) -> Result<(u64, Items<RawBlock>), LineFault
     }
 }
 
-/// A node and two codes: what stands before the acquiring account of an order.
+/// What stands before the acquiring account of an order: the node, its account and the acquirer.
 fn order_head(words: &str) -> Option<(Node, u64, Code, &str)>
     ensures some { IfSome result (λ p. (words.now ≡ node_text p.0 ++ 32 ∷ (decimal p.1 ++ 32 ∷ (code_text p.2 ++ 32 ∷ p.3.now))) × (p.1 < 10 ^ 18)) }
     ensures none { IfNone result ((node : Node) (account : ℕ) (code : Code) (rest : List ℕ) → words.now ≡ node_text node ++ 32 ∷ (decimal account ++ 32 ∷ (code_text code ++ 32 ∷ rest)) → account < 10 ^ 18 → ⊥) }
@@ -115,6 +109,7 @@ fn order_head(words: &str) -> Option<(Node, u64, Code, &str)>
     Some((node, account, code, words))
 }
 
+/// The order that the words behind `propose` write.
 fn propose(alloc: Global, words: &str) -> Result<WorldEvent, LineFault>
     ensures ok { IfOk result (λ e. (verb_text e ≡ codes "propose") × AreWords words.now e) }
     ensures order { result ≡ Err LineFault.Order → (node : Node) (account : ℕ) (code : Code) (to_account : ℕ) (u : List RawBlock) → AreOrder words.now node account code to_account u → ⊥ }
@@ -132,6 +127,7 @@ fn propose(alloc: Global, words: &str) -> Result<WorldEvent, LineFault>
     Ok(WorldEvent::Take { node, input })
 }
 
+/// A node and a number, and nothing behind them.
 fn node_and_number(words: &str) -> Option<(Node, u64)>
     ensures some { IfSome result (λ p. AreNodeAndNumber words.now p.0 p.1) }
     ensures none { IfNone result ((node : Node) (n : ℕ) → AreNodeAndNumber words.now node n → ⊥) }
@@ -141,6 +137,7 @@ fn node_and_number(words: &str) -> Option<(Node, u64)>
     Some((node, n))
 }
 
+/// The place of a message in the bag, and the moment of its delivery.
 fn delivery(words: &str) -> Option<(u64, Moment)>
     ensures some { IfSome result (λ p. AreDelivery words.now p.0 p.1) }
     ensures none { IfNone result ((message : ℕ) (moment : Moment) → AreDelivery words.now message moment → ⊥) }
@@ -185,6 +182,7 @@ fn event_with(alloc: Global, verb: &str, words: &str) -> Result<WorldEvent, Line
 pub fn event_of(alloc: Global, line: &[u8]) -> Result<WorldEvent, LineFault>
     ensures ok { IfOk result (λ e. IsEventLine line.now e) }
     ensures order { result ≡ Err LineFault.Order → (e : WorldEvent) → IsEventLine line.now e → ⊥ }
+    ensures one { (e : WorldEvent) → IsEventLine line.now e → IfOk result (λ r. r ≡ e) }
 {
     let Ok(line) = from_utf8(line) else {
         return Err(LineFault::Order);

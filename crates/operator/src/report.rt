@@ -1,8 +1,9 @@
 //! The report's text.
-ghost use Rattle.std.specs.Prelude.{◌≡◌, ◌+◌, ◌++◌, min, OnOk, codes, string_bytes, sum_by};
+ghost use Rattle.std.specs.Prelude.{◌≡◌, ◌+◌, ◌++◌, min, OnOk, codes, decimal, string_bytes, sum_by};
 ghost use Rattle.std.specs.List.{flat_map};
-ghost use Rattle.operator.specs.Report.{debt_lines, due_line, due_units, free_units, greatest_sum, held_units, holding_line, outcome_line, owed_line, owed_lines, registry_lines, stock_lines, sums_line, table_text, transaction_line, units_of};
+ghost use Rattle.operator.specs.Report.{debt_lines, due_line, due_units, free_units, greatest_sum, held_units, holding_line, outcome_line, outcome_text, owed_line, owed_lines, registry_lines, stock_lines, sums_line, table_text, transaction_line, units_of};
 
+use itoa::Buffer;
 use status::{Status, TransactionId};
 use std::alloc::{AllocError, Global};
 use std::fmt;
@@ -10,24 +11,29 @@ use std::fmt::Write;
 use units::{Block, Code, Items, NoMemory, Node};
 use world::{Debt, Holding, Outcome, World};
 
-#[derive(Drop)]
-struct OutcomeText(Outcome);
+fn push_number(text: &mut String, n: u64) -> Result<(), AllocError>
+    ensures { OnOk result (string_bytes text.new ≡ string_bytes text.old ++ decimal n) }
+{
+    let mut digits = Buffer::new();
+    text.push_str(digits.format(n))
+}
 
-impl fmt::Display for OutcomeText {
-    ghost use Rattle.std.specs.Prelude.{Some};
-    ghost use Rattle.operator.specs.Report.{outcome_text};
-
-    ghost output = { λ t. Some (outcome_text t.0) };
-
-    fn fmt<W: fmt::Write>(&self, f: &mut fmt::Formatter<W>) -> fmt::Result {
-        match self.0 {
-            Outcome::Recorded(place) => write!(f, "recorded {place}"),
-            Outcome::Repeat => write!(f, "repeat"),
-            Outcome::Late => write!(f, "late"),
-            Outcome::Refused(code) => write!(f, "refused {code}"),
-            Outcome::Done => write!(f, "done"),
-            Outcome::NotPossible => write!(f, "not possible"),
+fn push_outcome_text(text: &mut String, outcome: Outcome) -> Result<(), AllocError>
+    ensures { OnOk result (string_bytes text.new ≡ string_bytes text.old ++ outcome_text outcome) }
+{
+    match outcome {
+        Outcome::Recorded(place) => {
+            text.push_str("recorded ")?;
+            push_number(text, place)
         }
+        Outcome::Repeat => text.push_str("repeat"),
+        Outcome::Late => text.push_str("late"),
+        Outcome::Refused(code) => {
+            text.push_str("refused ")?;
+            push_number(text, u64::from(code))
+        }
+        Outcome::Done => text.push_str("done"),
+        Outcome::NotPossible => text.push_str("not possible"),
     }
 }
 
@@ -35,8 +41,10 @@ impl fmt::Display for OutcomeText {
 pub fn push_outcome(text: &mut String, event: u64, outcome: Outcome) -> Result<(), AllocError>
     ensures { OnOk result (string_bytes text.new ≡ string_bytes text.old ++ outcome_line event outcome) }
 {
-    let outcome = OutcomeText(outcome);
-    writeln!(text, "{event} {outcome}")
+    push_number(text, event)?;
+    text.push_str(" ")?;
+    push_outcome_text(text, outcome)?;
+    text.push_str("\n")
 }
 
 #[derive(Drop)]

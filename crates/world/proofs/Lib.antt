@@ -19,3 +19,4 @@ pub mod UnitOrder
 pub mod UnitReadings
 pub mod HoldingLists
 pub mod UnitWalk
+pub mod Stocked

@@ -5,6 +5,7 @@ pub mod World
 pub mod Kept
 pub mod Views
 pub mod Holdings
+pub mod Stocks
 pub mod SchemeText
 pub mod SchemeReading
 pub mod Readings

@@ -11,4 +11,4 @@ mod views;
 pub use bag::World;
 pub use event::{Outcome, WorldEvent};
 pub use nodes::{Posted, Station};
-pub use table::{Debt, Holding};
+pub use table::{Debt, Holding, Stock};

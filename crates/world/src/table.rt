@@ -28,6 +28,13 @@ pub struct Holding {
     pub mark: Option<TransactionId>,
 }
 
+/// What a registry holds.
+#[derive(Debug, Drop)]
+pub struct Stock {
+    pub code: Code,
+    pub holdings: Items<Holding>,
+}
+
 /// A transaction that its initiator completed and its acquirer did not, with its blocks.
 #[derive(Debug, Drop)]
 pub struct Debt {

@@ -6,17 +6,19 @@ ghost use Rattle.units.specs.Unit.{covers};
 ghost use Rattle.status.specs.Status.{same_status};
 ghost use Rattle.world.specs.History.{spendable, is_status};
 ghost use Rattle.world.specs.World.{station};
+ghost use Rattle.world.specs.Verdict.{member};
 ghost use Rattle.world.specs.Kept.{seen, IsKept};
+ghost use Rattle.world.specs.Stocks.{HoldsNow, HoldsIf, AreStocks};
 ghost use Rattle.world.specs.Views.{journal_of, committed_of, live, status_at, is_held, is_spendable, owes, owed, parties, proposals, proposes, transactions, debt_of, due};
 
 use crate::bag::{World, place_of};
 use crate::nodes::{Posted, Station};
-use crate::table::{Debt, covers, is_held, reserving};
+use crate::table::{Debt, Holding, Stock, covers, holdings_of, is_held, reserving};
 use crate::thin::{Input, Member, Scheme, Transition, is_proposal, newest, status_in};
 use status::{Status, TransactionId};
 use std::alloc::{AllocError, Global};
 use std::collections::VecDeque;
-use units::{Code, NoMemory, Node, Unit};
+use units::{Code, Items, NoMemory, Node, Unit};
 
 fn is_spendable(member: &Member, transitions: &VecDeque<Transition>, unit: &Unit) -> bool
     ensures { result ≡ spendable member.now transitions.now.items unit.now }
@@ -246,5 +248,45 @@ impl World {
     {
         let due = self.due(alloc)?;
         owing(alloc, due.as_slice(), unit)
+    }
+
+    fn held_at(&self, alloc: Global, member: &Member) -> Result<Items<Holding>, NoMemory>
+        ensures { IfOk result (HoldsNow self.now member.now) }
+    {
+        let holdings = match self.station(Node::Registry(member.code)) {
+            Some(station) => holdings_of(alloc, member, &station.transitions)?,
+            None => holdings_of(alloc, member, &VecDeque::new(alloc))?,
+        };
+        Ok(Items::from_vec(holdings))
+    }
+
+    /// What a registry holds as blocks in order. `None` where the scheme has no such registry.
+    pub fn holdings(
+        &self,
+        alloc: Global,
+        registry: Code,
+    ) -> Result<Option<Items<Holding>>, NoMemory>
+        ensures { IfOk result (HoldsIf self.now (member self.now.scheme registry)) }
+    {
+        match self.scheme.member(registry) {
+            Some(member) => {
+                let holdings = self.held_at(alloc, member)?;
+                Ok(Some(holdings))
+            }
+            None => Ok(None),
+        }
+    }
+
+    /// What each registry holds, in the scheme's order.
+    pub fn stocks(&self, alloc: Global) -> Result<Vec<Stock>, NoMemory>
+        ensures { IfOk result (λ v. AreStocks self.now self.now.scheme.members v.items) }
+    {
+        let mut stocks = Vec::new(alloc);
+        for member in self.scheme.members.as_slice() {
+            let holdings = self.held_at(alloc, member)?;
+            let code = member.code;
+            stocks.push(Stock { code, holdings })?;
+        }
+        Ok(stocks)
     }
 }

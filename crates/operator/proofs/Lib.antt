@@ -2,3 +2,4 @@ pub mod FirstLines
 pub mod LineWords
 pub mod OneEvent
 pub mod Texts
+pub mod Standings

@@ -4,3 +4,5 @@ pub mod Lines
 pub mod Report
 pub mod Streams
 pub mod Words
+pub mod Table
+pub mod Rehearsal

@@ -14,7 +14,7 @@ use Rattle.world.specs.declared.event.Outcome.TheVariants.{Recorded, Repeat, Lat
 use Rattle.world.specs.declared.table.Holding.{Holding}
 use Rattle.world.specs.declared.table.Debt.{Debt}
 use Rattle.operator.specs.declared.report.Standing.{Standing}
-use Rattle.operator.specs.declared.report.Stock.{Stock}
+use Rattle.world.specs.declared.table.Stock.{Stock}
 
 abbrev pub outcome_text : Outcome → List ℕ
 outcome_text (Recorded place) = codes "recorded " ++ decimal place

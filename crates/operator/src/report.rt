@@ -1,5 +1,8 @@
 //! The report's text.
-ghost use Rattle.std.specs.Prelude.{◌≡◌, ◌+◌, ◌++◌, min, OnOk, codes, decimal, string_bytes, sum_by};
+ghost use Rattle.world.specs.declared.thin.rules.Transition.{Transition};
+ghost use Rattle.world.specs.Views.{parties};
+ghost use Rattle.operator.specs.Table.{standing_of, standings, IsTable};
+ghost use Rattle.std.specs.Prelude.{◌≡◌, ℕ, List, IfOk, ◌+◌, ◌++◌, min, OnOk, codes, decimal, string_bytes, sum_by};
 ghost use Rattle.std.specs.List.{flat_map};
 ghost use Rattle.operator.specs.Report.{debt_lines, due_line, due_units, free_units, greatest_sum, held_units, holding_line, outcome_line, outcome_text, owed_line, owed_lines, registry_lines, stock_lines, sums_line, table_text, transaction_line, units_of};
 
@@ -8,8 +11,8 @@ use status::{Status, TransactionId};
 use std::alloc::{AllocError, Global};
 use std::fmt;
 use std::fmt::Write;
-use units::{Block, Code, Items, NoMemory, Node};
-use world::{Debt, Holding, Outcome, World};
+use units::{Block, Code, NoMemory, Node};
+use world::{Debt, Holding, Outcome, Stock, World};
 
 fn push_number(text: &mut String, n: u64) -> Result<(), AllocError>
     ensures { OnOk result (string_bytes text.new ≡ string_bytes text.old ++ decimal n) }
@@ -89,13 +92,6 @@ struct Standing {
     at_initiator: Option<Status>,
     at_log: Option<Status>,
     at_acquirer: Option<Status>,
-}
-
-/// What a registry holds.
-#[derive(Debug, Drop)]
-struct Stock {
-    code: Code,
-    holdings: Items<Holding>,
 }
 
 fn push_standing(text: &mut String, standing: &Standing) -> Result<(), AllocError>
@@ -261,39 +257,36 @@ fn push_rows(
     push_debts(text, debts)
 }
 
-/// The transactions of a world.
-fn standings_in(alloc: Global, world: &World) -> Result<Vec<Standing>, NoMemory> {
+fn standing_of(world: &World, id: TransactionId, acquirer: Code) -> Standing
+    ensures { (x : Transition) → (id, acquirer) ≡ parties x → result ≡ standing_of world.now x }
+{
+    Standing {
+        id,
+        acquirer,
+        at_initiator: world.status(Node::Registry(id.code), id),
+        at_log: world.status(Node::Itl, id),
+        at_acquirer: world.status(Node::Registry(acquirer), id),
+    }
+}
+
+/// How the transactions of a world stand.
+fn standings_in(alloc: Global, world: &World) -> Result<Vec<Standing>, NoMemory>
+    ensures { IfOk result (λ v. v.items ≡ standings world.now) }
+{
+    let transactions = world.transactions(alloc)?;
     let mut standings = Vec::new(alloc);
-    for (id, acquirer) in world.transactions(alloc)? {
-        standings.push(Standing {
-            id,
-            acquirer,
-            at_initiator: world.status(Node::Registry(id.code), id),
-            at_log: world.status(Node::Itl, id),
-            at_acquirer: world.status(Node::Registry(acquirer), id),
-        })?;
+    for (id, acquirer) in transactions.as_slice() {
+        standings.push(standing_of(world, *id, *acquirer))?;
     }
     Ok(standings)
 }
 
-/// What the registries of a world hold, in the scheme's order.
-fn stocks_in(alloc: Global, world: &World) -> Result<Vec<Stock>, NoMemory> {
-    let mut stocks = Vec::new(alloc);
-    for member in world.scheme().members.as_slice() {
-        if let Some(holdings) = world.holdings(alloc, member.code)? {
-            stocks.push(Stock {
-                code: member.code,
-                holdings: Items::from_vec(holdings),
-            })?;
-        }
-    }
-    Ok(stocks)
-}
-
 /// Adds the table of a world.
-pub fn push_table(alloc: Global, text: &mut String, world: &World) -> Result<(), NoMemory> {
+pub fn push_table(alloc: Global, text: &mut String, world: &World) -> Result<(), NoMemory>
+    ensures { OnOk result ((table : List ℕ) × IsTable world.now table × (string_bytes text.new ≡ string_bytes text.old ++ table)) }
+{
     let standings = standings_in(alloc, world)?;
-    let stocks = stocks_in(alloc, world)?;
+    let stocks = world.stocks(alloc)?;
     let debts = world.due(alloc)?;
     push_rows(
         text,

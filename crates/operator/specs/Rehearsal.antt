@@ -1,0 +1,114 @@
+-- The input of a rehearsal: a scheme's line and event lines; and the first fault that an input has.
+use Rattle.std.specs.Prelude.{◌≡◌, ℕ, zero, suc, ◌+◌, ◌-◌, ◌<◌, ◌⊎◌, List, [], ◌∷◌, length, take, Option, Some, None, IsUtf8}
+use Rattle.std.specs.Io.KnownBytes.{Appends, Keeps}
+use Rattle.serde_json.specs.Data.{Data}
+use Rattle.serde_json.specs.Read.{read}
+use Rattle.world.specs.declared.event.WorldEvent.{WorldEvent}
+use Rattle.world.specs.declared.thin.registries.Scheme.{Scheme}
+use Rattle.world.specs.SchemeText.{IsScheme, IsSchemeText}
+use Rattle.operator.specs.declared.fault.Cause.{Cause}
+use Rattle.operator.specs.declared.fault.Cause.TheVariants.{NotJson, Shape, Order}
+use Rattle.operator.specs.declared.fault.OpFault.{OpFault}
+use Rattle.operator.specs.declared.fault.OpFault.TheVariants.{Input, Read, Write, NoMemory}
+use Rattle.operator.specs.EventLines.{IsEventLine}
+use Rattle.operator.specs.Lines.{IsLine, IsLineFault}
+use Rattle.operator.specs.Streams.{longest_input, Takes}
+use Rattle.operator.specs.Table.{IsReport}
+
+-- how many more bytes an input may have behind a line
+abbrev pub room_behind : ℕ → List ℕ → ℕ
+room_behind room line = room - (length line + 1)
+
+-- ---- an input without a fault
+
+-- the bytes are lines that write the events, one each
+abbrev pub AreEvents : List ℕ → ℕ → List WorldEvent → Type 0
+AreEvents bytes room [] = bytes ≡ []
+AreEvents bytes room (e ∷ es) = (line : List ℕ) × (rest : List ℕ) × IsLine bytes room line rest × IsEventLine line e × AreEvents rest (room_behind room line) es
+
+-- the scheme's line, then the lines of the events
+pub record IsRehearsal (input : List ℕ) (scheme : Scheme) (events : List WorldEvent) : Type 0 where
+  pub first : List ℕ
+  pub lines : List ℕ
+  pub begins : IsLine input longest_input first lines
+  pub scheme_is : IsSchemeText first scheme
+  pub events_are : AreEvents lines (room_behind longest_input first) events
+
+-- ---- the first fault of an input
+
+-- the line is no scheme: no JSON text, or one outside the grammar of schemes
+abbrev pub IsSchemeFault : List ℕ → Cause → Type 0
+IsSchemeFault line NotJson = (d : Data) → IsUtf8 line → read line ≡ Some d → ⊥
+IsSchemeFault line Shape = IsUtf8 line × ((d : Data) × (read line ≡ Some d) × ((s : Scheme) → IsScheme d s → ⊥))
+IsSchemeFault line _ = ⊥
+
+-- the line is no event
+pub record IsNoEvent (bytes : List ℕ) (room : ℕ) (cause : Cause) : Type 0 where
+  pub line : List ℕ
+  pub rest : List ℕ
+  pub begins : IsLine bytes room line rest
+  pub order : cause ≡ Order
+  pub none : (e : WorldEvent) → IsEventLine line e → ⊥
+
+-- behind so many lines of events comes the first with a fault
+abbrev pub IsEventFault : List ℕ → ℕ → ℕ → Cause → Type 0
+IsEventFault bytes room zero cause = (0 < length bytes) × (IsLineFault bytes room cause ⊎ IsNoEvent bytes room cause)
+IsEventFault bytes room (suc good) cause =
+    (line : List ℕ) × (rest : List ℕ) × (e : WorldEvent) × IsLine bytes room line rest × IsEventLine line e × IsEventFault rest (room_behind room line) good cause
+
+-- the fault stands in line 1, or behind the scheme's line and so many lines of events
+pub record IsFaultBehind (input : List ℕ) (line : ℕ) (cause : Cause) : Type 0 where
+  pub first : List ℕ
+  pub lines : List ℕ
+  pub scheme : Scheme
+  pub good : ℕ
+  pub begins : IsLine input longest_input first lines
+  pub scheme_is : IsSchemeText first scheme
+  pub number : line ≡ good + 2
+  pub fault : IsEventFault lines (room_behind longest_input first) good cause
+
+pub record IsFirstFault (input : List ℕ) (line : ℕ) (cause : Cause) : Type 0 where
+  pub number : line ≡ 1
+  pub fault : IsLineFault input longest_input cause ⊎ ((first : List ℕ) × (lines : List ℕ) × IsLine input longest_input first lines × IsSchemeFault first cause)
+
+-- the first line of the input that has a fault, and its fault
+abbrev pub IsInputFault : List ℕ → ℕ → Cause → Type 0
+IsInputFault input line cause = IsFirstFault input line cause ⊎ IsFaultBehind input line cause
+
+-- ---- what a rehearsal comes to
+
+-- all of the input was read, it has no fault, and the text is its report
+pub record Reports (read_old read_new : Option (List ℕ)) (text : List ℕ) : Type 0 where
+  pub input : List ℕ
+  pub taken : Takes read_old read_new input
+  pub scheme : Scheme
+  pub events : List WorldEvent
+  pub is : IsRehearsal input scheme events
+  pub report : IsReport scheme events text
+
+-- the fault is the first of the input that was read
+pub record Finds (read_old read_new : Option (List ℕ)) (line : ℕ) (cause : Cause) : Type 0 where
+  pub input : List ℕ
+  pub taken : Takes read_old read_new input
+  pub fault : IsInputFault input line cause
+
+-- nothing was written, or the first bytes of the report, fewer than all
+abbrev pub FailsSo : OpFault → (read_old read_new written_old written_new : Option (List ℕ)) → Type 0
+FailsSo (Input line cause) r s v w = Finds r s line cause × Keeps v w
+FailsSo Read r s v w = Keeps v w
+FailsSo NoMemory r s v w = Keeps v w
+FailsSo (Write count) r s v w = (text : List ℕ) × Reports r s text × (count < length text) × Appends v w (take count text)
+
+-- what the command has done so far, where it goes on only without a fault
+abbrev pub IsEarlyFault : List ℕ → OpFault → Type 0
+IsEarlyFault input (Input line cause) = IsInputFault input line cause
+IsEarlyFault input NoMemory = Unit {0}
+IsEarlyFault input Read = ⊥
+IsEarlyFault input (Write count) = ⊥
+
+-- a fault of the event lines, the first of which is line 2
+abbrev pub IsLinesFault : List ℕ → ℕ → OpFault → Type 0
+IsLinesFault lines room (Input line cause) = (good : ℕ) × (line ≡ good + 2) × IsEventFault lines room good cause
+IsLinesFault lines room NoMemory = Unit {0}
+IsLinesFault lines room Read = ⊥
+IsLinesFault lines room (Write count) = ⊥

@@ -50,6 +50,7 @@ pub enum OpFault {
     /// The output could not be written, but for that many of its first bytes.
     #[error("write failed after {0} bytes")]
     Write(u64),
+    /// Memory was refused.
     #[error("out of memory")]
     NoMemory,
 }

@@ -129,6 +129,7 @@ fn names_the_first_fault(rt: HostRuntime) {
 }
 
 /// Gives its bytes one by one, with an error before the byte at `at`.
+#[derive(Drop)]
 struct Interrupted {
     bytes: &'static [u8],
     at: usize,
@@ -176,6 +177,7 @@ fn reads_on_after_an_interruption_alone(rt: HostRuntime) {
 }
 
 /// Takes so many bytes, two at a time, and then fails.
+#[derive(Drop)]
 struct Full {
     room: usize,
 }

@@ -23,6 +23,7 @@ pub enum UsageFault {
     Usage(Error),
     /// The words ask for help.
     Help(Error),
+    /// Memory was refused.
     NoMemory,
 }
 

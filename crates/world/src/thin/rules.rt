@@ -40,6 +40,7 @@ pub enum Verdict {
     Refused(u16),
 }
 
+/// The newest transition of a transaction, of transitions with the newest first.
 pub fn newest(transitions: &VecDeque<Transition>, id: TransactionId) -> Option<&Transition>
     ensures { option_copied result ≡ newest transitions.now.items id }
 {
@@ -232,6 +233,7 @@ fn has_account(scheme: &Scheme, code: Code, account: u64) -> bool
     }
 }
 
+/// The transition records a proposal that the registry made itself.
 pub fn is_proposal(transition: &Transition, code: Code) -> bool
     ensures { result ≡ (same_code transition.now.id.code code && same_status transition.now.new Status.Proposed) }
 {

@@ -1,5 +1,5 @@
 -- What the tests of sameness say.
-use Rattle.std.proofs.Common.{◌≡◌, ℕ, Bool, true, false, true≢false, ◌==◌, ◌&&◌, refl, sym, ap, subst, ◌∙◌, eq-eqb}
+use Rattle.std.proofs.Common.{◌≡◌, ℕ, Bool, true, false, true≢false, ◌==◌, ◌&&◌, refl, sym, ap, subst, eq-eqb}
 use Rattle.std.specs.Coded.{×_prop, le_prop}
 use Rattle.std.proofs.lemmas.Bool.{eqb-true}
 use Rattle.units.specs.Facts.{IsLetter}

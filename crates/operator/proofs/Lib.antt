@@ -3,3 +3,4 @@ pub mod LineWords
 pub mod OneEvent
 pub mod Texts
 pub mod Standings
+pub mod Runs

@@ -112,3 +112,17 @@ IsLinesFault lines room (Input line cause) = (good : ℕ) × (line ≡ good + 2)
 IsLinesFault lines room NoMemory = Unit {0}
 IsLinesFault lines room Read = ⊥
 IsLinesFault lines room (Write count) = ⊥
+
+-- a fault of the scheme's line, which is line 1
+abbrev pub IsSchemeLineFault : List ℕ → OpFault → Type 0
+IsSchemeLineFault first (Input line cause) = (line ≡ 1) × IsSchemeFault first cause
+IsSchemeLineFault first NoMemory = Unit {0}
+IsSchemeLineFault first Read = ⊥
+IsSchemeLineFault first (Write count) = ⊥
+
+-- a fault of the line that comes next
+abbrev pub IsNextFault : List ℕ → ℕ → ℕ → OpFault → Type 0
+IsNextFault lines room number (Input line cause) = (line ≡ number) × (IsLineFault lines room cause ⊎ IsNoEvent lines room cause)
+IsNextFault lines room number NoMemory = Unit {0}
+IsNextFault lines room number Read = ⊥
+IsNextFault lines room number (Write count) = ⊥

@@ -1,6 +1,15 @@
 //! The command `rehearse`: a written list of events, run from the opening world of a scheme.
 
-ghost use Rattle.std.specs.Prelude.{◌≡◌, ◌<◌, length, Err, IfOk, IfErr};
+ghost use Rattle.std.specs.Prelude.{◌≡◌, ◌<◌, ◌++◌, ℕ, List, length, Err, IfOk, IfErr, OnOk, string_bytes};
+ghost use Rattle.std.specs.Io.KnownBytes.{Appends};
+ghost use Rattle.world.specs.declared.event.WorldEvent.{WorldEvent};
+ghost use Rattle.world.specs.declared.thin.registries.Scheme.{Scheme};
+ghost use Rattle.world.specs.SchemeText.{IsSchemeText};
+ghost use Rattle.world.specs.World.{step, run, outcomes};
+ghost use Rattle.operator.specs.EventLines.{IsEventLine};
+ghost use Rattle.operator.specs.Report.{outcome_line};
+ghost use Rattle.operator.specs.Table.{IsReport, outcome_lines};
+ghost use Rattle.operator.specs.Rehearsal.{room_behind, AreEvents, IsRehearsal, IsSchemeLineFault, IsNextFault, IsLinesFault, IsEarlyFault, Reports, FailsSo};
 ghost use Rattle.operator.specs.Lines.{IsLine, IsLineFault, IsTooLong, IsTruncated};
 
 use crate::events::{LineFault, event_of};
@@ -10,8 +19,9 @@ use crate::streams::{ReadFault, read_input, write_text};
 use memchr::memchr;
 use std::alloc::Global;
 use std::io::{Read, Write};
-use world::World;
+use units::NoMemory;
 use world::thin::{Scheme, SchemeFault};
+use world::{World, WorldEvent};
 
 /// The greatest length of a line in bytes, its newline left out.
 const LONGEST_LINE: usize = 1_048_576;
@@ -19,7 +29,10 @@ const LONGEST_LINE: usize = 1_048_576;
 /// The greatest length of an input in bytes.
 const LONGEST_INPUT: usize = 16_777_216;
 
-fn scheme_of(alloc: Global, line: &[u8]) -> Result<Scheme, OpFault> {
+fn scheme_of(alloc: Global, line: &[u8]) -> Result<Scheme, OpFault>
+    ensures ok { IfOk result (λ s. IsSchemeText line.now s) }
+    ensures err { IfErr result (IsSchemeLineFault line.now) }
+{
     let cause = match Scheme::read(alloc, line) {
         Ok(scheme) => return Ok(scheme),
         Err(SchemeFault::NoMemory) => return Err(OpFault::NoMemory),
@@ -47,6 +60,46 @@ fn first_line(bytes: &[u8], room: usize) -> Result<(&[u8], &[u8]), Cause>
     }
 }
 
+/// The event of the first line, and what is behind that line. The line's number is for its fault.
+fn next_event(
+    alloc: Global,
+    lines: &[u8],
+    room: usize,
+    line: u64,
+) -> Result<(WorldEvent, &[u8], usize), OpFault>
+    ensures ok { IfOk result (λ p. (words : List ℕ) × IsLine lines.now room words p.1.now × IsEventLine words p.0 × (p.2 ≡ room_behind room words)) }
+    ensures err { IfErr result (IsNextFault lines.now room line) }
+{
+    let (words, rest) = match first_line(lines, room) {
+        Ok(parts) => parts,
+        Err(cause) => return Err(OpFault::Input { line, cause }),
+    };
+    match event_of(alloc, words) {
+        Ok(event) => Ok((event, rest, room - (words.len() + 1))),
+        Err(LineFault::NoMemory) => Err(OpFault::NoMemory),
+        Err(LineFault::Order) => {
+            let cause = Cause::Order;
+            Err(OpFault::Input { line, cause })
+        }
+    }
+}
+
+/// Applies an event, and adds the line of its outcome.
+fn run_event(
+    alloc: Global,
+    world: &mut World,
+    text: &mut String,
+    number: u64,
+    event: WorldEvent,
+) -> Result<(), NoMemory>
+    ensures world { OnOk result (world.new ≡ (step world.old event).world) }
+    ensures text { OnOk result (string_bytes text.new ≡ string_bytes text.old ++ outcome_line number (step world.old event).outcome) }
+{
+    let outcome = world.apply(alloc, event)?;
+    push_outcome(text, number, outcome)?;
+    Ok(())
+}
+
 /// Runs the events that the lines write, and adds a line for each outcome.
 fn run_lines(
     alloc: Global,
@@ -54,51 +107,40 @@ fn run_lines(
     text: &mut String,
     lines: &[u8],
     room: usize,
-) -> Result<(), OpFault> {
+) -> Result<(), OpFault>
+    ensures ok { OnOk result ((events : List WorldEvent) × AreEvents lines.now room events × (world.new ≡ run world.old events)
+        × (string_bytes text.new ≡ string_bytes text.old ++ outcome_lines 1 (outcomes world.old events))) }
+    ensures err { IfErr result (IsLinesFault lines.now room) }
+{
     let mut rest = lines;
     let mut room = room;
-    let mut event = 0u64;
+    let mut number = 0u64;
     while !rest.is_empty() {
-        event = event.saturating_add(1);
-        let line = event.saturating_add(1);
-        let (words, behind) = match first_line(rest, room) {
-            Ok(parts) => parts,
-            Err(cause) => return Err(OpFault::Input { line, cause }),
-        };
-        let next = match event_of(alloc, words) {
-            Ok(next) => next,
-            Err(LineFault::NoMemory) => return Err(OpFault::NoMemory),
-            Err(LineFault::Order) => {
-                return Err(OpFault::Input {
-                    line,
-                    cause: Cause::Order,
-                });
-            }
-        };
-        let Ok(outcome) = world.apply(alloc, next) else {
-            return Err(OpFault::NoMemory);
-        };
-        if push_outcome(text, event, outcome).is_err() {
+        number += 1;
+        let (event, behind, left) = next_event(alloc, rest, room, number + 1)?;
+        if run_event(alloc, world, text, number, event).is_err() {
             return Err(OpFault::NoMemory);
         }
-        room = room.saturating_sub(words.len()).saturating_sub(1);
         rest = behind;
+        room = left;
     }
     Ok(())
 }
 
-/// The report of an input.
-fn report_of(alloc: Global, input: &[u8]) -> Result<String, OpFault> {
-    let (first, lines) = match first_line(input, LONGEST_INPUT) {
-        Ok(parts) => parts,
-        Err(cause) => return Err(OpFault::Input { line: 1, cause }),
-    };
-    let scheme = scheme_of(alloc, first)?;
-    let Ok(mut world) = World::new(alloc, &scheme) else {
+/// The outcomes of the events, and the table of the world that they reach.
+fn events_report(
+    alloc: Global,
+    scheme: &Scheme,
+    lines: &[u8],
+    room: usize,
+) -> Result<String, OpFault>
+    ensures ok { IfOk result (λ s. (events : List WorldEvent) × AreEvents lines.now room events × IsReport scheme.now events (string_bytes s)) }
+    ensures err { IfErr result (IsLinesFault lines.now room) }
+{
+    let Ok(mut world) = World::new(alloc, scheme) else {
         return Err(OpFault::NoMemory);
     };
     let mut text = String::new(alloc);
-    let room = LONGEST_INPUT.saturating_sub(first.len()).saturating_sub(1);
     run_lines(alloc, &mut world, &mut text, lines, room)?;
     match push_table(alloc, &mut text, &world) {
         Ok(()) => Ok(text),
@@ -106,12 +148,29 @@ fn report_of(alloc: Global, input: &[u8]) -> Result<String, OpFault> {
     }
 }
 
+/// The report of an input.
+fn report_of(alloc: Global, input: &[u8]) -> Result<String, OpFault>
+    ensures ok { IfOk result (λ s. (scheme : Scheme) × (events : List WorldEvent) × IsRehearsal input.now scheme events × IsReport scheme events (string_bytes s)) }
+    ensures err { IfErr result (IsEarlyFault input.now) }
+{
+    let (first, lines) = match first_line(input, LONGEST_INPUT) {
+        Ok(parts) => parts,
+        Err(cause) => return Err(OpFault::Input { line: 1, cause }),
+    };
+    let scheme = scheme_of(alloc, first)?;
+    let room = LONGEST_INPUT - (first.len() + 1);
+    events_report(alloc, &scheme, lines, room)
+}
+
 /// Reads all there is, and then writes the report of it.
 pub fn rehearse<R: Read, W: Write>(
     alloc: Global,
     reader: &mut R,
     writer: &mut W,
-) -> Result<(), OpFault> {
+) -> Result<(), OpFault>
+    ensures ok { OnOk result ((text : List ℕ) × Reports (R.remaining reader.old) (R.remaining reader.new) text × Appends (W.contents writer.old) (W.contents writer.new) text) }
+    ensures err { IfErr result (λ e. FailsSo e (R.remaining reader.old) (R.remaining reader.new) (W.contents writer.old) (W.contents writer.new)) }
+{
     let input = match read_input(alloc, reader) {
         Ok(input) => input,
         Err(ReadFault::Read) => return Err(OpFault::Read),

@@ -194,6 +194,7 @@ fn account_and_kind(
     }
 }
 
+/// The account, the kind and the mark of a unit that the registry holds.
 fn place_of(member: &Member, transitions: &VecDeque<Transition>, unit: &Unit) -> Option<Place>
     ensures some { IfSome result (λ p. IsHeldSo member.now transitions.now.items unit.now p.account p.kind p.mark) }
     ensures none { IfNone result ((account : ℕ) (kind : Kind) (mark : Option TransactionId) → IsHeldSo member.now transitions.now.items unit.now account kind mark → ⊥) }
@@ -288,6 +289,9 @@ fn holding_between(
     ensures some { IfSome result (λ h. IsStretch h from.now to.now × IsHeldSo member.now transitions.now.items from.now h.account h.block.raw.kind h.mark) }
     ensures none { IfNone result (IsNoStretch member.now transitions.now.items from.now to.now) }
 {
+    if to.number <= from.number {
+        return None;
+    }
     let place = place_of(member, transitions, from)?;
     let block = block_between(from, to, place.kind)?;
     Some(Holding {

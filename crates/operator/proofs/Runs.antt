@@ -1,0 +1,137 @@
+-- A run over the event lines.
+use Rattle.std.proofs.Common.{◌≡◌, ℕ, zero, suc, ◌+◌, ◌-◌, ◌<◌, ◌≤◌, List, [], ◌∷◌, ◌++◌, length, true, false, true≢false, ◌==◌, refl, inr, Result, Ok, Err, IfErr, sym, ap, ◌∙◌, subst, arith, append_assoc, append-nil, length-append}
+use Rattle.std.proofs.lemmas.List.{nil_from_length}
+use Rattle.std.proofs.lemmas.Bool.{eqb-true}
+use Rattle.std.specs.Result.{IsErrAnd, OnOk, is_err}
+use Rattle.world.specs.declared.thin.registries.Scheme.{Scheme}
+use Rattle.world.specs.SchemeText.{IsSchemeText}
+use Rattle.operator.specs.Streams.{longest_input}
+use Rattle.world.specs.declared.event.Outcome.{Outcome}
+use Rattle.world.specs.declared.event.WorldEvent.{WorldEvent}
+use Rattle.world.specs.World.{World, step, run, outcomes}
+use Rattle.operator.specs.declared.fault.Cause.{Cause}
+use Rattle.operator.specs.declared.fault.OpFault.{OpFault}
+use Rattle.operator.specs.declared.fault.OpFault.TheVariants.{Input, Read, Write, NoMemory}
+use Rattle.operator.specs.EventLines.{IsEventLine}
+use Rattle.operator.specs.Lines.{IsLine}
+use Rattle.operator.specs.Report.{outcome_line}
+use Rattle.operator.specs.Table.{outcome_lines}
+use Rattle.operator.specs.Rehearsal.{room_behind, AreEvents, IsEventFault, IsNextFault, IsLinesFault, IsEarlyFault}
+
+-- what the loop has done: the events so far, the world that they reach, their outcomes' lines, and
+-- that what the rest writes, or lacks, the whole does
+pub record Ran (opened : World) (before lines : List ℕ) (all : ℕ) (w : World) (text rest : List ℕ) (room number : ℕ) : Type 0 where
+  pub done : List WorldEvent
+  pub count : number ≡ length done
+  pub few : number + length rest ≤ length lines
+  pub world : w ≡ run opened done
+  pub spelled : text ≡ before ++ outcome_lines 1 (outcomes opened done)
+  pub more : (es : List WorldEvent) → AreEvents rest room es → AreEvents lines all (done ++ es)
+  pub fault : (good : ℕ) (cause : Cause) → IsEventFault rest room good cause → IsEventFault lines all (length done + good) cause
+
+-- ---- one more event
+
+run-snoc : (w : World) (es : List WorldEvent) (e : WorldEvent) → run w (es ++ e ∷ []) ≡ (step (run w es) e).world
+run-snoc w [] e = refl
+run-snoc w (x ∷ es) e = run-snoc (step w x).world es e
+
+outcomes-snoc : (w : World) (es : List WorldEvent) (e : WorldEvent) → outcomes w (es ++ e ∷ []) ≡ outcomes w es ++ (step (run w es) e).outcome ∷ []
+outcomes-snoc w [] e = refl
+outcomes-snoc w (x ∷ es) e = ap (λ (l : List Outcome). (step w x).outcome ∷ l) (outcomes-snoc (step w x).world es e)
+
+length-outcomes : (w : World) (es : List WorldEvent) → length (outcomes w es) ≡ length es
+length-outcomes w [] = refl
+length-outcomes w (e ∷ es) = ap suc (length-outcomes (step w e).world es)
+
+outcome_lines-snoc : (n : ℕ) (os : List Outcome) (o : Outcome) → outcome_lines n (os ++ o ∷ []) ≡ outcome_lines n os ++ outcome_line (n + length os) o
+outcome_lines-snoc n [] o = append-nil (outcome_line n o) ∙ ap (λ (k : ℕ). outcome_line k o) (let same : n ≡ n + 0 = omega arith in same)
+outcome_lines-snoc n (x ∷ os) o =
+    let rest = outcome_lines-snoc (n + 1) os o in
+    let same : n + 1 + length os ≡ n + suc (length os) = omega arith in
+    ap (λ (l : List ℕ). outcome_line n x ++ l) rest
+    ∙ sym (append_assoc (outcome_line n x) (outcome_lines (n + 1) os) (outcome_line (n + 1 + length os) o))
+    ∙ ap (λ (k : ℕ). (outcome_line n x ++ outcome_lines (n + 1) os) ++ outcome_line k o) same
+
+-- the lines of the outcomes of one more event
+lines-snoc : (w : World) (es : List WorldEvent) (e : WorldEvent) → outcome_lines 1 (outcomes w (es ++ e ∷ [])) ≡ outcome_lines 1 (outcomes w es) ++ outcome_line (length es + 1) (step (run w es) e).outcome
+lines-snoc w es e =
+    let same : 1 + length (outcomes w es) ≡ length es + 1 = omega (arith, length-outcomes w es) in
+    ap (outcome_lines 1) (outcomes-snoc w es e)
+    ∙ outcome_lines-snoc 1 (outcomes w es) (step (run w es) e).outcome
+    ∙ ap (λ (k : ℕ). outcome_lines 1 (outcomes w es) ++ outcome_line k (step (run w es) e).outcome) same
+
+length_line : (bytes line rest : List ℕ) → bytes ≡ line ++ 10 ∷ rest → length bytes ≡ length line + (1 + length rest)
+length_line bytes line rest e = let all = ap length e in let sum : length (line ++ 10 ∷ rest) ≡ length line + length (10 ∷ rest) = length-append line (10 ∷ rest) in omega arith
+
+pub ran_more : (opened : World) (before lines : List ℕ) (all : ℕ) (w new : World) (text longer rest : List ℕ) (room number : ℕ) (words behind : List ℕ) (left : ℕ) (e : WorldEvent)
+    → Ran opened before lines all w text rest room number → IsLine rest room words behind → IsEventLine words e → left ≡ room_behind room words
+    → new ≡ (step w e).world → longer ≡ text ++ outcome_line (number + 1) (step w e).outcome → Ran opened before lines all new longer behind left (number + 1)
+ran_more opened before lines all w new text longer rest room number words behind left e ran line event is stepped told = record {
+  done = ran.done ++ e ∷ [];
+  count = let sum = length-append ran.done (e ∷ []) in omega (arith, ran.count);
+  few = omega (arith, ran.few, length_line rest words behind line.begins.spelled);
+  world = stepped ∙ ap (λ (v : World). (step v e).world) ran.world ∙ sym (run-snoc opened ran.done e);
+  spelled =
+      told
+      ∙ ap (λ (l : List ℕ). l ++ outcome_line (number + 1) (step w e).outcome) ran.spelled
+      ∙ append_assoc before (outcome_lines 1 (outcomes opened ran.done)) (outcome_line (number + 1) (step w e).outcome)
+      ∙ ap (λ (v : World). before ++ (outcome_lines 1 (outcomes opened ran.done) ++ outcome_line (number + 1) (step v e).outcome)) ran.world
+      ∙ ap (λ (k : ℕ). before ++ (outcome_lines 1 (outcomes opened ran.done) ++ outcome_line (k + 1) (step (run opened ran.done) e).outcome)) ran.count
+      ∙ ap (λ (l : List ℕ). before ++ l) (sym (lines-snoc opened ran.done e));
+  more = λ es are.
+      subst (λ (l : List WorldEvent). AreEvents lines all l) (sym (append_assoc ran.done (e ∷ []) es))
+      (ran.more (e ∷ es) (words, behind, line, event, subst (λ (r : ℕ). AreEvents behind r es) is are));
+  fault = λ good cause wrong.
+      let same : length ran.done + suc good ≡ length (ran.done ++ e ∷ []) + good = omega (arith, length-append ran.done (e ∷ [])) in
+      subst (λ (k : ℕ). IsEventFault lines all k cause) same
+      (ran.fault (suc good) cause (words, behind, e, line, event, subst (λ (r : ℕ). IsEventFault behind r good cause) is wrong));
+}
+
+-- ---- the end
+
+pub next_fault : (opened : World) (before lines : List ℕ) (all : ℕ) (w : World) (text rest : List ℕ) (room number : ℕ) (f : OpFault) → Ran opened before lines all w text rest room number → 0 < length rest
+    → IsNextFault rest room (number + 1 + 1) f → IsLinesFault lines all f
+next_fault opened before lines all w text rest room number (Input line cause) ran some wrong =
+    let here : IsEventFault lines all (length ran.done + 0) cause = ran.fault 0 cause (some, wrong.1) in
+    let same : length ran.done + 0 ≡ length ran.done = omega arith in
+    (length ran.done, omega (arith, wrong.0, ran.count), subst (λ (k : ℕ). IsEventFault lines all k cause) same here)
+next_fault opened before lines all w text rest room number NoMemory ran some wrong = tt
+next_fault opened before lines all w text rest room number Read ran some wrong = absurd wrong
+next_fault opened before lines all w text rest room number (Write count) ran some wrong = absurd wrong
+
+pub ran_all : (opened : World) (before lines : List ℕ) (all : ℕ) (w : World) (text rest : List ℕ) (room number : ℕ) → Ran opened before lines all w text rest room number → length rest ≡ 0
+    → (events : List WorldEvent) × AreEvents lines all events × (w ≡ run opened events) × (text ≡ before ++ outcome_lines 1 (outcomes opened events))
+ran_all opened before lines all w text rest room number ran none =
+    (ran.done, subst (λ (l : List WorldEvent). AreEvents lines all l) (append-nil ran.done) (ran.more [] (nil_from_length rest none)), ran.world, ran.spelled)
+
+-- ---- what the loop's tests say
+
+pub is_none : (rest : List ℕ) → true ≡ (length rest == 0) → length rest ≡ 0
+is_none rest e = eqb-true _ _ (sym e)
+
+pub is_some : (rest : List ℕ) → false ≡ (length rest == 0) → 0 < length rest
+is_some [] e = absurd (true≢false (sym e))
+is_some (x ∷ rest) e = omega arith
+
+pub went_on : {E P : Type 0} (r : Result (Unit {0}) E) → false ≡ is_err r → OnOk r P → P
+went_on (Ok u) e p = p
+went_on (Err f) e p = absurd cc
+
+pub stops_so : (lines : List ℕ) (room : ℕ) (f : OpFault) (r : Result (Unit {0}) OpFault) → IsErrAnd r (λ e. e ≡ f) → IsLinesFault lines room f → IfErr r (IsLinesFault lines room)
+stops_so lines room f (Ok u) same wrong = tt
+stops_so lines room f (Err e) same wrong = subst (IsLinesFault lines room) (sym same) wrong
+
+-- ---- the whole input
+
+pub early : (input first lines : List ℕ) (scheme : Scheme) (f : OpFault) → IsLine input longest_input first lines → IsSchemeText first scheme
+    → IsLinesFault lines (room_behind longest_input first) f → IsEarlyFault input f
+early input first lines scheme (Input line cause) begins is wrong =
+    inr (record { first = first; lines = lines; scheme = scheme; good = wrong.0; begins = begins; scheme_is = is; number = wrong.1; fault = wrong.2 })
+early input first lines scheme NoMemory begins is wrong = tt
+early input first lines scheme Read begins is wrong = absurd wrong
+early input first lines scheme (Write count) begins is wrong = absurd wrong
+
+pub early_too : {T : Type 0} (input first lines : List ℕ) (scheme : Scheme) (r : Result T OpFault) → IsLine input longest_input first lines → IsSchemeText first scheme
+    → IfErr r (IsLinesFault lines (room_behind longest_input first)) → IfErr r (IsEarlyFault input)
+early_too input first lines scheme (Ok t) begins is wrong = tt
+early_too input first lines scheme (Err f) begins is wrong = early input first lines scheme f begins is wrong

@@ -51,7 +51,7 @@ def check_output(path, lines):
 
 def main():
     parser = argparse.ArgumentParser(description=__doc__.splitlines()[0])
-    parser.add_argument("--runs", type=int, default=5, help="runs of each; the best one counts")
+    parser.add_argument("--runs", type=int, default=20, help="runs of each; the best one counts")
     runs = max(1, parser.parse_args().runs)
     subprocess.run([LAUNCHER, "--help"], stdout=subprocess.DEVNULL, check=True)
     with tempfile.TemporaryDirectory() as folder:

@@ -1,5 +1,8 @@
 //! What a command answers where it does not do its work.
 
+ghost use Rattle.std.specs.Prelude.{◌≡◌};
+ghost use Rattle.operator.specs.Faults.{exit_status};
+
 use std::fmt;
 use thiserror::Error;
 
@@ -53,7 +56,9 @@ pub enum OpFault {
 
 impl OpFault {
     /// The program's exit status.
-    pub fn status(&self) -> u8 {
+    pub fn status(&self) -> u8
+        ensures { result ≡ exit_status self.now }
+    {
         match self {
             OpFault::Input { .. } | OpFault::Read | OpFault::Write(_) => 3,
             OpFault::NoMemory => 5,

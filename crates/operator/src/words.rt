@@ -29,8 +29,15 @@ pub enum UsageFault {
 fn command<'a>(alloc: Global) -> Result<Command<'a>, AllocError>
     ensures { IfOk result (IsCommand kyoto_link) }
 {
-    let program = Command::new(alloc, "kyoto-link").subcommand_required(true);
-    program.subcommand(Command::new(alloc, "rehearse"))
+    let rehearse = Command::new(alloc, "rehearse").about(
+        "Run a scheme and its events, read from standard input, and write what each event came to and the table that they lead to",
+    );
+    let program = Command::new(alloc, "kyoto-link")
+        .about(
+            "The external transfer of emission units between national registries and their transaction log",
+        )
+        .subcommand_required(true);
+    program.subcommand(rehearse)
 }
 
 fn action_of(matches: &ArgMatches) -> Option<Action>

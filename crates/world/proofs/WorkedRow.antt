@@ -1,6 +1,8 @@
 -- One transfer of a hundred units, from the proposal to the completion, computed by the definitions alone:
 -- NZ gives the units of its account 1 to the account 7 of JP.
-use Rattle.std.proofs.Common.{◌≡◌, ℕ, ◌≤◌, true, false, List, [], ◌∷◌, ◌++◌, map, reverse, Option, Some, None, refl, lit≤}
+use Rattle.std.proofs.Common.{◌≡◌, ℕ, zero, suc, ◌<◌, ◌≤◌, true, false, true≢false, List, [], ◌∷◌, ◌++◌, map, reverse, get_or, Any, Option, Some, None, refl, sym, ap, ◌∙◌, subst, arith, inl, inr, lit<, lit≤}
+use Rattle.std.proofs.lemmas.Bool.{cases_Bool}
+use Rattle.units.specs.Unit.{has_unit}
 use Rattle.units.specs.Facts.{IsLetter, IsRange}
 use Rattle.units.specs.declared.code.Code.{Code}
 use Rattle.units.specs.declared.code.Node.{Node}
@@ -9,6 +11,7 @@ use Rattle.units.specs.declared.block.Block.{Block}
 use Rattle.units.specs.declared.block.RawBlock.{RawBlock}
 use Rattle.units.specs.declared.block.Unit.{Unit as Serial}
 use Rattle.units.specs.declared.block.Period.TheVariants.{First}
+use Rattle.units.specs.declared.block.Kind.{Kind}
 use Rattle.units.specs.declared.block.Kind.TheVariants.{Aau, Rmu, Eru, Cer, Tcer, Lcer}
 use Rattle.status.specs.Facts.{last_moment}
 use Rattle.status.specs.Id.{number_from}
@@ -22,6 +25,8 @@ use Rattle.world.specs.declared.event.WorldEvent.{WorldEvent}
 use Rattle.world.specs.declared.event.WorldEvent.TheVariants.{Take, Commit, Post, Deliver}
 use Rattle.world.specs.declared.nodes.Posted.{Posted}
 use Rattle.world.specs.declared.table.Debt.{Debt}
+use Rattle.world.specs.declared.table.Holding.{Holding}
+use Rattle.world.specs.declared.table.Stock.{Stock}
 use Rattle.world.specs.declared.thin.messages.Content.{Content}
 use Rattle.world.specs.declared.thin.messages.Input.{Input}
 use Rattle.world.specs.declared.thin.messages.Input.TheVariants.{Propose, Received}
@@ -29,9 +34,14 @@ use Rattle.world.specs.declared.thin.messages.Message.{Message}
 use Rattle.world.specs.declared.thin.messages.Message.TheVariants.{Proposal, Notification}
 use Rattle.world.specs.declared.thin.registries.Member.{Member}
 use Rattle.world.specs.declared.thin.registries.Scheme.{Scheme}
+use Rattle.world.specs.declared.thin.rules.Transition.{Transition}
 use Rattle.world.specs.World.{World, opening, step, run, outcomes}
-use Rattle.world.specs.Verdict.{verdict}
+use Rattle.world.specs.Verdict.{verdict, transition}
+use Rattle.world.specs.History.{Place, holds, place}
+use Rattle.world.specs.Holdings.{IsHeldSo, HasSo, AreHoldings}
+use Rattle.world.specs.Stocks.{AreStocks}
 use Rattle.world.specs.Views.{journal_of, committed_of, live, status_at, is_held, is_spendable, parties, transactions, due, owed}
+use Rattle.world.proofs.HoldingLists.{any_nil}
 
 -- ---- the scheme
 
@@ -306,3 +316,128 @@ owed_in_transit = refl
 pub next_not_owed : owed in_transit (unit 101) ≡ []
 unfolding step verdict
 next_not_owed = refl
+
+-- ---- what each registry holds
+
+-- the transitions, the newest first: of JP in transit and at the end, and of NZ
+abbrev pub jp_accepted : List Transition
+jp_accepted = transition (Registry jp) nz1 Accepted content ∷ []
+
+abbrev pub jp_transitions : List Transition
+jp_transitions = transition (Registry jp) nz1 Completed content ∷ jp_accepted
+
+abbrev pub nz_transitions : List Transition
+nz_transitions = transition (Registry nz) nz1 Completed content ∷ transition (Registry nz) nz1 Proposed content ∷ []
+
+pub jp_live : live completed (Registry jp) ≡ jp_transitions
+unfolding step verdict
+jp_live = refl
+
+pub nz_live : live completed (Registry nz) ≡ nz_transitions
+unfolding step verdict
+nz_live = refl
+
+pub jp_live_in_transit : live in_transit (Registry jp) ≡ jp_accepted
+unfolding step verdict
+jp_live_in_transit = refl
+
+pub nz_live_in_transit : live in_transit (Registry nz) ≡ nz_transitions
+unfolding step verdict
+nz_live_in_transit = refl
+
+-- the whole block, free in the account 7
+abbrev pub holding : Holding
+holding = record { account = 7; block = block; mark = None }
+
+abbrev in_7 : Place
+in_7 = record { account = 7; kind = Aau }
+
+jp_held : (s : Serial) → has_unit hundred s ≡ true → holds jp_member jp_transitions s ≡ true
+jp_held s e = rw e refl
+
+jp_not_held : (s : Serial) → has_unit hundred s ≡ false → holds jp_member jp_transitions s ≡ false
+jp_not_held s e = rw e refl
+
+jp_placed : (s : Serial) → has_unit hundred s ≡ true → place jp_member jp_transitions s ≡ Some in_7
+jp_placed s e = rw (e, e) refl
+
+nz_not_held : (s : Serial) → holds nz_member nz_transitions s ≡ false
+nz_not_held s =
+    elim (cases_Bool (has_unit hundred s)) [
+      | inl in_it ↦ rw in_it refl
+      | inr not_in ↦ rw not_in refl
+    ]
+
+same_place : (p q : Place) → Some p ≡ Some q → p ≡ q
+same_place p q e = cc
+
+has_it : (s : Serial) (account : ℕ) (kind : Kind) (mark : Option TransactionId) → IsHeldSo jp_member jp_transitions s account kind mark → HasSo holding s account kind mark
+has_it s account kind mark held =
+    elim (cases_Bool (has_unit hundred s)) [
+      | inl in_it ↦
+          let there : Place = record { account = account; kind = kind } in
+          let same : in_7 ≡ there = same_place in_7 there (sym (jp_placed s in_it) ∙ held.placed) in
+          record { has = in_it; account_is = ap (λ (p : Place). p.account) same; kind_is = ap (λ (p : Place). p.kind) same; mark_is = held.marked }
+      | inr not_in ↦ absurd (true≢false (sym held.held ∙ jp_not_held s not_in))
+    ]
+
+is_held_so : (s : Serial) (account : ℕ) (kind : Kind) (mark : Option TransactionId) → HasSo holding s account kind mark → IsHeldSo jp_member jp_transitions s account kind mark
+is_held_so s account kind mark it = record {
+  held = jp_held s it.has;
+  placed =
+      let account_is : 7 ≡ account = it.account_is in
+      let kind_is : Aau ≡ kind = it.kind_is in
+      jp_placed s it.has ∙ ap (λ (n : ℕ). Some (place_of n Aau)) account_is ∙ ap (λ (k : Kind). Some (place_of account k)) kind_is;
+  marked = it.mark_is;
+}
+  where
+    place_of : ℕ → Kind → Place
+    place_of n k = record { account = n; kind = k }
+
+-- the only element of a list
+only : {X : Type 0} (x : X) (k : ℕ) (y : X) → k < 1 → get_or (x ∷ []) k y ≡ y → x ≡ y
+only x zero y h e = e
+only x (suc k) y h e = absurd (omega arith)
+
+any_only : {X : Type 0} (P : X → Type 0) (x : X) → Any P (x ∷ []) → P x
+any_only P x any = subst P (sym (only x any.0 any.1 any.2 any.3)) any.4
+
+jp_holds : AreHoldings jp_member jp_transitions (holding ∷ [])
+jp_holds = record {
+  in_order = tt;
+  exact = λ s account kind mark. (
+    (λ held. (0, holding, lit< tt, refl, has_it s account kind mark held)),
+    (λ any. is_held_so s account kind mark (any_only (λ h. HasSo h s account kind mark) holding any)),
+  );
+}
+
+-- no unit is held
+holds_none : (m : Member) (ts : List Transition) → ((s : Serial) → holds m ts s ≡ false) → AreHoldings m ts []
+holds_none m ts never = record {
+  in_order = tt;
+  exact = λ s account kind mark. ((λ held. absurd (true≢false (sym held.held ∙ never s))), (λ any. absurd (any_nil (λ h. HasSo h s account kind mark) any)));
+}
+
+abbrev pub stocks : List Stock
+stocks = record { code = jp; holdings = holding ∷ [] } ∷ record { code = nz; holdings = [] } ∷ []
+
+pub stocks_are : AreStocks completed scheme.members stocks
+stocks_are = (
+  refl,
+  (
+    subst (λ ts. AreHoldings jp_member ts (holding ∷ [])) (sym jp_live) jp_holds,
+    (refl, (subst (λ ts. AreHoldings nz_member ts []) (sym nz_live) (holds_none nz_member nz_transitions nz_not_held), tt)),
+  ),
+)
+
+abbrev pub no_stocks : List Stock
+no_stocks = record { code = jp; holdings = [] } ∷ record { code = nz; holdings = [] } ∷ []
+
+pub stocks_in_transit : AreStocks in_transit scheme.members no_stocks
+stocks_in_transit = (
+  refl,
+  (
+    subst (λ ts. AreHoldings jp_member ts []) (sym jp_live_in_transit) (holds_none jp_member jp_accepted (λ s. refl)),
+    (refl, (subst (λ ts. AreHoldings nz_member ts []) (sym nz_live_in_transit) (holds_none nz_member nz_transitions nz_not_held), tt)),
+  ),
+)

@@ -4,3 +4,4 @@ pub mod OneEvent
 pub mod Texts
 pub mod Standings
 pub mod Runs
+pub mod WorkedReport

@@ -2,14 +2,8 @@
 use Rattle.std.proofs.Common.{◌≡◌, ℕ, List, [], ◌∷◌, ◌++◌, Some, codes, refl, sym, ap, ◌∙◌}
 use Rattle.std.specs.Fmt.{digits}
 use Rattle.status.specs.declared.words.Status.TheVariants.{Accepted, Completed}
-use Rattle.world.specs.declared.event.Outcome.{Outcome}
-use Rattle.world.specs.declared.event.WorldEvent.{WorldEvent}
-use Rattle.world.specs.declared.table.Debt.{Debt}
-use Rattle.world.specs.declared.table.Stock.{Stock}
-use Rattle.world.specs.World.{World, opening, step, run, outcomes}
+use Rattle.world.specs.World.{opening, step, outcomes}
 use Rattle.world.specs.Verdict.{verdict}
-use Rattle.world.specs.Views.{due}
-use Rattle.world.specs.Stocks.{AreStocks}
 use Rattle.world.proofs.WorkedRow.{scheme, nz1, jp, until_transit, all_events, in_transit, completed, all_outcomes, outcomes_are, debt, nothing_due, due_in_transit, stocks, stocks_are, no_stocks, stocks_in_transit}
 use Rattle.operator.specs.declared.report.Standing.{Standing}
 use Rattle.operator.specs.Report.{table_text}

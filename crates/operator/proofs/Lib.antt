@@ -5,3 +5,4 @@ pub mod Texts
 pub mod Standings
 pub mod Runs
 pub mod NoFault
+pub mod WorkedReport

@@ -20,3 +20,4 @@ pub mod UnitReadings
 pub mod HoldingLists
 pub mod UnitWalk
 pub mod Stocked
+pub mod WorkedRow

@@ -5,6 +5,8 @@ mod bag;
 mod event;
 mod nodes;
 mod table;
+#[cfg(test)]
+mod tests;
 pub mod thin;
 mod views;
 

@@ -54,7 +54,7 @@ events_no_fault (e ∷ es) bytes room zero cause are f =
 events_no_fault (e ∷ es) bytes room (suc good) cause are f =
     let same = line_once bytes are.0 are.1 f.0 f.1 are.2.begins f.3.begins in
     let left : AreEvents f.1 (room_behind room f.0) es =
-        subst (λ rest. AreEvents rest (room_behind room f.0) es) same.1 (subst (λ line. AreEvents are.1 (room_behind room line) es) same.0 are.4) in
+    subst (λ rest. AreEvents rest (room_behind room f.0) es) same.1 (subst (λ line. AreEvents are.1 (room_behind room line) es) same.0 are.4) in
     events_no_fault es f.1 (room_behind room f.0) good cause left f.5
 
 scheme_no_fault : (line : List ℕ) (s : Scheme) (cause : Cause) → IsSchemeText line s → IsSchemeFault line cause → ⊥
@@ -77,6 +77,6 @@ no_fault input scheme events line cause is (inl f) =
 no_fault input scheme events line cause is (inr f) =
     let same = line_once input is.first is.lines f.first f.lines is.begins.begins f.begins.begins in
     let left : AreEvents f.lines (room_behind longest_input f.first) events =
-        subst (λ rest. AreEvents rest (room_behind longest_input f.first) events) same.1
-        (subst (λ l. AreEvents is.lines (room_behind longest_input l) events) same.0 is.events_are) in
+    subst (λ rest. AreEvents rest (room_behind longest_input f.first) events) same.1
+    (subst (λ l. AreEvents is.lines (room_behind longest_input l) events) same.0 is.events_are) in
     events_no_fault events f.lines (room_behind longest_input f.first) f.good cause left f.fault

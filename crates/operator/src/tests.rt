@@ -1,4 +1,5 @@
 use crate::{Action, Cause, OpFault, UsageFault, parse_words, rehearse};
+use std::alloc::{AllocError, Global};
 use std::io::{self, ErrorKind, Read, Write};
 
 const SCHEME: &str =
@@ -53,27 +54,28 @@ fn rehearsed(rt: &HostRuntime, input: &str) -> (Result<(), OpFault>, Vec<u8>) {
     (answer, writer)
 }
 
-fn text_of(rt: &HostRuntime, parts: &[&str]) -> String {
-    let mut text = String::new(rt.alloc());
+fn text_of(alloc: Global, parts: &[&str]) -> Result<String, AllocError> {
+    let mut text = String::new(alloc);
     for part in parts {
-        text.push_str(part).unwrap();
+        text.push_str(part)?;
     }
-    text
+    Ok(text)
 }
 
 #[test]
 fn one_transfer(rt: HostRuntime) {
     let input = text_of(
-        &rt,
+        rt.alloc(),
         &[
             SCHEME,
             "\n",
             ACCEPTED,
             "deliver 5 2012-05-01T00:00:00Z\ncommit JP 1\n",
         ],
-    );
+    )
+    .expect(&rt, "memory for a test");
     let report = text_of(
-        &rt,
+        rt.alloc(),
         &[
             ACCEPTED_OUTCOMES,
             "19 recorded 1\n20 done\n",
@@ -83,7 +85,8 @@ fn one_transfer(rt: HostRuntime) {
             "registry NZ held 0 spendable 0\n",
             "owed 0\nend\n",
         ],
-    );
+    )
+    .expect(&rt, "memory for a test");
     let (answer, written) = rehearsed(&rt, input.as_str());
     assert_eq!(rt; answer, Ok(()));
     assert_eq!(rt; written.as_slice(), report.as_str().as_bytes());
@@ -91,9 +94,9 @@ fn one_transfer(rt: HostRuntime) {
 
 #[test]
 fn in_transit(rt: HostRuntime) {
-    let input = text_of(&rt, &[SCHEME, "\n", ACCEPTED]);
+    let input = text_of(rt.alloc(), &[SCHEME, "\n", ACCEPTED]).expect(&rt, "memory for a test");
     let report = text_of(
-        &rt,
+        rt.alloc(),
         &[
             ACCEPTED_OUTCOMES,
             "transaction NZ1 NZ Completed ITL Completed JP Accepted\n",
@@ -102,7 +105,8 @@ fn in_transit(rt: HostRuntime) {
             "owed 100\n",
             "due NZ1 NZ:1:1-100:AAU\nend\n",
         ],
-    );
+    )
+    .expect(&rt, "memory for a test");
     let (answer, written) = rehearsed(&rt, input.as_str());
     assert_eq!(rt; answer, Ok(()));
     assert_eq!(rt; written.as_slice(), report.as_str().as_bytes());
@@ -121,7 +125,7 @@ fn names_the_first_fault(rt: HostRuntime) {
         (&["{\n", "post NZ\n"], 1, Cause::NotJson),
     ];
     for (parts, line, cause) in cases {
-        let input = text_of(&rt, parts);
+        let input = text_of(rt.alloc(), parts).expect(&rt, "memory for a test");
         let (answer, written) = rehearsed(&rt, input.as_str());
         assert_eq!(rt; answer, Err(OpFault::Input { line, cause }));
         assert!(rt; written.is_empty());
@@ -199,7 +203,7 @@ impl Write for Full {
 
 #[test]
 fn tells_how_much_was_written(rt: HostRuntime) {
-    let input = text_of(&rt, &[SCHEME, "\n", ACCEPTED]);
+    let input = text_of(rt.alloc(), &[SCHEME, "\n", ACCEPTED]).expect(&rt, "memory for a test");
     let mut reader = input.as_str().as_bytes();
     let mut writer = Full { room: 15 };
     assert_eq!(rt;
@@ -256,7 +260,12 @@ fn fault_lines(rt: HostRuntime) {
         (OpFault::NoMemory, "out of memory", 5),
     ];
     for (fault, line, status) in cases {
-        assert_eq!(rt; format!(in rt.alloc(); "{fault}").unwrap().as_str(), line);
+        assert_eq!(rt;
+            format!(in rt.alloc(); "{fault}")
+                .expect(&rt, "memory for a test")
+                .as_str(),
+            line
+        );
         assert_eq!(rt; fault.status(), status);
     }
 }

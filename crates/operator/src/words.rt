@@ -1,6 +1,9 @@
 //! The command line.
-ghost use Rattle.std.specs.Prelude.{◌≡◌, IfOk, IfSome, map};
+ghost use Rattle.std.specs.Prelude.{◌≡◌, true, IfOk, IfErr, IfSome, map};
+ghost use Rattle.clap.specs.Takes.{takes};
+ghost use Rattle.clap.specs.Values.{kind_of};
 ghost use Rattle.clap.specs.Words.{HasMatchesOf};
+ghost use Rattle.clap.specs.declared.error.kind.ErrorKind.TheVariants.{OutOfMemory};
 ghost use Rattle.clap.specs.declared.parser.matches.ArgMatches.{ArgMatches};
 ghost use Rattle.operator.specs.Words.{NamesAction, IsCommand, kyoto_link};
 
@@ -51,7 +54,9 @@ fn action_of(matches: &ArgMatches) -> Option<Action>
     None
 }
 
-fn fault_of(error: Error) -> UsageFault {
+fn fault_of(error: Error) -> UsageFault
+    ensures { kind_of error ≡ OutOfMemory → result ≡ UsageFault.NoMemory }
+{
     match error.kind() {
         ErrorKind::OutOfMemory => UsageFault::NoMemory,
         ErrorKind::DisplayHelp => UsageFault::Help(error),
@@ -59,9 +64,11 @@ fn fault_of(error: Error) -> UsageFault {
     }
 }
 
-/// The action that the words name, the first word being the program's own name.
+/// The action that the words name, the first word being the program's own name. Where `clap` takes
+/// the words, the only fault is want of memory.
 pub fn parse_words<S: AsStr>(alloc: Global, words: &[S]) -> Result<Action, UsageFault>
-    ensures { IfOk result (λ a. (m : ArgMatches) × HasMatchesOf kyoto_link (map S.text words.now) m × NamesAction m a) }
+    ensures ok { IfOk result (λ a. (m : ArgMatches) × HasMatchesOf kyoto_link (map S.text words.now) m × NamesAction m a) }
+    ensures taken { takes kyoto_link (map S.text words.now) ≡ true → IfErr result (λ f. f ≡ UsageFault.NoMemory) }
 {
     let Ok(command) = command(alloc) else {
         return Err(UsageFault::NoMemory);

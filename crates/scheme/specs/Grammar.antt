@@ -1,0 +1,79 @@
+-- The grammar of schemes: which JSON values write which registries.
+use Rattle.std.specs.Prelude.{◌≡◌, ◌≢◌, ℕ, ◌≤◌, List, [], ◌∷◌, codes, Some, option_map}
+use Rattle.serde_json.specs.Data.{Data, unsigned, boolean, number, string, array, Items, no_items, item}
+use Rattle.serde_json.specs.Find.{get, as_object}
+use Rattle.serde_json.specs.Events.{members_len}
+use Rattle.units.specs.Apart.{Pairwise}
+use Rattle.units.specs.Code.{code_text}
+use Rattle.units.specs.Block.{kind_text, IsRawText}
+use Rattle.units.specs.declared.block.Block.{Block}
+use Rattle.units.specs.declared.block.Kind.{Kind}
+use Rattle.scheme.specs.declared.members.Allotment.{Allotment}
+use Rattle.scheme.specs.declared.members.Member.{Member}
+
+-- ---- objects and arrays
+
+-- an object of so many keys; a value holds each key once
+abbrev pub HasKeys : Data → ℕ → Type 0
+HasKeys d count = option_map members_len (as_object d) ≡ Some count
+
+-- the object has the value at the key
+abbrev pub HasAt : Data → List ℕ → Data → Type 0
+HasAt d key value = get key d ≡ Some value
+
+-- each item writes the element at its place, and there are as many of both
+abbrev pub EachIs : {X : Type 0} → (Data → X → Type 0) → Items → List X → Type 0
+EachIs R no_items [] = Unit {0}
+EachIs R no_items (x ∷ xs) = ⊥
+EachIs R (item d ds) [] = ⊥
+EachIs R (item d ds) (x ∷ xs) = R d x × EachIs R ds xs
+
+-- at the key the object has an array, whose items write the elements
+abbrev pub HasList : {X : Type 0} → (Data → X → Type 0) → Data → List ℕ → List X → Type 0
+HasList R d key xs = (items : Items) × HasAt d key (array items) × EachIs R items xs
+
+-- no element stands twice
+abbrev pub HasNoTwins : {X : Type 0} → List X → Type 0
+HasNoTwins xs = Pairwise (λ x y. x ≢ y) xs
+
+-- ---- values
+
+-- an account's number, from 1 to 999,999,999
+abbrev pub IsAccount : Data → ℕ → Type 0
+IsAccount d n = (d ≡ number (unsigned n)) × (1 ≤ n) × (n ≤ 999_999_999)
+
+-- the text of a kind
+abbrev pub IsKind : Data → Kind → Type 0
+IsKind d k = d ≡ string (kind_text k)
+
+-- the text of a block, whose numbers are in range as those of every block
+abbrev pub IsBlock : Data → Block → Type 0
+IsBlock d b = (text : List ℕ) × (d ≡ string text) × IsRawText text b.raw
+
+-- ---- objects
+
+-- the blocks that an account has at the start
+pub record IsAllotment (d : Data) (a : Allotment) : Type 0 where
+  pub keys : HasKeys d 2
+  pub account : HasAt d (codes "account") (number (unsigned a.account))
+  pub from_one : 1 ≤ a.account
+  pub to_last : a.account ≤ 999_999_999
+  pub units : HasList IsBlock d (codes "units") a.units
+
+-- a registry; the kinds that it takes are different ones
+pub record IsMember (d : Data) (m : Member) : Type 0 where
+  pub keys : HasKeys d 5
+  pub code : HasAt d (codes "code") (string (code_text m.code))
+  pub eligible : HasAt d (codes "eligible") (boolean m.eligible)
+  pub accounts : HasList IsAccount d (codes "accounts") m.accounts
+  pub allotted : HasList IsAllotment d (codes "allotted") m.allotted
+  pub kinds : HasList IsKind d (codes "kinds") m.kinds
+  pub no_twins : HasNoTwins m.kinds
+
+-- a number of records from 1 to 1,000,000, and registries in the order of the array
+pub record IsWritten (d : Data) (records : ℕ) (members : List Member) : Type 0 where
+  pub keys : HasKeys d 2
+  pub records_at : HasAt d (codes "records") (number (unsigned records))
+  pub some_records : 1 ≤ records
+  pub few_records : records ≤ 1_000_000
+  pub registries : HasList IsMember d (codes "registries") members

@@ -1,0 +1,6 @@
+pub mod Grammar
+pub mod Order
+pub mod Props
+pub mod Faults
+pub mod Text
+pub mod Allotted

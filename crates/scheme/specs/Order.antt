@@ -1,0 +1,58 @@
+-- What holds of the registries of every scheme.
+use Rattle.std.specs.Prelude.{◌≡◌, ◌≢◌, ℕ, ◌+◌, ◌*◌, ◌<◌, ◌≤◌, List, [], ◌∷◌, ◌++◌, length, map, IsTrue, ◌==◌}
+use Rattle.std.specs.List.{AllByRecursion, list_any}
+use Rattle.units.specs.Apart.{Pairwise, AllApart}
+use Rattle.units.specs.declared.block.Block.{Block}
+use Rattle.units.specs.declared.code.Code.{Code}
+use Rattle.scheme.specs.Grammar.{HasNoTwins}
+use Rattle.scheme.specs.declared.members.Allotment.{Allotment}
+use Rattle.scheme.specs.declared.members.Member.{Member}
+use Rattle.scheme.specs.declared.members.SchemeFault.{SchemeFault}
+use Rattle.scheme.specs.declared.members.SchemeFault.TheVariants.{NotJson, Shape, TooMany, TooFew, CodeTwice, AccountTwice, UnknownAccount, AllotmentOverlap, NoMemory}
+
+-- the blocks of some allotments, in their order
+abbrev pub blocks_of : List Allotment → List Block
+blocks_of [] = []
+blocks_of (a ∷ allotted) = a.units ++ blocks_of allotted
+
+-- all blocks that the registries allot
+abbrev pub all_blocks : List Member → List Block
+all_blocks [] = []
+all_blocks (m ∷ members) = blocks_of m.allotted ++ all_blocks members
+
+-- the two letters as one number, whose order is byte order
+abbrev pub code_rank : Code → ℕ
+code_rank c = 256 * c.first + c.second
+
+-- one of the registry's accounts has that number
+abbrev pub HasAccount : Member → ℕ → Type 0
+HasAccount m number = IsTrue (list_any (λ n. n == number) m.accounts)
+
+-- at most 32 registries, 1,000 accounts in each, and 10,000 allotted blocks
+pub record AreFew (members : List Member) : Type 0 where
+  pub registries : length members ≤ 32
+  pub accounts : AllByRecursion (λ m. length m.accounts ≤ 1_000) members
+  pub blocks : length (all_blocks members) ≤ 10_000
+
+-- the registries are free of the fault
+abbrev pub IsFreeOf : SchemeFault → List Member → Type 0
+IsFreeOf TooMany members = AreFew members
+IsFreeOf TooFew members = 2 ≤ length members
+IsFreeOf CodeTwice members = HasNoTwins (map (λ m. m.code) members)
+IsFreeOf AccountTwice members = AllByRecursion (λ m. HasNoTwins m.accounts) members
+IsFreeOf UnknownAccount members = AllByRecursion (λ m. AllByRecursion (λ a. HasAccount m a.account) m.allotted) members
+IsFreeOf AllotmentOverlap members = AllApart (all_blocks members)
+IsFreeOf _ members = Unit {0}
+
+-- the faults of registries, in the order in which they are looked for
+abbrev pub faults_in_order : List SchemeFault
+faults_in_order = TooMany ∷ TooFew ∷ CodeTwice ∷ AccountTwice ∷ UnknownAccount ∷ AllotmentOverlap ∷ []
+
+-- the registries are free of all these faults
+abbrev pub AreFree : List Member → Type 0
+AreFree members = AllByRecursion (λ fault. IsFreeOf fault members) faults_in_order
+
+-- free of faults, and in byte order of their codes
+pub record AreMembers (members : List Member) : Type 0 where
+  pub free : AreFree members
+  pub ordered : Pairwise (λ a b. code_rank a.code < code_rank b.code) members

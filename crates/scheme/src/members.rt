@@ -1,0 +1,62 @@
+//! The registries of a scheme and what their accounts have at the start.
+
+use thiserror::Error;
+use units::{Block, Code, Items, Kind};
+
+/// The blocks that an account has at the start.
+#[derive(Debug, Drop)]
+pub struct Allotment {
+    pub account: u64,
+    pub units: Items<Block>,
+}
+
+/// A registry of the scheme.
+#[derive(Debug, Drop)]
+pub struct Member {
+    pub code: Code,
+    pub accounts: Items<u64>,
+    pub allotted: Items<Allotment>,
+    /// Whether it may take part in transfers at the start.
+    pub eligible: bool,
+    /// The kinds of units that it takes.
+    pub kinds: Items<Kind>,
+}
+
+/// Who holds a unit at the start.
+#[derive(Clone, Copy, Debug, PartialEq, Eq)]
+pub struct Holder {
+    pub registry: Code,
+    pub account: u64,
+    pub kind: Kind,
+}
+
+/// Why a text is no scheme: the first of these faults, in this order.
+#[derive(Clone, Copy, Debug, PartialEq, Eq, Error)]
+pub enum SchemeFault {
+    /// It is no JSON text in UTF-8.
+    #[error("not-json")]
+    NotJson,
+    /// It is JSON with a key or a value outside the grammar.
+    #[error("shape")]
+    Shape,
+    /// More than 32 registries, 1,000 accounts in one, or 10,000 allotted blocks.
+    #[error("too-many")]
+    TooMany,
+    /// Fewer than two registries.
+    #[error("too-few")]
+    TooFew,
+    /// Two registries have one code.
+    #[error("code-twice")]
+    CodeTwice,
+    /// An account number stands twice in one registry.
+    #[error("account-twice")]
+    AccountTwice,
+    /// An allotment is to an account that its registry doesn't have.
+    #[error("unknown-account")]
+    UnknownAccount,
+    /// A unit is allotted twice, of whatever kinds.
+    #[error("allotment-overlap")]
+    AllotmentOverlap,
+    #[error("out of memory")]
+    NoMemory,
+}

@@ -2,3 +2,5 @@ pub mod Cuts
 pub mod Numbers
 pub mod Blocks
 pub mod Same
+pub mod UnitKeys
+pub mod Marks

@@ -5,3 +5,5 @@ pub mod Block
 pub mod Unit
 pub mod Apart
 pub mod Keys
+pub mod Intervals
+pub mod Canonical

@@ -4,16 +4,20 @@
 
 mod block;
 mod code;
+mod interval;
 mod items;
 mod memory;
 mod refusal;
 #[cfg(test)]
 mod tests;
 mod text;
+mod unit_map;
 
 pub use block::{Block, BlockFault, Kind, Period, RawBlock, Unit};
 pub use code::{Code, Node};
+pub use interval::{Interval, Mark};
 pub use items::Items;
 pub use memory::NoMemory;
 pub use refusal::Refusal;
 pub use text::{cut, number};
+pub use unit_map::UnitMap;

@@ -1,0 +1,7 @@
+use Rattle.std.proofs.Common.{◌≡◌, ap}
+use Rattle.units.specs.Intervals.{marks_of}
+use Rattle.units.proofs.unit_map.UnitMap.new.Goals as goal
+
+pub returns : goal.returns
+unfolding marks_of
+returns g c = ap marks_of c.new.ensures.items

@@ -4,3 +4,6 @@ pub mod Blocks
 pub mod Same
 pub mod UnitKeys
 pub mod Marks
+pub mod Cutting
+pub mod Walking
+pub mod Marking

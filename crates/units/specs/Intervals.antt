@@ -17,6 +17,11 @@ abbrev pub mark_at : {M : Type 0} → List (Interval M) → Serial → Option M
 mark_at [] u = None
 mark_at (i ∷ is) u = if has i u then Some i.mark else mark_at is u
 
+-- the mark, where it passes the test
+abbrev pub marks_that : {M : Type 0} → (M → Bool) → Option M → Option M
+marks_that passes None = None
+marks_that passes (Some mark) = if passes mark then Some mark else None
+
 -- numbers in range, and no unit in two of the intervals
 abbrev pub AreKept : {M : Type 0} → List (Interval M) → Type 0
 AreKept [] = Unit {0}

@@ -1,8 +1,9 @@
 //! Intervals: units in a row with one mark.
 ghost use Rattle.std.specs.Prelude.{◌≡◌, ◌↔◌, ℕ, IsTrue};
+ghost use Rattle.units.specs.Cutting.{meets, marked};
 ghost use Rattle.units.specs.Intervals.{has};
 
-use crate::block::{Kind, Period, Unit};
+use crate::block::{Block, Kind, Period, Unit};
 use crate::code::Code;
 
 /// Units of one origin and period, from a first to a last number, both included, all with one mark.
@@ -16,6 +17,19 @@ pub struct Interval<M> {
 }
 
 impl<M> Interval<M> {
+    /// The block's units with that mark.
+    pub fn of(block: &Block, mark: M) -> Interval<M>
+        ensures { result ≡ marked block.now.raw mark }
+    {
+        Interval {
+            origin: block.raw.origin,
+            period: block.raw.period,
+            first: block.raw.first,
+            last: block.raw.last,
+            mark,
+        }
+    }
+
     /// Whether it has that unit.
     pub fn has(&self, unit: &Unit) -> bool
         ensures { result ≡ has self.now unit.now }
@@ -24,6 +38,16 @@ impl<M> Interval<M> {
             && self.period == unit.period
             && self.first <= unit.number
             && unit.number <= self.last
+    }
+
+    /// Whether it has a unit of the block, where its numbers are in order.
+    pub(crate) fn meets(&self, block: &Block) -> bool
+        ensures { result ≡ meets block.now.raw self.now }
+    {
+        self.origin == block.raw.origin
+            && self.period == block.raw.period
+            && self.first <= block.raw.last
+            && block.raw.first <= self.last
     }
 }
 

@@ -1,12 +1,17 @@
 //! A map from single units to marks.
-ghost use Rattle.std.specs.Prelude.{◌≡◌, IfOk, find};
+ghost use Rattle.std.specs.Prelude.{◌≡◌, ◌≢◌, ◌++◌, Bool, true, Some, None, Option, IsTrue, IsSome, OnOk, OnErr, IfOk, find, option_map, if◌then◌else◌};
+ghost use Rattle.std.specs.Bool.{OnTrue, OnFalse};
 ghost use Rattle.std.specs.FinMap as map;
-ghost use Rattle.units.specs.Intervals.{has, mark_at};
+ghost use Rattle.std.specs.List.{list_any, AllZip};
+ghost use Rattle.units.specs.Cutting.{meets, parts, without, assigned, IsRemarked};
+ghost use Rattle.units.specs.Intervals.{has, mark_at, AreKept, marks_that};
+ghost use Rattle.units.specs.Unit.{has_unit};
+ghost use Rattle.units.specs.declared.block.Unit.{Unit as Serial};
 
-use crate::block::Unit;
+use crate::block::{Block, Unit};
 use crate::interval::Interval;
 use crate::memory::NoMemory;
-use std::alloc::Global;
+use std::alloc::{AllocError, Global};
 use std::marker::Model;
 
 /// Which units there are, and the mark of each, kept as intervals that share no unit.
@@ -37,6 +42,108 @@ fn interval_with<M: Copy>(intervals: &[Interval<M>], unit: &Unit) -> Option<Inte
     intervals.iter().copied().find(|i| i.has(unit))
 }
 
+// Whether one of the intervals has a unit of the block.
+fn meets_one<M>(intervals: &[Interval<M>], block: &Block) -> bool
+    ensures { result ≡ list_any (meets block.now.raw) intervals.now }
+{
+    intervals.iter().any(|interval| interval.meets(block))
+}
+
+// Adds what is left of the interval without the block's units.
+fn push_parts<M: Copy>(
+    left: &mut Vec<Interval<M>>,
+    interval: &Interval<M>,
+    block: &Block,
+) -> Result<(), AllocError>
+    ensures { OnOk result (left.new.items ≡ left.old.items ++ parts block.now.raw interval.now) }
+{
+    if !interval.meets(block) {
+        left.push(*interval)?;
+        return Ok(());
+    }
+    if interval.first < block.raw.first {
+        left.push(Interval {
+            last: block.raw.first - 1,
+            ..*interval
+        })?;
+    }
+    if block.raw.last < interval.last {
+        left.push(Interval {
+            first: block.raw.last + 1,
+            ..*interval
+        })?;
+    }
+    Ok(())
+}
+
+// What is left of each interval without the block's units.
+fn without<M: Copy>(
+    alloc: Global,
+    intervals: &[Interval<M>],
+    block: &Block,
+) -> Result<Vec<Interval<M>>, AllocError>
+    ensures { IfOk result (λ left. left.items ≡ without block.now.raw intervals.now) }
+{
+    let mut left = Vec::new(alloc);
+    for interval in intervals {
+        push_parts(&mut left, interval, block)?;
+    }
+    Ok(left)
+}
+
+// The intervals with the block's units marked so, or taken out.
+fn assigned<M: Copy>(
+    alloc: Global,
+    intervals: &[Interval<M>],
+    block: &Block,
+    mark: Option<M>,
+) -> Result<Vec<Interval<M>>, AllocError>
+    ensures { IfOk result (λ left. left.items ≡ assigned block.now.raw mark intervals.now) }
+{
+    let mut left = without(alloc, intervals, block)?;
+    if let Some(mark) = mark {
+        left.push(Interval::of(block, mark))?;
+    }
+    Ok(left)
+}
+
+// Whether each of the block's units is in an interval whose mark passes the test.
+fn all_pass<M: Copy, F: Fn(M) -> bool>(intervals: &[Interval<M>], block: &Block, test: F) -> bool
+    requires callable { F.IsAlwaysCallable test }
+    requires kept { AreKept intervals.now }
+    ensures all { (passes : M → Bool) → ((m : M) (r : Bool) → F.post test m r → r ≡ passes m) → OnTrue result ((u : Serial) → IsTrue (has_unit block.now.raw u) → option_map passes (mark_at intervals.now u) ≡ Some true) }
+    ensures some { (passes : M → Bool) → ((m : M) (r : Bool) → F.post test m r → r ≡ passes m) → OnFalse result ((u : Serial) × IsTrue (has_unit block.now.raw u) × (option_map passes (mark_at intervals.now u) ≢ Some true)) }
+{
+    let mut number = block.raw.first;
+    loop {
+        let unit = Unit {
+            origin: block.raw.origin,
+            period: block.raw.period,
+            number,
+        };
+        let Some(interval) = interval_with(intervals, &unit) else {
+            return false;
+        };
+        if !test(interval.mark) {
+            return false;
+        }
+        if block.raw.last <= interval.last {
+            return true;
+        }
+        number = interval.last + 1;
+    }
+}
+
+// Changes each mark to what the function gives.
+fn remark_each<M: Copy, F: Fn(M) -> M>(intervals: &mut [Interval<M>], change: F)
+    requires { F.IsAlwaysCallable change }
+    ensures { AllZip (IsRemarked (F.post change)) intervals.old intervals.new }
+{
+    for interval in intervals {
+        interval.mark = change(interval.mark);
+    }
+}
+
 impl<M> UnitMap<M> {
     /// No units. Takes no memory.
     pub fn new(alloc: Global) -> UnitMap<M>
@@ -64,5 +171,58 @@ impl<M: Copy> UnitMap<M> {
         let alloc: Global = *self.intervals.allocator();
         let intervals = Vec::from_slice(alloc, &self.intervals)?;
         Ok(UnitMap { intervals })
+    }
+
+    /// Whether none of the block's units is there. Takes no memory.
+    pub fn has_none_of(&self, block: &Block) -> bool
+        ensures none { OnTrue result ((u : Serial) → IsTrue (has_unit block.now.raw u) → map.get self.now u ≡ None) }
+        ensures some { OnFalse result ((u : Serial) × IsTrue (has_unit block.now.raw u) × IsSome (map.get self.now u)) }
+    {
+        !meets_one(&self.intervals, block)
+    }
+
+    /// Whether each of the block's units is there with a mark that passes the test. Takes no memory.
+    pub fn has_all_of<F: Fn(M) -> bool>(&self, block: &Block, test: F) -> bool
+        requires { F.IsAlwaysCallable test }
+        ensures all { (passes : M → Bool) → ((m : M) (r : Bool) → F.post test m r → r ≡ passes m) → OnTrue result ((u : Serial) → IsTrue (has_unit block.now.raw u) → option_map passes (map.get self.now u) ≡ Some true) }
+        ensures some { (passes : M → Bool) → ((m : M) (r : Bool) → F.post test m r → r ≡ passes m) → OnFalse result ((u : Serial) × IsTrue (has_unit block.now.raw u) × (option_map passes (map.get self.now u) ≢ Some true)) }
+    {
+        all_pass(&self.intervals, block, test)
+    }
+
+    /// Whether a unit is there with a mark that passes the test. Takes no memory.
+    pub fn has_mark<F: Fn(M) -> bool>(&self, test: F) -> bool
+        requires { F.IsAlwaysCallable test }
+        ensures some { (passes : M → Bool) → ((m : M) (r : Bool) → F.post test m r → r ≡ passes m) → OnTrue result ((u : Serial) × (option_map passes (map.get self.now u) ≡ Some true)) }
+        ensures none { (passes : M → Bool) → ((m : M) (r : Bool) → F.post test m r → r ≡ passes m) → OnFalse result ((u : Serial) → option_map passes (map.get self.now u) ≢ Some true) }
+    {
+        self.intervals.iter().any(|interval| test(interval.mark))
+    }
+
+    /// Gives the block's units that mark, whether they are there or not, or takes them out. After
+    /// `NoMemory` nothing has changed.
+    pub fn set(&mut self, block: &Block, mark: Option<M>) -> Result<(), NoMemory>
+        ensures ok { OnOk result ((u : Serial) → map.get self.new u ≡ (if has_unit block.now.raw u then mark else map.get self.old u)) }
+        ensures err { OnErr result (self.new ≡ self.old) }
+    {
+        let alloc = *self.intervals.allocator();
+        self.intervals = assigned(alloc, &self.intervals, block, mark)?;
+        Ok(())
+    }
+
+    /// Changes each mark to what the function gives. Takes no memory.
+    pub fn remark<F: Fn(M) -> M>(&mut self, change: F)
+        requires { F.IsAlwaysCallable change }
+        ensures { (after : M → M) → ((m r : M) → F.post change m r → r ≡ after m) → (u : Serial) → map.get self.new u ≡ option_map after (map.get self.old u) }
+    {
+        remark_each(&mut self.intervals, change);
+    }
+
+    /// Takes the units out whose marks don't pass the test. Takes no memory.
+    pub fn retain<F: Fn(M) -> bool>(&mut self, test: F)
+        requires { F.IsAlwaysCallable test }
+        ensures { (passes : M → Bool) → ((m : M) (r : Bool) → F.post test m r → r ≡ passes m) → (u : Serial) → map.get self.new u ≡ marks_that passes (map.get self.old u) }
+    {
+        self.intervals.retain(|interval| test(interval.mark));
     }
 }

@@ -1,0 +1,49 @@
+-- What a registry holds: its accounts, and for each unit the account, the kind and the reserving transaction.
+use Rattle.std.specs.Prelude.{◌≡◌, ℕ, List, Bool, true, false, not, ◌&&◌, ◌==◌, Option, Some, None, option_map, is_none, if◌then◌else◌}
+use Rattle.std.specs.FinMap as map
+use Rattle.std.specs.Ordering.{nat_cmp}
+use Rattle.std.specs.List.{find}
+use Rattle.units.specs.Keys.{unit_cmp}
+use Rattle.units.specs.Unit.{has_unit, same_kind}
+use Rattle.units.specs.declared.block.Block.{Block}
+use Rattle.units.specs.declared.block.Kind.{Kind}
+use Rattle.units.specs.declared.block.Unit.{Unit as Serial}
+use Rattle.status.specs.Id.{same_id}
+use Rattle.status.specs.declared.id.TransactionId.{TransactionId}
+use Rattle.accounts.specs.declared.lot.Lot.{Lot}
+use Rattle.accounts.specs.declared.lot.Standing.{Standing}
+use Rattle.accounts.specs.declared.lot.Standing.TheVariants.{Open, Closed}
+
+-- the accounts, each open or closed, and what each unit that is held is held as
+pub record Held : Type 0 where
+  pub accounts : map.FinMap nat_cmp Standing
+  pub lots : map.FinMap unit_cmp Lot
+
+-- held in the account, of the kind, and reserved by none
+abbrev pub free_lot : ℕ → Kind → Lot
+free_lot account kind = record { account = account; kind = kind; reserving = None }
+
+-- the transaction is the one
+abbrev pub is_the : TransactionId → Option TransactionId → Bool
+is_the id None = false
+is_the id (Some other) = same_id other id
+
+-- the transaction reserves the lot
+abbrev pub is_reserved_by : TransactionId → Lot → Bool
+is_reserved_by id lot = is_the id lot.reserving
+
+-- the lot as the transaction reserves it
+abbrev pub reserved : TransactionId → Lot → Lot
+reserved id lot = record lot { reserving = Some id }
+
+-- the lot when the transaction has let it go
+abbrev pub released : TransactionId → Lot → Lot
+released id lot = if is_reserved_by id lot then record lot { reserving = None } else lot
+
+-- in the account, and reserved by none
+abbrev pub is_free_in : ℕ → Lot → Bool
+is_free_in account lot = lot.account == account && is_none lot.reserving
+
+-- the kind that the first of the blocks with the unit gives it
+abbrev pub kind_in : List Block → Serial → Option Kind
+kind_in blocks unit = option_map (λ b. b.raw.kind) (find (λ b. has_unit b.raw unit) blocks)

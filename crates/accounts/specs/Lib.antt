@@ -1,0 +1,3 @@
+pub mod Holdings
+pub mod Refusals
+pub mod Lines

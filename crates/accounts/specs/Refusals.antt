@@ -1,0 +1,84 @@
+-- Why an order on accounts is refused: each check looks at all units before the next one does.
+use Rattle.std.specs.Prelude.{◌≡◌, ◌≢◌, ◌⊎◌, ℕ, List, Option, Some, None, IsTrue, IsSome}
+use Rattle.std.specs.FinMap as map
+use Rattle.std.specs.List.{IsAmong}
+use Rattle.units.specs.Unit.{has_unit, covers}
+use Rattle.units.specs.declared.block.Block.{Block}
+use Rattle.units.specs.declared.block.Kind.{Kind}
+use Rattle.units.specs.declared.block.Unit.{Unit as Serial}
+use Rattle.accounts.specs.Holdings.{Held, kind_in}
+use Rattle.accounts.specs.declared.lot.Lot.{Lot}
+use Rattle.accounts.specs.declared.lot.Standing.{Standing}
+use Rattle.accounts.specs.declared.lot.Standing.TheVariants.{Open, Closed}
+
+-- an account of the registry that is open
+abbrev pub IsOpen : Held → ℕ → Type 0
+IsOpen held account = map.get held.accounts account ≡ Some Open
+
+-- the unit is held in that account with that kind
+pub record IsHeldAs (held : Held) (account : ℕ) (kind : Kind) (unit : Serial) : Type 0 where
+  pub lot : Lot
+  pub is : map.get held.lots unit ≡ Some lot
+  pub account_is : lot.account ≡ account
+  pub kind_is : lot.kind ≡ kind
+
+-- a unit of one of the blocks
+pub record IsUnitOf (blocks : List Block) (block : Block) (unit : Serial) : Type 0 where
+  pub among : IsAmong blocks block
+  pub has : IsTrue (has_unit block.raw unit)
+
+-- each unit of each block is held in that account with the block's kind
+abbrev pub AreHeld : Held → ℕ → List Block → Type 0
+AreHeld held account blocks = (b : Block) (s : Serial) → IsUnitOf blocks b s → IsHeldAs held account b.raw.kind s
+
+-- no unit of the blocks is reserved
+abbrev pub AreFree : Held → List Block → Type 0
+AreFree held blocks = (s : Serial) (lot : Lot) → IsTrue (covers blocks s) → map.get held.lots s ≡ Some lot → lot.reserving ≡ None
+
+-- a unit of a block that isn't held so
+pub record IsLacking (held : Held) (account : ℕ) (blocks : List Block) : Type 0 where
+  pub block : Block
+  pub unit : Serial
+  pub of : IsUnitOf blocks block unit
+  pub lacks : IsHeldAs held account block.raw.kind unit → ⊥
+
+-- a unit of the blocks that is reserved
+pub record IsReserved (held : Held) (blocks : List Block) : Type 0 where
+  pub unit : Serial
+  pub lot : Lot
+  pub of : IsTrue (covers blocks unit)
+  pub is : map.get held.lots unit ≡ Some lot
+  pub reserved : IsSome lot.reserving
+
+-- what may be reserved
+pub record MayReserve (held : Held) (account : ℕ) (blocks : List Block) : Type 0 where
+  pub open_account : IsOpen held account
+  pub held_so : AreHeld held account blocks
+  pub free : AreFree held blocks
+
+-- 104: account unknown or closed; 105: a unit that isn't held in that account with that kind; 106: a unit reserved
+abbrev pub IsReserveRefusal : Held → ℕ → List Block → ℕ → Type 0
+IsReserveRefusal held account blocks code =
+    ((code ≡ 104) × (IsOpen held account → ⊥))
+    ⊎ (((code ≡ 105) × IsOpen held account × IsLacking held account blocks)
+    ⊎ ((code ≡ 106) × IsOpen held account × AreHeld held account blocks × IsReserved held blocks))
+
+-- 110: account not in the scheme; 111: already so
+abbrev pub IsOpenRefusal : Held → ℕ → ℕ → Type 0
+IsOpenRefusal held account code =
+    ((code ≡ 110) × (map.get held.accounts account ≡ None))
+    ⊎ ((code ≡ 111) × (map.get held.accounts account ≡ Some Open))
+
+-- a unit in the account
+pub record HasUnits (held : Held) (account : ℕ) : Type 0 where
+  pub unit : Serial
+  pub lot : Lot
+  pub is : map.get held.lots unit ≡ Some lot
+  pub account_is : lot.account ≡ account
+
+-- 110: account not in the scheme; 111: already so; 112: it holds units
+abbrev pub IsCloseRefusal : Held → ℕ → ℕ → Type 0
+IsCloseRefusal held account code =
+    ((code ≡ 110) × (map.get held.accounts account ≡ None))
+    ⊎ (((code ≡ 111) × (map.get held.accounts account ≡ Some Closed))
+    ⊎ ((code ≡ 112) × (map.get held.accounts account ≡ Some Open) × HasUnits held account))

@@ -7,3 +7,4 @@ pub mod Marks
 pub mod Cutting
 pub mod Walking
 pub mod Marking
+pub mod BlockLists

@@ -3,6 +3,7 @@
 #![tactic(auto)]
 
 mod block;
+mod block_set;
 mod code;
 mod interval;
 mod items;
@@ -14,6 +15,7 @@ mod text;
 mod unit_map;
 
 pub use block::{Block, BlockFault, Kind, Period, RawBlock, Unit};
+pub use block_set::BlockSet;
 pub use code::{Code, Node};
 pub use interval::{Interval, Mark};
 pub use items::Items;

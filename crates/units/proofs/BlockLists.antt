@@ -53,5 +53,6 @@ covers_more blocks i b u lt is h =
     alone : (t : Bool) → (t || false) ≡ true → t ≡ true
     alone true e = refl
     alone false e = e
+
     one : (c : Block) (v : Serial) → covers (c ∷ []) v ≡ true → has_unit c.raw v ≡ true
     one c v e = alone (has_unit c.raw v) e

@@ -8,3 +8,4 @@ pub mod Cutting
 pub mod Walking
 pub mod Marking
 pub mod BlockLists
+pub mod SharedUnits

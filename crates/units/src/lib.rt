@@ -8,6 +8,7 @@ mod code;
 mod interval;
 mod items;
 mod memory;
+mod overlap;
 mod refusal;
 #[cfg(test)]
 mod tests;
@@ -20,6 +21,7 @@ pub use code::{Code, Node};
 pub use interval::{Interval, Mark};
 pub use items::Items;
 pub use memory::NoMemory;
+pub use overlap::overlaps;
 pub use refusal::Refusal;
 pub use text::{cut, number};
 pub use unit_map::UnitMap;

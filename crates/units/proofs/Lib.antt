@@ -4,3 +4,5 @@ pub mod Blocks
 pub mod Same
 pub mod UnitKeys
 pub mod Marks
+pub mod OrderingUnits
+pub mod CountingUnits

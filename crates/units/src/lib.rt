@@ -4,6 +4,7 @@
 
 mod block;
 mod code;
+mod counting;
 mod interval;
 mod items;
 mod memory;

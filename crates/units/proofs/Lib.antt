@@ -6,3 +6,5 @@ pub mod UnitKeys
 pub mod Marks
 pub mod OrderingUnits
 pub mod CountingUnits
+pub mod OrderingJoins
+pub mod OrderingMoves

@@ -7,3 +7,4 @@ pub mod Apart
 pub mod Keys
 pub mod Intervals
 pub mod Canonical
+pub mod Following

@@ -8,6 +8,7 @@ mod counting;
 mod interval;
 mod items;
 mod memory;
+mod ordering;
 mod refusal;
 #[cfg(test)]
 mod tests;

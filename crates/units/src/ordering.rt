@@ -38,7 +38,10 @@ fn goes_on<M: Mark>(interval: &Interval<M>, next: &Interval<M>) -> bool
 }
 
 // Puts an interval behind the others, or lengthens their last one where it goes on there.
-fn push_joined<M: Mark>(intervals: &mut Vec<Interval<M>>, next: Interval<M>) -> Result<(), AllocError>
+fn push_joined<M: Mark>(
+    intervals: &mut Vec<Interval<M>>,
+    next: Interval<M>,
+) -> Result<(), AllocError>
     ensures { OnOk result (IsOnto intervals.old.items next intervals.new.items) }
 {
     match intervals.last_mut() {

@@ -1,16 +1,16 @@
 -- How many units intervals have: the entries of their map that pass a test, counted by intervals.
-use Rattle.std.proofs.Common.{◌≡◌, ℕ, ◌+◌, ◌-◌, ◌^◌, ◌<◌, ◌≤◌, zero, suc, List, [], ◌∷◌, length, get_or, take, Bool, true, false, ◌&&◌, cond, T, eqb, leb, ltb, Option, Some, None, refl, sym, ap, ◌∙◌, subst, arith}
+use Rattle.std.proofs.Common.{◌≡◌, ℕ, ◌+◌, ◌^◌, ◌<◌, ◌≤◌, zero, suc, List, [], ◌∷◌, length, get_or, take, Bool, true, false, ◌&&◌, cond, T, leb, ltb, Some, None, refl, sym, ap, ◌∙◌, subst, arith}
 use Rattle.std.specs.declared.cmp.Ordering.{Ordering}
 use Rattle.std.specs.declared.cmp.Ordering.TheVariants.{Less, Equal, Greater}
-use Rattle.std.specs.FinMap.{FinMap, find, put, is_sorted, get, get-empty, get-entries, len-entries, len-empty, entries, empty, insert, entries-insert, entries_sorted}
+use Rattle.std.specs.FinMap.{find, put, is_sorted, get, get-entries, len-entries, len-empty, entries, empty, entries-insert, entries_sorted}
 use Rattle.std.specs.FinMap.Entries.{by_order, below_all}
 use Rattle.std.specs.List.{sum_by, count_by, AllByRecursion}
-use Rattle.std.specs.Ordering.{eq_by_cmp, is_eq, is_lt}
-use Rattle.std.proofs.lemmas.Bool.{le-leb, le-ltb, lt-ltb, eq-eqb, and_from, and_right, cond-true, cond-false}
+use Rattle.std.specs.Ordering.{is_eq, is_lt}
+use Rattle.std.proofs.lemmas.Bool.{le-leb, le-ltb, and_from}
 use Rattle.std.proofs.lemmas.List.Sums.{sum_by-cons, sum_by_more, count_by-le-length}
 use Rattle.units.specs.Code.{same_code}
 use Rattle.units.specs.Facts.{IsRange, last_unit}
-use Rattle.units.specs.Intervals.{has, mark_at, AreKept, numbered, Marks, put_units, size, marks_of}
+use Rattle.units.specs.Intervals.{has, AreKept, numbered, Marks, put_units, size, marks_of}
 use Rattle.units.specs.Keys.{unit_cmp}
 use Rattle.units.specs.Unit.{same_period}
 use Rattle.units.specs.declared.block.Period.{Period}

@@ -1,19 +1,17 @@
 -- Neighbours joined: what a list of intervals means, and that they stay apart and in order.
-use Rattle.std.proofs.Common.{◌≡◌, ◌⊎◌, inl, inr, ℕ, ◌+◌, ◌-◌, ◌<◌, ◌≤◌, zero, suc, List, [], ◌∷◌, ◌++◌, length, length-append, get_or, set, take, Bool, true, false, ◌==◌, ◌&&◌, cond, eqb, leb, ltb, Option, Some, None, append_assoc, refl, sym, ap, ◌∙◌, subst, arith}
-use Rattle.std.specs.declared.cmp.Ordering.TheVariants.{Less}
+use Rattle.std.proofs.Common.{◌≡◌, ◌⊎◌, inl, inr, ℕ, ◌+◌, ◌<◌, ◌≤◌, zero, suc, List, [], ◌∷◌, ◌++◌, length, get_or, set, take, Bool, true, false, ◌&&◌, cond, leb, Option, Some, None, append_assoc, refl, sym, ap, ◌∙◌, subst, arith}
 use Rattle.std.proofs.lemmas.Bool.{true≢false, false≢true, and_parts, and_from, eqb-true, eq-eqb}
 use Rattle.std.proofs.lemmas.Bool.Decides.{nat_tests}
 use Rattle.units.specs.Canonical.{GoesOn, IsBefore, AreCanonical}
 use Rattle.units.specs.Code.{same_code}
-use Rattle.units.specs.Facts.{IsRange, last_unit}
+use Rattle.units.specs.Facts.{IsRange}
 use Rattle.units.specs.Following.{joined, IsOnto, is_next}
 use Rattle.units.specs.Intervals.{has, mark_at, AreKept, numbered}
 use Rattle.units.specs.Keys.{unit_cmp}
-use Rattle.units.specs.Unit.{same_period, period_index}
+use Rattle.units.specs.Unit.{same_period}
 use Rattle.units.specs.declared.block.Period.{Period}
 use Rattle.units.specs.declared.block.Period.TheVariants.{First, Second}
 use Rattle.units.specs.declared.block.Unit.{Unit as Serial}
-use Rattle.units.specs.declared.code.Code.{Code}
 use Rattle.units.specs.declared.interval.Interval.{Interval}
 use Rattle.units.proofs.Same.{code_of_same, same_code-refl}
 
@@ -56,12 +54,6 @@ last_set (y ∷ []) zero x h = refl
 last_set (y ∷ []) (suc k) x h = absurd (omega arith)
 last_set (y ∷ z ∷ xs) zero x h = absurd (omega arith)
 last_set (y ∷ z ∷ xs) (suc k) x h = ap (λ ys. y ∷ ys) (last_set (z ∷ xs) k x (omega arith))
-
-pub last_one : {X : Type 0} (front gone : List X) (x y : X) → front ++ x ∷ [] ≡ gone ++ y ∷ [] → x ≡ y
-last_one [] [] x y e = cc
-last_one [] (g ∷ gs) x y e = absurd (omega (arith, ap length e, length-append gs (y ∷ [])))
-last_one (f ∷ fs) [] x y e = absurd (omega (arith, ap length e, length-append fs (x ∷ [])))
-last_one (f ∷ fs) (g ∷ gs) x y e = let tail : fs ++ x ∷ [] ≡ gs ++ y ∷ [] = cc in last_one fs gs x y tail
 
 -- ---- one interval in place of two
 

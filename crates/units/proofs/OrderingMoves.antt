@@ -1,11 +1,11 @@
 -- Intervals in another order mean the same, and sorted ones that share no unit stand in order.
-use Rattle.std.proofs.Common.{◌≡◌, ◌⊎◌, inl, inr, ℕ, ◌+◌, ◌<◌, ◌≤◌, zero, suc, List, [], ◌∷◌, length, get_or, drop, Bool, true, false, ◌&&◌, cond, Option, Some, None, All, Contains, refl, sym, ap, ◌∙◌, subst, arith}
+use Rattle.std.proofs.Common.{◌≡◌, ◌⊎◌, inl, inr, ℕ, ◌+◌, ◌<◌, ◌≤◌, zero, suc, List, [], ◌∷◌, length, get_or, drop, Bool, true, false, cond, Some, None, Contains, refl, sym, ap, ◌∙◌, subst, arith}
 use Rattle.std.specs.declared.cmp.Ordering.{Ordering}
 use Rattle.std.specs.declared.cmp.Ordering.TheVariants.{Less, Equal, Greater}
-use Rattle.std.specs.List.{count_by, sum_by, AllByRecursion}
+use Rattle.std.specs.List.{count_by, AllByRecursion}
 use Rattle.std.specs.List.Sorted.{IsPermutation, IsSortedByKey}
 use Rattle.std.specs.Ordering.{nat_cmp, ordering_then, is_lt}
-use Rattle.std.proofs.lemmas.Bool.{true≢false, false≢true, and_from, eq-eqb, le-leb, cases_Bool, cases_lt}
+use Rattle.std.proofs.lemmas.Bool.{true≢false, and_from, eq-eqb, le-leb, cases_Bool, cases_lt}
 use Rattle.std.proofs.lemmas.Cmp.{ranked}
 use Rattle.std.proofs.lemmas.List.{drop_all, drop_more}
 use Rattle.std.proofs.lemmas.List.Elements.{All-from_recursion, recursion_from_All}
@@ -13,7 +13,7 @@ use Rattle.std.proofs.lemmas.List.Sorted.{All-permutation, Contains-permutation,
 use Rattle.std.proofs.lemmas.List.Sums.{sum_by-cons, get_or-le-sum_by}
 use Rattle.units.specs.Canonical.{IsBefore}
 use Rattle.units.specs.Code.{same_code}
-use Rattle.units.specs.Facts.{IsRange, last_unit}
+use Rattle.units.specs.Facts.{IsRange}
 use Rattle.units.specs.Following.{IsOnto}
 use Rattle.units.specs.Intervals.{has, mark_at, AreKept, numbered}
 use Rattle.units.specs.Keys.{unit_cmp}

@@ -1,5 +1,5 @@
 -- What the code follows; no public contract cites it.
-use Rattle.std.specs.Prelude.{◌≡◌, ◌⊎◌, ℕ, ◌+◌, Bool, ◌==◌, ◌&&◌, List, [], ◌∷◌, ◌++◌}
+use Rattle.std.specs.Prelude.{◌≡◌, ◌⊎◌, ◌+◌, Bool, ◌==◌, ◌&&◌, List, [], ◌∷◌, ◌++◌}
 use Rattle.units.specs.Canonical.{GoesOn}
 use Rattle.units.specs.Code.{same_code}
 use Rattle.units.specs.Unit.{same_period}

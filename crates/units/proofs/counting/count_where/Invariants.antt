@@ -1,4 +1,4 @@
-use Rattle.std.proofs.Common.{◌≡◌, Bool, ℕ, ◌≤◌, take}
+use Rattle.std.proofs.Common.{◌≡◌, Bool, ◌≤◌, take}
 use Rattle.std.specs.List.{sum_by}
 use Rattle.units.specs.Intervals.{size}
 use Rattle.units.proofs.CountingUnits.{weight}

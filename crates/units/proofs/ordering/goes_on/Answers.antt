@@ -1,5 +1,4 @@
-use Rattle.std.proofs.Common.{sym, ap, ◌∙◌, rules}
-use Rattle.units.specs.Canonical.{GoesOn}
+use Rattle.std.proofs.Common.{sym, ◌∙◌}
 use Rattle.units.proofs.OrderingJoins.{next_means}
 use Rattle.units.proofs.ordering.goes_on.Goals as goal
 

@@ -1,6 +1,6 @@
-use Rattle.std.proofs.Common.{◌≡◌, sym, ap, ◌∙◌, subst, rules, arith, append-nil, length}
+use Rattle.std.proofs.Common.{◌≡◌, sym, ap, ◌∙◌, rules, arith, append-nil}
 use Rattle.std.proofs.lemmas.Fn.{always_returns_same}
-use Rattle.units.specs.Intervals.{AreKept, mark_at}
+use Rattle.units.specs.Intervals.{mark_at}
 use Rattle.units.proofs.OrderingMoves.{key, joins_sorted, same_sorted, joins_next, joins_all}
 use Rattle.units.proofs.ordering.in_order.Goals as goal
 

@@ -1,4 +1,4 @@
-use Rattle.std.proofs.Common.{◌≡◌, ◌+◌, ◌-◌, suc, inl, length, take, sym, ap, ◌∙◌, arith}
+use Rattle.std.proofs.Common.{◌≡◌, ◌-◌, suc, inl, length, take, arith}
 use Rattle.std.specs.Vec.{vec_len}
 use Rattle.units.specs.Following.{joined}
 use Rattle.units.proofs.OrderingJoins.{last_split, last_set}

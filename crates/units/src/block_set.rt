@@ -1,11 +1,15 @@
 //! Sets of units with their kinds.
-ghost use Rattle.std.specs.Prelude.{◌≡◌, ◌≢◌, ◌⊎◌, Some, None, IsTrue, IsSome, OnOk, OnErr, IfOk, IfErr, if◌then◌else◌};
+ghost use Rattle.std.specs.Prelude.{◌≡◌, ◌≢◌, ◌⊎◌, Some, None, IsTrue, IsSome, OnOk, OnErr, IfOk, IfErr, map as list_map, if◌then◌else◌};
 ghost use Rattle.std.specs.Bool.{OnTrue, OnFalse};
 ghost use Rattle.std.specs.FinMap as map;
+ghost use Rattle.units.specs.Canonical.{AreCanonical, interval_of};
+ghost use Rattle.units.specs.Facts.{IsRange};
+ghost use Rattle.units.specs.Intervals.{AreKept, mark_at};
 ghost use Rattle.units.specs.Unit.{has_unit, covers};
 ghost use Rattle.units.specs.declared.block.Unit.{Unit as Serial};
 
-use crate::block::{Block, Kind};
+use crate::block::{Block, Kind, RawBlock};
+use crate::interval::Interval;
 use crate::memory::NoMemory;
 use crate::refusal::Refusal;
 use crate::unit_map::UnitMap;
@@ -30,6 +34,21 @@ impl Model for BlockSet {
     ghost coded = { map.code serial.the_row.coded kind.the_row.coded };
 
     ghost view = { λ s. s.kinds };
+}
+
+// The block of the interval's units.
+fn block_of(interval: &Interval<Kind>) -> Block
+    requires { IsRange interval.now.first interval.now.last }
+    ensures { interval_of result ≡ interval.now }
+{
+    let raw = RawBlock {
+        origin: interval.origin,
+        period: interval.period,
+        kind: interval.mark,
+        first: interval.first,
+        last: interval.last,
+    };
+    Block { raw }
 }
 
 impl BlockSet {
@@ -99,6 +118,28 @@ impl BlockSet {
             }
         }
         true
+    }
+
+    /// How many units there are. Takes no memory.
+    pub fn count(&self) -> u64
+        ensures { result ≡ map.len self.now }
+    {
+        self.kinds.count_where(|_| true)
+    }
+
+    /// The units as blocks in order, by origin, period and first number, neighbours of one kind
+    /// joined. Or `NoMemory`.
+    pub fn canonical(&self, alloc: Global) -> Result<Vec<Block>, NoMemory>
+        ensures ordered { IfOk result (λ v. AreCanonical (λ _. 0) (list_map interval_of v.items)) }
+        ensures kept { IfOk result (λ v. AreKept (list_map interval_of v.items)) }
+        ensures same { IfOk result (λ v. (u : Serial) → mark_at (list_map interval_of v.items) u ≡ map.get self.now u) }
+    {
+        let intervals = self.kinds.in_order()?;
+        let mut blocks = Vec::with_capacity(alloc, intervals.len())?;
+        for interval in &intervals {
+            blocks.push(block_of(interval))?;
+        }
+        Ok(blocks)
     }
 
     /// An equal set, or `NoMemory`.

@@ -5,9 +5,11 @@
 mod block;
 mod block_set;
 mod code;
+mod counting;
 mod interval;
 mod items;
 mod memory;
+mod ordering;
 mod overlap;
 mod refusal;
 #[cfg(test)]

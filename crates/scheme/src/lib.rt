@@ -1,6 +1,9 @@
 //! The scheme: the registries, their accounts, and what each account has at the start.
 #![tactic(auto)]
 
+mod fields;
+mod grammar;
+mod listed;
 mod members;
 mod registries;
 

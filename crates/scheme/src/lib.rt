@@ -1,6 +1,7 @@
 //! The scheme: the registries, their accounts, and what each account has at the start.
 #![tactic(auto)]
 
+mod faults;
 mod fields;
 mod grammar;
 mod listed;

@@ -1,9 +1,11 @@
 //! Registries in the order of the text, and in byte order.
-ghost use Rattle.std.specs.Prelude.{◌≡◌, List};
+ghost use Rattle.std.specs.Prelude.{◌≡◌, List, IsPermutation};
+ghost use Rattle.scheme.specs.Reading.{AreSorted};
 ghost use Rattle.scheme.specs.declared.members.Member.{Member};
 
 use crate::members::Member;
 use std::marker::Model;
+use units::Items;
 
 /// Registries in the order in which a text lists them.
 #[derive(Drop)]
@@ -23,5 +25,15 @@ impl Listed {
         ensures { result ≡ held.items }
     {
         Listed { held }
+    }
+
+    /// The registries in byte order of their codes.
+    pub fn into_sorted(self) -> Items<Member>
+        ensures moved { IsPermutation self result }
+        ensures sorted { AreSorted result }
+    {
+        let Listed { mut held } = self;
+        held.sort_unstable_by_key(|member| member.code);
+        Items::from_vec(held)
     }
 }

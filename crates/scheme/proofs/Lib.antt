@@ -8,3 +8,5 @@ pub mod Free
 pub mod Lists
 pub mod Unique
 pub mod Finds
+pub mod OneAnswer
+pub mod Holders

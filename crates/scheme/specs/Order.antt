@@ -1,7 +1,8 @@
 -- What holds of the registries of every scheme.
-use Rattle.std.specs.Prelude.{◌≡◌, ◌≢◌, ℕ, ◌+◌, ◌*◌, ◌<◌, ◌≤◌, List, [], ◌∷◌, ◌++◌, length, map, IsTrue, ◌==◌}
-use Rattle.std.specs.List.{AllByRecursion, list_any}
+use Rattle.std.specs.Prelude.{◌≡◌, ◌≢◌, ℕ, ◌+◌, ◌*◌, ◌<◌, ◌≤◌, List, [], ◌∷◌, ◌++◌, length, map, IsTrue, ◌==◌, Option}
+use Rattle.std.specs.List.{AllByRecursion, list_any, find}
 use Rattle.units.specs.Apart.{Pairwise, AllApart}
+use Rattle.units.specs.Code.{same_code}
 use Rattle.units.specs.declared.block.Block.{Block}
 use Rattle.units.specs.declared.code.Code.{Code}
 use Rattle.scheme.specs.Grammar.{HasNoTwins}
@@ -56,3 +57,7 @@ AreFree members = AllByRecursion (λ fault. IsFreeOf fault members) faults_in_or
 pub record AreMembers (members : List Member) : Type 0 where
   pub free : AreFree members
   pub ordered : Pairwise (λ a b. code_rank a.code < code_rank b.code) members
+
+-- the registry of that code
+abbrev pub member : List Member → Code → Option Member
+member members code = find (λ m. same_code m.code code) members

@@ -1,17 +1,19 @@
 -- What the code that reads schemes follows; no public contract cites it.
-use Rattle.std.specs.Prelude.{◌≡◌, ℕ, ◌+◌, ◌*◌, ◌≤◌, ◌==◌, List, length, IsTrue, Option, option_and_then, Result, Ok, Err, codes}
+use Rattle.std.specs.Prelude.{◌≡◌, ℕ, ◌+◌, ◌*◌, ◌≤◌, ◌==◌, List, length, IsTrue, IsPermutation, Option, option_and_then, Result, Ok, Err, codes}
 use Rattle.std.specs.List.{AllAdjacentBelow, list_any}
 use Rattle.serde_json.specs.Data.{Data, number, unsigned}
 use Rattle.serde_json.specs.Find.{get, as_str, as_number, as_u64}
-use Rattle.scheme.specs.Grammar.{HasAt, HasList, HasNoTwins, IsKind}
+use Rattle.scheme.specs.Grammar.{HasAt, HasList, HasNoTwins, IsKind, IsWritten}
 use Rattle.units.specs.Unit.{period_index}
 use Rattle.units.specs.declared.block.Block.{Block}
 use Rattle.units.specs.declared.block.Kind.{Kind}
 use Rattle.units.specs.declared.block.Period.{Period}
 use Rattle.units.specs.declared.block.Unit.{Unit as Serial}
 use Rattle.units.specs.declared.code.Code.{Code}
-use Rattle.scheme.specs.Order.{code_rank}
+use Rattle.scheme.specs.Order.{code_rank, faults_in_order}
+use Rattle.scheme.specs.Faults.{IsFirst}
 use Rattle.scheme.specs.declared.members.Member.{Member}
+use Rattle.scheme.specs.declared.registries.Scheme.{Scheme}
 use Rattle.scheme.specs.declared.members.SchemeFault.{SchemeFault}
 use Rattle.scheme.specs.declared.members.SchemeFault.TheVariants.{NotJson, Shape, TooMany, TooFew, CodeTwice, AccountTwice, UnknownAccount, AllotmentOverlap, NoMemory}
 
@@ -70,3 +72,17 @@ from b = place (first_of b)
 
 abbrev pub to : Block → ℕ
 to b = place (last_of b)
+
+-- the value writes the scheme's registries, in whatever order
+abbrev pub IsSchemeOf : Data → Scheme → Type 0
+IsSchemeOf d s = (listed : List Member) × IsWritten d s.records listed × IsPermutation listed s.members
+
+-- why the value is no scheme
+abbrev pub HasFaultOf : Data → SchemeFault → Type 0
+HasFaultOf d fault = (records : ℕ) × (listed : List Member) × IsWritten d records listed × IsFirst faults_in_order listed fault
+
+abbrev pub IsFaultOf : Data → SchemeFault → Type 0
+IsFaultOf d NotJson = ⊥
+IsFaultOf d Shape = (records : ℕ) (listed : List Member) → IsWritten d records listed → ⊥
+IsFaultOf d NoMemory = Unit {0}
+IsFaultOf d fault = HasFaultOf d fault

@@ -46,4 +46,3 @@ list_here d key items e = found_here (get key d) items e
 -- the items of an array that was found are those that the grammar speaks of
 pub items_same : (d : Data) (key : List ℕ) (items other : Items) → Some items ≡ option_and_then as_array (get key d) → HasAt d key (array other) → items ≡ other
 items_same d key items other e at = let same : Some items ≡ Some other = e ∙ ap (option_and_then as_array) at in cc (same)
-

@@ -141,7 +141,7 @@ one_fault bytes f g p q some other = cause_one bytes f g (cause bytes f p some) 
 sound_first : (bytes : List ℕ) (s : Scheme) (f : SchemeFault) → IsSchemeText bytes s → HasFault bytes f → ⊥
 sound_first bytes s f text p =
     let free : AllByRecursion (λ g. IsFreeOf g text.listed) faults_in_order
-        = each_weaker (λ g. IsFreeOf g s.members) (λ g. IsFreeOf g text.listed) (λ g h. free_moved g s.members text.listed (IsPermutation-sym text.listed s.members text.sorted) h) faults_in_order s.sound.free in
+    = each_weaker (λ g. IsFreeOf g s.members) (λ g. IsFreeOf g text.listed) (λ g h. free_moved g s.members text.listed (IsPermutation-sym text.listed s.members text.sorted) h) faults_in_order s.sound.free in
     not_first faults_in_order text.listed f free (subst (λ ms. IsFirst faults_in_order ms f) (members_same bytes p.0 s.records p.1 text.listed p.2 text.writes) p.3)
 
 pub no_fault : (bytes : List ℕ) (s : Scheme) (f : SchemeFault) → IsSchemeText bytes s → IsFault bytes f → f ≡ NoMemory

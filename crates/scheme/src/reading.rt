@@ -58,5 +58,4 @@ impl Scheme {
 pub fn one_answer()
     ensures no_fault { (bytes : List ℕ) (s : Scheme) (f : SchemeFault) → IsSchemeText bytes s → IsFault bytes f → f ≡ NoMemory }
     ensures one_fault { (bytes : List ℕ) (f g : SchemeFault) → IsFault bytes f → IsFault bytes g → (f ≡ NoMemory → ⊥) → (g ≡ NoMemory → ⊥) → f ≡ g }
-{
-}
+{}

@@ -1,7 +1,7 @@
 -- Reading the items of an array one after the other, as a loop does.
-use Rattle.std.proofs.Common.{◌≡◌, ◌≢◌, ℕ, suc, ◌+◌, ◌<◌, ◌≤◌, List, [], ◌∷◌, ◌++◌, length, get_or, take, drop, drop-cons, refl, sym, ap, subst, ◌∙◌, arith, length-append, Bool, true, false}
+use Rattle.std.proofs.Common.{◌≡◌, ◌≢◌, ℕ, suc, ◌+◌, ◌<◌, List, [], ◌∷◌, ◌++◌, length, get_or, take, drop, drop-cons, refl, sym, ap, subst, ◌∙◌, arith, length-append, Bool, true, false}
 use Rattle.std.specs.List.{Contains}
-use Rattle.std.proofs.lemmas.List.{take_more, take_all, take-append-drop, get_or_default}
+use Rattle.std.proofs.lemmas.List.{take_more, take-append-drop, get_or_default}
 use Rattle.std.specs.List.{list_any}
 use Rattle.std.proofs.lemmas.List.Folds.{Any-from_list_any, list_any_at}
 use Rattle.std.proofs.Math.ListN.{get_or-append}
@@ -40,15 +40,6 @@ module _ {X : Type 0} (R : Data → X → Type 0) where
       → EachIs R (items_view (take i vs)) xs → R (view v) x → EachIs R (items_view (take (i + 1) vs)) (xs ++ x ∷ [])
   each_more vs i xs v x lt is each here =
       subst (λ us. EachIs R (items_view us) (xs ++ x ∷ [])) (sym (take_more vs i v lt ∙ ap (λ u. take i vs ++ u ∷ []) (sym is))) (each_push (take i vs) xs v x each here)
-
-  pub each_done : (vs : List Value) (i : ℕ) (xs : List X) → length vs ≤ i → EachIs R (items_view (take i vs)) xs → EachIs R (items_view vs) xs
-  each_done vs i xs le each = subst (λ us. EachIs R (items_view us) xs) (take_all i vs le) each
-
-  pub each_length : (vs : List Value) (xs : List X) → EachIs R (items_view vs) xs → length xs ≡ length vs
-  each_length [] [] each = refl
-  each_length [] (x ∷ xs) each = absurd each
-  each_length (v ∷ vs) [] each = absurd each
-  each_length (v ∷ vs) (x ∷ xs) each = ap suc (each_length vs xs each.1)
 
   -- the element that the item at i writes, and those before it
   pub record Met (us : List Value) (v : Value) (ys : List X) : Type 0 where

@@ -1,5 +1,5 @@
 -- The orders of codes and of units as orders of numbers, and which units a block has.
-use Rattle.std.proofs.Common.{◌≡◌, ℕ, ◌+◌, ◌*◌, ◌<◌, ◌≤◌, ◌⊎◌, inl, inr, Bool, true, false, true≢false, ◌&&◌, nat_le, refl, sym, arith, subst, eqb, leb, ◌∙◌}
+use Rattle.std.proofs.Common.{◌≡◌, ℕ, ◌<◌, ◌≤◌, ◌⊎◌, inl, inr, Bool, true, false, true≢false, ◌&&◌, nat_le, refl, sym, arith, subst, eqb, leb, ◌∙◌}
 use Rattle.std.specs.declared.cmp.Ordering.{Ordering}
 use Rattle.std.specs.declared.cmp.Ordering.TheVariants.{Less, Equal, Greater}
 use Rattle.std.specs.Ordering.{nat_cmp, ordering_then, is_lt}
@@ -17,7 +17,7 @@ use Rattle.units.specs.declared.block.Period.{Period}
 use Rattle.units.specs.declared.block.Period.TheVariants.{First, Second}
 use Rattle.units.specs.declared.block.Unit.{Unit as Serial}
 use Rattle.scheme.specs.Order.{code_rank}
-use Rattle.scheme.specs.Reading.{line, place, first_of, last_of, from, to}
+use Rattle.scheme.specs.Reading.{line, place, first_of, from, to}
 
 -- ---- comparisons
 

@@ -1,7 +1,7 @@
 -- What the tests for faults tell.
-use Rattle.std.proofs.Common.{◌≡◌, ◌≢◌, ◌==◌, inl, inr, ℕ, ◌+◌, ◌-◌, ◌<◌, ◌≤◌, Bool, true, false, true≢false, eqb, List, [], ◌∷◌, ◌++◌, length, get_or, take, map, refl, sym, ap, subst, ◌∙◌, arith, Result, Ok, Err, Ordering, nat_cmp}
+use Rattle.std.proofs.Common.{◌≡◌, ◌≢◌, ◌==◌, inl, inr, ℕ, ◌+◌, ◌-◌, ◌<◌, ◌≤◌, Bool, true, false, true≢false, List, [], ◌∷◌, ◌++◌, length, get_or, take, map, refl, sym, ap, subst, ◌∙◌, arith, Result, Ok, Err, Ordering, nat_cmp}
 use Rattle.std.specs.Prelude.{IsPermutation, IsTrue}
-use Rattle.std.specs.List.{AllByRecursion, AllAdjacentBelow, list_any}
+use Rattle.std.specs.List.{AllByRecursion, AllAdjacentBelow}
 use Rattle.std.specs.List.Sorted.{IsNonDecreasing, IsBinarySearchResult, IsSortedByKey}
 use Rattle.std.specs.Fn.{Called, ComputesKey}
 use Rattle.std.specs.Result.{is_err}

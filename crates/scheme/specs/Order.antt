@@ -1,5 +1,5 @@
 -- What holds of the registries of every scheme.
-use Rattle.std.specs.Prelude.{◌≡◌, ◌≢◌, ℕ, ◌+◌, ◌*◌, ◌<◌, ◌≤◌, List, [], ◌∷◌, ◌++◌, length, map, IsTrue, ◌==◌, Option}
+use Rattle.std.specs.Prelude.{ℕ, ◌+◌, ◌*◌, ◌<◌, ◌≤◌, List, [], ◌∷◌, ◌++◌, length, map, IsTrue, ◌==◌, Option}
 use Rattle.std.specs.List.{AllByRecursion, list_any, find}
 use Rattle.units.specs.Apart.{Pairwise, AllApart}
 use Rattle.units.specs.Code.{same_code}
@@ -9,7 +9,7 @@ use Rattle.scheme.specs.Grammar.{HasNoTwins}
 use Rattle.scheme.specs.declared.members.Allotment.{Allotment}
 use Rattle.scheme.specs.declared.members.Member.{Member}
 use Rattle.scheme.specs.declared.members.SchemeFault.{SchemeFault}
-use Rattle.scheme.specs.declared.members.SchemeFault.TheVariants.{NotJson, Shape, TooMany, TooFew, CodeTwice, AccountTwice, UnknownAccount, AllotmentOverlap, NoMemory}
+use Rattle.scheme.specs.declared.members.SchemeFault.TheVariants.{TooMany, TooFew, CodeTwice, AccountTwice, UnknownAccount, AllotmentOverlap}
 
 -- the blocks of some allotments, in their order
 abbrev pub blocks_of : List Allotment → List Block

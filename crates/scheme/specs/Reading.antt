@@ -1,5 +1,5 @@
 -- What the code that reads schemes follows; no public contract cites it.
-use Rattle.std.specs.Prelude.{◌≡◌, ℕ, ◌+◌, ◌*◌, ◌≤◌, ◌==◌, List, length, IsTrue, IsPermutation, Option, option_and_then, Result, Ok, Err, codes}
+use Rattle.std.specs.Prelude.{ℕ, ◌+◌, ◌*◌, ◌≤◌, ◌==◌, List, length, IsTrue, IsPermutation, Option, option_and_then, Result, Ok, Err, codes}
 use Rattle.std.specs.List.{AllAdjacentBelow, list_any}
 use Rattle.serde_json.specs.Data.{Data, number, unsigned}
 use Rattle.serde_json.specs.Find.{get, as_str, as_number, as_u64}

@@ -29,18 +29,19 @@ fn scheme(alloc: Global, value: &Value) -> Result<Scheme, SchemeFault>
 }
 
 impl Scheme {
-    /// The scheme that a text writes, or the first of the faults of `SchemeFault` that it has, in
-    /// the order in which they stand there.
+    /// The scheme that a text writes, or the first of these faults that it has:
     ///
-    /// | `NotJson` | the text is no JSON in UTF-8 |
-    /// | `Shape` | its JSON value has a key or a value outside the grammar, or lacks one |
-    /// | `TooMany` | more than 32 registries, 1,000 accounts in one, or 10,000 blocks in all |
-    /// | `TooFew` | fewer than two registries |
-    /// | `CodeTwice` | two registries have one code |
-    /// | `AccountTwice` | an account stands twice in its registry |
-    /// | `UnknownAccount` | an allotment is to an account that its registry doesn't have |
-    /// | `AllotmentOverlap` | a unit is in two blocks, of whatever kinds |
-    /// | `NoMemory` | an allocation was refused: it says nothing of the text |
+    /// - `NotJson`: the text is no JSON in UTF-8.
+    /// - `Shape`: its JSON value has a key or a value outside the grammar, or lacks one.
+    /// - `TooMany`: it has more than 32 registries, 1,000 accounts in one, or 10,000 blocks in all.
+    /// - `TooFew`: it has fewer than two registries.
+    /// - `CodeTwice`: two registries have one code.
+    /// - `AccountTwice`: an account stands twice in its registry.
+    /// - `UnknownAccount`: an allotment, be it of no units, is to an account that its registry
+    ///   doesn't have.
+    /// - `AllotmentOverlap`: a unit is in two blocks, of whatever kinds.
+    ///
+    /// `NoMemory`: an allocation was refused, which says nothing of the text.
     pub fn read(alloc: Global, bytes: &[u8]) -> Result<Scheme, SchemeFault>
         ensures ok { IfOk result (λ s. IsSchemeText bytes.now s) }
         ensures only { IfOk result (λ s. (t : Scheme) → IsSchemeText bytes.now t → t ≡ s) }

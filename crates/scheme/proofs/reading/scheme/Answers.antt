@@ -1,7 +1,4 @@
-use Rattle.std.proofs.Common.{sym, subst}
 use Rattle.serde_json.specs.View.{view}
-use Rattle.scheme.specs.Order.{faults_in_order}
-use Rattle.scheme.specs.Faults.{IsFirst}
 use Rattle.scheme.proofs.OneAnswer.{fault_told, fault_of_sorted}
 use Rattle.scheme.proofs.reading.scheme.Goals as goal
 

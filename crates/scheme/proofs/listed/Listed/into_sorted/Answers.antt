@@ -1,4 +1,4 @@
-use Rattle.std.proofs.Common.{◌+◌, ◌≤◌, ◌<◌, get_or, length, rules, arith, subst, sym}
+use Rattle.std.proofs.Common.{◌+◌, get_or, rules, arith, subst, sym}
 use Rattle.units.specs.contracts.code.CodeOrd.TheImpl.{cmp-value as code-order}
 use Rattle.scheme.specs.Reading.{AreSorted}
 use Rattle.scheme.specs.declared.members.Member.{Member}

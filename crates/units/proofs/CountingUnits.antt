@@ -13,12 +13,10 @@ use Rattle.units.specs.Facts.{IsRange, last_unit}
 use Rattle.units.specs.Intervals.{has, AreKept, numbered, Marks, put_units, size, marks_of}
 use Rattle.units.specs.Keys.{unit_cmp}
 use Rattle.units.specs.Unit.{same_period}
-use Rattle.units.specs.declared.block.Period.{Period}
-use Rattle.units.specs.declared.block.Period.TheVariants.{First, Second}
 use Rattle.units.specs.declared.block.Unit.{Unit as Serial}
 use Rattle.units.specs.declared.interval.Interval.{Interval}
 use Rattle.units.proofs.Marks.{get-put_units, get-marks_of}
-use Rattle.units.proofs.OrderingUnits.{index, index_rises, index_bound}
+use Rattle.units.proofs.OrderingUnits.{index, index_rises, index_bound, same_period-refl}
 use Rattle.units.proofs.Same.{same_code-refl}
 use Rattle.units.proofs.UnitKeys.{units_total}
 
@@ -86,10 +84,6 @@ few (e ∷ es) sorted small = let r = room e es sorted small in omega arith
 -- an empty map has no entries
 no_entries : {K : Type 0} (R : K → K → Ordering) (X : Type 0) → entries (empty {X = X} {R = R}) ≡ []
 no_entries R X = no_length (entries (empty {X = X} {R = R})) (sym (len-entries (empty {X = X} {R = R})) ∙ len-empty R X)
-
-same_period-refl : (p : Period) → same_period p p ≡ true
-same_period-refl First = refl
-same_period-refl Second = refl
 
 -- the unit behind the first n is none of them
 behind : (o p a : Bool) (x y : ℕ) → y ≤ x → (o && (p && (a && ltb x y))) ≡ false

@@ -23,21 +23,12 @@ period_of_same First Second h = absurd (false≢true h)
 period_of_same Second First h = absurd (false≢true h)
 period_of_same Second Second h = refl
 
-pub same_period-refl : (p : Period) → same_period p p ≡ true
-same_period-refl First = refl
-same_period-refl Second = refl
-
 module _ {M : Type 0} where
   pub next_means : (a b : Interval M) → is_next a b ≡ true → (a.origin ≡ b.origin) × (a.period ≡ b.period) × (a.last + 1 ≡ b.first)
   next_means a b h =
       let c = and_parts (same_code a.origin b.origin) _ h in
       let p = and_parts (same_period a.period b.period) _ c.1 in
       (code_of_same a.origin b.origin c.0, period_of_same a.period b.period p.0, eqb-true (a.last + 1) b.first p.1)
-
-  pub next_from : (a b : Interval M) → a.origin ≡ b.origin → a.period ≡ b.period → a.last + 1 ≡ b.first → is_next a b ≡ true
-  next_from a b o p n =
-      and_from _ _ (ap (same_code a.origin) (sym o) ∙ same_code-refl a.origin)
-      (and_from _ _ (ap (same_period a.period) (sym p) ∙ same_period-refl a.period) (eq-eqb (a.last + 1) b.first n))
 
 -- ---- the last of a list
 

@@ -20,8 +20,8 @@ use Rattle.units.specs.Keys.{unit_cmp}
 use Rattle.units.specs.Unit.{same_period, period_index}
 use Rattle.units.specs.declared.block.Unit.{Unit as Serial}
 use Rattle.units.specs.declared.interval.Interval.{Interval}
-use Rattle.units.proofs.OrderingJoins.{AreOrdered, Joins, joins_more, same_period-refl}
-use Rattle.units.proofs.OrderingUnits.{rank, index, index_keeps, less_from_index, periods}
+use Rattle.units.proofs.OrderingJoins.{AreOrdered, Joins, joins_more}
+use Rattle.units.proofs.OrderingUnits.{rank, index, index_keeps, less_from_index, periods, same_period-refl}
 use Rattle.units.proofs.Same.{same_code-refl}
 
 -- ---- in how many of the intervals a unit is

@@ -1,18 +1,21 @@
 -- The order of units as the order of one number for each.
-use Rattle.std.proofs.Common.{◌≡◌, ℕ, ◌+◌, ◌*◌, ◌^◌, ◌<◌, ◌≤◌, refl, sym, arith, subst}
+use Rattle.std.proofs.Common.{◌≡◌, ℕ, ◌+◌, ◌*◌, ◌^◌, ◌<◌, ◌≤◌, true, false, refl, sym, arith, subst}
 use Rattle.std.specs.declared.cmp.Ordering.{Ordering}
 use Rattle.std.specs.declared.cmp.Ordering.TheVariants.{Less, Equal, Greater}
 use Rattle.std.specs.Ordering.{MatchOrdering, nat_cmp, ordering_then, is_lt}
 use Rattle.std.proofs.lemmas.Cmp.{ranked}
 use Rattle.std.proofs.lemmas.Bool.{true≢false}
-use Rattle.std.proofs.Common.{false}
 use Rattle.units.specs.Facts.{last_unit}
 use Rattle.units.specs.Keys.{unit_cmp}
-use Rattle.units.specs.Unit.{period_index}
+use Rattle.units.specs.Unit.{period_index, same_period}
 use Rattle.units.specs.declared.block.Period.{Period}
 use Rattle.units.specs.declared.block.Period.TheVariants.{First, Second}
 use Rattle.units.specs.declared.block.Unit.{Unit as Serial}
 use Rattle.units.specs.declared.code.Code.{Code}
+
+pub same_period-refl : (p : Period) → same_period p p ≡ true
+same_period-refl First = refl
+same_period-refl Second = refl
 
 -- a number for the origin and the period, in their order
 abbrev pub rank : Serial → ℕ

@@ -1,14 +1,14 @@
 -- An input without a fault has none: the two definitions exclude each other.
 use Rattle.std.proofs.Common.{◌≡◌, ℕ, zero, suc, ◌+◌, ◌<◌, ◌≤◌, List, [], ◌∷◌, ◌++◌, length, inl, inr, refl, sym, ap, ◌∙◌, subst, arith, Option, Some, length-append}
-use Rattle.serde_json.specs.Data.{Data}
-use Rattle.serde_json.specs.Read.{read}
 use Rattle.units.specs.Text.{IsFreeOf}
 use Rattle.units.proofs.Cuts.{cut_once, cut_not_free}
 use Rattle.world.specs.declared.event.WorldEvent.{WorldEvent}
 use Rattle.scheme.specs.declared.registries.Scheme.{Scheme}
-use Rattle.world.specs.SchemeText.{IsScheme, IsSchemeText}
+use Rattle.scheme.specs.Text.{IsSchemeText}
+use Rattle.scheme.proofs.OneAnswer.{no_fault as no_scheme_fault}
+use Rattle.scheme.specs.declared.members.SchemeFault.TheVariants as scheme_fault
 use Rattle.operator.specs.declared.fault.Cause.{Cause}
-use Rattle.operator.specs.declared.fault.Cause.TheVariants.{NotJson, Shape, Order, Truncated, TooLong}
+use Rattle.operator.specs.declared.fault.Cause.TheVariants.{NotJson, Shape, TooMany, TooFew, CodeTwice, AccountTwice, UnknownAccount, AllotmentOverlap, Order, Truncated, TooLong}
 use Rattle.operator.specs.EventLines.{IsEventLine}
 use Rattle.operator.specs.Lines.{Begins, IsLine, IsLineFault, IsTooLong}
 use Rattle.operator.specs.Streams.{longest_input}
@@ -33,6 +33,12 @@ not_too_long bytes line rest room is (inr f) = line_ends bytes line rest is.begi
 line_no_fault : (bytes line rest : List ℕ) (room : ℕ) (cause : Cause) → IsLine bytes room line rest → IsLineFault bytes room cause → ⊥
 line_no_fault bytes line rest room NotJson is f = f
 line_no_fault bytes line rest room Shape is f = f
+line_no_fault bytes line rest room TooMany is f = f
+line_no_fault bytes line rest room TooFew is f = f
+line_no_fault bytes line rest room CodeTwice is f = f
+line_no_fault bytes line rest room AccountTwice is f = f
+line_no_fault bytes line rest room UnknownAccount is f = f
+line_no_fault bytes line rest room AllotmentOverlap is f = f
 line_no_fault bytes line rest room Order is f = f
 line_no_fault bytes line rest room Truncated is f = line_ends bytes line rest is.begins f.free
 line_no_fault bytes line rest room TooLong is f = not_too_long bytes line rest room is f
@@ -58,11 +64,14 @@ events_no_fault (e ∷ es) bytes room (suc good) cause are f =
     events_no_fault es f.1 (room_behind room f.0) good cause left f.5
 
 scheme_no_fault : (line : List ℕ) (s : Scheme) (cause : Cause) → IsSchemeText line s → IsSchemeFault line cause → ⊥
-scheme_no_fault line s NotJson is f = f is.value is.utf8 is.reads
-scheme_no_fault line s Shape is f =
-    let same : Some is.value ≡ Some f.1.0 = sym is.reads ∙ f.1.1 in
-    let value : is.value ≡ f.1.0 = cc (same) in
-    f.1.2 s (subst (λ d. IsScheme d s) value is.is)
+scheme_no_fault line s NotJson is f = let no = no_scheme_fault line s scheme_fault.NotJson is f in cc (no)
+scheme_no_fault line s Shape is f = let no = no_scheme_fault line s scheme_fault.Shape is f in cc (no)
+scheme_no_fault line s TooMany is f = let no = no_scheme_fault line s scheme_fault.TooMany is f in cc (no)
+scheme_no_fault line s TooFew is f = let no = no_scheme_fault line s scheme_fault.TooFew is f in cc (no)
+scheme_no_fault line s CodeTwice is f = let no = no_scheme_fault line s scheme_fault.CodeTwice is f in cc (no)
+scheme_no_fault line s AccountTwice is f = let no = no_scheme_fault line s scheme_fault.AccountTwice is f in cc (no)
+scheme_no_fault line s UnknownAccount is f = let no = no_scheme_fault line s scheme_fault.UnknownAccount is f in cc (no)
+scheme_no_fault line s AllotmentOverlap is f = let no = no_scheme_fault line s scheme_fault.AllotmentOverlap is f in cc (no)
 scheme_no_fault line s Order is f = f
 scheme_no_fault line s Truncated is f = f
 scheme_no_fault line s TooLong is f = f

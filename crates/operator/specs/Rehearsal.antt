@@ -1,13 +1,15 @@
 -- The input of a rehearsal: a scheme's line and event lines; and the first fault that an input has.
-use Rattle.std.specs.Prelude.{◌≡◌, ℕ, zero, suc, ◌+◌, ◌-◌, ◌<◌, ◌⊎◌, List, [], ◌∷◌, length, take, Option, Some, None, IsUtf8}
+use Rattle.std.specs.Prelude.{◌≡◌, ℕ, zero, suc, ◌+◌, ◌-◌, ◌<◌, ◌⊎◌, List, [], ◌∷◌, length, take, Option, Some, None}
 use Rattle.std.specs.Io.KnownBytes.{Appends, Keeps}
-use Rattle.serde_json.specs.Data.{Data}
-use Rattle.serde_json.specs.Read.{read}
+use Rattle.std.specs.Option.{IsSomeAnd}
 use Rattle.world.specs.declared.event.WorldEvent.{WorldEvent}
+use Rattle.scheme.specs.Faults.{IsFault}
+use Rattle.scheme.specs.Text.{IsSchemeText}
+use Rattle.scheme.specs.declared.members.SchemeFault.{SchemeFault}
+use Rattle.scheme.specs.declared.members.SchemeFault.TheVariants as scheme_fault
 use Rattle.scheme.specs.declared.registries.Scheme.{Scheme}
-use Rattle.world.specs.SchemeText.{IsScheme, IsSchemeText}
 use Rattle.operator.specs.declared.fault.Cause.{Cause}
-use Rattle.operator.specs.declared.fault.Cause.TheVariants.{NotJson, Shape, Order}
+use Rattle.operator.specs.declared.fault.Cause.TheVariants.{NotJson, Shape, TooMany, TooFew, CodeTwice, AccountTwice, UnknownAccount, AllotmentOverlap, Order}
 use Rattle.operator.specs.declared.fault.OpFault.{OpFault}
 use Rattle.operator.specs.declared.fault.OpFault.TheVariants.{Input, Read, Write, NoMemory}
 use Rattle.operator.specs.EventLines.{IsEventLine}
@@ -36,11 +38,21 @@ pub record IsRehearsal (input : List ℕ) (scheme : Scheme) (events : List World
 
 -- ---- the first fault of an input
 
--- the line is no scheme: no JSON text, or one outside the grammar of schemes
+-- the fault of a scheme that a cause names
+abbrev pub fault_of : Cause → Option SchemeFault
+fault_of NotJson = Some scheme_fault.NotJson
+fault_of Shape = Some scheme_fault.Shape
+fault_of TooMany = Some scheme_fault.TooMany
+fault_of TooFew = Some scheme_fault.TooFew
+fault_of CodeTwice = Some scheme_fault.CodeTwice
+fault_of AccountTwice = Some scheme_fault.AccountTwice
+fault_of UnknownAccount = Some scheme_fault.UnknownAccount
+fault_of AllotmentOverlap = Some scheme_fault.AllotmentOverlap
+fault_of _ = None
+
+-- the line is no scheme, for that cause
 abbrev pub IsSchemeFault : List ℕ → Cause → Type 0
-IsSchemeFault line NotJson = (d : Data) → IsUtf8 line → read line ≡ Some d → ⊥
-IsSchemeFault line Shape = IsUtf8 line × ((d : Data) × (read line ≡ Some d) × ((s : Scheme) → IsScheme d s → ⊥))
-IsSchemeFault line _ = ⊥
+IsSchemeFault line cause = IsSomeAnd (fault_of cause) (IsFault line)
 
 -- the line is no event
 pub record IsNoEvent (bytes : List ℕ) (room : ℕ) (cause : Cause) : Type 0 where

@@ -11,8 +11,20 @@ use thiserror::Error;
 pub enum Cause {
     /// The scheme's line is no JSON.
     NotJson,
-    /// The scheme's line is JSON, and no scheme.
+    /// The scheme's line is JSON with a key or a value outside the grammar of schemes.
     Shape,
+    /// The scheme has more than 32 registries, 1,000 accounts in one, or 10,000 allotted blocks.
+    TooMany,
+    /// The scheme has fewer than two registries.
+    TooFew,
+    /// Two registries of the scheme have one code.
+    CodeTwice,
+    /// An account number stands twice in one registry.
+    AccountTwice,
+    /// An allotment is to an account that its registry doesn't have.
+    UnknownAccount,
+    /// A unit is allotted twice.
+    AllotmentOverlap,
     /// The line is no event.
     Order,
     /// There is no line, or the line has no newline.
@@ -31,6 +43,12 @@ impl fmt::Display for Cause {
         match self {
             Cause::NotJson => write!(f, "not-json"),
             Cause::Shape => write!(f, "shape"),
+            Cause::TooMany => write!(f, "too-many"),
+            Cause::TooFew => write!(f, "too-few"),
+            Cause::CodeTwice => write!(f, "code-twice"),
+            Cause::AccountTwice => write!(f, "account-twice"),
+            Cause::UnknownAccount => write!(f, "unknown-account"),
+            Cause::AllotmentOverlap => write!(f, "allotment-overlap"),
             Cause::Order => write!(f, "order"),
             Cause::Truncated => write!(f, "truncated"),
             Cause::TooLong => write!(f, "too-long"),

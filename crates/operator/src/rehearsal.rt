@@ -4,7 +4,7 @@ ghost use Rattle.std.specs.Prelude.{◌≡◌, ◌<◌, ◌++◌, ℕ, List, len
 ghost use Rattle.std.specs.Io.KnownBytes.{Appends};
 ghost use Rattle.world.specs.declared.event.WorldEvent.{WorldEvent};
 ghost use Rattle.scheme.specs.declared.registries.Scheme.{Scheme};
-ghost use Rattle.world.specs.SchemeText.{IsSchemeText};
+ghost use Rattle.scheme.specs.Text.{IsSchemeText};
 ghost use Rattle.world.specs.World.{step, run, outcomes};
 ghost use Rattle.operator.specs.EventLines.{IsEventLine};
 ghost use Rattle.operator.specs.Report.{outcome_line};
@@ -17,10 +17,10 @@ use crate::fault::{Cause, OpFault};
 use crate::report::{push_outcome, push_table};
 use crate::streams::{ReadFault, read_input, write_text};
 use memchr::memchr;
+use scheme::{Scheme, SchemeFault};
 use std::alloc::Global;
 use std::io::{Read, Write};
 use units::NoMemory;
-use world::thin::{Scheme, SchemeFault};
 use world::{World, WorldEvent};
 
 /// The greatest length of a line in bytes, its newline left out.
@@ -38,6 +38,12 @@ fn scheme_of(alloc: Global, line: &[u8]) -> Result<Scheme, OpFault>
         Err(SchemeFault::NoMemory) => return Err(OpFault::NoMemory),
         Err(SchemeFault::NotJson) => Cause::NotJson,
         Err(SchemeFault::Shape) => Cause::Shape,
+        Err(SchemeFault::TooMany) => Cause::TooMany,
+        Err(SchemeFault::TooFew) => Cause::TooFew,
+        Err(SchemeFault::CodeTwice) => Cause::CodeTwice,
+        Err(SchemeFault::AccountTwice) => Cause::AccountTwice,
+        Err(SchemeFault::UnknownAccount) => Cause::UnknownAccount,
+        Err(SchemeFault::AllotmentOverlap) => Cause::AllotmentOverlap,
     };
     Err(OpFault::Input { line: 1, cause })
 }

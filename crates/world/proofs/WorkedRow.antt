@@ -37,6 +37,7 @@ use Rattle.scheme.specs.declared.registries.Scheme.{Scheme}
 use Rattle.world.specs.declared.thin.rules.Transition.{Transition}
 use Rattle.world.specs.World.{World, opening, step, run, outcomes}
 use Rattle.world.specs.Verdict.{verdict, transition}
+use Rattle.scheme.specs.Order.{AreFew, AreMembers}
 use Rattle.world.specs.History.{Place, holds, place}
 use Rattle.world.specs.Holdings.{IsHeldSo, HasSo, AreHoldings}
 use Rattle.world.specs.Stocks.{AreStocks}
@@ -79,8 +80,33 @@ nz_member = record {
   kinds = Aau ∷ Rmu ∷ Eru ∷ Cer ∷ Tcer ∷ Lcer ∷ [];
 }
 
+abbrev pub members : List Member
+members = jp_member ∷ nz_member ∷ []
+
+pub some_records : (1 ≤ 1000) × (1000 ≤ 1_000_000)
+some_records = (lit≤ tt, lit≤ tt)
+
+few : AreFew members
+few = record { registries = lit≤ tt; accounts = (lit≤ tt, (lit≤ tt, tt)); blocks = lit≤ tt }
+
+codes_differ : jp ≡ nz → ⊥
+codes_differ e = let same : ◌≡◌ {A = ℕ} 74 78 = ap (λ (c : Code). c.first) e in omega arith
+
+jp_accounts_differ : ◌≡◌ {A = ℕ} 7 8 → ⊥
+jp_accounts_differ e = omega arith
+
+nz_accounts_differ : ◌≡◌ {A = ℕ} 1 2 → ⊥
+nz_accounts_differ e = omega arith
+
+-- the codes differ, no account stands twice, each allotment is to an account, and there is one block
+pub sound : AreMembers members
+sound = record {
+  free = (few, (lit≤ tt, (((codes_differ, tt), (tt, tt)), ((((jp_accounts_differ, tt), (tt, tt)), (((nz_accounts_differ, tt), (tt, tt)), tt)), ((tt, ((refl, tt), tt)), ((tt, tt), tt))))));
+  ordered = ((lit< tt, tt), (tt, tt));
+}
+
 abbrev pub scheme : Scheme
-scheme = record { records = 1000; members = jp_member ∷ nz_member ∷ [] }
+scheme = record { records = 1000; members = members; in_range = some_records; sound = sound }
 
 -- ---- the events
 

@@ -38,9 +38,6 @@ use Rattle.world.specs.History.{Entry, Lot, transitions_of, newest, stands, lots
 
 -- ---- the scheme
 
-abbrev pub member : Scheme → Code → Option Member
-member scheme c = find (λ m. same_code m.code c) scheme.members
-
 abbrev pub has_account : Option Member → ℕ → Bool
 has_account None account = false
 has_account (Some m) account = list_any (λ a. a == account) m.accounts

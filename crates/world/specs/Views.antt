@@ -47,14 +47,14 @@ held_by w (Some m) (Some st) s = holds m (live_in w (Some st)) s
 held_by w _ _ s = false
 
 abbrev pub is_held : World → Code → Serial → Bool
-is_held w c s = held_by w (member w.scheme c) (station w (Registry c)) s
+is_held w c s = held_by w (member w.scheme.members c) (station w (Registry c)) s
 
 abbrev pub spendable_by : World → Option Member → Option Station → Serial → Bool
 spendable_by w (Some m) (Some st) s = spendable m (live_in w (Some st)) s
 spendable_by w _ _ s = false
 
 abbrev pub is_spendable : World → Code → Serial → Bool
-is_spendable w c s = spendable_by w (member w.scheme c) (station w (Registry c)) s
+is_spendable w c s = spendable_by w (member w.scheme.members c) (station w (Registry c)) s
 
 -- the transition completes its transaction at the initiator, and the acquirer has not completed it
 abbrev pub owes : World → Code → Transition → Bool

@@ -27,8 +27,12 @@ impl Model for World {
     ghost use Rattle.std.specs.Prelude.{map, All};
     ghost use Rattle.world.specs.World.{World as Whole};
     ghost use Rattle.world.specs.Kept.{seen, IsKept};
+    ghost use Rattle.std.specs.Coded.{codes};
+    ghost use Rattle.scheme.specs.contracts.registries.Scheme as kept_scheme;
 
     ghost Value = { Whole };
+
+    ghost coded = { Prim.hlevel (codes, kept_scheme.the_row.coded) };
 
     ghost view = { λ w. record { scheme = w.scheme; stations = map seen w.stations.items; bag = w.bag.items } };
 

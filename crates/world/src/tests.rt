@@ -1,6 +1,6 @@
 use crate::thin::{Input, Message, Verdict, judge, status_in};
-use scheme::Scheme;
 use crate::{Debt, Holding, Outcome, World, WorldEvent};
+use scheme::Scheme;
 use status::{Moment, Status, TransactionId};
 use std::alloc::Global;
 use std::collections::VecDeque;
@@ -10,9 +10,6 @@ use units::{Block, Code, Items, NoMemory, Node, Period, Unit};
 
 const SCHEME: &str =
     r#"{"records":1000,"registries":[{"accounts":[7,8],"allotted":[],"code":"JP","eligible":true,"kinds":["AAU","CER"]},{"accounts":[1,2],"allotted":[{"account":1,"units":["NZ:1:1-100:AAU"]}],"code":"NZ","eligible":true,"kinds":["AAU","RMU","ERU","CER","tCER","lCER"]}]}"#;
-
-const NO_RECORDS: &str =
-    r#"{"records":0,"registries":[{"accounts":[7,8],"allotted":[],"code":"JP","eligible":true,"kinds":["AAU","CER"]},{"accounts":[1,2],"allotted":[{"account":1,"units":["NZ:1:1-100:AAU"]}],"code":"NZ","eligible":true,"kinds":["AAU","RMU","ERU","CER","tCER","lCER"]}]}"#;
 
 /// What a transfer of NZ's block to the account 7 of JP names.
 #[derive(Clone, Copy)]
@@ -378,4 +375,3 @@ fn one_verdict(rt: HostRuntime) -> Result<(), Fail> {
     );
     Ok(())
 }
-

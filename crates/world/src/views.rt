@@ -267,7 +267,7 @@ impl World {
         alloc: Global,
         registry: Code,
     ) -> Result<Option<Items<Holding>>, NoMemory>
-        ensures { IfOk result (HoldsIf self.now (member self.now.scheme registry)) }
+        ensures { IfOk result (HoldsIf self.now (member self.now.scheme.members registry)) }
     {
         match self.scheme.member(registry) {
             Some(member) => {

@@ -5,6 +5,14 @@ use std::io::{self, ErrorKind, Read, Write};
 const SCHEME: &str =
     r#"{"records":1000,"registries":[{"accounts":[7,8],"allotted":[],"code":"JP","eligible":true,"kinds":["AAU","CER"]},{"accounts":[1,2],"allotted":[{"account":1,"units":["NZ:1:1-100:AAU"]}],"code":"NZ","eligible":true,"kinds":["AAU","RMU","ERU","CER","tCER","lCER"]}]}"#;
 
+/// NZ alone.
+const ONE_REGISTRY: &str =
+    "{\"records\":9,\"registries\":[{\"accounts\":[],\"allotted\":[],\"code\":\"NZ\",\"eligible\":true,\"kinds\":[]}]}\n";
+
+/// Three registries, NZ with two blocks that aren't neighbours.
+const THREE: &str =
+    r#"{"records":9,"registries":[{"accounts":[1],"allotted":[{"account":1,"units":["NZ:1:1-10:AAU","NZ:1:12-20:AAU"]}],"code":"NZ","eligible":true,"kinds":["AAU"]},{"accounts":[5],"allotted":[],"code":"AU","eligible":true,"kinds":["AAU"]},{"accounts":[7],"allotted":[],"code":"JP","eligible":true,"kinds":["AAU"]}]}"#;
+
 /// From the proposal to the acceptance that JP posts.
 const ACCEPTED: &str = "propose NZ 1 JP 7 NZ:1:1-100:AAU
 commit NZ 1
@@ -113,11 +121,33 @@ fn in_transit(rt: HostRuntime) {
 }
 
 #[test]
+fn three_registries(rt: HostRuntime) {
+    let input = text_of(rt.alloc(), &[THREE, "\npropose NZ 1 AU 5 NZ:1:12-20:AAU\n"]).expect(
+        &rt,
+        "memory for a test",
+    );
+    let report = "1 recorded 0
+transaction NZ1 NZ Proposed ITL none AU none
+registry AU held 0 spendable 0
+registry JP held 0 spendable 0
+registry NZ held 19 spendable 10
+holds NZ 1 NZ:1:1-10:AAU free
+holds NZ 1 NZ:1:12-20:AAU NZ1
+owed 0
+end
+";
+    let (answer, written) = rehearsed(&rt, input.as_str());
+    assert_eq!(rt; answer, Ok(()));
+    assert_eq!(rt; written.as_slice(), report.as_bytes());
+}
+
+#[test]
 fn names_the_first_fault(rt: HostRuntime) {
-    let cases: [(&[&str], u64, Cause); 8] = [
+    let cases: [(&[&str], u64, Cause); 9] = [
         (&[], 1, Cause::Truncated),
         (&["{\n"], 1, Cause::NotJson),
         (&["{}\n"], 1, Cause::Shape),
+        (&[ONE_REGISTRY], 1, Cause::TooFew),
         (&[SCHEME], 1, Cause::Truncated),
         (&[SCHEME, "\npost NZ\n"], 2, Cause::Order),
         (&[SCHEME, "\ncommit NZ 0\n\n"], 3, Cause::Order),
@@ -214,47 +244,12 @@ fn tells_how_much_was_written(rt: HostRuntime) {
 
 #[test]
 fn fault_lines(rt: HostRuntime) {
+    let input = OpFault::Input {
+        line: 2,
+        cause: Cause::Order,
+    };
     let cases = [
-        (
-            OpFault::Input {
-                line: 1,
-                cause: Cause::NotJson,
-            },
-            "line 1: not-json",
-            3,
-        ),
-        (
-            OpFault::Input {
-                line: 1,
-                cause: Cause::Shape,
-            },
-            "line 1: shape",
-            3,
-        ),
-        (
-            OpFault::Input {
-                line: 2,
-                cause: Cause::Order,
-            },
-            "line 2: order",
-            3,
-        ),
-        (
-            OpFault::Input {
-                line: 3,
-                cause: Cause::Truncated,
-            },
-            "line 3: truncated",
-            3,
-        ),
-        (
-            OpFault::Input {
-                line: 4,
-                cause: Cause::TooLong,
-            },
-            "line 4: too-long",
-            3,
-        ),
+        (input, "line 2: order", 3),
         (OpFault::Read, "read failed", 3),
         (OpFault::Write(15), "write failed after 15 bytes", 3),
         (OpFault::NoMemory, "out of memory", 5),
@@ -267,6 +262,69 @@ fn fault_lines(rt: HostRuntime) {
             line
         );
         assert_eq!(rt; fault.status(), status);
+    }
+}
+
+#[test]
+fn words_of_causes(rt: HostRuntime) {
+    let cases = [
+        (Cause::NotJson, "not-json"),
+        (Cause::Shape, "shape"),
+        (Cause::TooMany, "too-many"),
+        (Cause::TooFew, "too-few"),
+        (Cause::CodeTwice, "code-twice"),
+        (Cause::AccountTwice, "account-twice"),
+        (Cause::UnknownAccount, "unknown-account"),
+        (Cause::AllotmentOverlap, "allotment-overlap"),
+        (Cause::Order, "order"),
+        (Cause::Truncated, "truncated"),
+        (Cause::TooLong, "too-long"),
+    ];
+    for (cause, word) in cases {
+        assert_eq!(rt;
+            format!(in rt.alloc(); "{cause}")
+                .expect(&rt, "memory for a test")
+                .as_str(),
+            word
+        );
+    }
+}
+
+/// A scheme of AU and of the registry of that code, each with the accounts, and blocks of NZ for
+/// account 1 of the second.
+fn pair(alloc: Global, code: &str, accounts: &str, units: &str) -> Result<String, AllocError> {
+    text_of(
+        alloc,
+        &[
+            r#"{"records":9,"registries":[{"accounts":[],"allotted":[],"code":"AU","eligible":true,"kinds":[]},{"accounts":["#,
+            accounts,
+            r#"],"allotted":[{"account":1,"units":["#,
+            units,
+            r#"]}],"code":""#,
+            code,
+            "\",\"eligible\":true,\"kinds\":[\"AAU\"]}]}\n",
+        ],
+    )
+}
+
+#[test]
+fn faults_of_schemes(rt: HostRuntime) {
+    let cases = [
+        ("AU", "1", r#""NZ:1:1-9:AAU""#, Cause::CodeTwice),
+        ("NZ", "1,2,1", r#""NZ:1:1-9:AAU""#, Cause::AccountTwice),
+        ("NZ", "2", "", Cause::UnknownAccount),
+        (
+            "NZ",
+            "1",
+            r#""NZ:1:1-9:AAU","NZ:1:9-10:CER""#,
+            Cause::AllotmentOverlap,
+        ),
+    ];
+    for (code, accounts, units, cause) in cases {
+        let input = pair(rt.alloc(), code, accounts, units).expect(&rt, "memory for a test");
+        let (answer, written) = rehearsed(&rt, input.as_str());
+        assert_eq!(rt; answer, Err(OpFault::Input { line: 1, cause }));
+        assert_eq!(rt; written.len(), 0);
     }
 }
 

@@ -47,3 +47,8 @@ is_free_in account lot = lot.account == account && is_none lot.reserving
 -- the kind that the first of the blocks with the unit gives it
 abbrev pub kind_in : List Block → Serial → Option Kind
 kind_in blocks unit = option_map (λ b. b.raw.kind) (find (λ b. has_unit b.raw unit) blocks)
+
+-- an account so may take part in transfers
+abbrev pub is_open : Standing → Bool
+is_open Open = true
+is_open Closed = false

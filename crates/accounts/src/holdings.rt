@@ -86,7 +86,24 @@ impl Holdings {
     pub fn is_open(&self, account: u64) -> Option<bool>
         ensures { result ≡ option_map is_open (map.get self.now.accounts account) }
     {
-        standing_of(&self.accounts, account).map(|standing| standing == Standing::Open)
+        let standing = self.standing(account)?;
+        Some(matches!(standing, Standing::Open))
+    }
+
+    // The standing of the account.
+    fn standing(&self, account: u64) -> Option<Standing>
+        ensures { result ≡ map.get self.now.accounts account }
+    {
+        standing_of(&self.accounts, account)
+    }
+
+    // Gives an account of the registry the standing.
+    fn set_standing(&mut self, account: u64, standing: Standing)
+        requires { IsSome (map.get self.old.accounts account) }
+        ensures accounts { (n : ℕ) → map.get self.new.accounts n ≡ (if n == account then Some standing else map.get self.old.accounts n) }
+        ensures lots { self.new.lots ≡ self.old.lots }
+    {
+        set_standing(&mut self.accounts, account, standing);
     }
 
     // Whether each of the block's units is in the account, with the block's kind.
@@ -209,11 +226,11 @@ impl Holdings {
         ensures refused { IfErr result (λ r. IsOpenRefusal self.old account r.code) }
         ensures err { OnErr result (self.new ≡ self.old) }
     {
-        match standing_of(&self.accounts, account) {
+        match self.standing(account) {
             None => Err(Refusal { code: 110 }),
             Some(Standing::Open) => Err(Refusal { code: 111 }),
             Some(Standing::Closed) => {
-                set_standing(&mut self.accounts, account, Standing::Open);
+                self.set_standing(account, Standing::Open);
                 Ok(())
             }
         }
@@ -227,14 +244,14 @@ impl Holdings {
         ensures refused { IfErr result (λ r. IsCloseRefusal self.old account r.code) }
         ensures err { OnErr result (self.new ≡ self.old) }
     {
-        match standing_of(&self.accounts, account) {
+        match self.standing(account) {
             None => Err(Refusal { code: 110 }),
             Some(Standing::Closed) => Err(Refusal { code: 111 }),
             Some(Standing::Open) => {
                 if self.lots.has_mark(|lot| lot.account == account) {
                     return Err(Refusal { code: 112 });
                 }
-                set_standing(&mut self.accounts, account, Standing::Closed);
+                self.set_standing(account, Standing::Closed);
                 Ok(())
             }
         }

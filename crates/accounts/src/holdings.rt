@@ -257,11 +257,19 @@ impl Holdings {
         }
     }
 
+    // Whether one of the block's units is held.
+    fn holds_some_of(&self, block: &Block) -> bool
+        ensures some { OnTrue result ((s : Serial) × IsTrue (has_unit block.now.raw s) × IsSome (map.get self.now.lots s)) }
+        ensures none { OnFalse result ((s : Serial) → IsTrue (has_unit block.now.raw s) → map.get self.now.lots s ≡ None) }
+    {
+        !self.lots.has_none_of(block)
+    }
+
     /// Whether one of the blocks' units is held. Takes no memory.
     pub fn holds_any(&self, blocks: &[Block]) -> bool
         ensures some { OnTrue result ((s : Serial) × IsTrue (covers blocks.now s) × IsSome (map.get self.now.lots s)) }
         ensures none { OnFalse result ((s : Serial) → IsTrue (covers blocks.now s) → map.get self.now.lots s ≡ None) }
     {
-        blocks.iter().any(|block| !self.lots.has_none_of(block))
+        blocks.iter().any(|block| self.holds_some_of(block))
     }
 }

@@ -5,7 +5,7 @@ use Rattle.serde_json.specs.Read.{read}
 use Rattle.units.specs.Text.{IsFreeOf}
 use Rattle.units.proofs.Cuts.{cut_once, cut_not_free}
 use Rattle.world.specs.declared.event.WorldEvent.{WorldEvent}
-use Rattle.world.specs.declared.thin.registries.Scheme.{Scheme}
+use Rattle.scheme.specs.declared.registries.Scheme.{Scheme}
 use Rattle.world.specs.SchemeText.{IsScheme, IsSchemeText}
 use Rattle.operator.specs.declared.fault.Cause.{Cause}
 use Rattle.operator.specs.declared.fault.Cause.TheVariants.{NotJson, Shape, Order, Truncated, TooLong}

@@ -4,7 +4,7 @@ use Rattle.std.specs.Io.KnownBytes.{Appends, Keeps}
 use Rattle.serde_json.specs.Data.{Data}
 use Rattle.serde_json.specs.Read.{read}
 use Rattle.world.specs.declared.event.WorldEvent.{WorldEvent}
-use Rattle.world.specs.declared.thin.registries.Scheme.{Scheme}
+use Rattle.scheme.specs.declared.registries.Scheme.{Scheme}
 use Rattle.world.specs.SchemeText.{IsScheme, IsSchemeText}
 use Rattle.operator.specs.declared.fault.Cause.{Cause}
 use Rattle.operator.specs.declared.fault.Cause.TheVariants.{NotJson, Shape, Order}

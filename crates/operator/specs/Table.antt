@@ -4,7 +4,7 @@ use Rattle.units.specs.declared.code.Node.TheVariants.{Itl, Registry}
 use Rattle.world.specs.declared.event.Outcome.{Outcome}
 use Rattle.world.specs.declared.event.WorldEvent.{WorldEvent}
 use Rattle.world.specs.declared.table.Stock.{Stock}
-use Rattle.world.specs.declared.thin.registries.Scheme.{Scheme}
+use Rattle.scheme.specs.declared.registries.Scheme.{Scheme}
 use Rattle.world.specs.declared.thin.rules.Transition.{Transition}
 use Rattle.world.specs.World.{World, opening, run, outcomes}
 use Rattle.world.specs.Views.{status_at, transactions, due}

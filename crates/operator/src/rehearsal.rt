@@ -3,7 +3,7 @@
 ghost use Rattle.std.specs.Prelude.{◌≡◌, ◌<◌, ◌++◌, ℕ, List, length, Err, IfOk, IfErr, OnOk, string_bytes};
 ghost use Rattle.std.specs.Io.KnownBytes.{Appends};
 ghost use Rattle.world.specs.declared.event.WorldEvent.{WorldEvent};
-ghost use Rattle.world.specs.declared.thin.registries.Scheme.{Scheme};
+ghost use Rattle.scheme.specs.declared.registries.Scheme.{Scheme};
 ghost use Rattle.world.specs.SchemeText.{IsSchemeText};
 ghost use Rattle.world.specs.World.{step, run, outcomes};
 ghost use Rattle.operator.specs.EventLines.{IsEventLine};

@@ -1,5 +1,5 @@
 -- The function from units to who holds them at the start: the registry, the account, and the kind of each.
-use Rattle.std.specs.Prelude.{ℕ, List, [], ◌∷◌, Option, Some, None, option_map}
+use Rattle.std.specs.Prelude.{ℕ, List, [], ◌∷◌, Option, None, option_map}
 use Rattle.std.specs.Option.{option_or}
 use Rattle.std.specs.List.{find}
 use Rattle.units.specs.Unit.{has_unit}

@@ -6,7 +6,7 @@ use Rattle.scheme.specs.Grammar.{IsWritten}
 use Rattle.scheme.specs.Order.{IsFreeOf, faults_in_order}
 use Rattle.scheme.specs.declared.members.Member.{Member}
 use Rattle.scheme.specs.declared.members.SchemeFault.{SchemeFault}
-use Rattle.scheme.specs.declared.members.SchemeFault.TheVariants.{NotJson, Shape, TooMany, TooFew, CodeTwice, AccountTwice, UnknownAccount, AllotmentOverlap, NoMemory}
+use Rattle.scheme.specs.declared.members.SchemeFault.TheVariants.{NotJson, Shape, NoMemory}
 
 -- the fault is one of these, and the first that the registries aren't free of
 abbrev pub IsFirst : List SchemeFault → List Member → SchemeFault → Type 0

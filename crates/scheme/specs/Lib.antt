@@ -3,4 +3,5 @@ pub mod Order
 pub mod Props
 pub mod Faults
 pub mod Text
+pub mod Reading
 pub mod Allotted

@@ -1,14 +1,15 @@
 -- What holds of the registries of every scheme.
-use Rattle.std.specs.Prelude.{◌≡◌, ◌≢◌, ℕ, ◌+◌, ◌*◌, ◌<◌, ◌≤◌, List, [], ◌∷◌, ◌++◌, length, map, IsTrue, ◌==◌}
-use Rattle.std.specs.List.{AllByRecursion, list_any}
+use Rattle.std.specs.Prelude.{ℕ, ◌+◌, ◌*◌, ◌<◌, ◌≤◌, List, [], ◌∷◌, ◌++◌, length, map, IsTrue, ◌==◌, Option}
+use Rattle.std.specs.List.{AllByRecursion, list_any, find}
 use Rattle.units.specs.Apart.{Pairwise, AllApart}
+use Rattle.units.specs.Code.{same_code}
 use Rattle.units.specs.declared.block.Block.{Block}
 use Rattle.units.specs.declared.code.Code.{Code}
 use Rattle.scheme.specs.Grammar.{HasNoTwins}
 use Rattle.scheme.specs.declared.members.Allotment.{Allotment}
 use Rattle.scheme.specs.declared.members.Member.{Member}
 use Rattle.scheme.specs.declared.members.SchemeFault.{SchemeFault}
-use Rattle.scheme.specs.declared.members.SchemeFault.TheVariants.{NotJson, Shape, TooMany, TooFew, CodeTwice, AccountTwice, UnknownAccount, AllotmentOverlap, NoMemory}
+use Rattle.scheme.specs.declared.members.SchemeFault.TheVariants.{TooMany, TooFew, CodeTwice, AccountTwice, UnknownAccount, AllotmentOverlap}
 
 -- the blocks of some allotments, in their order
 abbrev pub blocks_of : List Allotment → List Block
@@ -56,3 +57,7 @@ AreFree members = AllByRecursion (λ fault. IsFreeOf fault members) faults_in_or
 pub record AreMembers (members : List Member) : Type 0 where
   pub free : AreFree members
   pub ordered : Pairwise (λ a b. code_rank a.code < code_rank b.code) members
+
+-- the registry of that code
+abbrev pub member : List Member → Code → Option Member
+member members code = find (λ m. same_code m.code code) members

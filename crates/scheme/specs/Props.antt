@@ -1,12 +1,12 @@
 -- What holds of the registries of a scheme has one proof, as a field of the scheme must.
-use Rattle.std.specs.Prelude.{◌≡◌, ◌≢◌, ℕ, ◌<◌, ◌≤◌, List, [], ◌∷◌, length, IsTrue}
+use Rattle.std.specs.Prelude.{◌≢◌, ◌<◌, ◌≤◌, List, [], ◌∷◌, length}
 use Rattle.std.specs.Coded.{×_prop, Unit-prop, le_prop}
 use Rattle.std.specs.List.{AllByRecursion, AllByRecursion-prop}
 use Rattle.std.proofs.Props.{props}
-use Rattle.units.specs.Apart.{Pairwise, AreApart, AllApart}
+use Rattle.units.specs.Apart.{Pairwise, AreApart}
 use Rattle.units.specs.declared.block.Block.{Block}
 use Rattle.scheme.specs.Grammar.{HasNoTwins}
-use Rattle.scheme.specs.Order.{AreFew, IsFreeOf, AreFree, AreMembers, all_blocks, code_rank, HasAccount, faults_in_order}
+use Rattle.scheme.specs.Order.{AreFew, IsFreeOf, AreMembers, all_blocks, code_rank, HasAccount, faults_in_order}
 use Rattle.scheme.specs.declared.members.Allotment.{Allotment}
 use Rattle.scheme.specs.declared.members.Member.{Member}
 use Rattle.scheme.specs.declared.members.SchemeFault.{SchemeFault}

@@ -1,8 +1,17 @@
 //! The scheme: the registries, their accounts, and what each account has at the start.
 #![tactic(auto)]
 
+mod copies;
+mod faults;
+mod fields;
+mod grammar;
+mod listed;
 mod members;
+mod reading;
 mod registries;
+#[cfg(test)]
+mod tests;
 
 pub use members::{Allotment, Holder, Member, SchemeFault};
+pub use reading::one_answer;
 pub use registries::Scheme;

@@ -1,5 +1,7 @@
 //! The registries of a scheme and what their accounts have at the start.
+ghost use Rattle.std.specs.Prelude.{◌≡◌};
 
+use std::alloc::{AllocError, AllocFailed};
 use thiserror::Error;
 use units::{Block, Code, Items, Kind};
 
@@ -59,4 +61,24 @@ pub enum SchemeFault {
     AllotmentOverlap,
     #[error("out of memory")]
     NoMemory,
+}
+
+impl From<AllocError> for SchemeFault {
+    ghost use Rattle.scheme.specs.declared.members.SchemeFault.TheVariants.{NoMemory};
+
+    ghost from_gives = { λ _ e. e ≡ NoMemory };
+
+    fn from(_: AllocError) -> SchemeFault {
+        SchemeFault::NoMemory
+    }
+}
+
+impl<T: Drop> From<AllocFailed<T>> for SchemeFault {
+    ghost use Rattle.scheme.specs.declared.members.SchemeFault.TheVariants.{NoMemory};
+
+    ghost from_gives = { λ _ e. e ≡ NoMemory };
+
+    fn from(_: AllocFailed<T>) -> SchemeFault {
+        SchemeFault::NoMemory
+    }
 }

@@ -1,10 +1,16 @@
 //! The scheme.
-ghost use Rattle.std.specs.Prelude.{◌≤◌};
-ghost use Rattle.scheme.specs.Order.{AreMembers};
+ghost use Rattle.std.specs.Prelude.{◌≡◌, ◌≤◌, IfOk};
+ghost use Rattle.std.specs.List.{find};
+ghost use Rattle.std.specs.Option.{option_copied};
+ghost use Rattle.units.specs.Unit.{has_unit};
+ghost use Rattle.scheme.specs.Order.{AreMembers, member};
+ghost use Rattle.scheme.specs.Allotted.{allotted, allotted_in};
 ghost use Rattle.scheme.specs.Props.{AreMembers-prop};
 
-use crate::members::Member;
-use units::Items;
+use crate::copies::copied_members;
+use crate::members::{Allotment, Holder, Member};
+use std::alloc::Global;
+use units::{Block, Code, Items, NoMemory, Unit};
 
 /// The registries, in byte order of their codes, and how many records each node's journal may have.
 #[derive(Debug, Drop)]
@@ -13,4 +19,73 @@ pub struct Scheme {
     pub members: Items<Member>,
     pub ghost in_range: { (1 ≤ records) × (records ≤ 1_000_000) },
     pub ghost sound: { AreMembers members } by { AreMembers-prop members },
+}
+
+// The block of the allotment that has the unit.
+fn block_of<'a>(allotment: &'a Allotment, unit: &Unit) -> Option<&'a Block>
+    ensures { option_copied result ≡ find (λ b. has_unit b.raw unit.now) allotment.now.units }
+{
+    allotment.units.as_slice().iter().find(|b| b.has(unit))
+}
+
+// Who holds the unit by the allotments of a registry.
+fn holder_in(code: Code, allotted: &[Allotment], unit: &Unit) -> Option<Holder>
+    ensures { result ≡ allotted_in code allotted.now unit.now }
+{
+    for allotment in allotted {
+        if let Some(block) = block_of(allotment, unit) {
+            return Some(Holder {
+                registry: code,
+                account: allotment.account,
+                kind: block.raw.kind,
+            });
+        }
+    }
+    None
+}
+
+impl Scheme {
+    /// An equal scheme, or `NoMemory`.
+    pub fn copy(&self, alloc: Global) -> Result<Scheme, NoMemory>
+        ensures { IfOk result (λ s. s ≡ self.now) }
+    {
+        Ok(Scheme {
+            records: self.records,
+            members: copied_members(alloc, self.members.as_slice())?,
+        })
+    }
+
+    /// How many records each node's journal may have.
+    pub fn records(&self) -> u64
+        ensures { result ≡ self.now.records }
+    {
+        self.records
+    }
+
+    /// The registries, in byte order of their codes.
+    pub fn registries(&self) -> &[Member]
+        ensures { result.now ≡ self.now.members }
+    {
+        self.members.as_slice()
+    }
+
+    /// The registry of that code.
+    pub fn member(&self, code: Code) -> Option<&Member>
+        ensures { option_copied result ≡ member self.now.members code }
+    {
+        self.members.as_slice().iter().find(|m| m.code == code)
+    }
+
+    /// Who holds the unit at the start.
+    pub fn allotted(&self, unit: &Unit) -> Option<Holder>
+        ensures { result ≡ allotted self.now.members unit.now }
+    {
+        for member in self.members.as_slice() {
+            let holder = holder_in(member.code, member.allotted.as_slice(), unit);
+            if holder.is_some() {
+                return holder;
+            }
+        }
+        None
+    }
 }

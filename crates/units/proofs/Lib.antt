@@ -7,3 +7,9 @@ pub mod Marks
 pub mod Cutting
 pub mod Walking
 pub mod Marking
+pub mod BlockLists
+pub mod SharedUnits
+pub mod OrderingUnits
+pub mod CountingUnits
+pub mod OrderingJoins
+pub mod OrderingMoves

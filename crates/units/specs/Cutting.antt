@@ -37,3 +37,7 @@ assigned b (Some mark) is = without b is ++ marked b mark ∷ []
 -- the interval with another mark, which the relation gives
 abbrev pub IsRemarked : {M : Type 0} → (M → M → Type 0) → Interval M → Interval M → Type 0
 IsRemarked R i j = (j ≡ record i { mark = j.mark }) × R i.mark j.mark
+
+-- one origin and period, and numbers that meet, of two blocks
+abbrev pub blocks_meet : RawBlock → RawBlock → Bool
+blocks_meet a b = meets b (marked a (tt {0}))

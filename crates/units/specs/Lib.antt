@@ -8,3 +8,4 @@ pub mod Keys
 pub mod Intervals
 pub mod Canonical
 pub mod Cutting
+pub mod Following

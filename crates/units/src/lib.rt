@@ -3,10 +3,14 @@
 #![tactic(auto)]
 
 mod block;
+mod block_set;
 mod code;
+mod counting;
 mod interval;
 mod items;
 mod memory;
+mod ordering;
+mod overlap;
 mod refusal;
 #[cfg(test)]
 mod tests;
@@ -14,10 +18,12 @@ mod text;
 mod unit_map;
 
 pub use block::{Block, BlockFault, Kind, Period, RawBlock, Unit};
+pub use block_set::BlockSet;
 pub use code::{Code, Node};
 pub use interval::{Interval, Mark};
 pub use items::Items;
 pub use memory::NoMemory;
+pub use overlap::overlaps;
 pub use refusal::Refusal;
 pub use text::{cut, number};
 pub use unit_map::UnitMap;

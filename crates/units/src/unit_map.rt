@@ -1,16 +1,19 @@
 //! A map from single units to marks.
-ghost use Rattle.std.specs.Prelude.{◌≡◌, ◌≢◌, ◌++◌, Bool, true, Some, None, Option, IsTrue, IsSome, OnOk, OnErr, IfOk, find, option_map, if◌then◌else◌};
+ghost use Rattle.std.specs.Prelude.{◌≡◌, ◌≢◌, ◌++◌, Bool, true, Some, None, Option, IsTrue, IsSome, OnOk, OnErr, IfOk, find, option_map, count_by, if◌then◌else◌};
 ghost use Rattle.std.specs.Bool.{OnTrue, OnFalse};
 ghost use Rattle.std.specs.FinMap as map;
 ghost use Rattle.std.specs.List.{list_any, AllZip};
+ghost use Rattle.units.specs.Canonical.{AreCanonical};
 ghost use Rattle.units.specs.Cutting.{meets, parts, without, assigned, IsRemarked};
 ghost use Rattle.units.specs.Intervals.{has, mark_at, AreKept, marks_that};
 ghost use Rattle.units.specs.Unit.{has_unit};
 ghost use Rattle.units.specs.declared.block.Unit.{Unit as Serial};
 
 use crate::block::{Block, Unit};
-use crate::interval::Interval;
+use crate::counting::count_where;
+use crate::interval::{Interval, Mark};
 use crate::memory::NoMemory;
+use crate::ordering::in_order;
 use std::alloc::{AllocError, Global};
 use std::marker::Model;
 
@@ -199,6 +202,14 @@ impl<M: Copy> UnitMap<M> {
         self.intervals.iter().any(|interval| test(interval.mark))
     }
 
+    /// How many units are there whose mark passes the test. Takes no memory.
+    pub fn count_where<F: Fn(M) -> bool>(&self, test: F) -> u64
+        requires { F.IsAlwaysCallable test }
+        ensures { (passes : M → Bool) → ((m : M) (r : Bool) → F.post test m r → r ≡ passes m) → result ≡ count_by (λ e. passes e.1) (map.entries self.now) }
+    {
+        count_where(&self.intervals, test)
+    }
+
     /// Gives the block's units that mark, whether they are there or not, or takes them out. After
     /// `NoMemory` nothing has changed.
     pub fn set(&mut self, block: &Block, mark: Option<M>) -> Result<(), NoMemory>
@@ -224,5 +235,17 @@ impl<M: Copy> UnitMap<M> {
         ensures { (passes : M → Bool) → ((m : M) (r : Bool) → F.post test m r → r ≡ passes m) → (u : Serial) → map.get self.new u ≡ marks_that passes (map.get self.old u) }
     {
         self.intervals.retain(|interval| test(interval.mark));
+    }
+}
+
+impl<M: Mark> UnitMap<M> {
+    /// The units as intervals in order: by the groups of their marks and then by origin, period and
+    /// number, neighbours with one mark joined. Or `NoMemory`.
+    pub fn in_order(&self) -> Result<Vec<Interval<M>>, NoMemory>
+        ensures ordered { IfOk result (λ v. AreCanonical M.group v.items) }
+        ensures kept { IfOk result (λ v. AreKept v.items) }
+        ensures same { IfOk result (λ v. (u : Serial) → mark_at v.items u ≡ map.get self.now u) }
+    {
+        Ok(in_order(*self.intervals.allocator(), &self.intervals)?)
     }
 }

@@ -7,7 +7,7 @@ use Rattle.std.proofs.Math.Seq.{drop-cons}
 use Rattle.units.specs.Unit.{has_unit}
 use Rattle.units.specs.declared.block.Block.{Block}
 use Rattle.units.specs.declared.block.Unit.{Unit as Serial}
-use Rattle.world.specs.declared.thin.registries.Allotment.{Allotment}
+use Rattle.scheme.specs.declared.members.Allotment.{Allotment}
 use Rattle.world.specs.History.{Lot, block_with}
 use Rattle.world.specs.Readings.{lot}
 

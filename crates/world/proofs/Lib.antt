@@ -6,12 +6,6 @@ pub mod Turns
 pub mod Places
 pub mod Worlds
 pub mod Opening
-pub mod SchemeUnique
-pub mod SchemeLists
-pub mod SchemeFinds
-pub mod SchemeBlocks
-pub mod SchemeOrder
-pub mod SchemeWhole
 pub mod Allotted
 pub mod Shown
 pub mod Dues

@@ -7,7 +7,7 @@ use Rattle.std.proofs.lemmas.List.Folds.{find-append}
 use Rattle.units.specs.Unit.{same_raw}
 use Rattle.units.specs.declared.block.Block.{Block}
 use Rattle.units.specs.declared.block.RawBlock.{RawBlock}
-use Rattle.world.specs.declared.thin.registries.Allotment.{Allotment}
+use Rattle.scheme.specs.declared.members.Allotment.{Allotment}
 use Rattle.world.specs.History.{Lot, lots_of}
 use Rattle.world.specs.Verdict.{lot_block}
 

@@ -2,7 +2,7 @@
 use Rattle.std.proofs.Common.{◌≡◌, ℕ, ◌+◌, ◌<◌, List, [], ◌∷◌, ◌++◌, map, take, length, get_or, sym, ap, ◌∙◌}
 use Rattle.std.proofs.lemmas.List.{map-append, take_more}
 use Rattle.units.specs.declared.code.Node.TheVariants.{Itl, Registry}
-use Rattle.world.specs.declared.thin.registries.Member.{Member}
+use Rattle.scheme.specs.declared.members.Member.{Member}
 use Rattle.world.specs.declared.nodes.Station.{Station as Kept}
 use Rattle.world.specs.World.{Station, opening_station}
 use Rattle.world.specs.Kept.{seen}

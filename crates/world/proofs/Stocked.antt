@@ -1,7 +1,7 @@
 -- The registries of a world, one more at a time.
 use Rattle.std.proofs.Common.{◌≡◌, ℕ, ◌+◌, ◌<◌, List, [], ◌∷◌, ◌++◌, take, length, get_or, sym, subst}
 use Rattle.std.proofs.lemmas.List.{take_more}
-use Rattle.world.specs.declared.thin.registries.Member.{Member}
+use Rattle.scheme.specs.declared.members.Member.{Member}
 use Rattle.world.specs.declared.table.Stock.{Stock}
 use Rattle.world.specs.World.{World}
 use Rattle.world.specs.Stocks.{HoldsNow, AreStocks}

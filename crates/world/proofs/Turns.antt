@@ -9,7 +9,7 @@ use Rattle.units.specs.declared.code.Node.{Node}
 use Rattle.world.specs.declared.event.Outcome.TheVariants.{Done}
 use Rattle.world.specs.declared.thin.messages.Input.{Input}
 use Rattle.world.specs.declared.thin.messages.Message.{Message}
-use Rattle.world.specs.declared.thin.registries.Scheme.{Scheme}
+use Rattle.scheme.specs.declared.registries.Scheme.{Scheme}
 use Rattle.world.specs.declared.thin.rules.Verdict.{Verdict}
 use Rattle.world.specs.declared.thin.rules.Verdict.TheVariants.{Enters}
 use Rattle.world.specs.declared.thin.rules.Transition.{Transition}

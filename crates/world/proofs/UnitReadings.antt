@@ -11,8 +11,8 @@ use Rattle.units.specs.declared.code.Code.{Code}
 use Rattle.status.specs.Status.{same_status}
 use Rattle.status.specs.declared.id.TransactionId.{TransactionId}
 use Rattle.status.specs.declared.words.Status.TheVariants.{Proposed, Completed}
-use Rattle.world.specs.declared.thin.registries.Allotment.{Allotment}
-use Rattle.world.specs.declared.thin.registries.Member.{Member}
+use Rattle.scheme.specs.declared.members.Allotment.{Allotment}
+use Rattle.scheme.specs.declared.members.Member.{Member}
 use Rattle.world.specs.declared.thin.rules.Transition.{Transition}
 use Rattle.world.specs.History.{Lot, lots, lot_of, completes, gives, credits, holds, stands_at, reserver, place_after, place}
 use Rattle.world.specs.Holdings.{IsHeldSo}

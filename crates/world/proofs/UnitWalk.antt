@@ -15,8 +15,8 @@ use Rattle.units.specs.declared.block.Block.{Block}
 use Rattle.units.specs.declared.block.Kind.{Kind}
 use Rattle.units.specs.declared.block.Unit.{Unit as Serial}
 use Rattle.status.specs.declared.id.TransactionId.{TransactionId}
-use Rattle.world.specs.declared.thin.registries.Allotment.{Allotment}
-use Rattle.world.specs.declared.thin.registries.Member.{Member}
+use Rattle.scheme.specs.declared.members.Allotment.{Allotment}
+use Rattle.scheme.specs.declared.members.Member.{Member}
 use Rattle.world.specs.declared.thin.rules.Transition.{Transition}
 use Rattle.world.specs.declared.table.Holding.{Holding}
 use Rattle.world.specs.Holdings.{IsHeldSo, HasSo, AreHoldings, first_unit, last_unit}

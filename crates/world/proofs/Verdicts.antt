@@ -10,14 +10,15 @@ use Rattle.status.specs.declared.words.RowInput.{RowInput}
 use Rattle.world.specs.declared.thin.messages.Content.{Content}
 use Rattle.world.specs.declared.thin.messages.Message.{Message}
 use Rattle.world.specs.declared.thin.messages.Message.TheVariants.{Proposal}
-use Rattle.world.specs.declared.thin.registries.Scheme.{Scheme}
+use Rattle.scheme.specs.declared.registries.Scheme.{Scheme}
 use Rattle.world.specs.declared.thin.rules.Transition.{Transition}
 use Rattle.world.specs.History.{Entry, transitions_of, stands}
-use Rattle.world.specs.Verdict.{member, allotted_block, may_offer, next_id, content_of, offer, propose, new_status, proposal_input, move, hear}
+use Rattle.scheme.specs.Order.{member}
+use Rattle.world.specs.Verdict.{allotted_block, may_offer, next_id, content_of, offer, propose, new_status, proposal_input, move, hear}
 
 pub proposed : (scheme : Scheme) (c : Code) (es : List Entry) (ts : List Transition) (account : ℕ) (to : Code) (to_account : ℕ) (units : List RawBlock) (raw : RawBlock) (id : Option TransactionId) (k : Option Content)
     → transitions_of es ≡ ts → units ≡ raw ∷ [] → may_offer scheme c ts raw to to_account ≡ true → id ≡ next_id c ts
-    → k ≡ option_map (content_of account to to_account) (option_and_then (λ m. allotted_block m account raw) (member scheme c))
+    → k ≡ option_map (content_of account to to_account) (option_and_then (λ m. allotted_block m account raw) (member scheme.members c))
     → propose scheme c es account to to_account units ≡ offer scheme c es id k
 proposed scheme c es ts account to to_account units raw id k same one may i is = rw (one, same, may, i, is) refl
 

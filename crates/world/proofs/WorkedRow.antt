@@ -32,8 +32,8 @@ use Rattle.world.specs.declared.thin.messages.Input.{Input}
 use Rattle.world.specs.declared.thin.messages.Input.TheVariants.{Propose, Received}
 use Rattle.world.specs.declared.thin.messages.Message.{Message}
 use Rattle.world.specs.declared.thin.messages.Message.TheVariants.{Proposal, Notification}
-use Rattle.world.specs.declared.thin.registries.Member.{Member}
-use Rattle.world.specs.declared.thin.registries.Scheme.{Scheme}
+use Rattle.scheme.specs.declared.members.Member.{Member}
+use Rattle.scheme.specs.declared.registries.Scheme.{Scheme}
 use Rattle.world.specs.declared.thin.rules.Transition.{Transition}
 use Rattle.world.specs.World.{World, opening, step, run, outcomes}
 use Rattle.world.specs.Verdict.{verdict, transition}

@@ -5,7 +5,7 @@ use Rattle.std.specs.List.{position_from}
 use Rattle.units.specs.declared.code.Node.{Node}
 use Rattle.world.specs.declared.event.Outcome.{Outcome}
 use Rattle.world.specs.declared.event.Outcome.TheVariants.{NotPossible}
-use Rattle.world.specs.declared.thin.registries.Scheme.{Scheme}
+use Rattle.scheme.specs.declared.registries.Scheme.{Scheme}
 use Rattle.status.specs.declared.moment.Moment.{Moment}
 use Rattle.world.specs.declared.thin.messages.Message.{Message}
 use Rattle.world.specs.declared.thin.messages.Input.TheVariants.{Received}

@@ -15,8 +15,8 @@ use Rattle.status.specs.declared.words.Status.{Status}
 use Rattle.status.specs.declared.words.Status.TheVariants.{Proposed, Completed}
 use Rattle.world.specs.declared.thin.messages.Input.{Input}
 use Rattle.world.specs.declared.thin.messages.Message.{Message}
-use Rattle.world.specs.declared.thin.registries.Allotment.{Allotment}
-use Rattle.world.specs.declared.thin.registries.Member.{Member}
+use Rattle.scheme.specs.declared.members.Allotment.{Allotment}
+use Rattle.scheme.specs.declared.members.Member.{Member}
 use Rattle.world.specs.declared.thin.rules.Transition.{Transition}
 
 pub record Entry : Type 0 where

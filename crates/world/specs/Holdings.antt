@@ -6,7 +6,7 @@ use Rattle.units.specs.Unit.{has_unit}
 use Rattle.units.specs.declared.block.Unit.{Unit as Serial}
 use Rattle.units.specs.declared.block.Kind.{Kind}
 use Rattle.status.specs.declared.id.TransactionId.{TransactionId}
-use Rattle.world.specs.declared.thin.registries.Member.{Member}
+use Rattle.scheme.specs.declared.members.Member.{Member}
 use Rattle.world.specs.declared.thin.rules.Transition.{Transition}
 use Rattle.world.specs.declared.table.Holding.{Holding}
 use Rattle.world.specs.History.{holds, place, reserver}

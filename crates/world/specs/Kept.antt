@@ -1,6 +1,6 @@
 -- What a node of the world keeps beside its journal, and what is seen of it.
 use Rattle.std.specs.Prelude.{◌≡◌, ◌≤◌, List, [], ◌∷◌, ◌++◌, map, take, drop, length}
-use Rattle.world.specs.declared.thin.registries.Scheme.{Scheme}
+use Rattle.scheme.specs.declared.registries.Scheme.{Scheme}
 use Rattle.world.specs.declared.nodes.Station.{Station as Kept}
 use Rattle.world.specs.declared.nodes.Outgoing.{Outgoing}
 use Rattle.world.specs.History.{Entry, transitions_of, messages_of}

@@ -6,7 +6,5 @@ pub mod Kept
 pub mod Views
 pub mod Holdings
 pub mod Stocks
-pub mod SchemeText
-pub mod SchemeReading
 pub mod Readings
 pub mod Stretches

@@ -2,10 +2,10 @@
 use Rattle.std.specs.Prelude.{◌≡◌, List, [], ◌∷◌, Option, Some, None}
 use Rattle.units.specs.declared.code.Code.{Code}
 use Rattle.units.specs.declared.code.Node.TheVariants.{Registry}
-use Rattle.world.specs.declared.thin.registries.Member.{Member}
+use Rattle.scheme.specs.declared.members.Member.{Member}
 use Rattle.world.specs.declared.table.Holding.{Holding}
 use Rattle.world.specs.declared.table.Stock.{Stock}
-use Rattle.world.specs.Verdict.{member}
+use Rattle.scheme.specs.Order.{member}
 use Rattle.world.specs.World.{World}
 use Rattle.world.specs.Views.{live}
 use Rattle.world.specs.Holdings.{AreHoldings}

@@ -28,8 +28,9 @@ use Rattle.world.specs.declared.thin.messages.Input.{Input}
 use Rattle.world.specs.declared.thin.messages.Input.TheVariants.{Propose, Received}
 use Rattle.world.specs.declared.thin.messages.Message.{Message}
 use Rattle.world.specs.declared.thin.messages.Message.TheVariants.{Proposal, Notification}
-use Rattle.world.specs.declared.thin.registries.Scheme.{Scheme}
-use Rattle.world.specs.declared.thin.registries.Member.{Member}
+use Rattle.scheme.specs.declared.registries.Scheme.{Scheme}
+use Rattle.scheme.specs.Order.{member}
+use Rattle.scheme.specs.declared.members.Member.{Member}
 use Rattle.world.specs.declared.thin.rules.Transition.{Transition}
 use Rattle.world.specs.declared.thin.rules.Verdict.{Verdict}
 use Rattle.world.specs.declared.thin.rules.Verdict.TheVariants.{Enters, Refused}
@@ -82,7 +83,7 @@ next_id c ts = id_at c (number_of (λ x. same_code x.id.code c && same_status x.
 
 -- the block may be offered, to another registry and an account of it
 abbrev pub may_offer : Scheme → Code → List Transition → RawBlock → Code → ℕ → Bool
-may_offer scheme c ts raw to to_account = not (was_proposed c ts raw) && (not (same_code to c) && has_account (member scheme to) to_account)
+may_offer scheme c ts raw to to_account = not (was_proposed c ts raw) && (not (same_code to c) && has_account (member scheme.members to) to_account)
 
 abbrev pub content_of : ℕ → Code → ℕ → Block → Content
 content_of account to to_account block = record { account = account; acquirer = to; to_account = to_account; units = block ∷ [] }
@@ -94,7 +95,7 @@ offer scheme c es _ _ = Refused 46
 abbrev pub propose : Scheme → Code → List Entry → ℕ → Code → ℕ → List RawBlock → Verdict
 propose scheme c es account to to_account (raw ∷ []) =
     cond (may_offer scheme c (transitions_of es) raw to to_account)
-    (offer scheme c es (next_id c (transitions_of es)) (option_map (content_of account to to_account) (option_and_then (λ m. allotted_block m account raw) (member scheme c))))
+    (offer scheme c es (next_id c (transitions_of es)) (option_map (content_of account to to_account) (option_and_then (λ m. allotted_block m account raw) (member scheme.members c))))
     (Refused 46)
 propose scheme c es account to to_account _ = Refused 46
 

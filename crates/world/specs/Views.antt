@@ -12,11 +12,12 @@ use Rattle.status.specs.declared.id.TransactionId.{TransactionId}
 use Rattle.status.specs.declared.words.Status.{Status}
 use Rattle.status.specs.declared.words.Status.TheVariants.{Proposed, Completed}
 use Rattle.world.specs.declared.thin.messages.Input.{Input}
-use Rattle.world.specs.declared.thin.registries.Member.{Member}
+use Rattle.scheme.specs.declared.members.Member.{Member}
 use Rattle.world.specs.declared.thin.rules.Transition.{Transition}
 use Rattle.world.specs.declared.table.Debt.{Debt}
 use Rattle.world.specs.History.{transitions_of, stands, stands_at, newest, number_of, holds, spendable}
-use Rattle.world.specs.Verdict.{history, member}
+use Rattle.scheme.specs.Order.{member}
+use Rattle.world.specs.Verdict.{history}
 use Rattle.world.specs.World.{World, Station, station, journal}
 
 -- a node's journal with its tail, and the committed part of it; of a node that isn't there none

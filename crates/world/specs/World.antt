@@ -7,7 +7,7 @@ use Rattle.status.specs.declared.moment.Moment.{Moment}
 use Rattle.world.specs.declared.thin.messages.Input.{Input}
 use Rattle.world.specs.declared.thin.messages.Input.TheVariants.{Propose, Received}
 use Rattle.world.specs.declared.thin.messages.Message.{Message}
-use Rattle.world.specs.declared.thin.registries.Scheme.{Scheme}
+use Rattle.scheme.specs.declared.registries.Scheme.{Scheme}
 use Rattle.world.specs.declared.thin.rules.Verdict.{Verdict}
 use Rattle.world.specs.declared.thin.rules.Verdict.TheVariants.{Enters, Repeat as IsRepeat, Late as IsLate, Refused as IsRefused}
 use Rattle.world.specs.declared.event.WorldEvent.{WorldEvent}

@@ -8,7 +8,8 @@ ghost use Rattle.world.specs.Kept.{seen, IsKept};
 
 use crate::event::{Outcome, WorldEvent};
 use crate::nodes::{Posted, Station};
-use crate::thin::{Input, Message, Scheme};
+use crate::thin::{Input, Message};
+use scheme::Scheme;
 use status::Moment;
 use std::alloc::Global;
 use std::marker::Model;

@@ -1,13 +1,14 @@
 //! One node of a world: its journal, of which a part is committed, and what it keeps of it.
 ghost use Rattle.std.specs.Prelude.{◌≡◌, ◌≤◌, IfOk, OnErr, length, slice_get};
 ghost use Rattle.std.specs.Option.{option_copied};
-ghost use Rattle.world.specs.declared.thin.registries.Scheme.{Scheme};
+ghost use Rattle.scheme.specs.declared.registries.Scheme.{Scheme};
 ghost use Rattle.world.specs.Verdict.{verdict, history};
 ghost use Rattle.world.specs.World.{opening_station, take_input, commit, sent, answered};
 ghost use Rattle.world.specs.Kept.{seen, IsKept};
 
 use crate::event::Outcome;
-use crate::thin::{Input, Message, Scheme, Transition, Verdict, judge};
+use crate::thin::{Input, Message, Transition, Verdict, judge};
+use scheme::Scheme;
 use std::alloc::Global;
 use std::collections::VecDeque;
 use units::{NoMemory, Node};

@@ -14,7 +14,8 @@ ghost use Rattle.world.specs.Holdings.{IsHeldSo, GoesOn, AreInOrder, AreHoldings
 ghost use Rattle.world.specs.Readings.{lot, place_at};
 ghost use Rattle.world.specs.Stretches.{IsBelow, IsUpTo, ends_in, allotted_ends, moved_ends, AllKnown, HasEnds, IsWhole, IsBetween, IsStretch, IsNoStretch, AreSoFar, StandAlike, Follow, IsJoined, IsPlace, IsAdded};
 
-use crate::thin::{Allotment, Member, Transition, status_in};
+use crate::thin::{Transition, status_in};
+use scheme::{Allotment, Member};
 use status::{Status, TransactionId};
 use std::alloc::Global;
 use std::collections::VecDeque;

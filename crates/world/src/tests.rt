@@ -1,4 +1,5 @@
-use crate::thin::{Input, Message, Scheme, SchemeFault, Verdict, judge, status_in};
+use crate::thin::{Input, Message, Verdict, judge, status_in};
+use scheme::Scheme;
 use crate::{Debt, Holding, Outcome, World, WorldEvent};
 use status::{Moment, Status, TransactionId};
 use std::alloc::Global;
@@ -378,21 +379,3 @@ fn one_verdict(rt: HostRuntime) -> Result<(), Fail> {
     Ok(())
 }
 
-#[test]
-fn refused_schemes(rt: HostRuntime) -> Result<(), Fail> {
-    for (text, fault) in [
-        ("{", SchemeFault::NotJson),
-        ("{}", SchemeFault::Shape),
-        (NO_RECORDS, SchemeFault::Shape),
-    ] {
-        let answer = Scheme::read(rt.alloc(), text.as_bytes());
-        assert!(rt; answer.is_err());
-        if let Err(found) = answer {
-            if found == SchemeFault::NoMemory {
-                return Err(found.into());
-            }
-            assert_eq!(rt; found, fault);
-        }
-    }
-    Ok(())
-}

@@ -6,7 +6,7 @@ ghost use Rattle.units.specs.Unit.{covers};
 ghost use Rattle.status.specs.Status.{same_status};
 ghost use Rattle.world.specs.History.{spendable, is_status};
 ghost use Rattle.world.specs.World.{station};
-ghost use Rattle.world.specs.Verdict.{member};
+ghost use Rattle.scheme.specs.Order.{member};
 ghost use Rattle.world.specs.Kept.{seen, IsKept};
 ghost use Rattle.world.specs.Stocks.{HoldsNow, HoldsIf, AreStocks};
 ghost use Rattle.world.specs.Views.{journal_of, committed_of, live, status_at, is_held, is_spendable, owes, owed, parties, proposals, proposes, transactions, debt_of, due};
@@ -14,7 +14,8 @@ ghost use Rattle.world.specs.Views.{journal_of, committed_of, live, status_at, i
 use crate::bag::{World, place_of};
 use crate::nodes::{Posted, Station};
 use crate::table::{Debt, Holding, Stock, covers, holdings_of, is_held, reserving};
-use crate::thin::{Input, Member, Scheme, Transition, is_proposal, newest, status_in};
+use crate::thin::{Input, Transition, is_proposal, newest, status_in};
+use scheme::{Member, Scheme};
 use status::{Status, TransactionId};
 use std::alloc::{AllocError, Global};
 use std::collections::VecDeque;

@@ -9,10 +9,11 @@ ghost use Rattle.units.specs.Unit.{same_raw};
 ghost use Rattle.status.specs.Status.{same_status};
 ghost use Rattle.world.specs.declared.thin.rules.Transition.{Transition};
 ghost use Rattle.world.specs.History.{Entry, transitions_of, newest, stands, lots_of, number_of};
-ghost use Rattle.world.specs.Verdict.{member, has_account, message_on, transition, enters, lot_block, allotted_block, was_proposed, next_id, may_offer, content_of, offer, propose, role_at, known, new_status, proposal_input, notice_input, move, hear, verdict};
+ghost use Rattle.scheme.specs.Order.{member};
+ghost use Rattle.world.specs.Verdict.{has_account, message_on, transition, enters, lot_block, allotted_block, was_proposed, next_id, may_offer, content_of, offer, propose, role_at, known, new_status, proposal_input, notice_input, move, hear, verdict};
 
 use crate::thin::messages::{Content, Input, Message};
-use crate::thin::registries::{Allotment, Member, Scheme};
+use scheme::{Allotment, Member, Scheme};
 use status::{Known, Role, Row, RowInput, Status, TransactionId, row};
 use std::alloc::Global;
 use std::collections::VecDeque;
@@ -225,7 +226,7 @@ fn was_proposed(transitions: &VecDeque<Transition>, code: Code, raw: &RawBlock) 
 }
 
 fn has_account(scheme: &Scheme, code: Code, account: u64) -> bool
-    ensures { result ≡ has_account (member scheme.now code) account }
+    ensures { result ≡ has_account (member scheme.now.members code) account }
 {
     match scheme.member(code) {
         Some(member) => member.accounts.as_slice().contains(&account),
@@ -280,7 +281,7 @@ fn offered(
     acquirer: Code,
     to_account: u64,
 ) -> Result<Option<Content>, NoMemory>
-    ensures { IfOk result (λ o. o ≡ option_map (content_of account acquirer to_account) (option_and_then (λ m. allotted_block m account raw.now) (member scheme.now code))) }
+    ensures { IfOk result (λ o. o ≡ option_map (content_of account acquirer to_account) (option_and_then (λ m. allotted_block m account raw.now) (member scheme.now.members code))) }
 {
     let Some(member) = scheme.member(code) else {
         return Ok(None);

@@ -1,0 +1,12 @@
+pub mod Pairs
+pub mod Moves
+pub mod Climbs
+pub mod Blocks
+pub mod Ranks
+pub mod Told
+pub mod Free
+pub mod Lists
+pub mod Unique
+pub mod Finds
+pub mod OneAnswer
+pub mod Holders

@@ -1,0 +1,18 @@
+use Rattle.std.proofs.Common.{codes}
+use Rattle.serde_json.specs.View.{view}
+use Rattle.scheme.specs.Grammar.{HasList, IsBlock, IsAllotment}
+use Rattle.scheme.specs.Reading.{IsCount}
+use Rattle.scheme.proofs.Finds.{lacks_too}
+use Rattle.scheme.proofs.grammar.allotment.Goals as goal
+
+pub returns-in_err-account : goal.returns-in_err-account
+returns-in_err-account c =
+    let d = view c.args.value.now in
+    lacks_too (IsCount (codes "account") 999_999_999 d) (IsAllotment d) c.in_err-account.field-0.0 c.from_residual.result c.from_residual.ensures.1
+    (λ a is. (a.account, (is.account, is.from_one, is.to_last))) c.in_err-account.ensures
+
+pub returns-in_err-units : goal.returns-in_err-units
+returns-in_err-units c =
+    let d = view c.args.value.now in
+    lacks_too (HasList IsBlock d (codes "units")) (IsAllotment d) c.in_err-units.field-0.0 c.from_residual-in_err-units.result c.from_residual-in_err-units.ensures.1 (λ a is. (a.units, is.units))
+    c.in_err-units.ensures

@@ -1,0 +1,7 @@
+use Rattle.std.proofs.Common.{take}
+use Rattle.serde_json.specs.View.{items_view}
+use Rattle.scheme.specs.Grammar.{EachIs, IsAccount}
+use Rattle.scheme.proofs.grammar.each_account.Given as goal
+
+abbrev pub invariant-loop-value : goal.invariant-loop-value
+invariant-loop-value l = EachIs IsAccount (items_view (take l.value-index l.values)) l.accounts.items

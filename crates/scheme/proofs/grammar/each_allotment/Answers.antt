@@ -1,0 +1,17 @@
+use Rattle.scheme.specs.Grammar.{EachIs, IsAllotment}
+use Rattle.scheme.proofs.Lists.{each_more, met_at}
+use Rattle.scheme.proofs.Finds.{lacks_too}
+use Rattle.serde_json.specs.View.{view, items_view}
+use Rattle.scheme.proofs.grammar.each_allotment.Goals as goal
+
+pub returns-in_err-allotment : goal.returns-in_err-allotment
+returns-in_err-allotment c =
+    lacks_too (IsAllotment (view c.value-item.result)) (EachIs IsAllotment (items_view c.args.values.now)) c.in_err-allotment.field-0.0 c.from_residual.result c.from_residual.ensures.1
+    (λ ys each. let m = met_at IsAllotment c.args.values.now c.loop-value.value-index c.value-item.result ys c.loop-value-test.true c.value-item.is each in (m.here, m.is))
+    c.in_err-allotment.ensures
+
+pub loop-value-preserved : goal.loop-value-preserved
+loop-value-preserved c =
+    rw c.in_ok-push.ensures.items
+    (each_more IsAllotment c.args.values.now c.loop-value.value-index c.loop-value.allotted.items c.value-item.result c.in_ok-allotment.allotment c.loop-value-test.true c.value-item.is c.loop-value.invariant
+    c.in_ok-allotment.ensures)

@@ -1,0 +1,7 @@
+use Rattle.std.proofs.Common.{take}
+use Rattle.serde_json.specs.View.{items_view}
+use Rattle.scheme.specs.Grammar.{EachIs, IsMember}
+use Rattle.scheme.proofs.grammar.each_member.Given as goal
+
+abbrev pub invariant-loop-value : goal.invariant-loop-value
+invariant-loop-value l = EachIs IsMember (items_view (take l.value-index l.values)) l.members.items

@@ -1,0 +1,18 @@
+use Rattle.std.proofs.Common.{codes}
+use Rattle.serde_json.specs.View.{view}
+use Rattle.scheme.specs.Grammar.{HasList, IsMember, IsWritten}
+use Rattle.scheme.specs.Reading.{IsCount}
+use Rattle.scheme.proofs.Finds.{lacks_too}
+use Rattle.scheme.proofs.grammar.written.Goals as goal
+
+pub returns-in_err-records : goal.returns-in_err-records
+returns-in_err-records c =
+    let d = view c.args.value.now in
+    lacks_too (IsCount (codes "records") 1_000_000 d) (λ p. IsWritten d p.0 p.1) c.in_err-records.field-0.0 c.from_residual.result c.from_residual.ensures.1
+    (λ p is. (p.0, (is.records_at, is.some_records, is.few_records))) c.in_err-records.ensures
+
+pub returns-in_err-members : goal.returns-in_err-members
+returns-in_err-members c =
+    let d = view c.args.value.now in
+    lacks_too (HasList IsMember d (codes "registries")) (λ p. IsWritten d p.0 p.1) c.in_err-members.field-0.0 c.from_residual-in_err-members.result c.from_residual-in_err-members.ensures.1
+    (λ p is. (p.1, is.registries)) c.in_err-members.ensures

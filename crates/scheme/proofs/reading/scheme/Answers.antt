@@ -1,0 +1,13 @@
+use Rattle.serde_json.specs.View.{view}
+use Rattle.scheme.proofs.OneAnswer.{fault_told, fault_of_sorted}
+use Rattle.scheme.proofs.reading.scheme.Goals as goal
+
+pub returns-in_err-records-clause-fault : goal.returns-in_err-records-clause-fault
+returns-in_err-records-clause-fault c =
+    fault_told (view c.args.value.now) c.in_err-records.field-0.0 c.from_residual.result c.from_residual.ensures.1 c.in_err-records.ensures
+
+pub returns-in-Some-clause-fault : goal.returns-in-Some-clause-fault
+returns-in-Some-clause-fault c =
+    let p = c.in_ok-records in
+    let first = rw c.in-Some.is at c.in_ok-fault.ensures.some in
+    fault_of_sorted (view c.args.value.now) p.records p.listed c.as_slice.result.now c.in-Some.fault p.ensures (rw c.as_slice.ensures c.into_sorted-members.ensures.moved) first

@@ -1,0 +1,200 @@
+//! The faults of registries, in the order in which they are looked for.
+ghost use Rattle.std.specs.Prelude.{◌≡◌, ◌↔◌, ◌++◌, ℕ, ◌<◌, ◌≤◌, length, IfOk, IfSome, IfNone, OnOk, IsTrue, IsPermutation};
+ghost use Rattle.std.specs.List.{AllByRecursion, list_any, AllAdjacentBelow};
+ghost use Rattle.std.specs.List.Sorted.{IsNonDecreasing};
+ghost use Rattle.units.specs.Apart.{Pairwise, AllApart};
+ghost use Rattle.scheme.specs.Grammar.{HasNoTwins};
+ghost use Rattle.scheme.specs.Order.{AreFew, IsFreeOf, AreMembers, all_blocks, blocks_of, code_rank, faults_in_order};
+ghost use Rattle.scheme.specs.Faults.{IsFirst};
+ghost use Rattle.scheme.specs.Reading.{AreSorted, IsKnown, first_of, from};
+ghost use Rattle.scheme.specs.declared.members.SchemeFault.TheVariants.{AccountTwice, UnknownAccount};
+
+use crate::members::{Allotment, Member, SchemeFault};
+use std::alloc::{AllocError, Global};
+use units::{Block, Unit};
+
+const MOST_REGISTRIES: usize = 32;
+
+const MOST_ACCOUNTS: usize = 1_000;
+
+const MOST_BLOCKS: usize = 10_000;
+
+// Puts the blocks of all the allotments behind those that are there.
+fn push_units(all: &mut Vec<Block>, allotted: &[Allotment]) -> Result<(), AllocError>
+    ensures { OnOk result (all.new.items ≡ all.old.items ++ blocks_of allotted.now) }
+{
+    for allotment in allotted {
+        all.extend_from_slice(allotment.units.as_slice())?;
+    }
+    Ok(())
+}
+
+// All blocks that the registries allot.
+fn allotted_blocks(alloc: Global, members: &[Member]) -> Result<Vec<Block>, AllocError>
+    ensures { IfOk result (λ v. v.items ≡ all_blocks members.now) }
+{
+    let mut all = Vec::new(alloc);
+    for member in members {
+        push_units(&mut all, member.allotted.as_slice())?;
+    }
+    Ok(all)
+}
+
+// Whether none of the registries has too many accounts.
+fn have_few_accounts(members: &[Member]) -> bool
+    ensures { IsTrue result ↔ AllByRecursion (λ m. length m.accounts ≤ 1_000) members.now }
+{
+    for member in members {
+        if member.accounts.as_slice().len() > MOST_ACCOUNTS {
+            return false;
+        }
+    }
+    true
+}
+
+// Whether neither the registries nor their accounts nor their so many blocks are too many.
+fn are_few(members: &[Member], blocks: usize) -> bool
+    requires { blocks ≡ length (all_blocks members.now) }
+    ensures { IsTrue result ↔ AreFew members.now }
+{
+    if members.len() > MOST_REGISTRIES || blocks > MOST_BLOCKS {
+        return false;
+    }
+    have_few_accounts(members)
+}
+
+// Whether the codes rise: of registries in order, two with one code are neighbours.
+fn have_different_codes(members: &[Member]) -> bool
+    requires { AreSorted members.now }
+    ensures { IsTrue result ↔ Pairwise (λ a b. code_rank a.code < code_rank b.code) members.now }
+{
+    for i in 1..members.len() {
+        if members[i - 1].code == members[i].code {
+            return false;
+        }
+    }
+    true
+}
+
+// The numbers in ascending order.
+fn ascending(alloc: Global, numbers: &[u64]) -> Result<Vec<u64>, AllocError>
+    ensures moved { IfOk result (λ v. IsPermutation numbers.now v.items) }
+    ensures sorted { IfOk result (λ v. IsNonDecreasing v.items) }
+{
+    let mut sorted = Vec::from_slice(alloc, numbers)?;
+    sorted.sort_unstable();
+    Ok(sorted)
+}
+
+// Whether no two of the numbers are the same.
+fn are_different(numbers: &[u64]) -> bool
+    requires { IsNonDecreasing numbers.now }
+    ensures { IsTrue result ↔ HasNoTwins numbers.now }
+{
+    for i in 1..numbers.len() {
+        if numbers[i - 1] == numbers[i] {
+            return false;
+        }
+    }
+    true
+}
+
+// Whether each allotment is to one of the accounts.
+fn are_known(accounts: &[u64], allotted: &[Allotment]) -> bool
+    requires { IsNonDecreasing accounts.now }
+    ensures { IsTrue result ↔ AllByRecursion (λ a. IsKnown accounts.now a.account) allotted.now }
+{
+    for allotment in allotted {
+        if accounts.binary_search(&allotment.account).is_err() {
+            return false;
+        }
+    }
+    true
+}
+
+// Whether no registry has an account twice.
+fn have_different_accounts(alloc: Global, members: &[Member]) -> Result<bool, AllocError>
+    ensures { IfOk result (λ free. IsTrue free ↔ IsFreeOf AccountTwice members.now) }
+{
+    for member in members {
+        let accounts = ascending(alloc, member.accounts.as_slice())?;
+        if !are_different(accounts.as_slice()) {
+            return Ok(false);
+        }
+    }
+    Ok(true)
+}
+
+// Whether no allotment is to an account that its registry doesn't have.
+fn have_known_accounts(alloc: Global, members: &[Member]) -> Result<bool, AllocError>
+    ensures { IfOk result (λ free. IsTrue free ↔ IsFreeOf UnknownAccount members.now) }
+{
+    for member in members {
+        let accounts = ascending(alloc, member.accounts.as_slice())?;
+        if !are_known(accounts.as_slice(), member.allotted.as_slice()) {
+            return Ok(false);
+        }
+    }
+    Ok(true)
+}
+
+// The first unit of a block.
+fn first_of(block: &Block) -> Unit
+    ensures { result ≡ first_of block.now }
+{
+    Unit {
+        origin: block.raw.origin,
+        period: block.raw.period,
+        number: block.raw.first,
+    }
+}
+
+// Puts the blocks in the order of their first units.
+fn sort(blocks: &mut [Block])
+    ensures moved { IsPermutation blocks.old blocks.new }
+    ensures sorted { AllAdjacentBelow (λ a b. from a ≤ from b) blocks.new (length blocks.new) }
+{
+    blocks.sort_unstable_by_key(|block| first_of(block));
+}
+
+// Whether no unit is in two of the blocks. Puts them in the order of their first units: a block
+// that has a unit of a later one has the first unit of its neighbour.
+fn are_apart(blocks: &mut [Block]) -> bool
+    ensures { IsTrue result ↔ AllApart blocks.old }
+{
+    sort(blocks);
+    for i in 1..blocks.len() {
+        if blocks[i - 1].has(&first_of(&blocks[i])) {
+            return false;
+        }
+    }
+    true
+}
+
+/// The first fault of registries in order, and `None` where they are a scheme's.
+pub fn first_fault(alloc: Global, members: &[Member]) -> Result<Option<SchemeFault>, AllocError>
+    requires { AreSorted members.now }
+    ensures some { IfOk result (λ o. IfSome o (IsFirst faults_in_order members.now)) }
+    ensures none { IfOk result (λ o. IfNone o (AreMembers members.now)) }
+{
+    let mut blocks = allotted_blocks(alloc, members)?;
+    if !are_few(members, blocks.len()) {
+        return Ok(Some(SchemeFault::TooMany));
+    }
+    if members.len() < 2 {
+        return Ok(Some(SchemeFault::TooFew));
+    }
+    if !have_different_codes(members) {
+        return Ok(Some(SchemeFault::CodeTwice));
+    }
+    if !have_different_accounts(alloc, members)? {
+        return Ok(Some(SchemeFault::AccountTwice));
+    }
+    if !have_known_accounts(alloc, members)? {
+        return Ok(Some(SchemeFault::UnknownAccount));
+    }
+    if !are_apart(blocks.as_mut_slice()) {
+        return Ok(Some(SchemeFault::AllotmentOverlap));
+    }
+    Ok(None)
+}

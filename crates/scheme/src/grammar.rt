@@ -1,0 +1,246 @@
+//! Reading registries from a JSON value. Every fault here is `Shape`, beside want of memory.
+ghost use Rattle.std.specs.Prelude.{◌≡◌, ◌≤◌, ◌∷◌, ℕ, IfSome, IfNone, codes};
+ghost use Rattle.serde_json.specs.Data.{boolean, string};
+ghost use Rattle.serde_json.specs.View.{view, items_view};
+ghost use Rattle.units.specs.Code.{code_text};
+ghost use Rattle.units.specs.declared.block.Block.{Block};
+ghost use Rattle.units.specs.declared.block.Kind.{Kind};
+ghost use Rattle.scheme.specs.Grammar.{HasAt, EachIs, HasList, HasNoTwins, IsAccount, IsKind, IsBlock, IsAllotment, IsMember, IsWritten};
+ghost use Rattle.scheme.specs.Reading.{Finds, IsCount, AreKinds};
+
+use crate::fields::{bool_at, has_keys, list_at, number_at, text_at};
+use crate::listed::Listed;
+use crate::members::{Allotment, Member, SchemeFault};
+use serde_json::Value;
+use std::alloc::Global;
+use units::{Block, Code, Items, Kind};
+
+const LAST_ACCOUNT: u64 = 999_999_999;
+
+const MOST_RECORDS: u64 = 1_000_000;
+
+// The number at the key, from 1 to `most`.
+fn count_at(value: &Value, key: &str, most: u64) -> Result<u64, SchemeFault>
+    ensures { Finds (IsCount key.now most (view value.now)) result }
+{
+    let Some(number) = number_at(value, key) else {
+        return Err(SchemeFault::Shape);
+    };
+    if (1..=most).contains(&number) {
+        Ok(number)
+    } else {
+        Err(SchemeFault::Shape)
+    }
+}
+
+// The registry's code.
+fn code(value: &Value) -> Result<Code, SchemeFault>
+    ensures { Finds (λ c. HasAt (view value.now) (codes "code") (string (code_text c))) result }
+{
+    let Some(text) = text_at(value, "code") else {
+        return Err(SchemeFault::Shape);
+    };
+    Code::read(text).ok_or(SchemeFault::Shape)
+}
+
+// Whether the registry may take part in transfers.
+fn eligible(value: &Value) -> Result<bool, SchemeFault>
+    ensures { Finds (λ b. HasAt (view value.now) (codes "eligible") (boolean b)) result }
+{
+    bool_at(value, "eligible").ok_or(SchemeFault::Shape)
+}
+
+// The account of that number.
+fn account(value: &Value) -> Option<u64>
+    ensures some { IfSome result (λ n. IsAccount (view value.now) n) }
+    ensures none { IfNone result ((n : ℕ) → IsAccount (view value.now) n → ⊥) }
+{
+    let number = value.as_u64()?;
+    if (1..=LAST_ACCOUNT).contains(&number) {
+        Some(number)
+    } else {
+        None
+    }
+}
+
+// The kind that the value names.
+fn kind(value: &Value) -> Option<Kind>
+    ensures some { IfSome result (λ k. IsKind (view value.now) k) }
+    ensures none { IfNone result ((k : Kind) → IsKind (view value.now) k → ⊥) }
+{
+    let text = value.as_str()?;
+    Kind::read(text)
+}
+
+// The block that the value writes.
+fn block(value: &Value) -> Option<Block>
+    ensures some { IfSome result (λ b. IsBlock (view value.now) b) }
+    ensures none { IfNone result ((b : Block) → IsBlock (view value.now) b → ⊥) }
+{
+    let text = value.as_str()?;
+    Block::read(text).ok()
+}
+
+// The accounts of an array.
+fn each_account(alloc: Global, values: &[Value]) -> Result<Items<u64>, SchemeFault>
+    ensures { Finds (EachIs IsAccount (items_view values.now)) result }
+{
+    let mut accounts = Vec::new(alloc);
+    for value in values {
+        let Some(account) = account(value) else {
+            return Err(SchemeFault::Shape);
+        };
+        accounts.push(account)?;
+    }
+    Ok(Items::from_vec(accounts))
+}
+
+// The kinds of an array, where none stands twice.
+fn different_kinds(alloc: Global, values: &[Value]) -> Result<Items<Kind>, SchemeFault>
+    ensures { Finds (λ xs. EachIs IsKind (items_view values.now) xs × HasNoTwins xs) result }
+{
+    let mut kinds = Vec::new(alloc);
+    for value in values {
+        let Some(kind) = kind(value) else {
+            return Err(SchemeFault::Shape);
+        };
+        if kinds.contains(&kind) {
+            return Err(SchemeFault::Shape);
+        }
+        kinds.push(kind)?;
+    }
+    Ok(Items::from_vec(kinds))
+}
+
+// The blocks of an array.
+fn each_block(alloc: Global, values: &[Value]) -> Result<Items<Block>, SchemeFault>
+    ensures { Finds (EachIs IsBlock (items_view values.now)) result }
+{
+    let mut blocks = Vec::new(alloc);
+    for value in values {
+        let Some(block) = block(value) else {
+            return Err(SchemeFault::Shape);
+        };
+        blocks.push(block)?;
+    }
+    Ok(Items::from_vec(blocks))
+}
+
+// The registry's accounts.
+fn accounts(alloc: Global, value: &Value) -> Result<Items<u64>, SchemeFault>
+    ensures { Finds (HasList IsAccount (view value.now) (codes "accounts")) result }
+{
+    let Some(list) = list_at(value, "accounts") else {
+        return Err(SchemeFault::Shape);
+    };
+    each_account(alloc, list.as_slice())
+}
+
+// The kinds of units that the registry takes.
+fn kinds(alloc: Global, value: &Value) -> Result<Items<Kind>, SchemeFault>
+    ensures { Finds (AreKinds (view value.now)) result }
+{
+    let Some(list) = list_at(value, "kinds") else {
+        return Err(SchemeFault::Shape);
+    };
+    different_kinds(alloc, list.as_slice())
+}
+
+// The blocks of an allotment.
+fn units(alloc: Global, value: &Value) -> Result<Items<Block>, SchemeFault>
+    ensures { Finds (HasList IsBlock (view value.now) (codes "units")) result }
+{
+    let Some(list) = list_at(value, "units") else {
+        return Err(SchemeFault::Shape);
+    };
+    each_block(alloc, list.as_slice())
+}
+
+// What an account has at the start.
+fn allotment(alloc: Global, value: &Value) -> Result<Allotment, SchemeFault>
+    ensures { Finds (IsAllotment (view value.now)) result }
+{
+    if !has_keys(value, 2) {
+        return Err(SchemeFault::Shape);
+    }
+    let account = count_at(value, "account", LAST_ACCOUNT)?;
+    let units = units(alloc, value)?;
+    Ok(Allotment { account, units })
+}
+
+// The allotments of an array.
+fn each_allotment(alloc: Global, values: &[Value]) -> Result<Items<Allotment>, SchemeFault>
+    ensures { Finds (EachIs IsAllotment (items_view values.now)) result }
+{
+    let mut allotted = Vec::new(alloc);
+    for value in values {
+        let allotment = allotment(alloc, value)?;
+        allotted.push(allotment)?;
+    }
+    Ok(Items::from_vec(allotted))
+}
+
+// What the registry's accounts have at the start.
+fn allotted(alloc: Global, value: &Value) -> Result<Items<Allotment>, SchemeFault>
+    ensures { Finds (HasList IsAllotment (view value.now) (codes "allotted")) result }
+{
+    let Some(list) = list_at(value, "allotted") else {
+        return Err(SchemeFault::Shape);
+    };
+    each_allotment(alloc, list.as_slice())
+}
+
+// A registry.
+fn member(alloc: Global, value: &Value) -> Result<Member, SchemeFault>
+    ensures { Finds (IsMember (view value.now)) result }
+{
+    if !has_keys(value, 5) {
+        return Err(SchemeFault::Shape);
+    }
+    let code = code(value)?;
+    let eligible = eligible(value)?;
+    let accounts = accounts(alloc, value)?;
+    let allotted = allotted(alloc, value)?;
+    let kinds = kinds(alloc, value)?;
+    Ok(Member {
+        code,
+        accounts,
+        allotted,
+        eligible,
+        kinds,
+    })
+}
+
+// The registries of an array.
+fn each_member(alloc: Global, values: &[Value]) -> Result<Listed, SchemeFault>
+    ensures { Finds (EachIs IsMember (items_view values.now)) result }
+{
+    let mut members = Vec::new(alloc);
+    for value in values {
+        let member = member(alloc, value)?;
+        members.push(member)?;
+    }
+    Ok(Listed::from_vec(members))
+}
+
+// The registries of a scheme.
+fn members(alloc: Global, value: &Value) -> Result<Listed, SchemeFault>
+    ensures { Finds (HasList IsMember (view value.now) (codes "registries")) result }
+{
+    let Some(list) = list_at(value, "registries") else {
+        return Err(SchemeFault::Shape);
+    };
+    each_member(alloc, list.as_slice())
+}
+
+/// The number of records and the registries that the value writes.
+pub fn written(alloc: Global, value: &Value) -> Result<(u64, Listed), SchemeFault>
+    ensures { Finds (λ p. IsWritten (view value.now) p.0 p.1) result }
+{
+    if !has_keys(value, 2) {
+        return Err(SchemeFault::Shape);
+    }
+    let records = count_at(value, "records", MOST_RECORDS)?;
+    let members = members(alloc, value)?;
+    Ok((records, members))
+}

@@ -1,0 +1,153 @@
+//! Sets of units with their kinds.
+ghost use Rattle.std.specs.Prelude.{◌≡◌, ◌≢◌, ◌⊎◌, Some, None, IsTrue, IsSome, OnOk, OnErr, IfOk, IfErr, map as list_map, if◌then◌else◌};
+ghost use Rattle.std.specs.Bool.{OnTrue, OnFalse};
+ghost use Rattle.std.specs.FinMap as map;
+ghost use Rattle.units.specs.Canonical.{AreCanonical, interval_of};
+ghost use Rattle.units.specs.Facts.{IsRange};
+ghost use Rattle.units.specs.Intervals.{AreKept, mark_at};
+ghost use Rattle.units.specs.Unit.{has_unit, covers};
+ghost use Rattle.units.specs.declared.block.Unit.{Unit as Serial};
+
+use crate::block::{Block, Kind, RawBlock};
+use crate::interval::Interval;
+use crate::memory::NoMemory;
+use crate::refusal::Refusal;
+use crate::unit_map::UnitMap;
+use std::alloc::Global;
+use std::marker::Model;
+
+/// Which units there are, and the kind of each.
+#[derive(Debug, Drop)]
+pub struct BlockSet {
+    kinds: UnitMap<Kind>,
+}
+
+impl Model for BlockSet {
+    ghost use Rattle.std.specs.FinMap as map;
+    ghost use Rattle.units.specs.Keys.{unit_cmp};
+    ghost use Rattle.units.specs.declared.block.Kind.{Kind};
+    ghost use Rattle.units.specs.contracts.block.Kind as kind;
+    ghost use Rattle.units.specs.contracts.block.Unit as serial;
+
+    ghost Value = { map.FinMap unit_cmp Kind };
+
+    ghost coded = { map.code serial.the_row.coded kind.the_row.coded };
+
+    ghost view = { λ s. s.kinds };
+}
+
+// The block of the interval's units.
+fn block_of(interval: &Interval<Kind>) -> Block
+    requires { IsRange interval.now.first interval.now.last }
+    ensures { interval_of result ≡ interval.now }
+{
+    let raw = RawBlock {
+        origin: interval.origin,
+        period: interval.period,
+        kind: interval.mark,
+        first: interval.first,
+        last: interval.last,
+    };
+    Block { raw }
+}
+
+impl BlockSet {
+    /// No units. Takes no memory.
+    pub fn new(alloc: Global) -> BlockSet
+        ensures { result ≡ map.empty }
+    {
+        BlockSet {
+            kinds: UnitMap::new(alloc),
+        }
+    }
+
+    /// Adds the block's units. 103: one of them is there, of whatever kind; 50: want of memory.
+    /// After a refusal nothing has changed.
+    pub fn add(&mut self, block: Block) -> Result<(), Refusal>
+        ensures ok { OnOk result ((u : Serial) → map.get self.new u ≡ (if has_unit block.raw u then Some block.raw.kind else map.get self.old u)) }
+        ensures fresh { OnOk result ((u : Serial) → IsTrue (has_unit block.raw u) → map.get self.old u ≡ None) }
+        ensures there { IfErr result (λ r. r.code ≡ 103 → (u : Serial) × IsTrue (has_unit block.raw u) × IsSome (map.get self.old u)) }
+        ensures refusals { IfErr result (λ r. (r.code ≡ 103) ⊎ (r.code ≡ 50)) }
+        ensures err { OnErr result (self.new ≡ self.old) }
+    {
+        if !self.kinds.has_none_of(&block) {
+            return Err(Refusal::OVERLAP);
+        }
+        self.kinds.set(&block, Some(block.raw.kind))?;
+        Ok(())
+    }
+
+    /// Takes the block's units out. 105: one of them isn't there or is of another kind; 50: want of
+    /// memory, since what is left may be more blocks. After a refusal nothing has changed.
+    pub fn take(&mut self, block: Block) -> Result<(), Refusal>
+        ensures ok { OnOk result ((u : Serial) → map.get self.new u ≡ (if has_unit block.raw u then None else map.get self.old u)) }
+        ensures held { OnOk result ((u : Serial) → IsTrue (has_unit block.raw u) → map.get self.old u ≡ Some block.raw.kind) }
+        ensures missing { IfErr result (λ r. r.code ≡ 105 → (u : Serial) × IsTrue (has_unit block.raw u) × (map.get self.old u ≢ Some block.raw.kind)) }
+        ensures refusals { IfErr result (λ r. (r.code ≡ 105) ⊎ (r.code ≡ 50)) }
+        ensures err { OnErr result (self.new ≡ self.old) }
+    {
+        let wanted = block.raw.kind;
+        if !self.kinds.has_all_of(&block, |kind| kind == wanted) {
+            return Err(Refusal::NOT_HELD);
+        }
+        self.kinds.set(&block, None)?;
+        Ok(())
+    }
+
+    /// Whether each unit of the blocks is there, of whatever kind. Takes no memory.
+    pub fn contains_all(&self, blocks: &[Block]) -> bool
+        ensures all { OnTrue result ((u : Serial) → IsTrue (covers blocks.now u) → IsSome (map.get self.now u)) }
+        ensures some { OnFalse result ((u : Serial) × IsTrue (covers blocks.now u) × (map.get self.now u ≡ None)) }
+    {
+        for block in blocks {
+            if !self.kinds.has_all_of(block, |_| true) {
+                return false;
+            }
+        }
+        true
+    }
+
+    /// Whether no unit of the blocks is there, of whatever kind. Takes no memory.
+    pub fn disjoint(&self, blocks: &[Block]) -> bool
+        ensures none { OnTrue result ((u : Serial) → IsTrue (covers blocks.now u) → map.get self.now u ≡ None) }
+        ensures some { OnFalse result ((u : Serial) × IsTrue (covers blocks.now u) × IsSome (map.get self.now u)) }
+    {
+        for block in blocks {
+            if !self.kinds.has_none_of(block) {
+                return false;
+            }
+        }
+        true
+    }
+
+    /// How many units there are. Takes no memory.
+    pub fn count(&self) -> u64
+        ensures { result ≡ map.len self.now }
+    {
+        self.kinds.count_where(|_| true)
+    }
+
+    /// The units as blocks in order, by origin, period and first number, neighbours of one kind
+    /// joined. Or `NoMemory`.
+    pub fn canonical(&self, alloc: Global) -> Result<Vec<Block>, NoMemory>
+        ensures ordered { IfOk result (λ v. AreCanonical (λ _. 0) (list_map interval_of v.items)) }
+        ensures kept { IfOk result (λ v. AreKept (list_map interval_of v.items)) }
+        ensures same { IfOk result (λ v. (u : Serial) → mark_at (list_map interval_of v.items) u ≡ map.get self.now u) }
+    {
+        let intervals = self.kinds.in_order()?;
+        let mut blocks = Vec::with_capacity(alloc, intervals.len())?;
+        for interval in &intervals {
+            blocks.push(block_of(interval))?;
+        }
+        Ok(blocks)
+    }
+
+    /// An equal set, or `NoMemory`.
+    pub fn copy(&self) -> Result<BlockSet, NoMemory>
+        ensures { IfOk result (λ s. s ≡ self.now) }
+    {
+        Ok(BlockSet {
+            kinds: self.kinds.copy()?,
+        })
+    }
+}

@@ -1,0 +1,72 @@
+//! Intervals in order, with neighbours joined.
+ghost use Rattle.std.specs.Prelude.{◌≡◌, ◌↔◌, IsTrue, IfOk, OnOk};
+ghost use Rattle.units.specs.Canonical.{AreCanonical, GoesOn};
+ghost use Rattle.units.specs.Following.{IsOnto, is_next};
+ghost use Rattle.units.specs.Intervals.{AreKept, mark_at, numbered};
+ghost use Rattle.units.specs.declared.block.Unit.{Unit as Serial};
+
+use crate::block::Unit;
+use crate::interval::{Interval, Mark};
+use std::alloc::{AllocError, Global};
+
+// The first of its units.
+fn first_unit<M>(interval: &Interval<M>) -> Unit
+    ensures { result ≡ numbered interval.now interval.now.first }
+{
+    Unit {
+        origin: interval.origin,
+        period: interval.period,
+        number: interval.first,
+    }
+}
+
+// Whether the next one begins where an interval ends.
+fn is_next<M>(interval: &Interval<M>, next: &Interval<M>) -> bool
+    ensures { result ≡ is_next interval.now next.now }
+{
+    interval.origin == next.origin
+        && interval.period == next.period
+        && interval.last < next.first
+        && next.first - interval.last == 1
+}
+
+// Whether it begins there with the same mark.
+fn goes_on<M: Mark>(interval: &Interval<M>, next: &Interval<M>) -> bool
+    ensures { IsTrue result ↔ GoesOn interval.now next.now }
+{
+    is_next(interval, next) && interval.mark.is_same(&next.mark)
+}
+
+// Puts an interval behind the others, or lengthens their last one where it goes on there.
+fn push_joined<M: Mark>(
+    intervals: &mut Vec<Interval<M>>,
+    next: Interval<M>,
+) -> Result<(), AllocError>
+    ensures { OnOk result (IsOnto intervals.old.items next intervals.new.items) }
+{
+    match intervals.last_mut() {
+        Some(last) if goes_on(last, &next) => last.last = next.last,
+        _ => intervals.push(next)?,
+    }
+    Ok(())
+}
+
+/// The intervals in order, by the groups of their marks and then by their units, with neighbours
+/// joined that go on with the same mark.
+pub(crate) fn in_order<M: Mark>(
+    alloc: Global,
+    intervals: &[Interval<M>],
+) -> Result<Vec<Interval<M>>, AllocError>
+    requires { AreKept intervals.now }
+    ensures ordered { IfOk result (λ v. AreCanonical M.group v.items) }
+    ensures kept { IfOk result (λ v. AreKept v.items) }
+    ensures same { IfOk result (λ v. (u : Serial) → mark_at v.items u ≡ mark_at intervals.now u) }
+{
+    let mut sorted = Vec::from_slice(alloc, intervals)?;
+    sorted.sort_unstable_by_key(|interval| (interval.mark.group(), first_unit(interval)));
+    let mut joined = Vec::new(alloc);
+    for next in &sorted {
+        push_joined(&mut joined, *next)?;
+    }
+    Ok(joined)
+}

@@ -1,6 +1,0 @@
-use Rattle.std.proofs.Common.{◌≡◌, take}
-use Rattle.world.specs.SchemeText.{all_blocks}
-use Rattle.world.proofs.thin.reading.allotted_blocks.Given as goal
-
-abbrev pub invariant-loop-member : goal.invariant-loop-member
-invariant-loop-member l = l.all.items ≡ all_blocks (take l.member-index l.members)

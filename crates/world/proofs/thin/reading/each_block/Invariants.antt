@@ -1,7 +1,0 @@
-use Rattle.std.proofs.Common.{take}
-use Rattle.serde_json.specs.View.{items_view}
-use Rattle.world.specs.SchemeText.{EachIs, IsBlock}
-use Rattle.world.proofs.thin.reading.each_block.Given as goal
-
-abbrev pub invariant-loop-value : goal.invariant-loop-value
-invariant-loop-value l = EachIs IsBlock (items_view (take l.value-index l.values)) l.blocks.items

@@ -1,5 +1,0 @@
-use Rattle.std.proofs.Common.{◌≡◌, take}
-use Rattle.world.proofs.thin.registries.copied_allotments.Given as goal
-
-abbrev pub invariant-loop-allotment : goal.invariant-loop-allotment
-invariant-loop-allotment l = l.copies.items ≡ take l.allotment-index l.allotted

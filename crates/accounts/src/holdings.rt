@@ -1,5 +1,5 @@
 //! The holdings of a registry.
-ghost use Rattle.std.specs.Prelude.{◌≡◌, ◌≢◌, ◌⊎◌, ℕ, ◌==◌, not, true, Option, Some, None, IsTrue, IsSome, is_none, OnOk, OnErr, IfOk, IfErr, option_map, if◌then◌else◌};
+ghost use Rattle.std.specs.Prelude.{◌≡◌, ◌≢◌, ◌⊎◌, ℕ, ◌==◌, not, true, Option, Some, None, IsTrue, IsSome, is_none, OnOk, OnErr, IfOk, IfErr, option_map, count_by, if◌then◌else◌};
 ghost use Rattle.std.specs.Option.{option_or};
 ghost use Rattle.std.specs.Bool.{OnTrue, OnFalse};
 ghost use Rattle.std.specs.FinMap as map;
@@ -8,13 +8,15 @@ ghost use Rattle.units.specs.Apart.{AllApart};
 ghost use Rattle.units.specs.Intervals.{marks_that};
 ghost use Rattle.units.specs.Unit.{has_unit, covers};
 ghost use Rattle.units.specs.declared.block.Unit.{Unit as Serial};
-ghost use Rattle.accounts.specs.Holdings.{is_open, is_reserved_by, reserved, released, free_lot, kind_in};
+ghost use Rattle.accounts.specs.Holdings.{is_open, is_reserved_by, is_free_in, reserved, released, free_lot, kind_in};
+ghost use Rattle.accounts.specs.Lines.{AreLines};
 ghost use Rattle.accounts.specs.Placing.{placed};
 ghost use Rattle.accounts.specs.Refusals.{IsOpen, IsHeldAs, AreHeld, AreFree, IsLacking, MayReserve, IsReserveRefusal, IsOpenRefusal, IsCloseRefusal, HasUnits};
 ghost use Rattle.accounts.specs.declared.lot.Standing.TheVariants.{Open, Closed};
 
 use crate::account::{Account, open_accounts, set_standing, standing_of};
-use crate::lot::{Lot, Standing};
+use crate::lines::lines;
+use crate::lot::{Line, Lot, Standing};
 use status::TransactionId;
 use std::alloc::Global;
 use std::marker::Model;
@@ -271,5 +273,22 @@ impl Holdings {
         ensures none { OnFalse result ((s : Serial) → IsTrue (covers blocks.now s) → map.get self.now.lots s ≡ None) }
     {
         blocks.iter().any(|block| self.holds_some_of(block))
+    }
+
+    /// How many units the account has that no transaction reserves. Takes no memory.
+    pub fn free_count(&self, account: u64) -> u64
+        ensures { result ≡ count_by (λ e. is_free_in account e.1) (map.entries self.now.lots) }
+    {
+        self.lots
+            .count_where(|lot| lot.account == account && lot.reserving.is_none())
+    }
+
+    /// What is held, as lines by account and then in the order of units, neighbours with one
+    /// account, kind and reserving transaction joined. Or `NoMemory`.
+    pub fn lines(&self, alloc: Global) -> Result<Vec<Line>, NoMemory>
+        ensures { IfOk result (λ v. AreLines self.now v.items) }
+    {
+        let intervals = self.lots.in_order()?;
+        Ok(lines(alloc, &intervals)?)
     }
 }

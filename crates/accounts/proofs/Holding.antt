@@ -1,11 +1,12 @@
 -- How units are held, by tests of their lots.
 use Rattle.std.proofs.Common.{◌≡◌, ◌≢◌, ℕ, List, Bool, true, false, true≢false, ◌&&◌, eqb, Option, Some, None, IsTrue, IsSome, is_none, refl, sym, ap, subst, ◌∙◌, eq-eqb}
-use Rattle.std.specs.FinMap.{get}
+use Rattle.std.specs.FinMap.{FinMap, get}
 use Rattle.std.specs.Option.{option_map}
 use Rattle.std.proofs.lemmas.Bool.{and_parts, and_from, eqb-true}
 use Rattle.std.proofs.lemmas.Option.{none-some, same_Some}
 use denote.Enum.Bare.{sameb, true_same}
 use Rattle.units.specs.contracts.block.Kind as kind
+use Rattle.units.specs.Keys.{unit_cmp}
 use Rattle.units.specs.Unit.{covers}
 use Rattle.units.specs.declared.block.Block.{Block}
 use Rattle.units.specs.declared.block.Kind.{Kind}
@@ -31,9 +32,12 @@ held_as held account k s e =
     let two = and_parts (eqb h.0.account account) (sameb kind.the_type h.0.kind k) h.2 in
     record { lot = h.0; is = h.1; account_is = eqb-true h.0.account account two.0; kind_is = kind_of_same h.0.kind k two.1 }
 
-pub passes_held : (held : Held) (account : ℕ) (k : Kind) (s : Serial) → IsHeldAs held account k s → option_map (is_held_as account k) (get held.lots s) ≡ Some true
+passes_held : (held : Held) (account : ℕ) (k : Kind) (s : Serial) → IsHeldAs held account k s → option_map (is_held_as account k) (get held.lots s) ≡ Some true
 passes_held held account k s h =
     ap (option_map (is_held_as account k)) h.is ∙ ap Some (and_from (eqb h.lot.account account) (sameb kind.the_type h.lot.kind k) (eq-eqb h.lot.account account h.account_is) (true_same kind.the_type h.lot.kind k h.kind_is))
+
+pub not_held : (held : Held) (account : ℕ) (k : Kind) (s : Serial) (lots : FinMap unit_cmp Lot) → lots ≡ held.lots → option_map (is_held_as account k) (get lots s) ≢ Some true → IsHeldAs held account k s → ⊥
+not_held held account k s lots same no' h = no' (ap (λ m. option_map (is_held_as account k) (get m s)) same ∙ passes_held held account k s h)
 
 abbrev pub is_unreserved : Lot → Bool
 is_unreserved lot = is_none lot.reserving

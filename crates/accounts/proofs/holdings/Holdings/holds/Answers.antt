@@ -3,7 +3,7 @@ use Rattle.std.specs.FinMap.{get}
 use Rattle.std.specs.Option.{option_map}
 use Rattle.std.proofs.lemmas.Bool.{OnTrue_from, OnTrue_at, OnFalse_from, OnFalse_at}
 use Rattle.accounts.specs.declared.lot.Lot.{Lot}
-use Rattle.accounts.proofs.Holding.{is_held_as, held_as, passes_held}
+use Rattle.accounts.proofs.Holding.{is_held_as, held_as, not_held}
 use Rattle.accounts.proofs.holdings.Holdings.holds.Goals as goal
 
 pub returns-clause-all : goal.returns-clause-all
@@ -17,9 +17,6 @@ returns-clause-all c =
 
 pub returns-clause-lacking : goal.returns-clause-lacking
 returns-clause-lacking c =
-    let held = c.args.self.now in
     let k = c.args.block.now.raw.kind in
-    let passes = is_held_as c.args.account k in
-    let same : c.self.inside.lots ≡ held.lots = ap (λ h. h.lots) c.self.view_is in
-    let found = c.has_all_of.ensures.some passes (λ m r h. search (rules, h)) in
-    OnFalse_from c.has_all_of.result _ (λ e. let w = OnFalse_at e found in (w.0, w.1, λ h. w.2 (ap (λ m. option_map passes (get m w.0)) same ∙ passes_held held c.args.account k w.0 h)))
+    let found = c.has_all_of.ensures.some (is_held_as c.args.account k) (λ m r h. search (rules, h)) in
+    OnFalse_from c.has_all_of.result _ (λ e. let w = OnFalse_at e found in (w.0, w.1, not_held c.args.self.now c.args.account k w.0 c.self.inside.lots (ap (λ h. h.lots) c.self.view_is) w.2))

@@ -1,5 +1,5 @@
 -- How units are held, by tests of their lots.
-use Rattle.std.proofs.Common.{◌≡◌, ◌≢◌, ℕ, List, Bool, true, false, true≢false, ◌&&◌, eqb, Option, Some, None, IsTrue, IsSome, is_none, refl, sym, ap, subst, ◌∙◌, eq-eqb}
+use Rattle.std.proofs.Common.{◌≡◌, ◌≢◌, ℕ, List, Bool, true, true≢false, ◌&&◌, eqb, Option, Some, None, IsSome, is_none, refl, sym, ap, ◌∙◌, eq-eqb}
 use Rattle.std.specs.FinMap.{FinMap, get}
 use Rattle.std.specs.Option.{option_map}
 use Rattle.std.proofs.lemmas.Bool.{and_parts, and_from, eqb-true}
@@ -13,7 +13,7 @@ use Rattle.units.specs.declared.block.Kind.{Kind}
 use Rattle.units.specs.declared.block.Unit.{Unit as Serial}
 use Rattle.status.specs.declared.id.TransactionId.{TransactionId}
 use Rattle.accounts.specs.Holdings.{Held}
-use Rattle.accounts.specs.Refusals.{IsHeldAs, AreHeld, AreFree, IsReserved, HasUnits}
+use Rattle.accounts.specs.Refusals.{IsHeldAs, AreHeld, IsReserved, HasUnits}
 use Rattle.accounts.specs.declared.lot.Lot.{Lot}
 use Rattle.accounts.proofs.Blocks.{covered}
 use Rattle.accounts.proofs.Same.{kind_of_same}

@@ -1,5 +1,5 @@
 -- Blocks put into an account in turn.
-use Rattle.std.proofs.Common.{◌≡◌, ℕ, List, [], ◌∷◌, ◌++◌, Bool, true, false, true≢false, cond, Option, Some, None, find, refl, sym, ap, ◌∙◌, inl, inr}
+use Rattle.std.proofs.Common.{◌≡◌, ℕ, List, [], ◌∷◌, ◌++◌, Bool, true, false, true≢false, cond, Option, Some, None, refl, sym, ap, ◌∙◌, inl, inr}
 use Rattle.std.specs.FinMap.{get}
 use Rattle.std.specs.List.{AllByRecursion, IsAmong}
 use Rattle.std.specs.Option.{option_map, option_or}
@@ -67,11 +67,11 @@ placed_held held account id bs all s = elim (cases_Bool (covers bs s)) [
       let b = covered bs s yes' in
       let h = all b.0 s b.1 in
       let same : (c : Block) → IsAmong bs c → has_unit c.raw s ≡ true → lot_of account (Some id) c ≡ reserved id h.lot = λ c m t.
-          let k = all c s (record { among = m; has = t }) in
-          let one : k.lot ≡ h.lot = same_Some k.lot h.lot (sym k.is ∙ h.is) in
-          let accounts : account ≡ h.lot.account = sym h.account_is in
-          let kinds : c.raw.kind ≡ h.lot.kind = sym k.kind_is ∙ ap (λ (l : Lot). l.kind) one in
-          λ i. record { account = accounts i; kind = kinds i; reserving = Some id } in
+      let k = all c s (record { among = m; has = t }) in
+      let one : k.lot ≡ h.lot = same_Some k.lot h.lot (sym k.is ∙ h.is) in
+      let accounts : account ≡ h.lot.account = sym h.account_is in
+      let kinds : c.raw.kind ≡ h.lot.kind = sym k.kind_is ∙ ap (λ (l : Lot). l.kind) one in
+      λ i. record { account = accounts i; kind = kinds i; reserving = Some id } in
       placed_one account (Some id) (reserved id h.lot) bs s (get held.lots s) same ∙ ap (λ t. cond t (Some (reserved id h.lot)) (get held.lots s)) yes' ∙ sym (rw yes' (ap (option_map (reserved id)) h.is))
   | inr no' ↦ rw no' (placed_none account (Some id) bs s (get held.lots s) no')
 ]

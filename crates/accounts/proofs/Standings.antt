@@ -1,6 +1,6 @@
 -- What the map of the accounts answers.
-use Rattle.std.proofs.Common.{◌≡◌, ℕ, ◌+◌, ◌<◌, List, [], ◌∷◌, ◌++◌, length, get_or, take, drop, map, set, eq-eqb, Bool, true, false, ◌||◌, cond, eqb, Option, Some, None, IsSome, is_some, true≢false, find, refl, sym, ap, ◌∙◌, arith, inl, inr}
-use Rattle.std.specs.FinMap.{FinMap, get, get-empty, get-insert, from_entries}
+use Rattle.std.proofs.Common.{◌≡◌, ℕ, ◌+◌, ◌<◌, List, [], ◌∷◌, ◌++◌, length, get_or, take, drop, map, set, eq-eqb, Bool, true, false, ◌||◌, cond, eqb, Option, Some, None, IsSome, is_some, true≢false, find, refl, sym, ap, ◌∙◌, arith}
+use Rattle.std.specs.FinMap.{FinMap, get, get-empty, get-insert}
 use Rattle.std.specs.List.{list_any}
 use Rattle.std.specs.Cmp.{nat_cmp_total}
 use Rattle.std.specs.Option.{option_map}

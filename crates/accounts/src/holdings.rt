@@ -32,7 +32,6 @@ pub struct Holdings {
 impl Model for Holdings {
     ghost use Rattle.accounts.specs.Holdings.{Held};
     ghost use Rattle.accounts.specs.Accounts.{standings};
-
     ghost use Rattle.accounts.specs.Coding.{held_code};
 
     ghost Value = { Held };

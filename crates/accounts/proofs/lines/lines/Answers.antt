@@ -1,4 +1,4 @@
-use Rattle.std.proofs.Common.{◌≡◌, ◌<◌, ℕ, zero, suc, List, [], ◌∷◌, length, get_or, sym, subst, arith}
+use Rattle.std.proofs.Common.{◌<◌, ℕ, zero, suc, List, [], ◌∷◌, length, get_or, sym, subst, arith}
 use Rattle.units.specs.Facts.{IsRange}
 use Rattle.units.specs.Intervals.{AreKept}
 use Rattle.units.specs.declared.interval.Interval.{Interval}

@@ -1,4 +1,4 @@
-use Rattle.std.proofs.Common.{◌≡◌, ap, ◌∙◌}
+use Rattle.std.proofs.Common.{ap, ◌∙◌}
 use Rattle.std.specs.FinMap.{get, get-empty}
 use Rattle.units.specs.Keys.{unit_cmp}
 use Rattle.accounts.proofs.tests.hundred.Goals as goal

@@ -1,4 +1,4 @@
-use Rattle.std.proofs.Common.{rules, ◌≡◌, refl, inl, inr}
+use Rattle.std.proofs.Common.{rules, refl, inr}
 use Rattle.accounts.proofs.Holding.{reserved_from}
 use Rattle.accounts.proofs.holdings.Holdings.check.Goals as goal
 

@@ -1,4 +1,4 @@
-use Rattle.std.proofs.Common.{◌≡◌, None, sym, ap, ◌∙◌}
+use Rattle.std.proofs.Common.{None, ap, ◌∙◌}
 use Rattle.std.specs.FinMap.{get}
 use Rattle.accounts.specs.Placing.{placed}
 use Rattle.accounts.proofs.Placing.{placed_apart}

@@ -1,4 +1,4 @@
-use Rattle.std.proofs.Common.{rules, ◌≡◌, count_by, ap, ◌∙◌}
+use Rattle.std.proofs.Common.{rules, count_by, ap, ◌∙◌}
 use Rattle.std.specs.FinMap.{entries}
 use Rattle.accounts.specs.Holdings.{is_free_in}
 use Rattle.accounts.proofs.holdings.Holdings.free_count.Goals as goal

@@ -1,8 +1,7 @@
-use Rattle.std.proofs.Common.{rules, ◌≡◌, Some, true, sym, ap, ◌∙◌}
+use Rattle.std.proofs.Common.{rules, ◌≡◌, sym, ap, ◌∙◌}
 use Rattle.std.specs.FinMap.{get}
 use Rattle.std.specs.Option.{option_map}
 use Rattle.std.proofs.lemmas.Bool.{OnTrue_from, OnTrue_at, OnFalse_from, OnFalse_at}
-use Rattle.accounts.specs.declared.lot.Lot.{Lot}
 use Rattle.accounts.proofs.Holding.{is_held_as, held_as, not_held}
 use Rattle.accounts.proofs.holdings.Holdings.holds.Goals as goal
 

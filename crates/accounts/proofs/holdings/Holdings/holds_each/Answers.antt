@@ -1,11 +1,11 @@
-use Rattle.std.proofs.Common.{rules, ◌≡◌, true, IsTrue}
-use Rattle.std.proofs.lemmas.Bool.{OnTrue_from, OnFalse_from, MatchBool-at_true, MatchBool-at_false}
+use Rattle.std.proofs.Common.{rules, IsTrue}
+use Rattle.std.proofs.lemmas.Bool.{OnFalse_from, MatchBool-at_false}
 use Rattle.std.proofs.lemmas.Iterator.{cases_from_all, YieldsList-from_slice}
 use Rattle.units.specs.Unit.{has_unit}
 use Rattle.units.specs.declared.block.Block.{Block}
 use Rattle.units.specs.declared.block.Unit.{Unit as Serial}
 use Rattle.accounts.specs.Refusals.{IsHeldAs}
-use Rattle.accounts.proofs.Blocks.{among, all_at}
+use Rattle.accounts.proofs.Blocks.{among}
 use Rattle.accounts.proofs.holdings.Holdings.holds_each.Goals as goal
 
 pub returns-clause-lacking : goal.returns-clause-lacking

@@ -1,4 +1,4 @@
-use Rattle.std.proofs.Common.{◌≡◌, map, ap, ◌∙◌}
+use Rattle.std.proofs.Common.{ap, ◌∙◌}
 use Rattle.accounts.specs.Accounts.{standing_in}
 use Rattle.accounts.proofs.Standings.{get-standings, standing_in-opened}
 use Rattle.accounts.proofs.holdings.Holdings.new.Goals as goal

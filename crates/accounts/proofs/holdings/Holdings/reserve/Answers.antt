@@ -1,4 +1,4 @@
-use Rattle.std.proofs.Common.{◌≡◌, Some, sym, ap, ◌∙◌}
+use Rattle.std.proofs.Common.{Some, ap, ◌∙◌}
 use Rattle.std.specs.FinMap.{get}
 use Rattle.accounts.specs.Placing.{placed}
 use Rattle.accounts.proofs.Placing.{placed_held}

@@ -1,8 +1,7 @@
-use Rattle.std.proofs.Common.{◌≡◌, List, IsSome, is_some, Some, cond, eqb, length, map, sym, ap, ◌∙◌}
-use Rattle.std.specs.FinMap.{get}
+use Rattle.std.proofs.Common.{◌≡◌, is_some, Some, cond, eqb, map, sym, ap, ◌∙◌}
 use Rattle.std.specs.Vec.{with_items}
 use Rattle.std.proofs.lemmas.List.{with_items_is}
-use Rattle.accounts.specs.Accounts.{standing_in, standings, with_standing}
+use Rattle.accounts.specs.Accounts.{standing_in, with_standing}
 use Rattle.accounts.proofs.Standings.{get-standings, get_accounts, standing_in-known, length-changed}
 use Rattle.accounts.proofs.holdings.Holdings.set_standing.Goals as goal
 

@@ -1,4 +1,4 @@
-use Rattle.std.proofs.Common.{◌≡◌, sym, ap, ◌∙◌}
+use Rattle.std.proofs.Common.{sym, ap, ◌∙◌}
 use Rattle.accounts.specs.Accounts.{standing_in}
 use Rattle.accounts.proofs.Standings.{get_accounts}
 use Rattle.accounts.proofs.holdings.Holdings.standing.Goals as goal

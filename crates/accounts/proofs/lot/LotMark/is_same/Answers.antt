@@ -1,4 +1,4 @@
-use Rattle.std.proofs.Common.{◌≡◌, sym, ap, ◌∙◌}
+use Rattle.std.proofs.Common.{sym, ap, ◌∙◌}
 use Rattle.accounts.proofs.Same.{same_lot, lot_of_same, same_lot-refl}
 use Rattle.accounts.proofs.lot.LotMark.is_same.Goals as goal
 

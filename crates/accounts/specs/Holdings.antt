@@ -1,10 +1,10 @@
 -- What a registry holds: its accounts, and for each unit the account, the kind and the reserving transaction.
-use Rattle.std.specs.Prelude.{◌≡◌, ℕ, List, Bool, true, false, not, ◌&&◌, ◌==◌, Option, Some, None, option_map, is_none, if◌then◌else◌}
+use Rattle.std.specs.Prelude.{ℕ, List, Bool, true, false, ◌&&◌, ◌==◌, Option, Some, None, option_map, is_none, if◌then◌else◌}
 use Rattle.std.specs.FinMap as map
 use Rattle.std.specs.Ordering.{nat_cmp}
 use Rattle.std.specs.List.{find}
 use Rattle.units.specs.Keys.{unit_cmp}
-use Rattle.units.specs.Unit.{has_unit, same_kind}
+use Rattle.units.specs.Unit.{has_unit}
 use Rattle.units.specs.declared.block.Block.{Block}
 use Rattle.units.specs.declared.block.Kind.{Kind}
 use Rattle.units.specs.declared.block.Unit.{Unit as Serial}
@@ -47,3 +47,8 @@ is_free_in account lot = lot.account == account && is_none lot.reserving
 -- the kind that the first of the blocks with the unit gives it
 abbrev pub kind_in : List Block → Serial → Option Kind
 kind_in blocks unit = option_map (λ b. b.raw.kind) (find (λ b. has_unit b.raw unit) blocks)
+
+-- an account so may take part in transfers
+abbrev pub is_open : Standing → Bool
+is_open Open = true
+is_open Closed = false

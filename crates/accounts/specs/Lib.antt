@@ -1,3 +1,6 @@
 pub mod Holdings
 pub mod Refusals
 pub mod Lines
+pub mod Accounts
+pub mod Placing
+pub mod Coding

@@ -1,5 +1,5 @@
 -- The holdings as lines: blocks of an account with one mark.
-use Rattle.std.specs.Prelude.{◌≡◌, ℕ, List, map}
+use Rattle.std.specs.Prelude.{◌≡◌, List, map}
 use Rattle.std.specs.FinMap.{get}
 use Rattle.units.specs.Canonical.{AreCanonical}
 use Rattle.units.specs.Intervals.{mark_at, AreKept}

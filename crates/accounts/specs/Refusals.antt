@@ -1,14 +1,13 @@
 -- Why an order on accounts is refused: each check looks at all units before the next one does.
-use Rattle.std.specs.Prelude.{◌≡◌, ◌≢◌, ◌⊎◌, ℕ, List, Option, Some, None, IsTrue, IsSome}
+use Rattle.std.specs.Prelude.{◌≡◌, ◌⊎◌, ℕ, List, Some, None, IsTrue, IsSome}
 use Rattle.std.specs.FinMap as map
 use Rattle.std.specs.List.{IsAmong}
 use Rattle.units.specs.Unit.{has_unit, covers}
 use Rattle.units.specs.declared.block.Block.{Block}
 use Rattle.units.specs.declared.block.Kind.{Kind}
 use Rattle.units.specs.declared.block.Unit.{Unit as Serial}
-use Rattle.accounts.specs.Holdings.{Held, kind_in}
+use Rattle.accounts.specs.Holdings.{Held}
 use Rattle.accounts.specs.declared.lot.Lot.{Lot}
-use Rattle.accounts.specs.declared.lot.Standing.{Standing}
 use Rattle.accounts.specs.declared.lot.Standing.TheVariants.{Open, Closed}
 
 -- an account of the registry that is open

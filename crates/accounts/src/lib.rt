@@ -1,6 +1,12 @@
 //! A registry's holdings: which units are in which account, and which of them are reserved.
 #![tactic(auto)]
 
+mod account;
+mod holdings;
+mod lines;
 mod lot;
+#[cfg(test)]
+mod tests;
 
+pub use holdings::Holdings;
 pub use lot::{Line, Lot, Standing};

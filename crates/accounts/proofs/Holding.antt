@@ -1,0 +1,73 @@
+-- How units are held, by tests of their lots.
+use Rattle.std.proofs.Common.{◌≡◌, ◌≢◌, ℕ, List, Bool, true, true≢false, ◌&&◌, eqb, Option, Some, None, IsSome, is_none, refl, sym, ap, ◌∙◌, eq-eqb}
+use Rattle.std.specs.FinMap.{FinMap, get}
+use Rattle.std.specs.Option.{option_map}
+use Rattle.std.proofs.lemmas.Bool.{and_parts, and_from, eqb-true}
+use Rattle.std.proofs.lemmas.Option.{none-some, same_Some}
+use denote.Enum.Bare.{sameb, true_same}
+use Rattle.units.specs.contracts.block.Kind as kind
+use Rattle.units.specs.Keys.{unit_cmp}
+use Rattle.units.specs.Unit.{covers}
+use Rattle.units.specs.declared.block.Block.{Block}
+use Rattle.units.specs.declared.block.Kind.{Kind}
+use Rattle.units.specs.declared.block.Unit.{Unit as Serial}
+use Rattle.status.specs.declared.id.TransactionId.{TransactionId}
+use Rattle.accounts.specs.Holdings.{Held}
+use Rattle.accounts.specs.Refusals.{IsHeldAs, AreHeld, IsReserved, HasUnits}
+use Rattle.accounts.specs.declared.lot.Lot.{Lot}
+use Rattle.accounts.proofs.Blocks.{covered}
+use Rattle.accounts.proofs.Same.{kind_of_same}
+
+-- a mark that passes
+pub passing : {A : Type 0} (p : A → Bool) (o : Option A) → option_map p o ≡ Some true → (x : A) × (o ≡ Some x) × (p x ≡ true)
+passing p None e = absurd (none-some true e)
+passing p (Some x) e = (x, refl, same_Some (p x) true e)
+
+abbrev pub is_held_as : ℕ → Kind → Lot → Bool
+is_held_as account k lot = eqb lot.account account && sameb kind.the_type lot.kind k
+
+pub held_as : (held : Held) (account : ℕ) (k : Kind) (s : Serial) → option_map (is_held_as account k) (get held.lots s) ≡ Some true → IsHeldAs held account k s
+held_as held account k s e =
+    let h = passing (is_held_as account k) (get held.lots s) e in
+    let two = and_parts (eqb h.0.account account) (sameb kind.the_type h.0.kind k) h.2 in
+    record { lot = h.0; is = h.1; account_is = eqb-true h.0.account account two.0; kind_is = kind_of_same h.0.kind k two.1 }
+
+passes_held : (held : Held) (account : ℕ) (k : Kind) (s : Serial) → IsHeldAs held account k s → option_map (is_held_as account k) (get held.lots s) ≡ Some true
+passes_held held account k s h =
+    ap (option_map (is_held_as account k)) h.is ∙ ap Some (and_from (eqb h.lot.account account) (sameb kind.the_type h.lot.kind k) (eq-eqb h.lot.account account h.account_is) (true_same kind.the_type h.lot.kind k h.kind_is))
+
+pub not_held : (held : Held) (account : ℕ) (k : Kind) (s : Serial) (lots : FinMap unit_cmp Lot) → lots ≡ held.lots → option_map (is_held_as account k) (get lots s) ≢ Some true → IsHeldAs held account k s → ⊥
+not_held held account k s lots same no' h = no' (ap (λ m. option_map (is_held_as account k) (get m s)) same ∙ passes_held held account k s h)
+
+abbrev pub is_unreserved : Lot → Bool
+is_unreserved lot = is_none lot.reserving
+
+none_of : (o : Option TransactionId) → is_none o ≡ true → o ≡ None
+none_of None e = refl
+none_of (Some x) e = absurd (true≢false (sym e))
+
+some_of : (o : Option TransactionId) → (is_none o ≡ true → ⊥) → IsSome o
+some_of None no' = absurd (no' refl)
+some_of (Some x) no' = refl
+
+-- a lot whose unit passes is free
+pub free_from : (held : Held) (s : Serial) (lot : Lot) → option_map is_unreserved (get held.lots s) ≡ Some true → get held.lots s ≡ Some lot → lot.reserving ≡ None
+free_from held s lot e is = none_of lot.reserving (same_Some (is_none lot.reserving) true (ap (option_map is_unreserved) (sym is) ∙ e))
+
+-- a held unit that doesn't pass is reserved
+pub reserved_from : (held : Held) (account : ℕ) (blocks : List Block) → AreHeld held account blocks → (s : Serial) → covers blocks s ≡ true → option_map is_unreserved (get held.lots s) ≢ Some true → IsReserved held blocks
+reserved_from held account blocks all s h no' =
+    let b = covered blocks s h in
+    let lot = all b.0 s b.1 in
+    record { unit = s; lot = lot.lot; of = h; is = lot.is; reserved = some_of lot.lot.reserving (λ e. no' (ap (option_map is_unreserved) lot.is ∙ ap Some e)) }
+
+abbrev pub is_in : ℕ → Lot → Bool
+is_in account lot = eqb lot.account account
+
+pub units_from : (held : Held) (account : ℕ) (s : Serial) → option_map (is_in account) (get held.lots s) ≡ Some true → HasUnits held account
+units_from held account s e =
+    let h = passing (is_in account) (get held.lots s) e in
+    record { unit = s; lot = h.0; is = h.1; account_is = eqb-true h.0.account account h.2 }
+
+pub passes_units : (held : Held) (account : ℕ) (h : HasUnits held account) → option_map (is_in account) (get held.lots h.unit) ≡ Some true
+passes_units held account h = ap (option_map (is_in account)) h.is ∙ ap Some (eq-eqb h.lot.account account h.account_is)

@@ -1,0 +1,5 @@
+pub mod Same
+pub mod Standings
+pub mod Placing
+pub mod Blocks
+pub mod Holding

@@ -1,0 +1,293 @@
+//! The holdings of a registry.
+ghost use Rattle.std.specs.Prelude.{◌≡◌, ◌≢◌, ◌⊎◌, ℕ, ◌==◌, not, true, Option, Some, None, IsTrue, IsSome, is_none, OnOk, OnErr, IfOk, IfErr, option_map, count_by, if◌then◌else◌};
+ghost use Rattle.std.specs.Option.{option_or};
+ghost use Rattle.std.specs.Bool.{OnTrue, OnFalse};
+ghost use Rattle.std.specs.FinMap as map;
+ghost use Rattle.std.specs.List.{list_any};
+ghost use Rattle.units.specs.Apart.{AllApart};
+ghost use Rattle.units.specs.Intervals.{marks_that};
+ghost use Rattle.units.specs.Unit.{has_unit, covers};
+ghost use Rattle.units.specs.declared.block.Unit.{Unit as Serial};
+ghost use Rattle.accounts.specs.Holdings.{is_open, is_reserved_by, is_free_in, reserved, released, free_lot, kind_in};
+ghost use Rattle.accounts.specs.Lines.{AreLines};
+ghost use Rattle.accounts.specs.Placing.{placed};
+ghost use Rattle.accounts.specs.Refusals.{IsOpen, IsHeldAs, AreHeld, AreFree, IsLacking, MayReserve, IsReserveRefusal, IsOpenRefusal, IsCloseRefusal, HasUnits};
+ghost use Rattle.accounts.specs.declared.lot.Standing.TheVariants.{Open, Closed};
+
+use crate::account::{Account, open_accounts, set_standing, standing_of};
+use crate::lines::lines;
+use crate::lot::{Line, Lot, Standing};
+use status::TransactionId;
+use std::alloc::Global;
+use std::marker::Model;
+use units::{Block, NoMemory, Refusal, UnitMap};
+
+/// A registry's accounts and the units that they hold.
+#[derive(Debug, Drop)]
+pub struct Holdings {
+    accounts: Vec<Account>,
+    lots: UnitMap<Lot>,
+}
+
+impl Model for Holdings {
+    ghost use Rattle.accounts.specs.Holdings.{Held};
+    ghost use Rattle.accounts.specs.Accounts.{standings};
+    ghost use Rattle.accounts.specs.Coding.{held_code};
+
+    ghost Value = { Held };
+
+    ghost coded = { held_code };
+
+    ghost view = { λ h. record { accounts = standings h.accounts.items; lots = h.lots } };
+}
+
+// Whether the transaction reserves the lot.
+fn is_reserved_by(lot: &Lot, id: TransactionId) -> bool
+    ensures { result ≡ is_reserved_by id lot.now }
+{
+    lot.reserving == Some(id)
+}
+
+// The lots with the units of each block in turn put into the account, so reserved.
+fn placed(
+    lots: &UnitMap<Lot>,
+    account: u64,
+    blocks: &[Block],
+    reserving: Option<TransactionId>,
+) -> Result<UnitMap<Lot>, NoMemory>
+    ensures { IfOk result (λ after. (s : Serial) → map.get after s ≡ placed account reserving blocks.now s (map.get lots.now s)) }
+{
+    let mut draft = lots.copy()?;
+    for block in blocks {
+        let kind = block.raw.kind;
+        let lot = Lot {
+            account,
+            kind,
+            reserving,
+        };
+        draft.set(block, Some(lot))?;
+    }
+    Ok(draft)
+}
+
+impl Holdings {
+    /// Open accounts of these numbers, which hold nothing.
+    pub fn new(alloc: Global, accounts: &[u64]) -> Result<Holdings, NoMemory>
+        ensures accounts { IfOk result (λ h. (n : ℕ) → map.get h.accounts n ≡ (if list_any (λ a. a == n) accounts.now then Some Open else None)) }
+        ensures lots { IfOk result (λ h. h.lots ≡ map.empty) }
+    {
+        let accounts = open_accounts(alloc, accounts)?;
+        Ok(Holdings {
+            accounts,
+            lots: UnitMap::new(alloc),
+        })
+    }
+
+    /// Whether the account is open. `None`: the registry has no such account. Takes no memory.
+    pub fn is_open(&self, account: u64) -> Option<bool>
+        ensures { result ≡ option_map is_open (map.get self.now.accounts account) }
+    {
+        let standing = self.standing(account)?;
+        Some(matches!(standing, Standing::Open))
+    }
+
+    // The standing of the account.
+    fn standing(&self, account: u64) -> Option<Standing>
+        ensures { result ≡ map.get self.now.accounts account }
+    {
+        standing_of(&self.accounts, account)
+    }
+
+    // Gives an account of the registry the standing.
+    fn set_standing(&mut self, account: u64, standing: Standing)
+        requires { IsSome (map.get self.old.accounts account) }
+        ensures accounts { (n : ℕ) → map.get self.new.accounts n ≡ (if n == account then Some standing else map.get self.old.accounts n) }
+        ensures lots { self.new.lots ≡ self.old.lots }
+    {
+        set_standing(&mut self.accounts, account, standing);
+    }
+
+    // Whether each of the block's units is in the account, with the block's kind.
+    fn holds(&self, account: u64, block: &Block) -> bool
+        ensures all { OnTrue result ((s : Serial) → IsTrue (has_unit block.now.raw s) → IsHeldAs self.now account block.now.raw.kind s) }
+        ensures lacking { OnFalse result ((s : Serial) × IsTrue (has_unit block.now.raw s) × (IsHeldAs self.now account block.now.raw.kind s → ⊥)) }
+    {
+        let kind = block.raw.kind;
+        self.lots
+            .has_all_of(block, |lot| lot.account == account && lot.kind == kind)
+    }
+
+    // Whether each unit of the blocks is in the account, with its block's kind.
+    fn holds_each(&self, account: u64, blocks: &[Block]) -> bool
+        ensures all { OnTrue result (AreHeld self.now account blocks.now) }
+        ensures lacking { OnFalse result (IsLacking self.now account blocks.now) }
+    {
+        blocks.iter().all(|block| self.holds(account, block))
+    }
+
+    // Whether each of the block's units is there, reserved by none.
+    fn is_free(&self, block: &Block) -> bool
+        ensures all { OnTrue result ((s : Serial) → IsTrue (has_unit block.now.raw s) → option_map (λ lot. is_none lot.reserving) (map.get self.now.lots s) ≡ Some true) }
+        ensures lacking { OnFalse result ((s : Serial) × IsTrue (has_unit block.now.raw s) × (option_map (λ lot. is_none lot.reserving) (map.get self.now.lots s) ≢ Some true)) }
+    {
+        self.lots.has_all_of(block, |lot| lot.reserving.is_none())
+    }
+
+    // Whether each unit of the blocks is there, reserved by none.
+    fn is_each_free(&self, blocks: &[Block]) -> bool
+        ensures all { OnTrue result (AreFree self.now blocks.now) }
+        ensures lacking { OnFalse result ((s : Serial) × IsTrue (covers blocks.now s) × (option_map (λ lot. is_none lot.reserving) (map.get self.now.lots s) ≢ Some true)) }
+    {
+        blocks.iter().all(|block| self.is_free(block))
+    }
+
+    /// Whether the account may reserve the blocks' units: it is open and has them all with their
+    /// blocks' kinds, none of them reserved. Each check looks at all units before the next one
+    /// does. Refused with 104: the account is unknown or closed; 105: a unit isn't held in the
+    /// account with its block's kind; 106: a unit is reserved. Takes no memory.
+    pub fn check(&self, account: u64, blocks: &[Block]) -> Result<(), Refusal>
+        ensures ok { OnOk result (MayReserve self.now account blocks.now) }
+        ensures err { IfErr result (λ r. IsReserveRefusal self.now account blocks.now r.code) }
+    {
+        if self.is_open(account) != Some(true) {
+            return Err(Refusal { code: 104 });
+        }
+        if !self.holds_each(account, blocks) {
+            return Err(Refusal { code: 105 });
+        }
+        if !self.is_each_free(blocks) {
+            return Err(Refusal { code: 106 });
+        }
+        Ok(())
+    }
+
+    /// Reserves the blocks' units for the transaction. Refused as `check` refuses, or with 50: out
+    /// of memory. After a refusal nothing has changed.
+    pub fn reserve(
+        &mut self,
+        account: u64,
+        blocks: &[Block],
+        id: TransactionId,
+    ) -> Result<(), Refusal>
+        ensures may { OnOk result (MayReserve self.old account blocks.now) }
+        ensures ok { OnOk result ((self.new.accounts ≡ self.old.accounts) × ((s : Serial) → map.get self.new.lots s ≡ (if covers blocks.now s then option_map (reserved id) (map.get self.old.lots s) else map.get self.old.lots s))) }
+        ensures refused { IfErr result (λ r. (r.code ≡ 50) ⊎ IsReserveRefusal self.old account blocks.now r.code) }
+        ensures err { OnErr result (self.new ≡ self.old) }
+    {
+        self.check(account, blocks)?;
+        let Ok(lots) = placed(&self.lots, account, blocks, Some(id)) else {
+            return Err(Refusal { code: 50 });
+        };
+        self.lots = lots;
+        Ok(())
+    }
+
+    /// Lets go what the transaction reserves. Takes no memory.
+    pub fn release(&mut self, id: TransactionId)
+        ensures accounts { self.new.accounts ≡ self.old.accounts }
+        ensures lots { (s : Serial) → map.get self.new.lots s ≡ option_map (released id) (map.get self.old.lots s) }
+    {
+        self.lots.remark(|lot| {
+            if is_reserved_by(&lot, id) {
+                Lot {
+                    reserving: None,
+                    ..lot
+                }
+            } else {
+                lot
+            }
+        });
+    }
+
+    /// Takes out what the transaction reserves. Takes no memory.
+    pub fn remove(&mut self, id: TransactionId)
+        ensures accounts { self.new.accounts ≡ self.old.accounts }
+        ensures lots { (s : Serial) → map.get self.new.lots s ≡ marks_that (λ lot. not (is_reserved_by id lot)) (map.get self.old.lots s) }
+    {
+        self.lots.retain(|lot| !is_reserved_by(&lot, id));
+    }
+
+    /// Puts the blocks' units into the account, free. The account is open, and none of the units
+    /// is in two of the blocks or held already. After `NoMemory` nothing has changed.
+    pub fn credit(&mut self, account: u64, blocks: &[Block]) -> Result<(), NoMemory>
+        requires open_account { IsOpen self.old account }
+        requires apart { AllApart blocks.now }
+        requires absent { (s : Serial) → IsTrue (covers blocks.now s) → map.get self.old.lots s ≡ None }
+        ensures ok { OnOk result ((self.new.accounts ≡ self.old.accounts) × ((s : Serial) → map.get self.new.lots s ≡ option_or (option_map (free_lot account) (kind_in blocks.now s)) (map.get self.old.lots s))) }
+        ensures err { OnErr result (self.new ≡ self.old) }
+    {
+        self.lots = placed(&self.lots, account, blocks, None)?;
+        Ok(())
+    }
+
+    /// Opens a closed account. Refused with 110: the registry has no such account; 111: it is open
+    /// already. After a refusal nothing has changed. Takes no memory.
+    pub fn open_account(&mut self, account: u64) -> Result<(), Refusal>
+        ensures ok { OnOk result ((map.get self.old.accounts account ≡ Some Closed) × (self.new.lots ≡ self.old.lots) × ((n : ℕ) → map.get self.new.accounts n ≡ (if n == account then Some Open else map.get self.old.accounts n))) }
+        ensures refused { IfErr result (λ r. IsOpenRefusal self.old account r.code) }
+        ensures err { OnErr result (self.new ≡ self.old) }
+    {
+        match self.standing(account) {
+            None => Err(Refusal { code: 110 }),
+            Some(Standing::Open) => Err(Refusal { code: 111 }),
+            Some(Standing::Closed) => {
+                self.set_standing(account, Standing::Open);
+                Ok(())
+            }
+        }
+    }
+
+    /// Closes an open account that holds nothing. Refused with 110: the registry has no such
+    /// account; 111: it is closed already; 112: it holds units. After a refusal nothing has
+    /// changed. Takes no memory.
+    pub fn close_account(&mut self, account: u64) -> Result<(), Refusal>
+        ensures ok { OnOk result ((map.get self.old.accounts account ≡ Some Open) × (HasUnits self.old account → ⊥) × (self.new.lots ≡ self.old.lots) × ((n : ℕ) → map.get self.new.accounts n ≡ (if n == account then Some Closed else map.get self.old.accounts n))) }
+        ensures refused { IfErr result (λ r. IsCloseRefusal self.old account r.code) }
+        ensures err { OnErr result (self.new ≡ self.old) }
+    {
+        match self.standing(account) {
+            None => Err(Refusal { code: 110 }),
+            Some(Standing::Closed) => Err(Refusal { code: 111 }),
+            Some(Standing::Open) => {
+                if self.lots.has_mark(|lot| lot.account == account) {
+                    return Err(Refusal { code: 112 });
+                }
+                self.set_standing(account, Standing::Closed);
+                Ok(())
+            }
+        }
+    }
+
+    // Whether one of the block's units is held.
+    fn holds_some_of(&self, block: &Block) -> bool
+        ensures some { OnTrue result ((s : Serial) × IsTrue (has_unit block.now.raw s) × IsSome (map.get self.now.lots s)) }
+        ensures none { OnFalse result ((s : Serial) → IsTrue (has_unit block.now.raw s) → map.get self.now.lots s ≡ None) }
+    {
+        !self.lots.has_none_of(block)
+    }
+
+    /// Whether one of the blocks' units is held. Takes no memory.
+    pub fn holds_any(&self, blocks: &[Block]) -> bool
+        ensures some { OnTrue result ((s : Serial) × IsTrue (covers blocks.now s) × IsSome (map.get self.now.lots s)) }
+        ensures none { OnFalse result ((s : Serial) → IsTrue (covers blocks.now s) → map.get self.now.lots s ≡ None) }
+    {
+        blocks.iter().any(|block| self.holds_some_of(block))
+    }
+
+    /// How many units the account has that no transaction reserves. Takes no memory.
+    pub fn free_count(&self, account: u64) -> u64
+        ensures { result ≡ count_by (λ e. is_free_in account e.1) (map.entries self.now.lots) }
+    {
+        self.lots
+            .count_where(|lot| lot.account == account && lot.reserving.is_none())
+    }
+
+    /// What is held, as lines by account and then in the order of units, neighbours with one
+    /// account, kind and reserving transaction joined. Or `NoMemory`.
+    pub fn lines(&self, alloc: Global) -> Result<Vec<Line>, NoMemory>
+        ensures { IfOk result (λ v. AreLines self.now v.items) }
+    {
+        let intervals = self.lots.in_order()?;
+        Ok(lines(alloc, &intervals)?)
+    }
+}

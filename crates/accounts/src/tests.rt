@@ -16,7 +16,7 @@ fn hundred(alloc: Global) -> Result<Holdings, Fail> {
 }
 
 #[test]
-fn units_are_reserved_once(rt: HostRuntime) -> Result<(), Fail> {
+fn holdings_are_reserved_once(rt: HostRuntime) -> Result<(), Fail> {
     let mut holdings = hundred(rt.alloc())?;
     let first = TransactionId::read("NZ1").ok_or("an identifier")?;
     let second = TransactionId::read("NZ2").ok_or("an identifier")?;
@@ -41,7 +41,7 @@ fn units_are_reserved_once(rt: HostRuntime) -> Result<(), Fail> {
 }
 
 #[test]
-fn reserved_units_are_taken_out(rt: HostRuntime) -> Result<(), Fail> {
+fn holdings_are_taken_out(rt: HostRuntime) -> Result<(), Fail> {
     let mut holdings = hundred(rt.alloc())?;
     let id = TransactionId::read("NZ1").ok_or("an identifier")?;
     let blocks = [
@@ -65,7 +65,7 @@ fn reserved_units_are_taken_out(rt: HostRuntime) -> Result<(), Fail> {
 }
 
 #[test]
-fn accounts_are_closed_and_opened(rt: HostRuntime) -> Result<(), Fail> {
+fn holdings_are_closed_and_opened(rt: HostRuntime) -> Result<(), Fail> {
     let mut holdings = hundred(rt.alloc())?;
     assert_eq!(rt; holdings.close_account(1), refusal(112));
     assert_eq!(rt; holdings.close_account(2), Ok(()));

@@ -1,7 +1,7 @@
 -- The map that intervals mean answers as the list does.
-use Rattle.std.proofs.Common.{◌≡◌, ℕ, ◌+◌, ◌-◌, zero, suc, List, [], ◌∷◌, Bool, true, false, ◌&&◌, cond, eqb, leb, ltb, Option, Some, None, find, refl, sym, ap, ◌∙◌, arith}
+use Rattle.std.proofs.Common.{◌≡◌, ℕ, ◌+◌, ◌-◌, zero, suc, List, [], ◌∷◌, Bool, true, false, ◌&&◌, cond, eqb, leb, ltb, Option, Some, find, refl, sym, ap, ◌∙◌, arith}
 use Rattle.std.specs.Option.{option_map}
-use Rattle.std.specs.FinMap.{FinMap, get, get-empty, get-insert, same_map}
+use Rattle.std.specs.FinMap.{get, get-empty, get-insert, same_map}
 use Rattle.std.proofs.lemmas.Bool.Decides.{nat_tests}
 use Rattle.units.specs.Code.{same_code}
 use Rattle.units.specs.Intervals.{has, mark_at, numbered, Marks, put_units, size, marks_of}

@@ -1,6 +1,6 @@
 -- Neighbours joined: what a list of intervals means, and that they stay apart and in order.
 use Rattle.std.proofs.Common.{◌≡◌, ◌⊎◌, inl, inr, ℕ, ◌+◌, ◌<◌, ◌≤◌, zero, suc, List, [], ◌∷◌, ◌++◌, length, get_or, set, take, Bool, true, false, ◌&&◌, cond, leb, Option, Some, None, append_assoc, refl, sym, ap, ◌∙◌, subst, arith}
-use Rattle.std.proofs.lemmas.Bool.{true≢false, false≢true, and_parts, and_from, eqb-true, eq-eqb}
+use Rattle.std.proofs.lemmas.Bool.{true≢false, false≢true, and_parts, eqb-true}
 use Rattle.std.proofs.lemmas.Bool.Decides.{nat_tests}
 use Rattle.units.specs.Canonical.{GoesOn, IsBefore, AreCanonical}
 use Rattle.units.specs.Code.{same_code}
@@ -13,7 +13,7 @@ use Rattle.units.specs.declared.block.Period.{Period}
 use Rattle.units.specs.declared.block.Period.TheVariants.{First, Second}
 use Rattle.units.specs.declared.block.Unit.{Unit as Serial}
 use Rattle.units.specs.declared.interval.Interval.{Interval}
-use Rattle.units.proofs.Same.{code_of_same, same_code-refl}
+use Rattle.units.proofs.Same.{code_of_same}
 
 -- ---- what the tests say
 

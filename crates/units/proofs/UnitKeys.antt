@@ -1,5 +1,5 @@
 -- The order of units tells them apart.
-use Rattle.std.proofs.Common.{◌≡◌, ℕ, Bool, true, false, ◌&&◌, eqb, refl, sym, ap, ◌∙◌, arith}
+use Rattle.std.proofs.Common.{◌≡◌, ℕ, ◌&&◌, eqb, refl, ap, arith}
 use Rattle.std.specs.declared.cmp.Ordering.{Ordering}
 use Rattle.std.specs.Ordering.{nat_cmp, ordering_then, eq_by_cmp}
 use Rattle.std.specs.Cmp.{IsTotalOrder}
@@ -9,7 +9,7 @@ use Rattle.units.specs.contracts.block.UnitOrd.TheImpl.Laws.{total-law as unit-t
 use Rattle.units.specs.contracts.block.PeriodOrd.TheImpl.{cmp-value as period-value}
 use Rattle.units.specs.Code.{same_code}
 use Rattle.units.specs.Keys.{unit_cmp}
-use Rattle.units.specs.Unit.{same_period, period_index}
+use Rattle.units.specs.Unit.{same_period}
 use Rattle.units.specs.declared.block.Unit.{Unit as Serial}
 use Rattle.units.specs.declared.block.Period.{Period}
 use Rattle.units.specs.declared.block.Period.TheVariants.{First, Second}

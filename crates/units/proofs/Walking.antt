@@ -1,12 +1,12 @@
 -- Walking along a block, from interval to interval.
-use Rattle.std.proofs.Common.{◌≡◌, ◌≢◌, ℕ, ◌≤◌, ◌<◌, List, [], ◌∷◌, Bool, true, false, cond, find, Option, Some, None, refl, sym, ap, ◌∙◌, arith, inl, inr}
+use Rattle.std.proofs.Common.{◌≡◌, ℕ, ◌≤◌, List, [], ◌∷◌, true, false, find, Some, None, refl, sym, ap, ◌∙◌, arith, inl, inr}
 use Rattle.std.proofs.lemmas.Bool.{cases_Bool, false_from_ne_true}
 use Rattle.units.specs.Intervals.{has, mark_at, AreKept}
 use Rattle.units.specs.Unit.{has_unit}
 use Rattle.units.specs.declared.block.RawBlock.{RawBlock}
 use Rattle.units.specs.declared.block.Unit.{Unit as Serial}
 use Rattle.units.specs.declared.interval.Interval.{Interval}
-use Rattle.units.proofs.Cutting.{Within, within, within_from}
+use Rattle.units.proofs.Cutting.{within, within_from}
 
 -- the unit of the block's origin and period with this number
 abbrev pub unit_at : RawBlock → ℕ → Serial

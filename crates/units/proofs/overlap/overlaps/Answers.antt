@@ -1,4 +1,4 @@
-use Rattle.std.proofs.Common.{◌≡◌, ◌∷◌, sym, ap, subst, ◌∙◌}
+use Rattle.std.proofs.Common.{◌∷◌, sym, subst, ◌∙◌}
 use Rattle.units.specs.Apart.{AllApart}
 use Rattle.units.proofs.SharedUnits.{none_met, one_met}
 use Rattle.units.proofs.overlap.overlaps.Goals as goal

@@ -1,4 +1,4 @@
-use Rattle.std.proofs.Common.{◌≡◌, ◌≤◌, ◌<◌, ◌-◌, Bool, true, Option, Some}
+use Rattle.std.proofs.Common.{◌≡◌, ◌≤◌, ◌<◌, ◌-◌, Bool, true, Some}
 use Rattle.std.specs.Option.{option_map}
 use Rattle.units.specs.Intervals.{mark_at}
 use Rattle.units.specs.Unit.{has_unit}

@@ -1,6 +1,6 @@
-use Rattle.std.proofs.Common.{◌≡◌, ◌+◌, suc, refl, add-one}
+use Rattle.std.proofs.Common.{refl, add-one}
 use Rattle.units.specs.Cutting.{IsRemarked}
-use Rattle.units.proofs.Marking.{Front, front_all, front_more}
+use Rattle.units.proofs.Marking.{front_all, front_more}
 use Rattle.units.proofs.unit_map.remark_each.Goals as goal
 
 pub loop-interval-preserved : goal.loop-interval-preserved

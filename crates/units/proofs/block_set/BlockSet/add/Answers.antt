@@ -1,4 +1,4 @@
-use Rattle.std.proofs.Common.{◌≡◌, IsSome, subst}
+use Rattle.std.proofs.Common.{IsSome, subst}
 use Rattle.std.specs.FinMap.{get}
 use Rattle.units.proofs.block_set.BlockSet.add.Goals as goal
 

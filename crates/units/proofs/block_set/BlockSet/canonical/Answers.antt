@@ -1,4 +1,4 @@
-use Rattle.std.proofs.Common.{◌≡◌, sym, subst}
+use Rattle.std.proofs.Common.{sym, subst}
 use Rattle.units.specs.Intervals.{AreKept}
 use Rattle.units.proofs.CountingUnits.{range_at}
 use Rattle.units.proofs.block_set.BlockSet.canonical.Goals as goal

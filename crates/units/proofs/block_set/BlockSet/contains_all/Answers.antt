@@ -1,4 +1,4 @@
-use Rattle.std.proofs.Common.{◌≡◌, Bool, true, IsSome, None, sym, ap, subst, ◌∙◌, rules, inl, inr}
+use Rattle.std.proofs.Common.{Bool, true, IsSome, sym, ap, subst, ◌∙◌, rules, inl, inr}
 use Rattle.std.specs.FinMap.{get}
 use Rattle.units.specs.declared.block.Kind.{Kind}
 use Rattle.units.proofs.BlockLists.{is_there, not_there, covers_at, covers_more}

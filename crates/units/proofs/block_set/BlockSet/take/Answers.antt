@@ -1,7 +1,6 @@
-use Rattle.std.proofs.Common.{◌≡◌, Bool, true, Some, refl, sym, ap, ◌∙◌, rules}
+use Rattle.std.proofs.Common.{Some, refl, sym, ap, ◌∙◌, rules}
 use Rattle.std.specs.FinMap.{get}
 use Rattle.std.specs.Option.{option_map}
-use Rattle.units.specs.declared.block.Kind.{Kind}
 use Rattle.units.proofs.BlockLists.{is_kind, kind_from, kind_eq, passed}
 use Rattle.units.proofs.block_set.BlockSet.take.Goals as goal
 

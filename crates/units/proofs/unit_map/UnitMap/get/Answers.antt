@@ -1,6 +1,5 @@
-use Rattle.std.proofs.Common.{◌≡◌, Some, None, sym, ap, ◌∙◌}
+use Rattle.std.proofs.Common.{sym, ap, ◌∙◌}
 use Rattle.std.specs.Option.{option_map}
-use Rattle.std.specs.FinMap as map
 use Rattle.units.proofs.Marks.{found_mark}
 use Rattle.units.proofs.unit_map.UnitMap.get.Goals as goal
 

@@ -1,6 +1,5 @@
-use Rattle.std.proofs.Common.{◌≡◌, Bool, true, false, Some, sym, ap, ◌∙◌}
+use Rattle.std.proofs.Common.{Bool, true, false, sym, ap, ◌∙◌}
 use Rattle.std.specs.Bool.{OnTrue, OnFalse}
-use Rattle.std.specs.FinMap.{get}
 use Rattle.std.specs.Option.{option_map}
 use Rattle.units.specs.Intervals.{mark_at}
 use Rattle.units.specs.declared.block.Unit.{Unit as Serial}

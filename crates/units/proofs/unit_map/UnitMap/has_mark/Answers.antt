@@ -1,10 +1,9 @@
-use Rattle.std.proofs.Common.{rules, ◌≡◌, Bool, true, false, Some, sym, ap, ◌∙◌}
+use Rattle.std.proofs.Common.{rules, ◌≡◌, sym, ap, ◌∙◌}
 use Rattle.std.specs.List.{list_any}
 use Rattle.std.specs.Option.{option_map}
 use Rattle.std.proofs.lemmas.Bool.{OnTrue_from, OnFalse_from}
 use Rattle.std.proofs.lemmas.Iterator.Search.{any_from_yields_List}
 use Rattle.std.proofs.lemmas.Iterator.{YieldsList-from_slice}
-use Rattle.units.specs.declared.block.Unit.{Unit as Serial}
 use Rattle.units.proofs.Marking.{of_mark, some_unit, no_unit}
 use Rattle.units.proofs.Marks.{get_view}
 use Rattle.units.proofs.unit_map.UnitMap.has_mark.Goals as goal

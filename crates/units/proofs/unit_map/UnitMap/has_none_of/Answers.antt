@@ -1,10 +1,7 @@
-use Rattle.std.proofs.Common.{◌≡◌, Bool, true, false, not, refl, sym, ap, ◌∙◌, None, IsTrue, IsSome}
+use Rattle.std.proofs.Common.{◌≡◌, Bool, true, false, not, refl, sym, ap, ◌∙◌}
 use Rattle.std.specs.Bool.{OnTrue, OnFalse}
-use Rattle.std.specs.FinMap as map
 use Rattle.std.specs.List.{list_any}
 use Rattle.units.specs.Cutting.{meets}
-use Rattle.units.specs.Unit.{has_unit}
-use Rattle.units.specs.declared.block.Unit.{Unit as Serial}
 use Rattle.units.proofs.Cutting.{none_met, one_met}
 use Rattle.units.proofs.Marks.{get_view}
 use Rattle.units.proofs.unit_map.UnitMap.has_none_of.Goals as goal

@@ -1,4 +1,4 @@
-use Rattle.std.proofs.Common.{◌≡◌, sym, ap, ◌∙◌}
+use Rattle.std.proofs.Common.{sym, ap, ◌∙◌}
 use Rattle.units.specs.Intervals.{mark_at}
 use Rattle.units.proofs.Marks.{get_view}
 use Rattle.units.proofs.unit_map.UnitMap.in_order.Goals as goal

@@ -1,4 +1,4 @@
-use Rattle.std.proofs.Common.{◌≡◌, ap}
+use Rattle.std.proofs.Common.{ap}
 use Rattle.units.specs.Intervals.{marks_of}
 use Rattle.units.proofs.unit_map.UnitMap.new.Goals as goal
 

@@ -1,8 +1,7 @@
-use Rattle.std.proofs.Common.{rules, ◌≡◌, Bool, List, sym, ap, ◌∙◌}
+use Rattle.std.proofs.Common.{rules, ◌≡◌, sym, ap, ◌∙◌}
 use Rattle.std.specs.List.{filter}
 use Rattle.std.proofs.lemmas.Fn.{filter_same}
 use Rattle.units.specs.Intervals.{mark_at, marks_that}
-use Rattle.units.specs.declared.interval.Interval.{Interval}
 use Rattle.units.proofs.Marking.{kept-left, of_mark, mark_at-filter}
 use Rattle.units.proofs.Marks.{get-marks_of, get_view}
 use Rattle.units.proofs.unit_map.UnitMap.retain.Goals as goal

@@ -1,6 +1,6 @@
-use Rattle.std.proofs.Common.{◌≡◌, cond, sym, ap, subst, ◌∙◌}
+use Rattle.std.proofs.Common.{cond, sym, ap, ◌∙◌}
 use Rattle.units.specs.Cutting.{assigned}
-use Rattle.units.specs.Intervals.{mark_at, AreKept}
+use Rattle.units.specs.Intervals.{mark_at}
 use Rattle.units.specs.Unit.{has_unit}
 use Rattle.units.proofs.Cutting.{mark_at-assigned, kept-assigned}
 use Rattle.units.proofs.Marks.{get-marks_of, get_view}

@@ -71,7 +71,8 @@ fn placed(
 }
 
 impl Holdings {
-    /// Open accounts of these numbers, which hold nothing.
+    /// Open accounts of these numbers, which hold nothing. A number that stands twice is one
+    /// account. Or `NoMemory`.
     pub fn new(alloc: Global, accounts: &[u64]) -> Result<Holdings, NoMemory>
         ensures accounts { IfOk result (λ h. (n : ℕ) → map.get h.accounts n ≡ (if list_any (λ a. a == n) accounts.now then Some Open else None)) }
         ensures lots { IfOk result (λ h. h.lots ≡ map.empty) }

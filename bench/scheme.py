@@ -1,0 +1,117 @@
+#!/usr/bin/env python3
+"""How long reading a scheme takes, beside reading its text as JSON alone.
+
+The schemes have 2,500 blocks over 8 registries, 5,000 over 16 and 10,000 over 32, each registry with
+1,000 accounts. Printed are the best times in milliseconds, the scheme's as a multiple of the JSON's, and
+the ratio of each doubling of the scheme's time. The exit status is 1 where a ratio is over its limit.
+"""
+
+import argparse
+import itertools
+import json
+import pathlib
+import random
+import shutil
+import string
+import subprocess
+import sys
+
+CRATE = pathlib.Path(__file__).resolve().parent.parent / "crates" / "scheme_bench"
+PROGRAM = CRATE / "out" / "scheme_bench"
+# Blocks, and the registries that they are spread over.
+SIZES = ((2_500, 8), (5_000, 16), (10_000, 32))
+ACCOUNTS = 1_000
+UNITS_OF_A_BLOCK = 1_000
+MOST_BLOCKS_OF_AN_ALLOTMENT = 20
+MOST_ROUNDS = 1_000
+MOST_OF_JSON = 3.0
+MOST_DOUBLING = 2.3
+
+
+def build():
+    """Proves and builds the program, where that isn't done yet."""
+    if shutil.which("rt") is None:
+        sys.exit("rt, which builds the program, isn't on PATH")
+    # rt runs what it built, so it is asked for no rounds.
+    words = ["rt", "run", "--", "0"]
+    scheme = (CRATE / "stdin").read_text(encoding="utf-8")
+    ended = subprocess.run(words, cwd=CRATE, input=scheme, capture_output=True, text=True, check=False)
+    if ended.returncode != 0:
+        said = (ended.stdout + ended.stderr)[-2_000:]
+        sys.exit(f"the build failed; this is the end of what rt said:\n{said}")
+
+
+def allotments(accounts, blocks):
+    """The blocks in groups of 1 to 20, each for some account."""
+    rest = iter(blocks)
+    while units := list(itertools.islice(rest, random.randint(1, MOST_BLOCKS_OF_AN_ALLOTMENT))):
+        yield {"account": random.choice(accounts), "units": units}
+
+
+def block(place):
+    first = place * UNITS_OF_A_BLOCK + 1
+    return f"NZ:1:{first}-{first + UNITS_OF_A_BLOCK - 1}:AAU"
+
+
+def scheme_text(blocks, registries):
+    """The same text each time. Neither the registries nor the blocks stand in order."""
+    random.seed(blocks)
+    pairs = itertools.product(string.ascii_uppercase, repeat=2)
+    codes = ["".join(pair) for pair in itertools.islice(pairs, registries)]
+    random.shuffle(codes)
+    units = [block(place) for place in range(blocks)]
+    random.shuffle(units)
+    members = []
+    for place, code in enumerate(codes):
+        accounts = random.sample(range(1, 1_000_000_000), ACCOUNTS)
+        allotted = list(allotments(accounts, units[place::registries]))
+        member = {"accounts": accounts, "allotted": allotted, "code": code}
+        members.append(member | {"eligible": True, "kinds": ["AAU"]})
+    return json.dumps({"records": 1_000, "registries": members}, separators=(",", ":"))
+
+
+def best_times(text, rounds):
+    """The best times in milliseconds, of the text as JSON and as a scheme."""
+    words = [PROGRAM, str(rounds)]
+    ended = subprocess.run(words, input=text, stdout=subprocess.PIPE, text=True, check=False)
+    if ended.returncode != 0:
+        sys.exit(f"{PROGRAM.name} ended with status {ended.returncode}")
+    lines = [[int(word) for word in line.split(" ")] for line in ended.stdout.splitlines()]
+    if len(lines) != rounds or any(len(line) != 2 for line in lines):
+        sys.exit(f"{PROGRAM.name} printed something other than two times for each of {rounds:,} rounds")
+    return [min(times) / 1_000 for times in zip(*lines)]
+
+
+def main():
+    parser = argparse.ArgumentParser(description=__doc__.splitlines()[0])
+    parser.add_argument("--rounds", type=int, default=21, help="rounds of a run, at most 1,000")
+    parser.add_argument("--runs", type=int, default=20, help="runs of each; the best times count")
+    given = parser.parse_args()
+    rounds = min(max(1, given.rounds), MOST_ROUNDS)
+    build()
+    texts = {blocks: scheme_text(blocks, registries) for blocks, registries in SIZES}
+    best = {blocks: (float("inf"), float("inf")) for blocks in texts}
+    for _ in range(max(1, given.runs)):
+        for blocks, text in texts.items():
+            best[blocks] = tuple(map(min, best[blocks], best_times(text, rounds)))
+
+    kept = True
+    before = None
+    for blocks, (as_json, as_scheme) in best.items():
+        of_json = as_scheme / as_json
+        line = f"{blocks:>6,} blocks  JSON {as_json:.3f} ms  scheme {as_scheme:.3f} ms  ratio {of_json:.2f}"
+        if blocks == SIZES[-1][0]:
+            kept = kept and of_json <= MOST_OF_JSON
+            line += f" (limit {MOST_OF_JSON})"
+        if before is not None:
+            doubling = as_scheme / before
+            kept = kept and doubling <= MOST_DOUBLING
+            line += f"  doubling {doubling:.2f} (limit {MOST_DOUBLING})"
+        print(line)
+        before = as_scheme
+    print("within the limits" if kept else "over a limit")
+    return 0 if kept else 1
+
+
+if __name__ == "__main__":
+    sys.exit(main())

@@ -342,23 +342,12 @@ fn one_verdict(rt: HostRuntime) -> Result<(), Fail> {
     let alloc = rt.alloc();
     let transfer = block_transfer()?;
     let scheme = Scheme::read(alloc, SCHEME.as_bytes())?;
-    let nz = scheme
-        .member(transfer.nz)
-        .ok_or("no registry")?
-        .copy(alloc)?;
-    assert_eq!(rt; nz.accounts.as_slice(), [1, 2].as_slice());
-    assert_eq!(rt; nz.allotted.as_slice().len(), 1);
-    for allotment in nz.allotted.as_slice() {
-        let allotment = allotment.copy()?;
-        assert_eq!(rt; allotment.account, 1);
-        assert_eq!(rt; allotment.units.as_slice(), [transfer.block].as_slice());
-    }
     let mut transitions = VecDeque::new(alloc);
     let input = order(alloc, &transfer)?.copy()?;
     let answer = judge(
         alloc,
         &scheme,
-        Node::Registry(nz.code),
+        Node::Registry(transfer.nz),
         &transitions,
         0,
         &input,

@@ -18,7 +18,7 @@ pub struct Interval<M> {
 
 impl<M> Interval<M> {
     /// The block's units with that mark.
-    pub fn of(block: &Block, mark: M) -> Interval<M>
+    pub(crate) fn of(block: &Block, mark: M) -> Interval<M>
         ensures { result ≡ marked block.now.raw mark }
     {
         Interval {

@@ -176,10 +176,7 @@ impl Holdings {
         ensures err { OnErr result (self.new ≡ self.old) }
     {
         self.check(account, blocks)?;
-        let Ok(lots) = placed(&self.lots, account, blocks, Some(id)) else {
-            return Err(Refusal { code: 50 });
-        };
-        self.lots = lots;
+        self.lots = placed(&self.lots, account, blocks, Some(id))?;
         Ok(())
     }
 

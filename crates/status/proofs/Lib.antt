@@ -1,1 +1,2 @@
 pub mod Ids
+pub mod Contents

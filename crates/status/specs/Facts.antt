@@ -8,3 +8,7 @@ IsTransactionNumber n = (1 ≤ n) × (n ≤ 999_999)
 -- 9998-12-31T23:59:59Z
 abbrev pub last_moment : ℕ
 last_moment = 253_370_764_799
+
+-- an account's number
+abbrev pub IsAccountNumber : ℕ → Type 0
+IsAccountNumber n = (1 ≤ n) × (n ≤ 999_999_999)

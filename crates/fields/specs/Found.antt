@@ -1,0 +1,10 @@
+-- What a reader answers: a value as described, or that there is none.
+use Rattle.std.specs.Prelude.{Result, Ok, Err}
+use Rattle.fields.specs.declared.fault.ReadFault.{ReadFault}
+use Rattle.fields.specs.declared.fault.ReadFault.TheVariants.{Shape, NoMemory}
+
+-- a value as described, or Shape where there is none; memory may run out
+abbrev pub Finds : {X : Type 0} → (X → Type 0) → Result X ReadFault → Type 0
+Finds P (Ok x) = P x
+Finds {X} P (Err Shape) = (x : X) → P x → ⊥
+Finds P (Err NoMemory) = Unit {0}

@@ -1,0 +1,108 @@
+//! An order to transfer units.
+ghost use Rattle.std.specs.Prelude.{◌≡◌, ◌<◌, ◌^◌, ◌↔◌, IsTrue, IfOk, IfSome, IfNone};
+ghost use Rattle.std.specs.List.{AllByRecursion};
+ghost use Rattle.status.specs.Order.{IsOrder};
+
+use std::marker::Model;
+use units::{Code, Items, NoMemory, RawBlock};
+
+// 10^18, the first number of more than 18 digits
+const TOO_LONG: u64 = 1_000_000_000_000_000_000;
+
+/// An order to transfer units, as it was given: none of its parts is checked, except that its
+/// numbers have at most 18 digits.
+#[derive(Debug, Drop)]
+pub struct Order {
+    account: u64,
+    to_registry: Code,
+    to_account: u64,
+    units: Items<RawBlock>,
+}
+
+impl Model for Order {
+    ghost use Rattle.status.specs.Order.{Order as Asked, IsOrder};
+
+    ghost Value = { Asked };
+
+    ghost view = { λ o. record { account = o.account; to_registry = o.to_registry; to_account = o.to_account; units = o.units } };
+
+    ghost invariant = { λ o. IsOrder (record { account = o.account; to_registry = o.to_registry; to_account = o.to_account; units = o.units }) };
+}
+
+fn are_short(blocks: &[RawBlock]) -> bool
+    ensures { IsTrue result ↔ AllByRecursion (λ b. (b.first < 10 ^ 18) × (b.last < 10 ^ 18)) blocks.now }
+{
+    for block in blocks {
+        if block.first >= TOO_LONG || block.last >= TOO_LONG {
+            return false;
+        }
+    }
+    true
+}
+
+impl Order {
+    /// An order of these parts, or `None` where a number has more than 18 digits.
+    pub fn new(
+        account: u64,
+        to_registry: Code,
+        to_account: u64,
+        units: Items<RawBlock>,
+    ) -> Option<Order>
+        ensures some { IfSome result (λ o. o ≡ record { account = account; to_registry = to_registry; to_account = to_account; units = units }) }
+        ensures none { IfNone result (IsOrder (record { account = account; to_registry = to_registry; to_account = to_account; units = units }) → ⊥) }
+    {
+        if account < TOO_LONG && to_account < TOO_LONG && are_short(units.as_slice()) {
+            Some(Order {
+                account,
+                to_registry,
+                to_account,
+                units,
+            })
+        } else {
+            None
+        }
+    }
+
+    /// The account that the units are to leave.
+    pub fn account(&self) -> u64
+        ensures value { result ≡ self.now.account }
+        ensures valid { IsOrder self.now }
+    {
+        self.account
+    }
+
+    /// The registry that the units are to go to.
+    pub fn to_registry(&self) -> Code
+        ensures { result ≡ self.now.to_registry }
+    {
+        self.to_registry
+    }
+
+    /// The account there that the units are to go to.
+    pub fn to_account(&self) -> u64
+        ensures value { result ≡ self.now.to_account }
+        ensures valid { IsOrder self.now }
+    {
+        self.to_account
+    }
+
+    /// The blocks as they were ordered.
+    pub fn units(&self) -> &[RawBlock]
+        ensures value { result.now ≡ self.now.units }
+        ensures valid { IsOrder self.now }
+    {
+        self.units.as_slice()
+    }
+
+    /// An equal order, or `NoMemory`.
+    pub fn copy(&self) -> Result<Order, NoMemory>
+        ensures { IfOk result (λ o. o ≡ self.now) }
+    {
+        Ok(Order {
+            account: self.account,
+            to_registry: self.to_registry,
+            to_account: self.to_account,
+            units: self.units.copy()?,
+        })
+    }
+}

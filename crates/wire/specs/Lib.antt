@@ -1,0 +1,5 @@
+pub mod Codes
+pub mod Notices
+pub mod Objects
+pub mod Messages
+pub mod Records

@@ -1,0 +1,117 @@
+//! The codes of findings, as a notification carries them.
+ghost use Rattle.std.specs.Prelude.{◌≡◌, ◌<◌, ◌↔◌, IsTrue, IfOk, IfSome, IfNone};
+ghost use Rattle.wire.specs.Codes.{Ascends, AreLogCodes, AreAcquirerCodes};
+
+use std::marker::Model;
+use units::{Items, NoMemory};
+
+/// What the log found: one or more of 201 to 208, strictly ascending.
+#[derive(Debug, Drop)]
+pub struct LogCodes {
+    held: Items<u16>,
+}
+
+impl Model for LogCodes {
+    ghost use Rattle.std.specs.Prelude.{ℕ, List};
+    ghost use Rattle.wire.specs.Codes.{AreLogCodes};
+
+    ghost Value = { List ℕ };
+
+    ghost view = { λ c. c.held };
+
+    ghost invariant = { λ c. AreLogCodes c.held };
+}
+
+/// What the acquirer found: one or more of 301 to 304, strictly ascending.
+#[derive(Debug, Drop)]
+pub struct AcquirerCodes {
+    held: Items<u16>,
+}
+
+impl Model for AcquirerCodes {
+    ghost use Rattle.std.specs.Prelude.{ℕ, List};
+    ghost use Rattle.wire.specs.Codes.{AreAcquirerCodes};
+
+    ghost Value = { List ℕ };
+
+    ghost view = { λ c. c.held };
+
+    ghost invariant = { λ c. AreAcquirerCodes c.held };
+}
+
+// Whether the codes ascend strictly from `first` to `last`.
+fn ascends(codes: &[u16], first: u16, last: u16) -> bool
+    requires { last < 1_000 }
+    ensures { IsTrue result ↔ Ascends first last codes.now }
+{
+    let mut least = first;
+    for code in codes {
+        if *code < least || *code > last {
+            return false;
+        }
+        least = *code + 1;
+    }
+    true
+}
+
+impl LogCodes {
+    /// These codes, or `None` where there is none, one is outside 201 to 208, or they don't ascend.
+    pub fn new(codes: Items<u16>) -> Option<LogCodes>
+        ensures some { IfSome result (λ c. c ≡ codes) }
+        ensures none { IfNone result (AreLogCodes codes → ⊥) }
+    {
+        if codes.as_slice().len() >= 1 && ascends(codes.as_slice(), 201, 208) {
+            Some(LogCodes { held: codes })
+        } else {
+            None
+        }
+    }
+
+    /// The codes, 1 to 8.
+    pub fn as_slice(&self) -> &[u16]
+        ensures value { result.now ≡ self.now }
+        ensures valid { AreLogCodes self.now }
+    {
+        self.held.as_slice()
+    }
+
+    /// Equal codes, or `NoMemory`.
+    pub fn copy(&self) -> Result<LogCodes, NoMemory>
+        ensures { IfOk result (λ c. c ≡ self.now) }
+    {
+        Ok(LogCodes {
+            held: self.held.copy()?,
+        })
+    }
+}
+
+impl AcquirerCodes {
+    /// These codes, or `None` where there is none, one is outside 301 to 304, or they don't ascend.
+    pub fn new(codes: Items<u16>) -> Option<AcquirerCodes>
+        ensures some { IfSome result (λ c. c ≡ codes) }
+        ensures none { IfNone result (AreAcquirerCodes codes → ⊥) }
+    {
+        if codes.as_slice().len() >= 1 && ascends(codes.as_slice(), 301, 304) {
+            Some(AcquirerCodes { held: codes })
+        } else {
+            None
+        }
+    }
+
+    /// The codes, 1 to 4.
+    pub fn as_slice(&self) -> &[u16]
+        ensures value { result.now ≡ self.now }
+        ensures valid { AreAcquirerCodes self.now }
+    {
+        self.held.as_slice()
+    }
+
+    /// Equal codes, or `NoMemory`.
+    pub fn copy(&self) -> Result<AcquirerCodes, NoMemory>
+        ensures { IfOk result (λ c. c ≡ self.now) }
+    {
+        Ok(AcquirerCodes {
+            held: self.held.copy()?,
+        })
+    }
+}

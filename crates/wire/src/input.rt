@@ -1,0 +1,69 @@
+//! What a node takes, and records in its journal.
+ghost use Rattle.std.specs.Prelude.{◌≡◌, ◌<◌, ◌^◌, IfOk, IfSome, IfNone};
+
+use crate::message::Message;
+use status::{Moment, Order};
+use units::{Code, NoMemory};
+
+/// A number of at most 18 digits.
+#[derive(Clone, Copy, Debug, PartialEq, Eq, PartialOrd, Ord)]
+pub struct Number {
+    pub value: u64,
+    pub ghost short: { value < 10 ^ 18 },
+}
+
+/// What a node takes, and records in its journal.
+#[derive(Debug, Drop)]
+pub enum Input {
+    /// An order to transfer units.
+    Propose(Order),
+    /// An order to open the account of that number.
+    OpenAccount(Number),
+    /// An order to close the account of that number.
+    CloseAccount(Number),
+    /// The message that the node sent with that key was received.
+    Ack(Number),
+    /// Transfers that were Checked a day or more before that moment are to be cancelled.
+    CleanUp(Moment),
+    /// Whether that registry may take part in transfers from here on.
+    Eligible { registry: Code, may: bool },
+    /// A message, and the moment at which it came.
+    Received { message: Message, moment: Moment },
+}
+
+impl Number {
+    /// That number, where it has at most 18 digits.
+    pub fn new(value: u64) -> Option<Number>
+        ensures some { IfSome result (λ n. n.value ≡ value) }
+        ensures none { IfNone result (value < 10 ^ 18 → ⊥) }
+    {
+        if value < 1_000_000_000_000_000_000 {
+            Some(Number { value })
+        } else {
+            None
+        }
+    }
+}
+
+impl Input {
+    /// An equal input, or `NoMemory`.
+    pub fn copy(&self) -> Result<Input, NoMemory>
+        ensures { IfOk result (λ i. i ≡ self.now) }
+    {
+        match self {
+            Input::Propose(order) => Ok(Input::Propose(order.copy()?)),
+            Input::OpenAccount(account) => Ok(Input::OpenAccount(*account)),
+            Input::CloseAccount(account) => Ok(Input::CloseAccount(*account)),
+            Input::Ack(key) => Ok(Input::Ack(*key)),
+            Input::CleanUp(moment) => Ok(Input::CleanUp(*moment)),
+            Input::Eligible { registry, may } => Ok(Input::Eligible {
+                registry: *registry,
+                may: *may,
+            }),
+            Input::Received { message, moment } => Ok(Input::Received {
+                message: message.copy()?,
+                moment: *moment,
+            }),
+        }
+    }
+}

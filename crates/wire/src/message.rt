@@ -1,0 +1,134 @@
+//! Messages between registries and the log.
+ghost use Rattle.std.specs.Prelude.{◌≡◌, IfOk};
+ghost use Rattle.wire.specs.Notices.{notice_status, notice_codes, proposal_status, IsNotice};
+
+use crate::notice::Notice;
+use status::{Content, Status, TransactionId};
+use units::{NoMemory, Node};
+
+/// Where a proposal stands: Proposed on its way to the log, Checked on its way to the acquirer.
+#[derive(Clone, Copy, Debug, PartialEq, Eq)]
+pub enum ProposalStatus {
+    Proposed,
+    Checked,
+}
+
+/// A transfer that a registry proposes, and that the log passes on.
+#[derive(Debug, Drop)]
+pub struct Proposal {
+    pub from: Node,
+    pub to: Node,
+    /// Its code is the initiator.
+    pub id: TransactionId,
+    pub status: ProposalStatus,
+    pub content: Content,
+}
+
+/// How a transfer stands at the node that it is from.
+#[derive(Debug, Drop)]
+pub struct Notification {
+    pub from: Node,
+    pub to: Node,
+    pub id: TransactionId,
+    pub notice: Notice,
+}
+
+/// A message from one node to another.
+#[derive(Debug, Drop)]
+pub enum Message {
+    Proposal(Proposal),
+    Notification(Notification),
+}
+
+impl ProposalStatus {
+    /// The status of a transfer that it stands for.
+    pub fn status(self) -> Status
+        ensures { result ≡ proposal_status self }
+    {
+        match self {
+            ProposalStatus::Proposed => Status::Proposed,
+            ProposalStatus::Checked => Status::Checked,
+        }
+    }
+}
+
+impl Notice {
+    /// The status that it tells.
+    pub fn status(&self) -> Status
+        ensures { result ≡ notice_status self.now }
+    {
+        match self {
+            Notice::Accepted => Status::Accepted,
+            Notice::Rejected(_) => Status::Rejected,
+            Notice::Terminated(_) => Status::Terminated,
+            Notice::Cancelled => Status::Cancelled,
+            Notice::Completed => Status::Completed,
+        }
+    }
+
+    /// The codes of what was found: none but at Rejected and Terminated.
+    pub fn codes(&self) -> &[u16]
+        ensures value { result.now ≡ notice_codes self.now }
+        ensures valid { IsNotice self.now }
+    {
+        match self {
+            Notice::Rejected(codes) => codes.as_slice(),
+            Notice::Terminated(codes) => codes.as_slice(),
+            _ => &[],
+        }
+    }
+
+    /// An equal notice, or `NoMemory`.
+    pub fn copy(&self) -> Result<Notice, NoMemory>
+        ensures { IfOk result (λ n. n ≡ self.now) }
+    {
+        match self {
+            Notice::Accepted => Ok(Notice::Accepted),
+            Notice::Rejected(codes) => Ok(Notice::Rejected(codes.copy()?)),
+            Notice::Terminated(codes) => Ok(Notice::Terminated(codes.copy()?)),
+            Notice::Cancelled => Ok(Notice::Cancelled),
+            Notice::Completed => Ok(Notice::Completed),
+        }
+    }
+}
+
+impl Proposal {
+    /// An equal proposal, or `NoMemory`.
+    pub fn copy(&self) -> Result<Proposal, NoMemory>
+        ensures { IfOk result (λ p. p ≡ self.now) }
+    {
+        Ok(Proposal {
+            from: self.from,
+            to: self.to,
+            id: self.id,
+            status: self.status,
+            content: self.content.copy()?,
+        })
+    }
+}
+
+impl Notification {
+    /// An equal notification, or `NoMemory`.
+    pub fn copy(&self) -> Result<Notification, NoMemory>
+        ensures { IfOk result (λ n. n ≡ self.now) }
+    {
+        Ok(Notification {
+            from: self.from,
+            to: self.to,
+            id: self.id,
+            notice: self.notice.copy()?,
+        })
+    }
+}
+
+impl Message {
+    /// An equal message, or `NoMemory`.
+    pub fn copy(&self) -> Result<Message, NoMemory>
+        ensures { IfOk result (λ m. m ≡ self.now) }
+    {
+        match self {
+            Message::Proposal(proposal) => Ok(Message::Proposal(proposal.copy()?)),
+            Message::Notification(notification) => Ok(Message::Notification(notification.copy()?)),
+        }
+    }
+}

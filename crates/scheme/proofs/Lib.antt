@@ -7,6 +7,5 @@ pub mod Told
 pub mod Free
 pub mod Lists
 pub mod Unique
-pub mod Finds
 pub mod OneAnswer
 pub mod Holders

@@ -8,12 +8,16 @@ use mathlib.Core.HLevel.{is_prop→PathP}
 use Rattle.std.proofs.lemmas.List.Sorted.{IsPermutation-sym, Contains-permutation}
 use Rattle.serde_json.specs.Data.{Data}
 use Rattle.serde_json.specs.Read.{read}
+use Rattle.fields.specs.Found.{Finds}
+use Rattle.fields.specs.declared.fault.ReadFault.{ReadFault}
+use Rattle.fields.specs.declared.fault.ReadFault.TheVariants as read_fault
+use Rattle.scheme.specs.Unread.{fault_from}
 use Rattle.scheme.specs.Grammar.{IsWritten}
 use Rattle.scheme.specs.Order.{IsFreeOf, AreMembers, code_rank, faults_in_order}
 use Rattle.scheme.specs.Props.{AreMembers-prop}
 use Rattle.scheme.specs.Faults.{IsFirst, Writes, IsNoJson, IsOutside, HasFault, IsFault}
 use Rattle.scheme.specs.Text.{IsSchemeText}
-use Rattle.scheme.specs.Reading.{Finds, IsSchemeOf, HasFaultOf, IsFaultOf}
+use Rattle.scheme.specs.Reading.{IsSchemeOf, HasFaultOf, IsFaultOf}
 use Rattle.scheme.specs.declared.members.Member.{Member}
 use Rattle.scheme.specs.declared.members.SchemeFault.{SchemeFault}
 use Rattle.scheme.specs.declared.members.SchemeFault.TheVariants.{NotJson, Shape, TooMany, TooFew, CodeTwice, AccountTwice, UnknownAccount, AllotmentOverlap, NoMemory}
@@ -76,18 +80,11 @@ pub fault_of_sorted : (d : Data) (records : ℕ) (listed ms : List Member) (f : 
 fault_of_sorted d records listed ms f written s first =
     fault_of_first d f (records, listed, written, first_moved faults_in_order ms listed f (IsPermutation-sym listed ms s) first)
 
-fault_of_written : (d : Data) (e : SchemeFault) → Finds {X = ℕ × List Member} (λ p. IsWritten d p.0 p.1) (Err e) → IsFaultOf d e
-fault_of_written d NotJson p = p
-fault_of_written d Shape p = λ records ms is. p (records, ms) is
-fault_of_written d TooMany p = absurd p
-fault_of_written d TooFew p = absurd p
-fault_of_written d CodeTwice p = absurd p
-fault_of_written d AccountTwice p = absurd p
-fault_of_written d UnknownAccount p = absurd p
-fault_of_written d AllotmentOverlap p = absurd p
-fault_of_written d NoMemory p = tt
+fault_of_written : (d : Data) (e : ReadFault) → Finds {X = ℕ × List Member} (λ p. IsWritten d p.0 p.1) (Err e) → IsFaultOf d (fault_from e)
+fault_of_written d read_fault.Shape p = λ records ms is. p (records, ms) is
+fault_of_written d read_fault.NoMemory p = tt
 
-pub fault_told : {X : Type 0} (d : Data) (e : SchemeFault) (r : Result X SchemeFault) → IsErrAnd r (λ f. f ≡ e) → Finds {X = ℕ × List Member} (λ p. IsWritten d p.0 p.1) (Err e) → IfErr r (IsFaultOf d)
+pub fault_told : {X : Type 0} (d : Data) (e : ReadFault) (r : Result X SchemeFault) → IsErrAnd r (λ f. f ≡ fault_from e) → Finds {X = ℕ × List Member} (λ p. IsWritten d p.0 p.1) (Err e) → IfErr r (IsFaultOf d)
 fault_told d e (Ok x) same p = tt
 fault_told d e (Err f) same p = subst (IsFaultOf d) (sym same) (fault_of_written d e p)
 

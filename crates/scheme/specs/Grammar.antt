@@ -1,36 +1,16 @@
 -- The grammar of schemes: which JSON values write which registries.
-use Rattle.std.specs.Prelude.{◌≡◌, ◌≢◌, ℕ, ◌≤◌, List, [], ◌∷◌, codes, Some, option_map}
-use Rattle.serde_json.specs.Data.{Data, unsigned, boolean, number, string, array, Items, no_items, item}
-use Rattle.serde_json.specs.Find.{get, as_object}
-use Rattle.serde_json.specs.Events.{members_len}
+use Rattle.std.specs.Prelude.{◌≡◌, ◌≢◌, ℕ, ◌≤◌, List, codes}
+use Rattle.serde_json.specs.Data.{Data, unsigned, boolean, number, string}
 use Rattle.units.specs.Apart.{Pairwise}
 use Rattle.units.specs.Code.{code_text}
 use Rattle.units.specs.Block.{kind_text, IsRawText}
 use Rattle.units.specs.declared.block.Block.{Block}
 use Rattle.units.specs.declared.block.Kind.{Kind}
+use Rattle.fields.specs.Fields.{HasKeys, HasAt, HasList}
 use Rattle.scheme.specs.declared.members.Allotment.{Allotment}
 use Rattle.scheme.specs.declared.members.Member.{Member}
 
--- ---- objects and arrays
-
--- an object of so many keys; a value holds each key once
-abbrev pub HasKeys : Data → ℕ → Type 0
-HasKeys d count = option_map members_len (as_object d) ≡ Some count
-
--- the object has the value at the key
-abbrev pub HasAt : Data → List ℕ → Data → Type 0
-HasAt d key value = get key d ≡ Some value
-
--- each item writes the element at its place, and there are as many of both
-abbrev pub EachIs : {X : Type 0} → (Data → X → Type 0) → Items → List X → Type 0
-EachIs R no_items [] = Unit {0}
-EachIs R no_items (x ∷ xs) = ⊥
-EachIs R (item d ds) [] = ⊥
-EachIs R (item d ds) (x ∷ xs) = R d x × EachIs R ds xs
-
--- at the key the object has an array, whose items write the elements
-abbrev pub HasList : {X : Type 0} → (Data → X → Type 0) → Data → List ℕ → List X → Type 0
-HasList R d key xs = (items : Items) × HasAt d key (array items) × EachIs R items xs
+-- ---- lists
 
 -- no element stands twice
 abbrev pub HasNoTwins : {X : Type 0} → List X → Type 0

@@ -5,12 +5,14 @@ ghost use Rattle.serde_json.specs.View.{view, items_view};
 ghost use Rattle.units.specs.Code.{code_text};
 ghost use Rattle.units.specs.declared.block.Block.{Block};
 ghost use Rattle.units.specs.declared.block.Kind.{Kind};
-ghost use Rattle.scheme.specs.Grammar.{HasAt, EachIs, HasList, HasNoTwins, IsAccount, IsKind, IsBlock, IsAllotment, IsMember, IsWritten};
-ghost use Rattle.scheme.specs.Reading.{Finds, IsCount, AreKinds};
+ghost use Rattle.fields.specs.Fields.{HasAt, EachIs, HasList};
+ghost use Rattle.fields.specs.Found.{Finds};
+ghost use Rattle.scheme.specs.Grammar.{HasNoTwins, IsAccount, IsKind, IsBlock, IsAllotment, IsMember, IsWritten};
+ghost use Rattle.scheme.specs.Reading.{IsCount, AreKinds};
 
-use crate::fields::{bool_at, has_keys, list_at, number_at, text_at};
 use crate::listed::Listed;
-use crate::members::{Allotment, Member, SchemeFault};
+use crate::members::{Allotment, Member};
+use fields::{ReadFault, bool_at, has_keys, list_at, number_at, text_at};
 use serde_json::Value;
 use std::alloc::Global;
 use units::{Block, Code, Items, Kind};
@@ -20,34 +22,34 @@ const LAST_ACCOUNT: u64 = 999_999_999;
 const MOST_RECORDS: u64 = 1_000_000;
 
 // The number at the key, from 1 to `most`.
-fn count_at(value: &Value, key: &str, most: u64) -> Result<u64, SchemeFault>
+fn count_at(value: &Value, key: &str, most: u64) -> Result<u64, ReadFault>
     ensures { Finds (IsCount key.now most (view value.now)) result }
 {
     let Some(number) = number_at(value, key) else {
-        return Err(SchemeFault::Shape);
+        return Err(ReadFault::Shape);
     };
     if (1..=most).contains(&number) {
         Ok(number)
     } else {
-        Err(SchemeFault::Shape)
+        Err(ReadFault::Shape)
     }
 }
 
 // The registry's code.
-fn code(value: &Value) -> Result<Code, SchemeFault>
+fn code(value: &Value) -> Result<Code, ReadFault>
     ensures { Finds (λ c. HasAt (view value.now) (codes "code") (string (code_text c))) result }
 {
     let Some(text) = text_at(value, "code") else {
-        return Err(SchemeFault::Shape);
+        return Err(ReadFault::Shape);
     };
-    Code::read(text).ok_or(SchemeFault::Shape)
+    Code::read(text).ok_or(ReadFault::Shape)
 }
 
 // Whether the registry may take part in transfers.
-fn eligible(value: &Value) -> Result<bool, SchemeFault>
+fn eligible(value: &Value) -> Result<bool, ReadFault>
     ensures { Finds (λ b. HasAt (view value.now) (codes "eligible") (boolean b)) result }
 {
-    bool_at(value, "eligible").ok_or(SchemeFault::Shape)
+    bool_at(value, "eligible").ok_or(ReadFault::Shape)
 }
 
 // The account of that number.
@@ -82,13 +84,13 @@ fn block(value: &Value) -> Option<Block>
 }
 
 // The accounts of an array.
-fn each_account(alloc: Global, values: &[Value]) -> Result<Items<u64>, SchemeFault>
+fn each_account(alloc: Global, values: &[Value]) -> Result<Items<u64>, ReadFault>
     ensures { Finds (EachIs IsAccount (items_view values.now)) result }
 {
     let mut accounts = Vec::new(alloc);
     for value in values {
         let Some(account) = account(value) else {
-            return Err(SchemeFault::Shape);
+            return Err(ReadFault::Shape);
         };
         accounts.push(account)?;
     }
@@ -96,16 +98,16 @@ fn each_account(alloc: Global, values: &[Value]) -> Result<Items<u64>, SchemeFau
 }
 
 // The kinds of an array, where none stands twice.
-fn different_kinds(alloc: Global, values: &[Value]) -> Result<Items<Kind>, SchemeFault>
+fn different_kinds(alloc: Global, values: &[Value]) -> Result<Items<Kind>, ReadFault>
     ensures { Finds (λ xs. EachIs IsKind (items_view values.now) xs × HasNoTwins xs) result }
 {
     let mut kinds = Vec::new(alloc);
     for value in values {
         let Some(kind) = kind(value) else {
-            return Err(SchemeFault::Shape);
+            return Err(ReadFault::Shape);
         };
         if kinds.contains(&kind) {
-            return Err(SchemeFault::Shape);
+            return Err(ReadFault::Shape);
         }
         kinds.push(kind)?;
     }
@@ -113,13 +115,13 @@ fn different_kinds(alloc: Global, values: &[Value]) -> Result<Items<Kind>, Schem
 }
 
 // The blocks of an array.
-fn each_block(alloc: Global, values: &[Value]) -> Result<Items<Block>, SchemeFault>
+fn each_block(alloc: Global, values: &[Value]) -> Result<Items<Block>, ReadFault>
     ensures { Finds (EachIs IsBlock (items_view values.now)) result }
 {
     let mut blocks = Vec::new(alloc);
     for value in values {
         let Some(block) = block(value) else {
-            return Err(SchemeFault::Shape);
+            return Err(ReadFault::Shape);
         };
         blocks.push(block)?;
     }
@@ -127,41 +129,41 @@ fn each_block(alloc: Global, values: &[Value]) -> Result<Items<Block>, SchemeFau
 }
 
 // The registry's accounts.
-fn accounts(alloc: Global, value: &Value) -> Result<Items<u64>, SchemeFault>
+fn accounts(alloc: Global, value: &Value) -> Result<Items<u64>, ReadFault>
     ensures { Finds (HasList IsAccount (view value.now) (codes "accounts")) result }
 {
     let Some(list) = list_at(value, "accounts") else {
-        return Err(SchemeFault::Shape);
+        return Err(ReadFault::Shape);
     };
     each_account(alloc, list.as_slice())
 }
 
 // The kinds of units that the registry takes.
-fn kinds(alloc: Global, value: &Value) -> Result<Items<Kind>, SchemeFault>
+fn kinds(alloc: Global, value: &Value) -> Result<Items<Kind>, ReadFault>
     ensures { Finds (AreKinds (view value.now)) result }
 {
     let Some(list) = list_at(value, "kinds") else {
-        return Err(SchemeFault::Shape);
+        return Err(ReadFault::Shape);
     };
     different_kinds(alloc, list.as_slice())
 }
 
 // The blocks of an allotment.
-fn units(alloc: Global, value: &Value) -> Result<Items<Block>, SchemeFault>
+fn units(alloc: Global, value: &Value) -> Result<Items<Block>, ReadFault>
     ensures { Finds (HasList IsBlock (view value.now) (codes "units")) result }
 {
     let Some(list) = list_at(value, "units") else {
-        return Err(SchemeFault::Shape);
+        return Err(ReadFault::Shape);
     };
     each_block(alloc, list.as_slice())
 }
 
 // What an account has at the start.
-fn allotment(alloc: Global, value: &Value) -> Result<Allotment, SchemeFault>
+fn allotment(alloc: Global, value: &Value) -> Result<Allotment, ReadFault>
     ensures { Finds (IsAllotment (view value.now)) result }
 {
     if !has_keys(value, 2) {
-        return Err(SchemeFault::Shape);
+        return Err(ReadFault::Shape);
     }
     let account = count_at(value, "account", LAST_ACCOUNT)?;
     let units = units(alloc, value)?;
@@ -169,7 +171,7 @@ fn allotment(alloc: Global, value: &Value) -> Result<Allotment, SchemeFault>
 }
 
 // The allotments of an array.
-fn each_allotment(alloc: Global, values: &[Value]) -> Result<Items<Allotment>, SchemeFault>
+fn each_allotment(alloc: Global, values: &[Value]) -> Result<Items<Allotment>, ReadFault>
     ensures { Finds (EachIs IsAllotment (items_view values.now)) result }
 {
     let mut allotted = Vec::new(alloc);
@@ -181,21 +183,21 @@ fn each_allotment(alloc: Global, values: &[Value]) -> Result<Items<Allotment>, S
 }
 
 // What the registry's accounts have at the start.
-fn allotted(alloc: Global, value: &Value) -> Result<Items<Allotment>, SchemeFault>
+fn allotted(alloc: Global, value: &Value) -> Result<Items<Allotment>, ReadFault>
     ensures { Finds (HasList IsAllotment (view value.now) (codes "allotted")) result }
 {
     let Some(list) = list_at(value, "allotted") else {
-        return Err(SchemeFault::Shape);
+        return Err(ReadFault::Shape);
     };
     each_allotment(alloc, list.as_slice())
 }
 
 // A registry.
-fn member(alloc: Global, value: &Value) -> Result<Member, SchemeFault>
+fn member(alloc: Global, value: &Value) -> Result<Member, ReadFault>
     ensures { Finds (IsMember (view value.now)) result }
 {
     if !has_keys(value, 5) {
-        return Err(SchemeFault::Shape);
+        return Err(ReadFault::Shape);
     }
     let code = code(value)?;
     let eligible = eligible(value)?;
@@ -212,7 +214,7 @@ fn member(alloc: Global, value: &Value) -> Result<Member, SchemeFault>
 }
 
 // The registries of an array.
-fn each_member(alloc: Global, values: &[Value]) -> Result<Listed, SchemeFault>
+fn each_member(alloc: Global, values: &[Value]) -> Result<Listed, ReadFault>
     ensures { Finds (EachIs IsMember (items_view values.now)) result }
 {
     let mut members = Vec::new(alloc);
@@ -224,21 +226,21 @@ fn each_member(alloc: Global, values: &[Value]) -> Result<Listed, SchemeFault>
 }
 
 // The registries of a scheme.
-fn members(alloc: Global, value: &Value) -> Result<Listed, SchemeFault>
+fn members(alloc: Global, value: &Value) -> Result<Listed, ReadFault>
     ensures { Finds (HasList IsMember (view value.now) (codes "registries")) result }
 {
     let Some(list) = list_at(value, "registries") else {
-        return Err(SchemeFault::Shape);
+        return Err(ReadFault::Shape);
     };
     each_member(alloc, list.as_slice())
 }
 
 /// The number of records and the registries that the value writes.
-pub fn written(alloc: Global, value: &Value) -> Result<(u64, Listed), SchemeFault>
+pub fn written(alloc: Global, value: &Value) -> Result<(u64, Listed), ReadFault>
     ensures { Finds (λ p. IsWritten (view value.now) p.0 p.1) result }
 {
     if !has_keys(value, 2) {
-        return Err(SchemeFault::Shape);
+        return Err(ReadFault::Shape);
     }
     let records = count_at(value, "records", MOST_RECORDS)?;
     let members = members(alloc, value)?;

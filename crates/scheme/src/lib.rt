@@ -3,7 +3,6 @@
 
 mod copies;
 mod faults;
-mod fields;
 mod grammar;
 mod listed;
 mod members;

@@ -1,6 +1,7 @@
 //! The registries of a scheme and what their accounts have at the start.
 ghost use Rattle.std.specs.Prelude.{◌≡◌};
 
+use fields::ReadFault;
 use std::alloc::{AllocError, AllocFailed};
 use thiserror::Error;
 use units::{Block, Code, Items, Kind};
@@ -80,5 +81,18 @@ impl<T: Drop> From<AllocFailed<T>> for SchemeFault {
 
     fn from(_: AllocFailed<T>) -> SchemeFault {
         SchemeFault::NoMemory
+    }
+}
+
+impl From<ReadFault> for SchemeFault {
+    ghost use Rattle.scheme.specs.Unread.{fault_from};
+
+    ghost from_gives = { λ f e. e ≡ fault_from f };
+
+    fn from(fault: ReadFault) -> SchemeFault {
+        match fault {
+            ReadFault::Shape => SchemeFault::Shape,
+            ReadFault::NoMemory => SchemeFault::NoMemory,
+        }
     }
 }

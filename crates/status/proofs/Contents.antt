@@ -23,7 +23,7 @@ use Rattle.units.specs.declared.block.Kind.TheVariants.{Aau, Rmu, Eru, Cer, Tcer
 use Rattle.status.specs.Content.{Content, IsContent, raws, same_blocks, same_content}
 
 -- each block is in range
-in_range : (blocks : List Block) → AllByRecursion (λ b. IsRange b.first b.last) (raws blocks)
+pub in_range : (blocks : List Block) → AllByRecursion (λ b. IsRange b.first b.last) (raws blocks)
 in_range [] = tt
 in_range (b ∷ bs) = (b.in_range, in_range bs)
 

@@ -1,9 +1,10 @@
 -- What a text that is no identifier lacks.
-use Rattle.std.proofs.Common.{◌≡◌, ℕ, List, drop, sym, ap, ◌∙◌, arith, subst, Option, Some, None, IfNone, Bool, true, false, true≢false, refl}
+use Rattle.std.proofs.Common.{◌≡◌, ℕ, List, take, drop, sym, ap, ◌∙◌, arith, subst, Option, Some, None, IfNone, Bool, true, false, true≢false, refl}
 use Rattle.std.specs.Fmt.{decimal}
 use Rattle.std.specs.Str.{IsCharBoundary}
 use Rattle.std.proofs.lemmas.Str.{IsCharBoundary-from_drop, IsUtf8-from_ascii}
 use Rattle.std.proofs.lemmas.Fmt.{IsAscii-decimal, decimal_injective}
+use Rattle.units.proofs.OneText.{code_text_same}
 use Rattle.units.specs.Text.{IsNumberText}
 use Rattle.status.specs.Facts.{IsTransactionNumber}
 use Rattle.units.specs.declared.code.Code.{Code}
@@ -49,3 +50,14 @@ id_if-some t false e = absurd (true≢false (sym (in_test t) ∙ e))
 -- `id_at` gives every identifier back
 pub id_at-some : (t : TransactionId) → id_at t.code t.number ≡ Some t
 id_at-some t = id_if-some t (is_number t.number) refl
+
+-- a text writes one identifier at most
+pub id_text_same : (t u : TransactionId) → id_text t ≡ id_text u → t ≡ u
+id_text_same t u e =
+    let range = t.in_range in
+    let others = u.in_range in
+    let origins : t.code ≡ u.code = code_text_same t.code u.code (ap (take 2) e) in
+    let texts : decimal t.number ≡ decimal u.number = ap (drop 2) e in
+    let numbers : t.number ≡ u.number = decimal_injective t.number u.number (omega (arith, range)) (omega (arith, others)) texts in
+    let one : Some t ≡ Some u = sym (id_at-some t) ∙ ap (λ c. id_at c t.number) origins ∙ ap (id_at u.code) numbers ∙ id_at-some u in
+    cc (one)

@@ -53,6 +53,7 @@ impl Content {
         units: Items<Block>,
     ) -> Option<Content>
         ensures some { IfSome result (λ c. c ≡ record { account = account; acquirer = acquirer; to_account = to_account; units = raws units }) }
+        ensures valid { IfSome result (λ c. IsContent c) }
         ensures none { IfNone result (IsContent (record { account = account; acquirer = acquirer; to_account = to_account; units = raws units }) → ⊥) }
     {
         let count = units.as_slice().len();

@@ -49,6 +49,7 @@ impl Order {
         units: Items<RawBlock>,
     ) -> Option<Order>
         ensures some { IfSome result (λ o. o ≡ record { account = account; to_registry = to_registry; to_account = to_account; units = units }) }
+        ensures valid { IfSome result (λ o. IsOrder o) }
         ensures none { IfNone result (IsOrder (record { account = account; to_registry = to_registry; to_account = to_account; units = units }) → ⊥) }
     {
         if account < TOO_LONG && to_account < TOO_LONG && are_short(units.as_slice()) {

@@ -70,7 +70,26 @@ pub enum Row {
 }
 
 impl Status {
+    ghost use Rattle.std.specs.Prelude.{IfSome, IfNone};
     ghost use Rattle.status.specs.Status.{status_text};
+    ghost use Rattle.status.specs.declared.words.Status.{Status};
+
+    /// The status that a text names.
+    pub fn read(text: &str) -> Option<Status>
+        ensures some { IfSome result (λ s. text.now ≡ status_text s) }
+        ensures none { IfNone result ((s : Status) → text.now ≡ status_text s → ⊥) }
+    {
+        match text.as_bytes() {
+            b"Proposed" => Some(Status::Proposed),
+            b"Checked" => Some(Status::Checked),
+            b"Accepted" => Some(Status::Accepted),
+            b"Rejected" => Some(Status::Rejected),
+            b"Terminated" => Some(Status::Terminated),
+            b"Cancelled" => Some(Status::Cancelled),
+            b"Completed" => Some(Status::Completed),
+            _ => None,
+        }
+    }
 
     /// Its name, as in messages and tables.
     pub fn name(self) -> &'static str

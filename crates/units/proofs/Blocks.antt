@@ -13,16 +13,16 @@ use Rattle.units.proofs.Numbers.{decimal_free}
 use Rattle.units.proofs.Cuts.{cut_once, cut_not_free}
 
 -- neither ':' nor '-' is a digit
-dash_free : (n : ℕ) → n < 10 ^ 18 → IsFreeOf 45 (decimal n)
+pub dash_free : (n : ℕ) → n < 10 ^ 18 → IsFreeOf 45 (decimal n)
 dash_free n = decimal_free 45 n (λ e. cc)
 
-colon_free : (n : ℕ) → n < 10 ^ 18 → IsFreeOf 58 (decimal n)
+pub colon_free : (n : ℕ) → n < 10 ^ 18 → IsFreeOf 58 (decimal n)
 colon_free n = decimal_free 58 n (λ e. cc)
 
-code_free : (c : Code) → IsFreeOf 58 (code_text c)
+pub code_free : (c : Code) → IsFreeOf 58 (code_text c)
 code_free c = let l = c.letters in ((λ e. absurd (omega arith)), ((λ e. absurd (omega arith)), tt))
 
-period_free : (p : Period) → IsFreeOf 58 (period_text p)
+pub period_free : (p : Period) → IsFreeOf 58 (period_text p)
 period_free First = ((λ e. absurd (omega arith)), tt)
 period_free Second = ((λ e. absurd (omega arith)), tt)
 

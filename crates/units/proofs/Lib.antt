@@ -13,3 +13,4 @@ pub mod OrderingUnits
 pub mod CountingUnits
 pub mod OrderingJoins
 pub mod OrderingMoves
+pub mod OneText

@@ -1,5 +1,9 @@
+pub mod Held
+pub mod Lines
+pub mod Splitting
 pub mod Codes
 pub mod Notices
 pub mod Objects
 pub mod Messages
 pub mod Records
+pub mod Reading

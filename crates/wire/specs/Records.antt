@@ -37,15 +37,11 @@ record_data i = object_of (record_fields (message_in i) i)
 abbrev pub record_text : Input → List ℕ
 record_text i = compact_text (record_data i)
 
--- an order's numbers have at most 18 digits, a message received is written by its value
-abbrev pub IsSoundIn : Data → Input → Type 0
-IsSoundIn message (Propose o) = IsOrder o
-IsSoundIn message (Received m t) = IsMessage message m
-IsSoundIn message _ = Unit {0}
-
--- the value writes the input
+-- the value writes the input; an order's numbers have at most 18 digits
 abbrev pub IsRecord : Data → Input → Type 0
-IsRecord d i = (message : Data) × HasExactly d (record_fields message i) × IsSoundIn message i
+IsRecord d (Propose o) = HasExactly d (order_fields o) × IsOrder o
+IsRecord d (Received m t) = (message : Data) × HasExactly d (record_fields message (Received m t)) × IsMessage message m
+IsRecord d i = HasExactly d (record_fields null i)
 
 -- the text writes the input: JSON in UTF-8
 pub record IsRecordText (text : List ℕ) (i : Input) : Type 0 where

@@ -1,8 +1,9 @@
 use Rattle.std.proofs.Common.{codes}
 use Rattle.serde_json.specs.View.{view}
-use Rattle.scheme.specs.Grammar.{HasList, IsBlock, IsAllotment}
+use Rattle.fields.specs.Fields.{HasList}
+use Rattle.scheme.specs.Grammar.{IsBlock, IsAllotment}
 use Rattle.scheme.specs.Reading.{IsCount}
-use Rattle.scheme.proofs.Finds.{lacks_too}
+use Rattle.fields.proofs.Parts.{lacks_too}
 use Rattle.scheme.proofs.grammar.allotment.Goals as goal
 
 pub returns-in_err-account : goal.returns-in_err-account

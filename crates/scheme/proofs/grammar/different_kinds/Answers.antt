@@ -2,7 +2,8 @@ use Rattle.std.proofs.Common.{sym, ◌∙◌, ap}
 use Rattle.units.specs.contracts.block.KindPartialEq.TheImpl.{ghosts}
 use Rattle.std.specs.List.{list_any}
 use Rattle.scheme.specs.Grammar.{IsKind}
-use Rattle.scheme.proofs.Lists.{in_list, not_in_list, no_twins_push, each_more, each_none, each_twin}
+use Rattle.fields.proofs.Lists.{each_more, each_none}
+use Rattle.scheme.proofs.Lists.{in_list, not_in_list, no_twins_push, each_twin}
 use Rattle.scheme.proofs.Unique.{kind_one, kind_eq, kind_eq_itself}
 use Rattle.scheme.proofs.grammar.different_kinds.Goals as goal
 

@@ -1,6 +1,7 @@
 use Rattle.std.proofs.Common.{take}
 use Rattle.serde_json.specs.View.{items_view}
-use Rattle.scheme.specs.Grammar.{EachIs, HasNoTwins, IsKind}
+use Rattle.fields.specs.Fields.{EachIs}
+use Rattle.scheme.specs.Grammar.{HasNoTwins, IsKind}
 use Rattle.scheme.proofs.grammar.different_kinds.Given as goal
 
 abbrev pub invariant-loop-value : goal.invariant-loop-value

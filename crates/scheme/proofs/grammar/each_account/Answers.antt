@@ -1,5 +1,5 @@
 use Rattle.scheme.specs.Grammar.{IsAccount}
-use Rattle.scheme.proofs.Lists.{each_more, each_none}
+use Rattle.fields.proofs.Lists.{each_more, each_none}
 use Rattle.scheme.proofs.grammar.each_account.Goals as goal
 
 pub returns-in_default : goal.returns-in_default

@@ -1,8 +1,9 @@
 use Rattle.std.proofs.Common.{codes}
 use Rattle.serde_json.specs.View.{view}
-use Rattle.scheme.specs.Grammar.{HasList, IsMember, IsWritten}
+use Rattle.fields.specs.Fields.{HasList}
+use Rattle.scheme.specs.Grammar.{IsMember, IsWritten}
 use Rattle.scheme.specs.Reading.{IsCount}
-use Rattle.scheme.proofs.Finds.{lacks_too}
+use Rattle.fields.proofs.Parts.{lacks_too}
 use Rattle.scheme.proofs.grammar.written.Goals as goal
 
 pub returns-in_err-records : goal.returns-in_err-records

@@ -1,0 +1,67 @@
+-- What the code that reads messages and records follows; no public contract cites it.
+use Rattle.std.specs.Prelude.{◌≡◌, ℕ, ◌<◌, ◌^◌, List, [], ◌∷◌, codes}
+use Rattle.serde_json.specs.Data.{Data, string}
+use Rattle.fields.specs.Fields.{HasAt}
+use Rattle.units.specs.Block.{raw_text}
+use Rattle.units.specs.Code.{code_text}
+use Rattle.units.specs.declared.block.Block.{Block}
+use Rattle.units.specs.declared.block.RawBlock.{RawBlock}
+use Rattle.status.specs.Content.{Content, IsContent}
+use Rattle.status.specs.Status.{status_text}
+use Rattle.status.specs.declared.moment.Moment.{Moment}
+use Rattle.wire.specs.Messages.{proposal_fields, notification_fields, IsMessage}
+use Rattle.wire.specs.Notices.{notice_status, notice_codes, IsNotice, proposal_status}
+use Rattle.wire.specs.Objects.{HasExactly, whole, numbers, blocks}
+use Rattle.wire.specs.declared.input.Number.{Number}
+use Rattle.wire.specs.declared.message.Message.{Message}
+use Rattle.wire.specs.declared.message.Notification.{Notification}
+use Rattle.wire.specs.declared.message.Proposal.{Proposal}
+use Rattle.wire.specs.declared.message.ProposalStatus.{ProposalStatus}
+use Rattle.wire.specs.declared.notice.Notice.{Notice}
+
+-- an item that is the text of a block
+abbrev pub IsBlockItem : Data → Block → Type 0
+IsBlockItem d b = d ≡ string (raw_text b.raw)
+
+-- one that is the text of a block as ordered
+abbrev pub IsRawItem : Data → RawBlock → Type 0
+IsRawItem d r = (d ≡ string (raw_text r)) × (r.first < 10 ^ 18) × (r.last < 10 ^ 18)
+
+-- one that is a code
+abbrev pub IsCodeItem : Data → ℕ → Type 0
+IsCodeItem d n = (d ≡ whole n) × (n < 2 ^ 16)
+
+-- the object has the content at its four keys
+abbrev pub HasContent : Data → Content → Type 0
+HasContent d c =
+    HasAt d (codes "account") (whole c.account) × HasAt d (codes "to_account") (whole c.to_account) × HasAt d (codes "to_registry") (string (code_text c.acquirer))
+    × HasAt d (codes "units") (blocks c.units) × IsContent c
+
+-- the text and the codes say the notice
+abbrev pub Says : List ℕ → List ℕ → Notice → Type 0
+Says text told n = (text ≡ status_text (notice_status n)) × (told ≡ notice_codes n) × IsNotice n
+
+-- the object has the notice at its two keys
+abbrev pub HasNotice : Data → Notice → Type 0
+HasNotice d n = HasAt d (codes "codes") (numbers (notice_codes n)) × HasAt d (codes "status") (string (status_text (notice_status n))) × IsNotice n
+
+abbrev pub IsProposal : Data → Proposal → Type 0
+IsProposal d p = HasExactly d (proposal_fields p) × IsContent p.content
+
+abbrev pub IsNotification : Data → Notification → Type 0
+IsNotification d n = HasExactly d (notification_fields n) × IsNotice n.notice
+
+abbrev pub HasProposalStatus : Data → ProposalStatus → Type 0
+HasProposalStatus d s = HasAt d (codes "status") (string (status_text (proposal_status s)))
+
+-- the object has a message at its key
+abbrev pub HasMessage : Data → Message → Type 0
+HasMessage d m = (inner : Data) × HasAt d (codes "message") inner × IsMessage inner m
+
+-- an order of that word about an account
+abbrev pub IsAccountOrder : Data → List ℕ → Number → Type 0
+IsAccountOrder d word n = HasExactly d ((codes "account", whole n.value) ∷ (codes "input", string word) ∷ [])
+
+-- a message received at a moment
+abbrev pub IsReceived : Data → Message → Moment → Type 0
+IsReceived d m t = (inner : Data) × HasExactly d ((codes "input", string (codes "received")) ∷ (codes "message", inner) ∷ (codes "moment", whole t.seconds) ∷ []) × IsMessage inner m

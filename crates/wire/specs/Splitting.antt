@@ -1,0 +1,26 @@
+-- What a splitter keeps, and what it answers.
+use Rattle.std.specs.Prelude.{◌≡◌, ℕ, List, ◌++◌, true, false, Result, Ok, Err}
+use Rattle.wire.specs.Lines.{Splits, IsOver}
+use Rattle.wire.specs.declared.lines.Line.{Line}
+use Rattle.wire.specs.declared.lines.LineFault.{LineFault}
+use Rattle.wire.specs.declared.lines.LineFault.TheVariants.{TooLong, Closed, NoMemory}
+use Rattle.wire.specs.declared.lines.Cut.{Cut}
+use Rattle.wire.specs.declared.lines.Cut.TheVariants.{Whole, Over}
+use Rattle.wire.specs.Held.{Held}
+
+-- why a piece wasn't taken, and what that leaves
+abbrev pub Faults : Held → Held → List ℕ → LineFault → Type 0
+Faults old new piece (TooLong lines) = (old.closed ≡ false) × IsOver old.limit (old.rest ++ piece) lines × (new ≡ record old { closed = true })
+Faults old new piece Closed = (old.closed ≡ true) × (new ≡ old)
+Faults old new piece NoMemory = (old.closed ≡ false) × (new ≡ old)
+
+-- what a call with a piece answers and leaves: of the bytes held before and the piece, the lines are
+-- handed out and the rest is held
+abbrev pub Feeds : Held → Held → List ℕ → Result (List Line) LineFault → Type 0
+Feeds old new piece (Ok lines) = (old.closed ≡ false) × Splits old.limit (old.rest ++ piece) lines new.rest × (new ≡ record old { rest = new.rest })
+Feeds old new piece (Err fault) = Faults old new piece fault
+
+-- bytes cut: lines and what follows them, or lines before one that is over the limit
+abbrev pub IsCut : ℕ → List ℕ → Cut → Type 0
+IsCut limit bytes (Whole lines rest) = Splits limit bytes lines rest.items
+IsCut limit bytes (Over lines) = IsOver limit bytes lines

@@ -1,0 +1,174 @@
+//! Reading messages.
+ghost use Rattle.std.specs.Prelude.{◌≡◌, ◌⊎◌, List, [], ℕ, IfOk, IfErr, IfSome, IfNone};
+ghost use Rattle.serde_json.specs.View.{view};
+ghost use Rattle.fields.specs.Fields.{HasAt};
+ghost use Rattle.fields.specs.Found.{Finds};
+ghost use Rattle.status.specs.Content.{Content};
+ghost use Rattle.wire.specs.Messages.{IsMessage, IsLine};
+ghost use Rattle.wire.specs.Reading.{HasContent, Says, HasNotice, HasProposalStatus, IsProposal, IsNotification};
+ghost use Rattle.wire.specs.declared.message.Message.{Message};
+ghost use Rattle.wire.specs.declared.notice.Notice.{Notice};
+
+use crate::codes::{AcquirerCodes, LogCodes};
+use crate::lists::{blocks, codes};
+use crate::message::{Message, Notification, Proposal, ProposalStatus};
+use crate::notice::Notice;
+use crate::values::{code_at, has_text, id_at, node_at, whole_at};
+use fields::{ReadFault, has_keys, text_at};
+use serde_json::Value;
+use status::{Content, Status};
+use std::alloc::Global;
+use units::{Items, Refusal};
+
+const LONGEST_LINE: usize = 8_192;
+
+const NO_MESSAGE: Refusal = Refusal { code: 41 };
+
+// What a proposal carries.
+fn content(alloc: Global, value: &Value) -> Result<Content, ReadFault>
+    ensures { Finds (HasContent (view value.now)) result }
+{
+    let account = whole_at(value, "account")?;
+    let to_account = whole_at(value, "to_account")?;
+    let acquirer = code_at(value, "to_registry")?;
+    let units = blocks(alloc, value)?;
+    Content::new(account, acquirer, to_account, units).ok_or(ReadFault::Shape)
+}
+
+// The status of a proposal.
+fn proposal_status(value: &Value) -> Result<ProposalStatus, ReadFault>
+    ensures { Finds (HasProposalStatus (view value.now)) result }
+{
+    if has_text(value, "status", "Proposed") {
+        return Ok(ProposalStatus::Proposed);
+    }
+    if has_text(value, "status", "Checked") {
+        return Ok(ProposalStatus::Checked);
+    }
+    Err(ReadFault::Shape)
+}
+
+// The notice, which has no codes.
+fn without_codes(notice: Notice, codes: &[u16]) -> Option<Notice>
+    ensures some { IfSome result (λ n. (n ≡ notice) × (codes.now ≡ [])) }
+    ensures none { IfNone result (codes.now ≡ [] → ⊥) }
+{
+    if codes.is_empty() { Some(notice) } else { None }
+}
+
+// The notice of that text and those codes.
+fn notice_of(text: &str, codes: Items<u16>) -> Option<Notice>
+    ensures some { IfSome result (λ n. Says text.now codes n) }
+    ensures none { IfNone result ((n : Notice) → Says text.now codes n → ⊥) }
+{
+    match Status::read(text)? {
+        Status::Accepted => without_codes(Notice::Accepted, codes.as_slice()),
+        Status::Rejected => {
+            let codes = AcquirerCodes::new(codes)?;
+            Some(Notice::Rejected(codes))
+        }
+        Status::Terminated => {
+            let codes = LogCodes::new(codes)?;
+            Some(Notice::Terminated(codes))
+        }
+        Status::Cancelled => without_codes(Notice::Cancelled, codes.as_slice()),
+        Status::Completed => without_codes(Notice::Completed, codes.as_slice()),
+        _ => None,
+    }
+}
+
+// What a notification says.
+fn notice(alloc: Global, value: &Value) -> Result<Notice, ReadFault>
+    ensures { Finds (HasNotice (view value.now)) result }
+{
+    let codes = codes(alloc, value)?;
+    let Some(text) = text_at(value, "status") else {
+        return Err(ReadFault::Shape);
+    };
+    notice_of(text, codes).ok_or(ReadFault::Shape)
+}
+
+fn proposal(alloc: Global, value: &Value) -> Result<Proposal, ReadFault>
+    ensures { Finds (IsProposal (view value.now)) result }
+{
+    if !has_keys(value, 9) || !has_text(value, "call", "AcceptProposal") {
+        return Err(ReadFault::Shape);
+    }
+    let from = node_at(value, "from")?;
+    let to = node_at(value, "to")?;
+    let id = id_at(value, "transaction")?;
+    let status = proposal_status(value)?;
+    let content = content(alloc, value)?;
+    Ok(Proposal {
+        from,
+        to,
+        id,
+        status,
+        content,
+    })
+}
+
+fn notification(alloc: Global, value: &Value) -> Result<Notification, ReadFault>
+    ensures { Finds (IsNotification (view value.now)) result }
+{
+    if !has_keys(value, 6) || !has_text(value, "call", "AcceptNotification") {
+        return Err(ReadFault::Shape);
+    }
+    let from = node_at(value, "from")?;
+    let to = node_at(value, "to")?;
+    let id = id_at(value, "transaction")?;
+    let notice = notice(alloc, value)?;
+    Ok(Notification {
+        from,
+        to,
+        id,
+        notice,
+    })
+}
+
+/// The message that the value writes.
+pub fn message(alloc: Global, value: &Value) -> Result<Message, ReadFault>
+    ensures { Finds (IsMessage (view value.now)) result }
+{
+    if has_text(value, "call", "AcceptProposal") {
+        let proposal = proposal(alloc, value)?;
+        Ok(Message::Proposal(proposal))
+    } else {
+        let notification = notification(alloc, value)?;
+        Ok(Message::Notification(notification))
+    }
+}
+
+// The message that the line writes.
+fn read_line(alloc: Global, line: &[u8]) -> Result<Message, ReadFault>
+    ensures { Finds (IsLine line.now) result }
+{
+    if line.len() > LONGEST_LINE {
+        return Err(ReadFault::Shape);
+    }
+    match Value::from_slice(alloc, line) {
+        Ok(value) => message(alloc, &value),
+        Err(e) if e.is_memory() => Err(ReadFault::NoMemory),
+        Err(_) => Err(ReadFault::Shape),
+    }
+}
+
+/// The message that a line writes, in JSON (RFC 8259) without its newline. Refused by 41: the line
+/// has more than 8,192 bytes, is no JSON in UTF-8, or has a key or a value outside the grammar of
+/// messages, or lacks one. By 50: an allocation was refused, which says nothing of the line.
+pub fn decode(alloc: Global, line: &[u8]) -> Result<Message, Refusal>
+    ensures ok { IfOk result (λ m. IsLine line.now m) }
+    ensures refused { IfErr result (λ e. (e.code ≡ 50) ⊎ ((e.code ≡ 41) × ((m : Message) → IsLine line.now m → ⊥))) }
+{
+    match read_line(alloc, line) {
+        Ok(message) => Ok(message),
+        Err(ReadFault::Shape) => Err(NO_MESSAGE),
+        Err(ReadFault::NoMemory) => Err(Refusal::NO_MEMORY),
+    }
+}
+
+/// A line writes one message at most. So what `encode` writes of a message, `decode` reads as that
+/// message or refuses by 50.
+pub fn one_message()
+    ensures { (line : List ℕ) (m n : Message) → IsLine line m → IsLine line n → m ≡ n }
+{}

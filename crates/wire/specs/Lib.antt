@@ -7,3 +7,7 @@ pub mod Objects
 pub mod Messages
 pub mod Records
 pub mod Reading
+pub mod Writing
+pub mod Replies
+pub mod Cores
+pub mod ToyCores

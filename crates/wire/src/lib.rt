@@ -1,23 +1,43 @@
-//! What nodes say to one another and what their journals keep, as text.
+//! What nodes say to one another and what their journals keep, as text; and what is asked of a
+//! node's core.
 #![tactic(auto)]
 
 mod codes;
 mod input;
+#[cfg(test)]
+mod line_tests;
 mod lines;
 mod lists;
+mod members;
 mod message;
+#[cfg(test)]
+mod message_tests;
+mod node_core;
 mod notice;
 mod reading;
-mod records;
+mod reading_records;
 #[cfg(test)]
-mod tests;
+mod record_tests;
+mod reply;
+mod reply_code;
+#[cfg(test)]
+mod reply_tests;
+#[cfg(test)]
+mod toy_core;
 mod values;
+mod writing;
+mod writing_records;
 
 pub use codes::{AcquirerCodes, LogCodes};
 pub use fields::ReadFault;
 pub use input::{Input, Number};
 pub use lines::{Line, LineFault, Splitter, Truncated, cuts};
 pub use message::{Message, Notification, Proposal, ProposalStatus};
+pub use node_core::{NodeCore, Stepped};
 pub use notice::Notice;
 pub use reading::{decode, one_message};
-pub use records::{decode_input, one_input};
+pub use reading_records::{decode_input, one_input};
+pub use reply::{Reply, ReplyFault, one_reply};
+pub use reply_code::ReplyCode;
+pub use writing::encode;
+pub use writing_records::encode_input;

@@ -6,7 +6,7 @@ use Rattle.wire.specs.Reading.{IsReceived}
 use Rattle.wire.specs.Records.{IsRecord}
 use Rattle.wire.specs.declared.message.Message.{Message}
 use Rattle.wire.proofs.OneRecord.{received_word}
-use Rattle.wire.proofs.records.input.Goals as goal
+use Rattle.wire.proofs.reading_records.input.Goals as goal
 
 pub returns-in_err-message : goal.returns-in_err-message
 returns-in_err-message c =

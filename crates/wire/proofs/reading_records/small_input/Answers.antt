@@ -3,7 +3,7 @@ use Rattle.serde_json.specs.View.{view}
 use Rattle.fields.proofs.Parts.{lacks_too}
 use Rattle.wire.specs.Records.{IsRecord}
 use Rattle.wire.proofs.OneRecord.{IsEligibility, eligible_word}
-use Rattle.wire.proofs.records.small_input.Goals as goal
+use Rattle.wire.proofs.reading_records.small_input.Goals as goal
 
 pub returns-in_err-registry : goal.returns-in_err-registry
 returns-in_err-registry c =

@@ -3,7 +3,7 @@ use Rattle.fields.proofs.Parts.{lacks_too}
 use Rattle.status.specs.declared.moment.Moment.{Moment}
 use Rattle.wire.specs.Reading.{HasMessage, IsReceived}
 use Rattle.wire.specs.declared.message.Message.{Message}
-use Rattle.wire.proofs.records.received.Goals as goal
+use Rattle.wire.proofs.reading_records.received.Goals as goal
 
 pub returns-in_err-message : goal.returns-in_err-message
 returns-in_err-message c =

@@ -1,5 +1,5 @@
 use Rattle.wire.proofs.OneRecord.{text_of_one}
-use Rattle.wire.proofs.records.one_input.Goals as goal
+use Rattle.wire.proofs.reading_records.one_input.Goals as goal
 
 pub returns : goal.returns
 returns c = text_of_one

@@ -1,0 +1,45 @@
+-- Writing the elements of a list one after the other, as a loop does.
+use Rattle.std.proofs.Common.{◌≡◌, ℕ, ◌+◌, ◌<◌, ◌≤◌, List, [], ◌∷◌, ◌++◌, length, get_or, take, map, String, Global, string_bytes, refl, sym, ap, ◌∙◌, rules}
+use Rattle.std.proofs.lemmas.List.{take_more, take_all, map_push}
+use Rattle.serde_json.specs.Data.{Data, string, item}
+use Rattle.serde_json.specs.View.{view, items_of, items_view}
+use Rattle.serde_json.specs.declared.value.Value.{Value, the_lemmas}
+use Rattle.serde_json.specs.declared.value.Value as values
+use Rattle.units.specs.Block.{raw_text}
+use Rattle.units.specs.declared.block.Block.{Block}
+use Rattle.units.specs.declared.block.RawBlock.{RawBlock}
+use Rattle.status.specs.Content.{raws}
+use Rattle.wire.specs.Objects.{whole, whole_items, block_items}
+
+pub view-String : (s : String Global) → view (values.String s) ≡ string (string_bytes s)
+view-String s = search (rules, the_lemmas)
+
+-- the value of a block's text
+abbrev pub block_value : Block → Data
+block_value b = string (raw_text b.raw)
+
+abbrev pub raw_value : RawBlock → Data
+raw_value b = string (raw_text b)
+
+module _ {X : Type 0} (f : X → Data) where
+  -- one more element is written
+  pub listed_more : (vs : List Value) (xs : List X) (i : ℕ) (v : Value) (x : X) → i < length xs → view v ≡ f (get_or xs i x) → map view vs ≡ map f (take i xs)
+      → map view (vs ++ v ∷ []) ≡ map f (take (i + 1) xs)
+  listed_more vs xs i v x lt seen so_far =
+      map_push view vs v ∙ ap (λ ds. ds ++ view v ∷ []) so_far ∙ ap (λ d. map f (take i xs) ++ d ∷ []) seen ∙ sym (map_push f (take i xs) (get_or xs i x))
+      ∙ ap (map f) (sym (take_more xs i x lt))
+
+  pub listed_all : (vs : List Value) (xs : List X) (i : ℕ) → length xs ≤ i → map view vs ≡ map f (take i xs) → items_view vs ≡ items_of (map f xs)
+  listed_all vs xs i le e = ap items_of (e ∙ ap (map f) (take_all i xs le))
+
+pub items_of_blocks : (bs : List Block) → items_of (map block_value bs) ≡ block_items (raws bs)
+items_of_blocks [] = refl
+items_of_blocks (b ∷ bs) = ap (item (block_value b)) (items_of_blocks bs)
+
+pub items_of_raws : (bs : List RawBlock) → items_of (map raw_value bs) ≡ block_items bs
+items_of_raws [] = refl
+items_of_raws (b ∷ bs) = ap (item (raw_value b)) (items_of_raws bs)
+
+pub items_of_numbers : (ns : List ℕ) → items_of (map whole ns) ≡ whole_items ns
+items_of_numbers [] = refl
+items_of_numbers (n ∷ ns) = ap (item (whole n)) (items_of_numbers ns)

@@ -125,7 +125,7 @@ notification_once d m n h k =
     λ i. record { from = froms i; to = tos i; id = ids i; notice = notices i }
 
 not_nine : (d : Data) → HasKeys d 9 → HasKeys d 6 → ⊥
-not_nine d p q = let e : Some 9 ≡ Some 6 = sym p ∙ q in absurd (cc)
+not_nine d p q = let e : Some {A = ℕ} 9 ≡ Some 6 = sym p ∙ q in absurd (cc (e))
 
 pub message_once : (d : Data) (m n : Message) → IsMessage d m → IsMessage d n → m ≡ n
 message_once d (message.Proposal p) (message.Proposal q) h k = ap message.Proposal (proposal_once d p q h k)

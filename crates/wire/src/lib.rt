@@ -24,6 +24,8 @@ mod reply_code;
 mod reply_tests;
 #[cfg(test)]
 mod toy_core;
+#[cfg(test)]
+mod value_tests;
 mod values;
 mod writing;
 mod writing_records;

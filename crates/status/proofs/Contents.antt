@@ -50,7 +50,7 @@ kind_at-index Cer = refl
 kind_at-index Tcer = refl
 kind_at-index Lcer = refl
 
-kind_of_same : (k l : Kind) → same_kind k l ≡ true → k ≡ l
+pub kind_of_same : (k l : Kind) → same_kind k l ≡ true → k ≡ l
 kind_of_same k l e = sym (kind_at-index k) ∙ ap kind_at (eqb-true (kind_index k) (kind_index l) e) ∙ kind_at-index l
 
 raw_of_same : (a b : RawBlock) → same_raw a b ≡ true → a ≡ b

@@ -61,3 +61,11 @@ id_text_same t u e =
     let numbers : t.number ≡ u.number = decimal_injective t.number u.number (omega (arith, range)) (omega (arith, others)) texts in
     let one : Some t ≡ Some u = sym (id_at-some t) ∙ ap (λ c. id_at c t.number) origins ∙ ap (id_at u.code) numbers ∙ id_at-some u in
     cc (one)
+
+-- the identifier of a code has that code
+id_if-code : (c : Code) (n : ℕ) (b : Bool) (e : is_number n ≡ b) (t : TransactionId) → id_if c n b e ≡ Some t → t.code ≡ c
+id_if-code c n true e t h = let same : Some (id c n (number_from n e)) ≡ Some t = h in let one : id c n (number_from n e) ≡ t = cc (same) in sym (ap (λ (u : TransactionId). u.code) one)
+id_if-code c n false e t h = absurd (cc (h))
+
+pub id_at-code : (c : Code) (n : ℕ) (t : TransactionId) → id_at c n ≡ Some t → t.code ≡ c
+id_at-code c n t h = id_if-code c n (is_number n) refl t h

@@ -1,0 +1,107 @@
+-- Numbered checks and findings. Each is given what it has to know of holdings, accounts and owners, so
+-- that it may be asked of a history and of what a node keeps in memory alike.
+use Rattle.std.specs.Prelude.{ℕ, ◌==◌, ◌&&◌, ◌||◌, not, cond, nat_le, nat_lt, Bool, false, List, [], ◌∷◌, length, Option, Some, None, is_none}
+use Rattle.std.specs.List.{list_any}
+use Rattle.units.specs.Code.{same_code}
+use Rattle.units.specs.Unit.{same_kind}
+use Rattle.units.specs.declared.block.Kind.{Kind}
+use Rattle.units.specs.declared.block.RawBlock.{RawBlock}
+use Rattle.units.specs.declared.block.Unit.{Unit as Serial}
+use Rattle.units.specs.declared.code.Code.{Code}
+use Rattle.status.specs.Content.{Content}
+use Rattle.status.specs.Order.{Order}
+use Rattle.scheme.specs.declared.members.Holder.{Holder}
+use Rattle.scheme.specs.declared.registries.Scheme.{Scheme}
+use Rattle.protocol.specs.Pieces.{Piece, pieces, repeats}
+use Rattle.protocol.specs.Registries.{allotted, has_member, has_account, takes_kind}
+
+-- causes with their codes, in their order
+abbrev pub Causes : Type 0
+Causes = List (Bool × ℕ)
+
+-- the codes whose causes stand
+abbrev pub codes_of : Causes → List ℕ
+codes_of [] = []
+codes_of (c ∷ cs) = cond c.0 (c.1 ∷ codes_of cs) (codes_of cs)
+
+-- ---- at a registry
+
+-- what a registry knows of its accounts and units
+pub record Holding : Type 0 where
+  -- the last order for the account is a close
+  pub is_closed : ℕ → Bool
+  -- the unit is held in that account with that kind
+  pub has : ℕ → Piece → Bool
+  pub is_held : Serial → Bool
+  pub is_reserved : Serial → Bool
+  -- how many transactions it has proposed
+  pub proposals : ℕ
+
+-- a first number above the last, or one out of range
+abbrev pub is_out_of_range : RawBlock → Bool
+is_out_of_range b = nat_lt b.last b.first || ((b.first == 0) || nat_lt 999_999_999_999 b.last)
+
+-- why an order to transfer units is refused
+abbrev pub propose_refusals : Scheme → Code → Holding → Order → Causes
+propose_refusals scheme c known o =
+    ((length o.units == 0) || nat_lt 16 (length o.units), 101)
+    ∷ (list_any is_out_of_range o.units, 102)
+    ∷ (repeats (pieces o.units), 103)
+    ∷ (not (has_account scheme c o.account) || known.is_closed o.account, 104)
+    ∷ (list_any (λ p. not (known.has o.account p)) (pieces o.units), 105)
+    ∷ (list_any (λ p. known.is_reserved p.unit) (pieces o.units), 106)
+    ∷ (not (has_member scheme o.to_registry) || same_code o.to_registry c, 107)
+    ∷ ((o.to_account == 0) || nat_lt 999_999_999 o.to_account, 108)
+    ∷ (nat_le 999_999 known.proposals, 109)
+    ∷ []
+
+-- what the acquirer finds
+abbrev pub acquirer_causes : Scheme → Code → Holding → Content → Causes
+acquirer_causes scheme c known k =
+    (not (has_account scheme c k.to_account), 301)
+    ∷ (has_account scheme c k.to_account && known.is_closed k.to_account, 302)
+    ∷ (list_any (λ p. known.is_held p.unit) (pieces k.units), 303)
+    ∷ (list_any (λ p. not (takes_kind scheme c p.kind)) (pieces k.units), 304)
+    ∷ []
+
+abbrev pub acquirer_findings : Scheme → Code → Holding → Content → List ℕ
+acquirer_findings scheme c known k = codes_of (acquirer_causes scheme c known k)
+
+-- ---- at the log
+
+-- what the log knows of units and registries
+pub record Ledger : Type 0 where
+  pub owner : Serial → Option Code
+  -- a transfer with the unit stands Checked or Accepted
+  pub is_busy : Serial → Bool
+  pub is_eligible : Code → Bool
+
+abbrev pub is_owner : Option Code → Code → Bool
+is_owner None c = false
+is_owner (Some d) c = same_code d c
+
+-- allotted, and with another kind
+abbrev pub has_other_kind : Option Holder → Kind → Bool
+has_other_kind None kind = false
+has_other_kind (Some h) kind = not (same_kind h.kind kind)
+
+-- allotted, and owned by another one
+abbrev pub is_of_another : Option Holder → Option Code → Code → Bool
+is_of_another None owner c = false
+is_of_another (Some h) owner c = not (is_owner owner c)
+
+-- what the log finds in a proposal of that initiator
+abbrev pub log_causes : Scheme → Ledger → Code → Content → Causes
+log_causes scheme known initiator k =
+    (not (has_member scheme k.acquirer) || same_code k.acquirer initiator, 201)
+    ∷ (repeats (pieces k.units), 202)
+    ∷ (list_any (λ p. is_none (allotted scheme p.unit)) (pieces k.units), 203)
+    ∷ (list_any (λ p. is_of_another (allotted scheme p.unit) (known.owner p.unit) initiator) (pieces k.units), 204)
+    ∷ (list_any (λ p. known.is_busy p.unit) (pieces k.units), 205)
+    ∷ (list_any (λ p. has_other_kind (allotted scheme p.unit) p.kind) (pieces k.units), 206)
+    ∷ (not (known.is_eligible initiator), 207)
+    ∷ (has_member scheme k.acquirer && not (known.is_eligible k.acquirer), 208)
+    ∷ []
+
+abbrev pub log_findings : Scheme → Ledger → Code → Content → List ℕ
+log_findings scheme known initiator k = codes_of (log_causes scheme known initiator k)

@@ -1,0 +1,141 @@
+-- What is claimed of the histories of all nodes.
+use Rattle.std.specs.Prelude.{◌≡◌, ◌≤◌, ◌⊎◌, ℕ, ◌+◌, ◌&&◌, not, cond, is_some, Bool, true, false, List, [], ◌∷◌, ◌++◌, Contains, slice_get, Option, Some, None}
+use Rattle.units.specs.declared.block.Unit.{Unit as Serial}
+use Rattle.units.specs.declared.code.Code.{Code}
+use Rattle.units.specs.declared.code.Node.{Node}
+use Rattle.units.specs.declared.code.Node.TheVariants.{Itl, Registry}
+use Rattle.status.specs.Content.{Content}
+use Rattle.status.specs.declared.id.TransactionId.{TransactionId}
+use Rattle.status.specs.declared.moment.Moment.{Moment}
+use Rattle.status.specs.declared.words.Status.{Status}
+use Rattle.status.specs.declared.words.Status.TheVariants.{Checked, Accepted, Rejected, Terminated, Cancelled, Completed}
+use Rattle.wire.specs.declared.input.Input.{Input}
+use Rattle.wire.specs.declared.input.Input.TheVariants.{Received}
+use Rattle.wire.specs.declared.message.Message.TheVariants as message
+use Rattle.wire.specs.declared.message.Notification.{Notification}
+use Rattle.wire.specs.declared.notice.Notice.TheVariants as notice
+use Rattle.scheme.specs.declared.members.Member.{Member}
+use Rattle.scheme.specs.declared.registries.Scheme.{Scheme}
+use Rattle.protocol.specs.declared.event.Outcome.TheVariants.{Refused}
+use Rattle.protocol.specs.declared.event.Posted.{Posted}
+use Rattle.protocol.specs.declared.event.WorldEvent.TheVariants.{Deliver}
+use Rattle.protocol.specs.Deciding.{Enters}
+use Rattle.protocol.specs.History.{Entry, Transition, transitions_of, newest, stands, stands_at, number_of, holds, spendable, gives, credits, at_start, book_owner, carries}
+use Rattle.protocol.specs.Registries.{allotted, has_member}
+use Rattle.protocol.specs.Verdict.{history, verdict}
+use Rattle.protocol.specs.World.{World, Station, station, journal, step, receiver}
+
+-- ---- the histories of all nodes
+
+abbrev pub committed_part : Option Station → List Input
+committed_part None = []
+committed_part (Some s) = s.committed
+
+abbrev pub whole : Option Station → List Input
+whole None = []
+whole (Some s) = journal s
+
+-- by committed journals, and with the tails
+abbrev pub committed_of : World → Node → List Entry
+committed_of w n = history w.scheme n (committed_part (station w n))
+
+abbrev pub live_of : World → Node → List Entry
+live_of w n = history w.scheme n (whole (station w n))
+
+-- the transitions of a registry
+abbrev pub at_registry : (Node → List Entry) → Code → List Transition
+at_registry f c = transitions_of (f (Registry c))
+
+-- ---- agreement
+
+abbrev pub StandsAt : (Node → List Entry) → Node → TransactionId → Status → Type 0
+StandsAt f n t s = stands (transitions_of (f n)) t ≡ Some s
+
+-- no transaction stands Completed at one node and Rejected, Terminated or Cancelled at another
+abbrev pub Agrees : (Node → List Entry) → Type 0
+Agrees f = (t : TransactionId) (n m : Node) → StandsAt f n t Completed → (StandsAt f m t Rejected ⊎ (StandsAt f m t Terminated ⊎ StandsAt f m t Cancelled)) → ⊥
+
+-- ---- one place
+
+-- a sum over the registries
+abbrev pub over : (Member → ℕ) → List Member → ℕ
+over g [] = 0
+over g (m ∷ ms) = g m + over g ms
+
+-- the transfer stands Completed at its acquirer
+abbrev pub is_received : (Node → List Entry) → TransactionId → Option Content → Bool
+is_received f t None = false
+is_received f t (Some k) = stands_at (at_registry f k.acquirer) t Completed
+
+-- the transition completes a transfer of the unit at its initiator, and its acquirer has not completed it
+abbrev pub owes : (Node → List Entry) → Code → Serial → Transition → Bool
+owes f c s x = gives c s x && not (is_received f x.id x.content)
+
+-- how many registries hold the unit, and how many completed transfers owe it
+abbrev pub holders : Scheme → (Node → List Entry) → Serial → ℕ
+holders scheme f s = number_of (λ m. holds scheme m.code (at_registry f m.code) s) scheme.members
+
+abbrev pub owed : Scheme → (Node → List Entry) → Serial → ℕ
+owed scheme f s = over (λ m. number_of (owes f m.code s) (at_registry f m.code)) scheme.members
+
+-- an allotted unit is held once or owed by exactly one completed transfer; no other unit is held or owed
+abbrev pub OnePlace : Scheme → (Node → List Entry) → Type 0
+OnePlace scheme f = (s : Serial) → holders scheme f s + owed scheme f s ≡ cond (is_some (allotted scheme s)) 1 0
+
+-- no unit is spendable in two registries
+abbrev pub SpentOnce : Scheme → (Node → List Entry) → Type 0
+SpentOnce scheme f = (s : Serial) (c d : Code) → has_member scheme c ≡ true → has_member scheme d ≡ true → spendable scheme c (at_registry f c) s ≡ true → spendable scheme d (at_registry f d) s ≡ true → c ≡ d
+
+-- a registry that holds a unit is its owner in the log's book
+abbrev pub HolderOwns : Scheme → (Node → List Entry) → Type 0
+HolderOwns scheme f = (s : Serial) (c : Code) → holds scheme c (at_registry f c) s ≡ true → book_owner scheme (transitions_of (f Itl)) s ≡ Some c
+
+-- ---- of one registry alone, whatever it is given
+
+-- a unit is counted there once or not at all
+abbrev pub CountedOnce : Scheme → Code → List Transition → Type 0
+CountedOnce scheme c xs =
+    (s : Serial) → (number_of (gives c s) xs ≤ at_start scheme c s + number_of (credits c s) xs) × (at_start scheme c s + number_of (credits c s) xs ≤ number_of (gives c s) xs + 1)
+
+-- ---- of the log alone, whatever it is given
+
+abbrev pub IsEnd : Status → Type 0
+IsEnd Rejected = Unit {0}
+IsEnd Terminated = Unit {0}
+IsEnd Cancelled = Unit {0}
+IsEnd Completed = Unit {0}
+IsEnd _ = ⊥
+
+abbrev pub IsUnderWay : Status → Type 0
+IsUnderWay s = (s ≡ Checked) ⊎ (s ≡ Accepted)
+
+-- a status Completed, Rejected, Terminated or Cancelled never changes
+abbrev pub EndsStay : Scheme → Type 0
+EndsStay scheme =
+    (journal more : List Input) (t : TransactionId) (s : Status) → IsEnd s → stands (transitions_of (history scheme Itl journal)) t ≡ Some s
+    → stands (transitions_of (history scheme Itl (journal ++ more))) t ≡ Some s
+
+-- two transfers that stand Checked or Accepted share no unit
+abbrev pub UnderWayApart : Scheme → Type 0
+UnderWayApart scheme =
+    (journal : List Input) (s : Serial) (t u : TransactionId) (x y : Transition) → newest (transitions_of (history scheme Itl journal)) t ≡ Some x
+    → newest (transitions_of (history scheme Itl journal)) u ≡ Some y → IsUnderWay x.new → IsUnderWay y.new → carries x s ≡ true → carries y s ≡ true → t ≡ u
+
+-- a recorded Completed finds each unit of its transfer with the initiator
+abbrev pub OwnedByInitiator : Scheme → Type 0
+OwnedByInitiator scheme =
+    (journal : List Input) (input : Input) (xs : List Transition) → verdict scheme Itl (history scheme Itl journal) input ≡ Enters xs → (x : Transition) → Contains xs x → x.new ≡ Completed
+    → (s : Serial) → carries x s ≡ true → book_owner scheme (transitions_of (history scheme Itl journal)) s ≡ Some x.id.code
+
+-- ---- of deliveries
+
+-- no delivery is refused but where the journal is full
+abbrev pub DeliversWelcome : World → Type 0
+DeliversWelcome w = (index : ℕ) (moment : Moment) (code : ℕ) → (step w (Deliver index moment)).outcome ≡ Refused code → code ≡ 49
+
+-- where a delivered message makes the log record Terminated, the codes are those of eligibility
+abbrev pub TerminatesForEligibility : World → Type 0
+TerminatesForEligibility w =
+    (index : ℕ) (moment : Moment) (p : Posted) (xs : List Transition) → slice_get w.bag index ≡ Some p → receiver p.message ≡ Itl
+    → verdict w.scheme Itl (live_of w Itl) (Received p.message moment) ≡ Enters xs → (x : Transition) → Contains xs x → x.new ≡ Terminated
+    → (n : Notification) → Contains x.messages (message.Notification n) → (found : List ℕ) → n.notice ≡ notice.Terminated found → (code : ℕ) → Contains found code → (code ≡ 207) ⊎ (code ≡ 208)

@@ -1,0 +1,165 @@
+-- What a journal says: the transitions of its inputs, and what is read off them.
+-- A journal is the list of the inputs that a node recorded, the oldest first. A history is the list of these inputs with
+-- their transitions, the newest first.
+use Rattle.std.specs.Prelude.{ℕ, suc, ◌+◌, ◌==◌, ◌&&◌, ◌||◌, not, cond, Bool, true, false, List, [], ◌∷◌, ◌++◌, find, flat_map, unwrap_or, Option, Some, None, option_map, is_some}
+use Rattle.std.specs.List.{list_any}
+use Rattle.units.specs.Code.{same_code}
+use Rattle.units.specs.Unit.{has_unit}
+use Rattle.units.specs.declared.block.Kind.{Kind}
+use Rattle.units.specs.declared.block.Unit.{Unit as Serial}
+use Rattle.units.specs.declared.code.Code.{Code}
+use Rattle.status.specs.Content.{Content}
+use Rattle.status.specs.Id.{same_id}
+use Rattle.status.specs.Status.{same_status}
+use Rattle.status.specs.declared.id.TransactionId.{TransactionId}
+use Rattle.status.specs.declared.words.Status.{Status}
+use Rattle.status.specs.declared.words.Status.TheVariants.{Proposed, Checked, Accepted, Completed}
+use Rattle.wire.specs.Cores as cores
+use Rattle.wire.specs.declared.input.Input.{Input}
+use Rattle.wire.specs.declared.input.Input.TheVariants.{OpenAccount, CloseAccount, Eligible}
+use Rattle.wire.specs.declared.message.Message.{Message}
+use Rattle.scheme.specs.declared.members.Holder.{Holder}
+use Rattle.scheme.specs.declared.registries.Scheme.{Scheme}
+use Rattle.protocol.specs.Pieces.{covers}
+use Rattle.protocol.specs.Registries.{member, allotted, begins_eligible}
+
+-- how many of them pass the test
+abbrev pub number_of : {X : Type 0} → (X → Bool) → List X → ℕ
+number_of p [] = 0
+number_of p (x ∷ xs) = cond (p x) (suc (number_of p xs)) (number_of p xs)
+
+-- what a record does to a transaction: its status from then on, its content where that is known
+-- here, when that was (in seconds), and the messages that go out
+pub record Transition : Type 0 where
+  pub id : TransactionId
+  pub new : Status
+  pub content : Option Content
+  pub moment : ℕ
+  pub messages : List Message
+
+pub record Entry : Type 0 where
+  pub input : Input
+  pub transitions : List Transition
+
+-- the transitions in turn, the newest entry's first
+abbrev pub transitions_of : List Entry → List Transition
+transitions_of [] = []
+transitions_of (e ∷ es) = e.transitions ++ transitions_of es
+
+-- ---- where a transaction stands
+
+-- the newest transition that names t
+abbrev pub newest : List Transition → TransactionId → Option Transition
+newest xs t = find (λ x. same_id x.id t) xs
+
+-- the new status of the last transition that names t
+abbrev pub stands : List Transition → TransactionId → Option Status
+stands xs t = option_map (λ x. x.new) (newest xs t)
+
+abbrev pub is_status : Option Status → Status → Bool
+is_status None s = false
+is_status (Some x) s = same_status x s
+
+abbrev pub stands_at : List Transition → TransactionId → Status → Bool
+stands_at xs t s = is_status (stands xs t) s
+
+abbrev pub is_known : List Transition → TransactionId → Bool
+is_known xs t = is_some (newest xs t)
+
+-- ---- what a node sends
+
+-- the messages of the transitions, in order; key k is entry k
+abbrev pub messages_of : List Transition → List Message
+messages_of xs = flat_map (λ x. x.messages) xs
+
+abbrev pub sends : List Entry → List Message
+sends [] = []
+sends (e ∷ es) = sends es ++ messages_of e.transitions
+
+abbrev pub is_acknowledged : List Entry → ℕ → Bool
+is_acknowledged es key = list_any (λ e. cores.acknowledges key e.input) es
+
+-- ---- what a registry holds
+
+-- the transfer has the unit
+abbrev pub has_serial : Option Content → Serial → Bool
+has_serial None s = false
+has_serial (Some k) s = covers k.units s
+
+abbrev pub carries : Transition → Serial → Bool
+carries x s = has_serial x.content s
+
+-- the transition completes a transfer of the unit out of this registry, its initiator; or into it, its acquirer
+abbrev pub gives : Code → Serial → Transition → Bool
+gives c s x = same_status x.new Completed && (same_code x.id.code c && carries x s)
+
+abbrev pub credits : Code → Serial → Transition → Bool
+credits c s x = same_status x.new Completed && (not (same_code x.id.code c) && carries x s)
+
+abbrev pub is_with : Code → Option Holder → Bool
+is_with c None = false
+is_with c (Some h) = same_code h.registry c
+
+-- 1 where the unit is allotted to this registry
+abbrev pub at_start : Scheme → Code → Serial → ℕ
+at_start scheme c s = cond (is_with c (allotted scheme s)) 1 0
+
+-- the unit is held: allotted here or credited, less given, it is there once
+abbrev pub holds : Scheme → Code → List Transition → Serial → Bool
+holds scheme c xs s = (at_start scheme c s + number_of (credits c s) xs) == (number_of (gives c s) xs + 1)
+
+-- a transfer with the unit stands Proposed here as initiator
+abbrev pub reserved : Code → List Transition → Serial → Bool
+reserved c xs s = list_any (λ x. same_code x.id.code c && (stands_at xs x.id Proposed && carries x s)) xs
+
+abbrev pub spendable : Scheme → Code → List Transition → Serial → Bool
+spendable scheme c xs s = holds scheme c xs s && not (reserved c xs s)
+
+-- the account and the kind of a unit that is held here: as credited last, else as allotted
+pub record Place : Type 0 where
+  pub account : ℕ
+  pub kind : Kind
+
+abbrev pub credited_place : Serial → Content → Option Place
+credited_place s k = option_map (λ b. record { account = k.to_account; kind = b.kind }) (find (λ b. has_unit b s) k.units)
+
+abbrev pub place_in : Serial → Option Content → Option Place
+place_in s None = None
+place_in s (Some k) = credited_place s k
+
+abbrev pub place : Scheme → Code → List Transition → Serial → Option Place
+place scheme c [] s = option_map (λ h. record { account = h.account; kind = h.kind }) (allotted scheme s)
+place scheme c (x ∷ xs) s = cond (credits c s x) (place_in s x.content) (place scheme c xs s)
+
+-- ---- what the log's book says
+
+-- the acquirer of the transfer with the unit that completed last, else the allotted registry
+abbrev pub book_owner : Scheme → List Transition → Serial → Option Code
+book_owner scheme [] s = option_map (λ h. h.registry) (allotted scheme s)
+book_owner scheme (x ∷ xs) s = cond (same_status x.new Completed && carries x s) (option_map (λ k. k.acquirer) x.content) (book_owner scheme xs s)
+
+-- a transfer with the unit stands Checked or Accepted
+abbrev pub busy : List Transition → Serial → Bool
+busy xs s = list_any (λ x. (stands_at xs x.id Checked || stands_at xs x.id Accepted) && carries x s) xs
+
+-- ---- what orders say
+
+-- whether the order closes the account, or opens it
+abbrev pub closes : ℕ → Input → Option Bool
+closes account (CloseAccount n) = cond (n.value == account) (Some true) None
+closes account (OpenAccount n) = cond (n.value == account) (Some false) None
+closes account _ = None
+
+-- the last order for the account is a close
+abbrev pub is_closed : List Entry → ℕ → Bool
+is_closed [] account = false
+is_closed (e ∷ es) account = unwrap_or (closes account e.input) (is_closed es account)
+
+abbrev pub allows : Code → Input → Option Bool
+allows c (Eligible d may) = cond (same_code d c) (Some may) None
+allows c _ = None
+
+-- eligible as the last order for it says, else as the scheme says
+abbrev pub is_eligible : Scheme → List Entry → Code → Bool
+is_eligible scheme [] c = begins_eligible (member scheme c)
+is_eligible scheme (e ∷ es) c = unwrap_or (allows c e.input) (is_eligible scheme es c)

@@ -1,0 +1,10 @@
+pub mod Pieces
+pub mod Registries
+pub mod History
+pub mod Checks
+pub mod Deciding
+pub mod AtRegistry
+pub mod AtLog
+pub mod Verdict
+pub mod World
+pub mod Claims

@@ -1,0 +1,49 @@
+-- What the scheme says of a registry.
+use Rattle.std.specs.Prelude.{ℕ, ◌==◌, Bool, true, false, Option, Some, None, is_some}
+use Rattle.std.specs.List.{list_any}
+use Rattle.units.specs.Unit.{same_kind}
+use Rattle.units.specs.declared.block.Kind.{Kind}
+use Rattle.units.specs.declared.block.Unit.{Unit as Serial}
+use Rattle.units.specs.declared.code.Code.{Code}
+use Rattle.units.specs.declared.code.Node.{Node}
+use Rattle.units.specs.declared.code.Node.TheVariants.{Itl, Registry}
+use Rattle.scheme.specs.Allotted as start
+use Rattle.scheme.specs.Order as order
+use Rattle.scheme.specs.declared.members.Holder.{Holder}
+use Rattle.scheme.specs.declared.members.Member.{Member}
+use Rattle.scheme.specs.declared.registries.Scheme.{Scheme}
+
+abbrev pub member : Scheme → Code → Option Member
+member scheme c = order.member scheme.members c
+
+abbrev pub has_member : Scheme → Code → Bool
+has_member scheme c = is_some (member scheme c)
+
+-- the log, and the scheme's registries
+abbrev pub is_node : Scheme → Node → Bool
+is_node scheme Itl = true
+is_node scheme (Registry c) = has_member scheme c
+
+-- who has the unit at the start
+abbrev pub allotted : Scheme → Serial → Option Holder
+allotted scheme s = start.allotted scheme.members s
+
+abbrev pub lists_account : Option Member → ℕ → Bool
+lists_account None account = false
+lists_account (Some m) account = list_any (λ a. a == account) m.accounts
+
+-- the registry has the account
+abbrev pub has_account : Scheme → Code → ℕ → Bool
+has_account scheme c account = lists_account (member scheme c) account
+
+abbrev pub lists_kind : Option Member → Kind → Bool
+lists_kind None kind = false
+lists_kind (Some m) kind = list_any (λ k. same_kind k kind) m.kinds
+
+-- the registry takes units of the kind
+abbrev pub takes_kind : Scheme → Code → Kind → Bool
+takes_kind scheme c kind = lists_kind (member scheme c) kind
+
+abbrev pub begins_eligible : Option Member → Bool
+begins_eligible None = false
+begins_eligible (Some m) = m.eligible

@@ -1,0 +1,45 @@
+//! What happens in a world, and what comes of it.
+
+use status::Moment;
+use units::Node;
+use wire::{Input, Message};
+
+/// One event.
+#[derive(Debug, Drop)]
+pub enum WorldEvent {
+    /// A node takes an order, or the acknowledgement of a message that it posted.
+    Take { node: Node, input: Input },
+    /// A node commits the first `count` records of its tail.
+    Commit { node: Node, count: u64 },
+    /// A node posts the message with that key into the bag.
+    Post { node: Node, key: u64 },
+    /// The message at that place of the bag is delivered to its addressee, at that moment.
+    Deliver { message: u64, moment: Moment },
+    /// A node stops. The first `kept` records of its tail are committed, the others are lost.
+    Crash { node: Node, kept: u64 },
+    /// A stopped node starts.
+    Restart { node: Node },
+}
+
+/// What an event comes to.
+#[derive(Clone, Copy, Debug, PartialEq, Eq)]
+pub enum Outcome {
+    /// Recorded at that place of the node's journal, the tail included.
+    Recorded(u64),
+    /// It was acted on before.
+    Repeat,
+    /// It came too late to act on.
+    Late,
+    /// Refused by that code.
+    Refused(u16),
+    Done,
+    NotPossible,
+}
+
+/// A message in the bag, with the node that posted it and its key there.
+#[derive(Debug, Drop)]
+pub struct Posted {
+    pub node: Node,
+    pub key: u64,
+    pub message: Message,
+}

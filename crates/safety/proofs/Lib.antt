@@ -1,0 +1,14 @@
+pub mod Members
+pub mod Counts
+pub mod Units
+pub mod Canonical
+pub mod Moves
+pub mod Histories
+pub mod Tables
+pub mod Said
+pub mod Told
+pub mod Causal
+pub mod Going
+pub mod Senders
+pub mod Stations
+pub mod Sound

@@ -1,0 +1,114 @@
+-- Membership in a list, by recursion, and what the tests of sameness say.
+use Rattle.std.proofs.Common.{◌≡◌, ℕ, zero, suc, List, [], ◌∷◌, ◌++◌, Bool, true, false, cond, Option, Some, ◌⊎◌, inl, inr, refl, sym, ap, subst, ◌∙◌, map}
+use Rattle.std.specs.Prelude.{filter, flat_map, find, slice_get, ◌==◌}
+use Rattle.std.proofs.lemmas.Bool.{and_parts, and_from, eq-eqb, eqb-true}
+use Rattle.units.proofs.Same.{code_of_same, same_code-refl}
+use Rattle.units.specs.Code.{same_code}
+use Rattle.status.proofs.Ids.{id_at-some}
+use Rattle.status.specs.Id.{same_id, id_at}
+use Rattle.status.specs.Status.{same_status, status_index}
+use Rattle.status.specs.declared.id.TransactionId.{TransactionId}
+use Rattle.status.specs.declared.words.Status.{Status}
+use Rattle.status.specs.declared.words.Status.TheVariants.{Proposed, Checked, Accepted, Rejected, Terminated, Cancelled, Completed}
+
+abbrev pub In : {X : Type 0} → X → List X → Type 0
+In x [] = ⊥
+In x (y ∷ ys) = (y ≡ x) ⊎ In x ys
+
+pub In-left : {X : Type 0} (x : X) (xs ys : List X) → In x xs → In x (xs ++ ys)
+In-left x [] ys h = absurd h
+In-left x (y ∷ xs) ys (inl e) = inl e
+In-left x (y ∷ xs) ys (inr h) = inr (In-left x xs ys h)
+
+pub In-right : {X : Type 0} (x : X) (xs ys : List X) → In x ys → In x (xs ++ ys)
+In-right x [] ys h = h
+In-right x (y ∷ xs) ys h = inr (In-right x xs ys h)
+
+pub In-cases : {X : Type 0} (x : X) (xs ys : List X) → In x (xs ++ ys) → In x xs ⊎ In x ys
+In-cases x [] ys h = inr h
+In-cases x (y ∷ xs) ys (inl e) = inl (inl e)
+In-cases x (y ∷ xs) ys (inr h) = elim (In-cases x xs ys h) [ inl a ↦ inl (inr a) | inr b ↦ inr b ]
+
+pub In-flat_map : {X A : Type 0} (f : X → List A) (a : A) (xs : List X) → In a (flat_map f xs) → (x : X) × In x xs × In a (f x)
+In-flat_map f a [] h = absurd h
+In-flat_map f a (x ∷ xs) h =
+    elim (In-cases a (f x) (flat_map f xs) h) [
+      | inl i ↦ (x, inl refl, i)
+      | inr i ↦ let r = In-flat_map f a xs i in (r.0, inr r.1, r.2)
+    ]
+
+pub In-map : {X Y : Type 0} (f : X → Y) (y : Y) (xs : List X) → In y (map f xs) → (x : X) × In x xs × (f x ≡ y)
+In-map f y [] h = absurd h
+In-map f y (x ∷ xs) (inl e) = (x, inl refl, e)
+In-map f y (x ∷ xs) (inr h) = let r = In-map f y xs h in (r.0, inr r.1, r.2)
+
+pub In-slice_get : {X : Type 0} (xs : List X) (k : ℕ) (x : X) → slice_get xs k ≡ Some x → In x xs
+In-slice_get [] k x e = absurd (cc)
+In-slice_get (y ∷ ys) zero x e = inl (cc)
+In-slice_get (y ∷ ys) (suc k) x e = inr (In-slice_get ys k x e)
+
+pub In-cond : {X : Type 0} (x : X) (b : Bool) (xs ys : List X) → In x (cond b xs ys) → ((b ≡ true) × In x xs) ⊎ ((b ≡ false) × In x ys)
+In-cond x true xs ys h = inl (refl, h)
+In-cond x false xs ys h = inr (refl, h)
+
+pub cond-Some : {X : Type 0} (b : Bool) (y x : X) (o : Option X) → cond b (Some y) o ≡ Some x → ((b ≡ true) × (y ≡ x)) ⊎ ((b ≡ false) × (o ≡ Some x))
+cond-Some true y x o e = inl (refl, cc)
+cond-Some false y x o e = inr (refl, e)
+
+pub In-find : {X : Type 0} (p : X → Bool) (xs : List X) (x : X) → find p xs ≡ Some x → In x xs × (p x ≡ true)
+In-find p [] x e = absurd (cc)
+In-find p (y ∷ ys) x e =
+    elim (cond-Some (p y) y x (find p ys) e) [
+      | inl h ↦ (inl h.1, subst (λ z. p z ≡ true) h.1 h.0)
+      | inr h ↦ let r = In-find p ys x h.1 in (inr r.0, r.1)
+    ]
+
+pub In-filter : {X : Type 0} (p : X → Bool) (xs : List X) (x : X) → In x (filter p xs) → In x xs × (p x ≡ true)
+In-filter p [] x h = absurd h
+In-filter p (y ∷ ys) x h =
+    elim (In-cond x (p y) (y ∷ filter p ys) (filter p ys) h) [
+      | inl i ↦
+          elim i.1 [
+            | inl e ↦ (inl e, subst (λ z. p z ≡ true) e i.0)
+            | inr j ↦ let r = In-filter p ys x j in (inr r.0, r.1)
+          ]
+      | inr i ↦ let r = In-filter p ys x i.1 in (inr r.0, r.1)
+    ]
+
+-- ---- tests of sameness
+
+pub id_of_same : (a b : TransactionId) → same_id a b ≡ true → a ≡ b
+id_of_same a b e =
+    let h = and_parts (same_code a.code b.code) (a.number == b.number) e in
+    let codes = code_of_same a.code b.code h.0 in
+    let numbers = eqb-true a.number b.number h.1 in
+    let one : Some a ≡ Some b = sym (id_at-some a) ∙ ap (λ c. id_at c a.number) codes ∙ ap (id_at b.code) numbers ∙ id_at-some b in
+    cc (one)
+
+pub same_id-refl : (a : TransactionId) → same_id a a ≡ true
+same_id-refl a = and_from (same_code a.code a.code) (a.number == a.number) (same_code-refl a.code) (eq-eqb a.number a.number refl)
+
+status_at : ℕ → Status
+status_at zero = Proposed
+status_at (suc zero) = Checked
+status_at (suc (suc zero)) = Accepted
+status_at (suc (suc (suc zero))) = Rejected
+status_at (suc (suc (suc (suc zero)))) = Terminated
+status_at (suc (suc (suc (suc (suc zero))))) = Cancelled
+status_at (suc (suc (suc (suc (suc (suc n)))))) = Completed
+
+status_at-index : (s : Status) → status_at (status_index s) ≡ s
+unfolding status_at
+status_at-index Proposed = refl
+status_at-index Checked = refl
+status_at-index Accepted = refl
+status_at-index Rejected = refl
+status_at-index Terminated = refl
+status_at-index Cancelled = refl
+status_at-index Completed = refl
+
+pub status_of_same : (a b : Status) → same_status a b ≡ true → a ≡ b
+status_of_same a b e = sym (status_at-index a) ∙ ap status_at (eqb-true (status_index a) (status_index b) e) ∙ status_at-index b
+
+pub same_status-refl : (a : Status) → same_status a a ≡ true
+same_status-refl a = eq-eqb (status_index a) (status_index a) refl

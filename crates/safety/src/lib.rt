@@ -1,0 +1,7 @@
+//! Laws of the protocol, over every scheme and every list of events. No code that runs stands here:
+//! each function has an empty body, and its clauses are the law.
+#![tactic(auto)]
+
+mod agreement;
+
+pub use agreement::nodes_agree;

@@ -8,3 +8,6 @@ pub mod AtLog
 pub mod Verdict
 pub mod World
 pub mod Claims
+pub mod Owner
+pub mod WayOut
+pub mod Weave

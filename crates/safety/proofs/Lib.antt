@@ -12,3 +12,5 @@ pub mod Going
 pub mod Senders
 pub mod Stations
 pub mod Sound
+pub mod Local
+pub mod Ended

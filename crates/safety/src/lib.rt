@@ -3,5 +3,7 @@
 #![tactic(auto)]
 
 mod agreement;
+mod counting;
 
 pub use agreement::nodes_agree;
+pub use counting::registry_counts_once;

@@ -1,0 +1,60 @@
+-- A way out: further events after which no transfer is open and every allotted unit is spendable.
+use Rattle.std.specs.Prelude.{◌&&◌, ◌||◌, not, ◌≡◌, ◌≤◌, ◌⊎◌, ℕ, ◌+◌, ◌*◌, is_some, Bool, true, false, List, [], ◌∷◌, Option, Some, None, length}
+use Rattle.units.specs.Code.{same_code}
+use Rattle.units.specs.declared.block.Unit.{Unit as Serial}
+use Rattle.units.specs.declared.code.Code.{Code}
+use Rattle.units.specs.declared.code.Node.{Node}
+use Rattle.status.specs.Status.{same_status}
+use Rattle.status.specs.declared.id.TransactionId.{TransactionId}
+use Rattle.status.specs.declared.words.Status.TheVariants.{Proposed, Completed}
+use Rattle.scheme.specs.declared.registries.Scheme.{Scheme}
+use Rattle.protocol.specs.declared.event.WorldEvent.{WorldEvent}
+use Rattle.protocol.specs.declared.event.WorldEvent.TheVariants.{Take, Commit, Post, Deliver, Crash, Restart}
+use Rattle.protocol.specs.History.{Entry, Transition, newest, number_of, spendable, stands_at}
+use Rattle.protocol.specs.Registries.{allotted, has_member, is_node}
+use Rattle.protocol.specs.World.{World, Station, station, run}
+use Rattle.protocol.specs.Claims.{over, is_received, at_registry, committed_of, live_of, whole}
+
+-- the transfer stands Proposed at its initiator, or Completed there and not at its acquirer
+abbrev pub IsOpen : (Node → List Entry) → TransactionId → Type 0
+IsOpen f t = (x : Transition) × (newest (at_registry f t.code) t ≡ Some x) × ((x.new ≡ Proposed) ⊎ ((x.new ≡ Completed) × (is_received f t x.content ≡ false)))
+
+-- the node runs and has committed all
+pub record IsIdle (w : World) (n : Node) : Type 0 where
+  pub at : Station
+  pub is : station w n ≡ Some at
+  pub runs : at.runs ≡ true
+  pub settled : at.tail ≡ []
+
+-- every node is idle, no transfer is open, and each allotted unit is spendable at a registry
+pub record AtRest (w : World) : Type 0 where
+  pub idle : (n : Node) → is_node w.scheme n ≡ true → IsIdle w n
+  pub closed : (t : TransactionId) → IsOpen (committed_of w) t → ⊥
+  pub free : (s : Serial) → is_some (allotted w.scheme s) ≡ true → (c : Code) × (has_member w.scheme c ≡ true) × (spendable w.scheme c (at_registry (committed_of w) c) s ≡ true)
+
+-- each journal has room for so many more records
+abbrev pub HasRoom : World → ℕ → Type 0
+HasRoom w count = (n : Node) → length (whole (station w n)) + count ≤ w.scheme.records
+
+-- starts, commits and messages: no order, no acknowledgement, no clean-up and no crash
+abbrev pub OnlyTransport : List WorldEvent → Type 0
+OnlyTransport [] = Unit {0}
+OnlyTransport (Take n input ∷ es) = ⊥
+OnlyTransport (Crash n kept ∷ es) = ⊥
+OnlyTransport (Commit n count ∷ es) = OnlyTransport es
+OnlyTransport (Post n key ∷ es) = OnlyTransport es
+OnlyTransport (Deliver index moment ∷ es) = OnlyTransport es
+OnlyTransport (Restart n ∷ es) = OnlyTransport es
+
+-- how many transfers are open
+abbrev pub is_open : (Node → List Entry) → Code → Transition → Bool
+is_open f c x =
+    same_code x.id.code c
+    && ((same_status x.new Proposed && stands_at (at_registry f c) x.id Proposed) || (same_status x.new Completed && not (is_received f x.id x.content)))
+
+abbrev pub open_transfers : Scheme → (Node → List Entry) → ℕ
+open_transfers scheme f = over (λ m. number_of (is_open f m.code) (at_registry f m.code)) scheme.members
+
+-- from a world with room for three records of each open transfer, events of transport alone lead to one at rest
+abbrev pub WayOut : World → Type 0
+WayOut w = HasRoom w (3 * open_transfers w.scheme (live_of w)) → (more : List WorldEvent) × OnlyTransport more × AtRest (run w more)

@@ -1,0 +1,96 @@
+-- Journals that some list of events leads to, told by an order of their records.
+use Rattle.std.specs.Prelude.{◌≡◌, ◌⊎◌, ℕ, cond, Bool, true, false, List, [], ◌∷◌, ◌++◌, Contains, Option, Some, None, slice_get}
+use Rattle.units.specs.Code.{same_node}
+use Rattle.units.specs.declared.code.Node.{Node}
+use Rattle.wire.specs.declared.input.Input.{Input}
+use Rattle.wire.specs.declared.input.Input.TheVariants.{Received}
+use Rattle.wire.specs.declared.message.Message.{Message}
+use Rattle.scheme.specs.declared.registries.Scheme.{Scheme}
+use Rattle.protocol.specs.declared.event.Outcome.TheVariants.{Recorded}
+use Rattle.protocol.specs.declared.event.Posted.{Posted}
+use Rattle.protocol.specs.declared.event.WorldEvent.{WorldEvent}
+use Rattle.protocol.specs.declared.event.WorldEvent.TheVariants.{Take, Deliver}
+use Rattle.protocol.specs.Deciding.{Enters}
+use Rattle.protocol.specs.History.{Transition, sends}
+use Rattle.protocol.specs.Registries.{is_node}
+use Rattle.protocol.specs.Verdict.{verdict, history}
+use Rattle.protocol.specs.World.{World, Station, station, receiver, sender, opening, step, run}
+use Rattle.protocol.specs.Claims.{committed_part, committed_of}
+use Rattle.protocol.specs.WayOut.{IsIdle}
+
+abbrev pub uncommitted : Option Station → List Input
+uncommitted None = []
+uncommitted (Some s) = s.tail
+
+-- the events end with these committed journals and empty tails
+abbrev pub Projects : Scheme → List WorldEvent → (Node → List Input) → Type 0
+Projects scheme events journals =
+    (n : Node) → (committed_part (station (run (opening scheme) events) n) ≡ journals n) × (uncommitted (station (run (opening scheme) events) n) ≡ [])
+
+-- one record of one node
+pub record Placed : Type 0 where
+  pub node : Node
+  pub input : Input
+
+-- the journals of records in an order, the newest first
+abbrev pub journals_of : List Placed → Node → List Input
+journals_of [] n = []
+journals_of (r ∷ rs) n = cond (same_node n r.node) (journals_of rs n ++ r.input ∷ []) (journals_of rs n)
+
+-- what is received was sent to this node by the records of its sender so far
+abbrev pub WasSent : Scheme → (Node → List Input) → Node → Input → Type 0
+WasSent scheme past n (Received m moment) = (receiver m ≡ n) × Contains (sends (history scheme (sender m) (past (sender m)))) m
+WasSent scheme past n _ = Unit {0}
+
+-- the node records the input after these journals
+abbrev pub IsNext : Scheme → (Node → List Input) → Placed → Type 0
+IsNext scheme past r =
+    (is_node scheme r.node ≡ true) × ((xs : List Transition) × (verdict scheme r.node (history scheme r.node (past r.node)) r.input ≡ Enters xs)) × WasSent scheme past r.node r.input
+
+-- each record is next when its turn comes
+abbrev pub InTurn : Scheme → List Placed → Type 0
+InTurn scheme [] = Unit {0}
+InTurn scheme (r ∷ rs) = IsNext scheme (journals_of rs) r × InTurn scheme rs
+
+-- the journals go on from others
+abbrev pub GoOn : (past whole : Node → List Input) → Type 0
+GoOn past whole = (n : Node) → (rest : List Input) × (whole n ≡ past n ++ rest)
+
+-- a record that is next, and that the journals go on with
+abbrev pub HasNext : Scheme → (past whole : Node → List Input) → Type 0
+HasNext scheme past whole = (r : Placed) × IsNext scheme past r × ((rest : List Input) × (whole r.node ≡ past r.node ++ r.input ∷ rest))
+
+-- each record of a journal was recorded after the earlier ones
+abbrev pub AllRecorded : Scheme → Node → List Input → List Input → Type 0
+AllRecorded scheme n past [] = Unit {0}
+AllRecorded scheme n past (i ∷ is) = ((xs : List Transition) × (verdict scheme n (history scheme n past) i ≡ Enters xs)) × AllRecorded scheme n (past ++ i ∷ []) is
+
+-- each received message was sent to the node by its sender's whole journal
+abbrev pub AllSent : Scheme → (Node → List Input) → List Input → Node → Type 0
+AllSent scheme journals [] n = Unit {0}
+AllSent scheme journals (i ∷ is) n = WasSent scheme journals n i × AllSent scheme journals is n
+
+abbrev pub IsPlausible : Scheme → (Node → List Input) → Type 0
+IsPlausible scheme journals = (n : Node) → (is_node scheme n ≡ false → journals n ≡ []) × AllRecorded scheme n [] (journals n) × AllSent scheme journals (journals n) n
+
+-- every node is idle, and each message that was sent is in the bag
+pub record AllPosted (w : World) : Type 0 where
+  pub idle : (n : Node) → is_node w.scheme n ≡ true → IsIdle w n
+  pub posted : (n : Node) (key : ℕ) (m : Message) → slice_get (sends (committed_of w n)) key ≡ Some m → Contains w.bag (record { node = n; key = key; message = m })
+
+-- the event gives the node the input
+abbrev pub Gives : World → WorldEvent → Node → Input → Type 0
+Gives w (Take m order) n input = (m ≡ n) × (order ≡ input)
+Gives w (Deliver index moment) n input = (p : Posted) × (slice_get w.bag index ≡ Some p) × (receiver p.message ≡ n) × (Received p.message moment ≡ input)
+Gives w _ n input = ⊥
+
+-- no node would record the next input of its journal
+abbrev pub IsStuck : World → (Node → List Input) → Type 0
+IsStuck w journals =
+    (n : Node) (input : Input) (rest : List Input) (e : WorldEvent) (place : ℕ) → journals n ≡ committed_part (station w n) ++ input ∷ rest
+    → Gives w e n input → (step w e).outcome ≡ Recorded place → ⊥
+
+-- where a stuck world is reached, no events lead to the journals, unless it is there
+abbrev pub StuckIsFinal : World → (Node → List Input) → Type 0
+StuckIsFinal w journals = AllPosted w → GoOn (λ n. committed_part (station w n)) journals → IsStuck w journals
+    → (others : List WorldEvent) → Projects w.scheme others journals → (n : Node) → committed_part (station w n) ≡ journals n

@@ -1,0 +1,436 @@
+-- A completed transition is the last of its transaction, and contents are the same all along the way.
+use Rattle.std.proofs.Common.{◌≡◌, ℕ, ◌+◌, ◌≤◌, List, [], ◌∷◌, ◌++◌, Bool, true, false, not, Some, None, ◌⊎◌, inl, inr, refl, sym, ap, subst, ◌∙◌, arith}
+use Rattle.std.specs.Prelude.{◌&&◌}
+use Rattle.std.proofs.lemmas.Bool.{and_from, or_parts, not-false, cond-true, cond-false, cases_Bool}
+use Rattle.units.proofs.Same.{code_of_same, same_code-refl, node_of_same}
+use Rattle.units.specs.Code.{same_code, same_node}
+use Rattle.units.specs.declared.code.Code.{Code}
+use Rattle.units.specs.declared.code.Node.{Node}
+use Rattle.units.specs.declared.code.Node.TheVariants.{Itl, Registry}
+use Rattle.status.proofs.Ids.{id_at-code, id_at-number}
+use Rattle.status.specs.Content.{Content}
+use Rattle.status.specs.Id.{same_id, id_at}
+use Rattle.status.specs.Status.{same_status}
+use Rattle.status.specs.declared.id.TransactionId.{TransactionId}
+use Rattle.status.specs.declared.words.Status.{Status}
+use Rattle.status.specs.declared.words.Status.TheVariants.{Proposed, Checked, Accepted, Rejected, Terminated, Cancelled, Completed}
+use Rattle.wire.specs.Notices.{notice_status}
+use Rattle.wire.specs.declared.input.Input.{Input}
+use Rattle.wire.specs.declared.message.Message.TheVariants as message
+use Rattle.wire.specs.declared.message.Notification.{Notification}
+use Rattle.wire.specs.declared.message.Proposal.{Proposal}
+use Rattle.wire.specs.declared.message.ProposalStatus.TheVariants as proposal
+use Rattle.scheme.specs.declared.registries.Scheme.{Scheme}
+use Rattle.protocol.specs.Registries.{has_member}
+use Rattle.protocol.specs.History.{Transition, Entry, transitions_of, newest, sends, messages_of}
+use Rattle.protocol.specs.Deciding.{moved}
+use Rattle.protocol.specs.AtRegistry.{content_of, proposed, proposals, arrived_status, arrived_notice, settled_messages}
+use Rattle.protocol.specs.AtLog.{checked_status, is_no_registry, is_from_another}
+use Rattle.safety.proofs.Counts.{count-no, count-yes}
+use Rattle.safety.proofs.Histories.{Made, Heard, Offered, heard-later, offered-later, made-registry, made-log, newest-append, newest-id, newest-in}
+use Rattle.safety.proofs.Local.{made-single, Single}
+use Rattle.safety.proofs.Members.{In, In-cases, In-flat_map, In-left, In-right, id_of_same, same_id-refl}
+use Rattle.safety.proofs.Moves.{RegistryMove, proposes, arrives, bares, settles, finishes, LogMove, checks, passes, cancels}
+use Rattle.safety.proofs.Tables.{initiator-from, acquirer-from, log-from}
+
+clash : {X : Type 0} (a : Bool) → a ≡ true → a ≡ false → X
+clash a p q = let e : true ≡ false = sym p ∙ q in absurd (cc (e))
+
+one-some : (x y : Transition) → Some x ≡ Some y → x ≡ y
+one-some x y e = cc (e)
+
+one-notice : (a b : Notification) → message.Notification a ≡ message.Notification b → a ≡ b
+one-notice a b e = cc (e)
+
+one-proposal : (a b : Proposal) → message.Proposal a ≡ message.Proposal b → a ≡ b
+one-proposal a b e = cc (e)
+
+arrived-notice : (found : List ℕ) → notice_status (arrived_notice found) ≡ arrived_status found
+arrived-notice [] = refl
+arrived-notice (n ∷ ns) = refl
+
+arrived-open : (found : List ℕ) → arrived_status found ≡ Completed → ⊥
+arrived-open [] h = cc (h)
+arrived-open (n ∷ ns) h = cc (h)
+
+-- what an initiator sends where its transfer comes to stand so is that it completed
+settled-completed : (c : Code) (u : TransactionId) (new : Status) (n : Notification) → In (message.Notification n) (settled_messages c u new) → (u ≡ n.id) × (new ≡ Completed)
+settled-completed c u Completed n (inl e) = let s = one-notice _ n e in (ap (λ (z : Notification). z.id) s, refl)
+settled-completed c u Completed n (inr h) = absurd h
+settled-completed c u Proposed n h = absurd h
+settled-completed c u Checked n h = absurd h
+settled-completed c u Accepted n h = absurd h
+settled-completed c u Rejected n h = absurd h
+settled-completed c u Terminated n h = absurd h
+settled-completed c u Cancelled n h = absurd h
+
+settled-offers : (c : Code) (u : TransactionId) (new : Status) (p : Proposal) → In (message.Proposal p) (settled_messages c u new) → ⊥
+settled-offers c u Completed p (inl e) = cc (e)
+settled-offers c u Completed p (inr h) = h
+settled-offers c u Proposed p h = h
+settled-offers c u Checked p h = h
+settled-offers c u Accepted p h = h
+settled-offers c u Rejected p h = h
+settled-offers c u Terminated p h = h
+settled-offers c u Cancelled p h = h
+
+-- two of the transitions of one input are the same
+pub single-same : (xs : List Transition) (x y : Transition) → Single xs → In x xs → In y xs → x ≡ y
+single-same xs x y (inl e) i j = absurd (subst (In x) e i)
+single-same xs x y (inr e) i j =
+    elim (subst (In x) e.1 i) [
+      | inl a ↦
+          elim (subst (In y) e.1 j) [
+            | inl b ↦ sym a ∙ b
+            | inr b ↦ absurd b
+          ]
+      | inr a ↦ absurd a
+    ]
+
+-- the content of a transfer of one's own
+pub record OwnContent (scheme : Scheme) (c : Code) (x : Transition) : Type 0 where
+  pub content : Content
+  pub is : x.content ≡ Some content
+  pub acquirer_known : has_member scheme content.acquirer ≡ true
+  pub acquirer_other : same_code content.acquirer c ≡ false
+
+abbrev is_own_proposal : Code → Transition → Bool
+is_own_proposal c x = same_code x.id.code c && same_status x.new Proposed
+
+-- numbers are given in order
+abbrev pub Numbered : Code → List Transition → Type 0
+Numbered c xs = (x : Transition) → In x xs → same_code x.id.code c ≡ true → x.id.number ≤ proposals c xs
+
+abbrev pub EndsLast : List Transition → Type 0
+EndsLast xs = (x : Transition) → In x xs → x.new ≡ Completed → newest xs x.id ≡ Some x
+
+abbrev pub OwnContents : Scheme → Code → List Transition → Type 0
+OwnContents scheme c xs = (x : Transition) → In x xs → same_code x.id.code c ≡ true → OwnContent scheme c x
+
+proposals-cons : (c : Code) (x : Transition) (xs : List Transition) → proposals c xs ≤ proposals c (x ∷ xs)
+proposals-cons c x xs =
+    elim (cases_Bool (is_own_proposal c x)) [
+      | inl y ↦ let e = count-yes (is_own_proposal c) x xs y in omega arith
+      | inr n ↦ let e = count-no (is_own_proposal c) x xs n in omega arith
+    ]
+
+module _ (scheme : Scheme) (c : Code) where
+  own-code : (n : ℕ) (t : TransactionId) → id_at c n ≡ Some t → same_code t.code c ≡ true
+  own-code n t is = subst (λ z. same_code z c ≡ true) (sym (id_at-code c n t is)) (same_code-refl c)
+
+  -- who a transition is about is who the notification was about
+  own-about : (es : List Entry) (t : TransactionId) (q : Transition) → newest (transitions_of es) t ≡ Some q → same_code q.id.code c ≡ true → same_code t.code c ≡ true
+  own-about es t q was own = subst (λ (z : TransactionId). same_code z.code c ≡ true) (newest-id (transitions_of es) t q was).1 own
+
+  newest-own : (es : List Entry) (t : TransactionId) (q x : Transition) → newest (transitions_of es) t ≡ Some q → newest (transitions_of es) q.id ≡ Some x → q ≡ x
+  newest-own es t q x was h =
+      let w : newest (transitions_of es) q.id ≡ Some q = subst (λ z. newest (transitions_of es) z ≡ Some q) (sym (newest-id (transitions_of es) t q was).1) was in
+      one-some q x (sym w ∙ h)
+
+  -- what holds of each transition by itself, given the older ones, holds of all
+  pub each-move : (P : List Transition → Type 0) → P []
+      → ((es : List Entry) (input : Input) (x : Transition) → Made scheme (Registry c) es → RegistryMove scheme c es input x → P (transitions_of es) → P (x ∷ transitions_of es))
+      → (es : List Entry) → Made scheme (Registry c) es → P (transitions_of es)
+  each-move P none more [] made = none
+  each-move P none more (e ∷ es) made =
+      elim (made-single scheme c e es made) [
+        | inl z ↦ subst (λ xs. P (xs ++ transitions_of es)) (sym z) (each-move P none more es made.1)
+        | inr z ↦
+            subst (λ xs. P (xs ++ transitions_of es)) (sym z.1)
+            (more es e.input z.0 made.1 (made-registry scheme c e es z.0 made (subst (λ xs. In z.0 xs) (sym z.1) (inl refl))) (each-move P none more es made.1))
+      ]
+
+  -- ---- numbers are new
+
+  numbered-move : (es : List Entry) (input : Input) (x : Transition) → RegistryMove scheme c es input x → Numbered c (transitions_of es) → same_code x.id.code c ≡ true
+      → x.id.number ≤ proposals c (x ∷ transitions_of es)
+  numbered-move es input x (proposes o t none is) old own =
+      let n : t.number ≡ proposals c (transitions_of es) + 1 = id_at-number c (proposals c (transitions_of es) + 1) t is in
+      let e = count-yes (is_own_proposal c) (proposed c t (content_of o)) (transitions_of es) (and_from (same_code t.code c) (same_status Proposed Proposed) own refl) in
+      omega arith
+  numbered-move es input x (arrives p moment found f s is none foreign mine) old own = clash (same_code p.id.code c) own foreign
+  numbered-move es input x (bares n moment f cancelled none foreign) old own = clash (same_code n.id.code c) own foreign
+  numbered-move es input x (settles n moment q new f was mine move) old own =
+      let a = old q (newest-id (transitions_of es) n.id q was).0 own in
+      let b = proposals-cons c (moved q new moment.seconds (settled_messages c q.id new)) (transitions_of es) in
+      omega arith
+  numbered-move es input x (finishes n moment q new f was foreign move none) old own = clash (same_code n.id.code c) (own-about es n.id q was own) foreign
+
+  pub numbered : (es : List Entry) → Made scheme (Registry c) es → Numbered c (transitions_of es)
+  numbered =
+      each-move (Numbered c) (λ x i own. absurd i)
+      (λ es input x made move old y i own. elim i [
+        | inl e ↦
+            subst (λ (z : Transition). z.id.number ≤ proposals c (x ∷ transitions_of es)) e
+            (numbered-move es input x move old (subst (λ (z : Transition). same_code z.id.code c ≡ true) (sym e) own))
+        | inr j ↦ let a = old y j own in let b = proposals-cons c x (transitions_of es) in omega arith
+      ])
+
+  -- the identifier of a proposal is new
+  pub fresh : (es : List Entry) → Made scheme (Registry c) es → (t : TransactionId) → id_at c (proposals c (transitions_of es) + 1) ≡ Some t
+      → (x : Transition) → newest (transitions_of es) t ≡ Some x → ⊥
+  fresh es made t is x h =
+      let about = newest-id (transitions_of es) t x h in
+      let own : same_code x.id.code c ≡ true = subst (λ (z : TransactionId). same_code z.code c ≡ true) (sym about.1) (own-code (proposals c (transitions_of es) + 1) t is) in
+      let a = numbered es made x about.0 own in
+      let b : x.id.number ≡ t.number = ap (λ (z : TransactionId). z.number) about.1 in
+      let d : t.number ≡ proposals c (transitions_of es) + 1 = id_at-number c (proposals c (transitions_of es) + 1) t is in
+      omega arith
+
+  -- ---- no transition follows a completed one
+
+  alive : (es : List Entry) (input : Input) (x y : Transition) → Made scheme (Registry c) es → RegistryMove scheme c es input x → newest (transitions_of es) x.id ≡ Some y → y.new ≡ Completed → ⊥
+  alive es input x y made (proposes o t none is) h done = fresh es made t is y h
+  alive es input x y made (arrives p moment found f s is none foreign mine) h done = let e = sym none ∙ h in cc (e)
+  alive es input x y made (bares n moment f cancelled none foreign) h done = let e = sym none ∙ h in cc (e)
+  alive es input x y made (settles n moment q new f was mine move) h done =
+      let same = newest-own es n.id q y was h in
+      let a : Proposed ≡ Completed = sym (initiator-from q.new (notice_status n.notice) new move).0 ∙ ap (λ (z : Transition). z.new) same ∙ done in
+      cc (a)
+  alive es input x y made (finishes n moment q new f was foreign move none) h done =
+      let same = newest-own es n.id q y was h in
+      let a : Accepted ≡ Completed = sym (acquirer-from q.new (notice_status n.notice) new move).0 ∙ ap (λ (z : Transition). z.new) same ∙ done in
+      cc (a)
+
+  pub ends-last : (es : List Entry) → Made scheme (Registry c) es → EndsLast (transitions_of es)
+  ends-last =
+      each-move EndsLast (λ x i done. absurd i)
+      (λ es input x made move old y i done. elim i [
+        | inl e ↦ subst (λ (z : Transition). newest (x ∷ transitions_of es) z.id ≡ Some z) e (cond-true (same_id x.id x.id) (Some x) (newest (transitions_of es) x.id) (same_id-refl x.id))
+        | inr j ↦
+            elim (cases_Bool (same_id x.id y.id)) [
+              | inl t ↦ absurd (alive es input x y made move (subst (λ z. newest (transitions_of es) z ≡ Some y) (sym (id_of_same x.id y.id t)) (old y j done)) done)
+              | inr n ↦ cond-false (same_id x.id y.id) (Some x) (newest (transitions_of es) y.id) n ∙ old y j done
+            ]
+      ])
+
+  -- no two transitions complete one transaction
+  pub ends-once : (es : List Entry) (input : Input) (x y : Transition) → Made scheme (Registry c) es → RegistryMove scheme c es input x → In y (transitions_of es) → y.new ≡ Completed → x.id ≡ y.id → ⊥
+  ends-once es input x y made move i done same = alive es input x y made move (subst (λ z. newest (transitions_of es) z ≡ Some y) (sym same) (ends-last es made y i done)) done
+
+  -- ---- the content of a transfer of one's own
+
+  own-move : (es : List Entry) (input : Input) (x : Transition) → RegistryMove scheme c es input x → OwnContents scheme c (transitions_of es) → same_code x.id.code c ≡ true → OwnContent scheme c x
+  own-move es input x (proposes o t none is) old own =
+      let a = or_parts (not (has_member scheme o.to_registry)) (same_code o.to_registry c) none.1.1.1.1.1.1.0 in
+      record { content = content_of o; is = refl; acquirer_known = not-false (has_member scheme o.to_registry) a.0; acquirer_other = a.1 }
+  own-move es input x (arrives p moment found f s is none foreign mine) old own = clash (same_code p.id.code c) own foreign
+  own-move es input x (bares n moment f cancelled none foreign) old own = clash (same_code n.id.code c) own foreign
+  own-move es input x (settles n moment q new f was mine move) old own =
+      let a = old q (newest-id (transitions_of es) n.id q was).0 own in
+      record { content = a.content; is = a.is; acquirer_known = a.acquirer_known; acquirer_other = a.acquirer_other }
+  own-move es input x (finishes n moment q new f was foreign move none) old own = clash (same_code n.id.code c) (own-about es n.id q was own) foreign
+
+  pub own-contents : (es : List Entry) → Made scheme (Registry c) es → OwnContents scheme c (transitions_of es)
+  own-contents =
+      each-move (OwnContents scheme c) (λ x i own. absurd i)
+      (λ es input x made move old y i own. elim i [
+        | inl e ↦ subst (OwnContent scheme c) e (own-move es input x move old (subst (λ (z : Transition). same_code z.id.code c ≡ true) (sym e) own))
+        | inr j ↦ old y j own
+      ])
+
+  -- ---- what was offered
+
+  offer-move : (es : List Entry) (input : Input) (x : Transition) (p : Proposal) → RegistryMove scheme c es input x → In (message.Proposal p) x.messages
+      → (x.id ≡ p.id) × (x.content ≡ Some p.content) × (same_code p.id.code c ≡ true)
+  offer-move es input x p (proposes o t none is) (inl e) =
+      let s = one-proposal _ p e in
+      let about : t ≡ p.id = ap (λ (z : Proposal). z.id) s in (
+        about,
+        ap (λ (z : Proposal). Some z.content) s,
+        subst (λ (z : TransactionId). same_code z.code c ≡ true) about (own-code (proposals c (transitions_of es) + 1) t is),
+      )
+  offer-move es input x p (proposes o t none is) (inr h) = absurd h
+  offer-move es input x p (arrives q moment found f s is none foreign mine) (inl e) = absurd (cc (e))
+  offer-move es input x p (arrives q moment found f s is none foreign mine) (inr h) = absurd h
+  offer-move es input x p (bares n moment f cancelled none foreign) h = absurd h
+  offer-move es input x p (settles n moment q new f was mine move) h = absurd (settled-offers c q.id new p h)
+  offer-move es input x p (finishes n moment q new f was foreign move none) h = absurd h
+
+  own-keeps : (es : List Entry) (input : Input) (x y : Transition) → Made scheme (Registry c) es → RegistryMove scheme c es input x → newest (transitions_of es) x.id ≡ Some y
+      → same_code x.id.code c ≡ true → x.content ≡ y.content
+  own-keeps es input x y made (proposes o t none is) h own = absurd (fresh es made t is y h)
+  own-keeps es input x y made (arrives p moment found f s is none foreign mine) h own = clash (same_code p.id.code c) own foreign
+  own-keeps es input x y made (bares n moment f cancelled none foreign) h own = clash (same_code n.id.code c) own foreign
+  own-keeps es input x y made (settles n moment q new f was mine move) h own = ap (λ (z : Transition). z.content) (newest-own es n.id q y was h)
+  own-keeps es input x y made (finishes n moment q new f was foreign move none) h own = clash (same_code n.id.code c) (own-about es n.id q was own) foreign
+
+  -- what a registry proposed is the content of its transfer for good
+  pub offered : (es : List Entry) → Made scheme (Registry c) es → (p : Proposal) → In (message.Proposal p) (sends es)
+      → (x : Transition) × (newest (transitions_of es) p.id ≡ Some x) × (x.content ≡ Some p.content) × (same_code p.id.code c ≡ true)
+  offered [] made p h = absurd h
+  offered (e ∷ es) made p h =
+      elim (In-cases (message.Proposal p) (sends es) (messages_of e.transitions) h) [
+        | inl old ↦
+            let o = offered es made.1 p old in
+            elim (newest-append e.transitions (transitions_of es) p.id) [
+              | inl u ↦ (o.0, u ∙ o.1, o.2, o.3)
+              | inr u ↦ (
+                u.0,
+                u.3,
+                own-keeps es e.input u.0 o.0 made.1 (made-registry scheme c e es u.0 made u.1) (subst (λ z. newest (transitions_of es) z ≡ Some o.0) (sym u.2) o.1)
+                    (subst (λ (z : TransactionId). same_code z.code c ≡ true) (sym u.2) o.3)
+                    ∙ o.2,
+                o.3,
+              )
+            ]
+        | inr new ↦
+            let g = In-flat_map (λ (q : Transition). q.messages) (message.Proposal p) e.transitions new in
+            let n = offer-move es e.input g.0 p (made-registry scheme c e es g.0 made g.1) g.2 in
+            let u = newest-in e.transitions (transitions_of es) g.0 p.id g.1 n.0 in
+            (u.0, u.3, ap (λ (z : Transition). z.content) (single-same e.transitions u.0 g.0 (made-single scheme c e es made) u.1 g.1) ∙ n.1, n.2)
+      ]
+
+  -- ---- what was said to be completed
+
+  completed-move : (es : List Entry) (input : Input) (x : Transition) (n : Notification) → RegistryMove scheme c es input x → In (message.Notification n) x.messages → notice_status n.notice ≡ Completed
+      → (x.id ≡ n.id) × (x.new ≡ Completed) × (same_code n.id.code c ≡ true)
+  completed-move es input x n (proposes o t none is) (inl e) said = absurd (cc (e))
+  completed-move es input x n (proposes o t none is) (inr h) said = absurd h
+  completed-move es input x n (arrives p moment found f s is none foreign mine) (inl e) said =
+      let m = one-notice _ n e in
+      absurd (arrived-open found (sym (arrived-notice found) ∙ ap (λ (z : Notification). notice_status z.notice) m ∙ said))
+  completed-move es input x n (arrives p moment found f s is none foreign mine) (inr h) said = absurd h
+  completed-move es input x n (bares m moment f cancelled none foreign) h said = absurd h
+  completed-move es input x n (settles m moment q new f was mine move) h said =
+      let g = settled-completed c q.id new n h in
+      (g.0, g.1, subst (λ (z : TransactionId). same_code z.code c ≡ true) (sym (newest-id (transitions_of es) m.id q was).1 ∙ g.0) mine)
+  completed-move es input x n (finishes m moment q new f was foreign move none) h said = absurd h
+
+  -- a Completed that was sent was recorded
+  pub completed-sent : (es : List Entry) → Made scheme (Registry c) es → (n : Notification) → In (message.Notification n) (sends es) → notice_status n.notice ≡ Completed
+      → (x : Transition) × In x (transitions_of es) × (x.id ≡ n.id) × (x.new ≡ Completed) × (same_code n.id.code c ≡ true)
+  completed-sent [] made n h said = absurd h
+  completed-sent (e ∷ es) made n h said =
+      elim (In-cases (message.Notification n) (sends es) (messages_of e.transitions) h) [
+        | inl old ↦ let p = completed-sent es made.1 n old said in (p.0, In-right p.0 e.transitions (transitions_of es) p.1, p.2, p.3, p.4)
+        | inr new ↦
+            let g = In-flat_map (λ (q : Transition). q.messages) (message.Notification n) e.transitions new in
+            let m = completed-move es e.input g.0 n (made-registry scheme c e es g.0 made g.1) g.2 said in
+            (g.0, In-left g.0 e.transitions (transitions_of es) g.1, m.0, m.1, m.2)
+      ]
+
+-- ---- what an acquirer knows of a transfer: nothing but its end, or the content that the log offered
+
+pub record Taken (c : Code) (es : List Entry) (t : TransactionId) (x : Transition) : Type 0 where
+  pub content : Content
+  pub is : x.content ≡ Some content
+  pub got : Offered es Itl t proposal.Checked content
+  pub here : content.acquirer ≡ c
+
+abbrev pub Known : Code → List Entry → TransactionId → Transition → Type 0
+Known c es t x = ((x.new ≡ Cancelled) × (x.content ≡ None)) ⊎ Taken c es t x
+
+pub known-later : (c : Code) (e : Entry) (es : List Entry) (t : TransactionId) (x : Transition) → Known c es t x → Known c (e ∷ es) t x
+known-later c e es t x (inl h) = inl h
+known-later c e es t x (inr h) = inr (record { content = h.content; is = h.is; got = offered-later e es Itl t proposal.Checked h.content h.got; here = h.here })
+
+module _ (scheme : Scheme) (c : Code) where
+  pub known-move : (es : List Entry) (e : Entry) (t : TransactionId) (input : Input) (x : Transition) → e.input ≡ input → RegistryMove scheme c es input x → x.id ≡ t → same_code t.code c ≡ false
+      → ((q : Transition) → newest (transitions_of es) t ≡ Some q → Known c es t q) → Known c (e ∷ es) t x
+  known-move es e t input x i (proposes o u none is) same foreign old =
+      let own : same_code u.code c ≡ true = own-code scheme c (proposals c (transitions_of es) + 1) u is in
+      clash (same_code t.code c) (subst (λ (z : TransactionId). same_code z.code c ≡ true) same own) foreign
+  known-move es e t input x i (arrives p moment found f s is none foreign' mine) same foreign old =
+      inr (record {
+        content = p.content;
+        is = refl;
+        got = record { proposal = p; got = inl (moment, i); sender = f; about = same; status = s; content = refl };
+        here = code_of_same p.content.acquirer c mine;
+      })
+  known-move es e t input x i (bares n moment f cancelled none foreign') same foreign old = inl (refl, refl)
+  known-move es e t input x i (settles n moment q new f was own move) same foreign old =
+      let about : n.id ≡ t = sym (newest-id (transitions_of es) n.id q was).1 ∙ same in
+      clash (same_code t.code c) (subst (λ (z : TransactionId). same_code z.code c ≡ true) about own) foreign
+  known-move es e t input x i (finishes n moment q new f was foreign' move none) same foreign old =
+      let about : n.id ≡ t = sym (newest-id (transitions_of es) n.id q was).1 ∙ same in
+      elim (old q (subst (λ z. newest (transitions_of es) z ≡ Some q) about was)) [
+        | inl h ↦ let y : Accepted ≡ Cancelled = sym (acquirer-from q.new (notice_status n.notice) new move).0 ∙ h.0 in absurd (cc (y))
+        | inr h ↦ inr (record { content = h.content; is = h.is; got = offered-later e es Itl t proposal.Checked h.content h.got; here = h.here })
+      ]
+
+  pub known : (es : List Entry) → Made scheme (Registry c) es → (t : TransactionId) (x : Transition) → newest (transitions_of es) t ≡ Some x → same_code t.code c ≡ false → Known c es t x
+  known [] made t x h foreign = absurd (cc (h))
+  known (e ∷ es) made t x h foreign =
+      elim (newest-append e.transitions (transitions_of es) t) [
+        | inl u ↦ known-later c e es t x (known es made.1 t x (sym u ∙ h) foreign)
+        | inr u ↦
+            let j : u.0 ≡ x = one-some u.0 x (sym u.3 ∙ h) in
+            known-move es e t e.input x refl (subst (λ z. RegistryMove scheme c es e.input z) j (made-registry scheme c e es u.0 made u.1)) (subst (λ (z : Transition). z.id ≡ t) j u.2) foreign
+            (λ q was. known es made.1 t q was foreign)
+      ]
+
+-- ---- what the log knows of a transfer: its initiator proposed it, and completed it where it stands so
+
+pub record Proposer (scheme : Scheme) (es : List Entry) (t : TransactionId) (x : Transition) : Type 0 where
+  pub content : Content
+  pub is : x.content ≡ Some content
+  pub got : Offered es (Registry t.code) t proposal.Proposed content
+  pub initiator_known : is_no_registry scheme (Registry t.code) ≡ false
+  pub ended : x.new ≡ Completed → Heard es (Registry t.code) t Completed
+
+checked-open : (found : List ℕ) → checked_status found ≡ Completed → ⊥
+checked-open [] h = cc (h)
+checked-open (n ∷ ns) h = cc (h)
+
+module _ (scheme : Scheme) where
+  pub proposer-move : (es : List Entry) (e : Entry) (t : TransactionId) (input : Input) (x : Transition) → e.input ≡ input → LogMove scheme es input x → x.id ≡ t
+      → ((q : Transition) → newest (transitions_of es) t ≡ Some q → Proposer scheme es t q) → Proposer scheme (e ∷ es) t x
+  proposer-move es e t input x i (checks p moment found f s is none member) same old =
+      let from : p.from ≡ Registry t.code = f ∙ ap (λ (z : TransactionId). Registry z.code) same in
+      record {
+        content = p.content;
+        is = refl;
+        got = record { proposal = p; got = inl (moment, i); sender = from; about = same; status = s; content = refl };
+        initiator_known = subst (λ (z : Node). is_no_registry scheme z ≡ false) from member;
+        ended = λ h. absurd (checked-open found h);
+      }
+  proposer-move es e t input x i (passes n moment q new was member right move) same old =
+      let about : n.id ≡ t = sym (newest-id (transitions_of es) n.id q was).1 ∙ same in
+      let p = old q (subst (λ z. newest (transitions_of es) z ≡ Some q) about was) in
+      record {
+        content = p.content;
+        is = p.is;
+        got = offered-later e es (Registry t.code) t proposal.Proposed p.content p.got;
+        initiator_known = p.initiator_known;
+        ended = λ h. elim (log-from q.new (notice_status n.notice) new move) [
+          | inl m ↦
+              elim m.2 [
+                | inl a ↦ let y : Accepted ≡ Completed = sym a ∙ sym m.1 ∙ h in absurd (cc (y))
+                | inr a ↦ let y : Rejected ≡ Completed = sym a ∙ sym m.1 ∙ h in absurd (cc (y))
+              ]
+          | inr m ↦
+              let w : is_from_another n.from n.id q.content Completed ≡ false = subst (λ s. is_from_another n.from n.id q.content s ≡ false) m.2 right in
+              let who = node_of_same n.from (Registry n.id.code) (not-false (same_node n.from (Registry n.id.code)) w) in
+              record { notification = n; got = inl (moment, i); sender = who ∙ ap (λ (z : TransactionId). Registry z.code) about; about = about; told = m.2 }
+        ];
+      }
+  proposer-move es e t input x i (cancels moment u q was checked) same old =
+      let about : u ≡ t = sym (newest-id (transitions_of es) u q was).1 ∙ same in
+      let p = old q (subst (λ z. newest (transitions_of es) z ≡ Some q) about was) in
+      record {
+        content = p.content;
+        is = p.is;
+        got = offered-later e es (Registry t.code) t proposal.Proposed p.content p.got;
+        initiator_known = p.initiator_known;
+        ended = λ h. let y : Cancelled ≡ Completed = h in absurd (cc (y));
+      }
+
+  pub proposer : (es : List Entry) → Made scheme Itl es → (t : TransactionId) (x : Transition) → newest (transitions_of es) t ≡ Some x → Proposer scheme es t x
+  proposer [] made t x h = absurd (cc (h))
+  proposer (e ∷ es) made t x h =
+      elim (newest-append e.transitions (transitions_of es) t) [
+        | inl u ↦
+            let p = proposer es made.1 t x (sym u ∙ h) in
+            record {
+              content = p.content;
+              is = p.is;
+              got = offered-later e es (Registry t.code) t proposal.Proposed p.content p.got;
+              initiator_known = p.initiator_known;
+              ended = λ d. heard-later e es (Registry t.code) t Completed (p.ended d);
+            }
+        | inr u ↦
+            let j : u.0 ≡ x = one-some u.0 x (sym u.3 ∙ h) in
+            proposer-move es e t e.input x refl (subst (λ z. LogMove scheme es e.input z) j (made-log scheme e es u.0 made u.1)) (subst (λ (z : Transition). z.id ≡ t) j u.2)
+            (λ q was. proposer es made.1 t q was)
+      ]

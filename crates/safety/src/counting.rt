@@ -1,0 +1,14 @@
+//! One registry by itself.
+ghost use Rattle.std.specs.Prelude.{List};
+ghost use Rattle.units.specs.declared.code.Code.{Code};
+ghost use Rattle.units.specs.declared.code.Node.TheVariants.{Registry};
+ghost use Rattle.wire.specs.declared.input.Input.{Input};
+ghost use Rattle.scheme.specs.declared.registries.Scheme.{Scheme};
+ghost use Rattle.protocol.specs.History.{transitions_of};
+ghost use Rattle.protocol.specs.Verdict.{history};
+ghost use Rattle.protocol.specs.Claims.{CountedOnce};
+
+/// At one registry, whatever it is given, forged messages included, a unit is counted once or not at all.
+pub fn registry_counts_once()
+    ensures { (scheme : Scheme) (c : Code) (journal : List Input) → CountedOnce scheme c (transitions_of (history scheme (Registry c) journal)) }
+{}

@@ -1,5 +1,5 @@
 -- Who owns a unit: the registry that holds it, or the completed transfer that owes it.
-use Rattle.std.specs.Prelude.{◌≡◌, ◌⊎◌, is_some, Bool, true, false, List, Option, Some, None}
+use Rattle.std.specs.Prelude.{◌≡◌, ◌⊎◌, is_some, true, false, List, Some}
 use Rattle.units.specs.declared.block.Unit.{Unit as Serial}
 use Rattle.units.specs.declared.code.Code.{Code}
 use Rattle.units.specs.declared.code.Node.{Node}

@@ -1,5 +1,5 @@
 -- A way out: further events after which no transfer is open and every allotted unit is spendable.
-use Rattle.std.specs.Prelude.{◌&&◌, ◌||◌, not, ◌≡◌, ◌≤◌, ◌⊎◌, ℕ, ◌+◌, ◌*◌, is_some, Bool, true, false, List, [], ◌∷◌, Option, Some, None, length}
+use Rattle.std.specs.Prelude.{◌&&◌, ◌||◌, not, ◌≡◌, ◌≤◌, ◌⊎◌, ℕ, ◌+◌, ◌*◌, is_some, Bool, true, false, List, [], ◌∷◌, Some, length}
 use Rattle.units.specs.Code.{same_code}
 use Rattle.units.specs.declared.block.Unit.{Unit as Serial}
 use Rattle.units.specs.declared.code.Code.{Code}

@@ -14,3 +14,7 @@ pub mod Stations
 pub mod Sound
 pub mod Local
 pub mod Ended
+pub mod LogShapes
+pub mod LogAlone
+pub mod Book
+pub mod Schemes

@@ -4,6 +4,10 @@
 
 mod agreement;
 mod counting;
+mod log;
+mod owning;
 
 pub use agreement::nodes_agree;
 pub use counting::registry_counts_once;
+pub use log::log_alone;
+pub use owning::holders_own;

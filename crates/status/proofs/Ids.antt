@@ -69,3 +69,15 @@ id_if-code c n false e t h = absurd (cc (h))
 
 pub id_at-code : (c : Code) (n : ℕ) (t : TransactionId) → id_at c n ≡ Some t → t.code ≡ c
 id_at-code c n t h = id_if-code c n (is_number n) refl t h
+
+-- and has that number
+id_if-number : (c : Code) (n : ℕ) (b : Bool) (e : is_number n ≡ b) (t : TransactionId) → id_if c n b e ≡ Some t → t.number ≡ n
+id_if-number c n true e t h = let same : Some (id c n (number_from n e)) ≡ Some t = h in let one : id c n (number_from n e) ≡ t = cc (same) in sym (ap (λ (u : TransactionId). u.number) one)
+id_if-number c n false e t h = absurd (cc (h))
+
+pub id_at-number : (c : Code) (n : ℕ) (t : TransactionId) → id_at c n ≡ Some t → t.number ≡ n
+id_at-number c n t h = id_if-number c n (is_number n) refl t h
+
+-- identifiers of different numbers differ
+pub id_at-apart : (c d : Code) (n m : ℕ) (t u : TransactionId) → id_at c n ≡ Some t → id_at d m ≡ Some u → (n ≡ m → ⊥) → t ≡ u → ⊥
+id_at-apart c d n m t u h i other same = other (sym (id_at-number c n t h) ∙ ap (λ (v : TransactionId). v.number) same ∙ id_at-number d m u i)

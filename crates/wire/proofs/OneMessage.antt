@@ -1,5 +1,5 @@
 -- A value writes one message at most.
-use Rattle.std.proofs.Common.{◌≡◌, ℕ, List, codes, bytes_eq, if◌then◌else◌, Some, refl, sym, ap, subst, ◌∙◌}
+use Rattle.std.proofs.Common.{◌≡◌, ℕ, List, codes, bytes_eq, if◌then◌else◌, Option, Some, refl, sym, ap, subst, ◌∙◌}
 use Rattle.serde_json.specs.Data.{Data, string}
 use Rattle.fields.specs.Fields.{HasAt, HasKeys}
 use Rattle.units.specs.Code.{code_text, node_text}
@@ -124,8 +124,11 @@ notification_once d m n h k =
     let notices = notice_once d m.notice n.notice (f.1.0, f.1.1.1.0, h.1) (g.1.0, g.1.1.1.0, k.1) in
     λ i. record { from = froms i; to = tos i; id = ids i; notice = notices i }
 
+nine_or_six : (o : Option ℕ) → o ≡ Some 9 → o ≡ Some 6 → ⊥
+nine_or_six o p q = cc (p, q)
+
 not_nine : (d : Data) → HasKeys d 9 → HasKeys d 6 → ⊥
-not_nine d p q = let e : Some {A = ℕ} 9 ≡ Some 6 = sym p ∙ q in absurd (cc (e))
+not_nine d p q = nine_or_six _ p q
 
 pub message_once : (d : Data) (m n : Message) → IsMessage d m → IsMessage d n → m ≡ n
 message_once d (message.Proposal p) (message.Proposal q) h k = ap message.Proposal (proposal_once d p q h k)

@@ -1,0 +1,10 @@
+//! The log by itself.
+ghost use Rattle.scheme.specs.declared.registries.Scheme.{Scheme};
+ghost use Rattle.protocol.specs.Claims.{EndsStay, OwnedByInitiator, UnderWayApart};
+
+/// Of the log alone, whatever messages come to it, forged ones included.
+pub fn log_alone()
+    ensures ends_stay { (scheme : Scheme) → EndsStay scheme }
+    ensures apart { (scheme : Scheme) → UnderWayApart scheme }
+    ensures owned { (scheme : Scheme) → OwnedByInitiator scheme }
+{}

@@ -1,0 +1,13 @@
+//! Whose units the log's book says they are.
+ghost use Rattle.std.specs.Prelude.{List};
+ghost use Rattle.scheme.specs.declared.registries.Scheme.{Scheme};
+ghost use Rattle.protocol.specs.Claims.{HolderOwns, committed_of, live_of};
+ghost use Rattle.protocol.specs.World.{opening, run};
+ghost use Rattle.protocol.specs.declared.event.WorldEvent.{WorldEvent};
+
+/// Over every list of events, a registry that holds a unit is its owner in the log's book: by journals
+/// with their tails, and by committed journals.
+pub fn holders_own()
+    ensures live { (scheme : Scheme) (events : List WorldEvent) → HolderOwns scheme (live_of (run (opening scheme) events)) }
+    ensures committed { (scheme : Scheme) (events : List WorldEvent) → HolderOwns scheme (committed_of (run (opening scheme) events)) }
+{}

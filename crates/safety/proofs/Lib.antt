@@ -18,3 +18,5 @@ pub mod LogShapes
 pub mod LogAlone
 pub mod Book
 pub mod Schemes
+pub mod Reached
+pub mod Places

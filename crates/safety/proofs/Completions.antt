@@ -19,7 +19,7 @@ use Rattle.wire.specs.declared.message.ProposalStatus.TheVariants as proposal
 use Rattle.scheme.specs.declared.registries.Scheme.{Scheme}
 use Rattle.protocol.specs.AtLog.{is_no_registry}
 use Rattle.protocol.specs.Claims.{at_registry}
-use Rattle.protocol.specs.History.{Transition, Entry, transitions_of, newest, sends, is_status, carries, gives, credits}
+use Rattle.protocol.specs.History.{Transition, Entry, transitions_of, newest, stands, sends, is_status, carries, gives, credits}
 use Rattle.safety.proofs.Causal.{Causal, heard-sent, log-said, one-some}
 use Rattle.safety.proofs.Counts.{NoRepeat, picked, In-picked}
 use Rattle.safety.proofs.Ended.{each-move, ends-last, ends-once, offered, completed-sent, known, proposer}
@@ -58,6 +58,9 @@ is-credited c s x done foreign has =
 pub stood : (o : Option Transition) (s : Status) → is_status (option_map (λ (x : Transition). x.new) o) s ≡ true → (x : Transition) × (o ≡ Some x) × (x.new ≡ s)
 stood None s h = absurd (cc (h))
 stood (Some x) s h = (x, refl, status_of_same x.new s h)
+
+pub stands-so : (xs : List Transition) (t : TransactionId) (x : Transition) (s : Status) → newest xs t ≡ Some x → x.new ≡ s → stands xs t ≡ Some s
+stands-so xs t x s h e = ap (option_map (λ (z : Transition). z.new)) h ∙ ap Some e
 
 -- ---- one registry
 

@@ -23,3 +23,4 @@ pub mod Reached
 pub mod Places
 pub mod Sums
 pub mod OnePlace
+pub mod OneOwner

@@ -1,0 +1,4 @@
+pub mod Tables
+pub mod Slots
+pub mod Held
+pub mod Faults

@@ -1,0 +1,7 @@
+//! Journals that outlive the process.
+#![tactic(auto)]
+
+mod batch;
+mod fault;
+
+pub use fault::StoreFault;

@@ -24,3 +24,6 @@ pub mod Places
 pub mod Sums
 pub mod OnePlace
 pub mod OneOwner
+pub mod OwnStatuses
+pub mod Committing
+pub mod OwnersMove

@@ -1,4 +1,5 @@
 pub mod Members
+pub mod Positions
 pub mod Counts
 pub mod Units
 pub mod Canonical
@@ -18,3 +19,5 @@ pub mod LogShapes
 pub mod LogAlone
 pub mod Book
 pub mod Schemes
+pub mod Weave
+pub mod Quiet

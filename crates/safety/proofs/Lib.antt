@@ -19,5 +19,11 @@ pub mod LogShapes
 pub mod LogAlone
 pub mod Book
 pub mod Schemes
+pub mod Reached
+pub mod Places
 pub mod Weave
 pub mod Quiet
+pub mod InTurn
+pub mod Ordered
+pub mod Stuck
+pub mod EachWaits

@@ -37,3 +37,7 @@ In-take k xs x i = subst (In x) (take-append-drop k xs) (In-left x (take k xs) (
 pub left-empty : {X : Type 0} (xs ys : List X) → xs ++ ys ≡ [] → xs ≡ []
 left-empty [] ys e = refl
 left-empty (x ∷ xs) ys e = absurd (cc)
+
+pub right-empty : {X : Type 0} (xs ys : List X) → xs ++ ys ≡ [] → ys ≡ []
+right-empty [] ys e = e
+right-empty (x ∷ xs) ys e = absurd (cc)

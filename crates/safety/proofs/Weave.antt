@@ -27,13 +27,12 @@ journals-there r rs n other = cond-false (same_node n r.node) (journals_of rs n 
 
 -- more may have been sent since
 pub sent-later : (scheme : Scheme) (a b : Node → List Input) → GoOn a b → (n : Node) (input : Input) → WasSent scheme a n input → WasSent scheme b n input
-sent-later scheme a b on n (Received m moment) h =
-    (
-      h.0,
-      contains-in (sends (history scheme (sender m) (b (sender m)))) m
+sent-later scheme a b on n (Received m moment) h = (
+  h.0,
+  contains-in (sends (history scheme (sender m) (b (sender m)))) m
       (subst (λ xs. In m (sends (history scheme (sender m) xs))) (sym (on (sender m)).1)
-        (sends-append scheme (sender m) (a (sender m)) (on (sender m)).0 m (In-contains (sends (history scheme (sender m) (a (sender m)))) m h.1))),
-    )
+      (sends-append scheme (sender m) (a (sender m)) (on (sender m)).0 m (In-contains (sends (history scheme (sender m) (a (sender m)))) m h.1))),
+)
 sent-later scheme a b on n (Propose o) h = tt
 sent-later scheme a b on n (OpenAccount account) h = tt
 sent-later scheme a b on n (CloseAccount account) h = tt
@@ -53,18 +52,19 @@ module _ (scheme : Scheme) (past whole : Node → List Input) (on : GoOn past wh
     where
       whole_is : whole r.node ≡ journals_of rs r.node ++ r.input ∷ (inside r.node).0
       whole_is = (inside r.node).1 ∙ ap (λ xs. xs ++ (inside r.node).0) (journals-here r rs) ∙ append_assoc (journals_of rs r.node) (r.input ∷ []) (inside r.node).0
+
       older : GoOn (journals_of rs) whole
       older n =
           elim (cases_Bool (same_node n r.node)) [
             | inl y ↦ (r.input ∷ (inside r.node).0, subst (λ z. whole z ≡ journals_of rs z ++ r.input ∷ (inside r.node).0) (sym (node_of_same n r.node y)) whole_is)
             | inr other ↦ ((inside n).0, (inside n).1 ∙ ap (λ xs. xs ++ (inside n).0) (journals-there r rs n other))
           ]
+
       at_node : GoOn (journals_of rs) past → (extra : List Input) → past r.node ≡ journals_of rs r.node ++ extra → GoOn (journals_of (r ∷ rs)) past ⊎ HasNext scheme past whole
       at_node covers [] e =
           let same : past r.node ≡ journals_of rs r.node = e ∙ append-nil (journals_of rs r.node) in
           let next = turn.0 in
-          inr
-          (
+          inr (
             r,
             (
               next.0,
@@ -79,19 +79,18 @@ module _ (scheme : Scheme) (past whole : Node → List Input) (on : GoOn past wh
           let first : x ≡ r.input = cc (tails) in
           inl
           (λ n.
-            elim (cases_Bool (same_node n r.node)) [
-              | inl y ↦
-                  (
-                    xs,
-                    subst (λ z. past z ≡ journals_of (r ∷ rs) z ++ xs) (sym (node_of_same n r.node y))
-                    (e ∙ ap (λ z. journals_of rs r.node ++ z ∷ xs) first ∙ sym (append_assoc (journals_of rs r.node) (r.input ∷ []) xs) ∙ ap (λ zs. zs ++ xs) (sym (journals-here r rs))),
-                  )
-              | inr other ↦ ((covers n).0, (covers n).1 ∙ ap (λ zs. zs ++ (covers n).0) (sym (journals-there r rs n other)))
-            ])
+          elim (cases_Bool (same_node n r.node)) [
+            | inl y ↦ (
+              xs,
+              subst (λ z. past z ≡ journals_of (r ∷ rs) z ++ xs) (sym (node_of_same n r.node y))
+                  (e ∙ ap (λ z. journals_of rs r.node ++ z ∷ xs) first ∙ sym (append_assoc (journals_of rs r.node) (r.input ∷ []) xs) ∙ ap (λ zs. zs ++ xs) (sym (journals-here r rs))),
+            )
+            | inr other ↦ ((covers n).0, (covers n).1 ∙ ap (λ zs. zs ++ (covers n).0) (sym (journals-there r rs n other)))
+          ])
 
 -- journals that have an order go on from any part of them
 pub never-stuck : (scheme : Scheme) (order : List Placed) (past whole : Node → List Input) → InTurn scheme order → ((n : Node) → journals_of order n ≡ whole n) → GoOn past whole
-  → ((n : Node) → past n ≡ whole n) ⊎ HasNext scheme past whole
+    → ((n : Node) → past n ≡ whole n) ⊎ HasNext scheme past whole
 never-stuck scheme order past whole turn same on =
     elim (greedy-to scheme past whole on order turn (λ n. ([], sym (same n) ∙ sym (append-nil (journals_of order n))))) [
       | inl covers ↦ inl (λ n. all covers n)
@@ -102,6 +101,6 @@ never-stuck scheme order past whole turn same on =
     all covers n =
         let covered : past n ≡ whole n ++ (covers n).0 = (covers n).1 ∙ ap (λ zs. zs ++ (covers n).0) (same n) in
         let both : whole n ++ [] ≡ whole n ++ ((covers n).0 ++ (on n).0) =
-            append-nil (whole n) ∙ (on n).1 ∙ ap (λ zs. zs ++ (on n).0) covered ∙ append_assoc (whole n) (covers n).0 (on n).0 in
+        append-nil (whole n) ∙ (on n).1 ∙ ap (λ zs. zs ++ (on n).0) covered ∙ append_assoc (whole n) (covers n).0 (on n).0 in
         let none = append_cancel_left (whole n) [] ((covers n).0 ++ (on n).0) both in
         covered ∙ ap (λ zs. whole n ++ zs) (left-empty (covers n).0 (on n).0 (sym none)) ∙ append-nil (whole n)

@@ -6,8 +6,10 @@ mod agreement;
 mod counting;
 mod log;
 mod owning;
+mod weaving;
 
 pub use agreement::nodes_agree;
 pub use counting::registry_counts_once;
 pub use log::log_alone;
 pub use owning::holders_own;
+pub use weaving::{journals_weave, plausible_is_not_enough};

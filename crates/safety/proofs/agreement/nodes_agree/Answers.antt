@@ -1,14 +1,10 @@
-use Rattle.protocol.specs.World.{opening, run}
+use Rattle.protocol.specs.Claims.{live_of, committed_of}
 use Rattle.safety.proofs.Causal.{causal-agrees}
-use Rattle.safety.proofs.Sound.{run-sound, opening-sound, live-causal, committed-causal}
+use Rattle.safety.proofs.Reached.{reached, reached-live, reached-committed}
 use Rattle.safety.proofs.agreement.nodes_agree.Goals as goal
 
 pub returns-clause-live : goal.returns-clause-live
-returns-clause-live c = λ scheme events.
-    let w = run (opening scheme) events in
-    causal-agrees w.scheme _ (live-causal w (run-sound (opening scheme) events (opening-sound scheme)))
+returns-clause-live c = λ scheme events. causal-agrees scheme (live_of (reached scheme events)) (reached-live scheme events)
 
 pub returns-clause-committed : goal.returns-clause-committed
-returns-clause-committed c = λ scheme events.
-    let w = run (opening scheme) events in
-    causal-agrees w.scheme _ (committed-causal w (run-sound (opening scheme) events (opening-sound scheme)))
+returns-clause-committed c = λ scheme events. causal-agrees scheme (committed_of (reached scheme events)) (reached-committed scheme events)

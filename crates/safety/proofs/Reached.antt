@@ -1,0 +1,29 @@
+-- Worlds that events lead to: their nodes' histories have each received message sent.
+use Rattle.std.proofs.Common.{◌≡◌, List, subst}
+use Rattle.scheme.specs.declared.registries.Scheme.{Scheme}
+use Rattle.protocol.specs.Claims.{live_of, committed_of}
+use Rattle.protocol.specs.World.{World, opening, run}
+use Rattle.protocol.specs.declared.event.WorldEvent.{WorldEvent}
+use Rattle.safety.proofs.Causal.{Causal}
+use Rattle.safety.proofs.Schemes.{run-scheme}
+use Rattle.safety.proofs.Sound.{Sound, run-sound, opening-sound, live-causal, committed-causal}
+
+-- the world that the events lead to
+abbrev pub reached : Scheme → List WorldEvent → World
+reached scheme events = run (opening scheme) events
+
+pub reached-scheme : (scheme : Scheme) (events : List WorldEvent) → (reached scheme events).scheme ≡ scheme
+reached-scheme scheme events = run-scheme (opening scheme) events
+
+pub reached-sound : (scheme : Scheme) (events : List WorldEvent) → Sound (reached scheme events)
+reached-sound scheme events = run-sound (opening scheme) events (opening-sound scheme)
+
+pub reached-live : (scheme : Scheme) (events : List WorldEvent) → Causal scheme (live_of (reached scheme events))
+reached-live scheme events =
+    let w = reached scheme events in
+    subst (λ (z : Scheme). Causal z (live_of w)) (reached-scheme scheme events) (live-causal w (reached-sound scheme events))
+
+pub reached-committed : (scheme : Scheme) (events : List WorldEvent) → Causal scheme (committed_of (reached scheme events))
+reached-committed scheme events =
+    let w = reached scheme events in
+    subst (λ (z : Scheme). Causal z (committed_of w)) (reached-scheme scheme events) (committed-causal w (reached-sound scheme events))

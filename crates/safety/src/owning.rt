@@ -1,7 +1,8 @@
-//! Whose units the log's book says they are.
+//! Who owns a unit, and whose units the log's book says they are.
 ghost use Rattle.std.specs.Prelude.{List};
 ghost use Rattle.scheme.specs.declared.registries.Scheme.{Scheme};
 ghost use Rattle.protocol.specs.Claims.{HolderOwns, committed_of, live_of};
+ghost use Rattle.protocol.specs.Owner.{OneOwner};
 ghost use Rattle.protocol.specs.World.{opening, run};
 ghost use Rattle.protocol.specs.declared.event.WorldEvent.{WorldEvent};
 
@@ -10,4 +11,11 @@ ghost use Rattle.protocol.specs.declared.event.WorldEvent.{WorldEvent};
 pub fn holders_own()
     ensures live { (scheme : Scheme) (events : List WorldEvent) → HolderOwns scheme (live_of (run (opening scheme) events)) }
     ensures committed { (scheme : Scheme) (events : List WorldEvent) → HolderOwns scheme (committed_of (run (opening scheme) events)) }
+{}
+
+/// Over every list of events an allotted unit has one owner, a registry that holds it or a completed
+/// transfer that owes it, and another unit has none.
+pub fn units_have_one_owner()
+    ensures live { (scheme : Scheme) (events : List WorldEvent) → OneOwner scheme (live_of (run (opening scheme) events)) }
+    ensures committed { (scheme : Scheme) (events : List WorldEvent) → OneOwner scheme (committed_of (run (opening scheme) events)) }
 {}

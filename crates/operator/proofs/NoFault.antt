@@ -1,5 +1,5 @@
 -- An input without a fault has none: the two definitions exclude each other.
-use Rattle.std.proofs.Common.{◌≡◌, ℕ, zero, suc, ◌+◌, ◌<◌, ◌≤◌, List, [], ◌∷◌, ◌++◌, length, inl, inr, refl, sym, ap, ◌∙◌, subst, arith, Option, Some, length-append}
+use Rattle.std.proofs.Common.{◌≡◌, ℕ, zero, suc, ◌+◌, ◌<◌, List, [], ◌∷◌, length, inl, inr, sym, ap, ◌∙◌, subst, arith, length-append}
 use Rattle.units.specs.Text.{IsFreeOf}
 use Rattle.units.proofs.Cuts.{cut_once, cut_not_free}
 use Rattle.world.specs.declared.event.WorldEvent.{WorldEvent}

@@ -1,12 +1,12 @@
 -- A run over the event lines.
-use Rattle.std.proofs.Common.{◌≡◌, ℕ, zero, suc, ◌+◌, ◌-◌, ◌<◌, ◌≤◌, List, [], ◌∷◌, ◌++◌, length, true, false, true≢false, ◌==◌, refl, inr, Result, Ok, Err, IfErr, sym, ap, ◌∙◌, subst, arith, append_assoc, append-nil, length-append}
+use Rattle.std.proofs.Common.{◌≡◌, ℕ, suc, ◌+◌, ◌<◌, ◌≤◌, List, [], ◌∷◌, ◌++◌, length, true, false, true≢false, ◌==◌, refl, inr, Result, Ok, Err, IfErr, sym, ap, ◌∙◌, subst, arith, append_assoc, append-nil, length-append}
 use Rattle.std.proofs.lemmas.List.{nil_from_length}
 use Rattle.std.proofs.lemmas.Bool.{eqb-true}
 use Rattle.std.specs.Result.{IsErrAnd, OnOk, is_err}
 use Rattle.scheme.specs.declared.registries.Scheme.{Scheme}
 use Rattle.scheme.specs.Text.{IsSchemeText}
 use Rattle.operator.specs.Streams.{longest_input}
-use Rattle.world.specs.declared.event.Outcome.{Outcome}
+use Rattle.protocol.specs.declared.event.Outcome.{Outcome}
 use Rattle.world.specs.declared.event.WorldEvent.{WorldEvent}
 use Rattle.world.specs.World.{World, step, run, outcomes}
 use Rattle.operator.specs.declared.fault.Cause.{Cause}

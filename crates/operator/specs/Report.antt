@@ -9,8 +9,8 @@ use Rattle.status.specs.Id.{id_text}
 use Rattle.status.specs.Status.{status_text}
 use Rattle.status.specs.declared.id.TransactionId.{TransactionId}
 use Rattle.status.specs.declared.words.Status.{Status}
-use Rattle.world.specs.declared.event.Outcome.{Outcome}
-use Rattle.world.specs.declared.event.Outcome.TheVariants.{Recorded, Repeat, Late, Refused, Done, NotPossible}
+use Rattle.protocol.specs.declared.event.Outcome.{Outcome}
+use Rattle.protocol.specs.declared.event.Outcome.TheVariants.{Recorded, Repeat, Late, Refused, Done, NotPossible}
 use Rattle.world.specs.declared.table.Holding.{Holding}
 use Rattle.world.specs.declared.table.Debt.{Debt}
 use Rattle.operator.specs.declared.report.Standing.{Standing}

@@ -1,7 +1,7 @@
 -- The table of a world, and the report of a list of events.
 use Rattle.std.specs.Prelude.{◌≡◌, ℕ, ◌+◌, List, [], ◌∷◌, ◌++◌, map}
 use Rattle.units.specs.declared.code.Node.TheVariants.{Itl, Registry}
-use Rattle.world.specs.declared.event.Outcome.{Outcome}
+use Rattle.protocol.specs.declared.event.Outcome.{Outcome}
 use Rattle.world.specs.declared.event.WorldEvent.{WorldEvent}
 use Rattle.world.specs.declared.table.Stock.{Stock}
 use Rattle.scheme.specs.declared.registries.Scheme.{Scheme}

@@ -1,13 +1,11 @@
 -- What a world shows of a node, by what the node keeps.
-use Rattle.std.proofs.Common.{◌≡◌, List, [], ◌∷◌, Option, Some, None, option_map, refl, sym, ap, ◌∙◌}
+use Rattle.std.proofs.Common.{◌≡◌, List, [], Some, None, sym, ap, ◌∙◌}
 use Rattle.units.specs.declared.code.Node.{Node}
 use Rattle.world.specs.declared.thin.messages.Input.{Input}
-use Rattle.scheme.specs.declared.registries.Scheme.{Scheme}
-use Rattle.world.specs.declared.thin.rules.Transition.{Transition}
 use Rattle.world.specs.declared.nodes.Station.{Station as Kept}
 use Rattle.world.specs.History.{transitions_of}
 use Rattle.world.specs.Verdict.{history}
-use Rattle.world.specs.World.{World, Station, station}
+use Rattle.world.specs.World.{World, station}
 use Rattle.world.specs.Kept.{seen, IsKept}
 use Rattle.world.specs.Views.{live, live_in}
 use Rattle.world.proofs.Turns.{journal-seen}

@@ -6,7 +6,7 @@ use Rattle.std.proofs.Math.Seq.{take-add}
 use Rattle.std.proofs.lemmas.Bool.{le-leb}
 use Rattle.std.proofs.lemmas.List.{drop-drop, length-drop, length-append}
 use Rattle.units.specs.declared.code.Node.{Node}
-use Rattle.world.specs.declared.event.Outcome.TheVariants.{Done}
+use Rattle.protocol.specs.declared.event.Outcome.TheVariants.{Done}
 use Rattle.world.specs.declared.thin.messages.Input.{Input}
 use Rattle.world.specs.declared.thin.messages.Message.{Message}
 use Rattle.scheme.specs.declared.registries.Scheme.{Scheme}

@@ -19,8 +19,8 @@ use Rattle.status.specs.declared.id.TransactionId.{TransactionId}
 use Rattle.status.specs.declared.moment.Moment.{Moment}
 use Rattle.status.specs.declared.words.Status.{Status}
 use Rattle.status.specs.declared.words.Status.TheVariants.{Proposed, Checked, Accepted, Completed}
-use Rattle.world.specs.declared.event.Outcome.{Outcome}
-use Rattle.world.specs.declared.event.Outcome.TheVariants.{Recorded, Done}
+use Rattle.protocol.specs.declared.event.Outcome.{Outcome}
+use Rattle.protocol.specs.declared.event.Outcome.TheVariants.{Recorded, Done}
 use Rattle.world.specs.declared.event.WorldEvent.{WorldEvent}
 use Rattle.world.specs.declared.event.WorldEvent.TheVariants.{Take, Commit, Post, Deliver}
 use Rattle.world.specs.declared.nodes.Posted.{Posted}
@@ -38,7 +38,8 @@ use Rattle.world.specs.declared.thin.rules.Transition.{Transition}
 use Rattle.world.specs.World.{World, opening, step, run, outcomes}
 use Rattle.world.specs.Verdict.{verdict, transition}
 use Rattle.scheme.specs.Order.{AreFew, AreMembers}
-use Rattle.world.specs.History.{Place, holds, place}
+use Rattle.protocol.specs.History.{Place}
+use Rattle.world.specs.History.{holds, place}
 use Rattle.world.specs.Holdings.{IsHeldSo, HasSo, AreHoldings}
 use Rattle.world.specs.Stocks.{AreStocks}
 use Rattle.world.specs.Views.{journal_of, committed_of, live, status_at, is_held, is_spendable, parties, transactions, due, owed}

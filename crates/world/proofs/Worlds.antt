@@ -3,8 +3,8 @@ use Rattle.std.proofs.Common.{◌≡◌, ℕ, List, map, get_or, Option, Some, N
 use Rattle.std.proofs.Math.ListN.{set}
 use Rattle.std.specs.List.{position_from}
 use Rattle.units.specs.declared.code.Node.{Node}
-use Rattle.world.specs.declared.event.Outcome.{Outcome}
-use Rattle.world.specs.declared.event.Outcome.TheVariants.{NotPossible}
+use Rattle.protocol.specs.declared.event.Outcome.{Outcome}
+use Rattle.protocol.specs.declared.event.Outcome.TheVariants.{NotPossible}
 use Rattle.scheme.specs.declared.registries.Scheme.{Scheme}
 use Rattle.status.specs.declared.moment.Moment.{Moment}
 use Rattle.world.specs.declared.thin.messages.Message.{Message}

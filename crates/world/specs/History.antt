@@ -1,12 +1,11 @@
 -- What a journal says: the transitions of its inputs, and what is read off them.
 -- A history is the list of a journal's inputs with their transitions, the newest first.
-use Rattle.std.specs.Prelude.{ℕ, ◌+◌, ◌==◌, ◌&&◌, not, cond, Bool, false, List, [], ◌∷◌, ◌++◌, map, filter, find, flat_map, length, Option, Some, None, option_map, is_some}
+use Rattle.std.specs.Prelude.{ℕ, ◌+◌, ◌==◌, ◌&&◌, not, cond, Bool, List, [], ◌∷◌, ◌++◌, map, filter, find, flat_map, length, Option, Some, None, option_map, is_some}
 use Rattle.std.specs.Option.{option_to_list}
 use Rattle.units.specs.Code.{same_code}
 use Rattle.units.specs.Unit.{has_unit, covers}
 use Rattle.units.specs.declared.code.Code.{Code}
 use Rattle.units.specs.declared.block.Block.{Block}
-use Rattle.units.specs.declared.block.Kind.{Kind}
 use Rattle.units.specs.declared.block.Unit.{Unit as Serial}
 use Rattle.status.specs.Id.{same_id}
 use Rattle.status.specs.Status.{same_status}
@@ -17,6 +16,7 @@ use Rattle.world.specs.declared.thin.messages.Input.{Input}
 use Rattle.world.specs.declared.thin.messages.Message.{Message}
 use Rattle.scheme.specs.declared.members.Allotment.{Allotment}
 use Rattle.scheme.specs.declared.members.Member.{Member}
+use Rattle.protocol.specs.History.{Place, is_status}
 use Rattle.world.specs.declared.thin.rules.Transition.{Transition}
 
 pub record Entry : Type 0 where
@@ -37,10 +37,6 @@ newest ts t = find (λ x. same_id x.id t) ts
 -- the new status of the last transition that names t
 abbrev pub stands : List Transition → TransactionId → Option Status
 stands ts t = option_map (λ x. x.new) (newest ts t)
-
-abbrev pub is_status : Option Status → Status → Bool
-is_status None s = false
-is_status (Some x) s = same_status x s
 
 abbrev pub stands_at : List Transition → TransactionId → Status → Bool
 stands_at ts t s = is_status (stands ts t) s
@@ -107,10 +103,6 @@ abbrev pub spendable : Member → List Transition → Serial → Bool
 spendable m ts s = holds m ts s && not (reserved m.code ts s)
 
 -- the account and the kind of a unit that is held here: as credited last, else as allotted
-pub record Place : Type 0 where
-  pub account : ℕ
-  pub kind : Kind
-
 abbrev pub block_with : List Block → Serial → Option Block
 block_with blocks s = find (λ b. has_unit b.raw s) blocks
 

@@ -2,7 +2,8 @@
 use Rattle.std.specs.Prelude.{ℕ}
 use Rattle.units.specs.declared.block.Block.{Block}
 use Rattle.units.specs.declared.block.Kind.{Kind}
-use Rattle.world.specs.History.{Lot, Place}
+use Rattle.protocol.specs.History.{Place}
+use Rattle.world.specs.History.{Lot}
 
 abbrev pub lot : ℕ × Block → Lot
 lot p = record { account = p.0; block = p.1 }

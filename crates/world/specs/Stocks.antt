@@ -1,11 +1,9 @@
 -- What the registries of a world hold.
 use Rattle.std.specs.Prelude.{◌≡◌, List, [], ◌∷◌, Option, Some, None}
-use Rattle.units.specs.declared.code.Code.{Code}
 use Rattle.units.specs.declared.code.Node.TheVariants.{Registry}
 use Rattle.scheme.specs.declared.members.Member.{Member}
 use Rattle.world.specs.declared.table.Holding.{Holding}
 use Rattle.world.specs.declared.table.Stock.{Stock}
-use Rattle.scheme.specs.Order.{member}
 use Rattle.world.specs.World.{World}
 use Rattle.world.specs.Views.{live}
 use Rattle.world.specs.Holdings.{AreHoldings}

@@ -1,6 +1,6 @@
 -- What a node answers to an input after a journal, by the thin rules: a registry proposes one whole
 -- allotted block, and the rows of the accepted path are all that is recorded.
-use Rattle.std.specs.Prelude.{ℕ, ◌+◌, ◌==◌, ◌&&◌, not, cond, nat_le, Bool, false, List, [], ◌∷◌, find, length, Option, Some, None, option_map, option_and_then}
+use Rattle.std.specs.Prelude.{ℕ, ◌+◌, ◌==◌, ◌&&◌, not, cond, nat_le, Bool, List, [], ◌∷◌, find, length, Option, Some, None, option_map, option_and_then}
 use Rattle.std.specs.List.{list_any}
 use Rattle.units.specs.Code.{same_code}
 use Rattle.units.specs.Unit.{same_raw}
@@ -23,6 +23,7 @@ use Rattle.status.specs.declared.words.RowInput.{RowInput}
 use Rattle.status.specs.declared.words.RowInput.TheVariants.{ProposalWithoutFinding, Notified}
 use Rattle.status.specs.declared.words.Row.{Row}
 use Rattle.status.specs.declared.words.Row.TheVariants.{Move}
+use Rattle.protocol.specs.Registries.{lists_account}
 use Rattle.world.specs.declared.thin.messages.Content.{Content}
 use Rattle.world.specs.declared.thin.messages.Input.{Input}
 use Rattle.world.specs.declared.thin.messages.Input.TheVariants.{Propose, Received}
@@ -35,12 +36,6 @@ use Rattle.world.specs.declared.thin.rules.Transition.{Transition}
 use Rattle.world.specs.declared.thin.rules.Verdict.{Verdict}
 use Rattle.world.specs.declared.thin.rules.Verdict.TheVariants.{Enters, Refused}
 use Rattle.world.specs.History.{Entry, Lot, transitions_of, newest, stands, lots, number_of}
-
--- ---- the scheme
-
-abbrev pub has_account : Option Member → ℕ → Bool
-has_account None account = false
-has_account (Some m) account = list_any (λ a. a == account) m.accounts
 
 -- ---- what a record does
 
@@ -80,7 +75,7 @@ next_id c ts = id_at c (number_of (λ x. same_code x.id.code c && same_status x.
 
 -- the block may be offered, to another registry and an account of it
 abbrev pub may_offer : Scheme → Code → List Transition → RawBlock → Code → ℕ → Bool
-may_offer scheme c ts raw to to_account = not (was_proposed c ts raw) && (not (same_code to c) && has_account (member scheme.members to) to_account)
+may_offer scheme c ts raw to to_account = not (was_proposed c ts raw) && (not (same_code to c) && lists_account (member scheme.members to) to_account)
 
 abbrev pub content_of : ℕ → Code → ℕ → Block → Content
 content_of account to to_account block = record { account = account; acquirer = to; to_account = to_account; units = block ∷ [] }

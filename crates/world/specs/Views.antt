@@ -1,5 +1,5 @@
 -- What a world shows: of every node the committed journal and the tail behind it.
-use Rattle.std.specs.Prelude.{◌≡◌, ◌&&◌, not, cond, Bool, false, List, [], map, filter, flat_map, reverse, Option, Some, None, option_map, option_and_then}
+use Rattle.std.specs.Prelude.{◌&&◌, not, cond, Bool, false, List, [], map, filter, flat_map, reverse, Option, Some, None, option_map, option_and_then}
 use Rattle.std.specs.List.{filter_map}
 use Rattle.units.specs.Code.{same_code}
 use Rattle.units.specs.Unit.{covers}
@@ -15,7 +15,7 @@ use Rattle.world.specs.declared.thin.messages.Input.{Input}
 use Rattle.scheme.specs.declared.members.Member.{Member}
 use Rattle.world.specs.declared.thin.rules.Transition.{Transition}
 use Rattle.world.specs.declared.table.Debt.{Debt}
-use Rattle.world.specs.History.{transitions_of, stands, stands_at, newest, number_of, holds, spendable}
+use Rattle.world.specs.History.{transitions_of, stands, stands_at, newest, holds, spendable}
 use Rattle.scheme.specs.Order.{member}
 use Rattle.world.specs.Verdict.{history}
 use Rattle.world.specs.World.{World, Station, station, journal}

@@ -12,8 +12,8 @@ use Rattle.world.specs.declared.thin.rules.Verdict.{Verdict}
 use Rattle.world.specs.declared.thin.rules.Verdict.TheVariants.{Enters, Repeat as IsRepeat, Late as IsLate, Refused as IsRefused}
 use Rattle.world.specs.declared.event.WorldEvent.{WorldEvent}
 use Rattle.world.specs.declared.event.WorldEvent.TheVariants.{Take, Commit, Post, Deliver}
-use Rattle.world.specs.declared.event.Outcome.{Outcome}
-use Rattle.world.specs.declared.event.Outcome.TheVariants.{Recorded, Repeat, Late, Refused, Done, NotPossible}
+use Rattle.protocol.specs.declared.event.Outcome.{Outcome}
+use Rattle.protocol.specs.declared.event.Outcome.TheVariants.{Recorded, Repeat, Late, Refused, Done, NotPossible}
 use Rattle.world.specs.declared.nodes.Posted.{Posted}
 use Rattle.world.specs.Messages.{receiver}
 use Rattle.world.specs.History.{sends}

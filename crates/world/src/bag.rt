@@ -6,9 +6,10 @@ ghost use Rattle.units.specs.Code.{same_node};
 ghost use Rattle.world.specs.World.{opening, opening_station, step, run, station, at_node, take_input, sent, is_order};
 ghost use Rattle.world.specs.Kept.{seen, IsKept};
 
-use crate::event::{Outcome, WorldEvent};
+use crate::event::WorldEvent;
 use crate::nodes::{Posted, Station};
 use crate::thin::{Input, Message};
+use protocol::Outcome;
 use scheme::Scheme;
 use status::Moment;
 use std::alloc::Global;

@@ -1,4 +1,4 @@
-//! What happens in a world, and what comes of it.
+//! What happens in a world.
 ghost use Rattle.std.specs.Prelude.{◌≡◌, IfOk};
 
 use crate::thin::Input;
@@ -16,21 +16,6 @@ pub enum WorldEvent {
     Post { node: Node, key: u64 },
     /// The message at that place of the bag is delivered to its addressee, at that moment.
     Deliver { message: u64, moment: Moment },
-}
-
-/// What an event comes to.
-#[derive(Clone, Copy, Debug, PartialEq, Eq)]
-pub enum Outcome {
-    /// Recorded at that place of the node's journal, the tail included.
-    Recorded(u64),
-    /// It was acted on before.
-    Repeat,
-    /// It came too late to act on.
-    Late,
-    /// Refused by that code.
-    Refused(u16),
-    Done,
-    NotPossible,
 }
 
 impl WorldEvent {

@@ -11,6 +11,7 @@ pub mod thin;
 mod views;
 
 pub use bag::World;
-pub use event::{Outcome, WorldEvent};
+pub use event::WorldEvent;
 pub use nodes::{Posted, Station};
+pub use protocol::Outcome;
 pub use table::{Debt, Holding, Stock};

@@ -6,8 +6,8 @@ ghost use Rattle.world.specs.Verdict.{verdict, history};
 ghost use Rattle.world.specs.World.{opening_station, take_input, commit, sent, answered};
 ghost use Rattle.world.specs.Kept.{seen, IsKept};
 
-use crate::event::Outcome;
 use crate::thin::{Input, Message, Transition, Verdict, judge};
+use protocol::Outcome;
 use scheme::Scheme;
 use std::alloc::Global;
 use std::collections::VecDeque;

@@ -10,7 +10,8 @@ ghost use Rattle.status.specs.Status.{same_status};
 ghost use Rattle.world.specs.declared.thin.rules.Transition.{Transition};
 ghost use Rattle.world.specs.History.{Entry, transitions_of, newest, stands, lots_of, number_of};
 ghost use Rattle.scheme.specs.Order.{member};
-ghost use Rattle.world.specs.Verdict.{has_account, message_on, transition, enters, lot_block, allotted_block, was_proposed, next_id, may_offer, content_of, offer, propose, role_at, known, new_status, proposal_input, notice_input, move, hear, verdict};
+ghost use Rattle.protocol.specs.Registries.{lists_account};
+ghost use Rattle.world.specs.Verdict.{message_on, transition, enters, lot_block, allotted_block, was_proposed, next_id, may_offer, content_of, offer, propose, role_at, known, new_status, proposal_input, notice_input, move, hear, verdict};
 
 use crate::thin::messages::{Content, Input, Message};
 use scheme::{Allotment, Member, Scheme};
@@ -226,7 +227,7 @@ fn was_proposed(transitions: &VecDeque<Transition>, code: Code, raw: &RawBlock) 
 }
 
 fn has_account(scheme: &Scheme, code: Code, account: u64) -> bool
-    ensures { result ≡ has_account (member scheme.now.members code) account }
+    ensures { result ≡ lists_account (member scheme.now.members code) account }
 {
     match scheme.member(code) {
         Some(member) => member.accounts.as_slice().contains(&account),

@@ -1,4 +1,3 @@
-use Rattle.std.proofs.Common.{refl, sym, ◌∙◌, arith}
 use Rattle.operator.proofs.Runs.{ran_more, next_fault, ran_all, went_on, stops_so, is_some, is_none}
 use Rattle.operator.proofs.rehearsal.run_lines.Goals as goal
 

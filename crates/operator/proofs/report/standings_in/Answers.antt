@@ -1,4 +1,4 @@
-use Rattle.std.proofs.Common.{◌≡◌, map, take, sym, ap, ◌∙◌}
+use Rattle.std.proofs.Common.{◌∙◌}
 use Rattle.operator.proofs.Standings.{standings_more}
 use Rattle.operator.proofs.report.standings_in.Goals as goal
 

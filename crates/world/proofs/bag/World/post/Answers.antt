@@ -1,5 +1,5 @@
 use Rattle.std.proofs.Common.{sym, ap, ◌∙◌}
-use Rattle.world.specs.declared.event.Outcome.TheVariants.{Done}
+use Rattle.protocol.specs.declared.event.Outcome.TheVariants.{Done}
 use Rattle.world.specs.World.{step, posted}
 use Rattle.world.proofs.Worlds.{whole, after}
 use Rattle.world.proofs.bag.World.post.Goals as goal

@@ -1,7 +1,6 @@
-use Rattle.std.proofs.Common.{◌≡◌, Some, arith, sym, ap, ◌∙◌, subst}
+use Rattle.std.proofs.Common.{Some, arith, sym, ap, ◌∙◌, subst}
 use Rattle.std.specs.List.{position_from}
 use Rattle.world.specs.Kept.{IsKept, seen}
-use Rattle.world.specs.World.{World}
 use Rattle.world.proofs.Places.{is_of, place_found, place_within, place_find, place_none}
 use Rattle.world.proofs.bag.World.station.Goals as goal
 

@@ -1,4 +1,5 @@
 pub mod Members
+pub mod Positions
 pub mod Counts
 pub mod Units
 pub mod Canonical
@@ -24,3 +25,12 @@ pub mod Places
 pub mod Sums
 pub mod OnePlace
 pub mod OneOwner
+pub mod OwnStatuses
+pub mod Committing
+pub mod OwnersMove
+pub mod Weave
+pub mod Quiet
+pub mod InTurn
+pub mod Ordered
+pub mod Stuck
+pub mod EachWaits

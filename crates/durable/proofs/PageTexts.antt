@@ -1,0 +1,41 @@
+-- What the text of a page's query means under the schema of a store.
+use Rattle.std.proofs.Common.{◌≡◌, ℕ, pos, negsuc, None, List, [], ◌∷◌, codes, true, false, refl}
+use Rattle.sqlite.specs.declared.types.Value.TheVariants.{Null, Int}
+use Rattle.sqlite.specs.Collation.TheVariants.{Binary}
+use Rattle.sqlite_sql.specs.declared.ops.CompareOp.TheVariants.{Ge, Le}
+use Rattle.sqlite_sql.specs.declared.ops.BinaryOp.TheVariants.{Compare}
+use Rattle.sqlite.specs.Query.{Query, inner, end}
+use Rattle.sqlite.specs.Command.{Command}
+use Rattle.sqlite.specs.Term.{lit, col, op2}
+use Rattle.sqlite.specs.Command.TheVariants.{Select}
+use Rattle.sqlite.specs.Listing.{understood, reads_listing}
+use Rattle.sqlite_tied.specs.Compute.{everything}
+use Rattle.sqlite.proofs.Callers.{IsPlain, command_of}
+use Rattle.durable.specs.Tables.{store_schema}
+
+abbrev pub page_text : List ℕ
+page_text = codes "SELECT place, body FROM entries WHERE place >= ?1 AND place <= ?2 ORDER BY place"
+
+abbrev pub page_query : Query
+page_query = record {
+  from = inner 1 end;
+  filter = op2 (Compare Ge Binary) (col 1 0) (col 0 0) ∷ op2 (Compare Le Binary) (col 1 0) (col 0 1) ∷ [];
+  group = None;
+  project = col 1 0 ∷ col 1 2 ∷ [];
+  distinct = false;
+  collations = [];
+  order = (col 1 0, record { collation = Binary; descending = false }) ∷ [];
+  limit = lit (Int (negsuc 0));
+  offset = lit (Int (pos 0));
+}
+
+abbrev pub page_command : Command
+page_command = Select (record { lets = []; body = page_query }) (codes "place" ∷ codes "body" ∷ [])
+
+pub page_is : (command_of (understood store_schema page_text) ≡ page_command) × (reads_listing store_schema page_text ≡ false)
+unfolding understood everything
+page_is = (refl, refl)
+
+pub page_plain : IsPlain (understood store_schema page_text)
+unfolding understood everything
+page_plain = (refl, refl)

@@ -1,5 +1,5 @@
 -- The query of a stretch of places shows the entries of that stretch, in the order of their places.
-use Rattle.std.proofs.Common.{◌≡◌, ℕ, zero, suc, ◌+◌, ◌≤◌, ◌<◌, ◌⊎◌, inl, inr, pos, Bool, true, false, cond, List, [], ◌∷◌, ◌++◌, map, flat_map, filter, length, get_or, refl, sym, ap, subst, subst₂, ◌∙◌, arith}
+use Rattle.std.proofs.Common.{◌≡◌, ℕ, suc, ◌+◌, ◌≤◌, ◌<◌, inl, inr, pos, Bool, true, false, cond, List, [], ◌∷◌, ◌++◌, map, flat_map, filter, get_or, refl, sym, ap, subst, subst₂, ◌∙◌, arith}
 use Rattle.std.specs.Prelude.{nat_le, ◌&&◌}
 use Rattle.std.specs.declared.cmp.Ordering.{Ordering}
 use Rattle.std.specs.declared.cmp.Ordering.TheVariants.{Less, Equal, Greater}
@@ -7,7 +7,7 @@ use Rattle.std.specs.Cmp.{int_cmp_is}
 use Rattle.std.specs.Ordering.{is_lt, is_le, is_ge, ordering_then}
 use Rattle.std.specs.List.{sum_by, AllByRecursion, All}
 use Rattle.std.specs.List.Sorted.{IsPermutation, IsSorted}
-use Rattle.std.proofs.lemmas.Bool.{cond-true, cond-false, cases_Bool, cases_lt, le-leb, leb-true}
+use Rattle.std.proofs.lemmas.Bool.{cases_lt, le-leb}
 use Rattle.std.proofs.lemmas.Int.{ints}
 use Rattle.std.proofs.lemmas.List.Elements.{All-from_recursion, recursion_from_All}
 use Rattle.std.proofs.lemmas.List.Sorted.{sum_by-IsPermutation, All-permutation}
@@ -16,11 +16,11 @@ use Rattle.sqlite_sql.specs.declared.ops.CompareOp.TheVariants.{Ge, Le}
 use Rattle.sqlite_sql.specs.declared.ops.BinaryOp.TheVariants.{Compare}
 use Rattle.sqlite_value.proofs.OrderLemmas.{value_cmp-Int}
 use Rattle.sqlite.specs.declared.types.Value.{Value}
-use Rattle.sqlite.specs.declared.types.Value.TheVariants.{Null, Int, Text}
+use Rattle.sqlite.specs.declared.types.Value.TheVariants.{Null, Int}
 use Rattle.sqlite.specs.Collation.TheVariants.{Binary}
 use Rattle.sqlite.specs.Order.{Row, column, value_cmp}
 use Rattle.sqlite.specs.Term.{Env}
-use Rattle.sqlite.specs.Query.{IsAnswer, Output, output, output_cmp, page}
+use Rattle.sqlite.specs.Query.{IsAnswer, Output, output, output_cmp}
 use Rattle.sqlite.specs.Program.{overlay}
 use Rattle.sqlite.specs.Effect.{Database, Reads}
 use Rattle.durable.specs.Tables.{entry}
@@ -50,9 +50,9 @@ is-ge q n =
     elim (cases_lt q n) [
       | inl low ↦ ap is_ge (cmp-less q n low) ∙ sym (not-le n q low)
       | inr up ↦ elim (cases_lt n q) [
-          | inl high ↦ ap is_ge (cmp-greater q n high) ∙ sym (le-leb n q (omega (arith, high)))
-          | inr down ↦ ap is_ge (cmp-equal q n (omega (arith, up, down))) ∙ sym (le-leb n q (omega (arith, up)))
-        ]
+        | inl high ↦ ap is_ge (cmp-greater q n high) ∙ sym (le-leb n q (omega (arith, high)))
+        | inr down ↦ ap is_ge (cmp-equal q n (omega (arith, up, down))) ∙ sym (le-leb n q (omega (arith, up)))
+      ]
     ]
 
 is-le : (q n : ℕ) → is_le (value_cmp (Int (pos q)) (Int (pos n))) ≡ nat_le q n
@@ -60,9 +60,9 @@ is-le q n =
     elim (cases_lt n q) [
       | inl high ↦ ap is_le (cmp-greater q n high) ∙ sym (not-le q n high)
       | inr up ↦ elim (cases_lt q n) [
-          | inl low ↦ ap is_le (cmp-less q n low) ∙ sym (le-leb q n (omega (arith, low)))
-          | inr down ↦ ap is_le (cmp-equal q n (omega (arith, up, down))) ∙ sym (le-leb q n (omega (arith, up)))
-        ]
+        | inl low ↦ ap is_le (cmp-less q n low) ∙ sym (le-leb q n (omega (arith, low)))
+        | inr down ↦ ap is_le (cmp-equal q n (omega (arith, up, down))) ∙ sym (le-leb q n (omega (arith, up)))
+      ]
     ]
 
 from-truth : (b : Bool) → is_true (Rattle.sqlite_sql.specs.Ops.from_truth (Rattle.std.specs.Prelude.Some b)) ≡ b
@@ -104,7 +104,7 @@ filtered first last from (row ∷ rows) h =
   where
     go : (b : Bool) → flat_map (λ (r : Row). cond (passes first last r) (env_of (between first last) r ∷ []) []) rows ≡ map (env_of (between first last)) (filter (is_within first last) rows)
         → cond b (env_of (between first last) row ∷ []) [] ++ flat_map (λ (r : Row). cond (passes first last r) (env_of (between first last) r ∷ []) []) rows
-          ≡ map (env_of (between first last)) (cond b (row ∷ filter (is_within first last) rows) (filter (is_within first last) rows))
+        ≡ map (env_of (between first last)) (cond b (row ∷ filter (is_within first last) rows) (filter (is_within first last) rows))
     go true e = ap (λ all. env_of (between first last) row ∷ all) e
     go false e = e
 
@@ -128,6 +128,7 @@ rise first last from (row ∷ rows) h = go (is_within first last row) (rise firs
     weaker : (low high : ℕ) (xs : List Output) → low ≤ high → Rise key high xs → Rise key low xs
     weaker low high [] le r = tt
     weaker low high (x ∷ xs) le r = (let a = r.0 in omega (arith, a, le), r.1)
+
     go : (b : Bool) → Rise key (place_of row + 1) (map out (filter (is_within first last) rows)) → Rise key from (map out (cond b (row ∷ filter (is_within first last) rows) (filter (is_within first last) rows)))
     go true rest = (h.0, rest)
     go false rest = weaker from (place_of row + 1) (map out (filter (is_within first last) rows)) (let a = h.0 in omega (arith, a)) rest
@@ -154,7 +155,7 @@ not-below : (a b : Output) → HasPlace a → HasPlace b → is_lt (output_cmp p
 not-below a b ha hb h = elim (cases_lt (key a) (key b)) [
   | inl low ↦ absurd (not-less (column a.0 0) (column b.0 0) (key a) (key b) ha hb low h)
   | inr up ↦ up
-  ]
+]
 
 sorted-tail : (x : Output) (xs : List Output) → IsSorted (output_cmp page_query) (x ∷ xs) → IsSorted (output_cmp page_query) xs
 sorted-tail x xs up = λ k d low lt.
@@ -204,5 +205,5 @@ page-shows first last db rows entries h =
     let inside = moved-all (λ z. Is z (map out found)) (map out found) a.ordered moved (is-all (λ z. Is z (map out found)) (map out found) (λ z i. i)) in
     let order : a.ordered ≡ map out found =
     one-order key 0 0 (map out found) a.ordered (rise first last 0 (db.trees 1) entries) (never-any a.ordered at a.sorted)
-      (λ f. sum_by-IsPermutation f (map out found) a.ordered moved) (λ z i. all-is (λ x. Is x (map out found)) a.ordered inside z i) in
+    (λ f. sum_by-IsPermutation f (map out found) a.ordered moved) (λ z i. all-is (λ x. Is x (map out found)) a.ordered inside z i) in
     a.shown ∙ ap (map (λ (o : Output). o.1)) order ∙ shows found

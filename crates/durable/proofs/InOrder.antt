@@ -1,8 +1,8 @@
 -- A list whose keys rise is the only ordered one with its elements.
-use Rattle.std.proofs.Common.{◌≡◌, ℕ, ◌+◌, ◌≤◌, ◌<◌, ◌⊎◌, inl, inr, Bool, true, false, cond, List, [], ◌∷◌, refl, sym, ap, subst, ◌∙◌, arith}
+use Rattle.std.proofs.Common.{◌≡◌, ℕ, ◌+◌, ◌≤◌, ◌<◌, ◌⊎◌, inl, inr, cond, List, [], ◌∷◌, refl, sym, ap, subst, ◌∙◌, arith}
 use Rattle.std.specs.Prelude.{nat_lt, ◌==◌}
 use Rattle.std.specs.List.{sum_by}
-use Rattle.std.proofs.lemmas.Bool.{cond-true, cond-false, ltb-true, ltb-false, lt-ltb, eqb-true, eq-eqb, cases_Bool}
+use Rattle.std.proofs.lemmas.Bool.{cond-true, cond-false, ltb-true, lt-ltb, eqb-true, eq-eqb, cases_Bool}
 use Rattle.std.proofs.lemmas.List.Sums.{sum_by-cons}
 
 abbrev pub Is : {X : Type 0} → X → List X → Type 0
@@ -52,7 +52,7 @@ module _ {X : Type 0} (key : X → ℕ) where
   at-none k x low = elim (cases_Bool (key x == k)) [
     | inl y ↦ absurd (let e = eqb-true (key x) k y in omega (arith, e, low))
     | inr n ↦ cond-false (key x == k) 1 0 n
-    ]
+  ]
 
   below-one : (k : ℕ) (x : X) → key x < k → is_below k x ≡ 1
   below-one k x low = cond-true (nat_lt (key x) k) 1 0 (lt-ltb (key x) k low)
@@ -61,7 +61,7 @@ module _ {X : Type 0} (key : X → ℕ) where
   below-none k x up = elim (cases_Bool (nat_lt (key x) k)) [
     | inl y ↦ absurd (let e = ltb-true (key x) k y in omega (arith, e, up))
     | inr n ↦ cond-false (nat_lt (key x) k) 1 0 n
-    ]
+  ]
 
   first-same : (x y : X) (xs ys : List X) → Rise key (key x + 1) xs → NeverFall key (key y) ys → sum_by (is_below (key x + 1)) (y ∷ ys) ≡ sum_by (is_below (key x + 1)) (x ∷ xs) → Is y (x ∷ xs) → y ≡ x
   first-same x y xs ys up never sums (inl e) = sym e
@@ -86,6 +86,7 @@ module _ {X : Type 0} (key : X → ℕ) where
     where
       left : (f : X → ℕ) → y ≡ x → sum_by f ys ≡ sum_by f xs
       left f e = let a = sums f in let b = sum_by-cons f y ys in let c = sum_by-cons f x xs in let d = ap f e in omega (arith, a, b, c, d)
+
       later : (z : X) → Is z ys → y ≡ x → Is z (x ∷ xs) → Is z xs
       later z i e (inr j) = j
       later z i e (inl same) =

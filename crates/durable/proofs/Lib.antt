@@ -6,3 +6,4 @@ pub mod PageTexts
 pub mod InOrder
 pub mod Stretches
 pub mod Answering
+pub mod Queries

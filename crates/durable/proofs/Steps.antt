@@ -57,7 +57,7 @@ still_ready old new ready still idle now same = record {
 abbrev text : List ℕ
 text = statement_of insert_text (understood store_schema insert_text)
 
-now_schema : (old : State) → IsReady old → old.now.schema ≡ store_schema
+pub now_schema : (old : State) → IsReady old → old.now.schema ≡ store_schema
 now_schema old ready = ap (λ (d : Database). d.schema) ready.settled ∙ ready.schema
 
 pub was_clean : (old new : State) (P : Trees → Type 0) → Survives old new P → HasCleanDisk new → HasCleanDisk old

@@ -1,8 +1,8 @@
 -- The bodies of a stretch of places, by the rows that are there and by the slots.
-use Rattle.std.proofs.Common.{◌≡◌, ℕ, zero, suc, ◌+◌, ◌-◌, ◌≤◌, ◌<◌, ◌⊎◌, inl, inr, Bool, true, false, cond, List, [], ◌∷◌, ◌++◌, Option, Some, None, map, filter, take, drop, length, refl, sym, ap, subst, ◌∙◌, arith}
-use Rattle.std.specs.Prelude.{nat_le, ◌==◌, ◌&&◌}
+use Rattle.std.proofs.Common.{◌≡◌, ℕ, zero, suc, ◌+◌, ◌-◌, ◌≤◌, ◌<◌, inl, inr, true, false, List, [], ◌∷◌, ◌++◌, Option, Some, map, filter, take, drop, refl, sym, ap, subst, ◌∙◌, arith}
+use Rattle.std.specs.Prelude.{nat_le, ◌==◌}
 use Rattle.std.proofs.lemmas.Bool.{cond-true, cond-false, cases_Bool, cases_lt, le-leb, leb-true, and_from, and_left, and_right, eq-eqb, eqb-true}
-use Rattle.sqlite.specs.Order.{Row, column, bytes}
+use Rattle.sqlite.specs.Order.{Row}
 use Rattle.durable.specs.Slots.{place_of, body_of, missing, slots_from, AreEntries, unbroken}
 use Rattle.durable.specs.Pages.{is_within, shown, rows_within, bodies_from}
 
@@ -10,7 +10,7 @@ pub not-le : (m n : ℕ) → n < m → nat_le m n ≡ false
 not-le m n low = elim (cases_Bool (nat_le m n)) [
   | inl y ↦ absurd (let e = leb-true m n y in omega (arith, low, e))
   | inr n ↦ n
-  ]
+]
 
 within : (first last : ℕ) (row : Row) → first ≤ place_of row → place_of row ≤ last → is_within first last row ≡ true
 within first last row low high = and_from (nat_le first (place_of row)) (nat_le (place_of row) last) (le-leb first (place_of row) low) (le-leb (place_of row) last high)
@@ -67,21 +67,26 @@ tail-bodies first last at (row ∷ rows) low h =
   where
     same : place_of row ≤ at → place_of row ≡ at
     same down = let up = h.0 in omega (arith, up, down)
+
     other : at < place_of row → (place_of row == at) ≡ false
     other gap = elim (cases_Bool (place_of row == at)) [
       | inl y ↦ absurd (let e = eqb-true (place_of row) at y in omega (arith, e, gap))
       | inr n ↦ n
-      ]
+    ]
+
     hole : at < place_of row → unbroken (take (last + 1 - at) (slots_from at (row ∷ rows))) ≡ []
     hole gap =
         let g = gap-is at (place_of row) gap in
         subst (λ d. unbroken (take (last + 1 - at) (missing d ++ Some (body_of row) ∷ slots_from (place_of row + 1) rows)) ≡ []) (sym g.1) (broken (last + 1 - at) g.0 (Some (body_of row) ∷ slots_from (place_of row + 1) rows))
+
     all-missing : (n d : ℕ) (slots : List (Option (List ℕ))) → n ≤ d → unbroken (take n (missing d ++ slots)) ≡ []
     all-missing zero d slots low = refl
     all-missing (suc n) zero slots low = absurd (omega (arith, low))
     all-missing (suc n) (suc d) slots low = refl
+
     past : last < place_of row → unbroken (take (last + 1 - at) (slots_from at (row ∷ rows))) ≡ []
     past high = all-missing (last + 1 - at) (place_of row - at) (Some (body_of row) ∷ slots_from (place_of row + 1) rows) (omega (arith, high, h.0))
+
     one : ((k : ℕ) → first ≤ k → AreEntries k rows → bodies_from k (rows_within first last rows) ≡ unbroken (take (last + 1 - k) (slots_from k rows))) → place_of row ≡ at → place_of row ≤ last → body_of row ∷ bodies_from (at + 1) (rows_within first last rows) ≡ unbroken (take (last + 1 - at) (slots_from at (row ∷ rows)))
     one call e here =
         let more : last + 1 - at ≡ suc (last + 1 - (at + 1)) = omega (arith, e, here) in
@@ -90,7 +95,7 @@ tail-bodies first last at (row ∷ rows) low h =
         let rest = call (at + 1) (omega (arith, low)) (subst (λ n. AreEntries n rows) next h.2) in
         subst (λ n. body_of row ∷ bodies_from (at + 1) (rows_within first last rows) ≡ unbroken (take n (slots_from at (row ∷ rows)))) (sym more)
         (subst (λ d. body_of row ∷ bodies_from (at + 1) (rows_within first last rows) ≡ unbroken (take (suc (last + 1 - (at + 1))) (missing d ++ Some (body_of row) ∷ slots_from (place_of row + 1) rows))) (sym none)
-          (ap (λ all. body_of row ∷ all) (rest ∙ ap (λ n. unbroken (take (last + 1 - (at + 1)) (slots_from n rows))) (sym next))))
+        (ap (λ all. body_of row ∷ all) (rest ∙ ap (λ n. unbroken (take (last + 1 - (at + 1)) (slots_from n rows))) (sym next))))
 
 drop-missing : (n d : ℕ) (slots : List (Option (List ℕ))) → n ≤ d → drop n (missing d ++ slots) ≡ missing (d - n) ++ slots
 drop-missing zero d slots low = let e : d ≡ d - 0 = omega arith in ap (λ k. missing k ++ slots) e
@@ -130,6 +135,7 @@ stretch first last from (row ∷ rows) low h =
     jump before =
         drop-past (first - from) (place_of row - from) (slots_from (place_of row + 1) rows) (body_of row) (omega (arith, before, h.0))
         ∙ (let e : first - from - (place_of row - from + 1) ≡ first - (place_of row + 1) = omega (arith, before, h.0, low) in ap (λ k. drop k (slots_from (place_of row + 1) rows)) e)
+
     cut : first ≤ place_of row → drop (first - from) (slots_from from (row ∷ rows)) ≡ slots_from first (row ∷ rows)
     cut here =
         drop-missing (first - from) (place_of row - from) (Some (body_of row) ∷ slots_from (place_of row + 1) rows) (omega (arith, here, low))

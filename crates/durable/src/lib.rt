@@ -3,5 +3,6 @@
 
 mod batch;
 mod fault;
+mod reading;
 
 pub use fault::StoreFault;

@@ -2,4 +2,5 @@ pub mod Tables
 pub mod Slots
 pub mod Held
 pub mod Faults
+pub mod Records
 pub mod Pages

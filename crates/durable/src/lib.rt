@@ -3,6 +3,8 @@
 
 mod batch;
 mod fault;
+mod node_store;
 mod reading;
 
 pub use fault::StoreFault;
+pub use node_store::NodeStore;

@@ -1,0 +1,84 @@
+//! What is asked of a node's store.
+ghost use Rattle.std.specs.Prelude.{◌≡◌, ◌≢◌, ◌++◌, ◌⊎◌, ◌+◌, ◌-◌, ◌<◌, ◌≤◌, ℕ, Bool, false, Err, IfOk, IfErr, OnOk, OnErr, IsTrue, take, drop};
+ghost use Rattle.durable.specs.Faults.{is_device_fault};
+ghost use Rattle.durable.specs.Records.{Places, AreRecords, IsDamagedAt, IsAllOrNone, written};
+ghost use Rattle.durable.specs.declared.fault.StoreFault.TheVariants.{Reopen, NoMemory, Damaged};
+
+use crate::fault::StoreFault;
+use wire::Input;
+
+/// A node's records, which only grow, and which a crash leaves as they were before an append or after it.
+///
+/// After a fault of `append`, or one of `load` and `load_page` that is `Device` or `Full`, every call answers `Reopen`
+/// until `reopen` succeeds, which settles what is there.
+pub trait NodeStore {
+    /// Nobody else wrote the store, and the device returned what was written. That may end at any call.
+    ghost is_honest: { Self → Type 0 };
+
+    /// What each place has, while the store runs.
+    ghost content: { Self → Places };
+
+    /// What a crash at this moment, or a reopening, may find.
+    ghost may_hold: { Self → Places → Type 0 };
+
+    /// A fault waits for a reopening.
+    ghost is_waiting: { Self → Bool };
+
+    /// What `fault_count` answers.
+    ghost faults: { Self → ℕ };
+
+    /// Appends the whole batch, or nothing of it. An empty batch changes nothing.
+    ///
+    /// `Device`, `Full`: the device failed or has no room; what is there, a reopening settles. `NoMemory`: the content is as
+    /// it was. `Reopen`: a fault waits.
+    fn append(&mut self, batch: &[Input]) -> Result<(), StoreFault>
+        ensures reopen { IsTrue (is_waiting self.old) → (result ≡ Err Reopen) × (self.new ≡ self.old) }
+        ensures named { is_waiting self.old ≡ false → IfErr result (λ e. (e ≡ NoMemory) ⊎ IsTrue (is_device_fault e)) }
+        ensures stops { OnErr result (IsTrue (is_waiting self.new)) }
+        ensures runs { OnOk result (is_waiting self.new ≡ false) }
+        ensures honest { is_honest self.new → is_honest self.old }
+        ensures ok { is_honest self.new → OnOk result (content self.new ≡ content self.old ++ written batch.now) }
+        ensures refused { is_honest self.new → is_waiting self.old ≡ false → IfErr result (λ e. is_device_fault e ≡ false → (next : Places) → may_hold self.new next → next ≡ content self.old) }
+        ensures crash { is_honest self.new → is_waiting self.old ≡ false → (next : Places) → may_hold self.new next → IsAllOrNone (content self.old) batch.now next }
+        ensures durable { is_honest self.new → is_waiting self.new ≡ false → (next : Places) → may_hold self.new next → next ≡ content self.new }
+        ensures cause { IfErr result (λ e. IsTrue (is_device_fault e) → faults self.new ≢ faults self.old) };
+
+    /// All records in their order. `Damaged(p)`: place p is the least that is missing while a later one is there, or whose
+    /// text is no record's. `NoMemory` and `Damaged` change nothing.
+    fn load(&mut self) -> Result<Vec<Input>, StoreFault>
+        ensures reopen { IsTrue (is_waiting self.old) → (result ≡ Err Reopen) × (self.new ≡ self.old) }
+        ensures honest { is_honest self.new → is_honest self.old }
+        ensures ok { is_honest self.new → IfOk result (λ inputs. AreRecords (content self.old) inputs.items) }
+        ensures damaged { is_honest self.new → IfErr result (λ e. (p : ℕ) → e ≡ Damaged p → IsDamagedAt p (content self.old)) }
+        ensures stops { is_waiting self.old ≡ false → IfErr result (λ e. is_waiting self.new ≡ is_device_fault e) }
+        ensures runs { OnOk result (is_waiting self.new ≡ false) }
+        ensures kept { is_honest self.new → is_waiting self.new ≡ false → content self.new ≡ content self.old }
+        ensures crash { is_honest self.new → is_waiting self.old ≡ false → (next : Places) → may_hold self.new next → next ≡ content self.old }
+        ensures cause { IfErr result (λ e. IsTrue (is_device_fault e) → faults self.new ≢ faults self.old) };
+
+    /// The records from place `from` on, at most `max`. Faults as of `load`, of the places that it looks at alone.
+    fn load_page(&mut self, from: u64, max: u64) -> Result<Vec<Input>, StoreFault>
+        requires some { 1 ≤ max }
+        requires few { max ≤ 256 }
+        ensures reopen { IsTrue (is_waiting self.old) → (result ≡ Err Reopen) × (self.new ≡ self.old) }
+        ensures honest { is_honest self.new → is_honest self.old }
+        ensures ok { is_honest self.new → IfOk result (λ inputs. AreRecords (take max (drop from (content self.old))) inputs.items) }
+        ensures damaged { is_honest self.new → IfErr result (λ e. (p : ℕ) → e ≡ Damaged p → (from ≤ p) × IsDamagedAt (p - from) (take max (drop from (content self.old)))) }
+        ensures stops { is_waiting self.old ≡ false → IfErr result (λ e. is_waiting self.new ≡ is_device_fault e) }
+        ensures runs { OnOk result (is_waiting self.new ≡ false) }
+        ensures kept { is_honest self.new → is_waiting self.new ≡ false → content self.new ≡ content self.old }
+        ensures crash { is_honest self.new → is_waiting self.old ≡ false → (next : Places) → may_hold self.new next → next ≡ content self.old }
+        ensures cause { IfErr result (λ e. IsTrue (is_device_fault e) → faults self.new ≢ faults self.old) };
+
+    /// Opens the store again, whether or not a fault waits. After Ok the content is one that it could hold before, and after a fault a reopening
+    /// still waits.
+    fn reopen(&mut self) -> Result<(), StoreFault>
+        ensures runs { OnOk result (is_waiting self.new ≡ false) }
+        ensures stops { OnErr result (IsTrue (is_waiting self.new)) }
+        ensures settles { is_honest self.new → OnOk result ∥ may_hold self.old (content self.new) ∥₁ }
+        ensures durable { is_honest self.new → OnOk result ((next : Places) → may_hold self.new next → next ≡ content self.new) };
+
+    /// How many calls of the device have failed; 0 follows the greatest number.
+    fn fault_count(&self) -> u64
+        ensures { result ≡ faults self.now };
+}

@@ -4,3 +4,4 @@ pub mod Held
 pub mod Faults
 pub mod Records
 pub mod Pages
+pub mod Bodies

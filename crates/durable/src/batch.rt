@@ -1,9 +1,10 @@
 //! Appending: a whole batch of bodies in one transaction.
-ghost use Rattle.std.specs.Prelude.{◌≡◌, ◌∷◌, [], ◌⊎◌, length, OnOk, OnErr, IfErr, IsTrue, false, ◌+◌, ◌^◌, ◌<◌, map, string_bytes, Err};
+ghost use Rattle.std.specs.Prelude.{◌≡◌, ◌∷◌, [], ◌⊎◌, length, OnOk, OnErr, IfErr, IsTrue, false, ◌+◌, ◌^◌, ◌<◌, map, Err};
 ghost use Rattle.sqlite.specs.State.{HasCleanDisk, IsUnchanged, KeepsCommit, Survives};
 ghost use Rattle.sqlite.specs.Held.{state};
 ghost use Rattle.sqlite.specs.Tree.{Trees};
 ghost use Rattle.durable.specs.Faults.{is_device_fault};
+ghost use Rattle.durable.specs.Bodies.{items};
 ghost use Rattle.durable.specs.Held.{slots_in, IsReady, IsInside, HasMore, HasAllOrNone};
 
 use crate::fault::{StoreFault, fault_of};
@@ -11,7 +12,7 @@ use sqlite::types::ValueRef;
 use sqlite::{Alter, Connection, Error as SqlError, Transaction};
 
 /// One more body, at the place behind the last one, within the transaction.
-fn put<S: Alter>(tx: &mut Transaction<'_, S>, place: u64, body: &str) -> Result<(), SqlError>
+fn put<S: Alter>(tx: &mut Transaction<'_, S>, place: u64, body: &[u8]) -> Result<(), SqlError>
     requires small { place < 2 ^ 63 }
     requires inside { HasCleanDisk (state S.Store tx.old.conn.now) → IsInside (state S.Store tx.old.conn.now) }
     requires place { HasCleanDisk (state S.Store tx.old.conn.now) → place ≡ length (slots_in (state S.Store tx.old.conn.now).now.trees) }
@@ -23,7 +24,7 @@ fn put<S: Alter>(tx: &mut Transaction<'_, S>, place: u64, body: &str) -> Result<
 {
     tx.execute(
         "INSERT INTO entries (place, body) VALUES (?1, ?2)",
-        &[ValueRef::Int(place as i64), ValueRef::Text(body.as_bytes())],
+        &[ValueRef::Int(place as i64), ValueRef::Text(body)],
     )?;
     Ok(())
 }
@@ -32,20 +33,20 @@ fn put<S: Alter>(tx: &mut Transaction<'_, S>, place: u64, body: &str) -> Result<
 fn put_all<S: Alter>(
     tx: &mut Transaction<'_, S>,
     place: u64,
-    batch: &[String],
+    batch: &[Vec<u8>],
 ) -> Result<(), SqlError>
     requires small { place + length batch.now < 2 ^ 63 }
     requires inside { HasCleanDisk (state S.Store tx.old.conn.now) → IsInside (state S.Store tx.old.conn.now) }
     requires place { HasCleanDisk (state S.Store tx.old.conn.now) → place ≡ length (slots_in (state S.Store tx.old.conn.now).now.trees) }
     ensures same_reference { tx.new.conn.ghost_name ≡ tx.old.conn.ghost_name }
     ensures inside { HasCleanDisk (state S.Store tx.new.conn.now) → OnOk result (IsInside (state S.Store tx.new.conn.now)) }
-    ensures more { HasCleanDisk (state S.Store tx.new.conn.now) → OnOk result (HasMore (state S.Store tx.old.conn.now).now.trees (map string_bytes batch.now) (state S.Store tx.new.conn.now).now.trees) }
+    ensures more { HasCleanDisk (state S.Store tx.new.conn.now) → OnOk result (HasMore (state S.Store tx.old.conn.now).now.trees (map items batch.now) (state S.Store tx.new.conn.now).now.trees) }
     ensures kept { HasCleanDisk (state S.Store tx.new.conn.now) → KeepsCommit (state S.Store tx.old.conn.now) (state S.Store tx.new.conn.now) }
     ensures survives { Survives (state S.Store tx.old.conn.now) (state S.Store tx.new.conn.now) (λ _. ⊥) }
 {
     let mut at = place;
     for body in batch {
-        put(tx, at, body.as_str())?;
+        put(tx, at, body)?;
         at += 1;
     }
     Ok(())
@@ -55,7 +56,7 @@ fn put_all<S: Alter>(
 fn append_all<S: Alter>(
     conn: &mut Connection<S>,
     place: u64,
-    batch: &[String],
+    batch: &[Vec<u8>],
 ) -> Result<(), SqlError>
     requires small { place + length batch.now < 2 ^ 63 }
     requires idle { conn.old.in_transaction ≡ false }
@@ -64,11 +65,11 @@ fn append_all<S: Alter>(
     ensures idle { conn.new.in_transaction ≡ false }
     ensures clean { HasCleanDisk (state S.Store conn.new) → HasCleanDisk (state S.Store conn.old) }
     ensures ready { HasCleanDisk (state S.Store conn.new) → OnOk result (IsReady (state S.Store conn.new)) }
-    ensures more { HasCleanDisk (state S.Store conn.new) → OnOk result (HasMore (state S.Store conn.old).committed.trees (map string_bytes batch.now) (state S.Store conn.new).committed.trees) }
+    ensures more { HasCleanDisk (state S.Store conn.new) → OnOk result (HasMore (state S.Store conn.old).committed.trees (map items batch.now) (state S.Store conn.new).committed.trees) }
     ensures kept { HasCleanDisk (state S.Store conn.new) → IsTrue (state S.Store conn.new).is_open
         → OnErr result (IsReady (state S.Store conn.new) × ((state S.Store conn.new).committed ≡ (state S.Store conn.old).committed)) }
     ensures crash { HasCleanDisk (state S.Store conn.new) → (db : Trees) → (state S.Store conn.new).may_leave db
-        → HasAllOrNone (state S.Store conn.old).committed.trees (map string_bytes batch.now) db }
+        → HasAllOrNone (state S.Store conn.old).committed.trees (map items batch.now) db }
 {
     let mut tx = conn.transaction();
     put_all(&mut tx, place, batch)?;
@@ -91,7 +92,7 @@ pub(crate) fn is_still_open<S: Alter>(conn: &mut Connection<S>) -> bool
 pub(crate) fn append<S: Alter>(
     conn: &mut Connection<S>,
     place: u64,
-    batch: &[String],
+    batch: &[Vec<u8>],
 ) -> Result<(), StoreFault>
     requires small { place + length batch.now < 2 ^ 63 }
     requires idle { conn.old.in_transaction ≡ false }
@@ -100,12 +101,12 @@ pub(crate) fn append<S: Alter>(
     ensures idle { conn.new.in_transaction ≡ false }
     ensures clean { HasCleanDisk (state S.Store conn.new) → HasCleanDisk (state S.Store conn.old) }
     ensures ready { HasCleanDisk (state S.Store conn.new) → OnOk result (IsReady (state S.Store conn.new)) }
-    ensures more { HasCleanDisk (state S.Store conn.new) → OnOk result (HasMore (state S.Store conn.old).committed.trees (map string_bytes batch.now) (state S.Store conn.new).committed.trees) }
+    ensures more { HasCleanDisk (state S.Store conn.new) → OnOk result (HasMore (state S.Store conn.old).committed.trees (map items batch.now) (state S.Store conn.new).committed.trees) }
     ensures named { IfErr result (λ e. (e ≡ StoreFault.NoMemory) ⊎ IsTrue (is_device_fault e)) }
     ensures refused { HasCleanDisk (state S.Store conn.new) → result ≡ Err StoreFault.NoMemory
         → IsReady (state S.Store conn.new) × ((state S.Store conn.new).committed ≡ (state S.Store conn.old).committed) }
     ensures crash { HasCleanDisk (state S.Store conn.new) → (db : Trees) → (state S.Store conn.new).may_leave db
-        → HasAllOrNone (state S.Store conn.old).committed.trees (map string_bytes batch.now) db }
+        → HasAllOrNone (state S.Store conn.old).committed.trees (map items batch.now) db }
 {
     let fault = match append_all(conn, place, batch) {
         Ok(()) => return Ok(()),

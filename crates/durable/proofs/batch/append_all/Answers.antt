@@ -1,9 +1,10 @@
-use Rattle.std.proofs.Common.{◌≡◌, map, string_bytes, subst, sym, rules}
+use Rattle.std.proofs.Common.{◌≡◌, map, subst, sym, rules}
 use Rattle.sqlite.specs.State.{HasCleanDisk}
 use Rattle.sqlite.specs.Held.{state}
 use Rattle.sqlite.specs.Tree.{Trees}
 use Rattle.sqlite.proofs.StateLemmas.{survives_then}
 use Rattle.sqlite.proofs.Callers.{survives_begin}
+use Rattle.durable.specs.Bodies.{items}
 use Rattle.durable.specs.Held.{HasMore}
 use Rattle.durable.proofs.Steps.{was_clean, after_crash}
 use Rattle.durable.proofs.batch.append_all.Goals as goal
@@ -16,7 +17,7 @@ returns-clause-crash g c clean db left =
     let end = state g.S.Store c.commit.new.self.0 in
     let same : c.commit.new.self.0 ≡ c.conn-2-1.given.0 = search rules in
     let late : HasCleanDisk end = search rules in
-    let batch = map string_bytes c.args.batch.now in
+    let batch = map items c.args.batch.now in
     let begun = c.transaction-tx.ensures.begun in
     let inside = survives_begin g.S.Store held mid _ (rw begun at c.put_all.ensures.survives) in
     let whole = survives_then old mid end _ _ (λ (t : Trees). t ≡ mid.now.trees) (λ _ t none. absurd none) (λ _ t is. is) inside c.commit.ensures.survives in

@@ -1,4 +1,4 @@
-use Rattle.std.proofs.Common.{Ok, pos, ap, ap₂, ◌∙◌, [], ◌∷◌, arith}
+use Rattle.std.proofs.Common.{Ok, pos, ap, ◌∙◌, [], ◌∷◌, arith}
 use Rattle.std.proofs.lemmas.Int.{ints}
 use Rattle.sqlite.specs.State.{HasCleanDisk, State}
 use Rattle.sqlite.specs.Held.{state}
@@ -18,7 +18,7 @@ both g c clean =
     let early = was_clean (old g c) (new g c) _ c.execute.ensures.survives clean in
     let inside = c.requires.inside early in
     put_ok (old g c) (new g c) _ c.args.body.now c.in_ok-execute.field-0
-    (ap₂ (λ z t. Int z ∷ Text t ∷ []) (grind (arith, ints, c.requires.small) ∙ ap pos (c.requires.place early)) c.as_bytes.ensures.value)
+    (ap (λ z. Int z ∷ Text c.args.body.now ∷ []) (grind (arith, ints, c.requires.small) ∙ ap pos (c.requires.place early)))
     inside (c.in_ok-execute.ensures.runs clean inside.inside)
 
 pub returns-clause-inside : goal.returns-clause-inside

@@ -1,8 +1,9 @@
-use Rattle.std.proofs.Common.{◌∷◌, [], ◌++◌, ◌∙◌, map, take, string_bytes, subst, sym, ap, arith}
+use Rattle.std.proofs.Common.{◌∷◌, [], ◌++◌, ◌∙◌, map, take, subst, sym, ap, arith}
 use Rattle.std.proofs.lemmas.List.{map_more}
 use Rattle.sqlite.specs.Held.{state}
 use Rattle.sqlite.proofs.StateLemmas.{survives_then}
 use Rattle.sqlite.proofs.InsideLemmas.{keeps_then}
+use Rattle.durable.specs.Bodies.{items}
 use Rattle.durable.specs.Held.{HasMore}
 use Rattle.durable.proofs.Steps.{was_clean, more_then}
 use Rattle.durable.proofs.batch.put_all.Goals as goal
@@ -13,7 +14,7 @@ loop-body-preserved g c =
     let mid = state g.S.Store c.loop-body.tx.conn.now in
     let new = state g.S.Store c.put.new.tx.conn.now in
     let e = c.in_ok-put.ensures in
-    let v = c.as_str.ensures in
+    let v = c.deref.ensures in
     let i = c.body-item.is in record {
       at_is = omega (arith, c.loop-body.invariant.at_is);
       same = e.same_reference ∙ c.loop-body.invariant.same;
@@ -21,7 +22,7 @@ loop-body-preserved g c =
       kept = λ clean. keeps_then old mid new (c.loop-body.invariant.kept (was_clean mid new _ e.survives clean)) (e.kept clean);
       more = λ clean.
           let before = (c.loop-body.invariant.more (was_clean mid new _ e.survives clean)).1 in
-          let bodies = map string_bytes (take c.loop-body.body-index c.args.batch.now) in
-          let same = ap (λ x. bodies ++ x ∷ []) (v.value ∙ ap string_bytes i) ∙ sym (map_more string_bytes c.args.batch.now c.loop-body.body-index c.body-item.result (omega arith)) in
-          (e.inside clean, subst (λ xs. HasMore old.now.trees xs new.now.trees) same (more_then old.now.trees mid.now.trees new.now.trees bodies (c.as_str.result.now ∷ []) before (e.more clean)));
+          let bodies = map items (take c.loop-body.body-index c.args.batch.now) in
+          let same = ap (λ x. bodies ++ x ∷ []) (v.value ∙ ap items i) ∙ sym (map_more items c.args.batch.now c.loop-body.body-index c.body-item.result (omega arith)) in
+          (e.inside clean, subst (λ xs. HasMore old.now.trees xs new.now.trees) same (more_then old.now.trees mid.now.trees new.now.trees bodies (c.deref.result.now ∷ []) before (e.more clean)));
     }

@@ -1,6 +1,7 @@
-use Rattle.std.proofs.Common.{◌≡◌, ◌+◌, map, take, string_bytes}
+use Rattle.std.proofs.Common.{◌≡◌, ◌+◌, map, take}
 use Rattle.sqlite.specs.State.{HasCleanDisk, Survives, KeepsCommit}
 use Rattle.sqlite.specs.Held.{state}
+use Rattle.durable.specs.Bodies.{items}
 use Rattle.durable.specs.Held.{IsInside, HasMore}
 use Rattle.durable.proofs.batch.put_all.Given as goal
 
@@ -12,5 +13,5 @@ invariant-loop-body g l =
       same : l.tx.conn.ghost_name ≡ l.fn.tx.conn.ghost_name;
       survives : Survives old now (λ _. ⊥);
       kept : HasCleanDisk now → KeepsCommit old now;
-      more : HasCleanDisk now → IsInside now × HasMore old.now.trees (map string_bytes (take l.body-index l.batch)) now.now.trees;
+      more : HasCleanDisk now → IsInside now × HasMore old.now.trees (map items (take l.body-index l.batch)) now.now.trees;
     }

@@ -1,6 +1,7 @@
 //! Journals that outlive the process.
 #![tactic(auto)]
 
+mod backing;
 mod batch;
 mod fault;
 mod node_store;

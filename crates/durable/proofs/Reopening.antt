@@ -34,3 +34,8 @@ found-again {D} {g} it left stays same numbered sound db found =
     let clean : IsClean (view it) = no_doubt (store_state it).is_clean may.1 in
     let there = subst (λ (p : D × D). (store_state it).may_leave (seen_image g p.0 p.1)) (sym same) may.0 in
     ∥∥₁_map (opens_again it (numbered clean) (sound clean) (image_of g left) there) (λ known. subst (recovers it) (sym (found.holds known.0 known.2)) known.1)
+
+-- files that are clean come of a connection that was
+pub honest-before : {D : Type 0} {g : Ghosts D} (it : FileStore D g) (left : Files D) → ((file : D) → g.may_leave file (g.seen file)) → (left.log, left.db) ≡ store_files it → AreClean g left.log left.db → IsClean (view it)
+honest-before {D} {g} it left stays same honest =
+    no_doubt (store_state it).is_clean (seen-may it.pool stays (subst (λ (p : D × D). AreClean g p.0 p.1) same honest)).1

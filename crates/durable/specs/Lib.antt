@@ -6,3 +6,4 @@ pub mod Records
 pub mod Pages
 pub mod Bodies
 pub mod Backing
+pub mod Props

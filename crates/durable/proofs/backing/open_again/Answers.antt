@@ -1,4 +1,4 @@
-use Rattle.durable.proofs.backing.FileStoreBackingFiles.open.Goals as goal
+use Rattle.durable.proofs.backing.open_again.Goals as goal
 
 pub returns-in-Ok-clause-opened : goal.returns-in-Ok-clause-opened
 returns-in-Ok-clause-opened g c = λ clean. (c.in-Ok.ensures.opened clean).0

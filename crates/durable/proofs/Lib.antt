@@ -7,3 +7,4 @@ pub mod InOrder
 pub mod Stretches
 pub mod Answering
 pub mod Queries
+pub mod Fronts

@@ -5,6 +5,7 @@ mod batch;
 mod fault;
 mod node_store;
 mod reading;
+mod records;
 
 pub use fault::StoreFault;
 pub use node_store::NodeStore;

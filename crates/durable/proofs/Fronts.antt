@@ -1,17 +1,44 @@
 -- The records of the unbroken front of a list of places.
-use Rattle.std.proofs.Common.{◌≡◌, ℕ, zero, suc, ◌+◌, ◌<◌, List, [], ◌∷◌, ◌++◌, Option, Some, None, map, length, refl, sym, ap, subst, ◌∙◌, arith}
-use Rattle.durable.specs.Records.{Places, AreRecords, HasNoRecord, IsDamagedAt}
+use Rattle.std.proofs.Common.{◌≡◌, ℕ, zero, suc, ◌+◌, ◌<◌, List, [], ◌∷◌, ◌++◌, Option, Some, None, map, length, take, drop, refl, sym, ap, subst, ◌∙◌, arith}
+use Rattle.durable.specs.Records.{Places, AreRecords, HasNoRecord, IsDamagedAt, written}
 use Rattle.durable.specs.Slots.{unbroken}
-use Rattle.wire.specs.Records.{IsRecordText}
+use Rattle.std.proofs.lemmas.List.{map-append}
+use Rattle.wire.specs.Records.{IsRecordText, record_text}
 use Rattle.wire.specs.declared.input.Input.{Input}
+
+-- records behind records
+pub records-append : (places : Places) (inputs : List Input) (more : Places) (others : List Input) → AreRecords places inputs → AreRecords more others → AreRecords (places ++ more) (inputs ++ others)
+records-append [] [] more others are behind = behind
+records-append [] (i ∷ inputs) more others are behind = absurd are
+records-append (None ∷ places) inputs more others are behind = absurd are
+records-append (Some t ∷ places) [] more others are behind = absurd are
+records-append (Some t ∷ places) (i ∷ inputs) more others are behind = (are.0, records-append places inputs more others are.1 behind)
 
 -- one place and its record more
 pub records-snoc : (places : Places) (inputs : List Input) (text : List ℕ) (input : Input) → AreRecords places inputs → IsRecordText text input → AreRecords (places ++ Some text ∷ []) (inputs ++ input ∷ [])
-records-snoc [] [] text input are is = (is, tt)
-records-snoc [] (i ∷ inputs) text input are is = absurd are
-records-snoc (None ∷ places) inputs text input are is = absurd are
-records-snoc (Some t ∷ places) [] text input are is = absurd are
-records-snoc (Some t ∷ places) (i ∷ inputs) text input are is = (are.0, records-snoc places inputs text input are.1 is)
+records-snoc places inputs text input are is = records-append places inputs (Some text ∷ []) (input ∷ []) are (is, tt)
+
+-- inputs that have texts, and more of them
+pub written-append : (inputs others : List Input) → AreRecords (written inputs) inputs → AreRecords (written others) others → AreRecords (written (inputs ++ others)) (inputs ++ others)
+written-append inputs others are behind =
+    subst (λ places. AreRecords places (inputs ++ others)) (sym (map-append (λ input. Some (record_text input)) inputs others)) (records-append (written inputs) inputs (written others) others are behind)
+
+-- the records of a stretch of places
+pub records-take : (n : ℕ) (places : Places) (inputs : List Input) → AreRecords places inputs → AreRecords (take n places) (take n inputs)
+records-take zero places inputs are = tt
+records-take (suc n) [] [] are = tt
+records-take (suc n) [] (i ∷ inputs) are = absurd are
+records-take (suc n) (None ∷ places) inputs are = absurd are
+records-take (suc n) (Some t ∷ places) [] are = absurd are
+records-take (suc n) (Some t ∷ places) (i ∷ inputs) are = (are.0, records-take n places inputs are.1)
+
+pub records-drop : (n : ℕ) (places : Places) (inputs : List Input) → AreRecords places inputs → AreRecords (drop n places) (drop n inputs)
+records-drop zero places inputs are = are
+records-drop (suc n) [] [] are = tt
+records-drop (suc n) [] (i ∷ inputs) are = absurd are
+records-drop (suc n) (None ∷ places) inputs are = absurd are
+records-drop (suc n) (Some t ∷ places) [] are = absurd are
+records-drop (suc n) (Some t ∷ places) (i ∷ inputs) are = records-drop n places inputs are.1
 
 -- as many bodies as places: no place is missing
 pub whole-front : (places : Places) (bodies : List (List ℕ)) → unbroken places ≡ bodies → length bodies ≡ length places → places ≡ map (λ b. Some b) bodies

@@ -5,3 +5,4 @@ pub mod Faults
 pub mod Records
 pub mod Pages
 pub mod Bodies
+pub mod Memories

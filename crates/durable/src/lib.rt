@@ -3,9 +3,11 @@
 
 mod batch;
 mod fault;
+mod memory_store;
 mod node_store;
 mod reading;
 mod records;
 
 pub use fault::StoreFault;
+pub use memory_store::{Kept, MemoryStore};
 pub use node_store::NodeStore;

@@ -7,6 +7,8 @@ mod memory_store;
 mod node_store;
 mod reading;
 mod records;
+#[cfg(test)]
+mod tests;
 
 pub use fault::StoreFault;
 pub use memory_store::{Kept, MemoryStore};

@@ -167,6 +167,7 @@ impl NodeStore for MemoryStore {
     /// `Device` comes where the fuse burns, and nowhere else, and `Full` never.
     fn append(&mut self, batch: &[Input]) -> Result<(), StoreFault>
         ensures reopen { IsTrue self.old.is_waiting → (result ≡ Err Reopen) × (self.new ≡ self.old) }
+        ensures empty { self.old.is_waiting ≡ false → batch.now ≡ [] → result ≡ Ok tt }
         ensures ok { OnOk result ((burns self.old.fuse batch.now ≡ false) × (self.new ≡ passed batch.now self.old)) }
         ensures named { self.old.is_waiting ≡ false → IfErr result (λ e. (e ≡ OutOfMemory) ⊎ (e ≡ Device)) }
         ensures refused { result ≡ Err OutOfMemory → self.new ≡ stopped self.old }
@@ -194,7 +195,7 @@ impl NodeStore for MemoryStore {
     fn load(&mut self) -> Result<Vec<Input>, StoreFault>
         ensures reopen { IsTrue self.old.is_waiting → (result ≡ Err Reopen) × (self.new ≡ self.old) }
         ensures ok { IfOk result (λ inputs. inputs.items ≡ self.old.inputs) }
-        ensures records { OnOk result (AreRecords (written self.old.inputs) self.old.inputs) }
+        ensures records { IfOk result (λ inputs. AreRecords (written self.old.inputs) inputs.items) }
         ensures named { self.old.is_waiting ≡ false → IfErr result (λ e. e ≡ OutOfMemory) }
         ensures kept { self.new ≡ self.old }
     {
@@ -208,7 +209,7 @@ impl NodeStore for MemoryStore {
     fn load_page(&mut self, from: u64, max: u64) -> Result<Vec<Input>, StoreFault>
         ensures reopen { IsTrue self.old.is_waiting → (result ≡ Err Reopen) × (self.new ≡ self.old) }
         ensures ok { IfOk result (λ inputs. inputs.items ≡ take max (drop from self.old.inputs)) }
-        ensures records { OnOk result (AreRecords (written self.old.inputs) self.old.inputs) }
+        ensures records { IfOk result (λ inputs. AreRecords (take max (drop from (written self.old.inputs))) inputs.items) }
         ensures named { self.old.is_waiting ≡ false → IfErr result (λ e. e ≡ OutOfMemory) }
         ensures kept { self.new ≡ self.old }
     {

@@ -8,3 +8,4 @@ pub mod Stretches
 pub mod Answering
 pub mod Queries
 pub mod Reopening
+pub mod Fronts

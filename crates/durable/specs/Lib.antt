@@ -7,3 +7,4 @@ pub mod Pages
 pub mod Bodies
 pub mod Backing
 pub mod Props
+pub mod Memories

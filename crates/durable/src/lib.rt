@@ -4,8 +4,13 @@
 mod backing;
 mod batch;
 mod fault;
+mod memory_store;
 mod node_store;
 mod reading;
+mod records;
+#[cfg(test)]
+mod tests;
 
 pub use fault::StoreFault;
+pub use memory_store::{Kept, MemoryStore};
 pub use node_store::NodeStore;

@@ -8,3 +8,5 @@ pub mod Bodies
 pub mod Backing
 pub mod Props
 pub mod Memories
+pub mod Kept
+pub mod KeptProps

@@ -9,3 +9,4 @@ pub mod Answering
 pub mod Queries
 pub mod Reopening
 pub mod Fronts
+pub mod PlacesRead

@@ -6,7 +6,5 @@ pub mod Records
 pub mod Pages
 pub mod Bodies
 pub mod Backing
-pub mod Props
 pub mod Memories
-pub mod Kept
-pub mod KeptProps
+pub mod Connected

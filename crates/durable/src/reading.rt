@@ -69,7 +69,8 @@ pub(crate) fn rows_of<S: Alter>(
 
 /// The body of a row, where the row is at that place: `None` where it is at another.
 fn body_at(row: &Row, place: u64) -> Result<Option<&[u8]>, StoreFault>
-    ensures { IfOk result (λ body. option_copied body ≡ cond (place_of row.now == place) (Some (bytes (column row.now 1))) None) }
+    ensures ok { IfOk result (λ body. option_copied body ≡ cond (place_of row.now == place) (Some (bytes (column row.now 1))) None) }
+    ensures named { IfErr result (λ e. (e ≡ StoreFault.NoMemory) ⊎ IsTrue (is_device_fault e)) }
 {
     let found: u64 = match row.get(0) {
         Ok(found) => found,
@@ -92,7 +93,8 @@ pub(crate) fn bodies<'a>(
     first: u64,
 ) -> Result<Vec<&'a [u8]>, StoreFault>
     requires first { first < 2 ^ 63 }
-    ensures { IfOk result (λ all. map (λ body. body.now) all.items ≡ bodies_from first rows.now) }
+    ensures ok { IfOk result (λ all. map (λ body. body.now) all.items ≡ bodies_from first rows.now) }
+    ensures named { IfErr result (λ e. (e ≡ StoreFault.NoMemory) ⊎ IsTrue (is_device_fault e)) }
 {
     let mut bodies = Vec::new(alloc);
     for (at, row) in rows.iter().enumerate() {

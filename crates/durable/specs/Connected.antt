@@ -1,0 +1,47 @@
+-- A store over an open connection, by what it keeps.
+use Rattle.std.specs.Prelude.{◌≡◌, ◌≤◌, ◌^◌, ℕ, Bool, false, length, refl}
+use Rattle.std.specs.Coded.{Coded, code_by, coded×, coded_ℕ, coded_bool}
+use Rattle.sqlite.specs.Store.{Ghosts}
+use Rattle.sqlite.specs.Tree.{Trees}
+use Rattle.sqlite.specs.State.{HasCleanDisk}
+use Rattle.sqlite.specs.Held.{Held, held_code, state}
+use Rattle.durable.specs.Held.{IsReady, slots_in}
+use Rattle.durable.specs.Records.{Places}
+use Rattle.durable.specs.declared.open_store.Standing.{Standing}
+use Rattle.durable.specs.declared.open_store.Standing.TheVariants.{Runs, Waits}
+
+abbrev pub waits : Standing → Bool
+waits Runs = false
+waits Waits = Rattle.std.specs.Prelude.true
+
+pub record Connected (S : Type 0) : Type 0 where
+  pub conn : Held S
+  -- how many places the content has
+  pub count : ℕ
+  -- a fault waits for a reopening
+  pub is_waiting : Bool
+
+abbrev pub connected_code : {S : Type 0} → Coded S → Coded (Connected S)
+connected_code {S} store =
+    code_by (Held S × (ℕ × Bool)) (coded× (held_code store) (coded× coded_ℕ coded_bool)) (λ k. (k.conn, (k.count, k.is_waiting))) (λ p. record { conn = p.0; count = p.1.0; is_waiting = p.1.1 })
+    (λ _. refl)
+
+module _ {S : Type 0} (g : Ghosts S) where
+  abbrev pub IsHonest : Connected S → Type 0
+  IsHonest k = HasCleanDisk (state g k.conn)
+
+  abbrev pub content : Connected S → Places
+  content k = slots_in (state g k.conn).committed.trees
+
+  -- what a crash may leave
+  abbrev pub MayHold : Connected S → Places → Type 0
+  MayHold k next = (db : Trees) × (state g k.conn).may_leave db × (slots_in db ≡ next)
+
+  -- its last commit is a store, whose places were counted
+  pub record IsCounted (k : Connected S) : Type 0 where
+    pub ready : IsReady (state g k.conn)
+    pub counted : k.count ≡ length (content k)
+
+  -- no transaction is open, and a store that runs was counted
+  abbrev pub IsSound : Connected S → Type 0
+  IsSound k = (k.conn.in_transaction ≡ false) × (k.count ≤ 2 ^ 63) × (IsHonest k → k.is_waiting ≡ false → IsCounted k)

@@ -1,0 +1,140 @@
+//! A store over an open connection.
+ghost use Rattle.std.specs.Prelude.{◌≡◌, ◌≢◌, ◌++◌, ◌⊎◌, ◌+◌, ◌-◌, ◌<◌, ◌≤◌, ◌^◌, ℕ, false, Err, IfOk, IfErr, IfSome, OnOk, OnErr, IsTrue, true, map, take, drop, length};
+ghost use Rattle.durable.specs.Connected.{IsHonest, content, MayHold};
+ghost use Rattle.durable.specs.Bodies.{items};
+ghost use Rattle.durable.specs.Held.{followed_by};
+ghost use Rattle.durable.specs.Faults.{is_device_fault};
+ghost use Rattle.durable.specs.Records.{Places, AreRecords, IsDamagedAt, IsAllOrNone, written};
+ghost use Rattle.durable.specs.declared.fault.StoreFault.TheVariants.{Reopen, NoMemory, Damaged};
+
+use crate::batch;
+use crate::fault::StoreFault;
+use crate::reading::{bodies, rows_of};
+use crate::records::{records, texts};
+use sqlite::{Alter, Connection};
+use std::alloc::Global;
+use std::marker::Model;
+use wire::Input;
+
+// Whether a fault waits for a reopening.
+#[derive(Clone, Copy, Debug, PartialEq, Eq)]
+enum Standing {
+    Runs,
+    Waits,
+}
+
+/// A store over an open connection. After a fault every call answers `Reopen`.
+pub(crate) struct OpenStore<S: Alter> {
+    conn: Connection<S>,
+    count: u64,
+    standing: Standing,
+    alloc: Global,
+}
+
+impl<S: Alter> Model for OpenStore<S> {
+    ghost use Rattle.durable.specs.Connected.{Connected, connected_code, IsSound, waits};
+
+    ghost Value = { Connected S };
+
+    ghost coded = { connected_code S.code };
+
+    ghost view = { λ s. record { conn = s.conn; count = s.count; is_waiting = waits s.standing } };
+
+    ghost invariant = { λ s. IsSound S.Store (record { conn = s.conn; count = s.count; is_waiting = waits s.standing }) };
+}
+
+// The count with the batch, if the places fit.
+fn total(count: u64, more: usize) -> Option<u64>
+    ensures sum { IfSome result (λ total. total ≡ count + more) }
+    ensures fits { IfSome result (λ total. total < 2 ^ 62) }
+{
+    let total = count.checked_add(more as u64)?;
+    if total < 1 << 62 { Some(total) } else { None }
+}
+
+impl<S: Alter> OpenStore<S> {
+    // The texts of a batch at the places behind the content.
+    fn put(&mut self, texts: &[Vec<u8>]) -> Result<(), StoreFault>
+        requires runs { self.old.is_waiting ≡ false }
+        ensures named { IfErr result (λ e. (e ≡ NoMemory) ⊎ IsTrue (is_device_fault e)) }
+        ensures stops { OnErr result (IsTrue self.new.is_waiting) }
+        ensures runs { OnOk result (self.new.is_waiting ≡ false) }
+        ensures honest { IsHonest S.Store self.new → IsHonest S.Store self.old }
+        ensures ok { IsHonest S.Store self.new → OnOk result (content S.Store self.new ≡ followed_by (content S.Store self.old) (map items texts.now)) }
+        ensures refused { IsHonest S.Store self.new → IfErr result (λ e. is_device_fault e ≡ false → (next : Places) → MayHold S.Store self.new next → next ≡ content S.Store self.old) }
+        ensures crash { IsHonest S.Store self.new → (next : Places) → MayHold S.Store self.new next
+            → (next ≡ content S.Store self.old) ⊎ (next ≡ followed_by (content S.Store self.old) (map items texts.now)) }
+        ensures durable { IsHonest S.Store self.new → self.new.is_waiting ≡ false → (next : Places) → MayHold S.Store self.new next → next ≡ content S.Store self.new }
+    {
+        let Some(total) = total(self.count, texts.len()) else {
+            self.standing = Standing::Waits;
+            return Err(StoreFault::Full);
+        };
+        match batch::append(&mut self.conn, self.count, texts) {
+            Ok(()) => {
+                self.count = total;
+                Ok(())
+            }
+            Err(fault) => {
+                self.standing = Standing::Waits;
+                Err(fault)
+            }
+        }
+    }
+
+    /// Appends the whole batch, or nothing of it.
+    pub(crate) fn append(&mut self, batch: &[Input]) -> Result<(), StoreFault>
+        ensures reopen { IsTrue self.old.is_waiting → (result ≡ Err Reopen) × (self.new ≡ self.old) }
+        ensures named { self.old.is_waiting ≡ false → IfErr result (λ e. (e ≡ NoMemory) ⊎ IsTrue (is_device_fault e)) }
+        ensures stops { OnErr result (IsTrue self.new.is_waiting) }
+        ensures runs { OnOk result (self.new.is_waiting ≡ false) }
+        ensures honest { IsHonest S.Store self.new → IsHonest S.Store self.old }
+        ensures ok { IsHonest S.Store self.new → OnOk result (content S.Store self.new ≡ content S.Store self.old ++ written batch.now) }
+        ensures refused { IsHonest S.Store self.new → self.old.is_waiting ≡ false → IfErr result (λ e. is_device_fault e ≡ false → (next : Places) → MayHold S.Store self.new next → next ≡ content S.Store self.old) }
+        ensures crash { IsHonest S.Store self.new → self.old.is_waiting ≡ false → (next : Places) → MayHold S.Store self.new next → IsAllOrNone (content S.Store self.old) batch.now next }
+        ensures durable { IsHonest S.Store self.new → self.new.is_waiting ≡ false → (next : Places) → MayHold S.Store self.new next → next ≡ content S.Store self.new }
+    {
+        if self.standing == Standing::Waits {
+            return Err(StoreFault::Reopen);
+        }
+        let Ok(texts) = texts(self.alloc, batch) else {
+            self.standing = Standing::Waits;
+            return Err(StoreFault::NoMemory);
+        };
+        self.put(&texts)
+    }
+
+    // The records of the places from the first one up to another, of which there is at least one.
+    fn records_between(&mut self, first: u64, until: u64) -> Result<Vec<Input>, StoreFault>
+        requires runs { self.old.is_waiting ≡ false }
+        requires some { first < until }
+        requires within { until ≤ self.old.count }
+        ensures honest { IsHonest S.Store self.new → IsHonest S.Store self.old }
+        ensures ok { IsHonest S.Store self.new → IfOk result (λ inputs. AreRecords (take (until - first) (drop first (content S.Store self.old))) inputs.items) }
+        ensures damaged { IsHonest S.Store self.new → IfErr result (λ e. (p : ℕ) → e ≡ Damaged p → (first ≤ p) × IsDamagedAt (p - first) (take (until - first) (drop first (content S.Store self.old)))) }
+        ensures named { IfErr result (λ e. e ≢ Reopen) }
+        ensures stops { IfErr result (λ e. self.new.is_waiting ≡ is_device_fault e) }
+        ensures runs { OnOk result (self.new.is_waiting ≡ false) }
+        ensures count { self.new.count ≡ self.old.count }
+        ensures kept { IsHonest S.Store self.new → self.new.is_waiting ≡ false → content S.Store self.new ≡ content S.Store self.old }
+        ensures crash { IsHonest S.Store self.new → (next : Places) → MayHold S.Store self.new next → next ≡ content S.Store self.old }
+    {
+        let rows = match rows_of(&mut self.conn, first, until - 1) {
+            Ok(rows) => rows,
+            Err(StoreFault::NoMemory) => return Err(StoreFault::NoMemory),
+            Err(fault) => {
+                self.standing = Standing::Waits;
+                return Err(fault);
+            }
+        };
+        let bodies = match bodies(self.alloc, &rows, first) {
+            Ok(bodies) if bodies.len() as u64 <= until - first => bodies,
+            Err(StoreFault::NoMemory) => return Err(StoreFault::NoMemory),
+            _ => {
+                self.standing = Standing::Waits;
+                return Err(StoreFault::Device);
+            }
+        };
+        records(self.alloc, &bodies, first, until)
+    }
+}

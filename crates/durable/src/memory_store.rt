@@ -1,5 +1,5 @@
 //! A store in memory.
-ghost use Rattle.std.specs.Prelude.{◌≡◌, ◌⊎◌, ◌++◌, [], Bool, true, false, take, drop, Ok, Err, Some, None, IfOk, IfErr, OnOk, OnErr, IsTrue};
+ghost use Rattle.std.specs.Prelude.{◌≡◌, ◌⊎◌, ◌++◌, [], false, take, drop, Ok, Err, Some, None, IfOk, IfErr, OnOk, OnErr, IsTrue};
 ghost use Rattle.durable.specs.Memories.{Burned, burns, passed, burned, stopped, reopened};
 ghost use Rattle.durable.specs.Records.{AreRecords, written};
 ghost use Rattle.durable.specs.declared.fault.StoreFault.TheVariants.{Device, Reopen, NoMemory as OutOfMemory};

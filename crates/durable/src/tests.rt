@@ -37,10 +37,7 @@ fn are_two(inputs: &[Input]) -> bool {
 }
 
 // Through the bound, as callers of any store do.
-fn append_and_load<S: NodeStore>(
-    store: &mut S,
-    batch: &[Input],
-) -> Result<Vec<Input>, StoreFault> {
+fn append_and_load<S: NodeStore>(store: &mut S, batch: &[Input]) -> Result<Vec<Input>, StoreFault> {
     store.append(batch)?;
     store.reopen()?;
     store.load()

@@ -1,5 +1,5 @@
 -- The records of the unbroken front of a list of places.
-use Rattle.std.proofs.Common.{◌≡◌, ℕ, zero, suc, ◌+◌, ◌<◌, List, [], ◌∷◌, ◌++◌, Option, Some, None, map, length, take, drop, refl, sym, ap, subst, ◌∙◌, arith}
+use Rattle.std.proofs.Common.{◌≡◌, ℕ, zero, suc, ◌<◌, List, [], ◌∷◌, ◌++◌, Some, None, map, length, take, drop, sym, ap, subst, arith}
 use Rattle.durable.specs.Records.{Places, AreRecords, HasNoRecord, IsDamagedAt, written}
 use Rattle.durable.specs.Slots.{unbroken}
 use Rattle.std.proofs.lemmas.List.{map-append}

@@ -55,5 +55,5 @@ abbrev pub reopened : Memory → Memory
 reopened m = record { node = m.node; inputs = m.inputs; is_waiting = false; fuse = m.fuse; faults = m.faults }
 
 -- the fuse was to burn at the batch, and burned
-abbrev pub Burned : List Input → Memory → Memory → Type 0
-Burned batch old new = (keeps : Kept) × (old.fuse ≡ Some (record { passes = 0; keeps = keeps })) × (batch ≢ []) × (new ≡ burned keeps batch old)
+abbrev pub HasBurned : List Input → Memory → Memory → Type 0
+HasBurned batch old new = (keeps : Kept) × (old.fuse ≡ Some (record { passes = 0; keeps = keeps })) × (batch ≢ []) × (new ≡ burned keeps batch old)

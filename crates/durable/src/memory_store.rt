@@ -1,6 +1,6 @@
 //! A store in memory.
-ghost use Rattle.std.specs.Prelude.{◌≡◌, ◌⊎◌, ◌++◌, [], Bool, true, false, take, drop, Ok, Err, Some, None, IfOk, IfErr, OnOk, OnErr, IsTrue};
-ghost use Rattle.durable.specs.Memories.{Burned, burns, passed, burned, stopped, reopened};
+ghost use Rattle.std.specs.Prelude.{◌≡◌, ◌⊎◌, ◌++◌, [], false, take, drop, Ok, Err, Some, None, IfOk, IfErr, OnOk, OnErr, IsTrue};
+ghost use Rattle.durable.specs.Memories.{HasBurned, burns, passed, burned, stopped, reopened};
 ghost use Rattle.durable.specs.Records.{AreRecords, written};
 ghost use Rattle.durable.specs.declared.fault.StoreFault.TheVariants.{Device, Reopen, NoMemory as OutOfMemory};
 
@@ -75,6 +75,7 @@ fn grow(alloc: Global, records: &mut Vec<Input>, batch: &[Input]) -> Result<(), 
     ensures records { OnOk result (AreRecords (written batch.now) batch.now) }
     ensures refused { OnErr result (records.new.items ≡ records.old.items) }
 {
+    // an input is a record only where it has a text; none is kept
     texts(alloc, batch)?;
     let mut more = copies(alloc, batch)?;
     records.append(&mut more)?;
@@ -171,7 +172,7 @@ impl NodeStore for MemoryStore {
         ensures ok { OnOk result ((burns self.old.fuse batch.now ≡ false) × (self.new ≡ passed batch.now self.old)) }
         ensures named { self.old.is_waiting ≡ false → IfErr result (λ e. (e ≡ OutOfMemory) ⊎ (e ≡ Device)) }
         ensures refused { result ≡ Err OutOfMemory → self.new ≡ stopped self.old }
-        ensures device { result ≡ Err Device → Burned batch.now self.old self.new }
+        ensures device { result ≡ Err Device → HasBurned batch.now self.old self.new }
     {
         if self.state == State::Waiting {
             return Err(StoreFault::Reopen);

@@ -1,3 +1,4 @@
+use crate::records::{records, texts};
 use crate::{Kept, MemoryStore, NodeStore, StoreFault};
 use std::alloc::Global;
 use std::test::Fail;
@@ -37,10 +38,7 @@ fn are_two(inputs: &[Input]) -> bool {
 }
 
 // Through the bound, as callers of any store do.
-fn append_and_load<S: NodeStore>(
-    store: &mut S,
-    batch: &[Input],
-) -> Result<Vec<Input>, StoreFault> {
+fn append_and_load<S: NodeStore>(store: &mut S, batch: &[Input]) -> Result<Vec<Input>, StoreFault> {
     store.append(batch)?;
     store.reopen()?;
     store.load()
@@ -99,5 +97,35 @@ fn the_fuse_keeps_nothing(rt: HostRuntime) -> Result<(), Fail> {
     assert_eq!(rt; store.load()?.len(), 1);
     assert_eq!(rt; store.append(&two(alloc)?), Ok(()));
     assert_eq!(rt; store.load()?.len(), 3);
+    Ok(())
+}
+
+#[test]
+fn texts_of_a_batch(rt: HostRuntime) -> Result<(), Fail> {
+    let alloc = rt.alloc();
+    let texts = texts(alloc, &two(alloc)?)?;
+    assert_eq!(rt; texts.len(), 2);
+    assert_eq!(rt;
+        texts[0].as_slice(),
+        r#"{"account":8,"input":"open"}"#.as_bytes()
+    );
+    assert_eq!(rt;
+        texts[1].as_slice(),
+        r#"{"account":8,"input":"close"}"#.as_bytes()
+    );
+    Ok(())
+}
+
+#[test]
+fn records_of_bodies(rt: HostRuntime) -> Result<(), Fail> {
+    let alloc = rt.alloc();
+    let open = r#"{"account":8,"input":"open"}"#.as_bytes();
+    let close = r#"{"account":8,"input":"close"}"#.as_bytes();
+    let other = r#"{"account":8,"input":"shut"}"#.as_bytes();
+    assert!(rt; are_two(&records(alloc, &[open, close], 5, 7)?));
+    let missing = records(alloc, &[open, close], 5, 8);
+    assert!(rt; matches!(missing, Err(StoreFault::Damaged(7))));
+    let unread = records(alloc, &[open, other], 5, 8);
+    assert!(rt; matches!(unread, Err(StoreFault::Damaged(6))));
     Ok(())
 }

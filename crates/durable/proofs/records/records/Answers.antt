@@ -1,10 +1,9 @@
-use Rattle.std.proofs.Common.{◌≡◌, ◌≤◌, ◌+◌, ◌-◌, ◌<◌, ℕ, suc, List, [], ◌∷◌, ◌++◌, Bor, length, Some, map, take, drop, get_or, sym, ap, subst, ◌∙◌, arith}
+use Rattle.std.proofs.Common.{◌≡◌, ◌≤◌, ◌+◌, ◌-◌, ◌<◌, ℕ, List, [], ◌∷◌, ◌++◌, Bor, length, Some, map, take, drop, get_or, sym, ap, subst, ◌∙◌, arith}
 use Rattle.std.proofs.lemmas.List.{length-map, map-append, map_push, take_more, take_all, take-append-drop, drop_more, length-take-le}
 use Rattle.wire.specs.Records.{IsRecordText}
 use Rattle.wire.specs.declared.input.Input.{Input}
 use Rattle.durable.specs.Records.{Places, AreRecords, HasNoRecord, IsDamagedAt}
 use Rattle.durable.specs.Slots.{unbroken}
-use Rattle.durable.specs.declared.fault.StoreFault.TheVariants.{Damaged}
 use Rattle.durable.proofs.Fronts.{records-snoc, whole-front, damaged-body, damaged-gap}
 use Rattle.durable.proofs.records.records.Goals as goal
 
@@ -19,7 +18,7 @@ record-more : (bodies : Bodies) (k : ℕ) (d : Bor (List ℕ)) (inputs : List In
 record-more bodies k d inputs input low are is =
     let body = get_or bodies k d in
     let next : map (λ b. Some b) (texts (take (k + 1) bodies)) ≡ map (λ b. Some b) (texts (take k bodies)) ++ Some body.now ∷ [] =
-        ap (λ bs. map (λ b. Some b) (texts bs)) (take_more bodies k d low) ∙ ap (map (λ b. Some b)) (map_push (λ (b : Bor (List ℕ)). b.now) (take k bodies) body) ∙ map_push (λ b. Some b) (texts (take k bodies)) body.now in
+    ap (λ bs. map (λ b. Some b) (texts bs)) (take_more bodies k d low) ∙ ap (map (λ b. Some b)) (map_push (λ (b : Bor (List ℕ)). b.now) (take k bodies) body) ∙ map_push (λ b. Some b) (texts (take k bodies)) body.now in
     subst (λ places. AreRecords places (inputs ++ input ∷ [])) (sym next) (records-snoc (map (λ b. Some b) (texts (take k bodies))) inputs body.now input are is)
 
 count : (bodies : Bodies) (k : ℕ) → k ≤ length bodies → length (texts (take k bodies)) ≡ k
@@ -30,7 +29,7 @@ no-record-at : (bodies : Bodies) (k : ℕ) (d : Bor (List ℕ)) (inputs : List I
 no-record-at bodies k d inputs places low are not e =
     let body = get_or bodies k d in
     let split : texts bodies ≡ texts (take k bodies) ++ body.now ∷ texts (drop (k + 1) bodies) =
-        ap texts (sym (take-append-drop k bodies) ∙ ap (λ bs. take k bodies ++ bs) (drop_more bodies k d low)) ∙ map-append (λ (b : Bor (List ℕ)). b.now) (take k bodies) (body ∷ drop (k + 1) bodies) in
+    ap texts (sym (take-append-drop k bodies) ∙ ap (λ bs. take k bodies ++ bs) (drop_more bodies k d low)) ∙ map-append (λ (b : Bor (List ℕ)). b.now) (take k bodies) (body ∷ drop (k + 1) bodies) in
     subst (λ n. IsDamagedAt n places) (count bodies k (omega (arith, low))) (damaged-body places (texts (take k bodies)) inputs body.now (texts (drop (k + 1) bodies)) are not (e ∙ split))
 
 pub returns-in-Err-Shape-clause-damaged : goal.returns-in-Err-Shape-clause-damaged

@@ -2,3 +2,4 @@ pub mod Tables
 pub mod Slots
 pub mod Held
 pub mod Faults
+pub mod Layout

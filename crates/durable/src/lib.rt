@@ -3,5 +3,7 @@
 
 mod batch;
 mod fault;
+mod layout;
+mod opening;
 
 pub use fault::StoreFault;

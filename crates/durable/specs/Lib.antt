@@ -3,3 +3,4 @@ pub mod Slots
 pub mod Held
 pub mod Faults
 pub mod Layout
+pub mod Opening

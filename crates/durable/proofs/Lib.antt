@@ -6,3 +6,4 @@ pub mod Places
 pub mod Inserting
 pub mod Making
 pub mod Steps
+pub mod Opened

@@ -11,7 +11,7 @@ use Rattle.sqlite.specs.State.{State}
 use Rattle.durable.specs.declared.fault.StoreFault.{StoreFault}
 use Rattle.durable.specs.declared.fault.StoreFault.TheVariants.{Device, Full, Damaged, WrongNode, WrongVersion, Reopen, NoMemory}
 use Rattle.durable.specs.Tables.{about_table, store_schema, no_schema}
-use Rattle.durable.specs.Held.{slots_in, node_in, IsStore}
+use Rattle.durable.specs.Held.{slots_in, node_in, IsStore, IsReady}
 
 -- open, in no transaction, and nothing is uncommitted
 pub record IsOpened (s : State) : Type 0 where
@@ -54,6 +54,10 @@ pub record IsFresh (name : List ℕ) (db : Trees) : Type 0 where
 -- the same, with its tables
 abbrev pub HasFresh : List ℕ → Database → Type 0
 HasFresh node db = (db.schema ≡ store_schema) × IsFresh node db.trees
+
+-- it is committed
+abbrev pub IsMade : List ℕ → State → Type 0
+IsMade node s = IsReady s × IsFresh node s.committed.trees
 
 -- the row of the owner, of any format
 abbrev pub owned : ℤ → List ℕ → Row

@@ -4,6 +4,7 @@ pub mod Checks
 pub mod Found
 pub mod Places
 pub mod Inserting
+pub mod Ends
 pub mod Making
 pub mod Steps
 pub mod Opened

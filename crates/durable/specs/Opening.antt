@@ -1,10 +1,11 @@
 -- What an opening finds in a file, and what it makes of a new one.
-use Rattle.std.specs.Prelude.{◌≡◌, ◌⊎◌, ℕ, ℤ, pos, negsuc, false, List, [], ◌∷◌, IsTrue, Any}
-use Rattle.std.specs.List.{AllByRecursion}
+use Rattle.std.specs.Prelude.{◌≡◌, ◌⊎◌, ℕ, ℤ, pos, negsuc, Bool, true, false, ◌<ℤ◌, List, [], ◌∷◌, map, slice_get, Option, Some, None, All, IsTrue, Any}
+use Rattle.std.specs.List.{AllByRecursion, Contains}
 use Rattle.sqlite.specs.declared.types.Value.TheVariants.{Null, Int, Text as Words}
 use Rattle.sqlite.specs.Order.{Row, column}
 use Rattle.sqlite.specs.Tree.{Trees}
 use Rattle.sqlite_trees.specs.Tree.{IsTable}
+use Rattle.sqlite_rules.specs.Edit.{id_in}
 use Rattle.sqlite.specs.Schema.{Schema}
 use Rattle.sqlite.specs.Effect.{Database}
 use Rattle.sqlite.specs.State.{State}
@@ -76,6 +77,24 @@ pub record HoldsRows (db : Trees) : Type 0 where
 -- both tables are there, with such rows
 abbrev pub HasRows : Database → Type 0
 HasRows db = (db.schema ≡ store_schema) × HoldsRows db.trees
+
+-- the places of the records
+abbrev pub places_in : List Row → List ℤ
+places_in rows = map (λ row. id_in (column row 0)) rows
+
+abbrev pub comes_before : Bool → ℤ → ℤ → Type 0
+comes_before true m n = n <ℤ m
+comes_before false m n = m <ℤ n
+
+-- the least of the places, or the greatest of them, where there is one
+abbrev pub IsEnd : Bool → List Row → Option ℤ → Type 0
+IsEnd greatest rows None = rows ≡ []
+IsEnd greatest rows (Some place) = Contains (places_in rows) place × All (λ n. comes_before greatest n place → ⊥) (places_in rows)
+
+-- the place in the first row of an answer
+abbrev pub IsPlaceIn : List Row → Option ℤ → Type 0
+IsPlaceIn rows None = rows ≡ []
+IsPlaceIn rows (Some place) = (row : Row) × (slice_get rows 0 ≡ Some row) × (column row 0 ≡ Int place)
 
 -- the tables are others
 abbrev pub HasOtherTables : Database → Type 0

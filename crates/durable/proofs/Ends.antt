@@ -18,7 +18,8 @@ use Rattle.sqlite.specs.Query.{IsAnswer, Output, output, output_cmp}
 use Rattle.sqlite.specs.Program.{overlay}
 use Rattle.sqlite.specs.Effect.{Database, Reads}
 use Rattle.sqlite_rules.specs.Edit.{id_in}
-use Rattle.durable.specs.Opening.{IsEntry, places_in, comes_before, IsEnd, IsPlaceIn}
+use Rattle.durable.specs.Opening.{IsEntry, places_in, comes_before, IsEnd}
+use Rattle.durable.specs.Shown.{IsPlaceIn}
 use Rattle.durable.proofs.OpeningTexts.{whole, first_row, shows}
 
 envs : (rows : List Row) → flat_map (λ (r : Row). ([] ∷ r ∷ []) ∷ []) rows ≡ map (λ (r : Row). [] ∷ r ∷ []) rows

@@ -3,4 +3,5 @@ pub mod Slots
 pub mod Held
 pub mod Faults
 pub mod Layout
+pub mod Shown
 pub mod Opening

@@ -1,5 +1,5 @@
 -- What an opening finds in a file, and what it makes of a new one.
-use Rattle.std.specs.Prelude.{◌≡◌, ◌⊎◌, ℕ, ℤ, pos, negsuc, Bool, true, false, ◌<ℤ◌, List, [], ◌∷◌, map, slice_get, Option, Some, None, All, IsTrue, Any}
+use Rattle.std.specs.Prelude.{◌≡◌, ◌⊎◌, ℕ, ℤ, pos, negsuc, Bool, true, false, ◌<ℤ◌, List, [], ◌∷◌, map, Option, Some, None, Result, Ok, Err, All, IsTrue, Any}
 use Rattle.std.specs.List.{AllByRecursion, Contains}
 use Rattle.sqlite.specs.declared.types.Value.TheVariants.{Null, Int, Text as Words}
 use Rattle.sqlite.specs.Order.{Row, column}
@@ -11,7 +11,9 @@ use Rattle.sqlite.specs.Effect.{Database}
 use Rattle.sqlite.specs.State.{State}
 use Rattle.durable.specs.declared.fault.StoreFault.{StoreFault}
 use Rattle.durable.specs.declared.fault.StoreFault.TheVariants.{Device, Full, Damaged, WrongNode, WrongVersion, Reopen, NoMemory}
-use Rattle.durable.specs.Tables.{about_table, store_schema, no_schema}
+use Rattle.durable.specs.declared.shown.Owner.{Owner}
+use Rattle.durable.specs.declared.shown.Owner.TheVariants.{Nobody, OtherFormat, OtherNode, Asker}
+use Rattle.durable.specs.Tables.{about, about_table, store_schema, no_schema}
 use Rattle.durable.specs.Held.{slots_in, node_in, IsStore, IsReady}
 
 -- open, in no transaction, and nothing is uncommitted
@@ -91,11 +93,6 @@ abbrev pub IsEnd : Bool → List Row → Option ℤ → Type 0
 IsEnd greatest rows None = rows ≡ []
 IsEnd greatest rows (Some place) = Contains (places_in rows) place × All (λ n. comes_before greatest n place → ⊥) (places_in rows)
 
--- the place in the first row of an answer
-abbrev pub IsPlaceIn : List Row → Option ℤ → Type 0
-IsPlaceIn rows None = rows ≡ []
-IsPlaceIn rows (Some place) = (row : Row) × (slice_get rows 0 ≡ Some row) × (column row 0 ≡ Int place)
-
 -- the tables are others
 abbrev pub HasOtherTables : Database → Type 0
 HasOtherTables db = (db.schema ≡ no_schema → ⊥) × (db.schema ≡ store_schema → ⊥)
@@ -120,6 +117,13 @@ HasOtherFormat db = (db.schema ≡ store_schema) × (row : Row) × (db.trees 0 �
 abbrev pub HasOtherNode : List ℕ → Database → Type 0
 HasOtherNode node db = (db.schema ≡ store_schema) × (row : Row) × (db.trees 0 ≡ row ∷ []) × (column row 3 ≡ Words node → ⊥)
 
+-- whose the file is
+abbrev pub IsOwner : List ℕ → Database → Owner → Type 0
+IsOwner node db Nobody = db.trees 0 ≡ []
+IsOwner node db OtherFormat = HasOtherFormat db
+IsOwner node db OtherNode = (HasOtherFormat db → ⊥) × HasOtherNode node db
+IsOwner node db Asker = db.trees 0 ≡ about 1 node ∷ []
+
 -- the fault of an opening for that node, by the first of these causes
 abbrev pub IsOpeningFault : List ℕ → Database → StoreFault → Type 0
 IsOpeningFault node db (Damaged place) = (place ≡ 0) × IsNoStore db
@@ -129,3 +133,9 @@ IsOpeningFault node db Device = Unit {0}
 IsOpeningFault node db Full = Unit {0}
 IsOpeningFault node db NoMemory = Unit {0}
 IsOpeningFault node db Reopen = ⊥
+
+-- what is told of both tables: no row (true), or a store of that node (false), or else why not
+abbrev pub IsVerdict : List ℕ → Database → Result Bool StoreFault → Type 0
+IsVerdict node db (Ok true) = IsEmpty db
+IsVerdict node db (Ok false) = IsStore db.trees × (node_in db.trees ≡ node)
+IsVerdict node db (Err fault) = IsOpeningFault node db fault

@@ -5,5 +5,6 @@ mod batch;
 mod fault;
 mod layout;
 mod opening;
+mod shown;
 
 pub use fault::StoreFault;

@@ -22,7 +22,7 @@ use Rattle.durable.specs.Opening.{IsEntry, places_in, comes_before, IsEnd}
 use Rattle.durable.specs.Shown.{IsPlaceIn}
 use Rattle.durable.proofs.OpeningTexts.{whole, first_row, shows}
 
-envs : (rows : List Row) → flat_map (λ (r : Row). ([] ∷ r ∷ []) ∷ []) rows ≡ map (λ (r : Row). [] ∷ r ∷ []) rows
+pub envs : (rows : List Row) → flat_map (λ (r : Row). ([] ∷ r ∷ []) ∷ []) rows ≡ map (λ (r : Row). [] ∷ r ∷ []) rows
 envs [] = refl
 envs (r ∷ rows) = ap (λ more. ([] ∷ r ∷ []) ∷ more) (envs rows)
 

@@ -5,6 +5,8 @@ pub mod Found
 pub mod Places
 pub mod Inserting
 pub mod Ends
+pub mod Judging
 pub mod Making
+pub mod Verdicts
 pub mod Steps
 pub mod Opened

@@ -58,6 +58,9 @@ whole table shown = record {
   offset = lit (Int (pos 0));
 }
 
+abbrev pub owner_query : Query
+owner_query = whole 0 (col 1 2 ∷ col 1 3 ∷ [])
+
 -- its first row by the rowid
 abbrev pub first_row : ℕ → Bool → Query
 first_row table descending = record (whole table (col 1 0 ∷ [])) { order = (col 1 0, record { collation = Binary; descending = descending }) ∷ []; limit = lit (Int (pos 1)) }
@@ -74,7 +77,7 @@ least_text = codes "SELECT place FROM entries ORDER BY place LIMIT 1"
 abbrev pub greatest_text : List ℕ
 greatest_text = codes "SELECT place FROM entries ORDER BY place DESC LIMIT 1"
 
-pub owner_is : (command_of (understood store_schema owner_text) ≡ shows (whole 0 (col 1 2 ∷ col 1 3 ∷ [])) (codes "format" ∷ codes "node" ∷ [])) × (reads_listing store_schema owner_text ≡ false)
+pub owner_is : (command_of (understood store_schema owner_text) ≡ shows owner_query (codes "format" ∷ codes "node" ∷ [])) × (reads_listing store_schema owner_text ≡ false)
 unfolding understood everything
 owner_is = (refl, refl)
 

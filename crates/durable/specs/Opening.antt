@@ -134,6 +134,11 @@ IsOpeningFault node db Full = Unit {0}
 IsOpeningFault node db NoMemory = Unit {0}
 IsOpeningFault node db Reopen = ⊥
 
+-- there is a place, and it is below 0
+abbrev pub IsNegative : Option ℤ → Type 0
+IsNegative None = ⊥
+IsNegative (Some place) = place <ℤ pos 0
+
 -- what is told of both tables: no row (true), or a store of that node (false), or else why not
 abbrev pub IsVerdict : List ℕ → Database → Result Bool StoreFault → Type 0
 IsVerdict node db (Ok true) = IsEmpty db

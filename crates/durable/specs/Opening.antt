@@ -1,5 +1,5 @@
 -- What an opening finds in a file, and what it makes of a new one.
-use Rattle.std.specs.Prelude.{◌≡◌, ◌⊎◌, ℕ, ℤ, pos, negsuc, Bool, true, false, ◌<ℤ◌, List, [], ◌∷◌, map, Option, Some, None, Result, Ok, Err, All, IsTrue, Any}
+use Rattle.std.specs.Prelude.{◌≡◌, ◌⊎◌, ℕ, ℤ, pos, negsuc, Bool, true, false, ◌<ℤ◌, List, [], ◌∷◌, map, Option, Some, None, Result, Ok, Err, OnOk, IfOk, IfErr, length, All, IsTrue, Any}
 use Rattle.std.specs.List.{AllByRecursion, Contains}
 use Rattle.sqlite.specs.declared.types.Value.TheVariants.{Null, Int, Text as Words}
 use Rattle.sqlite.specs.Order.{Row, column}
@@ -144,3 +144,11 @@ abbrev pub IsVerdict : List ℕ → Database → Result Bool StoreFault → Type
 IsVerdict node db (Ok true) = IsEmpty db
 IsVerdict node db (Ok false) = IsStore db.trees × (node_in db.trees ≡ node)
 IsVerdict node db (Err fault) = IsOpeningFault node db fault
+
+-- What an opening for that node leaves of a connection to a file that held this: a store of the node or the fault, and over a crash what was there or, of a new file, a store without a record.
+pub record Settles (name : List ℕ) (before : Database) (s : State) (result : Result ℕ StoreFault) : Type 0 where
+  pub ready : OnOk result (IsReady s × (node_in s.committed.trees ≡ name))
+  pub count : IfOk result (λ count. count ≡ length (slots_in s.committed.trees))
+  pub found : OnOk result ((IsNew before × (slots_in s.committed.trees ≡ [])) ⊎ (s.committed ≡ before))
+  pub fault : IfErr result (IsOpeningFault name before)
+  pub crash : (db : Trees) → s.may_leave db → (db ≡ before.trees) ⊎ (IsNew before × IsFresh name db)

@@ -1,15 +1,22 @@
 //! Opening: a file that has no row yet is made a store, and of any other it is found whether it is one.
-ghost use Rattle.std.specs.Prelude.{◌≡◌, ◌⊎◌, IsTrue, OnOk, false};
-ghost use Rattle.sqlite.specs.State.{HasCleanDisk, Survives};
+ghost use Rattle.std.specs.Prelude.{◌≡◌, ◌⊎◌, ℕ, ◌+◌, List, [], length, IsTrue, OnOk, IfOk, IfErr, true, false};
+ghost use Rattle.sqlite.specs.Effect.{Database};
+ghost use Rattle.sqlite.specs.Given.{IsPlain};
+ghost use Rattle.sqlite.specs.Listing.{understood};
+ghost use Rattle.sqlite.specs.State.{HasCleanDisk, IsUnchanged, Shown, Survives};
+ghost use Rattle.durable.specs.Faults.{is_device_fault};
+ghost use Rattle.durable.specs.Held.{slots_in, node_in, IsStore, IsReady};
 ghost use Rattle.sqlite.specs.Held.{state};
 ghost use Rattle.sqlite.specs.Tree.{Trees};
 ghost use Rattle.durable.specs.Tables.{store_schema};
 ghost use Rattle.durable.specs.Layout.{AreTables};
-ghost use Rattle.durable.specs.Opening.{IsOpened, IsWithin, IsBare, HasAbout, IsEmpty, IsFresh, HasFresh, IsMade, HoldsRows};
+ghost use Rattle.durable.specs.Opening.{IsOpened, IsWithin, IsBare, HasAbout, IsEmpty, HasFresh, IsMade, HoldsRows, HasRows, IsOwner, IsEnd, IsVerdict, IsNegative, IsNew, IsFresh, IsOpeningFault, Settles};
 
+use crate::fault::{StoreFault, fault_of};
 use crate::layout::{Tables, tables_of};
+use crate::shown::{Owner, owner_in, place_in};
 use sqlite::types::ValueRef;
-use sqlite::{Alter, Connection, Error as SqlError, Transaction};
+use sqlite::{Alter, Connection, Error as SqlError, Row, Transaction};
 
 /// An open connection's store is whole: no statement left a part of itself.
 fn is_whole<S: Alter>(conn: &Connection<S>)
@@ -95,4 +102,190 @@ fn own<S: Alter>(conn: &mut Connection<S>, node: &str) -> Result<(), SqlError>
     let mut tx = conn.transaction();
     put_owner(&mut tx, node)?;
     tx.commit()
+}
+
+/// The rows that a query on a store shows.
+fn ask<S: Alter>(conn: &mut Connection<S>, sql: &str) -> Result<Vec<Row>, StoreFault>
+    requires opened { HasCleanDisk (state S.Store conn.old) → IsOpened (state S.Store conn.old) × ((state S.Store conn.old).committed.schema ≡ store_schema) }
+    requires plain { IsPlain (understood store_schema sql.now) }
+    ensures idle { conn.old.in_transaction ≡ false → conn.new.in_transaction ≡ false }
+    ensures clean { HasCleanDisk (state S.Store conn.new) → HasCleanDisk (state S.Store conn.old) }
+    ensures same { HasCleanDisk (state S.Store conn.new) → OnOk result (IsUnchanged (state S.Store conn.old) (state S.Store conn.new)) }
+    ensures shown { HasCleanDisk (state S.Store conn.new) → IfOk result (λ rows. Shown sql.now [] (state S.Store conn.old) (state S.Store conn.new) rows.items) }
+    ensures crash { HasCleanDisk (state S.Store conn.new) → (db : Trees) → (state S.Store conn.new).may_leave db → db ≡ (state S.Store conn.old).committed.trees }
+    ensures named { IfErr result (λ e. (e ≡ StoreFault.NoMemory) ⊎ IsTrue (is_device_fault e)) }
+{
+    match conn.query_all(sql, &[]) {
+        Ok(rows) => Ok(rows),
+        Err(error) => Err(fault_of(error)),
+    }
+}
+
+/// Whose the file is.
+fn find_owner<S: Alter>(conn: &mut Connection<S>, node: &str) -> Result<Owner, StoreFault>
+    requires opened { HasCleanDisk (state S.Store conn.old) → IsOpened (state S.Store conn.old) × HasRows (state S.Store conn.old).committed }
+    ensures idle { conn.old.in_transaction ≡ false → conn.new.in_transaction ≡ false }
+    ensures clean { HasCleanDisk (state S.Store conn.new) → HasCleanDisk (state S.Store conn.old) }
+    ensures same { HasCleanDisk (state S.Store conn.new) → OnOk result (IsUnchanged (state S.Store conn.old) (state S.Store conn.new)) }
+    ensures owner { HasCleanDisk (state S.Store conn.new) → IfOk result (IsOwner node.now (state S.Store conn.old).committed) }
+    ensures crash { HasCleanDisk (state S.Store conn.new) → (db : Trees) → (state S.Store conn.new).may_leave db → db ≡ (state S.Store conn.old).committed.trees }
+    ensures named { IfErr result (λ e. (e ≡ StoreFault.NoMemory) ⊎ IsTrue (is_device_fault e)) }
+{
+    let rows = ask(conn, "SELECT format, node FROM about")?;
+    Ok(owner_in(&rows, node))
+}
+
+/// The least place of a record.
+fn least_place<S: Alter>(conn: &mut Connection<S>) -> Result<Option<i64>, StoreFault>
+    requires opened { HasCleanDisk (state S.Store conn.old) → IsOpened (state S.Store conn.old) × HasRows (state S.Store conn.old).committed }
+    ensures idle { conn.old.in_transaction ≡ false → conn.new.in_transaction ≡ false }
+    ensures clean { HasCleanDisk (state S.Store conn.new) → HasCleanDisk (state S.Store conn.old) }
+    ensures same { HasCleanDisk (state S.Store conn.new) → OnOk result (IsUnchanged (state S.Store conn.old) (state S.Store conn.new)) }
+    ensures least { HasCleanDisk (state S.Store conn.new) → IfOk result (IsEnd false ((state S.Store conn.old).committed.trees 1)) }
+    ensures crash { HasCleanDisk (state S.Store conn.new) → (db : Trees) → (state S.Store conn.new).may_leave db → db ≡ (state S.Store conn.old).committed.trees }
+    ensures named { IfErr result (λ e. (e ≡ StoreFault.NoMemory) ⊎ IsTrue (is_device_fault e)) }
+{
+    let rows = ask(conn, "SELECT place FROM entries ORDER BY place LIMIT 1")?;
+    place_in(&rows)
+}
+
+/// The greatest place of a record.
+fn greatest_place<S: Alter>(conn: &mut Connection<S>) -> Result<Option<i64>, StoreFault>
+    requires opened { HasCleanDisk (state S.Store conn.old) → IsOpened (state S.Store conn.old) × HasRows (state S.Store conn.old).committed }
+    ensures idle { conn.old.in_transaction ≡ false → conn.new.in_transaction ≡ false }
+    ensures clean { HasCleanDisk (state S.Store conn.new) → HasCleanDisk (state S.Store conn.old) }
+    ensures same { HasCleanDisk (state S.Store conn.new) → OnOk result (IsUnchanged (state S.Store conn.old) (state S.Store conn.new)) }
+    ensures greatest { HasCleanDisk (state S.Store conn.new) → IfOk result (IsEnd true ((state S.Store conn.old).committed.trees 1)) }
+    ensures crash { HasCleanDisk (state S.Store conn.new) → (db : Trees) → (state S.Store conn.new).may_leave db → db ≡ (state S.Store conn.old).committed.trees }
+    ensures named { IfErr result (λ e. (e ≡ StoreFault.NoMemory) ⊎ IsTrue (is_device_fault e)) }
+{
+    let rows = ask(
+        conn,
+        "SELECT place FROM entries ORDER BY place DESC LIMIT 1",
+    )?;
+    place_in(&rows)
+}
+
+fn is_negative(place: Option<i64>) -> bool
+    ensures some { IsTrue result → IsNegative place }
+    ensures none { IsNegative place → IsTrue result }
+{
+    match place {
+        Some(place) => place < 0,
+        None => false,
+    }
+}
+
+/// Whether the tables have no row (true) or are a store of the node that asks (false), or why not.
+fn verdict(owner: Owner, least: Option<i64>) -> Result<bool, StoreFault>
+    ensures { (node : List ℕ) (db : Database) → HasRows db → IsOwner node db owner → IsEnd false (db.trees 1) least → IsVerdict node db result }
+{
+    if is_negative(least) {
+        return Err(StoreFault::Damaged(0));
+    }
+    match (owner, least) {
+        (Owner::Nobody, Some(_)) => Err(StoreFault::Damaged(0)),
+        (Owner::Nobody, None) => Ok(true),
+        (Owner::OtherFormat, _) => Err(StoreFault::WrongVersion),
+        (Owner::OtherNode, _) => Err(StoreFault::WrongNode),
+        (Owner::Asker, _) => Ok(false),
+    }
+}
+
+/// Whether the file has no row (true) or is a store of the node (false), or why not.
+fn examine<S: Alter>(conn: &mut Connection<S>, node: &str) -> Result<bool, StoreFault>
+    requires opened { HasCleanDisk (state S.Store conn.old) → IsOpened (state S.Store conn.old) × HasRows (state S.Store conn.old).committed }
+    ensures idle { conn.old.in_transaction ≡ false → conn.new.in_transaction ≡ false }
+    ensures clean { HasCleanDisk (state S.Store conn.new) → HasCleanDisk (state S.Store conn.old) }
+    ensures same { HasCleanDisk (state S.Store conn.new) → OnOk result (IsUnchanged (state S.Store conn.old) (state S.Store conn.new)) }
+    ensures found { HasCleanDisk (state S.Store conn.new) → IsVerdict node.now (state S.Store conn.old).committed result }
+    ensures crash { HasCleanDisk (state S.Store conn.new) → (db : Trees) → (state S.Store conn.new).may_leave db → db ≡ (state S.Store conn.old).committed.trees }
+{
+    let owner = find_owner(conn, node)?;
+    let least = least_place(conn)?;
+    verdict(owner, least)
+}
+
+/// How many places the content of a store has.
+fn count<S: Alter>(conn: &mut Connection<S>) -> Result<u64, StoreFault>
+    requires opened { HasCleanDisk (state S.Store conn.old) → IsOpened (state S.Store conn.old) × HasRows (state S.Store conn.old).committed }
+    requires store { HasCleanDisk (state S.Store conn.old) → IsStore (state S.Store conn.old).committed.trees }
+    ensures idle { conn.old.in_transaction ≡ false → conn.new.in_transaction ≡ false }
+    ensures clean { HasCleanDisk (state S.Store conn.new) → HasCleanDisk (state S.Store conn.old) }
+    ensures same { HasCleanDisk (state S.Store conn.new) → OnOk result (IsUnchanged (state S.Store conn.old) (state S.Store conn.new)) }
+    ensures count { HasCleanDisk (state S.Store conn.new) → IfOk result (λ count. count ≡ length (slots_in (state S.Store conn.old).committed.trees)) }
+    ensures crash { HasCleanDisk (state S.Store conn.new) → (db : Trees) → (state S.Store conn.new).may_leave db → db ≡ (state S.Store conn.old).committed.trees }
+    ensures named { IfErr result (λ e. (e ≡ StoreFault.NoMemory) ⊎ IsTrue (is_device_fault e)) }
+{
+    match greatest_place(conn)? {
+        Some(place) => Ok(place.unsigned_abs() + 1),
+        None => Ok(0),
+    }
+}
+
+/// A file without a table becomes a store of the node.
+fn start<S: Alter>(conn: &mut Connection<S>, node: &str) -> Result<u64, StoreFault>
+    requires idle { conn.old.in_transaction ≡ false }
+    requires opened { HasCleanDisk (state S.Store conn.old) → IsOpened (state S.Store conn.old) × IsBare (state S.Store conn.old).committed }
+    ensures idle { conn.new.in_transaction ≡ false }
+    ensures clean { HasCleanDisk (state S.Store conn.new) → HasCleanDisk (state S.Store conn.old) }
+    ensures settled { HasCleanDisk (state S.Store conn.new) → Settles node.now (state S.Store conn.old).committed (state S.Store conn.new) result }
+{
+    match make(conn, node) {
+        Ok(()) => Ok(0),
+        Err(error) => Err(fault_of(error)),
+    }
+}
+
+/// A file whose tables have no row becomes a store of the node.
+fn adopt<S: Alter>(conn: &mut Connection<S>, node: &str) -> Result<u64, StoreFault>
+    requires idle { conn.old.in_transaction ≡ false }
+    requires opened { HasCleanDisk (state S.Store conn.old) → IsOpened (state S.Store conn.old) × IsEmpty (state S.Store conn.old).committed }
+    ensures idle { conn.new.in_transaction ≡ false }
+    ensures clean { HasCleanDisk (state S.Store conn.new) → HasCleanDisk (state S.Store conn.old) }
+    ensures settled { HasCleanDisk (state S.Store conn.new) → Settles node.now (state S.Store conn.old).committed (state S.Store conn.new) result }
+{
+    match own(conn, node) {
+        Ok(()) => Ok(0),
+        Err(error) => Err(fault_of(error)),
+    }
+}
+
+/// A file with both tables is a store of the node, or becomes one where it has no row, or is refused.
+fn resume<S: Alter>(conn: &mut Connection<S>, node: &str) -> Result<u64, StoreFault>
+    requires idle { conn.old.in_transaction ≡ false }
+    requires opened { HasCleanDisk (state S.Store conn.old) → IsOpened (state S.Store conn.old) × HasRows (state S.Store conn.old).committed }
+    ensures idle { conn.new.in_transaction ≡ false }
+    ensures clean { HasCleanDisk (state S.Store conn.new) → HasCleanDisk (state S.Store conn.old) }
+    ensures settled { HasCleanDisk (state S.Store conn.new) → Settles node.now (state S.Store conn.old).committed (state S.Store conn.new) result }
+{
+    if examine(conn, node)? {
+        adopt(conn, node)
+    } else {
+        count(conn)
+    }
+}
+
+/// Makes the file a store of the node where it has no row yet, or finds that it is one, and answers how many places its content has.
+///
+/// Faults in this order: `Damaged(0)` where the file has other tables, records without an owner, or a place below 0; `WrongVersion`; `WrongNode`. `Device`, `Full` and
+/// `NoMemory` may come at any call of the database. A refused file is as it was, but that one that was new may have been made whole.
+pub(crate) fn settle<S: Alter>(conn: &mut Connection<S>, node: &str) -> Result<u64, StoreFault>
+    requires idle { conn.old.in_transaction ≡ false }
+    requires opened { HasCleanDisk (state S.Store conn.old) → IsOpened (state S.Store conn.old) }
+    ensures idle { conn.new.in_transaction ≡ false }
+    ensures clean { HasCleanDisk (state S.Store conn.new) → HasCleanDisk (state S.Store conn.old) }
+    ensures ready { HasCleanDisk (state S.Store conn.new) → OnOk result (IsReady (state S.Store conn.new) × (node_in (state S.Store conn.new).committed.trees ≡ node.now)) }
+    ensures count { HasCleanDisk (state S.Store conn.new) → IfOk result (λ count. count ≡ length (slots_in (state S.Store conn.new).committed.trees)) }
+    ensures found { HasCleanDisk (state S.Store conn.new) → OnOk result ((IsNew (state S.Store conn.old).committed × (slots_in (state S.Store conn.new).committed.trees ≡ []))
+        ⊎ ((state S.Store conn.new).committed ≡ (state S.Store conn.old).committed)) }
+    ensures fault { HasCleanDisk (state S.Store conn.new) → IfErr result (IsOpeningFault node.now (state S.Store conn.old).committed) }
+    ensures crash { HasCleanDisk (state S.Store conn.new) → (db : Trees) → (state S.Store conn.new).may_leave db
+        → (db ≡ (state S.Store conn.old).committed.trees) ⊎ (IsNew (state S.Store conn.old).committed × IsFresh node.now db) }
+{
+    match look(conn) {
+        Tables::None => start(conn, node),
+        Tables::Store => resume(conn, node),
+        Tables::Others => Err(StoreFault::Damaged(0)),
+    }
 }

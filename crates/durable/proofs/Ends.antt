@@ -1,5 +1,5 @@
 -- The first row of the records by their places, in either direction, has the least place or the greatest.
-use Rattle.std.proofs.Common.{◌≡◌, ℕ, zero, suc, ℤ, pos, ◌<ℤ◌, ◌<◌, ◌+◌, List, [], ◌∷◌, map, flat_map, take, length, slice_get, slice_index_or, Bool, true, false, Option, Some, None, refl, sym, ap, subst, ◌∙◌, arith}
+use Rattle.std.proofs.Common.{◌≡◌, ℕ, suc, ℤ, ◌<ℤ◌, ◌+◌, List, [], ◌∷◌, map, flat_map, take, length, slice_get, slice_index_or, Bool, true, false, Option, Some, None, refl, sym, ap, subst, ◌∙◌, arith}
 use Rattle.std.specs.Prelude.{All}
 use Rattle.std.specs.List.{AllByRecursion, Contains}
 use Rattle.std.specs.List.Sorted.{IsPermutation, IsSorted}
@@ -13,14 +13,13 @@ use Rattle.std.proofs.lemmas.List.Elements.{All-from_recursion, recursion_from_A
 use Rattle.sqlite_value.proofs.OrderLemmas.{value_cmp-Int}
 use Rattle.sqlite.specs.declared.types.Value.TheVariants.{Null, Int}
 use Rattle.sqlite.specs.Order.{Row, column, value_cmp}
-use Rattle.sqlite.specs.Term.{Term, Env, eval_all}
 use Rattle.sqlite.specs.Query.{IsAnswer, Output, output, output_cmp}
 use Rattle.sqlite.specs.Program.{overlay}
 use Rattle.sqlite.specs.Effect.{Database, Reads}
 use Rattle.sqlite_rules.specs.Edit.{id_in}
 use Rattle.durable.specs.Opening.{IsEntry, places_in, comes_before, IsEnd}
 use Rattle.durable.specs.Shown.{IsPlaceIn}
-use Rattle.durable.proofs.OpeningTexts.{whole, first_row, shows}
+use Rattle.durable.proofs.OpeningTexts.{first_row, shows}
 
 pub envs : (rows : List Row) → flat_map (λ (r : Row). ([] ∷ r ∷ []) ∷ []) rows ≡ map (λ (r : Row). [] ∷ r ∷ []) rows
 envs [] = refl

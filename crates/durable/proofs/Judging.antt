@@ -1,18 +1,17 @@
 -- What an owner's row and the least place tell of both tables.
-use Rattle.std.proofs.Common.{◌≡◌, ◌⊎◌, inl, inr, ℕ, zero, suc, ℤ, pos, negsuc, ◌<ℤ◌, ◌≤◌, ◌<◌, ◌+◌, List, [], ◌∷◌, map, length, slice_get, slice_index_or, Bool, true, false, Option, Some, None, Result, Ok, Err, refl, sym, ap, subst, ◌∙◌, arith}
-use Rattle.std.specs.Prelude.{All, Any, ⊤}
-use Rattle.std.specs.List.{AllByRecursion, Contains}
+use Rattle.std.proofs.Common.{◌≡◌, ◌⊎◌, inl, inr, ℕ, zero, suc, ℤ, pos, negsuc, ◌<ℤ◌, ◌≤◌, ◌<◌, ◌+◌, List, [], ◌∷◌, map, length, slice_get, slice_index_or, false, Option, Some, None, refl, sym, ap, subst, ◌∙◌, arith}
+use Rattle.std.specs.Prelude.{Any}
+use Rattle.std.specs.List.{AllByRecursion}
 use Rattle.std.specs.List.Sorted.{IsPermutation}
 use Rattle.std.proofs.lemmas.List.Sorted.{IsPermutation-map, length_permutation}
-use Rattle.std.proofs.lemmas.List.Elements.{All-from_recursion, recursion_from_All}
+use Rattle.std.proofs.lemmas.List.Elements.{recursion_from_All}
 use Rattle.std.specs.declared.cmp.Ordering.TheVariants.{Less}
 use Rattle.std.specs.Cmp.{int_ranks}
-use Rattle.std.specs.Ordering.{int_cmp, MatchOrdering}
+use Rattle.std.specs.Ordering.{MatchOrdering}
 use Rattle.std.proofs.lemmas.Int.{ints}
 use Rattle.sqlite_value.proofs.OrderLemmas.{value_cmp-Int}
 use Rattle.sqlite.specs.declared.types.Value.TheVariants.{Null, Int, Text as Words}
-use Rattle.sqlite.specs.Order.{Row, column, bytes, value_cmp}
-use Rattle.sqlite.specs.Tree.{Trees}
+use Rattle.sqlite.specs.Order.{Row, column, value_cmp}
 use Rattle.sqlite_trees.specs.Tree.{IsTable, rowid}
 use Rattle.sqlite_rules.specs.Edit.{id_in}
 use Rattle.std.proofs.lemmas.Bool.{cases_lt}
@@ -20,18 +19,14 @@ use Rattle.sqlite.specs.Query.{IsAnswer, Output, output}
 use Rattle.sqlite.specs.Program.{overlay}
 use Rattle.sqlite.specs.Effect.{Database, Reads}
 use Rattle.sqlite.proofs.Callers.{one_permutation}
-use Rattle.durable.specs.declared.fault.StoreFault.{StoreFault}
-use Rattle.durable.specs.declared.fault.StoreFault.TheVariants.{Damaged, WrongNode, WrongVersion}
 use Rattle.durable.specs.declared.shown.Owner.{Owner}
 use Rattle.durable.specs.declared.shown.Owner.TheVariants.{Nobody, OtherFormat, OtherNode, Asker}
-use Rattle.durable.specs.Tables.{store_schema, about, entry}
-use Rattle.durable.specs.Slots.{place_of, body_of, slots_from, AreEntries}
-use Rattle.durable.specs.Held.{node_in, slots_in, IsStore}
+use Rattle.durable.specs.Tables.{store_schema}
+use Rattle.durable.specs.Slots.{place_of, body_of, AreEntries}
 use Rattle.durable.specs.Shown.{IsOwnerIn}
-use Rattle.durable.specs.Opening.{owned, IsEntry, HoldsRows, HasRows, IsEnd, places_in, IsNoStore, HasOtherFormat, HasOtherNode, HasNegativePlace, IsOwner, IsOpeningFault, IsVerdict, IsEmpty, IsNegative}
-use Rattle.durable.proofs.Places.{length-slots}
+use Rattle.durable.specs.Opening.{owned, IsEntry, HasRows, IsEnd, places_in, IsNoStore, HasNegativePlace, IsOwner, IsNegative}
 use Rattle.durable.proofs.Ends.{envs}
-use Rattle.durable.proofs.OpeningTexts.{whole, shows, owner_query}
+use Rattle.durable.proofs.OpeningTexts.{shows, owner_query}
 
 abbrev shown : Row → Row
 shown row = column row 2 ∷ column row 3 ∷ []

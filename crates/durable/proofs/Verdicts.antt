@@ -1,17 +1,14 @@
 -- What an opening answers, by whose the file is and by its least and greatest places.
-use Rattle.std.proofs.Common.{◌≡◌, ◌⊎◌, inl, inr, ℕ, zero, suc, ℤ, pos, negsuc, ◌<ℤ◌, ◌≤◌, ◌<◌, ◌+◌, ◌-◌, List, [], ◌∷◌, length, slice_index_or, Bool, true, false, Option, Some, None, Ok, Err, refl, sym, ap, subst, ◌∙◌, arith}
-use Rattle.std.specs.Prelude.{All}
+use Rattle.std.proofs.Common.{◌≡◌, inl, inr, ℕ, zero, suc, ℤ, pos, ◌<ℤ◌, ◌<◌, ◌+◌, List, [], ◌∷◌, length, slice_index_or, true, false, Option, Some, None, Ok, Err, refl, sym, ap, subst, ◌∙◌, arith}
 use Rattle.std.specs.List.{AllByRecursion}
 use Rattle.std.proofs.lemmas.Int.{ints}
 use Rattle.std.proofs.lemmas.List.Elements.{recursion_from_All}
-use Rattle.sqlite.specs.Order.{Row, column, bytes}
+use Rattle.sqlite.specs.Order.{Row, column}
 use Rattle.sqlite.specs.Effect.{Database}
 use Rattle.sqlite_rules.specs.Edit.{id_in}
 use Rattle.durable.specs.declared.fault.StoreFault.TheVariants.{Damaged, WrongNode, WrongVersion}
 use Rattle.durable.specs.declared.shown.Owner.TheVariants.{Nobody, OtherFormat, OtherNode, Asker}
-use Rattle.durable.specs.Tables.{about}
 use Rattle.durable.specs.Slots.{place_of, slots_from, AreEntries}
-use Rattle.durable.specs.Held.{node_in, slots_in, IsStore}
 use Rattle.durable.specs.Opening.{HasRows, IsEnd, places_in, IsOwner, IsVerdict, IsNegative}
 use Rattle.durable.proofs.Places.{length-slots}
 use Rattle.durable.proofs.Inserting.{store-of}
@@ -51,8 +48,8 @@ counted from row [] z zero are low is all =
 counted from row [] z (suc k) are low is all = absurd (omega (arith, low))
 counted from row (next ∷ rows) z zero are low is all =
     absurd (let here : z ≡ pos (place_of row) = sym is ∙ place_is row from (next ∷ rows) are in
-      let there = place_is next (place_of row + 1) rows are.2 in
-      all.1.0 (subst (λ n. z <ℤ n) (sym there) (subst (λ n. n <ℤ pos (place_of next)) (sym here) (omega (arith, ints, are.2.0)))))
+    let there = place_is next (place_of row + 1) rows are.2 in
+    all.1.0 (subst (λ n. z <ℤ n) (sym there) (subst (λ n. n <ℤ pos (place_of next)) (sym here) (omega (arith, ints, are.2.0)))))
 counted from row (next ∷ rows) z (suc k) are low is all =
     let rest = counted (place_of row + 1) next rows z k are.2 (omega (arith, low)) is all.1 in
     let count = length-slots from row (next ∷ rows) in

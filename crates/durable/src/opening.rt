@@ -1,5 +1,5 @@
 //! Opening: a file that has no row yet is made a store, and of any other it is found whether it is one.
-ghost use Rattle.std.specs.Prelude.{◌≡◌, ◌⊎◌, ℕ, ◌+◌, List, [], length, IsTrue, OnOk, IfOk, IfErr, true, false};
+ghost use Rattle.std.specs.Prelude.{◌≡◌, ◌⊎◌, ℕ, ◌+◌, pos, List, [], length, IsTrue, OnOk, IfOk, IfErr, true, false};
 ghost use Rattle.sqlite.specs.Effect.{Database};
 ghost use Rattle.sqlite.specs.Given.{IsPlain};
 ghost use Rattle.sqlite.specs.Listing.{understood};
@@ -21,8 +21,7 @@ use sqlite::{Alter, Connection, Error as SqlError, Row, Transaction};
 /// An open connection's store is whole: no statement left a part of itself.
 fn is_whole<S: Alter>(conn: &Connection<S>)
     ensures whole { IsTrue (state S.Store conn.now).is_open → (S.Store.view conn.now.store).is_broken ≡ false }
-{
-}
+{}
 
 /// Which tables the database has, and which rows they can hold.
 fn look<S: Alter>(conn: &Connection<S>) -> Tables
@@ -206,6 +205,13 @@ fn examine<S: Alter>(conn: &mut Connection<S>, node: &str) -> Result<bool, Store
     verdict(owner, least)
 }
 
+/// The place behind this one, which is not below 0.
+fn behind(place: i64) -> u64
+    ensures { (n : ℕ) → place ≡ pos n → result ≡ n + 1 }
+{
+    place.unsigned_abs() + 1
+}
+
 /// How many places the content of a store has.
 fn count<S: Alter>(conn: &mut Connection<S>) -> Result<u64, StoreFault>
     requires opened { HasCleanDisk (state S.Store conn.old) → IsOpened (state S.Store conn.old) × HasRows (state S.Store conn.old).committed }
@@ -218,7 +224,7 @@ fn count<S: Alter>(conn: &mut Connection<S>) -> Result<u64, StoreFault>
     ensures named { IfErr result (λ e. (e ≡ StoreFault.NoMemory) ⊎ IsTrue (is_device_fault e)) }
 {
     match greatest_place(conn)? {
-        Some(place) => Ok(place.unsigned_abs() + 1),
+        Some(place) => Ok(behind(place)),
         None => Ok(0),
     }
 }

@@ -1,4 +1,4 @@
-use Rattle.std.proofs.Common.{subst, sym}
+use Rattle.std.proofs.Common.{subst}
 use Rattle.sqlite.specs.Held.{state}
 use Rattle.durable.specs.Shown.{IsOwnerIn}
 use Rattle.durable.proofs.OpeningTexts.{owner_plain}

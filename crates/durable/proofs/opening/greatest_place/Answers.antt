@@ -1,4 +1,4 @@
-use Rattle.std.proofs.Common.{IfOk, true, false, subst}
+use Rattle.std.proofs.Common.{IfOk, true, subst}
 use Rattle.std.proofs.lemmas.Result.{IfOk-weaker}
 use Rattle.sqlite.specs.Held.{state}
 use Rattle.durable.specs.Shown.{IsPlaceIn}

@@ -1,4 +1,4 @@
-use Rattle.std.proofs.Common.{◌≡◌, subst, sym, rules}
+use Rattle.std.proofs.Common.{◌≡◌, subst, rules}
 use Rattle.durable.specs.declared.shown.Owner.TheVariants.{OtherFormat, OtherNode, Asker}
 use Rattle.durable.specs.Opening.{IsOwner, IsNegative}
 use Rattle.durable.proofs.Verdicts.{below_zero, other_format, other_node, a_store}

@@ -1,5 +1,5 @@
 -- The first row of the records by their places, in either direction, has the least place or the greatest.
-use Rattle.std.proofs.Common.{◌≡◌, ℕ, suc, ℤ, ◌<ℤ◌, ◌+◌, List, [], ◌∷◌, map, flat_map, take, length, slice_get, slice_index_or, Bool, true, false, Option, Some, None, refl, sym, ap, subst, ◌∙◌, arith}
+use Rattle.std.proofs.Common.{◌≡◌, ℕ, suc, ℤ, ◌<ℤ◌, ◌+◌, List, [], ◌∷◌, map, flat_map, take, slice_get, slice_index_or, Bool, true, false, Option, Some, None, refl, sym, ap, subst, ◌∙◌, arith}
 use Rattle.std.specs.Prelude.{All}
 use Rattle.std.specs.List.{AllByRecursion, Contains}
 use Rattle.std.specs.List.Sorted.{IsPermutation, IsSorted}
@@ -8,6 +8,7 @@ use Rattle.std.specs.declared.cmp.Ordering.{Ordering}
 use Rattle.std.specs.declared.cmp.Ordering.TheVariants.{Less, Equal}
 use Rattle.std.specs.Cmp.{int_cmp_is}
 use Rattle.std.proofs.lemmas.Int.{ints}
+use Rattle.std.proofs.lemmas.List.{nil_from_length, length-map}
 use Rattle.std.proofs.lemmas.List.Sorted.{IsPermutation-map, IsPermutation-sym, All-permutation, Contains-permutation, length_permutation}
 use Rattle.std.proofs.lemmas.List.Elements.{All-from_recursion, recursion_from_All, All-map}
 use Rattle.sqlite_value.proofs.OrderLemmas.{value_cmp-Int}
@@ -103,13 +104,9 @@ outs : (rows : List Row) → AllByRecursion IsEntry rows → AllByRecursion IsOu
 outs [] h = tt
 outs (row ∷ rows) h = ((h.0.0, ap out_of h.0.2), outs rows h.1)
 
-none_of : (rows : List Row) → length (map out_of rows) ≡ 0 → rows ≡ []
-none_of [] e = refl
-none_of (row ∷ rows) e = absurd (omega (arith, e))
-
 at_end : (descending : Bool) (entries : List Row) (ordered : List Output) (rows : List Row) (found : Option ℤ) → AllByRecursion IsEntry entries → IsPermutation (map out_of entries) ordered
     → IsSorted (output_cmp (first_row 1 descending)) ordered → rows ≡ take 1 (map (λ (o : Output). o.1) ordered) → IsPlaceIn rows found → IsEnd descending entries found
-at_end descending entries [] rows None are same sorted shown found = none_of entries (sym (length_permutation (map out_of entries) [] same))
+at_end descending entries [] rows None are same sorted shown found = nil_from_length entries (sym (length_permutation (map out_of entries) [] same ∙ length-map entries out_of))
 at_end descending entries [] rows (Some place) are same sorted shown found = absurd (let never = rw shown at found.1 in cc)
 at_end descending entries (o ∷ more) rows None are same sorted shown found = absurd (let never : o.1 ∷ [] ≡ [] = sym shown ∙ found in cc)
 at_end descending entries (o ∷ more) rows (Some place) are same sorted shown found =

@@ -3,6 +3,7 @@ use Rattle.std.proofs.Common.{◌≡◌, ◌⊎◌, inl, inr, ℕ, zero, suc, �
 use Rattle.std.specs.Prelude.{Any}
 use Rattle.std.specs.List.{AllByRecursion}
 use Rattle.std.specs.List.Sorted.{IsPermutation}
+use Rattle.std.proofs.lemmas.List.{nil_from_length}
 use Rattle.std.proofs.lemmas.List.Sorted.{IsPermutation-map, length_permutation}
 use Rattle.std.proofs.lemmas.List.Elements.{recursion_from_All}
 use Rattle.std.specs.declared.cmp.Ordering.TheVariants.{Less}
@@ -43,13 +44,9 @@ permutes names db rows h =
     let from = ap (map (λ (o : Output). o.1)) kept ∙ shows_all (db.trees 0) in
     subst (IsPermutation (map shown (db.trees 0))) (sym a.shown) (subst (λ xs. IsPermutation xs (map (λ (o : Output). o.1) a.ordered)) from moved)
 
-no_rows : (rows : List Row) → length rows ≡ 0 → rows ≡ []
-no_rows [] e = refl
-no_rows (row ∷ rows) e = absurd (omega (arith, e))
-
 shown_or_none : (db rows : List Row) → IsPermutation (map shown db) rows → (db ≡ []) ⊎ ((format : ℤ) × (node : List ℕ) × (db ≡ owned format node ∷ []))
     → ((db ≡ []) × (rows ≡ [])) ⊎ ((format : ℤ) × (node : List ℕ) × (db ≡ owned format node ∷ []) × (rows ≡ (Int format ∷ Words node ∷ []) ∷ []))
-shown_or_none db rows same (inl none) = inl (none, no_rows rows (length_permutation [] rows (subst (λ xs. IsPermutation (map shown xs) rows) none same)))
+shown_or_none db rows same (inl none) = inl (none, nil_from_length rows (length_permutation [] rows (subst (λ xs. IsPermutation (map shown xs) rows) none same)))
 shown_or_none db rows same (inr it) =
     inr (it.0, it.1, it.2, one_permutation (Int it.0 ∷ Words it.1 ∷ []) rows (subst (λ xs. IsPermutation (map shown xs) rows) it.2 same))
 

@@ -1,5 +1,5 @@
 -- What the calls of an opening leave of a connection.
-use Rattle.std.proofs.Common.{◌≡◌, ◌⊎◌, inl, inr, ℕ, ℤ, List, [], ◌∷◌, codes, true, false, Option, None, Ok, sym, ap, subst, ◌∙◌}
+use Rattle.std.proofs.Common.{◌≡◌, inl, inr, ℕ, ℤ, List, [], ◌∷◌, codes, true, false, Option, None, Ok, sym, ap, subst, ◌∙◌}
 use Rattle.sqlite.specs.declared.types.Value.TheVariants.{Text}
 use Rattle.sqlite.specs.Order.{Row}
 use Rattle.sqlite.specs.Tree.{Trees}
@@ -11,7 +11,7 @@ use Rattle.sqlite.specs.Listing.{understood}
 use Rattle.sqlite.specs.State.{State, HasCleanDisk, Survives, Executes, ExecutesInside, IsUnchanged, Shown, CommitsShowing}
 use Rattle.sqlite.proofs.Callers.{IsPlain, runs_as, reads_as, statement_of, never_commits}
 use Rattle.durable.specs.Tables.{store_schema, no_schema}
-use Rattle.durable.specs.Opening.{about_schema, IsOpened, IsWithin, IsBare, HasAbout, IsEmpty, IsFresh, HasFresh, HasRows, IsOwner, IsEnd}
+use Rattle.durable.specs.Opening.{about_schema, IsOpened, IsWithin, IsBare, HasAbout, IsEmpty, HasFresh, HasRows, IsOwner, IsEnd}
 use Rattle.durable.specs.Shown.{IsOwnerIn, IsPlaceIn}
 use Rattle.durable.specs.declared.shown.Owner.{Owner}
 use Rattle.durable.proofs.Texts.{about_text, entries_text}
@@ -39,14 +39,6 @@ owner_ok old new node params count is was h =
     let ran : Executes own_text (Text node ∷ []) old new (Ok count) = subst (λ p. Executes own_text p old new (Ok count)) is h.0 in
     let w = runs_as own_text (Text node ∷ []) old new store_schema was.holds.0 (Insert 0 (Values own_terms 4)) own_is own_plain count ran in
     record { is_open = h.1.is_open; inside = h.1.mode; holds = owner_made old.step_limit (statement_of own_text (understood store_schema own_text)) node old.now new.now w.tally was.holds w.changed }
-
--- a crash leaves what was committed, or what the call commits
-pub left_or_made : (old new : State) (node : List ℕ) (made : Trees) → ((db : Trees) → old.may_leave db → db ≡ old.committed.trees) → IsFresh node made
-    → Survives old new (λ db. db ≡ made) → HasCleanDisk new → (db : Trees) → new.may_leave db → (db ≡ old.committed.trees) ⊎ IsFresh node db
-left_or_made old new node made only fresh survives clean db left = elim (survives.crash clean db left) [
-  | inl was ↦ inl (only db was)
-  | inr is ↦ inr (subst (IsFresh node) (sym is) fresh)
-]
 
 now_schema : (old : State) → IsOpened old → old.committed.schema ≡ store_schema → old.now.schema ≡ store_schema
 now_schema old opened has = ap (λ (d : Database). d.schema) opened.settled ∙ has

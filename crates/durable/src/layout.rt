@@ -12,19 +12,23 @@ use sqlite_sql::ops::{BinaryOp, CompareOp};
 use sqlite_value::keys::Collation;
 
 /// The tables of a database.
-#[derive(Clone, Copy, Debug, PartialEq, Eq)]
+#[derive(Clone, Copy)]
 pub(crate) enum Tables {
+    /// No table at all.
     None,
+    /// The two of a store, and no index or view.
     Store,
     Others,
 }
 
+/// Whether the value is NULL.
 fn is_null(value: &Value) -> bool
     ensures { IsTrue result ↔ (value.now ≡ Value.Null) }
 {
     matches!(value, Value::Null)
 }
 
+/// Whether it is the column of that name and type in a STRICT table, with no default.
 fn is_column(column: &Column, name: &[u8], kind: Kind, not_null: bool) -> bool
     ensures { IsTrue result ↔ (column.now ≡ plain_column name.now kind not_null) }
 {
@@ -36,6 +40,7 @@ fn is_column(column: &Column, name: &[u8], kind: Kind, not_null: bool) -> bool
         && column.collation == Collation::Binary
 }
 
+/// Whether no default reads the time.
 fn has_no_stamps(stamps: &Stamps) -> bool
     ensures { IsTrue result ↔ (stamps.now ≡ record { places = []; terms = []; formats = [] }) }
 {
@@ -62,25 +67,28 @@ fn is_free(table: &Table) -> bool
         && !table.is_counted
 }
 
-/// But for its columns and checks.
+/// Whether it is the table of that name and tree with no other key and no reference, whatever its columns and checks.
 fn is_plain_table(table: &Table, name: &[u8], tree: u32) -> bool
     ensures { IsTrue result ↔ (table.now ≡ plain_table name.now tree table.now.columns table.now.checks) }
 {
     table.name.as_slice() == name && table.tree == tree && has_plain_key(table) && is_free(table)
 }
 
+/// Whether it reads the first column of the row.
 fn is_id(op: &Op) -> bool
     ensures { IsTrue result ↔ (op.now ≡ Op.Column 1 0) }
 {
     matches!(op, Op::Column(1, 0))
 }
 
+/// Whether it is the number 1.
 fn is_one(op: &Op) -> bool
     ensures { IsTrue result ↔ (op.now ≡ Op.Literal (Value.Int (pos 1))) }
 {
     matches!(op, Op::Literal(Value::Int(1)))
 }
 
+/// Whether they are the columns of the table `about`.
 fn are_about_columns(columns: &[Column]) -> bool
     ensures { IsTrue result ↔ (columns.now ≡ about_table.columns) }
 {
@@ -92,6 +100,7 @@ fn are_about_columns(columns: &[Column]) -> bool
         && is_column(node, b"node", Kind::Text, true)
 }
 
+/// Whether they are the columns of the table `entries`.
 fn are_entry_columns(columns: &[Column]) -> bool
     ensures { IsTrue result ↔ (columns.now ≡ entries_table.columns) }
 {
@@ -101,6 +110,7 @@ fn are_entry_columns(columns: &[Column]) -> bool
     is_column(place, b"place", Kind::Integer, false) && is_column(body, b"body", Kind::Text, true)
 }
 
+/// Whether the expression at the place reads the first column of the row.
 fn is_id_at(ops: &[Op], at: usize) -> bool
     ensures { IsTrue result ↔ (slice_index_or ops.now at (Op.Literal Value.Null) ≡ Op.Column 1 0) }
 {
@@ -110,6 +120,7 @@ fn is_id_at(ops: &[Op], at: usize) -> bool
     }
 }
 
+/// Whether the expression at the place is the number 1.
 fn is_one_at(ops: &[Op], at: usize) -> bool
     ensures { IsTrue result ↔ (slice_index_or ops.now at (Op.Literal Value.Null) ≡ Op.Literal (Value.Int (pos 1))) }
 {
@@ -119,6 +130,7 @@ fn is_one_at(ops: &[Op], at: usize) -> bool
     }
 }
 
+/// Whether it compares by `=`, with no collation.
 fn is_equality(op: &BinaryOp) -> bool
     ensures { IsTrue result ↔ (op.now ≡ BinaryOp.Compare CompareOp.Eq Collation.Binary) }
 {
@@ -145,6 +157,7 @@ fn is_first_at(ops: &[Op], root: usize) -> bool
     compares_id(ops, op, *left, *right)
 }
 
+/// Whether the only check is `id = 1`.
 fn are_about_checks(checks: &Terms) -> bool
     ensures { IsTrue result ↔ (checks.now ≡ is_first ∷ []) }
 {
@@ -154,6 +167,7 @@ fn are_about_checks(checks: &Terms) -> bool
     is_first_at(checks.nodes.as_slice(), *root)
 }
 
+/// Whether it is the table `about`.
 fn is_about(table: &Table) -> bool
     ensures { IsTrue result ↔ (table.now ≡ about_table) }
 {
@@ -162,6 +176,7 @@ fn is_about(table: &Table) -> bool
         && are_about_checks(&table.checks)
 }
 
+/// Whether it is the table `entries`.
 fn is_entries(table: &Table) -> bool
     ensures { IsTrue result ↔ (table.now ≡ entries_table) }
 {
@@ -170,12 +185,14 @@ fn is_entries(table: &Table) -> bool
         && has_no_terms(&table.checks)
 }
 
+/// Whether there is no expression.
 fn has_no_terms(terms: &Terms) -> bool
     ensures { IsTrue result ↔ (terms.now ≡ []) }
 {
     terms.roots.is_empty()
 }
 
+/// Whether there is no index and no view.
 fn has_tables_alone(schema: &Schema) -> bool
     ensures { IsTrue result ↔ ((schema.now.indexes ≡ []) × (schema.now.views ≡ [])) }
 {

@@ -32,6 +32,7 @@ fn look<S: Alter>(conn: &Connection<S>) -> Tables
     tables_of(conn.schema())
 }
 
+/// Makes the table of the owner.
 fn create_about<S: Alter>(tx: &mut Transaction<'_, S>) -> Result<(), SqlError>
     requires inside { HasCleanDisk (state S.Store tx.old.conn.now) → IsWithin (state S.Store tx.old.conn.now) IsBare }
     ensures same_reference { tx.new.conn.ghost_name ≡ tx.old.conn.ghost_name }
@@ -45,6 +46,7 @@ fn create_about<S: Alter>(tx: &mut Transaction<'_, S>) -> Result<(), SqlError>
     Ok(())
 }
 
+/// Makes the table of the records.
 fn create_entries<S: Alter>(tx: &mut Transaction<'_, S>) -> Result<(), SqlError>
     requires inside { HasCleanDisk (state S.Store tx.old.conn.now) → IsWithin (state S.Store tx.old.conn.now) HasAbout }
     ensures same_reference { tx.new.conn.ghost_name ≡ tx.old.conn.ghost_name }
@@ -58,6 +60,7 @@ fn create_entries<S: Alter>(tx: &mut Transaction<'_, S>) -> Result<(), SqlError>
     Ok(())
 }
 
+/// Puts the owner's row.
 fn put_owner<S: Alter>(tx: &mut Transaction<'_, S>, node: &str) -> Result<(), SqlError>
     requires inside { HasCleanDisk (state S.Store tx.old.conn.now) → IsWithin (state S.Store tx.old.conn.now) IsEmpty }
     ensures same_reference { tx.new.conn.ghost_name ≡ tx.old.conn.ghost_name }
@@ -165,6 +168,7 @@ fn greatest_place<S: Alter>(conn: &mut Connection<S>) -> Result<Option<i64>, Sto
     place_in(&rows)
 }
 
+/// Whether there is a place, and it is below 0.
 fn is_negative(place: Option<i64>) -> bool
     ensures some { IsTrue result → IsNegative place }
     ensures none { IsNegative place → IsTrue result }

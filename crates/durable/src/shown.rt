@@ -10,20 +10,24 @@ use sqlite::Row;
 use sqlite::types::ValueRef;
 
 /// Whose the file is, where one node asks.
-#[derive(Clone, Copy, Debug, PartialEq, Eq)]
+#[derive(Clone, Copy)]
 pub(crate) enum Owner {
+    /// There is no owner's row.
     Nobody,
     OtherFormat,
+    /// The format is right, and the node another.
     OtherNode,
     Asker,
 }
 
+/// Whether the format is 1.
 fn has_format(row: &Row) -> bool
     ensures { IsTrue result ↔ (column row.now 0 ≡ Int (pos 1)) }
 {
     matches!(row.get_ref(0), Ok(ValueRef::Int(1)))
 }
 
+/// Whether the node is this one.
 fn has_node(row: &Row, node: &str) -> bool
     ensures { IsTrue result ↔ (column row.now 1 ≡ Words node.now) }
 {

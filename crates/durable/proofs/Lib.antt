@@ -1,6 +1,13 @@
 pub mod Texts
+pub mod OpeningTexts
+pub mod Checks
+pub mod Found
 pub mod Places
 pub mod Inserting
+pub mod Ends
+pub mod Judging
+pub mod Making
+pub mod Verdicts
 pub mod Steps
 pub mod PageTexts
 pub mod InOrder
@@ -10,3 +17,4 @@ pub mod Queries
 pub mod Reopening
 pub mod Fronts
 pub mod PlacesRead
+pub mod Opened

@@ -23,7 +23,7 @@ none-missing : (m n : ℕ) → m ≤ n → n ≤ m → missing (m - n) ≡ []
 none-missing m n up down = let same : m - n ≡ 0 = omega arith in ap missing same
 
 -- how many places there are up to the last row's
-length-slots : (from : ℕ) (row : Row) (rows : List Row) → length (slots_from from (row ∷ rows)) ≡ (place_of row - from) + (1 + length (slots_from (place_of row + 1) rows))
+pub length-slots : (from : ℕ) (row : Row) (rows : List Row) → length (slots_from from (row ∷ rows)) ≡ (place_of row - from) + (1 + length (slots_from (place_of row + 1) rows))
 length-slots from row rows =
     let a = length-append (missing (place_of row - from)) (Some (body_of row) ∷ slots_from (place_of row + 1) rows) in
     let b = length-missing (place_of row - from) in

@@ -8,3 +8,6 @@ pub mod Bodies
 pub mod Backing
 pub mod Memories
 pub mod Connected
+pub mod Layout
+pub mod Shown
+pub mod Opening

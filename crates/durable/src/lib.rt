@@ -11,6 +11,9 @@ mod reading;
 mod records;
 #[cfg(test)]
 mod tests;
+mod layout;
+mod opening;
+mod shown;
 
 pub use fault::StoreFault;
 pub use memory_store::{Kept, MemoryStore};

@@ -1,0 +1,77 @@
+-- What the calls of an opening leave of a connection.
+use Rattle.std.proofs.Common.{◌≡◌, inl, inr, ℕ, ℤ, List, [], ◌∷◌, codes, true, false, Option, None, Ok, sym, ap, subst, ◌∙◌}
+use Rattle.sqlite.specs.declared.types.Value.TheVariants.{Text}
+use Rattle.sqlite.specs.Order.{Row}
+use Rattle.sqlite.specs.Tree.{Trees}
+use Rattle.sqlite.specs.Source.TheVariants.{Values}
+use Rattle.sqlite.specs.Command.TheVariants.{Insert, CreateTable}
+use Rattle.sqlite.specs.Does.{Does}
+use Rattle.sqlite.specs.Effect.{Database, Reads}
+use Rattle.sqlite.specs.Listing.{understood}
+use Rattle.sqlite.specs.State.{State, HasCleanDisk, Survives, Executes, ExecutesInside, IsUnchanged, Shown, CommitsShowing}
+use Rattle.sqlite.proofs.Callers.{IsPlain, runs_as, reads_as, statement_of, never_commits}
+use Rattle.durable.specs.Tables.{store_schema, no_schema}
+use Rattle.durable.specs.Opening.{about_schema, IsOpened, IsWithin, IsBare, HasAbout, IsEmpty, HasFresh, HasRows, IsOwner, IsEnd}
+use Rattle.durable.specs.Shown.{IsOwnerIn, IsPlaceIn}
+use Rattle.durable.specs.declared.shown.Owner.{Owner}
+use Rattle.durable.proofs.Texts.{about_text, entries_text}
+use Rattle.durable.proofs.OpeningTexts.{about_command, about_plain, entries_command, entries_plain, own_text, own_terms, own_is, own_plain, shows, owner_query, first_row, owner_text, owner_is, owner_plain, least_text, least_is, least_plain, greatest_text, greatest_is, greatest_plain}
+use Rattle.durable.proofs.Steps.{shown_unchanged}
+use Rattle.durable.proofs.Judging.{owner_told}
+use Rattle.durable.proofs.Ends.{by_place, ended}
+use Rattle.durable.proofs.Inserting.{enforced}
+use Rattle.durable.proofs.Making.{about_made, entries_made, owner_made}
+
+pub about_ok : (old new : State) (count : ℕ) → IsWithin old IsBare → ExecutesInside 0 about_text [] old new (Ok count) → IsWithin new HasAbout
+about_ok old new count was h =
+    let w = runs_as about_text [] old new no_schema was.holds CreateTable about_command.0 about_plain count h.0 in
+    let does = subst (λ t. Does old.step_limit enforced [] old.now t None CreateTable (Ok (w.tally, new.now))) about_command.1 w.changed in
+    record { is_open = h.1.is_open; inside = h.1.mode; holds = about_made old.step_limit old.now new.now w.tally was.holds does }
+
+pub entries_ok : (old new : State) (count : ℕ) → IsWithin old HasAbout → ExecutesInside 0 entries_text [] old new (Ok count) → IsWithin new IsEmpty
+entries_ok old new count was h =
+    let w = runs_as entries_text [] old new about_schema was.holds.0 CreateTable entries_command.0 entries_plain count h.0 in
+    let does = subst (λ t. Does old.step_limit enforced [] old.now t None CreateTable (Ok (w.tally, new.now))) entries_command.1 w.changed in
+    record { is_open = h.1.is_open; inside = h.1.mode; holds = entries_made old.step_limit old.now new.now w.tally was.holds does }
+
+pub owner_ok : (old new : State) (node : List ℕ) (params : Row) (count : ℕ) → params ≡ Text node ∷ [] → IsWithin old IsEmpty → ExecutesInside 0 own_text params old new (Ok count) → IsWithin new (HasFresh node)
+owner_ok old new node params count is was h =
+    let ran : Executes own_text (Text node ∷ []) old new (Ok count) = subst (λ p. Executes own_text p old new (Ok count)) is h.0 in
+    let w = runs_as own_text (Text node ∷ []) old new store_schema was.holds.0 (Insert 0 (Values own_terms 4)) own_is own_plain count ran in
+    record { is_open = h.1.is_open; inside = h.1.mode; holds = owner_made old.step_limit (statement_of own_text (understood store_schema own_text)) node old.now new.now w.tally was.holds w.changed }
+
+now_schema : (old : State) → IsOpened old → old.committed.schema ≡ store_schema → old.now.schema ≡ store_schema
+now_schema old opened has = ap (λ (d : Database). d.schema) opened.settled ∙ has
+
+here : (sql : List ℕ) (old : State) → IsOpened old → old.committed.schema ≡ store_schema → IsPlain (understood store_schema sql) → IsPlain (understood old.now.schema sql)
+here sql old opened has plain = subst (λ s. IsPlain (understood s sql)) (sym (now_schema old opened has)) plain
+
+pub asked_same : (sql : List ℕ) (old new : State) (rows : List Row) → IsOpened old → old.committed.schema ≡ store_schema → IsPlain (understood store_schema sql) → Shown sql [] old new rows → IsUnchanged old new
+asked_same sql old new rows opened has plain shown = shown_unchanged sql [] old new rows (here sql old opened has plain) shown
+
+-- a crash within a query leaves what was committed
+pub asked_crash : (sql : List ℕ) (old new : State) → IsOpened old → old.committed.schema ≡ store_schema → IsPlain (understood store_schema sql)
+    → ((db : Trees) → old.may_leave db → db ≡ old.committed.trees) → Survives old new (CommitsShowing sql [] old) → HasCleanDisk new → (db : Trees) → new.may_leave db → db ≡ old.committed.trees
+asked_crash sql old new opened has plain only survives clean db left = elim (survives.crash clean db left) [
+  | inl was ↦ only db was
+  | inr commits ↦ absurd (never_commits sql [] old db (here sql old opened has plain) commits)
+]
+
+pub owner_found : (node : List ℕ) (old new : State) (rows : List Row) (owner : Owner) → IsOpened old → HasRows old.committed → Shown owner_text [] old new rows → IsOwnerIn node rows owner
+    → IsOwner node old.committed owner
+owner_found node old new rows owner opened has shown is =
+    let names = codes "format" ∷ codes "node" ∷ [] in
+    let reads = reads_as owner_text [] old new store_schema (now_schema old opened has.0) (shows owner_query names) owner_is.0 owner_plain owner_is.1 rows shown in
+    owner_told node names old.committed rows owner has (subst (λ db. Reads (shows owner_query names) db [] rows) opened.settled reads) is
+
+pub least_found : (old new : State) (rows : List Row) (found : Option ℤ) → IsOpened old → HasRows old.committed → Shown least_text [] old new rows → IsPlaceIn rows found → IsEnd false (old.committed.trees 1) found
+least_found old new rows found opened has shown is =
+    let names = codes "place" ∷ [] in
+    let reads = reads_as least_text [] old new store_schema (now_schema old opened has.0) (shows (first_row 1 false) names) least_is.0 least_plain least_is.1 rows shown in
+    ended false (old.committed.trees 1) rows found has.1.entries (by_place false names old.committed rows (subst (λ db. Reads (shows (first_row 1 false) names) db [] rows) opened.settled reads)) is
+
+pub greatest_found : (old new : State) (rows : List Row) (found : Option ℤ) → IsOpened old → HasRows old.committed → Shown greatest_text [] old new rows → IsPlaceIn rows found → IsEnd true (old.committed.trees 1) found
+greatest_found old new rows found opened has shown is =
+    let names = codes "place" ∷ [] in
+    let reads = reads_as greatest_text [] old new store_schema (now_schema old opened has.0) (shows (first_row 1 true) names) greatest_is.0 greatest_plain greatest_is.1 rows shown in
+    ended true (old.committed.trees 1) rows found has.1.entries (by_place true names old.committed rows (subst (λ db. Reads (shows (first_row 1 true) names) db [] rows) opened.settled reads)) is

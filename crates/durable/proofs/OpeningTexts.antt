@@ -1,0 +1,102 @@
+-- What the texts of an opening mean: those that make a store under the schemas that they meet, and those that look at one.
+use Rattle.std.proofs.Common.{◌≡◌, ℕ, pos, negsuc, None, List, [], ◌∷◌, Bool, codes, true, false, refl}
+use Rattle.sqlite.specs.declared.types.Value.TheVariants.{Null, Int}
+use Rattle.sqlite.specs.Collation.TheVariants.{Binary}
+use Rattle.sqlite.specs.Query.{Query, inner, end}
+use Rattle.sqlite.specs.Command.{Command}
+use Rattle.sqlite.specs.Term.{Term, lit, col}
+use Rattle.sqlite.specs.Source.TheVariants.{Values}
+use Rattle.sqlite.specs.Command.TheVariants.{Insert, CreateTable, Select}
+use Rattle.sqlite.specs.Listing.{understood, reads_listing}
+use Rattle.sqlite_tied.specs.Compute.{everything}
+use Rattle.sqlite.proofs.Callers.{IsPlain, command_of, statement_of}
+use Rattle.durable.specs.Tables.{store_schema, no_schema}
+use Rattle.durable.specs.Opening.{about_schema}
+use Rattle.durable.proofs.Texts.{about_text, entries_text}
+
+pub about_command : (command_of (understood no_schema about_text) ≡ CreateTable) × (statement_of about_text (understood no_schema about_text) ≡ about_text)
+unfolding understood everything
+about_command = (refl, refl)
+
+pub about_plain : IsPlain (understood no_schema about_text)
+unfolding understood everything
+about_plain = (refl, refl)
+
+pub entries_command : (command_of (understood about_schema entries_text) ≡ CreateTable) × (statement_of entries_text (understood about_schema entries_text) ≡ entries_text)
+unfolding understood everything
+entries_command = (refl, refl)
+
+pub entries_plain : IsPlain (understood about_schema entries_text)
+unfolding understood everything
+entries_plain = (refl, refl)
+
+abbrev pub own_text : List ℕ
+own_text = codes "INSERT INTO about (id, format, node) VALUES (1, 1, ?1)"
+
+abbrev pub own_terms : List Term
+own_terms = lit (Int (pos 1)) ∷ lit Null ∷ lit (Int (pos 1)) ∷ col 0 0 ∷ []
+
+pub own_is : command_of (understood store_schema own_text) ≡ Insert 0 (Values own_terms 4)
+unfolding understood everything
+own_is = refl
+
+pub own_plain : IsPlain (understood store_schema own_text)
+unfolding understood everything
+own_plain = (refl, refl)
+
+-- the whole of a table
+abbrev pub whole : ℕ → List Term → Query
+whole table shown = record {
+  from = inner table end;
+  filter = [];
+  group = None;
+  project = shown;
+  distinct = false;
+  collations = [];
+  order = [];
+  limit = lit (Int (negsuc 0));
+  offset = lit (Int (pos 0));
+}
+
+abbrev pub owner_query : Query
+owner_query = whole 0 (col 1 2 ∷ col 1 3 ∷ [])
+
+-- its first row by the rowid
+abbrev pub first_row : ℕ → Bool → Query
+first_row table descending = record (whole table (col 1 0 ∷ [])) { order = (col 1 0, record { collation = Binary; descending = descending }) ∷ []; limit = lit (Int (pos 1)) }
+
+abbrev pub shows : Query → List (List ℕ) → Command
+shows query names = Select (record { lets = []; body = query }) names
+
+abbrev pub owner_text : List ℕ
+owner_text = codes "SELECT format, node FROM about"
+
+abbrev pub least_text : List ℕ
+least_text = codes "SELECT place FROM entries ORDER BY place LIMIT 1"
+
+abbrev pub greatest_text : List ℕ
+greatest_text = codes "SELECT place FROM entries ORDER BY place DESC LIMIT 1"
+
+pub owner_is : (command_of (understood store_schema owner_text) ≡ shows owner_query (codes "format" ∷ codes "node" ∷ [])) × (reads_listing store_schema owner_text ≡ false)
+unfolding understood everything
+owner_is = (refl, refl)
+
+pub owner_plain : IsPlain (understood store_schema owner_text)
+unfolding understood everything
+owner_plain = (refl, refl)
+
+pub least_is : (command_of (understood store_schema least_text) ≡ shows (first_row 1 false) (codes "place" ∷ [])) × (reads_listing store_schema least_text ≡ false)
+unfolding understood everything
+least_is = (refl, refl)
+
+pub least_plain : IsPlain (understood store_schema least_text)
+unfolding understood everything
+least_plain = (refl, refl)
+
+pub greatest_is : (command_of (understood store_schema greatest_text) ≡ shows (first_row 1 true) (codes "place" ∷ [])) × (reads_listing store_schema greatest_text ≡ false)
+unfolding understood everything
+greatest_is = (refl, refl)
+
+pub greatest_plain : IsPlain (understood store_schema greatest_text)
+unfolding understood everything
+greatest_plain = (refl, refl)

@@ -1,0 +1,154 @@
+-- What an opening finds in a file, and what it makes of a new one.
+use Rattle.std.specs.Prelude.{◌≡◌, ◌⊎◌, ℕ, ℤ, pos, negsuc, Bool, true, false, ◌<ℤ◌, List, [], ◌∷◌, map, Option, Some, None, Result, Ok, Err, OnOk, IfOk, IfErr, length, All, IsTrue, Any}
+use Rattle.std.specs.List.{AllByRecursion, Contains}
+use Rattle.sqlite.specs.declared.types.Value.TheVariants.{Null, Int, Text as Words}
+use Rattle.sqlite.specs.Order.{Row, column}
+use Rattle.sqlite.specs.Tree.{Trees}
+use Rattle.sqlite_trees.specs.Tree.{IsTable}
+use Rattle.sqlite_rules.specs.Edit.{id_in}
+use Rattle.sqlite.specs.Schema.{Schema}
+use Rattle.sqlite.specs.Effect.{Database}
+use Rattle.sqlite.specs.State.{State}
+use Rattle.durable.specs.declared.fault.StoreFault.{StoreFault}
+use Rattle.durable.specs.declared.fault.StoreFault.TheVariants.{Device, Full, Damaged, WrongNode, WrongVersion, Reopen, NoMemory}
+use Rattle.durable.specs.declared.shown.Owner.{Owner}
+use Rattle.durable.specs.declared.shown.Owner.TheVariants.{Nobody, OtherFormat, OtherNode, Asker}
+use Rattle.durable.specs.Tables.{about, about_table, store_schema, no_schema}
+use Rattle.durable.specs.Held.{slots_in, node_in, IsStore, IsReady}
+
+-- open, in no transaction, and nothing is uncommitted
+pub record IsOpened (s : State) : Type 0 where
+  pub is_open : IsTrue s.is_open
+  pub idle : s.in_transaction ≡ false
+  pub settled : s.now ≡ s.committed
+
+-- a transaction is open, and sees this
+pub record IsWithin (s : State) (Holds : Database → Type 0) : Type 0 where
+  pub is_open : IsTrue s.is_open
+  pub inside : IsTrue s.in_transaction
+  pub holds : Holds s.now
+
+-- only the first table is made
+abbrev pub about_schema : Schema
+about_schema = record { tables = about_table ∷ []; indexes = []; views = [] }
+
+-- no table
+abbrev pub IsBare : Database → Type 0
+IsBare db = db.schema ≡ no_schema
+
+-- the table of the owner alone, without a row
+abbrev pub HasAbout : Database → Type 0
+HasAbout db = (db.schema ≡ about_schema) × (db.trees 0 ≡ [])
+
+-- both tables without a row
+abbrev pub IsEmpty : Database → Type 0
+IsEmpty db = (db.schema ≡ store_schema) × (db.trees 0 ≡ []) × (db.trees 1 ≡ [])
+
+-- no table, or both tables without a row
+abbrev pub IsNew : Database → Type 0
+IsNew db = IsBare db ⊎ IsEmpty db
+
+-- a store of that node without a record
+pub record IsFresh (name : List ℕ) (db : Trees) : Type 0 where
+  pub store : IsStore db
+  pub node : node_in db ≡ name
+  pub slots : slots_in db ≡ []
+
+-- the same, with its tables
+abbrev pub HasFresh : List ℕ → Database → Type 0
+HasFresh node db = (db.schema ≡ store_schema) × IsFresh node db.trees
+
+-- it is committed
+abbrev pub IsMade : List ℕ → State → Type 0
+IsMade node s = IsReady s × IsFresh node s.committed.trees
+
+-- the row of the owner, of any format
+abbrev pub owned : ℤ → List ℕ → Row
+owned format node = Int (pos 1) ∷ Null ∷ Int format ∷ Words node ∷ []
+
+-- a record at any place
+abbrev pub IsEntry : Row → Type 0
+IsEntry row = (place : ℤ) × (body : List ℕ) × (row ≡ Int place ∷ Null ∷ Words body ∷ [])
+
+-- the rows that the two tables can hold: one of an owner or none, and records whose places rise
+pub record HoldsRows (db : Trees) : Type 0 where
+  pub owner : (db 0 ≡ []) ⊎ ((format : ℤ) × (node : List ℕ) × (db 0 ≡ owned format node ∷ []))
+  pub entries : AllByRecursion IsEntry (db 1)
+  pub rise : IsTable (db 1)
+
+-- both tables are there, with such rows
+abbrev pub HasRows : Database → Type 0
+HasRows db = (db.schema ≡ store_schema) × HoldsRows db.trees
+
+-- the places of the records
+abbrev pub places_in : List Row → List ℤ
+places_in rows = map (λ row. id_in (column row 0)) rows
+
+abbrev pub comes_before : Bool → ℤ → ℤ → Type 0
+comes_before true m n = n <ℤ m
+comes_before false m n = m <ℤ n
+
+-- the least of the places, or the greatest of them, where there is one
+abbrev pub IsEnd : Bool → List Row → Option ℤ → Type 0
+IsEnd greatest rows None = rows ≡ []
+IsEnd greatest rows (Some place) = Contains (places_in rows) place × All (λ n. comes_before greatest n place → ⊥) (places_in rows)
+
+-- the tables are others
+abbrev pub HasOtherTables : Database → Type 0
+HasOtherTables db = (db.schema ≡ no_schema → ⊥) × (db.schema ≡ store_schema → ⊥)
+
+-- there are records, and nothing says whose
+abbrev pub HasNoOwner : Database → Type 0
+HasNoOwner db = (db.schema ≡ store_schema) × (db.trees 0 ≡ []) × (db.trees 1 ≡ [] → ⊥)
+
+-- a record's place is below 0
+abbrev pub HasNegativePlace : Database → Type 0
+HasNegativePlace db = (db.schema ≡ store_schema) × Any (λ row. (n : ℕ) × (column row 0 ≡ Int (negsuc n))) (db.trees 1)
+
+-- the file is no store
+abbrev pub IsNoStore : Database → Type 0
+IsNoStore db = HasOtherTables db ⊎ (HasNoOwner db ⊎ HasNegativePlace db)
+
+-- the owner's row has another format
+abbrev pub HasOtherFormat : Database → Type 0
+HasOtherFormat db = (db.schema ≡ store_schema) × (row : Row) × (db.trees 0 ≡ row ∷ []) × (column row 2 ≡ Int (pos 1) → ⊥)
+
+-- the owner's row has another node
+abbrev pub HasOtherNode : List ℕ → Database → Type 0
+HasOtherNode node db = (db.schema ≡ store_schema) × (row : Row) × (db.trees 0 ≡ row ∷ []) × (column row 3 ≡ Words node → ⊥)
+
+-- whose the file is
+abbrev pub IsOwner : List ℕ → Database → Owner → Type 0
+IsOwner node db Nobody = db.trees 0 ≡ []
+IsOwner node db OtherFormat = HasOtherFormat db
+IsOwner node db OtherNode = (HasOtherFormat db → ⊥) × HasOtherNode node db
+IsOwner node db Asker = db.trees 0 ≡ about 1 node ∷ []
+
+-- the fault of an opening for that node, by the first of these causes
+abbrev pub IsOpeningFault : List ℕ → Database → StoreFault → Type 0
+IsOpeningFault node db (Damaged place) = (place ≡ 0) × IsNoStore db
+IsOpeningFault node db WrongVersion = (IsNoStore db → ⊥) × HasOtherFormat db
+IsOpeningFault node db WrongNode = (IsNoStore db → ⊥) × (HasOtherFormat db → ⊥) × HasOtherNode node db
+IsOpeningFault node db Device = Unit {0}
+IsOpeningFault node db Full = Unit {0}
+IsOpeningFault node db NoMemory = Unit {0}
+IsOpeningFault node db Reopen = ⊥
+
+-- there is a place, and it is below 0
+abbrev pub IsNegative : Option ℤ → Type 0
+IsNegative None = ⊥
+IsNegative (Some place) = place <ℤ pos 0
+
+-- what is told of both tables: no row (true), or a store of that node (false), or else why not
+abbrev pub IsVerdict : List ℕ → Database → Result Bool StoreFault → Type 0
+IsVerdict node db (Ok true) = IsEmpty db
+IsVerdict node db (Ok false) = IsStore db.trees × (node_in db.trees ≡ node)
+IsVerdict node db (Err fault) = IsOpeningFault node db fault
+
+-- What an opening for that node leaves of a connection to a file that held this: a store of the node or the fault, and over a crash what was there or, of a new file, a store without a record.
+pub record Settles (name : List ℕ) (before : Database) (s : State) (result : Result ℕ StoreFault) : Type 0 where
+  pub ready : OnOk result (IsReady s × (node_in s.committed.trees ≡ name))
+  pub count : IfOk result (λ count. count ≡ length (slots_in s.committed.trees))
+  pub found : OnOk result ((IsNew before × (slots_in s.committed.trees ≡ [])) ⊎ (s.committed ≡ before))
+  pub fault : IfErr result (IsOpeningFault name before)
+  pub crash : (db : Trees) → s.may_leave db → (db ≡ before.trees) ⊎ (IsNew before × IsFresh name db)

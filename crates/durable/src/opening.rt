@@ -1,0 +1,301 @@
+//! Opening: a file that has no row yet is made a store, and of any other it is found whether it is one.
+ghost use Rattle.std.specs.Prelude.{◌≡◌, ◌⊎◌, ℕ, ◌+◌, pos, List, [], length, IsTrue, OnOk, IfOk, IfErr, true, false};
+ghost use Rattle.sqlite.specs.Effect.{Database};
+ghost use Rattle.sqlite.specs.Given.{IsPlain};
+ghost use Rattle.sqlite.specs.Listing.{understood};
+ghost use Rattle.sqlite.specs.State.{HasCleanDisk, IsUnchanged, Shown, Survives};
+ghost use Rattle.durable.specs.Faults.{is_device_fault};
+ghost use Rattle.durable.specs.Held.{slots_in, node_in, IsStore, IsReady};
+ghost use Rattle.sqlite.specs.Held.{state};
+ghost use Rattle.sqlite.specs.Tree.{Trees};
+ghost use Rattle.durable.specs.Tables.{store_schema};
+ghost use Rattle.durable.specs.Layout.{AreTables};
+ghost use Rattle.durable.specs.Opening.{IsOpened, IsWithin, IsBare, HasAbout, IsEmpty, HasFresh, IsMade, HoldsRows, HasRows, IsOwner, IsEnd, IsVerdict, IsNegative, IsNew, IsFresh, IsOpeningFault, Settles};
+
+use crate::fault::{StoreFault, fault_of};
+use crate::layout::{Tables, tables_of};
+use crate::shown::{Owner, owner_in, place_in};
+use sqlite::types::ValueRef;
+use sqlite::{Alter, Connection, Error as SqlError, Row, Transaction};
+
+/// An open connection's store is whole: no statement left a part of itself.
+fn is_whole<S: Alter>(conn: &Connection<S>)
+    ensures whole { IsTrue (state S.Store conn.now).is_open → (S.Store.view conn.now.store).is_broken ≡ false }
+{}
+
+/// Which tables the database has, and which rows they can hold.
+fn look<S: Alter>(conn: &Connection<S>) -> Tables
+    ensures tables { AreTables (state S.Store conn.now).now.schema result }
+    ensures rows { IsTrue (state S.Store conn.now).is_open → (state S.Store conn.now).now.schema ≡ store_schema → HoldsRows (state S.Store conn.now).now.trees }
+{
+    is_whole(conn);
+    tables_of(conn.schema())
+}
+
+/// Makes the table of the owner.
+fn create_about<S: Alter>(tx: &mut Transaction<'_, S>) -> Result<(), SqlError>
+    requires inside { HasCleanDisk (state S.Store tx.old.conn.now) → IsWithin (state S.Store tx.old.conn.now) IsBare }
+    ensures same_reference { tx.new.conn.ghost_name ≡ tx.old.conn.ghost_name }
+    ensures inside { HasCleanDisk (state S.Store tx.new.conn.now) → OnOk result (IsWithin (state S.Store tx.new.conn.now) HasAbout) }
+    ensures survives { Survives (state S.Store tx.old.conn.now) (state S.Store tx.new.conn.now) (λ _. ⊥) }
+{
+    tx.execute(
+        "CREATE TABLE IF NOT EXISTS about (id INTEGER PRIMARY KEY CHECK (id = 1), format INTEGER NOT NULL, node TEXT NOT NULL) STRICT",
+        &[],
+    )?;
+    Ok(())
+}
+
+/// Makes the table of the records.
+fn create_entries<S: Alter>(tx: &mut Transaction<'_, S>) -> Result<(), SqlError>
+    requires inside { HasCleanDisk (state S.Store tx.old.conn.now) → IsWithin (state S.Store tx.old.conn.now) HasAbout }
+    ensures same_reference { tx.new.conn.ghost_name ≡ tx.old.conn.ghost_name }
+    ensures inside { HasCleanDisk (state S.Store tx.new.conn.now) → OnOk result (IsWithin (state S.Store tx.new.conn.now) IsEmpty) }
+    ensures survives { Survives (state S.Store tx.old.conn.now) (state S.Store tx.new.conn.now) (λ _. ⊥) }
+{
+    tx.execute(
+        "CREATE TABLE IF NOT EXISTS entries (place INTEGER PRIMARY KEY, body TEXT NOT NULL) STRICT",
+        &[],
+    )?;
+    Ok(())
+}
+
+/// Puts the owner's row.
+fn put_owner<S: Alter>(tx: &mut Transaction<'_, S>, node: &str) -> Result<(), SqlError>
+    requires inside { HasCleanDisk (state S.Store tx.old.conn.now) → IsWithin (state S.Store tx.old.conn.now) IsEmpty }
+    ensures same_reference { tx.new.conn.ghost_name ≡ tx.old.conn.ghost_name }
+    ensures inside { HasCleanDisk (state S.Store tx.new.conn.now) → OnOk result (IsWithin (state S.Store tx.new.conn.now) (HasFresh node.now)) }
+    ensures survives { Survives (state S.Store tx.old.conn.now) (state S.Store tx.new.conn.now) (λ _. ⊥) }
+{
+    tx.execute(
+        "INSERT INTO about (id, format, node) VALUES (1, 1, ?1)",
+        &[ValueRef::Text(node.as_bytes())],
+    )?;
+    Ok(())
+}
+
+/// Makes the tables and the owner's row in one transaction.
+fn make<S: Alter>(conn: &mut Connection<S>, node: &str) -> Result<(), SqlError>
+    requires idle { conn.old.in_transaction ≡ false }
+    requires opened { HasCleanDisk (state S.Store conn.old) → IsOpened (state S.Store conn.old) × IsBare (state S.Store conn.old).committed }
+    ensures idle { conn.new.in_transaction ≡ false }
+    ensures clean { HasCleanDisk (state S.Store conn.new) → HasCleanDisk (state S.Store conn.old) }
+    ensures made { HasCleanDisk (state S.Store conn.new) → OnOk result (IsMade node.now (state S.Store conn.new)) }
+    ensures crash { HasCleanDisk (state S.Store conn.new) → (db : Trees) → (state S.Store conn.new).may_leave db
+        → (db ≡ (state S.Store conn.old).committed.trees) ⊎ IsFresh node.now db }
+{
+    let mut tx = conn.transaction();
+    create_about(&mut tx)?;
+    create_entries(&mut tx)?;
+    put_owner(&mut tx, node)?;
+    tx.commit()
+}
+
+/// Puts the owner's row into tables that have no row.
+fn own<S: Alter>(conn: &mut Connection<S>, node: &str) -> Result<(), SqlError>
+    requires idle { conn.old.in_transaction ≡ false }
+    requires opened { HasCleanDisk (state S.Store conn.old) → IsOpened (state S.Store conn.old) × IsEmpty (state S.Store conn.old).committed }
+    ensures idle { conn.new.in_transaction ≡ false }
+    ensures clean { HasCleanDisk (state S.Store conn.new) → HasCleanDisk (state S.Store conn.old) }
+    ensures made { HasCleanDisk (state S.Store conn.new) → OnOk result (IsMade node.now (state S.Store conn.new)) }
+    ensures crash { HasCleanDisk (state S.Store conn.new) → (db : Trees) → (state S.Store conn.new).may_leave db
+        → (db ≡ (state S.Store conn.old).committed.trees) ⊎ IsFresh node.now db }
+{
+    let mut tx = conn.transaction();
+    put_owner(&mut tx, node)?;
+    tx.commit()
+}
+
+/// The rows that a query on a store shows.
+fn ask<S: Alter>(conn: &mut Connection<S>, sql: &str) -> Result<Vec<Row>, StoreFault>
+    requires opened { HasCleanDisk (state S.Store conn.old) → IsOpened (state S.Store conn.old) × ((state S.Store conn.old).committed.schema ≡ store_schema) }
+    requires plain { IsPlain (understood store_schema sql.now) }
+    ensures idle { conn.old.in_transaction ≡ false → conn.new.in_transaction ≡ false }
+    ensures clean { HasCleanDisk (state S.Store conn.new) → HasCleanDisk (state S.Store conn.old) }
+    ensures same { HasCleanDisk (state S.Store conn.new) → OnOk result (IsUnchanged (state S.Store conn.old) (state S.Store conn.new)) }
+    ensures shown { HasCleanDisk (state S.Store conn.new) → IfOk result (λ rows. Shown sql.now [] (state S.Store conn.old) (state S.Store conn.new) rows.items) }
+    ensures crash { HasCleanDisk (state S.Store conn.new) → (db : Trees) → (state S.Store conn.new).may_leave db → db ≡ (state S.Store conn.old).committed.trees }
+    ensures named { IfErr result (λ e. (e ≡ StoreFault.NoMemory) ⊎ IsTrue (is_device_fault e)) }
+{
+    match conn.query_all(sql, &[]) {
+        Ok(rows) => Ok(rows),
+        Err(error) => Err(fault_of(error)),
+    }
+}
+
+/// Whose the file is.
+fn find_owner<S: Alter>(conn: &mut Connection<S>, node: &str) -> Result<Owner, StoreFault>
+    requires opened { HasCleanDisk (state S.Store conn.old) → IsOpened (state S.Store conn.old) × HasRows (state S.Store conn.old).committed }
+    ensures idle { conn.old.in_transaction ≡ false → conn.new.in_transaction ≡ false }
+    ensures clean { HasCleanDisk (state S.Store conn.new) → HasCleanDisk (state S.Store conn.old) }
+    ensures same { HasCleanDisk (state S.Store conn.new) → OnOk result (IsUnchanged (state S.Store conn.old) (state S.Store conn.new)) }
+    ensures owner { HasCleanDisk (state S.Store conn.new) → IfOk result (IsOwner node.now (state S.Store conn.old).committed) }
+    ensures crash { HasCleanDisk (state S.Store conn.new) → (db : Trees) → (state S.Store conn.new).may_leave db → db ≡ (state S.Store conn.old).committed.trees }
+    ensures named { IfErr result (λ e. (e ≡ StoreFault.NoMemory) ⊎ IsTrue (is_device_fault e)) }
+{
+    let rows = ask(conn, "SELECT format, node FROM about")?;
+    Ok(owner_in(&rows, node))
+}
+
+/// The least place of a record.
+fn least_place<S: Alter>(conn: &mut Connection<S>) -> Result<Option<i64>, StoreFault>
+    requires opened { HasCleanDisk (state S.Store conn.old) → IsOpened (state S.Store conn.old) × HasRows (state S.Store conn.old).committed }
+    ensures idle { conn.old.in_transaction ≡ false → conn.new.in_transaction ≡ false }
+    ensures clean { HasCleanDisk (state S.Store conn.new) → HasCleanDisk (state S.Store conn.old) }
+    ensures same { HasCleanDisk (state S.Store conn.new) → OnOk result (IsUnchanged (state S.Store conn.old) (state S.Store conn.new)) }
+    ensures least { HasCleanDisk (state S.Store conn.new) → IfOk result (IsEnd false ((state S.Store conn.old).committed.trees 1)) }
+    ensures crash { HasCleanDisk (state S.Store conn.new) → (db : Trees) → (state S.Store conn.new).may_leave db → db ≡ (state S.Store conn.old).committed.trees }
+    ensures named { IfErr result (λ e. (e ≡ StoreFault.NoMemory) ⊎ IsTrue (is_device_fault e)) }
+{
+    let rows = ask(conn, "SELECT place FROM entries ORDER BY place LIMIT 1")?;
+    place_in(&rows)
+}
+
+/// The greatest place of a record.
+fn greatest_place<S: Alter>(conn: &mut Connection<S>) -> Result<Option<i64>, StoreFault>
+    requires opened { HasCleanDisk (state S.Store conn.old) → IsOpened (state S.Store conn.old) × HasRows (state S.Store conn.old).committed }
+    ensures idle { conn.old.in_transaction ≡ false → conn.new.in_transaction ≡ false }
+    ensures clean { HasCleanDisk (state S.Store conn.new) → HasCleanDisk (state S.Store conn.old) }
+    ensures same { HasCleanDisk (state S.Store conn.new) → OnOk result (IsUnchanged (state S.Store conn.old) (state S.Store conn.new)) }
+    ensures greatest { HasCleanDisk (state S.Store conn.new) → IfOk result (IsEnd true ((state S.Store conn.old).committed.trees 1)) }
+    ensures crash { HasCleanDisk (state S.Store conn.new) → (db : Trees) → (state S.Store conn.new).may_leave db → db ≡ (state S.Store conn.old).committed.trees }
+    ensures named { IfErr result (λ e. (e ≡ StoreFault.NoMemory) ⊎ IsTrue (is_device_fault e)) }
+{
+    let rows = ask(
+        conn,
+        "SELECT place FROM entries ORDER BY place DESC LIMIT 1",
+    )?;
+    place_in(&rows)
+}
+
+/// Whether there is a place, and it is below 0.
+fn is_negative(place: Option<i64>) -> bool
+    ensures some { IsTrue result → IsNegative place }
+    ensures none { IsNegative place → IsTrue result }
+{
+    match place {
+        Some(place) => place < 0,
+        None => false,
+    }
+}
+
+/// Whether the tables have no row (true) or are a store of the node that asks (false), or why not.
+fn verdict(owner: Owner, least: Option<i64>) -> Result<bool, StoreFault>
+    ensures { (node : List ℕ) (db : Database) → HasRows db → IsOwner node db owner → IsEnd false (db.trees 1) least → IsVerdict node db result }
+{
+    if is_negative(least) {
+        return Err(StoreFault::Damaged(0));
+    }
+    match (owner, least) {
+        (Owner::Nobody, Some(_)) => Err(StoreFault::Damaged(0)),
+        (Owner::Nobody, None) => Ok(true),
+        (Owner::OtherFormat, _) => Err(StoreFault::WrongVersion),
+        (Owner::OtherNode, _) => Err(StoreFault::WrongNode),
+        (Owner::Asker, _) => Ok(false),
+    }
+}
+
+/// Whether the file has no row (true) or is a store of the node (false), or why not.
+fn examine<S: Alter>(conn: &mut Connection<S>, node: &str) -> Result<bool, StoreFault>
+    requires opened { HasCleanDisk (state S.Store conn.old) → IsOpened (state S.Store conn.old) × HasRows (state S.Store conn.old).committed }
+    ensures idle { conn.old.in_transaction ≡ false → conn.new.in_transaction ≡ false }
+    ensures clean { HasCleanDisk (state S.Store conn.new) → HasCleanDisk (state S.Store conn.old) }
+    ensures same { HasCleanDisk (state S.Store conn.new) → OnOk result (IsUnchanged (state S.Store conn.old) (state S.Store conn.new)) }
+    ensures found { HasCleanDisk (state S.Store conn.new) → IsVerdict node.now (state S.Store conn.old).committed result }
+    ensures crash { HasCleanDisk (state S.Store conn.new) → (db : Trees) → (state S.Store conn.new).may_leave db → db ≡ (state S.Store conn.old).committed.trees }
+{
+    let owner = find_owner(conn, node)?;
+    let least = least_place(conn)?;
+    verdict(owner, least)
+}
+
+/// The place behind this one, which is not below 0.
+fn behind(place: i64) -> u64
+    ensures { (n : ℕ) → place ≡ pos n → result ≡ n + 1 }
+{
+    place.unsigned_abs() + 1
+}
+
+/// How many places the content of a store has.
+fn count<S: Alter>(conn: &mut Connection<S>) -> Result<u64, StoreFault>
+    requires opened { HasCleanDisk (state S.Store conn.old) → IsOpened (state S.Store conn.old) × HasRows (state S.Store conn.old).committed }
+    requires store { HasCleanDisk (state S.Store conn.old) → IsStore (state S.Store conn.old).committed.trees }
+    ensures idle { conn.old.in_transaction ≡ false → conn.new.in_transaction ≡ false }
+    ensures clean { HasCleanDisk (state S.Store conn.new) → HasCleanDisk (state S.Store conn.old) }
+    ensures same { HasCleanDisk (state S.Store conn.new) → OnOk result (IsUnchanged (state S.Store conn.old) (state S.Store conn.new)) }
+    ensures count { HasCleanDisk (state S.Store conn.new) → IfOk result (λ count. count ≡ length (slots_in (state S.Store conn.old).committed.trees)) }
+    ensures crash { HasCleanDisk (state S.Store conn.new) → (db : Trees) → (state S.Store conn.new).may_leave db → db ≡ (state S.Store conn.old).committed.trees }
+    ensures named { IfErr result (λ e. (e ≡ StoreFault.NoMemory) ⊎ IsTrue (is_device_fault e)) }
+{
+    match greatest_place(conn)? {
+        Some(place) => Ok(behind(place)),
+        None => Ok(0),
+    }
+}
+
+/// A file without a table becomes a store of the node.
+fn start<S: Alter>(conn: &mut Connection<S>, node: &str) -> Result<u64, StoreFault>
+    requires idle { conn.old.in_transaction ≡ false }
+    requires opened { HasCleanDisk (state S.Store conn.old) → IsOpened (state S.Store conn.old) × IsBare (state S.Store conn.old).committed }
+    ensures idle { conn.new.in_transaction ≡ false }
+    ensures clean { HasCleanDisk (state S.Store conn.new) → HasCleanDisk (state S.Store conn.old) }
+    ensures settled { HasCleanDisk (state S.Store conn.new) → Settles node.now (state S.Store conn.old).committed (state S.Store conn.new) result }
+{
+    match make(conn, node) {
+        Ok(()) => Ok(0),
+        Err(error) => Err(fault_of(error)),
+    }
+}
+
+/// A file whose tables have no row becomes a store of the node.
+fn adopt<S: Alter>(conn: &mut Connection<S>, node: &str) -> Result<u64, StoreFault>
+    requires idle { conn.old.in_transaction ≡ false }
+    requires opened { HasCleanDisk (state S.Store conn.old) → IsOpened (state S.Store conn.old) × IsEmpty (state S.Store conn.old).committed }
+    ensures idle { conn.new.in_transaction ≡ false }
+    ensures clean { HasCleanDisk (state S.Store conn.new) → HasCleanDisk (state S.Store conn.old) }
+    ensures settled { HasCleanDisk (state S.Store conn.new) → Settles node.now (state S.Store conn.old).committed (state S.Store conn.new) result }
+{
+    match own(conn, node) {
+        Ok(()) => Ok(0),
+        Err(error) => Err(fault_of(error)),
+    }
+}
+
+/// A file with both tables is a store of the node, or becomes one where it has no row, or is refused.
+fn resume<S: Alter>(conn: &mut Connection<S>, node: &str) -> Result<u64, StoreFault>
+    requires idle { conn.old.in_transaction ≡ false }
+    requires opened { HasCleanDisk (state S.Store conn.old) → IsOpened (state S.Store conn.old) × HasRows (state S.Store conn.old).committed }
+    ensures idle { conn.new.in_transaction ≡ false }
+    ensures clean { HasCleanDisk (state S.Store conn.new) → HasCleanDisk (state S.Store conn.old) }
+    ensures settled { HasCleanDisk (state S.Store conn.new) → Settles node.now (state S.Store conn.old).committed (state S.Store conn.new) result }
+{
+    if examine(conn, node)? {
+        adopt(conn, node)
+    } else {
+        count(conn)
+    }
+}
+
+/// Makes the file a store of the node where it has no row yet, or finds that it is one, and answers how many places its content has.
+///
+/// Faults in this order: `Damaged(0)` where the file has other tables, records without an owner, or a place below 0; `WrongVersion`; `WrongNode`. `Device`, `Full` and
+/// `NoMemory` may come at any call of the database. A refused file is as it was, but that one that was new may have been made whole.
+pub(crate) fn settle<S: Alter>(conn: &mut Connection<S>, node: &str) -> Result<u64, StoreFault>
+    requires idle { conn.old.in_transaction ≡ false }
+    requires opened { HasCleanDisk (state S.Store conn.old) → IsOpened (state S.Store conn.old) }
+    ensures idle { conn.new.in_transaction ≡ false }
+    ensures clean { HasCleanDisk (state S.Store conn.new) → HasCleanDisk (state S.Store conn.old) }
+    ensures ready { HasCleanDisk (state S.Store conn.new) → OnOk result (IsReady (state S.Store conn.new) × (node_in (state S.Store conn.new).committed.trees ≡ node.now)) }
+    ensures count { HasCleanDisk (state S.Store conn.new) → IfOk result (λ count. count ≡ length (slots_in (state S.Store conn.new).committed.trees)) }
+    ensures found { HasCleanDisk (state S.Store conn.new) → OnOk result ((IsNew (state S.Store conn.old).committed × (slots_in (state S.Store conn.new).committed.trees ≡ []))
+        ⊎ ((state S.Store conn.new).committed ≡ (state S.Store conn.old).committed)) }
+    ensures fault { HasCleanDisk (state S.Store conn.new) → IfErr result (IsOpeningFault node.now (state S.Store conn.old).committed) }
+    ensures crash { HasCleanDisk (state S.Store conn.new) → (db : Trees) → (state S.Store conn.new).may_leave db
+        → (db ≡ (state S.Store conn.old).committed.trees) ⊎ (IsNew (state S.Store conn.old).committed × IsFresh node.now db) }
+{
+    match look(conn) {
+        Tables::None => start(conn, node),
+        Tables::Store => resume(conn, node),
+        Tables::Others => Err(StoreFault::Damaged(0)),
+    }
+}

@@ -4,16 +4,16 @@
 mod backing;
 mod batch;
 mod fault;
+mod layout;
 mod memory_store;
 mod node_store;
 mod open_store;
+mod opening;
 mod reading;
 mod records;
+mod shown;
 #[cfg(test)]
 mod tests;
-mod layout;
-mod opening;
-mod shown;
 
 pub use fault::StoreFault;
 pub use memory_store::{Kept, MemoryStore};

@@ -1,8 +1,10 @@
 //! A store over an open connection.
-ghost use Rattle.std.specs.Prelude.{◌≡◌, ◌≢◌, ◌++◌, ◌⊎◌, ◌+◌, ◌-◌, ◌<◌, ◌≤◌, ◌^◌, ℕ, false, Err, IfOk, IfErr, IfSome, OnOk, OnErr, IsTrue, true, map, take, drop, length};
+ghost use Rattle.std.specs.Prelude.{◌≡◌, ◌≢◌, ◌++◌, ◌⊎◌, ◌+◌, ◌-◌, ◌<◌, ◌≤◌, ◌^◌, ℕ, [], false, Ok, Err, IfOk, IfErr, IfSome, OnOk, OnErr, IsTrue, true, map, take, drop, length};
 ghost use Rattle.durable.specs.Connected.{IsHonest, content, MayHold};
 ghost use Rattle.durable.specs.Bodies.{items};
-ghost use Rattle.durable.specs.Held.{followed_by};
+ghost use Rattle.durable.specs.Held.{followed_by, slots_in, IsReady};
+ghost use Rattle.sqlite.specs.State.{HasCleanDisk};
+ghost use Rattle.sqlite.specs.Held.{state};
 ghost use Rattle.durable.specs.Faults.{is_device_fault};
 ghost use Rattle.durable.specs.Records.{Places, AreRecords, IsDamagedAt, IsAllOrNone, written};
 ghost use Rattle.durable.specs.declared.fault.StoreFault.TheVariants.{Reopen, NoMemory, Damaged};
@@ -53,6 +55,30 @@ fn total(count: u64, more: usize) -> Option<u64>
 }
 
 impl<S: Alter> OpenStore<S> {
+    /// A store over a connection whose last commit is one of so many places.
+    pub(crate) fn new(alloc: Global, conn: Connection<S>, count: u64) -> OpenStore<S>
+        requires idle { conn.in_transaction ≡ false }
+        requires small { count ≤ 2 ^ 63 }
+        requires ready { HasCleanDisk (state S.Store conn) → IsReady (state S.Store conn) }
+        requires counted { HasCleanDisk (state S.Store conn) → count ≡ length (slots_in (state S.Store conn).committed.trees) }
+        ensures { result ≡ record { conn = conn; count = count; is_waiting = false } }
+    {
+        OpenStore {
+            conn,
+            count,
+            standing: Standing::Runs,
+            alloc,
+        }
+    }
+
+    /// The connection.
+    pub(crate) fn into_connection(self) -> Connection<S>
+        ensures { result ≡ self.conn }
+    {
+        let OpenStore { conn, count: _, standing: _, alloc: _ } = self;
+        conn
+    }
+
     // The texts of a batch at the places behind the content.
     fn put(&mut self, texts: &[Vec<u8>]) -> Result<(), StoreFault>
         requires runs { self.old.is_waiting ≡ false }
@@ -89,6 +115,7 @@ impl<S: Alter> OpenStore<S> {
         ensures stops { OnErr result (IsTrue self.new.is_waiting) }
         ensures runs { OnOk result (self.new.is_waiting ≡ false) }
         ensures honest { IsHonest S.Store self.new → IsHonest S.Store self.old }
+        ensures empty { self.old.is_waiting ≡ false → batch.now ≡ [] → (result ≡ Ok tt) × (self.new ≡ self.old) }
         ensures ok { IsHonest S.Store self.new → OnOk result (content S.Store self.new ≡ content S.Store self.old ++ written batch.now) }
         ensures refused { IsHonest S.Store self.new → self.old.is_waiting ≡ false → IfErr result (λ e. is_device_fault e ≡ false → (next : Places) → MayHold S.Store self.new next → next ≡ content S.Store self.old) }
         ensures crash { IsHonest S.Store self.new → self.old.is_waiting ≡ false → (next : Places) → MayHold S.Store self.new next → IsAllOrNone (content S.Store self.old) batch.now next }
@@ -96,6 +123,9 @@ impl<S: Alter> OpenStore<S> {
     {
         if self.standing == Standing::Waits {
             return Err(StoreFault::Reopen);
+        }
+        if batch.is_empty() {
+            return Ok(());
         }
         let Ok(texts) = texts(self.alloc, batch) else {
             self.standing = Standing::Waits;
@@ -136,5 +166,40 @@ impl<S: Alter> OpenStore<S> {
             }
         };
         records(self.alloc, &bodies, first, until)
+    }
+
+    /// The records from place `from` on, at most `max`.
+    pub(crate) fn load_page(&mut self, from: u64, max: u64) -> Result<Vec<Input>, StoreFault>
+        ensures reopen { IsTrue self.old.is_waiting → (result ≡ Err Reopen) × (self.new ≡ self.old) }
+        ensures honest { IsHonest S.Store self.new → IsHonest S.Store self.old }
+        ensures ok { IsHonest S.Store self.new → IfOk result (λ inputs. AreRecords (take max (drop from (content S.Store self.old))) inputs.items) }
+        ensures damaged { IsHonest S.Store self.new → IfErr result (λ e. (p : ℕ) → e ≡ Damaged p → (from ≤ p) × IsDamagedAt (p - from) (take max (drop from (content S.Store self.old)))) }
+        ensures stops { self.old.is_waiting ≡ false → IfErr result (λ e. self.new.is_waiting ≡ is_device_fault e) }
+        ensures runs { OnOk result (self.new.is_waiting ≡ false) }
+        ensures kept { IsHonest S.Store self.new → self.new.is_waiting ≡ false → content S.Store self.new ≡ content S.Store self.old }
+        ensures crash { IsHonest S.Store self.new → self.old.is_waiting ≡ false → (next : Places) → MayHold S.Store self.new next → next ≡ content S.Store self.old }
+    {
+        if self.standing == Standing::Waits {
+            return Err(StoreFault::Reopen);
+        }
+        let until = self.count.min(from.saturating_add(max));
+        if until <= from {
+            return Ok(Vec::new(self.alloc));
+        }
+        self.records_between(from, until)
+    }
+
+    /// All records in their order.
+    pub(crate) fn load(&mut self) -> Result<Vec<Input>, StoreFault>
+        ensures reopen { IsTrue self.old.is_waiting → (result ≡ Err Reopen) × (self.new ≡ self.old) }
+        ensures honest { IsHonest S.Store self.new → IsHonest S.Store self.old }
+        ensures ok { IsHonest S.Store self.new → IfOk result (λ inputs. AreRecords (content S.Store self.old) inputs.items) }
+        ensures damaged { IsHonest S.Store self.new → IfErr result (λ e. (p : ℕ) → e ≡ Damaged p → IsDamagedAt p (content S.Store self.old)) }
+        ensures stops { self.old.is_waiting ≡ false → IfErr result (λ e. self.new.is_waiting ≡ is_device_fault e) }
+        ensures runs { OnOk result (self.new.is_waiting ≡ false) }
+        ensures kept { IsHonest S.Store self.new → self.new.is_waiting ≡ false → content S.Store self.new ≡ content S.Store self.old }
+        ensures crash { IsHonest S.Store self.new → self.old.is_waiting ≡ false → (next : Places) → MayHold S.Store self.new next → next ≡ content S.Store self.old }
+    {
+        self.load_page(0, self.count)
     }
 }

@@ -1,5 +1,5 @@
 -- Which rows the tables of a store can hold, whatever wrote them.
-use Rattle.std.proofs.Common.{◌≡◌, ◌⊎◌, inl, inr, ℕ, ℤ, pos, List, [], ◌∷◌, Bool, true, false, ◌&&◌, not, Some, ◌<ℤ◌, IsTrue, refl, sym, ap, subst, subst₂, ◌∙◌}
+use Rattle.std.proofs.Common.{◌≡◌, arith, ◌⊎◌, inl, inr, ℕ, ℤ, pos, List, [], ◌∷◌, Bool, true, false, ◌&&◌, not, Some, ◌<ℤ◌, IsTrue, refl, sym, ap, subst, subst₂, ◌∙◌}
 use Rattle.std.specs.List.{AllByRecursion}
 use Rattle.std.proofs.lemmas.Bool.{and_parts}
 use Rattle.sqlite.specs.declared.types.Value.{Value}
@@ -19,8 +19,8 @@ use Rattle.sqlite.specs.Kind.TheVariants as kind
 use Rattle.sqlite_schema.specs.Rules.{is_of, passes}
 use Rattle.sqlite_schema.specs.declared.schema.Constraint.TheVariants.{Datatype, NotNull, Check}
 use Rattle.sqlite_catalog.specs.Listing.{IsSound}
-use Rattle.sqlite_catalog.proofs.LayoutLemmas.{laid_out, objects_rise}
-use Rattle.durable.specs.Tables.{store_schema, about_table, entries_table}
+use Rattle.sqlite_catalog.proofs.LayoutLemmas.{laid_out, objects_rise, named_tree}
+use Rattle.durable.specs.Tables.{store_schema, no_schema, about_table, entries_table}
 use Rattle.durable.specs.Opening.{owned, IsEntry, HoldsRows}
 
 null_of : (v : Value) → is_null v ≡ true → v ≡ Null
@@ -134,3 +134,12 @@ rows_of v listed ordered sound =
       entries = entries_of v.trees (v.trees 1) entries.1 (rules Datatype).1.0 (rules NotNull).1.0;
       rise = entries.0;
     }
+
+-- an open store without a table has no row of a record
+pub none_of : (v : View) → IsListed (v.trees catalog_tree) v.shape v.reals → IsOrdered v.shape v.trees → IsSound no_schema v.trees → v.trees 1 ≡ []
+none_of v listed ordered sound = elim (named_tree listed (objects_rise v listed ordered).0 sound.lists.listed 1 (λ e. omega (arith, e)) (λ e. omega (arith, e))) [
+  | inl table ↦ absurd table.1
+  | inr (inl index) ↦ absurd index.1
+  | inr (inr (inl other)) ↦ absurd other.1
+  | inr (inr (inr none)) ↦ subst (λ s. IsShaped s (v.trees 1)) none (ordered 1)
+]

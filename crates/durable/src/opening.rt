@@ -27,6 +27,7 @@ fn is_whole<S: Alter>(conn: &Connection<S>)
 fn look<S: Alter>(conn: &Connection<S>) -> Tables
     ensures tables { AreTables (state S.Store conn.now).now.schema result }
     ensures rows { IsTrue (state S.Store conn.now).is_open → (state S.Store conn.now).now.schema ≡ store_schema → HoldsRows (state S.Store conn.now).now.trees }
+    ensures bare { IsTrue (state S.Store conn.now).is_open → IsBare (state S.Store conn.now).now → (state S.Store conn.now).now.trees 1 ≡ [] }
 {
     is_whole(conn);
     tables_of(conn.schema())
@@ -289,6 +290,7 @@ pub(crate) fn settle<S: Alter>(conn: &mut Connection<S>, node: &str) -> Result<u
     ensures count { HasCleanDisk (state S.Store conn.new) → IfOk result (λ count. count ≡ length (slots_in (state S.Store conn.new).committed.trees)) }
     ensures found { HasCleanDisk (state S.Store conn.new) → OnOk result ((IsNew (state S.Store conn.old).committed × (slots_in (state S.Store conn.new).committed.trees ≡ []))
         ⊎ ((state S.Store conn.new).committed ≡ (state S.Store conn.old).committed)) }
+    ensures same { HasCleanDisk (state S.Store conn.new) → OnOk result (slots_in (state S.Store conn.new).committed.trees ≡ slots_in (state S.Store conn.old).committed.trees) }
     ensures fault { HasCleanDisk (state S.Store conn.new) → IfErr result (IsOpeningFault node.now (state S.Store conn.old).committed) }
     ensures crash { HasCleanDisk (state S.Store conn.new) → (db : Trees) → (state S.Store conn.new).may_leave db
         → (db ≡ (state S.Store conn.old).committed.trees) ⊎ (IsNew (state S.Store conn.old).committed × IsFresh node.now db) }

@@ -1,8 +1,8 @@
-use Rattle.std.proofs.Common.{◌≡◌, ◌⊎◌, inl, inr, ◌++◌, ◌∙◌, List, map, Option, Some, ap, subst, ℕ}
+use Rattle.std.proofs.Common.{◌≡◌, inl, inr, ◌++◌, ◌∙◌, map, ap}
 use Rattle.durable.specs.Bodies.{items}
 use Rattle.durable.specs.Connected.{content}
 use Rattle.durable.specs.Held.{followed_by}
-use Rattle.durable.specs.Records.{Places, IsAllOrNone, written}
+use Rattle.durable.specs.Records.{Places, written}
 use Rattle.durable.proofs.open_store.OpenStore.append.Goals as goal
 
 pub returns-clause-crash : goal.returns-clause-crash

@@ -3,7 +3,7 @@ use Rattle.std.proofs.lemmas.List.{take_all}
 use Rattle.sqlite.specs.State.{HasCleanDisk}
 use Rattle.sqlite.specs.Held.{state}
 use Rattle.wire.specs.declared.input.Input.{Input}
-use Rattle.durable.specs.Connected.{content, waits}
+use Rattle.durable.specs.Connected.{content}
 use Rattle.durable.specs.Records.{Places, IsDamagedAt}
 use Rattle.durable.specs.declared.fault.StoreFault.{StoreFault}
 use Rattle.durable.specs.declared.fault.StoreFault.TheVariants.{Damaged, Reopen}

@@ -1,12 +1,10 @@
-use Rattle.std.proofs.Common.{rules, ◌≡◌, ◌≤◌, ◌-◌, ℕ, take, drop, length, min, ap, ◌∙◌, subst, sym, IfErr, Err, Result, Vec, Global, arith, false}
+use Rattle.std.proofs.Common.{rules, ◌≡◌, ◌≤◌, ◌-◌, ℕ, take, drop, length, min, ap, ◌∙◌, subst, sym, IfErr, arith}
 use Rattle.std.proofs.lemmas.Grind.{common_steps}
 use Rattle.std.proofs.lemmas.List.{length-drop, take_min}
 use Rattle.sqlite.specs.State.{HasCleanDisk}
 use Rattle.sqlite.specs.Held.{state}
-use Rattle.wire.specs.declared.input.Input.{Input}
-use Rattle.durable.specs.Connected.{content, IsCounted}
-use Rattle.durable.specs.Records.{Places, IsDamagedAt}
-use Rattle.durable.specs.declared.fault.StoreFault.{StoreFault}
+use Rattle.durable.specs.Connected.{content}
+use Rattle.durable.specs.Records.{IsDamagedAt}
 use Rattle.durable.specs.declared.fault.StoreFault.TheVariants.{Damaged}
 use Rattle.durable.proofs.open_store.OpenStore.load_page.Goals as goal
 

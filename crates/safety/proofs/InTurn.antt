@@ -17,14 +17,14 @@ use Rattle.protocol.specs.History.{Transition, Entry, sends, is_acknowledged}
 use Rattle.protocol.specs.Registries.{is_node}
 use Rattle.protocol.specs.Verdict.{verdict, history}
 use Rattle.protocol.specs.Weave.{Projects, Placed, journals_of, WasSent, IsNext, InTurn, uncommitted}
-use Rattle.protocol.specs.World.{World, Station, opening, step, run, station, sender, receiver, is_order, was_posted}
+use Rattle.protocol.specs.World.{World, Station, opening, run, station, sender, receiver, is_order, was_posted}
 use Rattle.protocol.specs.declared.event.Posted.{Posted}
 use Rattle.protocol.specs.declared.event.WorldEvent.{WorldEvent}
 use Rattle.protocol.specs.declared.event.WorldEvent.TheVariants.{Take, Commit, Post, Deliver}
 use Rattle.safety.proofs.Counts.{list-any-in}
 use Rattle.safety.proofs.Members.{In-right}
 use Rattle.safety.proofs.Positions.{In-contains, some-at}
-use Rattle.safety.proofs.Quiet.{Quiet, Grown, record-on, bag-on, take-step, post-step, delivers, opening-quiet, quiet-after}
+use Rattle.safety.proofs.Quiet.{Quiet, Grown, record-on, bag-on, take-step, post-step, delivers, opening-quiet, quiet-after, run-append}
 use Rattle.safety.proofs.Reached.{reached, reached-scheme}
 use Rattle.safety.proofs.Sound.{none-committed}
 use Rattle.safety.proofs.Stations.{other-way}
@@ -88,10 +88,6 @@ module _ (w : World) (quiet : Quiet w) where
   next-on Itl (CloseAccount account) xs node says sent = absurd (cc (says))
 
 -- ---- a whole order
-
-run-append : (w : World) (es fs : List WorldEvent) → run w (es ++ fs) ≡ run (run w es) fs
-run-append w [] fs = refl
-run-append w (e ∷ es) fs = run-append (step w e).world es fs
 
 -- events that lead to a quiet world with the order's journals
 record Woven (scheme : Scheme) (order : List Placed) : Type 0 where

@@ -31,3 +31,6 @@ pub mod InTurn
 pub mod Ordered
 pub mod Stuck
 pub mod EachWaits
+pub mod Spoken
+pub mod Waking
+pub mod Sending

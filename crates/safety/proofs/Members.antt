@@ -43,6 +43,11 @@ In-map f y [] h = absurd h
 In-map f y (x ∷ xs) (inl e) = (x, inl refl, e)
 In-map f y (x ∷ xs) (inr h) = let r = In-map f y xs h in (r.0, inr r.1, r.2)
 
+pub map-In : {X Y : Type 0} (f : X → Y) (x : X) (xs : List X) → In x xs → In (f x) (map f xs)
+map-In f x [] h = absurd h
+map-In f x (y ∷ ys) (inl e) = inl (ap f e)
+map-In f x (y ∷ ys) (inr h) = inr (map-In f x ys h)
+
 pub In-slice_get : {X : Type 0} (xs : List X) (k : ℕ) (x : X) → slice_get xs k ≡ Some x → In x xs
 In-slice_get [] k x e = absurd (cc)
 In-slice_get (y ∷ ys) zero x e = inl (cc)

@@ -27,10 +27,9 @@ use Rattle.safety.proofs.Causal.{one-some}
 use Rattle.safety.proofs.Going.{sends-append, got-in}
 use Rattle.safety.proofs.Histories.{Got}
 use Rattle.safety.proofs.Members.{In, In-right}
-use Rattle.safety.proofs.Places.{step-places, places}
+use Rattle.safety.proofs.Places.{AllPlaced, step-placed, places}
 use Rattle.safety.proofs.Positions.{contains-in, In-take, right-empty}
 use Rattle.safety.proofs.Reached.{reached-scheme}
-use Rattle.safety.proofs.Schemes.{step-scheme}
 use Rattle.safety.proofs.Sound.{Sound, step-sound, opening-sound, no-journal, none-committed}
 use Rattle.safety.proofs.Stations.{at-node, at-put, at-elsewhere, other-way}
 use Rattle.safety.proofs.Weave.{journals-here, journals-there, never-stuck}
@@ -215,10 +214,6 @@ module _ (w : World) (sound : Sound w) (o : Ordered w) (n : Node) (s : Station) 
 
 -- ---- a step
 
--- the nodes are those that have a station
-abbrev AllPlaced : World → Type 0
-AllPlaced w = (n : Node) → is_some (station w n) ≡ is_node w.scheme n
-
 module _ (w : World) (sound : Sound w) (all : AllPlaced w) (o : Ordered w) where
   ordered-at : (n : Node) (x : Option Station) (f : Station → Turn) → station w n ≡ x → ((s : Station) → station w n ≡ Some s → Turned w n s (f s).station) → Ordered (at_node w x f).world
   ordered-at n None f is turned = o
@@ -262,7 +257,7 @@ module _ (w : World) (sound : Sound w) (all : AllPlaced w) (o : Ordered w) where
 run-ordered : (w : World) (es : List WorldEvent) → Sound w → AllPlaced w → Ordered w → Ordered (run w es)
 run-ordered w [] sound all o = o
 run-ordered w (e ∷ es) sound all o =
-    run-ordered (step w e).world es (step-sound w e sound) (λ n. step-places w e n ∙ all n ∙ ap (λ (z : Scheme). is_node z n) (sym (step-scheme w e))) (step-ordered w sound all o e)
+    run-ordered (step w e).world es (step-sound w e sound) (step-placed w e all) (step-ordered w sound all o e)
 
 opening-ordered : (scheme : Scheme) → Ordered (opening scheme)
 opening-ordered scheme = record {

@@ -23,6 +23,7 @@ use Rattle.protocol.specs.declared.event.Outcome.TheVariants.{NotPossible}
 use Rattle.protocol.specs.declared.event.Posted.{Posted}
 use Rattle.protocol.specs.declared.event.WorldEvent.{WorldEvent}
 use Rattle.protocol.specs.declared.event.WorldEvent.TheVariants.{Take, Commit, Post, Deliver, Crash, Restart}
+use Rattle.safety.proofs.Schemes.{step-scheme}
 use Rattle.safety.proofs.Stations.{at, at-node, at-put, at-elsewhere}
 
 -- ---- a node's turn keeps the node
@@ -91,9 +92,20 @@ step-places w (Deliver index moment) m = deliver-places w moment (slice_get w.ba
 step-places w (Crash n kept) m = turn-places w n (station w n) (crash kept) refl (crash-node kept) m
 step-places w (Restart n) m = turn-places w n (station w n) restart refl restart-node m
 
-run-places : (w : World) (events : List WorldEvent) → SamePlaces w (run w events)
+pub run-places : (w : World) (events : List WorldEvent) → SamePlaces w (run w events)
 run-places w [] m = refl
 run-places w (e ∷ es) m = run-places (step w e).world es m ∙ step-places w e m
+
+-- the nodes are those that have a station
+abbrev pub AllPlaced : World → Type 0
+AllPlaced w = (n : Node) → is_some (station w n) ≡ is_node w.scheme n
+
+pub step-placed : (w : World) (e : WorldEvent) → AllPlaced w → AllPlaced (step w e).world
+step-placed w e all n = step-places w e n ∙ all n ∙ ap (λ (z : Scheme). is_node z n) (sym (step-scheme w e))
+
+pub run-placed : (w : World) (events : List WorldEvent) → AllPlaced w → AllPlaced (run w events)
+run-placed w [] all = all
+run-placed w (e ∷ es) all = run-placed (step w e).world es (step-placed w e all)
 
 -- ---- the opening world
 
@@ -119,7 +131,7 @@ none-there : {X : Type 0} (o : Option X) → is_some o ≡ false → o ≡ None
 none-there None e = refl
 none-there (Some x) e = absurd (cc (e))
 
-some-there : {X : Type 0} (o : Option X) → is_some o ≡ true → (x : X) × (o ≡ Some x)
+pub some-there : {X : Type 0} (o : Option X) → is_some o ≡ true → (x : X) × (o ≡ Some x)
 some-there None e = absurd (cc (e))
 some-there (Some x) e = (x, refl)
 

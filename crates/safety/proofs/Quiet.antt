@@ -198,3 +198,9 @@ quiet-after w events n input quiet g = record {
         | inr other ↦ quiet.idle m s (sym (g.elsewhere m other) ∙ is)
       ];
 }
+
+-- ---- lists of events
+
+pub run-append : (w : World) (es fs : List WorldEvent) → run w (es ++ fs) ≡ run (run w es) fs
+run-append w [] fs = refl
+run-append w (e ∷ es) fs = run-append (step w e).world es fs

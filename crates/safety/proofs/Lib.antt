@@ -25,6 +25,9 @@ pub mod Places
 pub mod Sums
 pub mod OnePlace
 pub mod OneOwner
+pub mod OwnStatuses
+pub mod Committing
+pub mod OwnersMove
 pub mod Weave
 pub mod Quiet
 pub mod InTurn

@@ -24,7 +24,7 @@ use Rattle.protocol.specs.declared.event.WorldEvent.TheVariants.{Take, Commit, P
 use Rattle.safety.proofs.Counts.{list-any-in}
 use Rattle.safety.proofs.Members.{In-right}
 use Rattle.safety.proofs.Positions.{In-contains, some-at}
-use Rattle.safety.proofs.Quiet.{Quiet, Grown, record-on, bag-on, take-step, post-step, delivers, opening-quiet, quiet-after, run-append}
+use Rattle.safety.proofs.Quiet.{Quiet, there, Grown, record-on, bag-on, take-step, post-step, delivers, opening-quiet, quiet-after, run-append}
 use Rattle.safety.proofs.Reached.{reached, reached-scheme}
 use Rattle.safety.proofs.Sound.{none-committed}
 use Rattle.safety.proofs.Stations.{other-way}
@@ -41,7 +41,7 @@ ack-below scheme es key xs says = leb-false (length (sends es)) key (not-refused
 module _ (w : World) (quiet : Quiet w) where
   take-on : (n : Node) (input : Input) (xs : List Transition) → is_node w.scheme n ≡ true → is_order w n input ≡ true → verdict w.scheme n (committed_of w n) input ≡ Enters xs → (events : List WorldEvent) × Grown w events n input
   take-on n input xs node order says =
-      let s = quiet.there n node in (
+      let s = there w quiet n node in (
         Take n input ∷ Commit n 1 ∷ [],
         record-on w n s.0 input xs (Take n input) s.1 (quiet.idle n s.0 s.1) (subst (λ o. verdict w.scheme n (history w.scheme n (committed_part o)) input ≡ Enters xs) s.1 says) (take-step w n input order),
       )
@@ -51,7 +51,7 @@ module _ (w : World) (quiet : Quiet w) where
       → ((bag : List Posted) → was_posted (record w { bag = bag }) n key.value ≡ true → is_order (record w { bag = bag }) n (Ack key) ≡ true)
       → verdict w.scheme n (committed_of w n) (Ack key) ≡ Enters xs → key.value < length (sends (committed_of w n)) → (events : List WorldEvent) × Grown w events n (Ack key)
   ack-on n key xs node order says below =
-      let s = quiet.there n node in
+      let s = there w quiet n node in
       let m = some-at (sends (committed_of w n)) key.value below in
       let p : Posted = record { node = n; key = key.value; message = m.0 } in
       let bag : List Posted = w.bag ++ p ∷ [] in

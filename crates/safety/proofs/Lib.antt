@@ -37,3 +37,4 @@ pub mod EachWaits
 pub mod Spoken
 pub mod Waking
 pub mod Sending
+pub mod Taken

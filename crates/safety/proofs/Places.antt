@@ -127,7 +127,7 @@ opening-places scheme (Registry c) = opening-members c scheme.members
 pub places : (scheme : Scheme) (events : List WorldEvent) (n : Node) → is_some (station (run (opening scheme) events) n) ≡ is_node scheme n
 places scheme events n = run-places (opening scheme) events n ∙ opening-places scheme n
 
-none-there : {X : Type 0} (o : Option X) → is_some o ≡ false → o ≡ None
+pub none-there : {X : Type 0} (o : Option X) → is_some o ≡ false → o ≡ None
 none-there None e = refl
 none-there (Some x) e = absurd (cc (e))
 

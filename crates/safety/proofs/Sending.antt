@@ -44,28 +44,37 @@ module _ (w : World) (events : List WorldEvent) (n : Node) (input : Input) (g : 
 
 -- ---- a message goes
 
+-- a quiet world of that scheme
+pub record Calm (scheme : Scheme) (w : World) : Type 0 where
+  pub quiet : Quiet w
+  pub same : w.scheme ≡ scheme
+
+pub calm-after : (scheme : Scheme) (w : World) (events : List WorldEvent) → Calm scheme w → Quiet (run w events) → Calm scheme (run w events)
+calm-after scheme w events calm quiet = record { quiet = quiet; same = run-scheme w events ∙ calm.same }
+
 -- a message was sent on, and the receiver made one transition of it
-pub record Went (w : World) (t : TransactionId) (n : Node) (x : Transition) : Type 0 where
+pub record Went (scheme : Scheme) (w : World) (t : TransactionId) (n : Node) (x : Transition) : Type 0 where
   pub events : List WorldEvent
   pub transport : OnlyTransport events
-  pub quiet : Quiet (run w events)
+  pub calm : Calm scheme (run w events)
   pub now : newest (transitions_of (committed_of (run w events) n)) t ≡ Some x
   pub others : (m : Node) (u : TransactionId) → same_id t u ≡ false → newest (transitions_of (committed_of (run w events) m)) u ≡ newest (transitions_of (committed_of w m)) u
   pub elsewhere : (m : Node) → same_node n m ≡ false → committed_of (run w events) m ≡ committed_of w m
   pub longer : (m : Node) → length (committed_of (run w events) m) ≤ length (committed_of w m) + cond (same_node n m) 1 0
 
-pub send : (w : World) → Quiet w → (m : Message) (moment : Moment) (t : TransactionId) (x : Transition) → is_node w.scheme (receiver m) ≡ true → In m (sends (committed_of w (sender m)))
-    → verdict w.scheme (receiver m) (committed_of w (receiver m)) (Received m moment) ≡ Enters (x ∷ []) → x.id ≡ t → Went w t (receiver m) x
-send w quiet m moment t x node sent says id =
+pub send : (scheme : Scheme) (w : World) → Calm scheme w → (m : Message) (moment : Moment) (t : TransactionId) (x : Transition) → is_node scheme (receiver m) ≡ true → In m (sends (committed_of w (sender m)))
+  → verdict scheme (receiver m) (committed_of w (receiver m)) (Received m moment) ≡ Enters (x ∷ []) → x.id ≡ t → Went scheme w t (receiver m) x
+send scheme w calm m moment t x node sent says id =
     let n = receiver m in
-    let d = delivers w quiet m moment (x ∷ []) node sent says in
+    let says_here : verdict w.scheme n (committed_of w n) (Received m moment) ≡ Enters (x ∷ []) = subst (λ (z : Scheme). verdict z n (committed_of w n) (Received m moment) ≡ Enters (x ∷ [])) (sym calm.same) says in
+    let d = delivers w calm.quiet m moment (x ∷ []) (subst (λ (z : Scheme). is_node z n ≡ true) (sym calm.same) node) sent says_here in
     let events : List WorldEvent = Post (sender m) d.0 ∷ Deliver (length w.bag) moment ∷ Commit (receiver m) 1 ∷ [] in
-    let here = grown-entry w events n (Received m moment) d.1 (x ∷ []) says in
+    let here = grown-entry w events n (Received m moment) d.1 (x ∷ []) says_here in
     let elsewhere = grown-elsewhere w events n (Received m moment) d.1 in
     record {
       events = events;
       transport = tt;
-      quiet = quiet-after w events n (Received m moment) quiet d.1;
+      calm = calm-after scheme w events calm (quiet-after w events n (Received m moment) calm.quiet d.1);
       now =
           ap (λ (es : List Entry). newest (transitions_of es) t) here
           ∙ cond-true (same_id x.id t) (Some x) (newest (transitions_of (committed_of w n)) t) (subst (λ (z : TransactionId). same_id x.id z ≡ true) id (same_id-refl x.id));

@@ -16,7 +16,7 @@ use Rattle.protocol.specs.declared.event.WorldEvent.{WorldEvent}
 use Rattle.protocol.specs.declared.event.WorldEvent.TheVariants.{Take, Commit, Post, Deliver, Crash, Restart}
 use Rattle.safety.proofs.Causal.{one-some}
 use Rattle.safety.proofs.Members.{In, In-find, map-In}
-use Rattle.safety.proofs.Places.{AllPlaced, run-placed, some-there}
+use Rattle.safety.proofs.Places.{AllPlaced, run-placed}
 use Rattle.safety.proofs.Quiet.{Quiet, run-append}
 use Rattle.safety.proofs.Schemes.{run-scheme}
 use Rattle.safety.proofs.Sound.{Sound, run-sound}
@@ -170,7 +170,7 @@ quieted w sound all =
       transport = a.transport;
       quiet = record {
         sound = run-sound w a.events sound;
-        there = λ n node. some-there (station (run w a.events) n) (run-placed w a.events all n ∙ node);
+        placed = run-placed w a.events all;
         idle = λ n. everywhere a n (station w n) refl;
       };
       same = λ n.

@@ -38,3 +38,4 @@ pub mod Spoken
 pub mod Waking
 pub mod Sending
 pub mod Taken
+pub mod Closing

@@ -60,9 +60,9 @@ SaysOther c x Accepted = Tells x (Registry c) Itl Accepted
 SaysOther c x Rejected = Tells x (Registry c) Itl Rejected
 SaysOther c x _ = Unit {0}
 
--- at the log
+-- at the log, where nothing stands Proposed
 abbrev pub SaysAtLog : Transition → Status → Type 0
-SaysAtLog x Proposed = Unit {0}
+SaysAtLog x Proposed = ⊥
 SaysAtLog x Checked = (k : Content) × (x.content ≡ Some k) × In (to_propose Itl (Registry k.acquirer) x.id proposal.Checked k) x.messages
 SaysAtLog x Completed = Tells x Itl (acquirer_of x.content) Completed
 SaysAtLog x s = Tells x Itl (Registry x.id.code) s
@@ -127,7 +127,7 @@ log-passed : (q : Transition) (moment : ℕ) (said : Notice) (new : Status) → 
 log-passed q moment said Accepted same h = (said, same, inl refl)
 log-passed q moment said Rejected same h = (said, same, inl refl)
 log-passed q moment said Completed same h = (said, same, inl refl)
-log-passed q moment said Proposed same h = tt
+log-passed q moment said Proposed same h = absurd (elim h [ inl e ↦ cc (e) | inr e ↦ elim e [ inl d ↦ cc (d) | inr d ↦ cc (d) ] ])
 log-passed q moment said Checked same h = absurd (elim h [ inl e ↦ cc (e) | inr e ↦ elim e [ inl d ↦ cc (d) | inr d ↦ cc (d) ] ])
 log-passed q moment said Terminated same h = absurd (elim h [ inl e ↦ cc (e) | inr e ↦ elim e [ inl d ↦ cc (d) | inr d ↦ cc (d) ] ])
 log-passed q moment said Cancelled same h = absurd (elim h [ inl e ↦ cc (e) | inr e ↦ elim e [ inl d ↦ cc (d) | inr d ↦ cc (d) ] ])

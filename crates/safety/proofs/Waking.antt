@@ -33,6 +33,13 @@ transport-append (Post n key ∷ es) fs a b = transport-append es fs a b
 transport-append (Deliver index moment ∷ es) fs a b = transport-append es fs a b
 transport-append (Restart n ∷ es) fs a b = transport-append es fs a b
 
+-- events of transport lead from the one to the other
+abbrev pub Reaches : World → World → Type 0
+Reaches w v = (more : List WorldEvent) × (run w more ≡ v) × OnlyTransport more
+
+pub reaches-on : (u v w : World) → Reaches u v → Reaches v w → Reaches u w
+reaches-on u v w a b = (a.0 ++ b.0, run-append u a.0 b.0 ∙ ap (λ z. run z b.0) a.1 ∙ b.1, transport-append a.0 b.0 a.2 b.2)
+
 -- ---- one node
 
 -- the station there, if one is, runs and has committed all

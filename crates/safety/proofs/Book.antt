@@ -1,70 +1,31 @@
 -- A registry that holds a unit is its owner in the log's book.
-use Rattle.std.proofs.Common.{◌≡◌, ℕ, ◌+◌, List, ◌∷◌, Bool, true, false, not, cond, Some, inl, inr, refl, sym, ap, subst, ◌∙◌, arith}
+use Rattle.std.proofs.Common.{◌≡◌, ℕ, ◌+◌, List, true, Some, inl, inr, sym, ap, subst, ◌∙◌, arith}
 use Rattle.std.specs.Prelude.{◌&&◌}
-use Rattle.std.proofs.lemmas.Bool.{cond-false, cases_Bool, and_parts, and_from, not-true, eqb-true}
+use Rattle.std.proofs.lemmas.Bool.{cond-false, cases_Bool, and_from, eqb-true}
 use Rattle.units.proofs.Same.{code_of_same, same_code-refl}
 use Rattle.units.specs.Code.{same_code}
 use Rattle.units.specs.declared.block.Unit.{Unit as Serial}
 use Rattle.units.specs.declared.code.Code.{Code}
 use Rattle.units.specs.declared.code.Node.{Node}
 use Rattle.units.specs.declared.code.Node.TheVariants.{Itl, Registry}
-use Rattle.status.specs.Content.{Content}
 use Rattle.status.specs.Status.{same_status}
 use Rattle.status.specs.declared.id.TransactionId.{TransactionId}
 use Rattle.status.specs.declared.words.Status.TheVariants.{Cancelled, Completed}
-use Rattle.wire.specs.declared.input.Input.{Input}
-use Rattle.wire.specs.declared.message.Message.TheVariants as message
-use Rattle.wire.specs.declared.message.ProposalStatus.{ProposalStatus}
 use Rattle.wire.specs.declared.message.ProposalStatus.TheVariants as proposal
 use Rattle.scheme.specs.declared.registries.Scheme.{Scheme}
 use Rattle.protocol.specs.Checks.{is_owner}
 use Rattle.protocol.specs.Claims.{HolderOwns}
-use Rattle.protocol.specs.History.{Transition, Entry, transitions_of, newest, sends, number_of, has_serial, carries, gives, credits, at_start, holds, book_owner}
-use Rattle.safety.proofs.Causal.{Causal, heard-sent, log-said}
-use Rattle.safety.proofs.Counts.{NoRepeat, no-longer, picked, length-picked, In-picked, picked-In}
-use Rattle.safety.proofs.Ended.{each-move, ends-last, ends-once, offered, completed-sent, known, proposer}
-use Rattle.safety.proofs.Histories.{Made, Offered, newest-id}
+use Rattle.protocol.specs.History.{Transition, Entry, transitions_of, newest, number_of, has_serial, carries, gives, credits, at_start, holds, book_owner}
+use Rattle.safety.proofs.Causal.{Causal, heard-sent, one-some}
+use Rattle.safety.proofs.Completions.{done-status, given, credited, is-given, completed-once, offered-sent, log-completed}
+use Rattle.safety.proofs.Counts.{no-longer, picked, length-picked, In-picked, picked-In}
+use Rattle.safety.proofs.Ended.{ends-last, offered, completed-sent, known, proposer}
+use Rattle.safety.proofs.Histories.{newest-id}
 use Rattle.safety.proofs.LogAlone.{in-book, brings, brings_to, owner-is, log-ends-last, log-picked-once}
-use Rattle.safety.proofs.Members.{In, status_of_same}
-use Rattle.safety.proofs.Moves.{RegistryMove}
+use Rattle.safety.proofs.Members.{In}
 use Rattle.safety.proofs.Said.{log-offered}
-use Rattle.safety.proofs.Told.{Cause, told}
-
-one-some : (x y : Transition) → Some x ≡ Some y → x ≡ y
-one-some x y e = cc (e)
-
-done-status : (x : Transition) → x.new ≡ Completed → same_status x.new Completed ≡ true
-done-status x done = subst (λ z. same_status z Completed ≡ true) (sym done) refl
-
--- what a completion gives away, and what it takes in
-given : (c : Code) (s : Serial) (x : Transition) → gives c s x ≡ true → (x.new ≡ Completed) × (same_code x.id.code c ≡ true) × (carries x s ≡ true)
-given c s x h =
-    let a = and_parts (same_status x.new Completed) (same_code x.id.code c && carries x s) h in
-    let b = and_parts (same_code x.id.code c) (carries x s) a.1 in
-    (status_of_same x.new Completed a.0, b.0, b.1)
-
-credited : (c : Code) (s : Serial) (x : Transition) → credits c s x ≡ true → (x.new ≡ Completed) × (same_code x.id.code c ≡ false) × (carries x s ≡ true)
-credited c s x h =
-    let a = and_parts (same_status x.new Completed) (not (same_code x.id.code c) && carries x s) h in
-    let b = and_parts (not (same_code x.id.code c)) (carries x s) a.1 in
-    (status_of_same x.new Completed a.0, not-true (same_code x.id.code c) b.0, b.1)
-
--- no transaction is completed twice at one registry
-once : (scheme : Scheme) (c : Code) (p : Transition → Bool) → ((x : Transition) → p x ≡ true → x.new ≡ Completed) → (es : List Entry) → Made scheme (Registry c) es → NoRepeat (picked p (transitions_of es))
-once scheme c p done = each-move scheme c (λ xs. NoRepeat (picked p xs)) tt (λ es input x made move old. more es input x made move old (p x))
-  where
-    more : (es : List Entry) (input : Input) (x : Transition) → Made scheme (Registry c) es → RegistryMove scheme c es input x → NoRepeat (picked p (transitions_of es)) → (b : Bool)
-        → NoRepeat (cond b (x.id ∷ picked p (transitions_of es)) (picked p (transitions_of es)))
-    more es input x made move old true = (
-      (λ h. let q = In-picked p (transitions_of es) x.id h in ends-once scheme c es input x q.0 made move q.1 (done q.0 q.2) (sym q.3)),
-      old,
-    )
-    more es input x made move old false = old
 
 module _ (scheme : Scheme) (f : Node → List Entry) (causal : Causal scheme f) where
-  offered-sent : (n from : Node) (t : TransactionId) (st : ProposalStatus) (k : Content) (o : Offered (f n) from t st k) → In (message.Proposal o.proposal) (sends (f from))
-  offered-sent n from t st k o = subst (λ m. In (message.Proposal o.proposal) (sends (f m))) o.sender (causal.sent n (message.Proposal o.proposal) o.got)
-
   module _ (s : Serial) (c : Code) where
     -- what was credited here the log's book brought here
     credited-brought : (t : TransactionId) → In t (picked (credits c s) (transitions_of (f (Registry c)))) → In t (picked (brings c s) (transitions_of (f Itl)))
@@ -72,23 +33,18 @@ module _ (scheme : Scheme) (f : Node → List Entry) (causal : Causal scheme f) 
         let x = In-picked (credits c s) (transitions_of (f (Registry c))) t h in
         let came = credited c s x.0 x.2 in
         let last = ends-last scheme c (f (Registry c)) (causal.made (Registry c)) x.0 x.1 came.0 in
-        let heard = subst (Cause c (f (Registry c)) x.0.id) came.0 (told scheme c (f (Registry c)) (causal.made (Registry c)) x.0.id x.0 last came.1) in
-        let l = log-said scheme f causal (Registry c) x.0.id Completed heard in
-        let ended : l.0.new ≡ Completed = elim l.2 [
-          | inl e ↦ e
-          | inr e ↦ e.1
-        ] in
+        let l = log-completed scheme f causal c x.0 x.1 came.0 came.1 in
         elim (known scheme c (f (Registry c)) (causal.made (Registry c)) x.0.id x.0 last came.1) [
           | inl e ↦ let y : Completed ≡ Cancelled = sym came.0 ∙ e.0 in absurd (cc (y))
           | inr k ↦
-              let o = log-offered scheme (f Itl) (causal.made Itl) k.got.proposal (offered-sent (Registry c) Itl x.0.id proposal.Checked k.content k.got) in
+              let o = log-offered scheme (f Itl) (causal.made Itl) k.got.proposal (offered-sent scheme f causal (Registry c) Itl x.0.id proposal.Checked k.content k.got) in
               let there : newest (transitions_of (f Itl)) x.0.id ≡ Some o.0 = subst (λ z. newest (transitions_of (f Itl)) z ≡ Some o.0) k.got.about o.1 in
               let same : o.0 ≡ l.0 = one-some o.0 l.0 (sym there ∙ l.1) in
               let content : l.0.content ≡ Some k.content = ap (λ (z : Transition). z.content) (sym same) ∙ o.2 ∙ ap Some k.got.content in
               let id = newest-id (transitions_of (f Itl)) x.0.id l.0 l.1 in
               let here : brings_to l.0.content c ≡ true = subst (λ z. brings_to z c ≡ true) (sym content) (subst (λ z. same_code z c ≡ true) (sym k.here) (same_code-refl c)) in
               let brought : brings c s l.0 ≡ true =
-              and_from (same_status l.0.new Completed) (brings_to l.0.content c && carries l.0 s) (done-status l.0 ended)
+              and_from (same_status l.0.new Completed) (brings_to l.0.content c && carries l.0 s) (done-status l.0 l.2)
               (and_from (brings_to l.0.content c) (carries l.0 s) here (subst (λ z. has_serial z s ≡ true) (k.is ∙ sym content) came.2)) in
               subst (λ z. In z (picked (brings c s) (transitions_of (f Itl)))) (id.1 ∙ x.3) (picked-In (brings c s) (transitions_of (f Itl)) l.0 id.0 brought)
         ]
@@ -104,7 +60,7 @@ module _ (scheme : Scheme) (f : Node → List Entry) (causal : Causal scheme f) 
         let p = proposer scheme (f Itl) (causal.made Itl) x.0.id x.0 last in
         let g = p.ended out.0 in
         let q = completed-sent scheme d (f (Registry d)) (causal.made (Registry d)) g.notification (heard-sent scheme f causal Itl (Registry d) x.0.id Completed g) g.told in
-        let o = offered scheme d (f (Registry d)) (causal.made (Registry d)) p.got.proposal (offered-sent Itl (Registry d) x.0.id proposal.Proposed p.content p.got) in
+        let o = offered scheme d (f (Registry d)) (causal.made (Registry d)) p.got.proposal (offered-sent scheme f causal Itl (Registry d) x.0.id proposal.Proposed p.content p.got) in
         let about : q.0.id ≡ x.0.id = q.2 ∙ g.about in
         let there : newest (transitions_of (f (Registry d))) x.0.id ≡ Some q.0 =
         subst (λ z. newest (transitions_of (f (Registry d))) z ≡ Some q.0) about (ends-last scheme d (f (Registry d)) (causal.made (Registry d)) q.0 q.1 q.3) in
@@ -112,9 +68,7 @@ module _ (scheme : Scheme) (f : Node → List Entry) (causal : Causal scheme f) 
         let same : o.0 ≡ q.0 = one-some o.0 q.0 (sym first ∙ there) in
         let content : q.0.content ≡ Some p.content = ap (λ (z : Transition). z.content) (sym same) ∙ o.2 ∙ ap Some p.got.content in
         let goes : gives c s q.0 ≡ true =
-        and_from (same_status q.0.new Completed) (same_code q.0.id.code c && carries q.0 s) (done-status q.0 q.3)
-        (and_from (same_code q.0.id.code c) (carries q.0 s) (subst (λ (z : TransactionId). same_code z.code c ≡ true) (sym about) out.1)
-        (subst (λ z. has_serial z s ≡ true) (p.is ∙ sym content) out.2)) in
+        is-given c s q.0 q.3 (subst (λ (z : TransactionId). same_code z.code c ≡ true) (sym about) out.1) (subst (λ z. has_serial z s ≡ true) (p.is ∙ sym content) out.2) in
         subst (λ z. In t (picked (gives c s) (transitions_of (f (Registry z))))) code
         (subst (λ z. In z (picked (gives c s) (transitions_of (f (Registry d))))) (about ∙ x.3) (picked-In (gives c s) (transitions_of (f (Registry d))) q.0 q.1 goes))
 
@@ -122,7 +76,7 @@ module _ (scheme : Scheme) (f : Node → List Entry) (causal : Causal scheme f) 
     holder-is-owner h =
         let a =
         no-longer (picked (credits c s) (transitions_of (f (Registry c)))) (picked (brings c s) (transitions_of (f Itl)))
-        (once scheme c (credits c s) (λ x i. (credited c s x i).0) (f (Registry c)) (causal.made (Registry c))) credited-brought in
+        (completed-once scheme c (credits c s) (λ x i. (credited c s x i).0) (f (Registry c)) (causal.made (Registry c))) credited-brought in
         let b =
         no-longer (picked (gives c s) (transitions_of (f Itl))) (picked (gives c s) (transitions_of (f (Registry c))))
         (log-picked-once scheme (gives c s) (λ x i. (given c s x i).0) (f Itl) (causal.made Itl)) moved-given in

@@ -67,6 +67,31 @@ number-one p (y ∷ ys) x (inr i) h =
       | inr f ↦ let u = count-no p y ys f in omega arith
     ]
 
+pub number-some : {X : Type 0} (p : X → Bool) (xs : List X) → 1 ≤ number_of p xs → (x : X) × In x xs × (p x ≡ true)
+number-some p xs h =
+    elim (cases_Bool (list_any p xs)) [
+      | inl y ↦ list-any-some p xs y
+      | inr n ↦ absurd (let e = number-none p xs n in omega arith)
+    ]
+
+pub number-two : {X : Type 0} (p : X → Bool) (xs : List X) (x y : X) → In x xs → In y xs → p x ≡ true → p y ≡ true → (x ≡ y → ⊥) → 2 ≤ number_of p xs
+number-two p [] x y i j h k other = absurd i
+number-two p (z ∷ zs) x y (inl e) (inl g) h k other = absurd (other (sym e ∙ g))
+number-two p (z ∷ zs) x y (inl e) (inr j) h k other =
+    let u = count-yes p z zs (subst (λ w. p w ≡ true) (sym e) h) in
+    let a = number-one p zs y j k in
+    omega arith
+number-two p (z ∷ zs) x y (inr i) (inl g) h k other =
+    let u = count-yes p z zs (subst (λ w. p w ≡ true) (sym g) k) in
+    let a = number-one p zs x i h in
+    omega arith
+number-two p (z ∷ zs) x y (inr i) (inr j) h k other =
+    let a = number-two p zs x y i j h k other in
+    elim (cases_Bool (p z)) [
+      | inl t ↦ let u = count-yes p z zs t in omega arith
+      | inr f ↦ let u = count-no p z zs f in omega arith
+    ]
+
 -- those that pass are those that pass another test too and those that don't
 pub number-parts : {X : Type 0} (p q : X → Bool) (xs : List X) → number_of p xs ≡ number_of (λ x. p x && q x) xs + number_of (λ x. p x && not (q x)) xs
 number-parts p q [] = refl

@@ -16,7 +16,10 @@ pub mod Local
 pub mod Ended
 pub mod LogShapes
 pub mod LogAlone
+pub mod Completions
 pub mod Book
 pub mod Schemes
 pub mod Reached
 pub mod Places
+pub mod Sums
+pub mod OnePlace

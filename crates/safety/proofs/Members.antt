@@ -1,9 +1,10 @@
 -- Membership in a list, by recursion, and what the tests of sameness say.
 use Rattle.std.proofs.Common.{◌≡◌, ℕ, zero, suc, List, [], ◌∷◌, ◌++◌, Bool, true, false, cond, Option, Some, ◌⊎◌, inl, inr, refl, sym, ap, subst, ◌∙◌, map}
 use Rattle.std.specs.Prelude.{filter, flat_map, find, slice_get, ◌==◌}
-use Rattle.std.proofs.lemmas.Bool.{and_parts, and_from, eq-eqb, eqb-true}
+use Rattle.std.proofs.lemmas.Bool.{and_parts, and_from, eq-eqb, eqb-true, false_from_ne_true}
 use Rattle.units.proofs.Same.{code_of_same, same_code-refl}
 use Rattle.units.specs.Code.{same_code}
+use Rattle.units.specs.declared.code.Code.{Code}
 use Rattle.status.proofs.Ids.{id_at-some}
 use Rattle.status.specs.Id.{same_id, id_at}
 use Rattle.status.specs.Status.{same_status, status_index}
@@ -87,6 +88,12 @@ id_of_same a b e =
 
 pub same_id-refl : (a : TransactionId) → same_id a a ≡ true
 same_id-refl a = and_from (same_code a.code a.code) (a.number == a.number) (same_code-refl a.code) (eq-eqb a.number a.number refl)
+
+pub codes-differ : (a b : Code) → same_code a b ≡ false → a ≡ b → ⊥
+codes-differ a b other e = let x : true ≡ false = sym (same_code-refl a) ∙ ap (same_code a) e ∙ other in cc (x)
+
+pub other-code : (a b : Code) → (a ≡ b → ⊥) → same_code a b ≡ false
+other-code a b differ = false_from_ne_true (same_code a b) (λ e. differ (code_of_same a b e))
 
 status_at : ℕ → Status
 status_at zero = Proposed

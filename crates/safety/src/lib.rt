@@ -5,9 +5,11 @@
 mod agreement;
 mod counting;
 mod log;
+mod one_place;
 mod owning;
 
 pub use agreement::nodes_agree;
 pub use counting::registry_counts_once;
 pub use log::log_alone;
+pub use one_place::units_stand_in_one_place;
 pub use owning::holders_own;

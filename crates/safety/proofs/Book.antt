@@ -11,19 +11,17 @@ use Rattle.units.specs.declared.code.Node.TheVariants.{Itl, Registry}
 use Rattle.status.specs.Status.{same_status}
 use Rattle.status.specs.declared.id.TransactionId.{TransactionId}
 use Rattle.status.specs.declared.words.Status.TheVariants.{Cancelled, Completed}
-use Rattle.wire.specs.declared.message.ProposalStatus.TheVariants as proposal
 use Rattle.scheme.specs.declared.registries.Scheme.{Scheme}
 use Rattle.protocol.specs.Checks.{is_owner}
 use Rattle.protocol.specs.Claims.{HolderOwns}
 use Rattle.protocol.specs.History.{Transition, Entry, transitions_of, newest, number_of, has_serial, carries, gives, credits, at_start, holds, book_owner}
 use Rattle.safety.proofs.Causal.{Causal, heard-sent, one-some}
-use Rattle.safety.proofs.Completions.{done-status, given, credited, is-given, completed-once, offered-sent, log-completed}
+use Rattle.safety.proofs.Completions.{done-status, given, credited, is-given, completed-once, log-has, initiator-has, log-completed}
 use Rattle.safety.proofs.Counts.{no-longer, picked, length-picked, In-picked, picked-In}
-use Rattle.safety.proofs.Ended.{ends-last, offered, completed-sent, known, proposer}
+use Rattle.safety.proofs.Ended.{ends-last, completed-sent, known, proposer}
 use Rattle.safety.proofs.Histories.{newest-id}
 use Rattle.safety.proofs.LogAlone.{in-book, brings, brings_to, owner-is, log-ends-last, log-picked-once}
 use Rattle.safety.proofs.Members.{In}
-use Rattle.safety.proofs.Said.{log-offered}
 
 module _ (scheme : Scheme) (f : Node → List Entry) (causal : Causal scheme f) where
   module _ (s : Serial) (c : Code) where
@@ -37,10 +35,9 @@ module _ (scheme : Scheme) (f : Node → List Entry) (causal : Causal scheme f) 
         elim (known scheme c (f (Registry c)) (causal.made (Registry c)) x.0.id x.0 last came.1) [
           | inl e ↦ let y : Completed ≡ Cancelled = sym came.0 ∙ e.0 in absurd (cc (y))
           | inr k ↦
-              let o = log-offered scheme (f Itl) (causal.made Itl) k.got.proposal (offered-sent scheme f causal (Registry c) Itl x.0.id proposal.Checked k.content k.got) in
-              let there : newest (transitions_of (f Itl)) x.0.id ≡ Some o.0 = subst (λ z. newest (transitions_of (f Itl)) z ≡ Some o.0) k.got.about o.1 in
-              let same : o.0 ≡ l.0 = one-some o.0 l.0 (sym there ∙ l.1) in
-              let content : l.0.content ≡ Some k.content = ap (λ (z : Transition). z.content) (sym same) ∙ o.2 ∙ ap Some k.got.content in
+              let o = log-has scheme f causal c x.0.id k.content k.got in
+              let same : o.0 ≡ l.0 = one-some o.0 l.0 (sym o.1 ∙ l.1) in
+              let content : l.0.content ≡ Some k.content = ap (λ (z : Transition). z.content) (sym same) ∙ o.2 in
               let id = newest-id (transitions_of (f Itl)) x.0.id l.0 l.1 in
               let here : brings_to l.0.content c ≡ true = subst (λ z. brings_to z c ≡ true) (sym content) (subst (λ z. same_code z c ≡ true) (sym k.here) (same_code-refl c)) in
               let brought : brings c s l.0 ≡ true =
@@ -60,13 +57,12 @@ module _ (scheme : Scheme) (f : Node → List Entry) (causal : Causal scheme f) 
         let p = proposer scheme (f Itl) (causal.made Itl) x.0.id x.0 last in
         let g = p.ended out.0 in
         let q = completed-sent scheme d (f (Registry d)) (causal.made (Registry d)) g.notification (heard-sent scheme f causal Itl (Registry d) x.0.id Completed g) g.told in
-        let o = offered scheme d (f (Registry d)) (causal.made (Registry d)) p.got.proposal (offered-sent scheme f causal Itl (Registry d) x.0.id proposal.Proposed p.content p.got) in
+        let o = initiator-has scheme f causal x.0.id p.content p.got in
         let about : q.0.id ≡ x.0.id = q.2 ∙ g.about in
         let there : newest (transitions_of (f (Registry d))) x.0.id ≡ Some q.0 =
         subst (λ z. newest (transitions_of (f (Registry d))) z ≡ Some q.0) about (ends-last scheme d (f (Registry d)) (causal.made (Registry d)) q.0 q.1 q.3) in
-        let first : newest (transitions_of (f (Registry d))) x.0.id ≡ Some o.0 = subst (λ z. newest (transitions_of (f (Registry d))) z ≡ Some o.0) p.got.about o.1 in
-        let same : o.0 ≡ q.0 = one-some o.0 q.0 (sym first ∙ there) in
-        let content : q.0.content ≡ Some p.content = ap (λ (z : Transition). z.content) (sym same) ∙ o.2 ∙ ap Some p.got.content in
+        let same : o.0 ≡ q.0 = one-some o.0 q.0 (sym o.1 ∙ there) in
+        let content : q.0.content ≡ Some p.content = ap (λ (z : Transition). z.content) (sym same) ∙ o.2 in
         let goes : gives c s q.0 ≡ true =
         is-given c s q.0 q.3 (subst (λ (z : TransactionId). same_code z.code c ≡ true) (sym about) out.1) (subst (λ z. has_serial z s ≡ true) (p.is ∙ sym content) out.2) in
         subst (λ z. In t (picked (gives c s) (transitions_of (f (Registry z))))) code

@@ -19,7 +19,7 @@ use Rattle.wire.specs.declared.message.ProposalStatus.TheVariants as proposal
 use Rattle.scheme.specs.declared.registries.Scheme.{Scheme}
 use Rattle.protocol.specs.AtLog.{is_no_registry}
 use Rattle.protocol.specs.Claims.{at_registry}
-use Rattle.protocol.specs.History.{Transition, Entry, transitions_of, newest, sends, is_status, carries, gives, credits}
+use Rattle.protocol.specs.History.{Transition, Entry, transitions_of, newest, stands, sends, is_status, carries, gives, credits}
 use Rattle.safety.proofs.Causal.{Causal, heard-sent, log-said, one-some}
 use Rattle.safety.proofs.Counts.{NoRepeat, picked, In-picked}
 use Rattle.safety.proofs.Ended.{each-move, ends-last, ends-once, offered, completed-sent, known, proposer}
@@ -59,6 +59,9 @@ pub stood : (o : Option Transition) (s : Status) → is_status (option_map (λ (
 stood None s h = absurd (cc (h))
 stood (Some x) s h = (x, refl, status_of_same x.new s h)
 
+pub stands-so : (xs : List Transition) (t : TransactionId) (x : Transition) (s : Status) → newest xs t ≡ Some x → x.new ≡ s → stands xs t ≡ Some s
+stands-so xs t x s h e = ap (option_map (λ (z : Transition). z.new)) h ∙ ap Some e
+
 -- ---- one registry
 
 -- no transaction is completed twice at one registry
@@ -90,25 +93,27 @@ module _ (scheme : Scheme) (f : Node → List Entry) (causal : Causal scheme f) 
   pub offered-sent : (n from : Node) (t : TransactionId) (st : ProposalStatus) (k : Content) (o : Offered (f n) from t st k) → In (message.Proposal o.proposal) (sends (f from))
   offered-sent n from t st k o = subst (λ m. In (message.Proposal o.proposal) (sends (f m))) o.sender (causal.sent n (message.Proposal o.proposal) o.got)
 
+  -- what was offered, the one who offered it has with that content
+  pub log-has : (c : Code) (t : TransactionId) (k : Content) → Offered (f (Registry c)) Itl t proposal.Checked k → (y : Transition) × (newest (transitions_of (f Itl)) t ≡ Some y) × (y.content ≡ Some k)
+  log-has c t k got =
+      let o = log-offered scheme (f Itl) (causal.made Itl) got.proposal (offered-sent (Registry c) Itl t proposal.Checked k got) in
+      (o.0, subst (λ z. newest (transitions_of (f Itl)) z ≡ Some o.0) got.about o.1, o.2 ∙ ap Some got.content)
+
+  pub initiator-has : (t : TransactionId) (k : Content) → Offered (f Itl) (Registry t.code) t proposal.Proposed k → (y : Transition) × (newest (at_registry f t.code) t ≡ Some y) × (y.content ≡ Some k)
+  initiator-has t k got =
+      let o = offered scheme t.code (f (Registry t.code)) (causal.made (Registry t.code)) got.proposal (offered-sent Itl (Registry t.code) t proposal.Proposed k got) in
+      (o.0, subst (λ z. newest (at_registry f t.code) z ≡ Some o.0) got.about o.1, o.2 ∙ ap Some got.content)
+
   pub transfer : (c : Code) (t : TransactionId) (x : Transition) → newest (at_registry f c) t ≡ Some x → same_code t.code c ≡ false → x.new ≡ Completed → Transfer scheme f c t x
   transfer c t x last foreign done =
       elim (known scheme c (f (Registry c)) (causal.made (Registry c)) t x last foreign) [
         | inl e ↦ let y : Completed ≡ Cancelled = sym done ∙ e.0 in absurd (cc (y))
         | inr k ↦
-            let o = log-offered scheme (f Itl) (causal.made Itl) k.got.proposal (offered-sent (Registry c) Itl t proposal.Checked k.content k.got) in
-            let there : newest (transitions_of (f Itl)) t ≡ Some o.0 = subst (λ z. newest (transitions_of (f Itl)) z ≡ Some o.0) k.got.about o.1 in
-            let p = proposer scheme (f Itl) (causal.made Itl) t o.0 there in
-            let content : p.content ≡ k.content = one-some p.content k.content (sym p.is ∙ o.2 ∙ ap Some k.got.content) in
-            let i = offered scheme t.code (f (Registry t.code)) (causal.made (Registry t.code)) p.got.proposal (offered-sent Itl (Registry t.code) t proposal.Proposed p.content p.got) in
-            record {
-              content = k.content;
-              is = k.is;
-              here = k.here;
-              initiator = i.0;
-              newest_there = subst (λ z. newest (at_registry f t.code) z ≡ Some i.0) p.got.about i.1;
-              content_there = i.2 ∙ ap Some (p.got.content ∙ content);
-              member_there = p.initiator_known;
-            }
+            let o = log-has c t k.content k.got in
+            let p = proposer scheme (f Itl) (causal.made Itl) t o.0 o.1 in
+            let content : p.content ≡ k.content = one-some p.content k.content (sym p.is ∙ o.2) in
+            let i = initiator-has t p.content p.got in
+            record { content = k.content; is = k.is; here = k.here; initiator = i.0; newest_there = i.1; content_there = i.2 ∙ ap Some content; member_there = p.initiator_known }
       ]
 
   -- the log completed what an acquirer completed

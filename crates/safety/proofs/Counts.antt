@@ -147,6 +147,11 @@ no-repeat-append (x ∷ xs) ys n m apart = (
   no-repeat-append xs ys n.1 m (λ z i j. apart z (inr i) j),
 )
 
+pub no-repeat-apart : {X : Type 0} (xs ys : List X) (x : X) → NoRepeat (xs ++ ys) → In x xs → In x ys → ⊥
+no-repeat-apart [] ys x n i j = i
+no-repeat-apart (z ∷ zs) ys x n (inl e) j = n.0 (In-right z zs ys (subst (λ w. In w ys) (sym e) j))
+no-repeat-apart (z ∷ zs) ys x n (inr i) j = no-repeat-apart zs ys x n.1 i j
+
 -- ---- the identifiers of the transitions that pass
 
 abbrev pub picked : (Transition → Bool) → List Transition → List TransactionId
@@ -182,3 +187,11 @@ picked-In p (q ∷ xs) x (inr h) y =
       | inl z ↦ subst (λ ids. In x.id ids) (sym (cond-true (p q) (q.id ∷ picked p xs) (picked p xs) z)) (inr (picked-In p xs x h y))
       | inr n ↦ subst (λ ids. In x.id ids) (sym (cond-false (p q) (q.id ∷ picked p xs) (picked p xs) n)) (picked-In p xs x h y)
     ]
+
+pub picked-append : (p : Transition → Bool) (xs ys : List Transition) → picked p (xs ++ ys) ≡ picked p xs ++ picked p ys
+picked-append p [] ys = refl
+picked-append p (x ∷ xs) ys = go (p x) (picked-append p xs ys)
+  where
+    go : (b : Bool) → picked p (xs ++ ys) ≡ picked p xs ++ picked p ys → cond b (x.id ∷ picked p (xs ++ ys)) (picked p (xs ++ ys)) ≡ cond b (x.id ∷ picked p xs) (picked p xs) ++ picked p ys
+    go true e = ap (λ ids. x.id ∷ ids) e
+    go false e = e

@@ -33,7 +33,7 @@ use Rattle.safety.proofs.Members.{In, In-cases, In-flat_map, In-left, In-right, 
 use Rattle.safety.proofs.Moves.{RegistryMove, proposes, arrives, bares, settles, finishes, LogMove, checks, passes, cancels}
 use Rattle.safety.proofs.Tables.{initiator-from, acquirer-from, log-from}
 
-clash : {X : Type 0} (a : Bool) → a ≡ true → a ≡ false → X
+pub clash : {X : Type 0} (a : Bool) → a ≡ true → a ≡ false → X
 clash a p q = let e : true ≡ false = sym p ∙ q in absurd (cc (e))
 
 one-some : (x y : Transition) → Some x ≡ Some y → x ≡ y
@@ -119,7 +119,7 @@ module _ (scheme : Scheme) (c : Code) where
   own-code n t is = subst (λ z. same_code z c ≡ true) (sym (id_at-code c n t is)) (same_code-refl c)
 
   -- who a transition is about is who the notification was about
-  own-about : (es : List Entry) (t : TransactionId) (q : Transition) → newest (transitions_of es) t ≡ Some q → same_code q.id.code c ≡ true → same_code t.code c ≡ true
+  pub own-about : (es : List Entry) (t : TransactionId) (q : Transition) → newest (transitions_of es) t ≡ Some q → same_code q.id.code c ≡ true → same_code t.code c ≡ true
   own-about es t q was own = subst (λ (z : TransactionId). same_code z.code c ≡ true) (newest-id (transitions_of es) t q was).1 own
 
   newest-own : (es : List Entry) (t : TransactionId) (q x : Transition) → newest (transitions_of es) t ≡ Some q → newest (transitions_of es) q.id ≡ Some x → q ≡ x

@@ -1,12 +1,12 @@
 -- Histories that go on with more inputs.
-use Rattle.std.proofs.Common.{◌≡◌, List, [], ◌∷◌, ◌++◌, ◌⊎◌, inr, refl, sym, subst}
+use Rattle.std.proofs.Common.{◌≡◌, List, [], ◌∷◌, ◌++◌, ◌⊎◌, inr, refl, sym, subst, ◌∙◌, append_assoc}
 use Rattle.units.specs.declared.code.Node.{Node}
 use Rattle.status.specs.declared.moment.Moment.{Moment}
 use Rattle.wire.specs.declared.input.Input.{Input}
 use Rattle.wire.specs.declared.input.Input.TheVariants.{Received}
 use Rattle.wire.specs.declared.message.Message.{Message}
 use Rattle.scheme.specs.declared.registries.Scheme.{Scheme}
-use Rattle.protocol.specs.History.{Entry, sends, messages_of}
+use Rattle.protocol.specs.History.{Transition, Entry, transitions_of, sends, messages_of}
 use Rattle.protocol.specs.Verdict.{verdict, extend, history_from, history, made}
 use Rattle.safety.proofs.Histories.{Made, Got}
 use Rattle.safety.proofs.Members.{In, In-left}
@@ -39,3 +39,10 @@ got-append scheme n xs ys m h = subst (λ (es : List Entry). Got es m) (sym (his
 -- with one input more, what was received was received before, or is that input
 pub got-more : (scheme : Scheme) (n : Node) (xs : List Input) (i : Input) (m : Message) → Got (history scheme n (xs ++ i ∷ [])) m → ((moment : Moment) × (i ≡ Received m moment)) ⊎ Got (history scheme n xs) m
 got-more scheme n xs i m h = subst (λ (es : List Entry). Got es m) (history_from-append scheme n [] xs (i ∷ [])) h
+
+-- the transitions of more inputs stand in front of the older ones
+pub transitions-from : (scheme : Scheme) (n : Node) (es : List Entry) (xs : List Input) → (front : List Transition) × (transitions_of (history_from scheme n es xs) ≡ front ++ transitions_of es)
+transitions-from scheme n es [] = ([], refl)
+transitions-from scheme n es (x ∷ xs) =
+    let r = transitions-from scheme n (extend scheme n es x) xs in
+    (r.0 ++ made (verdict scheme n es x), r.1 ∙ sym (append_assoc r.0 (made (verdict scheme n es x)) (transitions_of es)))

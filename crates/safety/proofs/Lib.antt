@@ -23,3 +23,7 @@ pub mod Reached
 pub mod Places
 pub mod Sums
 pub mod OnePlace
+pub mod OneOwner
+pub mod OwnStatuses
+pub mod Committing
+pub mod OwnersMove

@@ -37,18 +37,18 @@ answered-node s i IsRepeat = refl
 answered-node s i IsLate = refl
 answered-node s i (IsRefused code) = refl
 
-take-node : (scheme : Scheme) (i : Input) (s : Station) → (take_input scheme i s).station.node ≡ s.node
+pub take-node : (scheme : Scheme) (i : Input) (s : Station) → (take_input scheme i s).station.node ≡ s.node
 take-node scheme i s =
     let v = verdict scheme s.node (history scheme s.node (journal s)) i in
     cond-node s.node s.runs (answered s i v) (rests s NotPossible) (answered-node s i v) refl
 
-commit-node : (count : ℕ) (s : Station) → (commit count s).station.node ≡ s.node
+pub commit-node : (count : ℕ) (s : Station) → (commit count s).station.node ≡ s.node
 commit-node count s = cond-node s.node s.runs _ (rests s NotPossible) (cond-node s.node (nat_le count (length s.tail)) _ (rests s NotPossible) refl refl) refl
 
-crash-node : (kept : ℕ) (s : Station) → (crash kept s).station.node ≡ s.node
+pub crash-node : (kept : ℕ) (s : Station) → (crash kept s).station.node ≡ s.node
 crash-node kept s = cond-node s.node s.runs _ (rests s NotPossible) (cond-node s.node (nat_le kept (length s.tail)) _ (rests s NotPossible) refl refl) refl
 
-restart-node : (s : Station) → (restart s).station.node ≡ s.node
+pub restart-node : (s : Station) → (restart s).station.node ≡ s.node
 restart-node s = cond-node s.node s.runs (rests s NotPossible) _ refl refl
 
 -- ---- a step takes no station away and brings none

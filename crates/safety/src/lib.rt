@@ -12,4 +12,4 @@ pub use agreement::nodes_agree;
 pub use counting::registry_counts_once;
 pub use log::log_alone;
 pub use one_place::units_stand_in_one_place;
-pub use owning::holders_own;
+pub use owning::{holders_own, owners_move_by_completions, units_have_one_owner};

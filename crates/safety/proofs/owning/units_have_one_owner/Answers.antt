@@ -1,0 +1,10 @@
+use Rattle.protocol.specs.Claims.{live_of, committed_of}
+use Rattle.safety.proofs.OneOwner.{causal-one-owner}
+use Rattle.safety.proofs.Reached.{reached, reached-live, reached-committed}
+use Rattle.safety.proofs.owning.units_have_one_owner.Goals as goal
+
+pub returns-clause-live : goal.returns-clause-live
+returns-clause-live c = λ scheme events. causal-one-owner scheme (live_of (reached scheme events)) (reached-live scheme events)
+
+pub returns-clause-committed : goal.returns-clause-committed
+returns-clause-committed c = λ scheme events. causal-one-owner scheme (committed_of (reached scheme events)) (reached-committed scheme events)

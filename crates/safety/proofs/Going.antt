@@ -1,5 +1,5 @@
 -- Histories that go on with more inputs.
-use Rattle.std.proofs.Common.{◌≡◌, List, [], ◌∷◌, ◌++◌, ◌⊎◌, inr, refl, sym, subst, ◌∙◌, append_assoc}
+use Rattle.std.proofs.Common.{◌≡◌, List, [], ◌∷◌, ◌++◌, ◌⊎◌, inl, inr, refl, sym, subst, ◌∙◌, append_assoc}
 use Rattle.units.specs.declared.code.Node.{Node}
 use Rattle.status.specs.declared.moment.Moment.{Moment}
 use Rattle.wire.specs.declared.input.Input.{Input}
@@ -29,6 +29,12 @@ sends-from scheme n es (x ∷ xs) m h = sends-from scheme n (extend scheme n es 
 pub got-from : (scheme : Scheme) (n : Node) (es : List Entry) (xs : List Input) (m : Message) → Got es m → Got (history_from scheme n es xs) m
 got-from scheme n es [] m h = h
 got-from scheme n es (x ∷ xs) m h = got-from scheme n (extend scheme n es x) xs m (inr h)
+
+-- an input of the journal was received
+pub got-in : (scheme : Scheme) (n : Node) (es : List Entry) (xs : List Input) (m : Message) (moment : Moment) → In (Received m moment) xs → Got (history_from scheme n es xs) m
+got-in scheme n es [] m moment i = absurd i
+got-in scheme n es (x ∷ xs) m moment (inl e) = got-from scheme n (extend scheme n es x) xs m (inl (moment, e))
+got-in scheme n es (x ∷ xs) m moment (inr i) = got-in scheme n (extend scheme n es x) xs m moment i
 
 pub sends-append : (scheme : Scheme) (n : Node) (xs ys : List Input) (m : Message) → In m (sends (history scheme n xs)) → In m (sends (history scheme n (xs ++ ys)))
 sends-append scheme n xs ys m h = subst (λ (es : List Entry). In m (sends es)) (sym (history_from-append scheme n [] xs ys)) (sends-from scheme n (history scheme n xs) ys m h)

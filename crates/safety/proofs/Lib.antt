@@ -1,4 +1,5 @@
 pub mod Members
+pub mod Positions
 pub mod Counts
 pub mod Units
 pub mod Canonical
@@ -27,3 +28,9 @@ pub mod OneOwner
 pub mod OwnStatuses
 pub mod Committing
 pub mod OwnersMove
+pub mod Weave
+pub mod Quiet
+pub mod InTurn
+pub mod Ordered
+pub mod Stuck
+pub mod EachWaits

@@ -1,5 +1,5 @@
 -- The log by itself, whatever messages come: whose units the book says they are, and which transfers are under way.
-use Rattle.std.proofs.Common.{◌≡◌, ℕ, zero, suc, ◌+◌, ◌<◌, List, [], ◌∷◌, ◌++◌, Bool, true, false, cond, Option, Some, None, ◌⊎◌, inl, inr, refl, sym, ap, subst, ◌∙◌, arith, length, get_or}
+use Rattle.std.proofs.Common.{◌≡◌, ℕ, ◌+◌, List, [], ◌∷◌, ◌++◌, Bool, true, false, cond, Option, Some, None, ◌⊎◌, inl, inr, refl, sym, ap, subst, ◌∙◌, arith}
 use Rattle.std.specs.Prelude.{◌&&◌, ◌||◌, option_map, is_none}
 use Rattle.std.proofs.lemmas.Bool.{and_from, and_left, and_right, not-false, cond-true, cond-false, cases_Bool}
 use Rattle.units.proofs.Same.{code_of_same}
@@ -33,6 +33,7 @@ use Rattle.safety.proofs.LogShapes.{AllCancelled, each-log-move, none-stand}
 use Rattle.safety.proofs.Members.{In, In-cases, id_of_same, same_id-refl}
 use Rattle.safety.proofs.Moves.{LogMove, checks, passes, cancels, log-moves}
 use Rattle.safety.proofs.Ended.{proposer}
+use Rattle.safety.proofs.Positions.{In-contains}
 use Rattle.safety.proofs.Tables.{log-from}
 use Rattle.safety.proofs.Units.{piece-of}
 
@@ -329,11 +330,6 @@ module _ (scheme : Scheme) where
 
   -- ---- what is completed was the initiator's
 
-  In-get_or : {X : Type 0} (xs : List X) (k : ℕ) (d : X) → k < length xs → In (get_or xs k d) xs
-  In-get_or [] k d h = absurd (omega arith)
-  In-get_or (x ∷ xs) zero d h = inl refl
-  In-get_or (x ∷ xs) (suc k) d h = inr (In-get_or xs k d (omega arith))
-
   completed-owned : (es : List Entry) (input : Input) (x : Transition) → Made scheme Itl es → LogMove scheme es input x → x.new ≡ Completed → (s : Serial) → carries x s ≡ true
       → book_owner scheme (transitions_of es) s ≡ Some x.id.code
   completed-owned es input x made (checks p moment found f st is none member) done s has = absurd (not-completed found done)
@@ -346,7 +342,7 @@ module _ (scheme : Scheme) where
   unfolding verdict
   owned-by-initiator journal input xs h x i done s has =
       let es = history scheme Itl journal in
-      let j : In x xs = subst (λ z. In z xs) i.2 (In-get_or xs i.0 x i.1) in
+      let j : In x xs = In-contains xs x i in
       completed-owned es input x (made-history scheme Itl journal) (log-moves scheme es input x (subst (λ v. In x (made_of v)) (sym h) j)) done s has
 
 -- ---- a completed transition of the log is the last of its transaction

@@ -27,6 +27,7 @@ use Rattle.safety.proofs.Causal.{Causal}
 use Rattle.safety.proofs.Going.{made-history, sends-append, got-append, got-more}
 use Rattle.safety.proofs.Histories.{Got}
 use Rattle.safety.proofs.Members.{In, In-cases, In-slice_get}
+use Rattle.safety.proofs.Positions.{left-empty}
 use Rattle.safety.proofs.Senders.{sender-sends}
 use Rattle.safety.proofs.Stations.{at, at-node, at-put, at-elsewhere}
 
@@ -221,12 +222,19 @@ opening-empty n (m ∷ ms) = go (same_node (Registry m.code) n) (opening-empty n
     go true rest = refl
     go false rest = rest
 
-no-journal : (scheme : Scheme) (n : Node) → whole (station (opening scheme) n) ≡ []
+pub no-journal : (scheme : Scheme) (n : Node) → whole (station (opening scheme) n) ≡ []
 no-journal scheme n = go (same_node Itl n)
   where
     go : (b : Bool) → whole (cond b (Some (opening_station Itl)) (at n (map (λ m. opening_station (Registry m.code)) scheme.members))) ≡ []
     go true = refl
     go false = opening-empty n scheme.members
+
+pub none-committed : (scheme : Scheme) (n : Node) → committed_part (station (opening scheme) n) ≡ []
+none-committed scheme n = go (station (opening scheme) n) (no-journal scheme n)
+  where
+    go : (o : Option Station) → whole o ≡ [] → committed_part o ≡ []
+    go None e = refl
+    go (Some s) e = left-empty s.committed s.tail e
 
 pub opening-sound : (scheme : Scheme) → Sound (opening scheme)
 opening-sound scheme = record {

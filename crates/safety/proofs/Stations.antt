@@ -17,6 +17,9 @@ at-node n xs s h = node_of_same s.node n (In-find (λ (x : Station). same_node x
 differ : (a b : Node) → same_node a b ≡ false → a ≡ b → ⊥
 differ a b n e = let x : true ≡ false = sym (same_node-refl a) ∙ ap (same_node a) e ∙ n in cc (x)
 
+pub other-way : (a b : Node) → same_node a b ≡ false → same_node b a ≡ false
+other-way a b n = elim (cases_Bool (same_node b a)) [ inl y ↦ absurd (differ a b n (sym (node_of_same b a y))) | inr z ↦ z ]
+
 same-other : (a b m : Node) → a ≡ b → same_node b m ≡ false → same_node a m ≡ false
 same-other a b m e n = ap (λ x. same_node x m) e ∙ n
 

@@ -1,0 +1,24 @@
+//! Journals that some list of events leads to.
+ghost use Rattle.std.specs.Prelude.{List, ◌≡◌, ◌⊎◌};
+ghost use Rattle.units.specs.declared.code.Node.{Node};
+ghost use Rattle.wire.specs.declared.input.Input.{Input};
+ghost use Rattle.scheme.specs.declared.registries.Scheme.{Scheme};
+ghost use Rattle.protocol.specs.Weave.{GoOn, HasNext, InTurn, IsPlausible, Placed, Projects, StuckIsFinal, journals_of};
+ghost use Rattle.protocol.specs.World.{opening, run};
+ghost use Rattle.protocol.specs.declared.event.WorldEvent.{WorldEvent};
+
+/// Journals are those that some list of events leads to exactly where their records have an order in which
+/// each is next when its turn comes. A part of such journals that falls short can always go on; and where
+/// none can go on, no list of events leads to the journals.
+pub fn journals_weave()
+    ensures reached { (scheme : Scheme) (order : List Placed) → InTurn scheme order → (events : List WorldEvent) × Projects scheme events (journals_of order) }
+    ensures ordered { (scheme : Scheme) (events : List WorldEvent) (journals : Node → List Input) → Projects scheme events journals → (order : List Placed) × InTurn scheme order × ((n : Node) → journals_of order n ≡ journals n) }
+    ensures never_stuck { (scheme : Scheme) (events : List WorldEvent) (journals past : Node → List Input) → Projects scheme events journals → GoOn past journals → ((n : Node) → past n ≡ journals n) ⊎ HasNext scheme past journals }
+    ensures stuck { (scheme : Scheme) (events : List WorldEvent) (journals : Node → List Input) → StuckIsFinal (run (opening scheme) events) journals }
+{}
+
+/// That each record is recorded on its journal, and each received message is among all that its sender
+/// sends, doesn't make journals that events lead to: an order is needed.
+pub fn plausible_is_not_enough()
+    ensures { (scheme : Scheme) × (journals : Node → List Input) × IsPlausible scheme journals × ((events : List WorldEvent) → Projects scheme events journals → ⊥) }
+{}

@@ -46,7 +46,7 @@ LogSays f t s = (x : Transition) × (newest (transitions_of (f Itl)) t ≡ Some 
 abbrev pub LogAgrees : (Node → List Entry) → TransactionId → Type 0
 LogAgrees f t = (x : Transition) × (newest (transitions_of (f Itl)) t ≡ Some x) × IsAgreed x.new
 
-past-transition : (s : Status) (o : Option Transition) → IsPast s o → (x : Transition) × (o ≡ Some x) × ((x.new ≡ s) ⊎ ((s ≡ Accepted) × (x.new ≡ Completed)))
+pub past-transition : (s : Status) (o : Option Transition) → IsPast s o → (x : Transition) × (o ≡ Some x) × ((x.new ≡ s) ⊎ ((s ≡ Accepted) × (x.new ≡ Completed)))
 past-transition s None h = absurd h
 past-transition s (Some x) h = (x, refl, h)
 

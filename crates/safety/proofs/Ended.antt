@@ -39,13 +39,13 @@ clash a p q = let e : true ≡ false = sym p ∙ q in absurd (cc (e))
 one-some : (x y : Transition) → Some x ≡ Some y → x ≡ y
 one-some x y e = cc (e)
 
-one-notice : (a b : Notification) → message.Notification a ≡ message.Notification b → a ≡ b
+pub one-notice : (a b : Notification) → message.Notification a ≡ message.Notification b → a ≡ b
 one-notice a b e = cc (e)
 
-one-proposal : (a b : Proposal) → message.Proposal a ≡ message.Proposal b → a ≡ b
+pub one-proposal : (a b : Proposal) → message.Proposal a ≡ message.Proposal b → a ≡ b
 one-proposal a b e = cc (e)
 
-arrived-notice : (found : List ℕ) → notice_status (arrived_notice found) ≡ arrived_status found
+pub arrived-notice : (found : List ℕ) → notice_status (arrived_notice found) ≡ arrived_status found
 arrived-notice [] = refl
 arrived-notice (n ∷ ns) = refl
 
@@ -64,7 +64,7 @@ settled-completed c u Rejected n h = absurd h
 settled-completed c u Terminated n h = absurd h
 settled-completed c u Cancelled n h = absurd h
 
-settled-offers : (c : Code) (u : TransactionId) (new : Status) (p : Proposal) → In (message.Proposal p) (settled_messages c u new) → ⊥
+pub settled-offers : (c : Code) (u : TransactionId) (new : Status) (p : Proposal) → In (message.Proposal p) (settled_messages c u new) → ⊥
 settled-offers c u Completed p (inl e) = cc (e)
 settled-offers c u Completed p (inr h) = h
 settled-offers c u Proposed p h = h
@@ -122,7 +122,7 @@ module _ (scheme : Scheme) (c : Code) where
   pub own-about : (es : List Entry) (t : TransactionId) (q : Transition) → newest (transitions_of es) t ≡ Some q → same_code q.id.code c ≡ true → same_code t.code c ≡ true
   own-about es t q was own = subst (λ (z : TransactionId). same_code z.code c ≡ true) (newest-id (transitions_of es) t q was).1 own
 
-  newest-own : (es : List Entry) (t : TransactionId) (q x : Transition) → newest (transitions_of es) t ≡ Some q → newest (transitions_of es) q.id ≡ Some x → q ≡ x
+  pub newest-own : (es : List Entry) (t : TransactionId) (q x : Transition) → newest (transitions_of es) t ≡ Some q → newest (transitions_of es) q.id ≡ Some x → q ≡ x
   newest-own es t q x was h =
       let w : newest (transitions_of es) q.id ≡ Some q = subst (λ z. newest (transitions_of es) z ≡ Some q) (sym (newest-id (transitions_of es) t q was).1) was in
       one-some q x (sym w ∙ h)

@@ -34,6 +34,16 @@ pub mod InTurn
 pub mod Ordered
 pub mod Stuck
 pub mod EachWaits
+pub mod Refusals
+pub mod FromRegistry
+pub mod FromLog
+pub mod Begun
+pub mod WelcomeAtLog
+pub mod WelcomeAtRegistry
+pub mod KindsKept
+pub mod Welcome
+pub mod Findings
+pub mod Delivered
 pub mod Spoken
 pub mod Waking
 pub mod Sending

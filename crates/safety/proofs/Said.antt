@@ -112,7 +112,7 @@ module _ (scheme : Scheme) where
   new-told a told new (inl m) = m.1
   new-told a told new (inr m) = m.1 ∙ sym m.2
 
-  log-notice-move : (es : List Entry) (input : Input) (x : Transition) (n : Notification) → LogMove scheme es input x → In (message.Notification n) x.messages
+  pub log-notice-move : (es : List Entry) (input : Input) (x : Transition) (n : Notification) → LogMove scheme es input x → In (message.Notification n) x.messages
       → (x.id ≡ n.id) × (x.new ≡ notice_status n.notice) × (notice_status n.notice ≡ Checked → ⊥)
   log-notice-move es input x n (checks p moment found f s is none member) h =
       let g = checked-notice p.id p.content found n h in (g.0, g.1, λ e. absurd (let y : Terminated ≡ Checked = sym g.2 ∙ e in cc (y)))

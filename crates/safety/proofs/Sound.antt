@@ -245,7 +245,7 @@ opening-sound scheme = record {
 -- ---- families of histories
 
 -- what the committed journal sends, the live one sends
-live-sends : (w : World) (n : Node) (m : Message) → In m (sends (committed_of w n)) → In m (sends (live_of w n))
+pub live-sends : (w : World) (n : Node) (m : Message) → In m (sends (committed_of w n)) → In m (sends (live_of w n))
 live-sends w n m h = go (station w n) h
   where
     go : (o : Option Station) → In m (sends (history w.scheme n (committed_part o))) → In m (sends (history w.scheme n (whole o)))

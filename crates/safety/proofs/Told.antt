@@ -55,7 +55,7 @@ IsTaken (Some x) = (x.new ≡ Accepted) ⊎ ((x.new ≡ Completed) ⊎ (x.new �
 one-notice : (a b : Notification) → message.Notification a ≡ message.Notification b → a ≡ b
 one-notice a b e = cc (e)
 
-settled-notice : (c : Code) (u : TransactionId) (new : Status) (n : Notification) → In (message.Notification n) (settled_messages c u new) → notice_status n.notice ≡ Completed
+pub settled-notice : (c : Code) (u : TransactionId) (new : Status) (n : Notification) → In (message.Notification n) (settled_messages c u new) → notice_status n.notice ≡ Completed
 settled-notice c u Completed n (inl e) = let s = one-notice _ n e in sym (ap (λ (z : Notification). notice_status z.notice) s)
 settled-notice c u Completed n (inr h) = absurd h
 settled-notice c u Proposed n h = absurd h

@@ -1,237 +1,59 @@
 -- From a quiet world with room an open transfer is brought to its end, message by message.
-use Rattle.std.proofs.Common.{◌≡◌, ℕ, ◌+◌, ◌≤◌, List, [], ◌∷◌, Bool, true, false, cond, Option, Some, None, ◌⊎◌, inl, inr, refl, sym, ap, subst, ◌∙◌, arith, length}
+use Rattle.std.proofs.Common.{◌≡◌, ℕ, List, [], ◌∷◌, true, Option, Some, None, ◌⊎◌, inl, inr, refl, sym, ap, subst, ◌∙◌, arith}
 use Rattle.std.specs.Prelude.{option_map}
 use Rattle.std.proofs.lemmas.Bool.{cases_Bool}
 use Rattle.units.proofs.Same.{same_code-refl}
-use Rattle.units.specs.Code.{same_code, same_node}
-use Rattle.units.specs.declared.code.Code.{Code}
-use Rattle.units.specs.declared.code.Node.{Node}
+use Rattle.units.specs.Code.{same_code}
 use Rattle.units.specs.declared.code.Node.TheVariants.{Itl, Registry}
 use Rattle.status.specs.Content.{Content}
-use Rattle.status.specs.Id.{same_id}
 use Rattle.status.specs.Rows.{initiator_row, log_row, acquirer_row}
 use Rattle.status.specs.Status.{same_status}
 use Rattle.status.specs.declared.id.TransactionId.{TransactionId}
 use Rattle.status.specs.declared.moment.Moment.{Moment}
-use Rattle.status.specs.declared.words.Known.{Known}
 use Rattle.status.specs.declared.words.Known.TheVariants.{Stands}
-use Rattle.status.specs.declared.words.Row.{Row}
 use Rattle.status.specs.declared.words.Row.TheVariants.{Move}
-use Rattle.status.specs.declared.words.RowInput.{RowInput}
 use Rattle.status.specs.declared.words.RowInput.TheVariants.{Notified}
 use Rattle.status.specs.declared.words.Status.{Status}
 use Rattle.status.specs.declared.words.Status.TheVariants.{Proposed, Checked, Accepted, Rejected, Terminated, Cancelled, Completed}
 use Rattle.wire.specs.declared.message.Message.TheVariants as message
-use Rattle.wire.specs.declared.message.Notification.{Notification}
 use Rattle.wire.specs.declared.message.ProposalStatus.TheVariants as proposal
-use Rattle.wire.specs.declared.notice.Notice.{Notice}
 use Rattle.scheme.specs.declared.registries.Scheme.{Scheme}
 use Rattle.protocol.specs.AtLog.{acquirer_of, checked, checked_status, ledger, told_to}
 use Rattle.protocol.specs.AtRegistry.{arrived, arrived_status, holding, settled_messages}
 use Rattle.protocol.specs.Checks.{acquirer_findings, log_findings}
-use Rattle.protocol.specs.Claims.{StandsAt, committed_of, is_received}
+use Rattle.protocol.specs.Claims.{committed_of, is_received}
 use Rattle.protocol.specs.Deciding.{moved, notifies, proposes}
 use Rattle.protocol.specs.History.{Entry, Transition, is_status, newest, sends, transitions_of}
 use Rattle.protocol.specs.Registries.{has_member}
 use Rattle.protocol.specs.WayOut.{IsOpen}
 use Rattle.protocol.specs.World.{World, run}
 use Rattle.safety.proofs.Causal.{Causal, completed-agrees, ended, heard-sent, log-said, one-some}
-use Rattle.safety.proofs.Completions.{offered-sent, stands-so}
-use Rattle.safety.proofs.Ended.{completed-sent, ends-last, offered, own-contents, proposer}
+use Rattle.safety.proofs.Completions.{stands-so}
+use Rattle.safety.proofs.Ended.{completed-sent, ends-last, own-contents, proposer}
 use Rattle.safety.proofs.Histories.{newest-id}
 use Rattle.safety.proofs.Members.{In}
 use Rattle.safety.proofs.Said.{IsAgreed, log-backed}
 use Rattle.safety.proofs.Sending.{Calm, Went, send}
-use Rattle.safety.proofs.Spoken.{SaysAtLog, SaysOther, SaysOwn, Tells, log-has-said, other-said, own-said, transition-sends}
+use Rattle.safety.proofs.Spoken.{SaysAtLog, Tells, transition-sends}
+use Rattle.safety.proofs.Stages.{Closes, Stage, already, at-most, cau, foreign, id-at, log-content, log-tells, newest-next, not-open, other-tells, own-tells, received-closed, room-less, room-log, room-registry, stage-next, table-at, then-log, then-registry, told-by}
 use Rattle.safety.proofs.Stations.{other-way}
-use Rattle.safety.proofs.Sums.{one-or-none}
-use Rattle.safety.proofs.Taken.{AllWelcome, Last, Room, acquirer-takes, acquirer-takes-offer, causal, initiator-takes, log-takes-notice, log-takes-offer, unplaced}
+use Rattle.safety.proofs.Taken.{Last, Room, acquirer-takes, acquirer-takes-offer, causal, initiator-takes, log-takes-notice, log-takes-offer, unplaced}
 use Rattle.safety.proofs.Told.{Cause, IsTaken, accepted-sent, told}
-use Rattle.safety.proofs.Waking.{Reaches, reaches-on}
-
--- the transfer was brought to its end, by so many records at most at the log and at each registry, and no other was touched
-pub record Closes (scheme : Scheme) (w : World) (t : TransactionId) (i j : ℕ) : Type 0 where
-  pub world : World
-  pub reaches : Reaches w world
-  pub calm : Calm scheme world
-  pub others : (m : Node) (u : TransactionId) → same_id t u ≡ false → newest (transitions_of (committed_of world m)) u ≡ newest (transitions_of (committed_of w m)) u
-  pub log_longer : length (committed_of world Itl) ≤ length (committed_of w Itl) + i
-  pub longer : (c : Code) → length (committed_of world (Registry c)) ≤ length (committed_of w (Registry c)) + j
-  pub closed : IsOpen (committed_of world) t → ⊥
-
--- the newest transition of the transfer at its initiator
-pub record Stage (scheme : Scheme) (w : World) (t : TransactionId) (x : Transition) (k : Content) : Type 0 where
-  pub calm : Calm scheme w
-  pub is : Last w (Registry t.code) t x
-  pub content : x.content ≡ Some k
-  pub initiator : has_member scheme t.code ≡ true
-  pub acquirer : has_member scheme k.acquirer ≡ true
-  pub other : same_code t.code k.acquirer ≡ false
-
--- a table is read at what stands and what is told
-table-at : (table : Known → RowInput → Row) (a b c d : Status) → a ≡ b → c ≡ d → table (Stands a) (Notified c) ≡ table (Stands b) (Notified d)
-table-at table a b c d e h = ap (λ z. table (Stands z) (Notified c)) e ∙ ap (λ z. table (Stands b) (Notified z)) h
-
--- ---- one step after another
-
-module _ (scheme : Scheme) (t : TransactionId) where
-  went : (w : World) (n : Node) (x : Transition) (g : Went scheme w t n x) → Reaches w (run w g.events)
-  went w n x g = (g.events, refl, g.transport)
-
-  -- a record at the log, and one at a registry
-  room-log : (w : World) (x : Transition) (i j : ℕ) (g : Went scheme w t Itl x) → Room scheme w (i + 1) j → Room scheme (run w g.events) i j
-  room-log w x i j g room = (
-    (let a = room.0 in let b = g.longer Itl in omega arith),
-    λ c. let a = room.1 c in let b = g.longer (Registry c) in omega arith,
-  )
-
-  room-registry : (w : World) (n : Code) (x : Transition) (i j : ℕ) (g : Went scheme w t (Registry n) x) → Room scheme w i (j + 1) → Room scheme (run w g.events) i j
-  room-registry w n x i j g room = (
-    (let a = room.0 in let b = g.longer Itl in omega arith),
-    λ c. let a = room.1 c in let b = g.longer (Registry c) in let d = one-or-none (same_code n c) in omega arith,
-  )
-
-  then-log : (w : World) (x : Transition) (i j : ℕ) (g : Went scheme w t Itl x) → Closes scheme (run w g.events) t i j → Closes scheme w t (i + 1) j
-  then-log w x i j g y = record {
-    world = y.world;
-    reaches = reaches-on w (run w g.events) y.world (went w Itl x g) y.reaches;
-    calm = y.calm;
-    others = λ m u o. y.others m u o ∙ g.others m u o;
-    log_longer = let a = g.longer Itl in let b = y.log_longer in omega arith;
-    longer = λ c. let a = g.longer (Registry c) in let b = y.longer c in omega arith;
-    closed = y.closed;
-  }
-
-  then-registry : (w : World) (n : Code) (x : Transition) (i j : ℕ) (g : Went scheme w t (Registry n) x) → Closes scheme (run w g.events) t i j → Closes scheme w t i (j + 1)
-  then-registry w n x i j g y = record {
-    world = y.world;
-    reaches = reaches-on w (run w g.events) y.world (went w (Registry n) x g) y.reaches;
-    calm = y.calm;
-    others = λ m u o. y.others m u o ∙ g.others m u o;
-    log_longer = let a = g.longer Itl in let b = y.log_longer in omega arith;
-    longer = λ c. let a = g.longer (Registry c) in let b = y.longer c in let d = one-or-none (same_code n c) in omega arith;
-    closed = y.closed;
-  }
-
-  room-less : (w : World) (i j more many : ℕ) → i ≤ more → j ≤ many → Room scheme w more many → Room scheme w i j
-  room-less w i j more many h k room = ((let a = room.0 in omega arith), λ c. let a = room.1 c in omega arith)
-
-  at-most : (w : World) (i j more many : ℕ) → i ≤ more → j ≤ many → Closes scheme w t i j → Closes scheme w t more many
-  at-most w i j more many h k y = record {
-    world = y.world;
-    reaches = y.reaches;
-    calm = y.calm;
-    others = y.others;
-    log_longer = let b = y.log_longer in omega arith;
-    longer = λ c. let b = y.longer c in omega arith;
-    closed = y.closed;
-  }
-
-  pub already : (w : World) (i j : ℕ) → Calm scheme w → (IsOpen (committed_of w) t → ⊥) → Closes scheme w t i j
-  already w i j calm h = record {
-    world = w;
-    reaches = ([], refl, tt);
-    calm = calm;
-    others = λ m u o. refl;
-    log_longer = omega arith;
-    longer = λ c. omega arith;
-    closed = h;
-  }
-
-  newest-next : (w : World) (n m : Node) (x : Transition) (o : Option Transition) (g : Went scheme w t n x) → same_node n m ≡ false → newest (transitions_of (committed_of w m)) t ≡ o
-    → newest (transitions_of (committed_of (run w g.events) m)) t ≡ o
-  newest-next w n m x o g other is = ap (λ (es : List Entry). newest (transitions_of es) t) (g.elsewhere m other) ∙ is
-
-  -- another node's record leaves the initiator's transition
-  stage-next : (w : World) (n : Node) (y x : Transition) (k : Content) (g : Went scheme w t n y) → Stage scheme w t x k → same_node n (Registry t.code) ≡ false → Stage scheme (run w g.events) t x k
-  stage-next w n y x k g s other = record {
-    calm = g.calm;
-    is = newest-next w n (Registry t.code) y (Some x) g other s.is;
-    content = s.content;
-    initiator = s.initiator;
-    acquirer = s.acquirer;
-    other = s.other;
-  }
-
-  -- ---- what a stage says
-
-  module _ (w : World) (x : Transition) (k : Content) (s : Stage scheme w t x k) where
-    cau : Causal scheme (committed_of w)
-    cau = causal scheme w s.calm
-
-    foreign : same_node (Registry k.acquirer) (Registry t.code) ≡ false
-    foreign = other-way (Registry t.code) (Registry k.acquirer) s.other
-
-    -- the log knows the same content
-    log-content : (l : Transition) → Last w Itl t l → l.content ≡ Some k
-    log-content l is =
-        let p = proposer scheme (committed_of w Itl) (cau.made Itl) t l is in
-        let o =
-            offered scheme t.code (committed_of w (Registry t.code)) (cau.made (Registry t.code)) p.got.proposal
-            (offered-sent scheme (committed_of w) cau Itl (Registry t.code) t proposal.Proposed p.content p.got) in
-        let at_t : Last w (Registry t.code) t o.0 = subst (λ z. Last w (Registry t.code) z o.0) p.got.about o.1 in
-        let same : o.0 ≡ x = one-some o.0 x (sym at_t ∙ s.is) in
-        p.is ∙ ap Some (sym p.got.content) ∙ sym o.2 ∙ ap (λ (z : Transition). z.content) same ∙ s.content
-
-    open-here : (o : IsOpen (committed_of w) t) → o.0 ≡ x
-    open-here o = one-some o.0 x (sym o.1 ∙ s.is)
-
-    not-open : (st : Status) → x.new ≡ st → (st ≡ Proposed → ⊥) → (st ≡ Completed → ⊥) → IsOpen (committed_of w) t → ⊥
-    not-open st e a b o =
-        let here : o.0.new ≡ st = ap (λ (z : Transition). z.new) (open-here o) ∙ e in
-        elim o.2 [
-          | inl p ↦ a (sym here ∙ p)
-          | inr p ↦ b (sym here ∙ p.0)
-        ]
-
-    received-closed : x.new ≡ Completed → is_received (committed_of w) t (Some k) ≡ true → IsOpen (committed_of w) t → ⊥
-    received-closed done received o =
-        elim o.2 [
-          | inl p ↦ let e : Completed ≡ Proposed = sym done ∙ ap (λ (z : Transition). z.new) (sym (open-here o)) ∙ p in cc (e)
-          | inr p ↦
-              let owed : is_received (committed_of w) t (Some k) ≡ false = subst (λ z. is_received (committed_of w) t z ≡ false) (ap (λ (z : Transition). z.content) (open-here o) ∙ s.content) p.1 in
-              let e : true ≡ false = sym received ∙ owed in
-              cc (e)
-        ]
-
-    id-at : (n : Node) (y : Transition) → Last w n t y → In y (transitions_of (committed_of w n)) × (y.id ≡ t)
-    id-at n y is = newest-id (transitions_of (committed_of w n)) t y is
-
-    -- what the nodes' newest transitions sent
-    told-by : (n : Node) (y : Transition) (to : Node) (said : Notice) → Last w n t y → In (notifies n to y.id said) y.messages → In (notifies n to t said) (sends (committed_of w n))
-    told-by n y to said is h =
-        let id = id-at n y is in
-        subst (λ z. In (notifies n to z said) (sends (committed_of w n))) id.1 (transition-sends (committed_of w n) y (notifies n to y.id said) id.0 h)
-
-    log-tells : (l : Transition) → Last w Itl t l → (st : Status) → l.new ≡ st → SaysAtLog l st
-    log-tells l is st e = subst (SaysAtLog l) e (log-has-said scheme (committed_of w Itl) (cau.made Itl) l (id-at Itl l is).0)
-
-    own-tells : (st : Status) → x.new ≡ st → SaysOwn t.code x st
-    own-tells st e =
-        let id = id-at (Registry t.code) x s.is in
-        subst (SaysOwn t.code x) e
-        (own-said scheme t.code (committed_of w (Registry t.code)) (cau.made (Registry t.code)) x id.0 (subst (λ (z : TransactionId). same_code z.code t.code ≡ true) (sym id.1) (same_code-refl t.code)))
-
-    other-tells : (p : Transition) → Last w (Registry k.acquirer) t p → (st : Status) → p.new ≡ st → SaysOther k.acquirer p st
-    other-tells p is st e =
-        let id = id-at (Registry k.acquirer) p is in
-        subst (SaysOther k.acquirer p) e
-        (other-said scheme k.acquirer (committed_of w (Registry k.acquirer)) (cau.made (Registry k.acquirer)) p id.0 (subst (λ (z : TransactionId). same_code z.code k.acquirer ≡ false) (sym id.1) s.other))
 
 -- ---- the stages, the last one first
 
-module _ (scheme : Scheme) (all : AllWelcome scheme) (moment : Moment) (t : TransactionId) where
+module _ (scheme : Scheme) (moment : Moment) (t : TransactionId) where
   -- the acquirer completes
   acquirer-completes : (w : World) (x l p : Transition) (k : Content) → Stage scheme w t x k → Room scheme w 0 1 → x.new ≡ Completed → Last w Itl t l → l.new ≡ Completed
-    → Last w (Registry k.acquirer) t p → p.new ≡ Accepted → Closes scheme w t 0 1
+      → Last w (Registry k.acquirer) t p → p.new ≡ Accepted → Closes scheme w t 0 1
   acquirer-completes w x l p k s room done log log_done there accepted =
       let says = log-tells scheme t w x k s l log Completed log_done in
       let content = log-content scheme t w x k s l log in
       let sent : In (notifies Itl (Registry k.acquirer) t says.0) (sends (committed_of w Itl)) =
-          told-by scheme t w x k s Itl l (Registry k.acquirer) says.0 log (subst (λ z. In (notifies Itl z l.id says.0) l.messages) (ap acquirer_of content) says.2) in
+      told-by scheme t w x k s Itl l (Registry k.acquirer) says.0 log (subst (λ z. In (notifies Itl z l.id says.0) l.messages) (ap acquirer_of content) says.2) in
       let v =
-          acquirer-takes scheme all moment w s.calm k.acquirer t says.0 p Completed sent there s.other (table-at acquirer_row p.new Accepted _ Completed accepted says.1)
-          (let a = room.1 k.acquirer in omega arith) in
+      acquirer-takes scheme moment w s.calm k.acquirer t says.0 p Completed sent there s.other (table-at acquirer_row p.new Accepted _ Completed accepted says.1)
+      (let a = room.1 k.acquirer in omega arith) in
       let y : Transition = moved p Completed moment.seconds [] in
       let g : Went scheme w t (Registry k.acquirer) y = send scheme w s.calm (notifies Itl (Registry k.acquirer) t says.0) moment t y s.acquirer sent v (id-at scheme t w x k s (Registry k.acquirer) p there).1 in
       let next = stage-next scheme t w (Registry k.acquirer) y x k g s (foreign scheme t w x k s) in
@@ -240,14 +62,14 @@ module _ (scheme : Scheme) (all : AllWelcome scheme) (moment : Moment) (t : Tran
 
   -- the log completes
   log-completes : (w : World) (x l p : Transition) (k : Content) → Stage scheme w t x k → Room scheme w 1 1 → x.new ≡ Completed → Last w Itl t l → l.new ≡ Accepted
-    → Last w (Registry k.acquirer) t p → p.new ≡ Accepted → Closes scheme w t 1 1
+      → Last w (Registry k.acquirer) t p → p.new ≡ Accepted → Closes scheme w t 1 1
   log-completes w x l p k s room done log log_accepted there accepted =
       let says = own-tells scheme t w x k s Completed done in
       let sent = told-by scheme t w x k s (Registry t.code) x Itl says.0 s.is says.2 in
       let y : Transition = moved l Completed moment.seconds (notifies Itl (told_to l Completed) l.id says.0 ∷ []) in
       let v =
-          log-takes-notice scheme all moment w s.calm t.code t says.0 l Completed sent log (table-at log_row l.new Accepted _ Completed log_accepted says.1)
-          (let a = room.0 in omega arith) in
+      log-takes-notice scheme moment w s.calm t.code t says.0 l Completed sent log (table-at log_row l.new Accepted _ Completed log_accepted says.1)
+      (let a = room.0 in omega arith) in
       let g : Went scheme w t Itl y = send scheme w s.calm (notifies (Registry t.code) Itl t says.0) moment t y refl sent v (id-at scheme t w x k s Itl l log).1 in
       let next = stage-next scheme t w Itl y x k g s refl in
       then-log scheme t w y 0 1 g
@@ -265,8 +87,8 @@ module _ (scheme : Scheme) (all : AllWelcome scheme) (moment : Moment) (t : Tran
       let b = log-backed scheme (committed_of w Itl) (c.made Itl) t agrees.0 agrees.1 agrees.2 in
       let content : b.content ≡ k = one-some b.content k (sym b.known ∙ log-content scheme t w x k s agrees.0 agrees.1) in
       let said : In (message.Notification b.heard.notification) (sends (committed_of w (Registry k.acquirer))) =
-          subst (λ (z : Content). In (message.Notification b.heard.notification) (sends (committed_of w (Registry z.acquirer)))) content
-          (heard-sent scheme (committed_of w) c Itl (Registry b.content.acquirer) t Accepted b.heard) in
+      subst (λ (z : Content). In (message.Notification b.heard.notification) (sends (committed_of w (Registry z.acquirer)))) content
+      (heard-sent scheme (committed_of w) c Itl (Registry b.content.acquirer) t Accepted b.heard) in
       let taken = accepted-sent scheme k.acquirer (committed_of w (Registry k.acquirer)) (c.made (Registry k.acquirer)) b.heard.notification said b.heard.told in
       let p = taken-at (newest (transitions_of (committed_of w (Registry k.acquirer))) t) (subst (λ z. IsTaken (newest (transitions_of (committed_of w (Registry k.acquirer))) z)) b.heard.about taken.1) in
       elim p.2 [
@@ -276,7 +98,7 @@ module _ (scheme : Scheme) (all : AllWelcome scheme) (moment : Moment) (t : Tran
               | inl d ↦
                   already scheme t w 1 1 s.calm
                   (received-closed scheme t w x k s done
-                    (ap (λ (o : Option Transition). is_status (option_map (λ (z : Transition). z.new) o) Completed) p.1 ∙ subst (λ z. same_status z Completed ≡ true) (sym d) refl))
+                  (ap (λ (o : Option Transition). is_status (option_map (λ (z : Transition). z.new) o) Completed) p.1 ∙ subst (λ z. same_status z Completed ≡ true) (sym d) refl))
               | inr d ↦ absurd (ended scheme (committed_of w) c (Registry k.acquirer) t agrees (inr (inr (stands-so (transitions_of (committed_of w (Registry k.acquirer))) t p.0 Cancelled p.1 d))))
             ]
       ]
@@ -326,11 +148,11 @@ module _ (scheme : Scheme) (all : AllWelcome scheme) (moment : Moment) (t : Tran
   initiator-hears w x l k s room waits log st e answers =
       let says = answer-says l st answers (log-tells scheme t w x k s l log st e) in
       let sent : In (notifies Itl (Registry t.code) t says.0) (sends (committed_of w Itl)) =
-          told-by scheme t w x k s Itl l (Registry t.code) says.0 log (subst (λ (z : TransactionId). In (notifies Itl (Registry z.code) l.id says.0) l.messages) (id-at scheme t w x k s Itl l log).1 says.2) in
+      told-by scheme t w x k s Itl l (Registry t.code) says.0 log (subst (λ (z : TransactionId). In (notifies Itl (Registry z.code) l.id says.0) l.messages) (id-at scheme t w x k s Itl l log).1 says.2) in
       let y : Transition = moved x (answered_to st) moment.seconds (settled_messages t.code x.id (answered_to st)) in
       let v =
-          initiator-takes scheme all moment w s.calm t.code t says.0 x (answered_to st) sent s.is (same_code-refl t.code) (table-at initiator_row x.new Proposed _ st waits says.1 ∙ answer-row st answers)
-          (let a = room.1 t.code in omega arith) in
+      initiator-takes scheme moment w s.calm t.code t says.0 x (answered_to st) sent s.is (same_code-refl t.code) (table-at initiator_row x.new Proposed _ st waits says.1 ∙ answer-row st answers)
+      (let a = room.1 t.code in omega arith) in
       let g : Went scheme w t (Registry t.code) y = send scheme w s.calm (notifies Itl (Registry t.code) t says.0) moment t y s.initiator sent v (id-at scheme t w x k s (Registry t.code) x s.is).1 in
       let next : Stage scheme (run w g.events) t y k = record { calm = g.calm; is = g.now; content = s.content; initiator = s.initiator; acquirer = s.acquirer; other = s.other } in
       then-registry scheme t w t.code y 1 1 g (settles (run w g.events) y st answers next refl (room-registry scheme t w t.code y 1 1 g room))
@@ -346,7 +168,7 @@ module _ (scheme : Scheme) (all : AllWelcome scheme) (moment : Moment) (t : Tran
 
   -- the acquirer has answered
   acquirer-answered : (w : World) (x l p : Transition) (k : Content) → Stage scheme w t x k → Room scheme w 2 2 → x.new ≡ Proposed → Last w Itl t l → l.new ≡ Checked
-    → Last w (Registry k.acquirer) t p → (p.new ≡ Accepted) ⊎ (p.new ≡ Rejected) → Closes scheme w t 2 2
+      → Last w (Registry k.acquirer) t p → (p.new ≡ Accepted) ⊎ (p.new ≡ Rejected) → Closes scheme w t 2 2
   acquirer-answered w x l p k s room waits log log_checked there which =
       elim which [
         | inl e ↦ by Accepted refl tt (other-tells scheme t w x k s p there Accepted e)
@@ -358,8 +180,8 @@ module _ (scheme : Scheme) (all : AllWelcome scheme) (moment : Moment) (t : Tran
           let sent = told-by scheme t w x k s (Registry k.acquirer) p Itl says.0 there says.2 in
           let y : Transition = moved l st moment.seconds (notifies Itl (told_to l st) l.id says.0 ∷ []) in
           let v =
-              log-takes-notice scheme all moment w s.calm k.acquirer t says.0 l st sent log (table-at log_row l.new Checked _ st log_checked says.1 ∙ row)
-              (let a = room.0 in omega arith) in
+          log-takes-notice scheme moment w s.calm k.acquirer t says.0 l st sent log (table-at log_row l.new Checked _ st log_checked says.1 ∙ row)
+          (let a = room.0 in omega arith) in
           let g : Went scheme w t Itl y = send scheme w s.calm (notifies (Registry k.acquirer) Itl t says.0) moment t y refl sent v (id-at scheme t w x k s Itl l log).1 in
           let next = stage-next scheme t w Itl y x k g s refl in
           then-log scheme t w y 1 2 g (initiator-hears (run w g.events) x y k next (room-log scheme t w y 1 2 g room) waits g.now st refl answers)
@@ -371,6 +193,7 @@ module _ (scheme : Scheme) (all : AllWelcome scheme) (moment : Moment) (t : Tran
       answered_as : (found : List ℕ) → (arrived_status found ≡ Accepted) ⊎ (arrived_status found ≡ Rejected)
       answered_as [] = inl refl
       answered_as (n ∷ ns) = inr refl
+
       log-not : (st : Status) → (st ≡ Checked → ⊥) → (st ≡ Accepted → ⊥) → (q : Transition) × Last w Itl t q × ((q.new ≡ st) ⊎ ((st ≡ Accepted) × (q.new ≡ Completed))) → ⊥
       log-not st a b q =
           let same : q.0 ≡ l = one-some q.0 l (sym q.1 ∙ log) in
@@ -378,6 +201,7 @@ module _ (scheme : Scheme) (all : AllWelcome scheme) (moment : Moment) (t : Tran
             | inl e ↦ a (sym e ∙ ap (λ (z : Transition). z.new) same ∙ is_checked)
             | inr e ↦ b e.0
           ]
+
       status : (st : Status) → Cause k.acquirer (committed_of w (Registry k.acquirer)) t st → (st ≡ Accepted) ⊎ (st ≡ Rejected)
       status Accepted h = inl refl
       status Rejected h = inr refl
@@ -386,27 +210,27 @@ module _ (scheme : Scheme) (all : AllWelcome scheme) (moment : Moment) (t : Tran
       status Proposed h = absurd h
       status Checked h = absurd h
       status Terminated h = absurd h
+
       by : (o : Option Transition) → newest (transitions_of (committed_of w (Registry k.acquirer))) t ≡ o → Closes scheme w t 2 3
       by (Some p) there =
           at-most scheme t w 2 2 2 3 (omega arith) (omega arith)
           (acquirer-answered w x l p k s (room-less scheme t w 2 2 2 3 (omega arith) (omega arith) room) waits log is_checked there
-            (status p.new (told scheme k.acquirer (committed_of w (Registry k.acquirer)) ((cau scheme t w x k s).made (Registry k.acquirer)) t p there s.other)))
+          (status p.new (told scheme k.acquirer (committed_of w (Registry k.acquirer)) ((cau scheme t w x k s).made (Registry k.acquirer)) t p there s.other)))
       by None none =
           let says = log-tells scheme t w x k s l log Checked is_checked in
           let same : says.0 ≡ k = one-some says.0 k (sym says.1 ∙ log-content scheme t w x k s l log) in
           let id = id-at scheme t w x k s Itl l log in
           let sent : In (proposes Itl (Registry k.acquirer) t proposal.Checked k) (sends (committed_of w Itl)) =
-              subst (λ z. In (proposes Itl (Registry k.acquirer) z proposal.Checked k) (sends (committed_of w Itl))) id.1
-              (transition-sends (committed_of w Itl) l (proposes Itl (Registry k.acquirer) l.id proposal.Checked k) id.0
-                (subst (λ (z : Content). In (proposes Itl (Registry z.acquirer) l.id proposal.Checked z) l.messages) same says.2)) in
-          let found = acquirer_findings scheme k.acquirer (holding scheme k.acquirer (committed_of w (Registry k.acquirer))) k in
+          subst (λ z. In (proposes Itl (Registry k.acquirer) z proposal.Checked k) (sends (committed_of w Itl))) id.1
+          (transition-sends (committed_of w Itl) l (proposes Itl (Registry k.acquirer) l.id proposal.Checked k) id.0
+          (subst (λ (z : Content). In (proposes Itl (Registry z.acquirer) l.id proposal.Checked z) l.messages) same says.2)) in
           let y : Transition = arrived k.acquirer t k moment.seconds (acquirer_findings scheme k.acquirer (holding scheme k.acquirer (committed_of w (Registry k.acquirer))) k) in
-          let v = acquirer-takes-offer scheme all moment w s.calm k.acquirer t k sent none (let a = room.1 k.acquirer in omega arith) in
+          let v = acquirer-takes-offer scheme moment w s.calm k.acquirer t k sent none (let a = room.1 k.acquirer in omega arith) in
           let g : Went scheme w t (Registry k.acquirer) y = send scheme w s.calm (proposes Itl (Registry k.acquirer) t proposal.Checked k) moment t y s.acquirer sent v refl in
           let next = stage-next scheme t w (Registry k.acquirer) y x k g s (foreign scheme t w x k s) in
           then-registry scheme t w k.acquirer y 2 2 g
           (acquirer-answered (run w g.events) x l y k next (room-registry scheme t w k.acquirer y 2 2 g room) waits (newest-next scheme t w (Registry k.acquirer) Itl y (Some l) g refl log) is_checked g.now
-            (answered_as found))
+          (answered_as (acquirer_findings scheme k.acquirer (holding scheme k.acquirer (committed_of w (Registry k.acquirer))) k)))
 
   -- proposed at the initiator
   close-proposed : (w : World) (x : Transition) (k : Content) → Stage scheme w t x k → Room scheme w 3 3 → x.new ≡ Proposed → Closes scheme w t 3 3
@@ -414,20 +238,23 @@ module _ (scheme : Scheme) (all : AllWelcome scheme) (moment : Moment) (t : Tran
     where
       c : Causal scheme (committed_of w)
       c = cau scheme t w x k s
+
       not-ended : (l : Transition) → Last w Itl t l → l.new ≡ Completed → ⊥
       not-ended l log done =
           let h = (proposer scheme (committed_of w Itl) (c.made Itl) t l log).ended done in
           let d =
-              completed-sent scheme t.code (committed_of w (Registry t.code)) (c.made (Registry t.code)) h.notification
-              (heard-sent scheme (committed_of w) c Itl (Registry t.code) t Completed h) h.told in
+          completed-sent scheme t.code (committed_of w (Registry t.code)) (c.made (Registry t.code)) h.notification
+          (heard-sent scheme (committed_of w) c Itl (Registry t.code) t Completed h) h.told in
           let last : Last w (Registry t.code) t d.0 =
-              subst (λ z. Last w (Registry t.code) z d.0) (d.2 ∙ h.about) (ends-last scheme t.code (committed_of w (Registry t.code)) (c.made (Registry t.code)) d.0 d.1 d.3) in
+          subst (λ z. Last w (Registry t.code) z d.0) (d.2 ∙ h.about) (ends-last scheme t.code (committed_of w (Registry t.code)) (c.made (Registry t.code)) d.0 d.1 d.3) in
           let same : d.0 ≡ x = one-some d.0 x (sym last ∙ s.is) in
           let e : Completed ≡ Proposed = sym d.3 ∙ ap (λ (z : Transition). z.new) same ∙ waits in
           cc (e)
+
       answered : (l : Transition) → Last w Itl t l → (st : Status) → l.new ≡ st → IsAnswer st → Closes scheme w t 3 3
       answered l log st e a =
           at-most scheme t w 1 2 3 3 (omega arith) (omega arith) (initiator-hears w x l k s (room-less scheme t w 1 2 3 3 (omega arith) (omega arith) room) waits log st e a)
+
       known : (l : Transition) → Last w Itl t l → (st : Status) → l.new ≡ st → Closes scheme w t 3 3
       known l log Proposed e = absurd (log-tells scheme t w x k s l log Proposed e)
       known l log Checked e =
@@ -437,10 +264,12 @@ module _ (scheme : Scheme) (all : AllWelcome scheme) (moment : Moment) (t : Tran
       known l log Rejected e = answered l log Rejected e tt
       known l log Terminated e = answered l log Terminated e tt
       known l log Cancelled e = answered l log Cancelled e tt
+
       checks : (v : World) (l : Transition) (found : List ℕ) → l.new ≡ checked_status found → Stage scheme v t x k → Last v Itl t l → Room scheme v 2 3 → Closes scheme v t 2 3
       checks v l [] e next log more = log-checked v x l k next more waits log e
       checks v l (n ∷ ns) e next log more =
           at-most scheme t v 1 2 2 3 (omega arith) (omega arith) (initiator-hears v x l k next (room-less scheme t v 1 2 2 3 (omega arith) (omega arith) more) waits log Terminated e tt)
+
       by : (o : Option Transition) → newest (transitions_of (committed_of w Itl)) t ≡ o → Closes scheme w t 3 3
       by (Some l) log = known l log l.new refl
       by None none =
@@ -448,11 +277,11 @@ module _ (scheme : Scheme) (all : AllWelcome scheme) (moment : Moment) (t : Tran
           let same : says.0 ≡ k = one-some says.0 k (sym says.1 ∙ s.content) in
           let id = id-at scheme t w x k s (Registry t.code) x s.is in
           let sent : In (proposes (Registry t.code) Itl t proposal.Proposed k) (sends (committed_of w (Registry t.code))) =
-              subst (λ z. In (proposes (Registry t.code) Itl z proposal.Proposed k) (sends (committed_of w (Registry t.code)))) id.1
-              (transition-sends (committed_of w (Registry t.code)) x (proposes (Registry t.code) Itl x.id proposal.Proposed k) id.0
-                (subst (λ (z : Content). In (proposes (Registry t.code) Itl x.id proposal.Proposed z) x.messages) same says.2)) in
+          subst (λ z. In (proposes (Registry t.code) Itl z proposal.Proposed k) (sends (committed_of w (Registry t.code)))) id.1
+          (transition-sends (committed_of w (Registry t.code)) x (proposes (Registry t.code) Itl x.id proposal.Proposed k) id.0
+          (subst (λ (z : Content). In (proposes (Registry t.code) Itl x.id proposal.Proposed z) x.messages) same says.2)) in
           let y : Transition = checked t k moment.seconds (log_findings scheme (ledger scheme (committed_of w Itl)) t.code k) in
-          let v = log-takes-offer scheme all moment w s.calm t.code t k sent none (let a = room.0 in omega arith) in
+          let v = log-takes-offer scheme moment w s.calm t.code t k sent none (let a = room.0 in omega arith) in
           let g : Went scheme w t Itl y = send scheme w s.calm (proposes (Registry t.code) Itl t proposal.Proposed k) moment t y refl sent v refl in
           let next = stage-next scheme t w Itl y x k g s refl in
           then-log scheme t w y 2 3 g (checks (run w g.events) y (log_findings scheme (ledger scheme (committed_of w Itl)) t.code k) refl next g.now (room-log scheme t w y 2 3 g room))
@@ -463,12 +292,12 @@ module _ (scheme : Scheme) (all : AllWelcome scheme) (moment : Moment) (t : Tran
       let c = causal scheme w calm in
       let id = newest-id (transitions_of (committed_of w (Registry t.code))) t o.0 o.1 in
       let own =
-          own-contents scheme t.code (committed_of w (Registry t.code)) (c.made (Registry t.code)) o.0 id.0 (subst (λ (z : TransactionId). same_code z.code t.code ≡ true) (sym id.1) (same_code-refl t.code)) in
+      own-contents scheme t.code (committed_of w (Registry t.code)) (c.made (Registry t.code)) o.0 id.0 (subst (λ (z : TransactionId). same_code z.code t.code ≡ true) (sym id.1) (same_code-refl t.code)) in
       let member : has_member scheme t.code ≡ true =
-          elim (cases_Bool (has_member scheme t.code)) [
-            | inl y ↦ y
-            | inr n ↦ absurd (let e = subst (λ (es : List Entry). newest (transitions_of es) t ≡ Some o.0) (unplaced scheme w calm (Registry t.code) n) o.1 in cc (e))
-          ] in
+      elim (cases_Bool (has_member scheme t.code)) [
+        | inl y ↦ y
+        | inr n ↦ absurd (let e = subst (λ (es : List Entry). newest (transitions_of es) t ≡ Some o.0) (unplaced scheme w calm (Registry t.code) n) o.1 in cc (e))
+      ] in
       let s : Stage scheme w t o.0 own.content = record {
         calm = calm;
         is = o.1;

@@ -48,4 +48,6 @@ pub mod Spoken
 pub mod Waking
 pub mod Sending
 pub mod Taken
+pub mod Stages
 pub mod Closing
+pub mod WayOut

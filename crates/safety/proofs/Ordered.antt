@@ -35,7 +35,7 @@ use Rattle.safety.proofs.Stations.{at-node, at-put, at-elsewhere, other-way}
 use Rattle.safety.proofs.Weave.{journals-here, journals-there, never-stuck}
 
 -- a message is for that node
-abbrev pub Addressed : Node → Input → Type 0
+abbrev Addressed : Node → Input → Type 0
 Addressed n (Received m moment) = receiver m ≡ n
 Addressed n _ = Unit {0}
 

@@ -27,7 +27,6 @@ use Rattle.safety.proofs.Causal.{one-some}
 use Rattle.safety.proofs.Members.{In, In-find, In-map}
 use Rattle.safety.proofs.Places.{AllPlaced, run-placed, places, some-there}
 use Rattle.safety.proofs.Positions.{place-of, last-at}
-use Rattle.safety.proofs.Schemes.{run-scheme}
 use Rattle.safety.proofs.Sound.{Sound, run-sound, opening-sound}
 use Rattle.safety.proofs.Stations.{at-node, at-put, at-elsewhere}
 
@@ -132,7 +131,7 @@ post-step w n s key m is runs there =
     ap (option_and_then (sent w.scheme key)) is ∙ cond-true s.runs (slice_get (sends (history w.scheme s.node s.committed)) key) None runs ∙ here in
     ap (λ o. (posted w n key o).world) found
 
-pub deliver-step : (w : World) (p : Posted) (moment : Moment) (n : Node) → receiver p.message ≡ n
+deliver-step : (w : World) (p : Posted) (moment : Moment) (n : Node) → receiver p.message ≡ n
     → (step (record w { bag = w.bag ++ p ∷ [] }) (Deliver (length w.bag) moment)).world
     ≡ (at_node (record w { bag = w.bag ++ p ∷ [] }) (station w n) (take_input w.scheme (Received p.message moment))).world
 unfolding step

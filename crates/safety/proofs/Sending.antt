@@ -49,7 +49,7 @@ pub record Calm (scheme : Scheme) (w : World) : Type 0 where
   pub quiet : Quiet w
   pub same : w.scheme ≡ scheme
 
-pub calm-after : (scheme : Scheme) (w : World) (events : List WorldEvent) → Calm scheme w → Quiet (run w events) → Calm scheme (run w events)
+calm-after : (scheme : Scheme) (w : World) (events : List WorldEvent) → Calm scheme w → Quiet (run w events) → Calm scheme (run w events)
 calm-after scheme w events calm quiet = record { quiet = quiet; same = run-scheme w events ∙ calm.same }
 
 -- a message was sent on, and the receiver made one transition of it
@@ -63,7 +63,7 @@ pub record Went (scheme : Scheme) (w : World) (t : TransactionId) (n : Node) (x 
   pub longer : (m : Node) → length (committed_of (run w events) m) ≤ length (committed_of w m) + cond (same_node n m) 1 0
 
 pub send : (scheme : Scheme) (w : World) → Calm scheme w → (m : Message) (moment : Moment) (t : TransactionId) (x : Transition) → is_node scheme (receiver m) ≡ true → In m (sends (committed_of w (sender m)))
-  → verdict scheme (receiver m) (committed_of w (receiver m)) (Received m moment) ≡ Enters (x ∷ []) → x.id ≡ t → Went scheme w t (receiver m) x
+    → verdict scheme (receiver m) (committed_of w (receiver m)) (Received m moment) ≡ Enters (x ∷ []) → x.id ≡ t → Went scheme w t (receiver m) x
 send scheme w calm m moment t x node sent says id =
     let n = receiver m in
     let says_here : verdict w.scheme n (committed_of w n) (Received m moment) ≡ Enters (x ∷ []) = subst (λ (z : Scheme). verdict z n (committed_of w n) (Received m moment) ≡ Enters (x ∷ [])) (sym calm.same) says in

@@ -24,7 +24,7 @@ use Rattle.safety.proofs.Stations.{at-node, at-put, at-elsewhere}
 
 -- ---- events of transport
 
-pub transport-append : (es fs : List WorldEvent) → OnlyTransport es → OnlyTransport fs → OnlyTransport (es ++ fs)
+transport-append : (es fs : List WorldEvent) → OnlyTransport es → OnlyTransport fs → OnlyTransport (es ++ fs)
 transport-append [] fs a b = b
 transport-append (Take n input ∷ es) fs a b = a
 transport-append (Crash n kept ∷ es) fs a b = a
@@ -43,7 +43,7 @@ reaches-on u v w a b = (a.0 ++ b.0, run-append u a.0 b.0 ∙ ap (λ z. run z b.0
 -- ---- one node
 
 -- the station there, if one is, runs and has committed all
-abbrev pub IsAwake : World → Node → Type 0
+abbrev IsAwake : World → Node → Type 0
 IsAwake w n = (s : Station) → station w n ≡ Some s → (s.runs ≡ true) × (s.tail ≡ [])
 
 -- the station of one node was changed, and its journal is the same

@@ -9,11 +9,11 @@ use Rattle.status.specs.declared.id.TransactionId.{TransactionId}
 use Rattle.status.specs.declared.words.Status.TheVariants.{Completed}
 use Rattle.scheme.specs.declared.registries.Scheme.{Scheme}
 use Rattle.protocol.specs.History.{Transition, Entry, transitions_of, newest}
+use Rattle.safety.proofs.Causal.{Causal, heard-sent}
 use Rattle.safety.proofs.Completions.{initiator-has}
-use Rattle.safety.proofs.Causal.{Causal, one-some, heard-sent}
 use Rattle.safety.proofs.Ended.{ends-last, own-contents, completed-sent, proposer}
 use Rattle.safety.proofs.Histories.{Made, made-log, newest-id, newest-append, newest-in}
-use Rattle.safety.proofs.Members.{In, In-cases}
+use Rattle.safety.proofs.Members.{In, In-cases, one-some}
 use Rattle.safety.proofs.Moves.{newest-some}
 use Rattle.safety.proofs.Said.{log-pair, log-keeps-content}
 

@@ -27,11 +27,11 @@ use Rattle.protocol.specs.History.{Entry, Transition, is_status, newest, sends, 
 use Rattle.protocol.specs.Registries.{has_member}
 use Rattle.protocol.specs.WayOut.{IsOpen}
 use Rattle.protocol.specs.World.{World, run}
-use Rattle.safety.proofs.Causal.{Causal, completed-agrees, ended, heard-sent, log-said, one-some}
+use Rattle.safety.proofs.Causal.{Causal, completed-agrees, ended, heard-sent, log-said}
 use Rattle.safety.proofs.Completions.{stands-so}
 use Rattle.safety.proofs.Ended.{completed-sent, ends-last, own-contents, proposer}
 use Rattle.safety.proofs.Histories.{newest-id}
-use Rattle.safety.proofs.Members.{In}
+use Rattle.safety.proofs.Members.{In, one-some}
 use Rattle.safety.proofs.Said.{IsAgreed, log-backed}
 use Rattle.safety.proofs.Sending.{Calm, Went, send}
 use Rattle.safety.proofs.Spoken.{SaysAtLog, Tells, transition-sends}

@@ -17,21 +17,19 @@ use Rattle.protocol.specs.Checks.{log_findings}
 use Rattle.protocol.specs.Claims.{DeliversWelcome, TerminatesForEligibility, live_of, whole}
 use Rattle.protocol.specs.Deciding.{Verdict, Enters, IsRepeat, IsLate, IsRefused}
 use Rattle.protocol.specs.History.{Transition, transitions_of, newest, sends}
-use Rattle.protocol.specs.Registries.{is_node}
 use Rattle.protocol.specs.Verdict.{verdict, history, made}
 use Rattle.protocol.specs.World.{World, Station, station, journal, rests, answered, take_input, at_node, opening, run, deliver, step, sender, receiver}
 use Rattle.protocol.specs.declared.event.Outcome.TheVariants.{NotPossible, Refused}
 use Rattle.protocol.specs.declared.event.Posted.{Posted}
 use Rattle.protocol.specs.declared.event.WorldEvent.{WorldEvent}
-use Rattle.safety.proofs.Ended.{one-notice}
 use Rattle.safety.proofs.Findings.{only-eligibility}
 use Rattle.safety.proofs.FromLog.{never-terminates}
-use Rattle.safety.proofs.Histories.{newest-id}
+use Rattle.safety.proofs.Histories.{newest-id, one-notice}
 use Rattle.safety.proofs.Members.{In, In-slice_get}
 use Rattle.safety.proofs.Moves.{LogMove, checks, passes, cancels, log-moves}
-use Rattle.safety.proofs.Places.{live-unplaced}
+use Rattle.safety.proofs.Places.{live-unplaced, opening-placed, run-placed}
 use Rattle.safety.proofs.Positions.{In-contains}
-use Rattle.safety.proofs.Reached.{reached-scheme, reached-sound}
+use Rattle.safety.proofs.Reached.{reached-sound}
 use Rattle.safety.proofs.Sound.{Sound, live-causal, live-sends}
 use Rattle.safety.proofs.Stations.{at-node}
 use Rattle.safety.proofs.Welcome.{welcome}
@@ -114,7 +112,7 @@ module _ (w : World) (sound : Sound w) (unplaced : Unplaced w.scheme (live_of w)
 -- ---- worlds that events lead to
 
 reached-unplaced : (scheme : Scheme) (events : List WorldEvent) → Unplaced (run (opening scheme) events).scheme (live_of (run (opening scheme) events))
-reached-unplaced scheme events n h = live-unplaced scheme events n (subst (λ (z : Scheme). is_node z n ≡ false) (reached-scheme scheme events) h)
+reached-unplaced scheme events = live-unplaced (run (opening scheme) events) (run-placed (opening scheme) events (opening-placed scheme))
 
 pub delivers-welcome : (scheme : Scheme) (events : List WorldEvent) → DeliversWelcome (run (opening scheme) events)
 delivers-welcome scheme events = sound-delivers (run (opening scheme) events) (reached-sound scheme events) (reached-unplaced scheme events)

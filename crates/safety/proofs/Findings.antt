@@ -26,16 +26,16 @@ use Rattle.protocol.specs.Pieces.{Piece, pieces, covers}
 use Rattle.protocol.specs.Registries.{allotted, has_member}
 use Rattle.safety.proofs.Begun.{Begun, begun, log-one-content}
 use Rattle.safety.proofs.Book.{holder-is-owner}
-use Rattle.safety.proofs.Causal.{Causal, one-some, log-said}
+use Rattle.safety.proofs.Causal.{Causal, log-said}
 use Rattle.safety.proofs.Completions.{stood, log-completed}
 use Rattle.safety.proofs.Counts.{list-any-not}
-use Rattle.safety.proofs.Ended.{clash, offered, own-contents}
+use Rattle.safety.proofs.Ended.{offered, own-contents}
 use Rattle.safety.proofs.FromLog.{is_of_other_kind}
 use Rattle.safety.proofs.Histories.{newest-id}
 use Rattle.safety.proofs.KindsKept.{sound-offer}
 use Rattle.safety.proofs.Local.{Waits, local-history}
 use Rattle.safety.proofs.LogAlone.{IsBusy}
-use Rattle.safety.proofs.Members.{In, codes-differ, other-code}
+use Rattle.safety.proofs.Members.{In, codes-differ, other-code, one-some, clash}
 use Rattle.safety.proofs.OneOwner.{held-or-owed, one-owner, causal-one-owner}
 use Rattle.safety.proofs.OwnStatuses.{IsOwnStatus, own-statuses}
 use Rattle.safety.proofs.Tables.{word_to}

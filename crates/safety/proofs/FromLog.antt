@@ -20,11 +20,10 @@ use Rattle.protocol.specs.Checks.{has_other_kind, log_causes, log_findings}
 use Rattle.protocol.specs.History.{Transition, Entry, transitions_of, newest, sends, messages_of}
 use Rattle.protocol.specs.Pieces.{Piece, pieces, repeats}
 use Rattle.protocol.specs.Registries.{allotted, has_member}
-use Rattle.safety.proofs.Causal.{one-some}
-use Rattle.safety.proofs.Ended.{one-notice, one-proposal, proposer}
-use Rattle.safety.proofs.Histories.{Made, Heard, heard-later, made-log, newest-id, newest-append, newest-in}
+use Rattle.safety.proofs.Ended.{proposer}
+use Rattle.safety.proofs.Histories.{Made, Heard, heard-later, made-log, newest-id, newest-append, newest-in, one-notice, one-proposal}
 use Rattle.safety.proofs.LogShapes.{none-stand}
-use Rattle.safety.proofs.Members.{In, In-cases, In-flat_map}
+use Rattle.safety.proofs.Members.{In, In-cases, In-flat_map, one-some}
 use Rattle.safety.proofs.Moves.{LogMove, checks, passes, cancels}
 use Rattle.safety.proofs.Said.{from_acquirer, log-pair, log-notice-move, log-keeps-content}
 use Rattle.safety.proofs.Tables.{log-from}

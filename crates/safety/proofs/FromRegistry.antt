@@ -18,13 +18,13 @@ use Rattle.wire.specs.declared.message.ProposalStatus.TheVariants as proposal
 use Rattle.scheme.specs.declared.registries.Scheme.{Scheme}
 use Rattle.protocol.specs.AtRegistry.{proposals, arrived_status, settled_messages}
 use Rattle.protocol.specs.History.{Transition, Entry, transitions_of, newest, sends, messages_of}
-use Rattle.safety.proofs.Ended.{single-same, arrived-notice, clash, one-notice, own-code, newest-own}
-use Rattle.safety.proofs.Histories.{Made, Offered, offered-later, made-registry, newest-id, newest-append, newest-in}
+use Rattle.safety.proofs.Ended.{single-same, own-code, newest-own}
+use Rattle.safety.proofs.Histories.{Made, Offered, offered-later, made-registry, newest-id, newest-append, newest-in, one-notice}
 use Rattle.safety.proofs.Local.{made-single}
-use Rattle.safety.proofs.Members.{In, In-cases, In-flat_map}
+use Rattle.safety.proofs.Members.{In, In-cases, In-flat_map, clash}
 use Rattle.safety.proofs.Moves.{RegistryMove, proposes, arrives, bares, settles, finishes}
 use Rattle.safety.proofs.Tables.{acquirer-from}
-use Rattle.safety.proofs.Told.{settled-notice}
+use Rattle.safety.proofs.Told.{settled-notice, arrived-notice}
 
 arrived-answers : (found : List ℕ) → (arrived_status found ≡ Accepted) ⊎ (arrived_status found ≡ Rejected)
 arrived-answers [] = inl refl

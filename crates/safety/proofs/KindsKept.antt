@@ -24,13 +24,13 @@ use Rattle.protocol.specs.History.{Transition, Entry, Place, transitions_of, sen
 use Rattle.protocol.specs.Pieces.{Piece, pieces, pieces_of, repeats}
 use Rattle.protocol.specs.Registries.{allotted}
 use Rattle.safety.proofs.Canonical.{canonical-no-repeats, canonical-from}
-use Rattle.safety.proofs.Causal.{Causal, one-some}
+use Rattle.safety.proofs.Causal.{Causal}
 use Rattle.safety.proofs.Completions.{credited, offered-sent}
 use Rattle.safety.proofs.Counts.{list-any-none}
-use Rattle.safety.proofs.Ended.{ends-last, known, one-proposal, settled-offers}
+use Rattle.safety.proofs.Ended.{ends-last, known, settled-offers}
 use Rattle.safety.proofs.FromLog.{is_of_other_kind, passed-on}
-use Rattle.safety.proofs.Histories.{Made, Offered, offered-later, made-registry}
-use Rattle.safety.proofs.Members.{In, In-cases, In-left, In-right, In-find, In-flat_map}
+use Rattle.safety.proofs.Histories.{Made, Offered, offered-later, made-registry, one-proposal}
+use Rattle.safety.proofs.Members.{In, In-cases, In-left, In-right, In-find, In-flat_map, one-some}
 use Rattle.safety.proofs.Moves.{RegistryMove, proposes, arrives, bares, settles, finishes}
 use Rattle.safety.proofs.Units.{piece-of-block}
 

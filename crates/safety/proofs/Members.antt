@@ -57,7 +57,7 @@ pub In-cond : {X : Type 0} (x : X) (b : Bool) (xs ys : List X) → In x (cond b 
 In-cond x true xs ys h = inl (refl, h)
 In-cond x false xs ys h = inr (refl, h)
 
-pub cond-Some : {X : Type 0} (b : Bool) (y x : X) (o : Option X) → cond b (Some y) o ≡ Some x → ((b ≡ true) × (y ≡ x)) ⊎ ((b ≡ false) × (o ≡ Some x))
+cond-Some : {X : Type 0} (b : Bool) (y x : X) (o : Option X) → cond b (Some y) o ≡ Some x → ((b ≡ true) × (y ≡ x)) ⊎ ((b ≡ false) × (o ≡ Some x))
 cond-Some true y x o e = inl (refl, cc)
 cond-Some false y x o e = inr (refl, e)
 
@@ -80,6 +80,14 @@ In-filter p (y ∷ ys) x h =
           ]
       | inr i ↦ let r = In-filter p ys x i.1 in (inr r.0, r.1)
     ]
+
+-- ---- no test says both, and Some holds one value
+
+pub clash : {X : Type 0} (a : Bool) → a ≡ true → a ≡ false → X
+clash a p q = let e : true ≡ false = sym p ∙ q in absurd (cc (e))
+
+pub one-some : {X : Type 0} (x y : X) → Some x ≡ Some y → x ≡ y
+one-some x y e = cc (e)
 
 -- ---- tests of sameness
 

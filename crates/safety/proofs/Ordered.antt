@@ -23,11 +23,10 @@ use Rattle.protocol.specs.declared.event.Outcome.TheVariants.{Done, NotPossible}
 use Rattle.protocol.specs.declared.event.Posted.{Posted}
 use Rattle.protocol.specs.declared.event.WorldEvent.{WorldEvent}
 use Rattle.protocol.specs.declared.event.WorldEvent.TheVariants.{Take, Commit, Post, Deliver, Crash, Restart}
-use Rattle.safety.proofs.Causal.{one-some}
 use Rattle.safety.proofs.Going.{sends-append, got-in}
 use Rattle.safety.proofs.Histories.{Got}
-use Rattle.safety.proofs.Members.{In, In-right}
-use Rattle.safety.proofs.Places.{AllPlaced, step-placed, places}
+use Rattle.safety.proofs.Members.{In, In-right, one-some}
+use Rattle.safety.proofs.Places.{AllPlaced, step-placed, opening-placed}
 use Rattle.safety.proofs.Positions.{contains-in, In-take, right-empty}
 use Rattle.safety.proofs.Reached.{reached-scheme}
 use Rattle.safety.proofs.Sound.{Sound, step-sound, opening-sound, no-journal, none-committed}
@@ -272,7 +271,7 @@ opening-ordered scheme = record {
 pub ordered : (scheme : Scheme) (events : List WorldEvent) (journals : Node → List Input) → Projects scheme events journals
     → (order : List Placed) × InTurn scheme order × ((n : Node) → journals_of order n ≡ journals n)
 ordered scheme events journals h =
-    let o = run-ordered (opening scheme) events (opening-sound scheme) (places scheme []) (opening-ordered scheme) in
+    let o = run-ordered (opening scheme) events (opening-sound scheme) (opening-placed scheme) (opening-ordered scheme) in
     (o.order, subst (λ (z : Scheme). InTurn z o.order) (reached-scheme scheme events) o.turn, λ n. o.same n ∙ (h n).0)
 
 pub always-next : (scheme : Scheme) (events : List WorldEvent) (journals past : Node → List Input) → Projects scheme events journals → GoOn past journals → ((n : Node) → past n ≡ journals n) ⊎ HasNext scheme past journals

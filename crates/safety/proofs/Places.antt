@@ -82,7 +82,7 @@ deliver-places : (w : World) (moment : Moment) (o : Option Posted) → SamePlace
 deliver-places w moment None m = refl
 deliver-places w moment (Some p) m = turn-places w (receiver p.message) (station w (receiver p.message)) (take_input w.scheme (Received p.message moment)) refl (take-node w.scheme (Received p.message moment)) m
 
-pub step-places : (w : World) (e : WorldEvent) → SamePlaces w (step w e).world
+step-places : (w : World) (e : WorldEvent) → SamePlaces w (step w e).world
 unfolding step
 step-places w (Take n i) m =
     cond-places w (is_order w n i) (at_node w (station w n) (take_input w.scheme i)) (stays w NotPossible) (turn-places w n (station w n) (take_input w.scheme i) refl (take-node w.scheme i)) (λ z. refl) m
@@ -91,10 +91,6 @@ step-places w (Post n key) m = posted-places w n key (option_and_then (sent w.sc
 step-places w (Deliver index moment) m = deliver-places w moment (slice_get w.bag index) m
 step-places w (Crash n kept) m = turn-places w n (station w n) (crash kept) refl (crash-node kept) m
 step-places w (Restart n) m = turn-places w n (station w n) restart refl restart-node m
-
-pub run-places : (w : World) (events : List WorldEvent) → SamePlaces w (run w events)
-run-places w [] m = refl
-run-places w (e ∷ es) m = run-places (step w e).world es m ∙ step-places w e m
 
 -- the nodes are those that have a station
 abbrev pub AllPlaced : World → Type 0
@@ -118,16 +114,13 @@ opening-members c (m ∷ ms) = go (same_code m.code c) (opening-members c ms)
     go true rest = refl
     go false rest = rest
 
-opening-places : (scheme : Scheme) (n : Node) → is_some (station (opening scheme) n) ≡ is_node scheme n
-opening-places scheme Itl = refl
-opening-places scheme (Registry c) = opening-members c scheme.members
+pub opening-placed : (scheme : Scheme) → AllPlaced (opening scheme)
+opening-placed scheme Itl = refl
+opening-placed scheme (Registry c) = opening-members c scheme.members
 
--- ---- worlds that events lead to
+-- ---- what stands where
 
-pub places : (scheme : Scheme) (events : List WorldEvent) (n : Node) → is_some (station (run (opening scheme) events) n) ≡ is_node scheme n
-places scheme events n = run-places (opening scheme) events n ∙ opening-places scheme n
-
-pub none-there : {X : Type 0} (o : Option X) → is_some o ≡ false → o ≡ None
+none-there : {X : Type 0} (o : Option X) → is_some o ≡ false → o ≡ None
 none-there None e = refl
 none-there (Some x) e = absurd (cc (e))
 
@@ -135,16 +128,13 @@ pub some-there : {X : Type 0} (o : Option X) → is_some o ≡ true → (x : X) 
 some-there None e = absurd (cc (e))
 some-there (Some x) e = (x, refl)
 
--- a node of the scheme has a station, another one has none
-pub placed : (scheme : Scheme) (events : List WorldEvent) (n : Node) → is_node scheme n ≡ true → (s : Station) × (station (run (opening scheme) events) n ≡ Some s)
-placed scheme events n h = some-there (station (run (opening scheme) events) n) (places scheme events n ∙ h)
-
-pub unplaced : (scheme : Scheme) (events : List WorldEvent) (n : Node) → is_node scheme n ≡ false → station (run (opening scheme) events) n ≡ None
-unplaced scheme events n h = none-there (station (run (opening scheme) events) n) (places scheme events n ∙ h)
+-- where no node of the scheme is, no station is
+unplaced : (w : World) → AllPlaced w → (n : Node) → is_node w.scheme n ≡ false → station w n ≡ None
+unplaced w all n h = none-there (station w n) (all n ∙ h)
 
 -- no history is without a node
-pub live-unplaced : (scheme : Scheme) (events : List WorldEvent) (n : Node) → is_node scheme n ≡ false → live_of (run (opening scheme) events) n ≡ []
-live-unplaced scheme events n h = ap (λ o. history (run (opening scheme) events).scheme n (whole o)) (unplaced scheme events n h)
+pub live-unplaced : (w : World) → AllPlaced w → (n : Node) → is_node w.scheme n ≡ false → live_of w n ≡ []
+live-unplaced w all n h = ap (λ o. history w.scheme n (whole o)) (unplaced w all n h)
 
-pub committed-unplaced : (scheme : Scheme) (events : List WorldEvent) (n : Node) → is_node scheme n ≡ false → committed_of (run (opening scheme) events) n ≡ []
-committed-unplaced scheme events n h = ap (λ o. history (run (opening scheme) events).scheme n (committed_part o)) (unplaced scheme events n h)
+pub committed-unplaced : (w : World) → AllPlaced w → (n : Node) → is_node w.scheme n ≡ false → committed_of w n ≡ []
+committed-unplaced w all n h = ap (λ o. history w.scheme n (committed_part o)) (unplaced w all n h)

@@ -23,9 +23,8 @@ use Rattle.protocol.specs.declared.event.Outcome.TheVariants.{NotPossible}
 use Rattle.protocol.specs.declared.event.Posted.{Posted}
 use Rattle.protocol.specs.declared.event.WorldEvent.{WorldEvent}
 use Rattle.protocol.specs.declared.event.WorldEvent.TheVariants.{Take, Commit, Post, Deliver}
-use Rattle.safety.proofs.Causal.{one-some}
-use Rattle.safety.proofs.Members.{In, In-find, In-map}
-use Rattle.safety.proofs.Places.{AllPlaced, run-placed, places, some-there}
+use Rattle.safety.proofs.Members.{In, In-find, In-map, one-some}
+use Rattle.safety.proofs.Places.{AllPlaced, run-placed, opening-placed, some-there}
 use Rattle.safety.proofs.Positions.{place-of, last-at}
 use Rattle.safety.proofs.Sound.{Sound, run-sound, opening-sound}
 use Rattle.safety.proofs.Stations.{at-node, at-put, at-elsewhere}
@@ -171,7 +170,7 @@ delivers w quiet m moment xs node sent says =
 pub opening-quiet : (scheme : Scheme) → Quiet (opening scheme)
 opening-quiet scheme = record {
   sound = opening-sound scheme;
-  placed = places scheme [];
+  placed = opening-placed scheme;
   idle = λ n s is.
       elim (In-find (λ (x : Station). same_node x.node n) (opening scheme).stations s is).0 [
         | inl e ↦ subst (λ (z : Station). (z.runs ≡ true) × (z.tail ≡ [])) e (refl, refl)

@@ -35,7 +35,7 @@ pub welcome-late : Welcome IsLate
 welcome-late code e = absurd (cc (e))
 
 -- where no cause stands, the answer is what it would be without them
-pub refuse-none : (cs : Causes) (v : Verdict) → NoneStands cs → refuse cs v ≡ v
+refuse-none : (cs : Causes) (v : Verdict) → NoneStands cs → refuse cs v ≡ v
 refuse-none [] v n = refl
 refuse-none (c ∷ cs) v n = cond-false c.0 (IsRefused c.1) (refuse cs v) n.0 ∙ refuse-none cs v n.1
 

@@ -31,12 +31,12 @@ module _ (w : World) (events : List WorldEvent) (n : Node) (input : Input) (g : 
   grown-here : committed_of (run w events) n ≡ history w.scheme n (committed_part (station w n) ++ input ∷ [])
   grown-here = ap (λ (z : Scheme). history z n (committed_part (station (run w events) n))) (run-scheme w events) ∙ ap (history w.scheme n) (ap committed_part g.here ∙ g.committed)
 
-  pub grown-elsewhere : (m : Node) → same_node n m ≡ false → committed_of (run w events) m ≡ committed_of w m
+  grown-elsewhere : (m : Node) → same_node n m ≡ false → committed_of (run w events) m ≡ committed_of w m
   grown-elsewhere m other =
       ap (λ (z : Scheme). history z m (committed_part (station (run w events) m))) (run-scheme w events) ∙ ap (λ o. history w.scheme m (committed_part o)) (g.elsewhere m other)
 
   -- with the transitions that its verdict enters
-  pub grown-entry : (xs : List Transition) → verdict w.scheme n (committed_of w n) input ≡ Enters xs
+  grown-entry : (xs : List Transition) → verdict w.scheme n (committed_of w n) input ≡ Enters xs
       → committed_of (run w events) n ≡ record { input = input; transitions = xs } ∷ committed_of w n
   grown-entry xs says =
       grown-here ∙ history_from-append w.scheme n [] (committed_part (station w n)) (input ∷ [])

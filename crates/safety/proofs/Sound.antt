@@ -129,7 +129,7 @@ module _ (w : World) (sound : Sound w) (n : Node) (s : Station) (is : station w 
         | inr d ↦ subst (λ o. In x (sends (history w.scheme m (committed_part o)))) (sym (at-elsewhere n m w.stations t (k.node ∙ own) d)) h
       ]
 
-  pub sound-put : (t : Station) → Keeps w s t → Sound (put w t)
+  sound-put : (t : Station) → Keeps w s t → Sound (put w t)
   sound-put t k = record {
     posted = λ p i. committed-after t k (sender p.message) p.message (sound.posted p i);
     caused = λ m x g.

@@ -20,10 +20,10 @@ use Rattle.protocol.specs.AtLog.{acquirer_of, checked, checked_status, told_to}
 use Rattle.protocol.specs.AtRegistry.{arrived, arrived_status, proposals, settled_messages}
 use Rattle.protocol.specs.Deciding.{moved, proposes as to_propose, notifies}
 use Rattle.protocol.specs.History.{Transition, Entry, transitions_of, sends, messages_of}
-use Rattle.safety.proofs.Ended.{clash, each-move, own-code, own-about}
+use Rattle.safety.proofs.Ended.{each-move, own-code, own-about}
 use Rattle.safety.proofs.Histories.{Made, made-log, newest-id}
 use Rattle.safety.proofs.Local.{initiator-new}
-use Rattle.safety.proofs.Members.{In, In-cases, In-left, In-right}
+use Rattle.safety.proofs.Members.{In, In-cases, In-left, In-right, clash}
 use Rattle.safety.proofs.Moves.{RegistryMove, proposes, arrives, bares, settles, finishes, LogMove, checks, passes, cancels}
 use Rattle.safety.proofs.Tables.{log-from, acquirer-from}
 

@@ -24,11 +24,11 @@ use Rattle.protocol.specs.History.{Entry, Transition, newest, sends, transitions
 use Rattle.protocol.specs.Registries.{has_member}
 use Rattle.protocol.specs.WayOut.{IsOpen}
 use Rattle.protocol.specs.World.{World, run}
-use Rattle.safety.proofs.Causal.{Causal, one-some}
+use Rattle.safety.proofs.Causal.{Causal}
 use Rattle.safety.proofs.Completions.{offered-sent}
 use Rattle.safety.proofs.Ended.{offered, proposer}
 use Rattle.safety.proofs.Histories.{newest-id}
-use Rattle.safety.proofs.Members.{In}
+use Rattle.safety.proofs.Members.{In, one-some}
 use Rattle.safety.proofs.Sending.{Calm, Went}
 use Rattle.safety.proofs.Spoken.{SaysAtLog, SaysOther, SaysOwn, log-has-said, other-said, own-said, transition-sends}
 use Rattle.safety.proofs.Stations.{other-way}

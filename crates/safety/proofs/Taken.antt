@@ -23,15 +23,15 @@ use Rattle.scheme.specs.declared.registries.Scheme.{Scheme}
 use Rattle.protocol.specs.AtLog.{checked, ledger, log_answer, log_notice, log_proposal, log_refusals, pass, told_to}
 use Rattle.protocol.specs.AtRegistry.{arrived, arrival, finish, finish_refusals, holding, registry_answer, registry_notice, registry_refusals, settle, settled_messages}
 use Rattle.protocol.specs.Checks.{Causes, acquirer_findings, log_findings}
-use Rattle.protocol.specs.Claims.{committed_of, committed_part}
+use Rattle.protocol.specs.Claims.{committed_of}
 use Rattle.protocol.specs.Deciding.{Verdict, Enters, IsRefused, enters, moved, notifies, proposes, refuse}
 use Rattle.protocol.specs.History.{Entry, Transition, newest, sends, transitions_of}
 use Rattle.protocol.specs.Registries.{is_node}
-use Rattle.protocol.specs.Verdict.{verdict, history}
-use Rattle.protocol.specs.World.{World, receiver, sender, station}
+use Rattle.protocol.specs.Verdict.{verdict}
+use Rattle.protocol.specs.World.{World, receiver, sender}
 use Rattle.safety.proofs.Causal.{Causal}
 use Rattle.safety.proofs.Members.{In}
-use Rattle.safety.proofs.Places.{none-there}
+use Rattle.safety.proofs.Places.{committed-unplaced}
 use Rattle.safety.proofs.Refusals.{Welcome}
 use Rattle.safety.proofs.Sending.{Calm}
 use Rattle.safety.proofs.Sound.{committed-causal}
@@ -67,9 +67,7 @@ module _ (scheme : Scheme) (w : World) (calm : Calm scheme w) where
   causal = subst (λ (z : Scheme). Causal z (committed_of w)) calm.same (committed-causal w calm.quiet.sound)
 
   pub unplaced : Unplaced scheme (committed_of w)
-  unplaced n h =
-      ap (λ o. history w.scheme n (committed_part o))
-      (none-there (station w n) (calm.quiet.placed n ∙ subst (λ (z : Scheme). is_node z n ≡ false) (sym calm.same) h))
+  unplaced n h = committed-unplaced w calm.quiet.placed n (subst (λ (z : Scheme). is_node z n ≡ false) (sym calm.same) h)
 
 module _ (scheme : Scheme) (moment : Moment) (w : World) (calm : Calm scheme w) where
   heard : (m : Message) → In m (sends (committed_of w (sender m))) → Welcome (verdict scheme (receiver m) (committed_of w (receiver m)) (Received m moment))

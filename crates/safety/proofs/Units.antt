@@ -48,7 +48,7 @@ up-In first (suc count) n a b =
 -- ---- the units of blocks
 
 -- a piece of a block is one of its units
-pub block-of-piece : (b : RawBlock) (p : Piece) → In p (pieces_of b) → (has_unit b p.unit ≡ true) × (p.kind ≡ b.kind)
+block-of-piece : (b : RawBlock) (p : Piece) → In p (pieces_of b) → (has_unit b p.unit ≡ true) × (p.kind ≡ b.kind)
 block-of-piece b p h =
     let m = In-map (piece b) p (up_from b.first (suc b.last - b.first)) h in
     let r = In-up b.first (suc b.last - b.first) m.0 m.1 in

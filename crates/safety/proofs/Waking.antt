@@ -14,8 +14,7 @@ use Rattle.protocol.specs.World.{World, Station, Turn, station, journal, put, re
 use Rattle.protocol.specs.declared.event.Outcome.TheVariants.{Done, NotPossible}
 use Rattle.protocol.specs.declared.event.WorldEvent.{WorldEvent}
 use Rattle.protocol.specs.declared.event.WorldEvent.TheVariants.{Take, Commit, Post, Deliver, Crash, Restart}
-use Rattle.safety.proofs.Causal.{one-some}
-use Rattle.safety.proofs.Members.{In, In-find, map-In}
+use Rattle.safety.proofs.Members.{In, In-find, map-In, one-some}
 use Rattle.safety.proofs.Places.{AllPlaced, run-placed}
 use Rattle.safety.proofs.Quiet.{Quiet, run-append}
 use Rattle.safety.proofs.Schemes.{run-scheme}

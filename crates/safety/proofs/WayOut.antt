@@ -22,17 +22,16 @@ use Rattle.protocol.specs.Claims.{at_registry, committed_of, is_received, live_o
 use Rattle.protocol.specs.History.{Entry, Transition, carries, holds, is_status, newest, number_of, reserved, spendable, stands_at, transitions_of}
 use Rattle.protocol.specs.Owner.{At, Due, Owner, Owns}
 use Rattle.protocol.specs.Registries.{has_member}
-use Rattle.protocol.specs.Verdict.{extend, history, history_from}
+use Rattle.protocol.specs.Verdict.{extend, history_from}
 use Rattle.protocol.specs.WayOut.{AtRest, IsOpen, WayOut, is_open, open_transfers}
 use Rattle.protocol.specs.World.{World, run, station}
-use Rattle.safety.proofs.Causal.{one-some}
 use Rattle.safety.proofs.Closing.{close-open}
 use Rattle.safety.proofs.Completions.{stood}
 use Rattle.safety.proofs.Counts.{length-picked, list-any-some, picked, picked-In}
 use Rattle.safety.proofs.Histories.{newest-id}
-use Rattle.safety.proofs.Members.{In, id_of_same, same_id-refl, same_status-refl, status_of_same}
+use Rattle.safety.proofs.Members.{In, id_of_same, same_id-refl, same_status-refl, status_of_same, one-some}
 use Rattle.safety.proofs.OneOwner.{causal-one-owner}
-use Rattle.safety.proofs.Places.{AllPlaced, none-there}
+use Rattle.safety.proofs.Places.{AllPlaced, live-unplaced}
 use Rattle.safety.proofs.Quiet.{Quiet, there}
 use Rattle.safety.proofs.Schemes.{run-scheme}
 use Rattle.safety.proofs.Sending.{Calm}
@@ -234,9 +233,7 @@ way-out w sound all room =
     let x = room n in let y = length-history w.scheme n [] (whole (station w n)) in let z = ap length (q.same n) in omega arith in
     let a = close-all w.scheme ts (run w q.events) calm (roomy Itl, λ c. roomy (Registry c)) in
     let reach = reaches-on w (run w q.events) a.world (q.events, refl, q.transport) a.reaches in
-    let unplaced : Unplaced w.scheme (live_of w) = λ n h.
-    ap (λ o. history w.scheme n (whole o)) (none-there (station w n) (all n ∙ h)) in
     let closed : (t : TransactionId) → IsOpen (committed_of a.world) t → ⊥ = λ t o.
     let x = a.left t o in
-    x.1 (open-listed w.scheme (live_of w) unplaced t (open-same (committed_of (run w q.events)) (live_of w) t (λ n. ap (λ (es : List Entry). newest (transitions_of es) t) (q.same n)) x.0)) in
+    x.1 (open-listed w.scheme (live_of w) (live-unplaced w all) t (open-same (committed_of (run w q.events)) (live_of w) t (λ n. ap (λ (es : List Entry). newest (transitions_of es) t) (q.same n)) x.0)) in
     (reach.0, reach.2, subst AtRest (sym reach.1) (at-rest a.world a.calm.quiet closed))

@@ -30,13 +30,13 @@ use Rattle.protocol.specs.AtLog.{log_proposal, pass, log_notice, is_proposed, ac
 use Rattle.protocol.specs.History.{Transition, Entry, transitions_of, newest, sends}
 use Rattle.protocol.specs.Registries.{has_member, is_node}
 use Rattle.safety.proofs.Begun.{begun}
-use Rattle.safety.proofs.Causal.{Causal, one-some, heard-sent, completed-agrees}
+use Rattle.safety.proofs.Causal.{Causal, heard-sent, completed-agrees}
 use Rattle.safety.proofs.Completions.{log-has, stands-so}
 use Rattle.safety.proofs.Ended.{ends-last, offered, completed-sent}
 use Rattle.safety.proofs.FromLog.{passed-open, refusal, never-proposed}
 use Rattle.safety.proofs.FromRegistry.{Says, offers, answers, completes, says, rejected-sent}
 use Rattle.safety.proofs.Histories.{Offered, newest-id}
-use Rattle.safety.proofs.Members.{In}
+use Rattle.safety.proofs.Members.{In, one-some}
 use Rattle.safety.proofs.Refusals.{Welcome, welcome-enters, welcome-repeat, welcome-late, welcome-refuse, right-node, is-known, no-other}
 use Rattle.safety.proofs.Said.{IsAgreed, log-backed}
 use Rattle.safety.proofs.Told.{IsTaken, accepted-sent}
@@ -80,7 +80,7 @@ abbrev pub Unplaced : Scheme → (Node → List Entry) → Type 0
 Unplaced scheme f = (n : Node) → is_node scheme n ≡ false → f n ≡ []
 
 module _ (scheme : Scheme) (f : Node → List Entry) (causal : Causal scheme f) (unplaced : Unplaced scheme f) where
-  pub sender-member : (c : Code) (m : Message) → In m (sends (f (Registry c))) → is_no_registry scheme (Registry c) ≡ false
+  sender-member : (c : Code) (m : Message) → In m (sends (f (Registry c))) → is_no_registry scheme (Registry c) ≡ false
   sender-member c m h =
       elim (cases_Bool (has_member scheme c)) [
         | inl y ↦ ap not y

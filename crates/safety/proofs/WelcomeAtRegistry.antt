@@ -36,13 +36,13 @@ use Rattle.protocol.specs.Pieces.{Piece, pieces, repeats}
 use Rattle.protocol.specs.Registries.{has_member}
 use Rattle.protocol.specs.World.{receiver}
 use Rattle.safety.proofs.Begun.{begun}
-use Rattle.safety.proofs.Causal.{Causal, one-some, heard-sent, log-said, past-transition}
+use Rattle.safety.proofs.Causal.{Causal, heard-sent, log-said, past-transition}
 use Rattle.safety.proofs.Completions.{log-has}
 use Rattle.safety.proofs.Counts.{list-any-not}
 use Rattle.safety.proofs.Ended.{known}
 use Rattle.safety.proofs.FromLog.{passed-on, goes, ToKnown, never-proposed}
 use Rattle.safety.proofs.Histories.{newest-id}
-use Rattle.safety.proofs.Members.{In, codes-differ, other-code}
+use Rattle.safety.proofs.Members.{In, codes-differ, other-code, one-some}
 use Rattle.safety.proofs.OneOwner.{held-or-owed}
 use Rattle.safety.proofs.OwnStatuses.{IsOwnStatus, own-statuses}
 use Rattle.safety.proofs.Refusals.{Welcome, welcome-enters, welcome-repeat, welcome-late, welcome-refuse, welcome-true, welcome-false, right-node, is-known, no-other}

@@ -15,13 +15,13 @@ use Rattle.scheme.specs.declared.registries.Scheme.{Scheme}
 use Rattle.protocol.specs.Checks.{is_owner}
 use Rattle.protocol.specs.Claims.{HolderOwns}
 use Rattle.protocol.specs.History.{Transition, Entry, transitions_of, newest, number_of, has_serial, carries, gives, credits, at_start, holds, book_owner}
-use Rattle.safety.proofs.Causal.{Causal, heard-sent, one-some}
+use Rattle.safety.proofs.Causal.{Causal, heard-sent}
 use Rattle.safety.proofs.Completions.{done-status, given, credited, is-given, completed-once, log-has, initiator-has, log-completed}
 use Rattle.safety.proofs.Counts.{no-longer, picked, length-picked, In-picked, picked-In}
 use Rattle.safety.proofs.Ended.{ends-last, completed-sent, known, proposer}
 use Rattle.safety.proofs.Histories.{newest-id}
 use Rattle.safety.proofs.LogAlone.{in-book, brings, brings_to, owner-is, log-ends-last, log-picked-once}
-use Rattle.safety.proofs.Members.{In}
+use Rattle.safety.proofs.Members.{In, one-some}
 
 module _ (scheme : Scheme) (f : Node → List Entry) (causal : Causal scheme f) where
   module _ (s : Serial) (c : Code) where

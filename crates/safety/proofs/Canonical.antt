@@ -13,7 +13,7 @@ use Rattle.protocol.specs.Checks.{is_out_of_range}
 use Rattle.protocol.specs.History.{number_of}
 use Rattle.protocol.specs.Pieces.{Piece, piece, pieces, pieces_of, covers, repeats, same_unit, up_from, canonical, put_block, join_block, in_order, joined, comes_before, is_next}
 use Rattle.safety.proofs.Counts.{list-any-some, list-any-none, list-any-not, count-yes, count-no, number-none, number-append, number-one}
-use Rattle.safety.proofs.Members.{In}
+use Rattle.safety.proofs.Members.{In, In-cases, In-left, In-right}
 use Rattle.safety.proofs.Units.{period_of_same, unit_of_same, same_unit-refl, piece-of}
 
 abbrev is_at : Serial → Piece → Bool
@@ -159,17 +159,51 @@ tally-canonical bs good s = (joined-both s (in_order bs) (order-good bs (good-ra
 pub canonical-no-repeats : (bs : List RawBlock) → list_any is_out_of_range bs ≡ false → repeats (pieces bs) ≡ false → repeats (pieces (canonical bs)) ≡ false
 canonical-no-repeats bs good h = tally-repeats (pieces (canonical bs)) (λ s. let a = repeats-tally (pieces bs) h s in let b = tally-canonical bs good s in omega arith)
 
-tally-some : (bs : List RawBlock) (s : Serial) → 1 ≤ tally s (pieces bs) → (p : Piece) × In p (pieces bs) × (p.unit ≡ s)
-tally-some bs s le =
-    elim (cases_Bool (list_any (is_at s) (pieces bs))) [
-      | inl y ↦ let g = list-any-some (is_at s) (pieces bs) y in (g.0, g.1, unit_of_same g.0.unit s g.2)
-      | inr n ↦ absurd (let z = number-none (is_at s) (pieces bs) n in omega arith)
+-- ---- each unit of the canonical form is one of the blocks, with its kind
+
+put-from : (b : RawBlock) (bs : List RawBlock) (p : Piece) → In p (pieces (put_block b bs)) → In p (pieces (b ∷ bs))
+put-from b [] p h = h
+put-from b (c ∷ cs) p h = go (comes_before b c) (λ i. put-from b cs p i) h
+  where
+    go : (t : Bool) → (In p (pieces (put_block b cs)) → In p (pieces (b ∷ cs))) → In p (pieces (cond t (b ∷ c ∷ cs) (c ∷ put_block b cs))) → In p (pieces (b ∷ c ∷ cs))
+    go true older i = i
+    go false older i =
+        elim (In-cases p (pieces_of c) (pieces (put_block b cs)) i) [
+          | inl j ↦ In-right p (pieces_of b) (pieces (c ∷ cs)) (In-left p (pieces_of c) (pieces cs) j)
+          | inr j ↦
+              elim (In-cases p (pieces_of b) (pieces cs) (older j)) [
+                | inl k ↦ In-left p (pieces_of b) (pieces (c ∷ cs)) k
+                | inr k ↦ In-right p (pieces_of b) (pieces (c ∷ cs)) (In-right p (pieces_of c) (pieces cs) k)
+              ]
+        ]
+
+order-from : (bs : List RawBlock) (p : Piece) → In p (pieces (in_order bs)) → In p (pieces bs)
+order-from [] p h = h
+order-from (b ∷ bs) p h =
+    elim (In-cases p (pieces_of b) (pieces (in_order bs)) (put-from b (in_order bs) p h)) [
+      | inl i ↦ In-left p (pieces_of b) (pieces bs) i
+      | inr i ↦ In-right p (pieces_of b) (pieces bs) (order-from bs p i)
     ]
+
+join-from : (b : RawBlock) (bs : List RawBlock) (p : Piece) → b.first ≤ b.last → AllGood bs → In p (pieces (join_block b bs)) → In p (pieces (b ∷ bs))
+join-from b [] p g good h = h
+join-from b (c ∷ cs) p g good h = go (is_next b c) refl h
+  where
+    go : (t : Bool) → is_next b c ≡ t → In p (pieces (cond t (record b { last = c.last } ∷ cs) (b ∷ c ∷ cs))) → In p (pieces (b ∷ c ∷ cs))
+    go true e i = subst (In p) (ap (λ w. w ++ pieces cs) (join-pieces b c g good.0 e) ∙ append_assoc (pieces_of b) (pieces_of c) (pieces cs)) i
+    go false e i = i
+
+joined-from : (bs : List RawBlock) (p : Piece) → AllGood bs → In p (pieces (joined bs)) → In p (pieces bs)
+joined-from [] p good h = h
+joined-from (b ∷ bs) p good h =
+    elim (In-cases p (pieces_of b) (pieces (joined bs)) (join-from b (joined bs) p good.0 (joined-both p.unit bs good.1).1 h)) [
+      | inl i ↦ In-left p (pieces_of b) (pieces bs) i
+      | inr i ↦ In-right p (pieces_of b) (pieces bs) (joined-from bs p good.1 i)
+    ]
+
+pub canonical-from : (bs : List RawBlock) → list_any is_out_of_range bs ≡ false → (p : Piece) → In p (pieces (canonical bs)) → In p (pieces bs)
+canonical-from bs good p h = order-from bs p (joined-from (in_order bs) p (order-good bs (good-ranges bs good)) h)
 
 -- a unit of the canonical form is one of the blocks
 pub canonical-piece : (bs : List RawBlock) → list_any is_out_of_range bs ≡ false → (s : Serial) → covers (canonical bs) s ≡ true → (p : Piece) × In p (pieces bs) × (p.unit ≡ s)
-canonical-piece bs good s h =
-    let p = piece-of (canonical bs) s h in
-    let one = number-one (is_at s) (pieces (canonical bs)) p.0 p.1 (subst (λ u. same_unit p.0.unit u ≡ true) p.2 (same_unit-refl p.0.unit)) in
-    let same = tally-canonical bs good s in
-    tally-some bs s (omega arith)
+canonical-piece bs good s h = let p = piece-of (canonical bs) s h in (p.0, canonical-from bs good p.0 p.1, p.2)

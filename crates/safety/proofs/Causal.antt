@@ -16,7 +16,7 @@ use Rattle.protocol.specs.Claims.{Agrees, StandsAt}
 use Rattle.protocol.specs.History.{Transition, Entry, transitions_of, newest, sends}
 use Rattle.protocol.specs.World.{sender}
 use Rattle.safety.proofs.Histories.{Made, Got, Heard, newest-stands}
-use Rattle.safety.proofs.Members.{In}
+use Rattle.safety.proofs.Members.{In, one-some}
 use Rattle.safety.proofs.Said.{IsAgreed, log-backed, IsPast, log-sent, log-offered}
 use Rattle.safety.proofs.Tables.{word_to}
 use Rattle.safety.proofs.Told.{Cause, OwnCause, told-own, told, IsTaken, accepted-sent}
@@ -29,9 +29,6 @@ completed-rejected e = cc (e)
 
 cancelled-rejected : Cancelled ≡ Rejected → ⊥
 cancelled-rejected e = cc (e)
-
-pub one-some : {X : Type 0} (x y : X) → Some x ≡ Some y → x ≡ y
-one-some x y e = cc (e)
 
 -- every node's history was made by its verdicts, and each message that a node received was sent by the node that it names
 pub record Causal (scheme : Scheme) (f : Node → List Entry) : Type 0 where
@@ -46,13 +43,17 @@ LogSays f t s = (x : Transition) × (newest (transitions_of (f Itl)) t ≡ Some 
 abbrev pub LogAgrees : (Node → List Entry) → TransactionId → Type 0
 LogAgrees f t = (x : Transition) × (newest (transitions_of (f Itl)) t ≡ Some x) × IsAgreed x.new
 
-past-transition : (s : Status) (o : Option Transition) → IsPast s o → (x : Transition) × (o ≡ Some x) × ((x.new ≡ s) ⊎ ((s ≡ Accepted) × (x.new ≡ Completed)))
+pub past-transition : (s : Status) (o : Option Transition) → IsPast s o → (x : Transition) × (o ≡ Some x) × ((x.new ≡ s) ⊎ ((s ≡ Accepted) × (x.new ≡ Completed)))
 past-transition s None h = absurd h
 past-transition s (Some x) h = (x, refl, h)
 
 -- a message that was received from a node was sent by it
 pub heard-sent : (scheme : Scheme) (f : Node → List Entry) → Causal scheme f → (n from : Node) (t : TransactionId) (s : Status) (h : Heard (f n) from t s) → In (message.Notification h.notification) (sends (f from))
 heard-sent scheme f causal n from t s h = subst (λ m. In (message.Notification h.notification) (sends (f m))) h.sender (causal.sent n (message.Notification h.notification) h.got)
+
+-- the newest transition of a transaction has one content
+one-content : (xs : List Transition) (t : TransactionId) (x y : Transition) (k l : Content) → newest xs t ≡ Some x → newest xs t ≡ Some y → x.content ≡ Some k → y.content ≡ Some l → k ≡ l
+one-content xs t x y k l first second of_x of_y = one-some k l (sym of_x ∙ ap (λ (z : Transition). z.content) (one-some x y (sym first ∙ second)) ∙ of_y)
 
 module _ (scheme : Scheme) (f : Node → List Entry) (causal : Causal scheme f) where
   pub log-said : (n : Node) (t : TransactionId) (s : Status) → Heard (f n) Itl t s → LogSays f t s
@@ -110,11 +111,8 @@ module _ (scheme : Scheme) (f : Node → List Entry) (causal : Causal scheme f) 
       let sent_by = subst (λ m. In (message.Proposal p.proposal) (sends (f m))) p.sender (causal.sent (Registry c) (message.Proposal p.proposal) p.got) in
       let o = log-offered scheme (f Itl) (causal.made Itl) p.proposal sent_by in
       let b = log-backed scheme (f Itl) (causal.made Itl) t a.0 a.1 a.2 in
-      let e = sym (subst (λ u. newest (transitions_of (f Itl)) u ≡ Some o.0) p.about o.1) ∙ a.1 in
-      let same = one-some o.0 a.0 e in
-      let d = ap Some (sym p.content) ∙ sym o.2 ∙ ap (λ (z : Transition). z.content) same ∙ b.known in
-      let content = one-some k b.content d in
-      let who : b.content.acquirer ≡ c = sym (ap (λ (z : Content). z.acquirer) content) ∙ cause.2 in
+      let content = one-content (transitions_of (f Itl)) t o.0 a.0 p.proposal.content b.content (subst (λ u. newest (transitions_of (f Itl)) u ≡ Some o.0) p.about o.1) a.1 o.2 b.known in
+      let who : b.content.acquirer ≡ c = sym (ap (λ (z : Content). z.acquirer) content) ∙ ap (λ (z : Content). z.acquirer) p.content ∙ cause.2 in
       let accepted = subst (λ z. In (message.Notification b.heard.notification) (sends (f (Registry z)))) who (heard-sent scheme f causal Itl (Registry b.content.acquirer) t Accepted b.heard) in
       let s = accepted-sent scheme c es (causal.made (Registry c)) b.heard.notification accepted b.heard.told in
       let taken : IsTaken (Some g.0) = subst IsTaken (ap (newest (transitions_of es)) b.heard.about ∙ g.1) s.1 in

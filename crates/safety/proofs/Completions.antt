@@ -20,11 +20,11 @@ use Rattle.scheme.specs.declared.registries.Scheme.{Scheme}
 use Rattle.protocol.specs.AtLog.{is_no_registry}
 use Rattle.protocol.specs.Claims.{at_registry}
 use Rattle.protocol.specs.History.{Transition, Entry, transitions_of, newest, stands, sends, is_status, carries, gives, credits}
-use Rattle.safety.proofs.Causal.{Causal, heard-sent, log-said, one-some}
+use Rattle.safety.proofs.Causal.{Causal, heard-sent, log-said}
 use Rattle.safety.proofs.Counts.{NoRepeat, picked, In-picked}
 use Rattle.safety.proofs.Ended.{each-move, ends-last, ends-once, offered, completed-sent, known, proposer}
 use Rattle.safety.proofs.Histories.{Made, Offered}
-use Rattle.safety.proofs.Members.{In, status_of_same}
+use Rattle.safety.proofs.Members.{In, status_of_same, one-some}
 use Rattle.safety.proofs.Moves.{RegistryMove}
 use Rattle.safety.proofs.Said.{log-offered}
 use Rattle.safety.proofs.Told.{Cause, told}

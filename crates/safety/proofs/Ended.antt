@@ -24,30 +24,15 @@ use Rattle.scheme.specs.declared.registries.Scheme.{Scheme}
 use Rattle.protocol.specs.Registries.{has_member}
 use Rattle.protocol.specs.History.{Transition, Entry, transitions_of, newest, sends, messages_of}
 use Rattle.protocol.specs.Deciding.{moved}
-use Rattle.protocol.specs.AtRegistry.{content_of, proposed, proposals, arrived_status, arrived_notice, settled_messages}
+use Rattle.protocol.specs.AtRegistry.{content_of, proposed, proposals, arrived_status, settled_messages}
 use Rattle.protocol.specs.AtLog.{checked_status, is_no_registry, is_from_another}
 use Rattle.safety.proofs.Counts.{count-no, count-yes}
-use Rattle.safety.proofs.Histories.{Made, Heard, Offered, heard-later, offered-later, made-registry, made-log, newest-append, newest-id, newest-in}
+use Rattle.safety.proofs.Histories.{Made, Heard, Offered, heard-later, offered-later, made-registry, made-log, newest-append, newest-id, newest-in, one-notice, one-proposal}
 use Rattle.safety.proofs.Local.{made-single, Single}
-use Rattle.safety.proofs.Members.{In, In-cases, In-flat_map, In-left, In-right, id_of_same, same_id-refl}
+use Rattle.safety.proofs.Members.{In, In-cases, In-flat_map, In-left, In-right, id_of_same, same_id-refl, one-some, clash}
 use Rattle.safety.proofs.Moves.{RegistryMove, proposes, arrives, bares, settles, finishes, LogMove, checks, passes, cancels}
 use Rattle.safety.proofs.Tables.{initiator-from, acquirer-from, log-from}
-
-pub clash : {X : Type 0} (a : Bool) → a ≡ true → a ≡ false → X
-clash a p q = let e : true ≡ false = sym p ∙ q in absurd (cc (e))
-
-one-some : (x y : Transition) → Some x ≡ Some y → x ≡ y
-one-some x y e = cc (e)
-
-one-notice : (a b : Notification) → message.Notification a ≡ message.Notification b → a ≡ b
-one-notice a b e = cc (e)
-
-one-proposal : (a b : Proposal) → message.Proposal a ≡ message.Proposal b → a ≡ b
-one-proposal a b e = cc (e)
-
-arrived-notice : (found : List ℕ) → notice_status (arrived_notice found) ≡ arrived_status found
-arrived-notice [] = refl
-arrived-notice (n ∷ ns) = refl
+use Rattle.safety.proofs.Told.{arrived-notice}
 
 arrived-open : (found : List ℕ) → arrived_status found ≡ Completed → ⊥
 arrived-open [] h = cc (h)
@@ -64,7 +49,7 @@ settled-completed c u Rejected n h = absurd h
 settled-completed c u Terminated n h = absurd h
 settled-completed c u Cancelled n h = absurd h
 
-settled-offers : (c : Code) (u : TransactionId) (new : Status) (p : Proposal) → In (message.Proposal p) (settled_messages c u new) → ⊥
+pub settled-offers : (c : Code) (u : TransactionId) (new : Status) (p : Proposal) → In (message.Proposal p) (settled_messages c u new) → ⊥
 settled-offers c u Completed p (inl e) = cc (e)
 settled-offers c u Completed p (inr h) = h
 settled-offers c u Proposed p h = h
@@ -115,14 +100,14 @@ proposals-cons c x xs =
     ]
 
 module _ (scheme : Scheme) (c : Code) where
-  own-code : (n : ℕ) (t : TransactionId) → id_at c n ≡ Some t → same_code t.code c ≡ true
+  pub own-code : (n : ℕ) (t : TransactionId) → id_at c n ≡ Some t → same_code t.code c ≡ true
   own-code n t is = subst (λ z. same_code z c ≡ true) (sym (id_at-code c n t is)) (same_code-refl c)
 
   -- who a transition is about is who the notification was about
   pub own-about : (es : List Entry) (t : TransactionId) (q : Transition) → newest (transitions_of es) t ≡ Some q → same_code q.id.code c ≡ true → same_code t.code c ≡ true
   own-about es t q was own = subst (λ (z : TransactionId). same_code z.code c ≡ true) (newest-id (transitions_of es) t q was).1 own
 
-  newest-own : (es : List Entry) (t : TransactionId) (q x : Transition) → newest (transitions_of es) t ≡ Some q → newest (transitions_of es) q.id ≡ Some x → q ≡ x
+  pub newest-own : (es : List Entry) (t : TransactionId) (q x : Transition) → newest (transitions_of es) t ≡ Some q → newest (transitions_of es) q.id ≡ Some x → q ≡ x
   newest-own es t q x was h =
       let w : newest (transitions_of es) q.id ≡ Some q = subst (λ z. newest (transitions_of es) z ≡ Some q) (sym (newest-id (transitions_of es) t q was).1) was in
       one-some q x (sym w ∙ h)
@@ -156,7 +141,7 @@ module _ (scheme : Scheme) (c : Code) where
       omega arith
   numbered-move es input x (finishes n moment q new f was foreign move none) old own = clash (same_code n.id.code c) (own-about es n.id q was own) foreign
 
-  pub numbered : (es : List Entry) → Made scheme (Registry c) es → Numbered c (transitions_of es)
+  numbered : (es : List Entry) → Made scheme (Registry c) es → Numbered c (transitions_of es)
   numbered =
       each-move (Numbered c) (λ x i own. absurd i)
       (λ es input x made move old y i own. elim i [
@@ -167,7 +152,7 @@ module _ (scheme : Scheme) (c : Code) where
       ])
 
   -- the identifier of a proposal is new
-  pub fresh : (es : List Entry) → Made scheme (Registry c) es → (t : TransactionId) → id_at c (proposals c (transitions_of es) + 1) ≡ Some t
+  fresh : (es : List Entry) → Made scheme (Registry c) es → (t : TransactionId) → id_at c (proposals c (transitions_of es) + 1) ≡ Some t
       → (x : Transition) → newest (transitions_of es) t ≡ Some x → ⊥
   fresh es made t is x h =
       let about = newest-id (transitions_of es) t x h in
@@ -321,12 +306,12 @@ pub record Taken (c : Code) (es : List Entry) (t : TransactionId) (x : Transitio
 abbrev pub Known : Code → List Entry → TransactionId → Transition → Type 0
 Known c es t x = ((x.new ≡ Cancelled) × (x.content ≡ None)) ⊎ Taken c es t x
 
-pub known-later : (c : Code) (e : Entry) (es : List Entry) (t : TransactionId) (x : Transition) → Known c es t x → Known c (e ∷ es) t x
+known-later : (c : Code) (e : Entry) (es : List Entry) (t : TransactionId) (x : Transition) → Known c es t x → Known c (e ∷ es) t x
 known-later c e es t x (inl h) = inl h
 known-later c e es t x (inr h) = inr (record { content = h.content; is = h.is; got = offered-later e es Itl t proposal.Checked h.content h.got; here = h.here })
 
 module _ (scheme : Scheme) (c : Code) where
-  pub known-move : (es : List Entry) (e : Entry) (t : TransactionId) (input : Input) (x : Transition) → e.input ≡ input → RegistryMove scheme c es input x → x.id ≡ t → same_code t.code c ≡ false
+  known-move : (es : List Entry) (e : Entry) (t : TransactionId) (input : Input) (x : Transition) → e.input ≡ input → RegistryMove scheme c es input x → x.id ≡ t → same_code t.code c ≡ false
       → ((q : Transition) → newest (transitions_of es) t ≡ Some q → Known c es t q) → Known c (e ∷ es) t x
   known-move es e t input x i (proposes o u none is) same foreign old =
       let own : same_code u.code c ≡ true = own-code scheme c (proposals c (transitions_of es) + 1) u is in
@@ -374,7 +359,7 @@ checked-open [] h = cc (h)
 checked-open (n ∷ ns) h = cc (h)
 
 module _ (scheme : Scheme) where
-  pub proposer-move : (es : List Entry) (e : Entry) (t : TransactionId) (input : Input) (x : Transition) → e.input ≡ input → LogMove scheme es input x → x.id ≡ t
+  proposer-move : (es : List Entry) (e : Entry) (t : TransactionId) (input : Input) (x : Transition) → e.input ≡ input → LogMove scheme es input x → x.id ≡ t
       → ((q : Transition) → newest (transitions_of es) t ≡ Some q → Proposer scheme es t q) → Proposer scheme (e ∷ es) t x
   proposer-move es e t input x i (checks p moment found f s is none member) same old =
       let from : p.from ≡ Registry t.code = f ∙ ap (λ (z : TransactionId). Registry z.code) same in

@@ -26,7 +26,7 @@ sends-from : (scheme : Scheme) (n : Node) (es : List Entry) (xs : List Input) (m
 sends-from scheme n es [] m h = h
 sends-from scheme n es (x ∷ xs) m h = sends-from scheme n (extend scheme n es x) xs m (In-left m (sends es) (messages_of (made (verdict scheme n es x))) h)
 
-pub got-from : (scheme : Scheme) (n : Node) (es : List Entry) (xs : List Input) (m : Message) → Got es m → Got (history_from scheme n es xs) m
+got-from : (scheme : Scheme) (n : Node) (es : List Entry) (xs : List Input) (m : Message) → Got es m → Got (history_from scheme n es xs) m
 got-from scheme n es [] m h = h
 got-from scheme n es (x ∷ xs) m h = got-from scheme n (extend scheme n es x) xs m (inr h)
 

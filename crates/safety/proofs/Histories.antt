@@ -50,6 +50,12 @@ pub record Offered (es : List Entry) (from : Node) (t : TransactionId) (s : Prop
   pub status : proposal.status ≡ s
   pub content : proposal.content ≡ k
 
+pub one-notice : (a b : Notification) → message.Notification a ≡ message.Notification b → a ≡ b
+one-notice a b e = cc (e)
+
+pub one-proposal : (a b : Proposal) → message.Proposal a ≡ message.Proposal b → a ≡ b
+one-proposal a b e = cc (e)
+
 pub heard-later : (e : Entry) (es : List Entry) (from : Node) (t : TransactionId) (s : Status) → Heard es from t s → Heard (e ∷ es) from t s
 heard-later e es from t s h = record { notification = h.notification; got = inr h.got; sender = h.sender; about = h.about; told = h.told }
 

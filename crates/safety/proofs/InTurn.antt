@@ -17,14 +17,14 @@ use Rattle.protocol.specs.History.{Transition, Entry, sends, is_acknowledged}
 use Rattle.protocol.specs.Registries.{is_node}
 use Rattle.protocol.specs.Verdict.{verdict, history}
 use Rattle.protocol.specs.Weave.{Projects, Placed, journals_of, WasSent, IsNext, InTurn, uncommitted}
-use Rattle.protocol.specs.World.{World, Station, opening, step, run, station, sender, receiver, is_order, was_posted}
+use Rattle.protocol.specs.World.{World, Station, opening, run, station, sender, receiver, is_order, was_posted}
 use Rattle.protocol.specs.declared.event.Posted.{Posted}
 use Rattle.protocol.specs.declared.event.WorldEvent.{WorldEvent}
 use Rattle.protocol.specs.declared.event.WorldEvent.TheVariants.{Take, Commit, Post, Deliver}
 use Rattle.safety.proofs.Counts.{list-any-in}
 use Rattle.safety.proofs.Members.{In-right}
 use Rattle.safety.proofs.Positions.{In-contains, some-at}
-use Rattle.safety.proofs.Quiet.{Quiet, Grown, record-on, bag-on, take-step, post-step, delivers, opening-quiet, quiet-after}
+use Rattle.safety.proofs.Quiet.{Quiet, there, Grown, record-on, bag-on, take-step, post-step, delivers, opening-quiet, quiet-after, run-append}
 use Rattle.safety.proofs.Reached.{reached, reached-scheme}
 use Rattle.safety.proofs.Sound.{none-committed}
 use Rattle.safety.proofs.Stations.{other-way}
@@ -41,7 +41,7 @@ ack-below scheme es key xs says = leb-false (length (sends es)) key (not-refused
 module _ (w : World) (quiet : Quiet w) where
   take-on : (n : Node) (input : Input) (xs : List Transition) → is_node w.scheme n ≡ true → is_order w n input ≡ true → verdict w.scheme n (committed_of w n) input ≡ Enters xs → (events : List WorldEvent) × Grown w events n input
   take-on n input xs node order says =
-      let s = quiet.there n node in (
+      let s = there w quiet n node in (
         Take n input ∷ Commit n 1 ∷ [],
         record-on w n s.0 input xs (Take n input) s.1 (quiet.idle n s.0 s.1) (subst (λ o. verdict w.scheme n (history w.scheme n (committed_part o)) input ≡ Enters xs) s.1 says) (take-step w n input order),
       )
@@ -51,7 +51,7 @@ module _ (w : World) (quiet : Quiet w) where
       → ((bag : List Posted) → was_posted (record w { bag = bag }) n key.value ≡ true → is_order (record w { bag = bag }) n (Ack key) ≡ true)
       → verdict w.scheme n (committed_of w n) (Ack key) ≡ Enters xs → key.value < length (sends (committed_of w n)) → (events : List WorldEvent) × Grown w events n (Ack key)
   ack-on n key xs node order says below =
-      let s = quiet.there n node in
+      let s = there w quiet n node in
       let m = some-at (sends (committed_of w n)) key.value below in
       let p : Posted = record { node = n; key = key.value; message = m.0 } in
       let bag : List Posted = w.bag ++ p ∷ [] in
@@ -88,10 +88,6 @@ module _ (w : World) (quiet : Quiet w) where
   next-on Itl (CloseAccount account) xs node says sent = absurd (cc (says))
 
 -- ---- a whole order
-
-run-append : (w : World) (es fs : List WorldEvent) → run w (es ++ fs) ≡ run (run w es) fs
-run-append w [] fs = refl
-run-append w (e ∷ es) fs = run-append (step w e).world es fs
 
 -- events that lead to a quiet world with the order's journals
 record Woven (scheme : Scheme) (order : List Placed) : Type 0 where

@@ -34,7 +34,7 @@ use Rattle.protocol.specs.Verdict.{verdict, made as made_of}
 use Rattle.safety.proofs.Canonical.{canonical-piece}
 use Rattle.safety.proofs.Counts.{list-any-none, list-any-in, count-no, count-yes}
 use Rattle.safety.proofs.Histories.{Made, made-registry, newest-id}
-use Rattle.safety.proofs.Members.{In, id_of_same, same_id-refl}
+use Rattle.safety.proofs.Members.{In, id_of_same, same_id-refl, clash}
 use Rattle.safety.proofs.Moves.{RegistryMove, proposes, arrives, bares, settles, finishes}
 use Rattle.safety.proofs.Tables.{word_to, initiator-from, acquirer-from}
 use Rattle.safety.proofs.Units.{piece-of}
@@ -108,7 +108,7 @@ module _ (scheme : Scheme) (c : Code) (es : List Entry) where
   single-answer (message.Proposal p) moment = single-arrival p.id (newest (transitions_of es) p.id) p.content moment
   single-answer (message.Notification n) moment = single-notice n.id (newest (transitions_of es) n.id) (notice_status n.notice) moment
 
-  pub single-transitions : (input : Input) → Single (made_of (registry_verdict scheme c es input))
+  single-transitions : (input : Input) → Single (made_of (registry_verdict scheme c es input))
   single-transitions (Propose o) =
       single-refuse (propose_refusals scheme c (holding scheme c es) o) (offer scheme c es (content_of o) (id_at c (proposals c (transitions_of es) + 1)))
       (single-offer (content_of o) (id_at c (proposals c (transitions_of es) + 1)))
@@ -135,7 +135,7 @@ initiator-new a told new h e =
     subst (λ b. initiator_row (Stands b) (Notified Proposed) ≡ Move new) m.0 (subst (λ w. initiator_row (Stands a) (Notified w) ≡ Move new) t h) in
     cc (r)
 
-pub acquirer-new : (a told new : Status) → acquirer_row (Stands a) (Notified told) ≡ Move new → new ≡ Proposed → ⊥
+acquirer-new : (a told new : Status) → acquirer_row (Stands a) (Notified told) ≡ Move new → new ≡ Proposed → ⊥
 acquirer-new a told new h e =
     let m = acquirer-from a told new h in
     elim m.2 [
@@ -166,9 +166,6 @@ pub record Local (scheme : Scheme) (c : Code) (s : Serial) (xs : List Transition
 start-once : (b : Bool) → cond b 1 0 + 0 ≤ 0 + 1
 start-once true = omega arith
 start-once false = omega arith
-
-clash : (a : Bool) → a ≡ true → a ≡ false → ⊥
-clash a p q = let x : true ≡ false = sym p ∙ q in cc (x)
 
 and_second : (a b : Bool) → (a && b) ≡ false → a ≡ true → b ≡ false
 and_second true b h e = h
@@ -223,7 +220,7 @@ module _ (scheme : Scheme) (c : Code) (s : Serial) where
       }
 
   -- a transfer that waits makes its units reserved
-  pub reserved-waits : (xs : List Transition) (t : TransactionId) → Waits c s xs t → reserved c xs s ≡ true
+  reserved-waits : (xs : List Transition) (t : TransactionId) → Waits c s xs t → reserved c xs s ≡ true
   reserved-waits xs t w =
       let about = newest-id xs t w.last w.is in
       let own : same_code w.last.id.code c ≡ true = subst (λ (z : TransactionId). same_code z.code c ≡ true) (sym about.1) w.own in
@@ -306,7 +303,7 @@ module _ (scheme : Scheme) (c : Code) (s : Serial) where
         | inr n ↦ quiet (moved q new moment []) (transitions_of es) given n (acquirer-new q.new told new move) l
       ]
 
-  pub local-move : (es : List Entry) (input : Input) (x : Transition) → RegistryMove scheme c es input x → Local scheme c s (transitions_of es) → Local scheme c s (x ∷ transitions_of es)
+  local-move : (es : List Entry) (input : Input) (x : Transition) → RegistryMove scheme c es input x → Local scheme c s (transitions_of es) → Local scheme c s (x ∷ transitions_of es)
   local-move es input x (proposes o t none is) l =
       let xs = transitions_of es in
       asked (proposed c t (content_of o)) xs refl refl

@@ -272,7 +272,7 @@ module _ (scheme : Scheme) (s : Serial) where
 
 module _ (scheme : Scheme) where
   -- a transition of the log moves a transfer that is under way
-  pub log-live : (es : List Entry) (input : Input) (x y : Transition) → LogMove scheme es input x → newest (transitions_of es) x.id ≡ Some y → IsBusy y.new
+  log-live : (es : List Entry) (input : Input) (x y : Transition) → LogMove scheme es input x → newest (transitions_of es) x.id ≡ Some y → IsBusy y.new
   log-live es input x y (checks p moment found f s is none member) h = let e = sym none ∙ h in absurd (cc (e))
   log-live es input x y (passes n moment q new was member right move) h =
       let w : newest (transitions_of es) q.id ≡ Some q = subst (λ z. newest (transitions_of es) z ≡ Some q) (sym (newest-id (transitions_of es) n.id q was).1) was in

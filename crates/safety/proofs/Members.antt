@@ -43,6 +43,11 @@ In-map f y [] h = absurd h
 In-map f y (x ∷ xs) (inl e) = (x, inl refl, e)
 In-map f y (x ∷ xs) (inr h) = let r = In-map f y xs h in (r.0, inr r.1, r.2)
 
+pub map-In : {X Y : Type 0} (f : X → Y) (x : X) (xs : List X) → In x xs → In (f x) (map f xs)
+map-In f x [] h = absurd h
+map-In f x (y ∷ ys) (inl e) = inl (ap f e)
+map-In f x (y ∷ ys) (inr h) = inr (map-In f x ys h)
+
 pub In-slice_get : {X : Type 0} (xs : List X) (k : ℕ) (x : X) → slice_get xs k ≡ Some x → In x xs
 In-slice_get [] k x e = absurd (cc)
 In-slice_get (y ∷ ys) zero x e = inl (cc)
@@ -52,7 +57,7 @@ pub In-cond : {X : Type 0} (x : X) (b : Bool) (xs ys : List X) → In x (cond b 
 In-cond x true xs ys h = inl (refl, h)
 In-cond x false xs ys h = inr (refl, h)
 
-pub cond-Some : {X : Type 0} (b : Bool) (y x : X) (o : Option X) → cond b (Some y) o ≡ Some x → ((b ≡ true) × (y ≡ x)) ⊎ ((b ≡ false) × (o ≡ Some x))
+cond-Some : {X : Type 0} (b : Bool) (y x : X) (o : Option X) → cond b (Some y) o ≡ Some x → ((b ≡ true) × (y ≡ x)) ⊎ ((b ≡ false) × (o ≡ Some x))
 cond-Some true y x o e = inl (refl, cc)
 cond-Some false y x o e = inr (refl, e)
 
@@ -75,6 +80,14 @@ In-filter p (y ∷ ys) x h =
           ]
       | inr i ↦ let r = In-filter p ys x i.1 in (inr r.0, r.1)
     ]
+
+-- ---- no test says both, and Some holds one value
+
+pub clash : {X : Type 0} (a : Bool) → a ≡ true → a ≡ false → X
+clash a p q = let e : true ≡ false = sym p ∙ q in absurd (cc (e))
+
+pub one-some : {X : Type 0} (x y : X) → Some x ≡ Some y → x ≡ y
+one-some x y e = cc (e)
 
 -- ---- tests of sameness
 

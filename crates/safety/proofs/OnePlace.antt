@@ -16,13 +16,13 @@ use Rattle.scheme.specs.declared.registries.Scheme.{Scheme}
 use Rattle.protocol.specs.Claims.{at_registry, over, is_received, owes, holders, owed, OnePlace, SpentOnce}
 use Rattle.protocol.specs.History.{Transition, Entry, newest, stands_at, is_status, number_of, has_serial, gives, credits, at_start, holds, reserved}
 use Rattle.protocol.specs.Registries.{allotted, has_member}
-use Rattle.safety.proofs.Causal.{Causal, one-some}
+use Rattle.safety.proofs.Causal.{Causal}
 use Rattle.safety.proofs.Completions.{done-status, given, credited, is-given, is-credited, stood, completed-once, transfer, initiator-completed}
 use Rattle.safety.proofs.Counts.{NoRepeat, same-length, number-two, picked, length-picked, In-picked, picked-In, number-parts}
 use Rattle.safety.proofs.Ended.{ends-last, own-contents}
 use Rattle.safety.proofs.Histories.{newest-id}
 use Rattle.safety.proofs.Local.{local-history}
-use Rattle.safety.proofs.Members.{In, In-flat_map, codes-differ, other-code}
+use Rattle.safety.proofs.Members.{In, In-flat_map, codes-differ, other-code, one-some}
 use Rattle.safety.proofs.Sums.{over-parts, over-same, over-balance, over-start, one-above, one-or-none, some-member, codes-rise, In-flat, length-flat, no-repeat-flat}
 
 module _ (scheme : Scheme) (f : Node → List Entry) (causal : Causal scheme f) (s : Serial) where

@@ -23,20 +23,18 @@ use Rattle.protocol.specs.declared.event.Outcome.TheVariants.{Done, NotPossible}
 use Rattle.protocol.specs.declared.event.Posted.{Posted}
 use Rattle.protocol.specs.declared.event.WorldEvent.{WorldEvent}
 use Rattle.protocol.specs.declared.event.WorldEvent.TheVariants.{Take, Commit, Post, Deliver, Crash, Restart}
-use Rattle.safety.proofs.Causal.{one-some}
 use Rattle.safety.proofs.Going.{sends-append, got-in}
 use Rattle.safety.proofs.Histories.{Got}
-use Rattle.safety.proofs.Members.{In, In-right}
-use Rattle.safety.proofs.Places.{step-places, places}
+use Rattle.safety.proofs.Members.{In, In-right, one-some}
+use Rattle.safety.proofs.Places.{AllPlaced, step-placed, opening-placed}
 use Rattle.safety.proofs.Positions.{contains-in, In-take, right-empty}
 use Rattle.safety.proofs.Reached.{reached-scheme}
-use Rattle.safety.proofs.Schemes.{step-scheme}
 use Rattle.safety.proofs.Sound.{Sound, step-sound, opening-sound, no-journal, none-committed}
 use Rattle.safety.proofs.Stations.{at-node, at-put, at-elsewhere, other-way}
 use Rattle.safety.proofs.Weave.{journals-here, journals-there, never-stuck}
 
 -- a message is for that node
-abbrev pub Addressed : Node → Input → Type 0
+abbrev Addressed : Node → Input → Type 0
 Addressed n (Received m moment) = receiver m ≡ n
 Addressed n _ = Unit {0}
 
@@ -215,10 +213,6 @@ module _ (w : World) (sound : Sound w) (o : Ordered w) (n : Node) (s : Station) 
 
 -- ---- a step
 
--- the nodes are those that have a station
-abbrev AllPlaced : World → Type 0
-AllPlaced w = (n : Node) → is_some (station w n) ≡ is_node w.scheme n
-
 module _ (w : World) (sound : Sound w) (all : AllPlaced w) (o : Ordered w) where
   ordered-at : (n : Node) (x : Option Station) (f : Station → Turn) → station w n ≡ x → ((s : Station) → station w n ≡ Some s → Turned w n s (f s).station) → Ordered (at_node w x f).world
   ordered-at n None f is turned = o
@@ -262,7 +256,7 @@ module _ (w : World) (sound : Sound w) (all : AllPlaced w) (o : Ordered w) where
 run-ordered : (w : World) (es : List WorldEvent) → Sound w → AllPlaced w → Ordered w → Ordered (run w es)
 run-ordered w [] sound all o = o
 run-ordered w (e ∷ es) sound all o =
-    run-ordered (step w e).world es (step-sound w e sound) (λ n. step-places w e n ∙ all n ∙ ap (λ (z : Scheme). is_node z n) (sym (step-scheme w e))) (step-ordered w sound all o e)
+    run-ordered (step w e).world es (step-sound w e sound) (step-placed w e all) (step-ordered w sound all o e)
 
 opening-ordered : (scheme : Scheme) → Ordered (opening scheme)
 opening-ordered scheme = record {
@@ -277,7 +271,7 @@ opening-ordered scheme = record {
 pub ordered : (scheme : Scheme) (events : List WorldEvent) (journals : Node → List Input) → Projects scheme events journals
     → (order : List Placed) × InTurn scheme order × ((n : Node) → journals_of order n ≡ journals n)
 ordered scheme events journals h =
-    let o = run-ordered (opening scheme) events (opening-sound scheme) (places scheme []) (opening-ordered scheme) in
+    let o = run-ordered (opening scheme) events (opening-sound scheme) (opening-placed scheme) (opening-ordered scheme) in
     (o.order, subst (λ (z : Scheme). InTurn z o.order) (reached-scheme scheme events) o.turn, λ n. o.same n ∙ (h n).0)
 
 pub always-next : (scheme : Scheme) (events : List WorldEvent) (journals past : Node → List Input) → Projects scheme events journals → GoOn past journals → ((n : Node) → past n ≡ journals n) ⊎ HasNext scheme past journals

@@ -13,9 +13,9 @@ use Rattle.wire.specs.Notices.{notice_status}
 use Rattle.wire.specs.declared.input.Input.{Input}
 use Rattle.scheme.specs.declared.registries.Scheme.{Scheme}
 use Rattle.protocol.specs.History.{Transition, Entry, transitions_of}
-use Rattle.safety.proofs.Ended.{each-move, clash, own-about}
+use Rattle.safety.proofs.Ended.{each-move, own-about}
 use Rattle.safety.proofs.Histories.{Made}
-use Rattle.safety.proofs.Members.{In}
+use Rattle.safety.proofs.Members.{In, clash}
 use Rattle.safety.proofs.Moves.{RegistryMove, proposes, arrives, bares, settles, finishes}
 use Rattle.safety.proofs.Tables.{initiator-from}
 

@@ -22,15 +22,15 @@ use Rattle.protocol.specs.Registries.{has_member}
 use Rattle.protocol.specs.Verdict.{history}
 use Rattle.protocol.specs.World.{World, station, step}
 use Rattle.protocol.specs.declared.event.WorldEvent.{WorldEvent}
-use Rattle.safety.proofs.Causal.{Causal, LogAgrees, completed-agrees, ended, one-some}
-use Rattle.safety.proofs.Completions.{done-status, given, is-credited, stood, stands-so, completed-once, transfer, initiator-has, initiator-completed}
+use Rattle.safety.proofs.Causal.{Causal, LogAgrees, completed-agrees, ended}
 use Rattle.safety.proofs.Committing.{step-commits}
+use Rattle.safety.proofs.Completions.{done-status, given, is-credited, stood, stands-so, completed-once, transfer, initiator-has, initiator-completed}
 use Rattle.safety.proofs.Counts.{NoRepeat, list-any-some, number-none, number-append, number-one, picked, picked-In, picked-append, no-repeat-apart}
-use Rattle.safety.proofs.Ended.{clash, ends-last, own-contents, proposer}
+use Rattle.safety.proofs.Ended.{ends-last, own-contents, proposer}
 use Rattle.safety.proofs.Going.{history_from-append, transitions-from}
 use Rattle.safety.proofs.Histories.{Offered, newest-id, newest-append, newest-stands}
 use Rattle.safety.proofs.Local.{Waits, local-history}
-use Rattle.safety.proofs.Members.{In, In-left, In-right, status_of_same, codes-differ, other-code}
+use Rattle.safety.proofs.Members.{In, In-left, In-right, status_of_same, codes-differ, other-code, one-some, clash}
 use Rattle.safety.proofs.OneOwner.{held-or-owed, one-owner}
 use Rattle.safety.proofs.OwnStatuses.{IsOwnStatus, own-statuses}
 use Rattle.safety.proofs.Schemes.{step-scheme}
@@ -253,7 +253,7 @@ module _ (scheme : Scheme) (f g : Node → List Entry) (cf : Causal scheme f) (c
   onward s (At c) h = from-holder s c h
   onward s (Due t) o = from-ower s t o
 
-  pub owners-move : OwnersMove scheme f g
+  owners-move : OwnersMove scheme f g
   owners-move s a b x y = let z = onward s a x in subst (λ w. (a ≡ w) ⊎ Moves f g s a w) (one-owner scheme g cg s z.0 b z.1 y) z.2
 
 -- an event moves the owners of the committed histories so

@@ -23,6 +23,7 @@ use Rattle.protocol.specs.declared.event.Outcome.TheVariants.{NotPossible}
 use Rattle.protocol.specs.declared.event.Posted.{Posted}
 use Rattle.protocol.specs.declared.event.WorldEvent.{WorldEvent}
 use Rattle.protocol.specs.declared.event.WorldEvent.TheVariants.{Take, Commit, Post, Deliver, Crash, Restart}
+use Rattle.safety.proofs.Schemes.{step-scheme}
 use Rattle.safety.proofs.Stations.{at, at-node, at-put, at-elsewhere}
 
 -- ---- a node's turn keeps the node
@@ -81,7 +82,7 @@ deliver-places : (w : World) (moment : Moment) (o : Option Posted) → SamePlace
 deliver-places w moment None m = refl
 deliver-places w moment (Some p) m = turn-places w (receiver p.message) (station w (receiver p.message)) (take_input w.scheme (Received p.message moment)) refl (take-node w.scheme (Received p.message moment)) m
 
-pub step-places : (w : World) (e : WorldEvent) → SamePlaces w (step w e).world
+step-places : (w : World) (e : WorldEvent) → SamePlaces w (step w e).world
 unfolding step
 step-places w (Take n i) m =
     cond-places w (is_order w n i) (at_node w (station w n) (take_input w.scheme i)) (stays w NotPossible) (turn-places w n (station w n) (take_input w.scheme i) refl (take-node w.scheme i)) (λ z. refl) m
@@ -91,9 +92,16 @@ step-places w (Deliver index moment) m = deliver-places w moment (slice_get w.ba
 step-places w (Crash n kept) m = turn-places w n (station w n) (crash kept) refl (crash-node kept) m
 step-places w (Restart n) m = turn-places w n (station w n) restart refl restart-node m
 
-run-places : (w : World) (events : List WorldEvent) → SamePlaces w (run w events)
-run-places w [] m = refl
-run-places w (e ∷ es) m = run-places (step w e).world es m ∙ step-places w e m
+-- the nodes are those that have a station
+abbrev pub AllPlaced : World → Type 0
+AllPlaced w = (n : Node) → is_some (station w n) ≡ is_node w.scheme n
+
+pub step-placed : (w : World) (e : WorldEvent) → AllPlaced w → AllPlaced (step w e).world
+step-placed w e all n = step-places w e n ∙ all n ∙ ap (λ (z : Scheme). is_node z n) (sym (step-scheme w e))
+
+pub run-placed : (w : World) (events : List WorldEvent) → AllPlaced w → AllPlaced (run w events)
+run-placed w [] all = all
+run-placed w (e ∷ es) all = run-placed (step w e).world es (step-placed w e all)
 
 -- ---- the opening world
 
@@ -106,33 +114,27 @@ opening-members c (m ∷ ms) = go (same_code m.code c) (opening-members c ms)
     go true rest = refl
     go false rest = rest
 
-opening-places : (scheme : Scheme) (n : Node) → is_some (station (opening scheme) n) ≡ is_node scheme n
-opening-places scheme Itl = refl
-opening-places scheme (Registry c) = opening-members c scheme.members
+pub opening-placed : (scheme : Scheme) → AllPlaced (opening scheme)
+opening-placed scheme Itl = refl
+opening-placed scheme (Registry c) = opening-members c scheme.members
 
--- ---- worlds that events lead to
-
-pub places : (scheme : Scheme) (events : List WorldEvent) (n : Node) → is_some (station (run (opening scheme) events) n) ≡ is_node scheme n
-places scheme events n = run-places (opening scheme) events n ∙ opening-places scheme n
+-- ---- what stands where
 
 none-there : {X : Type 0} (o : Option X) → is_some o ≡ false → o ≡ None
 none-there None e = refl
 none-there (Some x) e = absurd (cc (e))
 
-some-there : {X : Type 0} (o : Option X) → is_some o ≡ true → (x : X) × (o ≡ Some x)
+pub some-there : {X : Type 0} (o : Option X) → is_some o ≡ true → (x : X) × (o ≡ Some x)
 some-there None e = absurd (cc (e))
 some-there (Some x) e = (x, refl)
 
--- a node of the scheme has a station, another one has none
-pub placed : (scheme : Scheme) (events : List WorldEvent) (n : Node) → is_node scheme n ≡ true → (s : Station) × (station (run (opening scheme) events) n ≡ Some s)
-placed scheme events n h = some-there (station (run (opening scheme) events) n) (places scheme events n ∙ h)
-
-pub unplaced : (scheme : Scheme) (events : List WorldEvent) (n : Node) → is_node scheme n ≡ false → station (run (opening scheme) events) n ≡ None
-unplaced scheme events n h = none-there (station (run (opening scheme) events) n) (places scheme events n ∙ h)
+-- where no node of the scheme is, no station is
+unplaced : (w : World) → AllPlaced w → (n : Node) → is_node w.scheme n ≡ false → station w n ≡ None
+unplaced w all n h = none-there (station w n) (all n ∙ h)
 
 -- no history is without a node
-pub live-unplaced : (scheme : Scheme) (events : List WorldEvent) (n : Node) → is_node scheme n ≡ false → live_of (run (opening scheme) events) n ≡ []
-live-unplaced scheme events n h = ap (λ o. history (run (opening scheme) events).scheme n (whole o)) (unplaced scheme events n h)
+pub live-unplaced : (w : World) → AllPlaced w → (n : Node) → is_node w.scheme n ≡ false → live_of w n ≡ []
+live-unplaced w all n h = ap (λ o. history w.scheme n (whole o)) (unplaced w all n h)
 
-pub committed-unplaced : (scheme : Scheme) (events : List WorldEvent) (n : Node) → is_node scheme n ≡ false → committed_of (run (opening scheme) events) n ≡ []
-committed-unplaced scheme events n h = ap (λ o. history (run (opening scheme) events).scheme n (committed_part o)) (unplaced scheme events n h)
+pub committed-unplaced : (w : World) → AllPlaced w → (n : Node) → is_node w.scheme n ≡ false → committed_of w n ≡ []
+committed-unplaced w all n h = ap (λ o. history w.scheme n (committed_part o)) (unplaced w all n h)

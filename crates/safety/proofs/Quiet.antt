@@ -23,19 +23,20 @@ use Rattle.protocol.specs.declared.event.Outcome.TheVariants.{NotPossible}
 use Rattle.protocol.specs.declared.event.Posted.{Posted}
 use Rattle.protocol.specs.declared.event.WorldEvent.{WorldEvent}
 use Rattle.protocol.specs.declared.event.WorldEvent.TheVariants.{Take, Commit, Post, Deliver}
-use Rattle.safety.proofs.Causal.{one-some}
-use Rattle.safety.proofs.Members.{In, In-find, In-map}
-use Rattle.safety.proofs.Places.{placed}
+use Rattle.safety.proofs.Members.{In, In-find, In-map, one-some}
+use Rattle.safety.proofs.Places.{AllPlaced, run-placed, opening-placed, some-there}
 use Rattle.safety.proofs.Positions.{place-of, last-at}
-use Rattle.safety.proofs.Schemes.{run-scheme}
 use Rattle.safety.proofs.Sound.{Sound, run-sound, opening-sound}
 use Rattle.safety.proofs.Stations.{at-node, at-put, at-elsewhere}
 
 -- every node has a station, and each station runs and has committed all
 pub record Quiet (w : World) : Type 0 where
   pub sound : Sound w
-  pub there : (n : Node) → is_node w.scheme n ≡ true → (s : Station) × (station w n ≡ Some s)
+  pub placed : AllPlaced w
   pub idle : (n : Node) (s : Station) → station w n ≡ Some s → (s.runs ≡ true) × (s.tail ≡ [])
+
+pub there : (w : World) → Quiet w → (n : Node) → is_node w.scheme n ≡ true → (s : Station) × (station w n ≡ Some s)
+there w quiet n node = some-there (station w n) (quiet.placed n ∙ node)
 
 -- after the events the node has committed one input more, it is idle, and all other nodes are as they were
 pub record Grown (w : World) (events : List WorldEvent) (n : Node) (input : Input) : Type 0 where
@@ -129,7 +130,7 @@ post-step w n s key m is runs there =
     ap (option_and_then (sent w.scheme key)) is ∙ cond-true s.runs (slice_get (sends (history w.scheme s.node s.committed)) key) None runs ∙ here in
     ap (λ o. (posted w n key o).world) found
 
-pub deliver-step : (w : World) (p : Posted) (moment : Moment) (n : Node) → receiver p.message ≡ n
+deliver-step : (w : World) (p : Posted) (moment : Moment) (n : Node) → receiver p.message ≡ n
     → (step (record w { bag = w.bag ++ p ∷ [] }) (Deliver (length w.bag) moment)).world
     ≡ (at_node (record w { bag = w.bag ++ p ∷ [] }) (station w n) (take_input w.scheme (Received p.message moment))).world
 unfolding step
@@ -155,7 +156,7 @@ delivers w quiet m moment xs node sent says =
     let n = receiver m in
     let from = sending w (sender m) m sent in
     let key = place-of (sends (committed_of w (sender m))) m sent in
-    let to = quiet.there n node in
+    let to = there w quiet n node in
     let p : Posted = record { node = sender m; key = key.0; message = m } in (
       key.0,
       bag-on w (Post (sender m) key.0) (w.bag ++ p ∷ []) (Deliver (length w.bag) moment ∷ Commit n 1 ∷ []) n (Received m moment)
@@ -169,7 +170,7 @@ delivers w quiet m moment xs node sent says =
 pub opening-quiet : (scheme : Scheme) → Quiet (opening scheme)
 opening-quiet scheme = record {
   sound = opening-sound scheme;
-  there = placed scheme [];
+  placed = opening-placed scheme;
   idle = λ n s is.
       elim (In-find (λ (x : Station). same_node x.node n) (opening scheme).stations s is).0 [
         | inl e ↦ subst (λ (z : Station). (z.runs ≡ true) × (z.tail ≡ [])) e (refl, refl)
@@ -183,13 +184,7 @@ opening-quiet scheme = record {
 pub quiet-after : (w : World) (events : List WorldEvent) (n : Node) (input : Input) → Quiet w → Grown w events n input → Quiet (run w events)
 quiet-after w events n input quiet g = record {
   sound = run-sound w events quiet.sound;
-  there = λ m node.
-      elim (cases_Bool (same_node n m)) [
-        | inl y ↦ (g.at, subst (λ z. station (run w events) z ≡ Some g.at) (node_of_same n m y) g.here)
-        | inr other ↦
-            let s = quiet.there m (subst (λ (z : Scheme). is_node z m ≡ true) (run-scheme w events) node) in
-            (s.0, g.elsewhere m other ∙ s.1)
-      ];
+  placed = run-placed w events quiet.placed;
   idle = λ m s is.
       elim (cases_Bool (same_node n m)) [
         | inl y ↦
@@ -198,3 +193,9 @@ quiet-after w events n input quiet g = record {
         | inr other ↦ quiet.idle m s (sym (g.elsewhere m other) ∙ is)
       ];
 }
+
+-- ---- lists of events
+
+pub run-append : (w : World) (es fs : List WorldEvent) → run w (es ++ fs) ≡ run (run w es) fs
+run-append w [] fs = refl
+run-append w (e ∷ es) fs = run-append (step w e).world es fs

@@ -18,8 +18,8 @@ use Rattle.scheme.specs.declared.registries.Scheme.{Scheme}
 use Rattle.protocol.specs.AtLog.{ledger, checked_status, checked_message, acquirer_of, is_no_registry, is_from_another}
 use Rattle.protocol.specs.Checks.{log_findings}
 use Rattle.protocol.specs.History.{Transition, Entry, transitions_of, newest, sends, messages_of}
-use Rattle.safety.proofs.Histories.{Made, Heard, heard-later, made-log, newest-id, newest-append, newest-in}
-use Rattle.safety.proofs.Members.{In, In-cases, In-flat_map}
+use Rattle.safety.proofs.Histories.{Made, Heard, heard-later, made-log, newest-id, newest-append, newest-in, one-notice}
+use Rattle.safety.proofs.Members.{In, In-cases, In-flat_map, one-some}
 use Rattle.safety.proofs.Moves.{LogMove, checks, passes, cancels}
 use Rattle.safety.proofs.Tables.{log-from}
 
@@ -77,7 +77,7 @@ module _ (scheme : Scheme) where
             let b = log-backed es made.1 t x (sym u ∙ h) a in
             record { content = b.content; heard = heard-later e es (Registry b.content.acquirer) t Accepted b.heard; known = b.known }
         | inr u ↦
-            let j : u.0 ≡ x = let s = sym u.3 ∙ h in cc (s) in
+            let j : u.0 ≡ x = one-some u.0 x (sym u.3 ∙ h) in
             backed-move es e t e.input x refl (subst (λ z. LogMove scheme es e.input z) j (made-log scheme e es u.0 made u.1)) (subst (λ (z : Transition). z.id ≡ t) j u.2) a
             (λ q old b. log-backed es made.1 t q old b)
       ]
@@ -88,9 +88,6 @@ module _ (scheme : Scheme) where
 abbrev pub IsPast : Status → Option Transition → Type 0
 IsPast s None = ⊥
 IsPast s (Some x) = (x.new ≡ s) ⊎ ((s ≡ Accepted) × (x.new ≡ Completed))
-
-one-notice : (a b : Notification) → message.Notification a ≡ message.Notification b → a ≡ b
-one-notice a b e = cc (e)
 
 checked-notice : (t : TransactionId) (k : Content) (found : List ℕ) (n : Notification) → In (message.Notification n) (checked_message t k found ∷ [])
     → (t ≡ n.id) × (checked_status found ≡ notice_status n.notice) × (notice_status n.notice ≡ Terminated)
@@ -112,7 +109,7 @@ module _ (scheme : Scheme) where
   new-told a told new (inl m) = m.1
   new-told a told new (inr m) = m.1 ∙ sym m.2
 
-  log-notice-move : (es : List Entry) (input : Input) (x : Transition) (n : Notification) → LogMove scheme es input x → In (message.Notification n) x.messages
+  pub log-notice-move : (es : List Entry) (input : Input) (x : Transition) (n : Notification) → LogMove scheme es input x → In (message.Notification n) x.messages
       → (x.id ≡ n.id) × (x.new ≡ notice_status n.notice) × (notice_status n.notice ≡ Checked → ⊥)
   log-notice-move es input x n (checks p moment found f s is none member) h =
       let g = checked-notice p.id p.content found n h in (g.0, g.1, λ e. absurd (let y : Terminated ≡ Checked = sym g.2 ∙ e in cc (y)))

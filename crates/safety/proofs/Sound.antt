@@ -129,7 +129,7 @@ module _ (w : World) (sound : Sound w) (n : Node) (s : Station) (is : station w 
         | inr d ↦ subst (λ o. In x (sends (history w.scheme m (committed_part o)))) (sym (at-elsewhere n m w.stations t (k.node ∙ own) d)) h
       ]
 
-  pub sound-put : (t : Station) → Keeps w s t → Sound (put w t)
+  sound-put : (t : Station) → Keeps w s t → Sound (put w t)
   sound-put t k = record {
     posted = λ p i. committed-after t k (sender p.message) p.message (sound.posted p i);
     caused = λ m x g.
@@ -245,7 +245,7 @@ opening-sound scheme = record {
 -- ---- families of histories
 
 -- what the committed journal sends, the live one sends
-live-sends : (w : World) (n : Node) (m : Message) → In m (sends (committed_of w n)) → In m (sends (live_of w n))
+pub live-sends : (w : World) (n : Node) (m : Message) → In m (sends (committed_of w n)) → In m (sends (live_of w n))
 live-sends w n m h = go (station w n) h
   where
     go : (o : Option Station) → In m (sends (history w.scheme n (committed_part o))) → In m (sends (history w.scheme n (whole o)))

@@ -23,9 +23,6 @@ other-way a b n = elim (cases_Bool (same_node b a)) [ inl y ↦ absurd (differ a
 same-other : (a b m : Node) → a ≡ b → same_node b m ≡ false → same_node a m ≡ false
 same-other a b m e n = ap (λ x. same_node x m) e ∙ n
 
-some-one : (x y : Station) → Some x ≡ Some y → x ≡ y
-some-one x y e = cc (e)
-
 -- at its own node
 pub at-put : (n : Node) (xs : List Station) (s t : Station) → at n xs ≡ Some s → t.node ≡ n → at n (put_station t xs) ≡ Some t
 at-put n [] s t h e = absurd (cc (h))

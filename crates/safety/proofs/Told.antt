@@ -1,5 +1,5 @@
 -- What a registry's history says of what it heard, and of the Accepted that it sent.
-use Rattle.std.proofs.Common.{◌≡◌, ℕ, ◌+◌, List, [], ◌∷◌, Bool, true, false, Option, Some, None, ◌⊎◌, inl, inr, refl, sym, ap, subst, ◌∙◌}
+use Rattle.std.proofs.Common.{◌≡◌, ℕ, ◌+◌, List, [], ◌∷◌, true, false, Option, Some, None, ◌⊎◌, inl, inr, refl, sym, ap, subst, ◌∙◌}
 use Rattle.units.proofs.Same.{code_of_same, same_code-refl}
 use Rattle.units.specs.Code.{same_code}
 use Rattle.units.specs.declared.code.Code.{Code}
@@ -21,8 +21,8 @@ use Rattle.scheme.specs.declared.registries.Scheme.{Scheme}
 use Rattle.protocol.specs.AtRegistry.{holding, proposals, arrived_status, arrived_notice, settled_messages}
 use Rattle.protocol.specs.Checks.{acquirer_findings}
 use Rattle.protocol.specs.History.{Transition, Entry, transitions_of, newest, sends, messages_of}
-use Rattle.safety.proofs.Histories.{Made, Heard, Offered, heard-later, offered-later, made-registry, newest-id, newest-append, newest-in}
-use Rattle.safety.proofs.Members.{In, In-cases, In-flat_map}
+use Rattle.safety.proofs.Histories.{Made, Heard, Offered, heard-later, offered-later, made-registry, newest-id, newest-append, newest-in, one-notice}
+use Rattle.safety.proofs.Members.{In, In-cases, In-flat_map, clash}
 use Rattle.safety.proofs.Moves.{RegistryMove, proposes, arrives, bares, settles, finishes}
 use Rattle.safety.proofs.Tables.{word_to, initiator-from, acquirer-from}
 
@@ -52,10 +52,7 @@ abbrev pub IsTaken : Option Transition → Type 0
 IsTaken None = ⊥
 IsTaken (Some x) = (x.new ≡ Accepted) ⊎ ((x.new ≡ Completed) ⊎ (x.new ≡ Cancelled))
 
-one-notice : (a b : Notification) → message.Notification a ≡ message.Notification b → a ≡ b
-one-notice a b e = cc (e)
-
-settled-notice : (c : Code) (u : TransactionId) (new : Status) (n : Notification) → In (message.Notification n) (settled_messages c u new) → notice_status n.notice ≡ Completed
+pub settled-notice : (c : Code) (u : TransactionId) (new : Status) (n : Notification) → In (message.Notification n) (settled_messages c u new) → notice_status n.notice ≡ Completed
 settled-notice c u Completed n (inl e) = let s = one-notice _ n e in sym (ap (λ (z : Notification). notice_status z.notice) s)
 settled-notice c u Completed n (inr h) = absurd h
 settled-notice c u Proposed n h = absurd h
@@ -65,12 +62,13 @@ settled-notice c u Rejected n h = absurd h
 settled-notice c u Terminated n h = absurd h
 settled-notice c u Cancelled n h = absurd h
 
-clash : {X : Type 0} (a b : Bool) → a ≡ true → b ≡ false → a ≡ b → X
-clash a b p q e = let x : true ≡ false = sym p ∙ e ∙ q in absurd (cc (x))
+pub arrived-notice : (found : List ℕ) → notice_status (arrived_notice found) ≡ arrived_status found
+arrived-notice [] = refl
+arrived-notice (n ∷ ns) = refl
 
 module _ (scheme : Scheme) (c : Code) where
   own-and-foreign : {X : Type 0} (t u : TransactionId) → t ≡ u → same_code t.code c ≡ true → same_code u.code c ≡ false → X
-  own-and-foreign t u e own foreign = clash (same_code t.code c) (same_code u.code c) own foreign (ap (λ (z : TransactionId). same_code z.code c) e)
+  own-and-foreign t u e own foreign = clash (same_code t.code c) own (ap (λ (z : TransactionId). same_code z.code c) e ∙ foreign)
 
   told-own-move : (es : List Entry) (e : Entry) (t : TransactionId) (input : Input) (x : Transition) → e.input ≡ input → RegistryMove scheme c es input x → x.id ≡ t → same_code t.code c ≡ true → OwnCause (e ∷ es) t x.new
   told-own-move es e t input x i (proposes o u none is) same own = inl refl
@@ -144,10 +142,6 @@ module _ (scheme : Scheme) (c : Code) where
   arrive-pair es i p moment x e (bares n moment' f was none foreign) = absurd (cc (e))
   arrive-pair es i p moment x e (settles n moment' q new f old own move) = absurd (cc (e))
   arrive-pair es i p moment x e (finishes n moment' q new f old foreign move none) = absurd (cc (e))
-
-  arrived-notice : (found : List ℕ) → notice_status (arrived_notice found) ≡ arrived_status found
-  arrived-notice [] = refl
-  arrived-notice (y ∷ ys) = refl
 
   accepted-move : (es : List Entry) (input : Input) (q : Transition) (n : Notification) → RegistryMove scheme c es input q → In (message.Notification n) q.messages → notice_status n.notice ≡ Accepted
       → (q.id ≡ n.id) × (same_code n.id.code c ≡ false) × ((x : Transition) → RegistryMove scheme c es input x → x.id ≡ n.id → x.new ≡ Accepted)

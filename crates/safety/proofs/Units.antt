@@ -1,5 +1,5 @@
 -- Blocks and the units in them, one by one.
-use Rattle.std.proofs.Common.{◌≡◌, ℕ, zero, suc, ◌+◌, ◌-◌, ◌<◌, ◌≤◌, List, [], ◌∷◌, Bool, true, false, inl, inr, refl, sym, ap, subst, arith, map}
+use Rattle.std.proofs.Common.{◌≡◌, ℕ, zero, suc, ◌+◌, ◌-◌, ◌<◌, ◌≤◌, List, [], ◌∷◌, Bool, true, false, inl, inr, refl, sym, ap, subst, arith}
 use Rattle.std.specs.Prelude.{◌||◌, ◌==◌, nat_le}
 use Rattle.std.proofs.lemmas.Bool.{cases_Bool, and_parts, and_from, eq-eqb, eqb-true, eqb-false, le-leb, leb-true}
 use Rattle.units.proofs.Same.{code_of_same, same_code-refl}
@@ -10,7 +10,7 @@ use Rattle.units.specs.declared.block.Period.TheVariants.{First, Second}
 use Rattle.units.specs.declared.block.RawBlock.{RawBlock}
 use Rattle.units.specs.declared.block.Unit.{Unit as Serial}
 use Rattle.protocol.specs.Pieces.{Piece, piece, pieces, pieces_of, covers, same_unit, up_from}
-use Rattle.safety.proofs.Members.{In, In-cases, In-left, In-right, In-map}
+use Rattle.safety.proofs.Members.{In, In-cases, In-left, In-right, In-map, map-In}
 
 pub period_of_same : (p q : Period) → same_period p q ≡ true → p ≡ q
 period_of_same First First e = refl
@@ -45,15 +45,10 @@ up-In first (suc count) n a b =
       | inr m ↦ inr (up-In (suc first) count n (let d = eqb-false first n m in omega arith) (omega arith))
     ]
 
-map-In : {X Y : Type 0} (f : X → Y) (x : X) (xs : List X) → In x xs → In (f x) (map f xs)
-map-In f x [] h = absurd h
-map-In f x (y ∷ ys) (inl e) = inl (ap f e)
-map-In f x (y ∷ ys) (inr h) = inr (map-In f x ys h)
-
 -- ---- the units of blocks
 
 -- a piece of a block is one of its units
-pub block-of-piece : (b : RawBlock) (p : Piece) → In p (pieces_of b) → (has_unit b p.unit ≡ true) × (p.kind ≡ b.kind)
+block-of-piece : (b : RawBlock) (p : Piece) → In p (pieces_of b) → (has_unit b p.unit ≡ true) × (p.kind ≡ b.kind)
 block-of-piece b p h =
     let m = In-map (piece b) p (up_from b.first (suc b.last - b.first)) h in
     let r = In-up b.first (suc b.last - b.first) m.0 m.1 in

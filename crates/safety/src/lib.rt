@@ -4,14 +4,18 @@
 
 mod agreement;
 mod counting;
+mod deliveries;
 mod log;
 mod one_place;
 mod owning;
+mod resolution;
 mod weaving;
 
 pub use agreement::nodes_agree;
 pub use counting::registry_counts_once;
+pub use deliveries::deliveries_are_welcome;
 pub use log::log_alone;
 pub use one_place::units_stand_in_one_place;
 pub use owning::{holders_own, owners_move_by_completions, units_have_one_owner};
+pub use resolution::there_is_a_way_out;
 pub use weaving::{journals_weave, plausible_is_not_enough};

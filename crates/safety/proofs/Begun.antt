@@ -1,0 +1,75 @@
+-- Of a transfer that the log knows, what its initiator recorded.
+use Rattle.std.proofs.Common.{◌≡◌, List, [], ◌∷◌, true, false, Some, inl, inr, refl, sym, ap, subst, ◌∙◌}
+use Rattle.units.proofs.Same.{same_code-refl}
+use Rattle.units.specs.Code.{same_code}
+use Rattle.units.specs.declared.code.Node.{Node}
+use Rattle.units.specs.declared.code.Node.TheVariants.{Itl, Registry}
+use Rattle.status.specs.Content.{Content}
+use Rattle.status.specs.declared.id.TransactionId.{TransactionId}
+use Rattle.status.specs.declared.words.Status.TheVariants.{Completed}
+use Rattle.scheme.specs.declared.registries.Scheme.{Scheme}
+use Rattle.protocol.specs.History.{Transition, Entry, transitions_of, newest}
+use Rattle.safety.proofs.Causal.{Causal, heard-sent}
+use Rattle.safety.proofs.Completions.{initiator-has}
+use Rattle.safety.proofs.Ended.{ends-last, own-contents, completed-sent, proposer}
+use Rattle.safety.proofs.Histories.{Made, made-log, newest-id, newest-append, newest-in}
+use Rattle.safety.proofs.Members.{In, In-cases, one-some}
+use Rattle.safety.proofs.Moves.{newest-some}
+use Rattle.safety.proofs.Said.{log-pair, log-keeps-content}
+
+-- the initiator's newest transition, of a transfer whose newest one at the log is this
+pub record Begun (f : Node → List Entry) (t : TransactionId) (x : Transition) : Type 0 where
+  pub last : Transition
+  pub is : newest (transitions_of (f (Registry t.code))) t ≡ Some last
+  pub own : same_code last.id.code t.code ≡ true
+  pub content : Content
+  pub there : last.content ≡ Some content
+  pub known : x.content ≡ Some content
+  pub acquirer_other : same_code content.acquirer t.code ≡ false
+  pub ended : x.new ≡ Completed → last.new ≡ Completed
+
+-- all transitions of a transfer at the log have one content
+pub log-one-content : (scheme : Scheme) (es : List Entry) → Made scheme Itl es → (x q : Transition) → In x (transitions_of es) → newest (transitions_of es) x.id ≡ Some q → x.content ≡ q.content
+log-one-content scheme [] made x q i h = absurd i
+log-one-content scheme (e ∷ es) made x q i h =
+    elim (In-cases x e.transitions (transitions_of es) i) [
+      | inl j ↦
+          let u = newest-in e.transitions (transitions_of es) x x.id j refl in
+          (log-pair scheme es e.input e.input x u.0 refl (sym u.2) (made-log scheme e es x made j) (made-log scheme e es u.0 made u.1)).1 ∙ ap (λ (z : Transition). z.content) (one-some u.0 q (sym u.3 ∙ h))
+      | inr j ↦
+          elim (newest-append e.transitions (transitions_of es) x.id) [
+            | inl u ↦ log-one-content scheme es made.1 x q j (sym u ∙ h)
+            | inr u ↦
+                let older = newest-some (transitions_of es) x j in
+                let p = proposer scheme es made.1 x.id older.0 older.1 in
+                let kept =
+                log-keeps-content scheme es e.input u.0 older.0 p.content (made-log scheme e es u.0 made u.1) (subst (λ z. newest (transitions_of es) z ≡ Some older.0) (sym u.2) older.1) p.is in
+                log-one-content scheme es made.1 x older.0 j older.1 ∙ p.is ∙ sym kept ∙ ap (λ (z : Transition). z.content) (one-some u.0 q (sym u.3 ∙ h))
+          ]
+    ]
+
+module _ (scheme : Scheme) (f : Node → List Entry) (causal : Causal scheme f) where
+  pub begun : (t : TransactionId) (x : Transition) → newest (transitions_of (f Itl)) t ≡ Some x → Begun f t x
+  begun t x h =
+      let d = t.code in
+      let es = f (Registry d) in
+      let p = proposer scheme (f Itl) (causal.made Itl) t x h in
+      let o = initiator-has scheme f causal t p.content p.got in
+      let id = newest-id (transitions_of es) t o.0 o.1 in
+      let own : same_code o.0.id.code d ≡ true = subst (λ (z : TransactionId). same_code z.code d ≡ true) (sym id.1) (same_code-refl d) in
+      let mine = own-contents scheme d es (causal.made (Registry d)) o.0 id.0 own in
+      let same = one-some mine.content p.content (sym mine.is ∙ o.2) in
+      record {
+        last = o.0;
+        is = o.1;
+        own = own;
+        content = p.content;
+        there = o.2;
+        known = p.is;
+        acquirer_other = subst (λ (z : Content). same_code z.acquirer d ≡ false) same mine.acquirer_other;
+        ended = λ done.
+            let g = p.ended done in
+            let q = completed-sent scheme d es (causal.made (Registry d)) g.notification (heard-sent scheme f causal Itl (Registry d) t Completed g) g.told in
+            let last : newest (transitions_of es) t ≡ Some q.0 = subst (λ z. newest (transitions_of es) z ≡ Some q.0) (q.2 ∙ g.about) (ends-last scheme d es (causal.made (Registry d)) q.0 q.1 q.3) in
+            ap (λ (z : Transition). z.new) (one-some o.0 q.0 (sym o.1 ∙ last)) ∙ q.3;
+      }

@@ -1,0 +1,312 @@
+-- From a quiet world with room an open transfer is brought to its end, message by message.
+use Rattle.std.proofs.Common.{◌≡◌, ℕ, List, [], ◌∷◌, true, Option, Some, None, ◌⊎◌, inl, inr, refl, sym, ap, subst, ◌∙◌, arith}
+use Rattle.std.specs.Prelude.{option_map}
+use Rattle.std.proofs.lemmas.Bool.{cases_Bool}
+use Rattle.units.proofs.Same.{same_code-refl}
+use Rattle.units.specs.Code.{same_code}
+use Rattle.units.specs.declared.code.Node.TheVariants.{Itl, Registry}
+use Rattle.status.specs.Content.{Content}
+use Rattle.status.specs.Rows.{initiator_row, log_row, acquirer_row}
+use Rattle.status.specs.Status.{same_status}
+use Rattle.status.specs.declared.id.TransactionId.{TransactionId}
+use Rattle.status.specs.declared.moment.Moment.{Moment}
+use Rattle.status.specs.declared.words.Known.TheVariants.{Stands}
+use Rattle.status.specs.declared.words.Row.TheVariants.{Move}
+use Rattle.status.specs.declared.words.RowInput.TheVariants.{Notified}
+use Rattle.status.specs.declared.words.Status.{Status}
+use Rattle.status.specs.declared.words.Status.TheVariants.{Proposed, Checked, Accepted, Rejected, Terminated, Cancelled, Completed}
+use Rattle.wire.specs.declared.message.Message.TheVariants as message
+use Rattle.wire.specs.declared.message.ProposalStatus.TheVariants as proposal
+use Rattle.scheme.specs.declared.registries.Scheme.{Scheme}
+use Rattle.protocol.specs.AtLog.{acquirer_of, checked, checked_status, ledger, told_to}
+use Rattle.protocol.specs.AtRegistry.{arrived, arrived_status, holding, settled_messages}
+use Rattle.protocol.specs.Checks.{acquirer_findings, log_findings}
+use Rattle.protocol.specs.Claims.{committed_of, is_received}
+use Rattle.protocol.specs.Deciding.{moved, notifies, proposes}
+use Rattle.protocol.specs.History.{Entry, Transition, is_status, newest, sends, transitions_of}
+use Rattle.protocol.specs.Registries.{has_member}
+use Rattle.protocol.specs.WayOut.{IsOpen}
+use Rattle.protocol.specs.World.{World, run}
+use Rattle.safety.proofs.Causal.{Causal, completed-agrees, ended, heard-sent, log-said}
+use Rattle.safety.proofs.Completions.{stands-so}
+use Rattle.safety.proofs.Ended.{completed-sent, ends-last, own-contents, proposer}
+use Rattle.safety.proofs.Histories.{newest-id}
+use Rattle.safety.proofs.Members.{In, one-some}
+use Rattle.safety.proofs.Said.{IsAgreed, log-backed}
+use Rattle.safety.proofs.Sending.{Calm, Went, send}
+use Rattle.safety.proofs.Spoken.{SaysAtLog, Tells, transition-sends}
+use Rattle.safety.proofs.Stages.{Closes, Stage, already, at-most, cau, foreign, id-at, log-content, log-tells, newest-next, not-open, other-tells, own-tells, received-closed, room-less, room-log, room-registry, stage-next, table-at, then-log, then-registry, told-by}
+use Rattle.safety.proofs.Stations.{other-way}
+use Rattle.safety.proofs.Taken.{Last, Room, acquirer-takes, acquirer-takes-offer, causal, initiator-takes, log-takes-notice, log-takes-offer, unplaced}
+use Rattle.safety.proofs.Told.{Cause, IsTaken, accepted-sent, told}
+
+-- ---- the stages, the last one first
+
+module _ (scheme : Scheme) (moment : Moment) (t : TransactionId) where
+  -- the acquirer completes
+  acquirer-completes : (w : World) (x l p : Transition) (k : Content) → Stage scheme w t x k → Room scheme w 0 1 → x.new ≡ Completed → Last w Itl t l → l.new ≡ Completed
+      → Last w (Registry k.acquirer) t p → p.new ≡ Accepted → Closes scheme w t 0 1
+  acquirer-completes w x l p k s room done log log_done there accepted =
+      let says = log-tells scheme t w x k s l log Completed log_done in
+      let content = log-content scheme t w x k s l log in
+      let sent : In (notifies Itl (Registry k.acquirer) t says.0) (sends (committed_of w Itl)) =
+      told-by scheme t w x k s Itl l (Registry k.acquirer) says.0 log (subst (λ z. In (notifies Itl z l.id says.0) l.messages) (ap acquirer_of content) says.2) in
+      let v =
+      acquirer-takes scheme moment w s.calm k.acquirer t says.0 p Completed sent there s.other (table-at acquirer_row p.new Accepted _ Completed accepted says.1)
+      (let a = room.1 k.acquirer in omega arith) in
+      let y : Transition = moved p Completed moment.seconds [] in
+      let g : Went scheme w t (Registry k.acquirer) y = send scheme w s.calm (notifies Itl (Registry k.acquirer) t says.0) moment t y s.acquirer sent v (id-at scheme t w x k s (Registry k.acquirer) p there).1 in
+      let next = stage-next scheme t w (Registry k.acquirer) y x k g s (foreign scheme t w x k s) in
+      let received : is_received (committed_of (run w g.events)) t (Some k) ≡ true = ap (λ (o : Option Transition). is_status (option_map (λ (z : Transition). z.new) o) Completed) g.now in
+      then-registry scheme t w k.acquirer y 0 0 g (already scheme t (run w g.events) 0 0 g.calm (received-closed scheme t (run w g.events) x k next done received))
+
+  -- the log completes
+  log-completes : (w : World) (x l p : Transition) (k : Content) → Stage scheme w t x k → Room scheme w 1 1 → x.new ≡ Completed → Last w Itl t l → l.new ≡ Accepted
+      → Last w (Registry k.acquirer) t p → p.new ≡ Accepted → Closes scheme w t 1 1
+  log-completes w x l p k s room done log log_accepted there accepted =
+      let says = own-tells scheme t w x k s Completed done in
+      let sent = told-by scheme t w x k s (Registry t.code) x Itl says.0 s.is says.2 in
+      let y : Transition = moved l Completed moment.seconds (notifies Itl (told_to l Completed) l.id says.0 ∷ []) in
+      let v =
+      log-takes-notice scheme moment w s.calm t.code t says.0 l Completed sent log (table-at log_row l.new Accepted _ Completed log_accepted says.1)
+      (let a = room.0 in omega arith) in
+      let g : Went scheme w t Itl y = send scheme w s.calm (notifies (Registry t.code) Itl t says.0) moment t y refl sent v (id-at scheme t w x k s Itl l log).1 in
+      let next = stage-next scheme t w Itl y x k g s refl in
+      then-log scheme t w y 0 1 g
+      (acquirer-completes (run w g.events) x y p k next (room-log scheme t w y 0 1 g room) done g.now refl (newest-next scheme t w Itl (Registry k.acquirer) y (Some p) g refl there) accepted)
+
+  taken-at : (o : Option Transition) → IsTaken o → (p : Transition) × (o ≡ Some p) × ((p.new ≡ Accepted) ⊎ ((p.new ≡ Completed) ⊎ (p.new ≡ Cancelled)))
+  taken-at None h = absurd h
+  taken-at (Some p) h = (p, refl, h)
+
+  -- completed at the initiator
+  close-owed : (w : World) (x : Transition) (k : Content) → Stage scheme w t x k → Room scheme w 1 1 → x.new ≡ Completed → Closes scheme w t 1 1
+  close-owed w x k s room done =
+      let c = cau scheme t w x k s in
+      let agrees = completed-agrees scheme (committed_of w) c (Registry t.code) t (stands-so (transitions_of (committed_of w (Registry t.code))) t x Completed s.is done) in
+      let b = log-backed scheme (committed_of w Itl) (c.made Itl) t agrees.0 agrees.1 agrees.2 in
+      let content : b.content ≡ k = one-some b.content k (sym b.known ∙ log-content scheme t w x k s agrees.0 agrees.1) in
+      let said : In (message.Notification b.heard.notification) (sends (committed_of w (Registry k.acquirer))) =
+      subst (λ (z : Content). In (message.Notification b.heard.notification) (sends (committed_of w (Registry z.acquirer)))) content
+      (heard-sent scheme (committed_of w) c Itl (Registry b.content.acquirer) t Accepted b.heard) in
+      let taken = accepted-sent scheme k.acquirer (committed_of w (Registry k.acquirer)) (c.made (Registry k.acquirer)) b.heard.notification said b.heard.told in
+      let p = taken-at (newest (transitions_of (committed_of w (Registry k.acquirer))) t) (subst (λ z. IsTaken (newest (transitions_of (committed_of w (Registry k.acquirer))) z)) b.heard.about taken.1) in
+      elim p.2 [
+        | inl accepted ↦ by agrees.0 p.0 agrees.0.new refl agrees.2 agrees.1 p.1 accepted
+        | inr e ↦
+            elim e [
+              | inl d ↦
+                  already scheme t w 1 1 s.calm
+                  (received-closed scheme t w x k s done
+                  (ap (λ (o : Option Transition). is_status (option_map (λ (z : Transition). z.new) o) Completed) p.1 ∙ subst (λ z. same_status z Completed ≡ true) (sym d) refl))
+              | inr d ↦ absurd (ended scheme (committed_of w) c (Registry k.acquirer) t agrees (inr (inr (stands-so (transitions_of (committed_of w (Registry k.acquirer))) t p.0 Cancelled p.1 d))))
+            ]
+      ]
+    where
+      by : (l p : Transition) (st : Status) → l.new ≡ st → IsAgreed st → Last w Itl t l → Last w (Registry k.acquirer) t p → p.new ≡ Accepted → Closes scheme w t 1 1
+      by l p Accepted e a log there accepted = log-completes w x l p k s room done log e there accepted
+      by l p Completed e a log there accepted =
+          at-most scheme t w 0 1 1 1 (omega arith) (omega arith) (acquirer-completes w x l p k s (room-less scheme t w 0 1 1 1 (omega arith) (omega arith) room) done log e there accepted)
+      by l p Proposed e a log there accepted = absurd a
+      by l p Checked e a log there accepted = absurd a
+      by l p Rejected e a log there accepted = absurd a
+      by l p Terminated e a log there accepted = absurd a
+      by l p Cancelled e a log there accepted = absurd a
+
+  -- the log has the answer
+  abbrev IsAnswer : Status → Type 0
+  IsAnswer Accepted = Unit {0}
+  IsAnswer Rejected = Unit {0}
+  IsAnswer Terminated = Unit {0}
+  IsAnswer Cancelled = Unit {0}
+  IsAnswer _ = ⊥
+
+  -- what an answer makes of the initiator
+  abbrev answered_to : Status → Status
+  answered_to Accepted = Completed
+  answered_to st = st
+
+  answer-row : (st : Status) → IsAnswer st → initiator_row (Stands Proposed) (Notified st) ≡ Move (answered_to st)
+  answer-row Accepted h = refl
+  answer-row Rejected h = refl
+  answer-row Terminated h = refl
+  answer-row Cancelled h = refl
+  answer-row Proposed h = absurd h
+  answer-row Checked h = absurd h
+  answer-row Completed h = absurd h
+
+  answer-says : (l : Transition) (st : Status) → IsAnswer st → SaysAtLog l st → Tells l Itl (Registry l.id.code) st
+  answer-says l Accepted h says = says
+  answer-says l Rejected h says = says
+  answer-says l Terminated h says = says
+  answer-says l Cancelled h says = says
+  answer-says l Proposed h says = absurd h
+  answer-says l Checked h says = absurd h
+  answer-says l Completed h says = absurd h
+
+  initiator-hears : (w : World) (x l : Transition) (k : Content) → Stage scheme w t x k → Room scheme w 1 2 → x.new ≡ Proposed → Last w Itl t l → (st : Status) → l.new ≡ st → IsAnswer st → Closes scheme w t 1 2
+  initiator-hears w x l k s room waits log st e answers =
+      let says = answer-says l st answers (log-tells scheme t w x k s l log st e) in
+      let sent : In (notifies Itl (Registry t.code) t says.0) (sends (committed_of w Itl)) =
+      told-by scheme t w x k s Itl l (Registry t.code) says.0 log (subst (λ (z : TransactionId). In (notifies Itl (Registry z.code) l.id says.0) l.messages) (id-at scheme t w x k s Itl l log).1 says.2) in
+      let y : Transition = moved x (answered_to st) moment.seconds (settled_messages t.code x.id (answered_to st)) in
+      let v =
+      initiator-takes scheme moment w s.calm t.code t says.0 x (answered_to st) sent s.is (same_code-refl t.code) (table-at initiator_row x.new Proposed _ st waits says.1 ∙ answer-row st answers)
+      (let a = room.1 t.code in omega arith) in
+      let g : Went scheme w t (Registry t.code) y = send scheme w s.calm (notifies Itl (Registry t.code) t says.0) moment t y s.initiator sent v (id-at scheme t w x k s (Registry t.code) x s.is).1 in
+      let next : Stage scheme (run w g.events) t y k = record { calm = g.calm; is = g.now; content = s.content; initiator = s.initiator; acquirer = s.acquirer; other = s.other } in
+      then-registry scheme t w t.code y 1 1 g (settles (run w g.events) y st answers next refl (room-registry scheme t w t.code y 1 1 g room))
+    where
+      settles : (v : World) (y : Transition) (st : Status) → IsAnswer st → Stage scheme v t y k → y.new ≡ answered_to st → Room scheme v 1 1 → Closes scheme v t 1 1
+      settles v y Accepted a next e room = close-owed v y k next room e
+      settles v y Rejected a next e room = already scheme t v 1 1 next.calm (not-open scheme t v y k next Rejected e (λ z. cc (z)) (λ z. cc (z)))
+      settles v y Terminated a next e room = already scheme t v 1 1 next.calm (not-open scheme t v y k next Terminated e (λ z. cc (z)) (λ z. cc (z)))
+      settles v y Cancelled a next e room = already scheme t v 1 1 next.calm (not-open scheme t v y k next Cancelled e (λ z. cc (z)) (λ z. cc (z)))
+      settles v y Proposed a next e room = absurd a
+      settles v y Checked a next e room = absurd a
+      settles v y Completed a next e room = absurd a
+
+  -- the acquirer has answered
+  acquirer-answered : (w : World) (x l p : Transition) (k : Content) → Stage scheme w t x k → Room scheme w 2 2 → x.new ≡ Proposed → Last w Itl t l → l.new ≡ Checked
+      → Last w (Registry k.acquirer) t p → (p.new ≡ Accepted) ⊎ (p.new ≡ Rejected) → Closes scheme w t 2 2
+  acquirer-answered w x l p k s room waits log log_checked there which =
+      elim which [
+        | inl e ↦ by Accepted refl tt (other-tells scheme t w x k s p there Accepted e)
+        | inr e ↦ by Rejected refl tt (other-tells scheme t w x k s p there Rejected e)
+      ]
+    where
+      by : (st : Status) → log_row (Stands Checked) (Notified st) ≡ Move st → IsAnswer st → Tells p (Registry k.acquirer) Itl st → Closes scheme w t 2 2
+      by st row answers says =
+          let sent = told-by scheme t w x k s (Registry k.acquirer) p Itl says.0 there says.2 in
+          let y : Transition = moved l st moment.seconds (notifies Itl (told_to l st) l.id says.0 ∷ []) in
+          let v =
+          log-takes-notice scheme moment w s.calm k.acquirer t says.0 l st sent log (table-at log_row l.new Checked _ st log_checked says.1 ∙ row)
+          (let a = room.0 in omega arith) in
+          let g : Went scheme w t Itl y = send scheme w s.calm (notifies (Registry k.acquirer) Itl t says.0) moment t y refl sent v (id-at scheme t w x k s Itl l log).1 in
+          let next = stage-next scheme t w Itl y x k g s refl in
+          then-log scheme t w y 1 2 g (initiator-hears (run w g.events) x y k next (room-log scheme t w y 1 2 g room) waits g.now st refl answers)
+
+  -- the log has checked
+  log-checked : (w : World) (x l : Transition) (k : Content) → Stage scheme w t x k → Room scheme w 2 3 → x.new ≡ Proposed → Last w Itl t l → l.new ≡ Checked → Closes scheme w t 2 3
+  log-checked w x l k s room waits log is_checked = by (newest (transitions_of (committed_of w (Registry k.acquirer))) t) refl
+    where
+      answered_as : (found : List ℕ) → (arrived_status found ≡ Accepted) ⊎ (arrived_status found ≡ Rejected)
+      answered_as [] = inl refl
+      answered_as (n ∷ ns) = inr refl
+
+      log-not : (st : Status) → (st ≡ Checked → ⊥) → (st ≡ Accepted → ⊥) → (q : Transition) × Last w Itl t q × ((q.new ≡ st) ⊎ ((st ≡ Accepted) × (q.new ≡ Completed))) → ⊥
+      log-not st a b q =
+          let same : q.0 ≡ l = one-some q.0 l (sym q.1 ∙ log) in
+          elim q.2 [
+            | inl e ↦ a (sym e ∙ ap (λ (z : Transition). z.new) same ∙ is_checked)
+            | inr e ↦ b e.0
+          ]
+
+      status : (st : Status) → Cause k.acquirer (committed_of w (Registry k.acquirer)) t st → (st ≡ Accepted) ⊎ (st ≡ Rejected)
+      status Accepted h = inl refl
+      status Rejected h = inr refl
+      status Completed h = absurd (log-not Completed (λ e. cc (e)) (λ e. cc (e)) (log-said scheme (committed_of w) (cau scheme t w x k s) (Registry k.acquirer) t Completed h))
+      status Cancelled h = absurd (log-not Cancelled (λ e. cc (e)) (λ e. cc (e)) (log-said scheme (committed_of w) (cau scheme t w x k s) (Registry k.acquirer) t Cancelled h))
+      status Proposed h = absurd h
+      status Checked h = absurd h
+      status Terminated h = absurd h
+
+      by : (o : Option Transition) → newest (transitions_of (committed_of w (Registry k.acquirer))) t ≡ o → Closes scheme w t 2 3
+      by (Some p) there =
+          at-most scheme t w 2 2 2 3 (omega arith) (omega arith)
+          (acquirer-answered w x l p k s (room-less scheme t w 2 2 2 3 (omega arith) (omega arith) room) waits log is_checked there
+          (status p.new (told scheme k.acquirer (committed_of w (Registry k.acquirer)) ((cau scheme t w x k s).made (Registry k.acquirer)) t p there s.other)))
+      by None none =
+          let says = log-tells scheme t w x k s l log Checked is_checked in
+          let same : says.0 ≡ k = one-some says.0 k (sym says.1 ∙ log-content scheme t w x k s l log) in
+          let id = id-at scheme t w x k s Itl l log in
+          let sent : In (proposes Itl (Registry k.acquirer) t proposal.Checked k) (sends (committed_of w Itl)) =
+          subst (λ z. In (proposes Itl (Registry k.acquirer) z proposal.Checked k) (sends (committed_of w Itl))) id.1
+          (transition-sends (committed_of w Itl) l (proposes Itl (Registry k.acquirer) l.id proposal.Checked k) id.0
+          (subst (λ (z : Content). In (proposes Itl (Registry z.acquirer) l.id proposal.Checked z) l.messages) same says.2)) in
+          let y : Transition = arrived k.acquirer t k moment.seconds (acquirer_findings scheme k.acquirer (holding scheme k.acquirer (committed_of w (Registry k.acquirer))) k) in
+          let v = acquirer-takes-offer scheme moment w s.calm k.acquirer t k sent none (let a = room.1 k.acquirer in omega arith) in
+          let g : Went scheme w t (Registry k.acquirer) y = send scheme w s.calm (proposes Itl (Registry k.acquirer) t proposal.Checked k) moment t y s.acquirer sent v refl in
+          let next = stage-next scheme t w (Registry k.acquirer) y x k g s (foreign scheme t w x k s) in
+          then-registry scheme t w k.acquirer y 2 2 g
+          (acquirer-answered (run w g.events) x l y k next (room-registry scheme t w k.acquirer y 2 2 g room) waits (newest-next scheme t w (Registry k.acquirer) Itl y (Some l) g refl log) is_checked g.now
+          (answered_as (acquirer_findings scheme k.acquirer (holding scheme k.acquirer (committed_of w (Registry k.acquirer))) k)))
+
+  -- proposed at the initiator
+  close-proposed : (w : World) (x : Transition) (k : Content) → Stage scheme w t x k → Room scheme w 3 3 → x.new ≡ Proposed → Closes scheme w t 3 3
+  close-proposed w x k s room waits = by (newest (transitions_of (committed_of w Itl)) t) refl
+    where
+      c : Causal scheme (committed_of w)
+      c = cau scheme t w x k s
+
+      not-ended : (l : Transition) → Last w Itl t l → l.new ≡ Completed → ⊥
+      not-ended l log done =
+          let h = (proposer scheme (committed_of w Itl) (c.made Itl) t l log).ended done in
+          let d =
+          completed-sent scheme t.code (committed_of w (Registry t.code)) (c.made (Registry t.code)) h.notification
+          (heard-sent scheme (committed_of w) c Itl (Registry t.code) t Completed h) h.told in
+          let last : Last w (Registry t.code) t d.0 =
+          subst (λ z. Last w (Registry t.code) z d.0) (d.2 ∙ h.about) (ends-last scheme t.code (committed_of w (Registry t.code)) (c.made (Registry t.code)) d.0 d.1 d.3) in
+          let same : d.0 ≡ x = one-some d.0 x (sym last ∙ s.is) in
+          let e : Completed ≡ Proposed = sym d.3 ∙ ap (λ (z : Transition). z.new) same ∙ waits in
+          cc (e)
+
+      answered : (l : Transition) → Last w Itl t l → (st : Status) → l.new ≡ st → IsAnswer st → Closes scheme w t 3 3
+      answered l log st e a =
+          at-most scheme t w 1 2 3 3 (omega arith) (omega arith) (initiator-hears w x l k s (room-less scheme t w 1 2 3 3 (omega arith) (omega arith) room) waits log st e a)
+
+      known : (l : Transition) → Last w Itl t l → (st : Status) → l.new ≡ st → Closes scheme w t 3 3
+      known l log Proposed e = absurd (log-tells scheme t w x k s l log Proposed e)
+      known l log Checked e =
+          at-most scheme t w 2 3 3 3 (omega arith) (omega arith) (log-checked w x l k s (room-less scheme t w 2 3 3 3 (omega arith) (omega arith) room) waits log e)
+      known l log Completed e = absurd (not-ended l log e)
+      known l log Accepted e = answered l log Accepted e tt
+      known l log Rejected e = answered l log Rejected e tt
+      known l log Terminated e = answered l log Terminated e tt
+      known l log Cancelled e = answered l log Cancelled e tt
+
+      checks : (v : World) (l : Transition) (found : List ℕ) → l.new ≡ checked_status found → Stage scheme v t x k → Last v Itl t l → Room scheme v 2 3 → Closes scheme v t 2 3
+      checks v l [] e next log more = log-checked v x l k next more waits log e
+      checks v l (n ∷ ns) e next log more =
+          at-most scheme t v 1 2 2 3 (omega arith) (omega arith) (initiator-hears v x l k next (room-less scheme t v 1 2 2 3 (omega arith) (omega arith) more) waits log Terminated e tt)
+
+      by : (o : Option Transition) → newest (transitions_of (committed_of w Itl)) t ≡ o → Closes scheme w t 3 3
+      by (Some l) log = known l log l.new refl
+      by None none =
+          let says = own-tells scheme t w x k s Proposed waits in
+          let same : says.0 ≡ k = one-some says.0 k (sym says.1 ∙ s.content) in
+          let id = id-at scheme t w x k s (Registry t.code) x s.is in
+          let sent : In (proposes (Registry t.code) Itl t proposal.Proposed k) (sends (committed_of w (Registry t.code))) =
+          subst (λ z. In (proposes (Registry t.code) Itl z proposal.Proposed k) (sends (committed_of w (Registry t.code)))) id.1
+          (transition-sends (committed_of w (Registry t.code)) x (proposes (Registry t.code) Itl x.id proposal.Proposed k) id.0
+          (subst (λ (z : Content). In (proposes (Registry t.code) Itl x.id proposal.Proposed z) x.messages) same says.2)) in
+          let y : Transition = checked t k moment.seconds (log_findings scheme (ledger scheme (committed_of w Itl)) t.code k) in
+          let v = log-takes-offer scheme moment w s.calm t.code t k sent none (let a = room.0 in omega arith) in
+          let g : Went scheme w t Itl y = send scheme w s.calm (proposes (Registry t.code) Itl t proposal.Proposed k) moment t y refl sent v refl in
+          let next = stage-next scheme t w Itl y x k g s refl in
+          then-log scheme t w y 2 3 g (checks (run w g.events) y (log_findings scheme (ledger scheme (committed_of w Itl)) t.code k) refl next g.now (room-log scheme t w y 2 3 g room))
+
+  -- an open transfer, however far it has come
+  pub close-open : (w : World) → Calm scheme w → Room scheme w 3 3 → IsOpen (committed_of w) t → Closes scheme w t 3 3
+  close-open w calm room o =
+      let c = causal scheme w calm in
+      let id = newest-id (transitions_of (committed_of w (Registry t.code))) t o.0 o.1 in
+      let own =
+      own-contents scheme t.code (committed_of w (Registry t.code)) (c.made (Registry t.code)) o.0 id.0 (subst (λ (z : TransactionId). same_code z.code t.code ≡ true) (sym id.1) (same_code-refl t.code)) in
+      let member : has_member scheme t.code ≡ true =
+      elim (cases_Bool (has_member scheme t.code)) [
+        | inl y ↦ y
+        | inr n ↦ absurd (let e = subst (λ (es : List Entry). newest (transitions_of es) t ≡ Some o.0) (unplaced scheme w calm (Registry t.code) n) o.1 in cc (e))
+      ] in
+      let s : Stage scheme w t o.0 own.content = record {
+        calm = calm;
+        is = o.1;
+        content = own.is;
+        initiator = member;
+        acquirer = own.acquirer_known;
+        other = other-way (Registry own.content.acquirer) (Registry t.code) own.acquirer_other;
+      } in
+      elim o.2 [
+        | inl e ↦ close-proposed w o.0 own.content s room e
+        | inr e ↦ at-most scheme t w 1 1 3 3 (omega arith) (omega arith) (close-owed w o.0 own.content s (room-less scheme t w 1 1 3 3 (omega arith) (omega arith) room) e.0)
+      ]

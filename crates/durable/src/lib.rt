@@ -14,6 +14,7 @@ mod tests;
 mod layout;
 mod opening;
 mod shown;
+mod sql_store;
 
 pub use fault::StoreFault;
 pub use memory_store::{Kept, MemoryStore};

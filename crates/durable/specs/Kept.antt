@@ -14,18 +14,18 @@ use Rattle.durable.specs.declared.sql_store.Link.TheVariants.{Open, Shut}
 module _ {D : Type 0} (g : Ghosts D) where
   abbrev pub IsHonest : Option (Link D g) → Type 0
   IsHonest None = ⊥
-  IsHonest (Some (Open k)) = connected.IsHonest (over_files {D} {g}) k
+  IsHonest (Some (Open k)) = connected.IsHonest over_files k
   IsHonest (Some (Shut files)) = AreClean g files.log files.db
 
   abbrev pub content : Option (Link D g) → Places
   content None = []
-  content (Some (Open k)) = connected.content (over_files {D} {g}) k
+  content (Some (Open k)) = connected.content over_files k
   content (Some (Shut files)) = []
 
   -- what an opening may find
   abbrev pub MayHold : Option (Link D g) → Places → Type 0
   MayHold None next = ⊥
-  MayHold (Some (Open k)) next = connected.MayHold (over_files {D} {g}) k next
+  MayHold (Some (Open k)) next = connected.MayHold over_files k next
   MayHold (Some (Shut files)) next = (db : Trees) × MayFind g files db × (slots_in db ≡ next)
 
   abbrev pub is_waiting : Option (Link D g) → Bool

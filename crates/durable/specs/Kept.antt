@@ -8,8 +8,8 @@ use Rattle.durable.specs.Backing.{MayFind}
 use Rattle.durable.specs.Connected as connected
 use Rattle.durable.specs.Held.{slots_in}
 use Rattle.durable.specs.Records.{Places}
-use Rattle.durable.specs.declared.sql_store.Link.{Link}
-use Rattle.durable.specs.declared.sql_store.Link.TheVariants.{Open, Shut}
+use Rattle.durable.specs.declared.link.Link.{Link}
+use Rattle.durable.specs.declared.link.Link.TheVariants.{Open, Shut}
 
 module _ {D : Type 0} (g : Ghosts D) where
   abbrev pub IsHonest : Option (Link D g) → Type 0

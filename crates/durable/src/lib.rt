@@ -14,6 +14,7 @@ mod tests;
 mod layout;
 mod opening;
 mod shown;
+mod link;
 mod sql_store;
 
 pub use fault::StoreFault;

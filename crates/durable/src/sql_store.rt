@@ -1,117 +1,22 @@
 //! A store in a file of SQLite and its log.
-ghost use Rattle.std.specs.Prelude.{◌≡◌, ◌≢◌, ◌⊎◌, ◌≤◌, ◌^◌, ℕ, [], false, Some, IfOk, IfErr, OnOk, OnErr, IsTrue};
-ghost use Rattle.sqlite.specs.Files.{over_files, file_state};
-ghost use Rattle.sqlite.specs.State.{HasCleanDisk, Opens};
+ghost use Rattle.std.specs.Prelude.{◌≡◌, ◌≢◌, false, None, IfOk, IfErr};
 ghost use Rattle.sqlite.specs.Tree.{Trees};
-ghost use Rattle.sqlite_wal.specs.Reads.{AreClean};
 ghost use Rattle.durable.specs.Backing.{MayFind};
-ghost use Rattle.durable.specs.Connected as connected;
-ghost use Rattle.durable.specs.Faults.{is_device_fault};
 ghost use Rattle.durable.specs.Held.{slots_in};
-ghost use Rattle.durable.specs.Kept.{IsHonest, MayHold};
+ghost use Rattle.durable.specs.Kept.{IsHonest, MayHold, content, is_waiting};
 ghost use Rattle.durable.specs.Records.{Places};
-ghost use Rattle.durable.specs.declared.fault.StoreFault.TheVariants.{Reopen};
 
-use crate::backing::{give_up, open_again};
-use crate::fault::{StoreFault, fault_of};
+use crate::fault::StoreFault;
+use crate::link::{Link, counted, linked};
 use crate::node_store::NodeStore;
-use crate::open_store::OpenStore;
-use crate::opening::settle;
-use sqlite::{Connection, Error as SqlError, ErrorCode, FileStore, Options};
+use sqlite::Options;
 use sqlite_disk::{Disk, Files};
 use std::alloc::Global;
-use std::mem;
 use units::Node;
 use wire::Input;
 
-// The connection, or the files after a reopening that failed.
-enum Link<D: Disk + Drop> {
-    Open(OpenStore<FileStore<D>>),
-    Shut(Files<D>),
-}
-
-// It is written out, so that a caller does not prove again how each part is dropped.
-impl<D: Disk + Drop> Drop for Link<D> {
-    fn drop(self) {
-        match self {
-            Link::Open(_store) => {}
-            Link::Shut(_files) => {}
-        }
-    }
-}
-
-// What an error of an opening of the files tells.
-fn opening_fault(error: SqlError) -> StoreFault
-    ensures { result ≢ Reopen }
-{
-    match error {
-        SqlError::SqliteFailure(ErrorCode::NotADatabase) => StoreFault::Damaged(0),
-        error => fault_of(error),
-    }
-}
-
-// How many calls of the device have failed, after this fault too.
-fn counted(faults: u64, fault: StoreFault) -> u64
-    ensures device { IsTrue (is_device_fault fault) → result ≢ faults }
-    ensures other { is_device_fault fault ≡ false → result ≡ faults }
-{
-    match fault {
-        StoreFault::Device | StoreFault::Full => faults.wrapping_add(1),
-        _ => faults,
-    }
-}
-
-impl<D: Disk + Drop> Link<D> {
-    // The files, with no call of the device.
-    fn into_files(self) -> Files<D>
-        ensures honest { AreClean D.Disk result.log result.db → IsHonest D.Disk (Some self) }
-        ensures left { (db : Trees) → MayFind D.Disk result db → ∥ MayHold D.Disk (Some self) (slots_in db) ∥₁ }
-    {
-        match self {
-            Link::Open(store) => give_up(store.into_connection()),
-            Link::Shut(files) => files,
-        }
-    }
-}
-
-// A store over an open connection whose file is one of the node, or becomes one. After a fault it gives the files up.
-fn settled<D: Disk + Drop>(
-    alloc: Global,
-    mut conn: Connection<FileStore<D>>,
-    name: &str,
-) -> Result<OpenStore<FileStore<D>>, (StoreFault, Files<D>)>
-    requires idle { conn.in_transaction ≡ false }
-    requires opened { HasCleanDisk (file_state conn) → Opens (file_state conn) }
-    ensures runs { IfOk result (λ k. k.is_waiting ≡ false) }
-    ensures honest { IfOk result (λ k. connected.IsHonest over_files k → HasCleanDisk (file_state conn)) }
-    ensures same { IfOk result (λ k. connected.IsHonest over_files k → connected.content over_files k ≡ slots_in (file_state conn).committed.trees) }
-    ensures durable { IfOk result (λ k. connected.IsHonest over_files k → (next : Places) → connected.MayHold over_files k next → next ≡ connected.content over_files k) }
-{
-    match settle(&mut conn, name) {
-        Ok(count) if count <= 1 << 63 => Ok(OpenStore::new(alloc, conn, count)),
-        Ok(_) => Err((StoreFault::Device, give_up(conn))),
-        Err(fault) => Err((fault, give_up(conn))),
-    }
-}
-
-// Opens the files as a store of the node. An error gives them back.
-fn linked<D: Disk + Drop>(
-    alloc: Global,
-    files: Files<D>,
-    options: Options,
-    name: &str,
-) -> Result<OpenStore<FileStore<D>>, (StoreFault, Files<D>)>
-    ensures runs { IfOk result (λ k. k.is_waiting ≡ false) }
-    ensures found { IfOk result (λ k. connected.IsHonest over_files k → (db : Trees) × MayFind D.Disk files db × (connected.content over_files k ≡ slots_in db)) }
-    ensures durable { IfOk result (λ k. connected.IsHonest over_files k → (next : Places) → connected.MayHold over_files k next → next ≡ connected.content over_files k) }
-{
-    match open_again(alloc, files, options) {
-        Ok(conn) => settled(alloc, conn, name),
-        Err((error, files)) => Err((opening_fault(error), files)),
-    }
-}
-
 /// A store in a file of SQLite and its log.
+#[derive(Drop)]
 pub struct SqlStore<D: Disk + Drop> {
     // none within a call alone
     link: Option<Link<D>>,
@@ -119,4 +24,122 @@ pub struct SqlStore<D: Disk + Drop> {
     faults: u64,
     options: Options,
     alloc: Global,
+    ghost linked: { link ≢ None },
+}
+
+impl<D: Disk + Drop> SqlStore<D> {
+    /// Opens the database file and its log, and makes them a store of the node where they are new. An error gives the files back.
+    ///
+    /// Faults in this order: `Damaged(0)` where the file is no store, `WrongVersion`, `WrongNode`. `Device`, `Full` and `NoMemory` may come at any call of
+    /// the database.
+    pub fn open_files(
+        alloc: Global,
+        files: Files<D>,
+        options: Options,
+        node: Node,
+    ) -> Result<SqlStore<D>, (StoreFault, Files<D>)>
+        ensures runs { IfOk result (λ s. is_waiting D.Disk s.link ≡ false) }
+        ensures found { IfOk result (λ s. IsHonest D.Disk s.link → (db : Trees) × MayFind D.Disk files db × (content D.Disk s.link ≡ slots_in db)) }
+        ensures durable { IfOk result (λ s. IsHonest D.Disk s.link → (next : Places) → MayHold D.Disk s.link next → next ≡ content D.Disk s.link) }
+    {
+        let Ok(name) = format!(in alloc; "{node}") else {
+            return Err((StoreFault::NoMemory, files));
+        };
+        let store = linked(alloc, files, options, &name)?;
+        Ok(SqlStore {
+            link: Some(Link::Open(store)),
+            name,
+            faults: 0,
+            options,
+            alloc,
+        })
+    }
+
+    /// Gives both files back as they are, with no call of the device: after a fault, say.
+    pub fn into_files(self) -> Files<D>
+        ensures { (db : Trees) → MayFind D.Disk result db → ∥ MayHold D.Disk self.link (slots_in db) ∥₁ }
+    {
+        let SqlStore {
+            link,
+            name: _,
+            faults: _,
+            options: _,
+            alloc: _,
+        } = self;
+        link.unwrap().into_files()
+    }
+}
+
+impl<D: Disk + Drop> NodeStore for SqlStore<D> {
+    ghost use Rattle.durable.specs.Kept.{IsHonest, MayHold, content, is_waiting};
+
+    ghost is_honest = { λ s. IsHonest D.Disk s.link };
+
+    ghost content = { λ s. content D.Disk s.link };
+
+    ghost may_hold = { λ s next. MayHold D.Disk s.link next };
+
+    ghost is_waiting = { λ s. is_waiting D.Disk s.link };
+
+    ghost faults = { λ s. s.faults };
+
+    fn append(&mut self, batch: &[Input]) -> Result<(), StoreFault> {
+        let Some(Link::Open(store)) = &mut self.link else {
+            return Err(StoreFault::Reopen);
+        };
+        match store.append(batch) {
+            Ok(()) => Ok(()),
+            Err(fault) => {
+                self.faults = counted(self.faults, fault);
+                Err(fault)
+            }
+        }
+    }
+
+    fn load(&mut self) -> Result<Vec<Input>, StoreFault> {
+        let Some(Link::Open(store)) = &mut self.link else {
+            return Err(StoreFault::Reopen);
+        };
+        match store.load() {
+            Ok(inputs) => Ok(inputs),
+            Err(fault) => {
+                self.faults = counted(self.faults, fault);
+                Err(fault)
+            }
+        }
+    }
+
+    fn load_page(&mut self, from: u64, max: u64) -> Result<Vec<Input>, StoreFault> {
+        let Some(Link::Open(store)) = &mut self.link else {
+            return Err(StoreFault::Reopen);
+        };
+        match store.load_page(from, max) {
+            Ok(inputs) => Ok(inputs),
+            Err(fault) => {
+                self.faults = counted(self.faults, fault);
+                Err(fault)
+            }
+        }
+    }
+
+    fn reopen(&mut self) -> Result<(), StoreFault> {
+        let Some(link) = self.link.take() else {
+            return Err(StoreFault::Reopen);
+        };
+        match linked(self.alloc, link.into_files(), self.options, &self.name) {
+            Ok(store) => {
+                self.link = Some(Link::Open(store));
+                Ok(())
+            }
+            Err((fault, files)) => {
+                self.link = Some(Link::Shut(files));
+                self.faults = counted(self.faults, fault);
+                Err(fault)
+            }
+        }
+    }
+
+    fn fault_count(&self) -> u64 {
+        self.faults
+    }
 }

@@ -5,7 +5,7 @@ use Rattle.sqlite.specs.Tree.{Trees}
 use Rattle.durable.specs.Backing.{MayFind}
 use Rattle.durable.specs.Connected as connected
 use Rattle.durable.specs.Held.{slots_in}
-use Rattle.durable.proofs.sql_store.linked.Goals as goal
+use Rattle.durable.proofs.link.linked.Goals as goal
 
 both : {A B : Type 0} (P Q R : A → Type 0) (r : Result A B) → ((k : A) → P k → Q k → R k) → IfOk r P → IfOk r Q → IfOk r R
 both P Q R (Ok k) f p q = f k p q

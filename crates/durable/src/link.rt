@@ -1,0 +1,108 @@
+//! A store in files: by its connection while it is open, and by its files while it is shut.
+ghost use Rattle.std.specs.Prelude.{◌≡◌, ◌≢◌, ◌⊎◌, ◌≤◌, ◌^◌, ℕ, [], false, Some, IfOk, IfErr, OnOk, OnErr, IsTrue};
+ghost use Rattle.sqlite.specs.Files.{over_files, file_state};
+ghost use Rattle.sqlite.specs.State.{HasCleanDisk, Opens};
+ghost use Rattle.sqlite.specs.Tree.{Trees};
+ghost use Rattle.sqlite_wal.specs.Reads.{AreClean};
+ghost use Rattle.durable.specs.Backing.{MayFind};
+ghost use Rattle.durable.specs.Connected as connected;
+ghost use Rattle.durable.specs.Faults.{is_device_fault};
+ghost use Rattle.durable.specs.Held.{slots_in};
+ghost use Rattle.durable.specs.Kept.{IsHonest, MayHold};
+ghost use Rattle.durable.specs.Records.{Places};
+ghost use Rattle.durable.specs.declared.fault.StoreFault.TheVariants.{Reopen};
+
+use crate::backing::{give_up, open_again};
+use crate::fault::{StoreFault, fault_of};
+use crate::open_store::OpenStore;
+use crate::opening::settle;
+use sqlite::{Connection, Error as SqlError, ErrorCode, FileStore, Options};
+use sqlite_disk::{Disk, Files};
+use std::alloc::Global;
+
+/// The store over the connection, or the files after a reopening that failed.
+pub(crate) enum Link<D: Disk + Drop> {
+    Open(OpenStore<FileStore<D>>),
+    Shut(Files<D>),
+}
+
+// It is written out, so that a caller does not prove again how each part is dropped.
+impl<D: Disk + Drop> Drop for Link<D> {
+    fn drop(self) {
+        match self {
+            Link::Open(_store) => {}
+            Link::Shut(_files) => {}
+        }
+    }
+}
+
+// What an error of an opening of the files tells.
+fn opening_fault(error: SqlError) -> StoreFault
+    ensures { result ≢ Reopen }
+{
+    match error {
+        SqlError::SqliteFailure(ErrorCode::NotADatabase) => StoreFault::Damaged(0),
+        error => fault_of(error),
+    }
+}
+
+/// How many calls of the device have failed, after this fault too.
+pub(crate) fn counted(faults: u64, fault: StoreFault) -> u64
+    ensures device { IsTrue (is_device_fault fault) → result ≢ faults }
+    ensures other { is_device_fault fault ≡ false → result ≡ faults }
+{
+    match fault {
+        StoreFault::Device | StoreFault::Full => faults.wrapping_add(1),
+        _ => faults,
+    }
+}
+
+impl<D: Disk + Drop> Link<D> {
+    /// The files, with no call of the device.
+    pub(crate) fn into_files(self) -> Files<D>
+        ensures honest { AreClean D.Disk result.log result.db → IsHonest D.Disk (Some self) }
+        ensures left { (db : Trees) → MayFind D.Disk result db → ∥ MayHold D.Disk (Some self) (slots_in db) ∥₁ }
+    {
+        match self {
+            Link::Open(store) => give_up(store.into_connection()),
+            Link::Shut(files) => files,
+        }
+    }
+}
+
+// A store over an open connection whose file is one of the node, or becomes one. After a fault it gives the files up.
+fn settled<D: Disk + Drop>(
+    alloc: Global,
+    mut conn: Connection<FileStore<D>>,
+    name: &str,
+) -> Result<OpenStore<FileStore<D>>, (StoreFault, Files<D>)>
+    requires idle { conn.in_transaction ≡ false }
+    requires opened { HasCleanDisk (file_state conn) → Opens (file_state conn) }
+    ensures runs { IfOk result (λ k. k.is_waiting ≡ false) }
+    ensures honest { IfOk result (λ k. connected.IsHonest over_files k → HasCleanDisk (file_state conn)) }
+    ensures same { IfOk result (λ k. connected.IsHonest over_files k → connected.content over_files k ≡ slots_in (file_state conn).committed.trees) }
+    ensures durable { IfOk result (λ k. connected.IsHonest over_files k → (next : Places) → connected.MayHold over_files k next → next ≡ connected.content over_files k) }
+{
+    match settle(&mut conn, name) {
+        Ok(count) if count <= 1 << 63 => Ok(OpenStore::new(alloc, conn, count)),
+        Ok(_) => Err((StoreFault::Device, give_up(conn))),
+        Err(fault) => Err((fault, give_up(conn))),
+    }
+}
+
+/// Opens the files as a store of the node. An error gives them back.
+pub(crate) fn linked<D: Disk + Drop>(
+    alloc: Global,
+    files: Files<D>,
+    options: Options,
+    name: &str,
+) -> Result<OpenStore<FileStore<D>>, (StoreFault, Files<D>)>
+    ensures runs { IfOk result (λ k. k.is_waiting ≡ false) }
+    ensures found { IfOk result (λ k. connected.IsHonest over_files k → (db : Trees) × MayFind D.Disk files db × (connected.content over_files k ≡ slots_in db)) }
+    ensures durable { IfOk result (λ k. connected.IsHonest over_files k → (next : Places) → connected.MayHold over_files k next → next ≡ connected.content over_files k) }
+{
+    match open_again(alloc, files, options) {
+        Ok(conn) => settled(alloc, conn, name),
+        Err((error, files)) => Err((opening_fault(error), files)),
+    }
+}

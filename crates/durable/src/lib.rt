@@ -15,7 +15,6 @@ mod layout;
 mod opening;
 mod shown;
 mod link;
-mod sql_store;
 
 pub use fault::StoreFault;
 pub use memory_store::{Kept, MemoryStore};

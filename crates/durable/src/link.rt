@@ -1,5 +1,5 @@
 //! A store in files: by its connection while it is open, and by its files while it is shut.
-ghost use Rattle.std.specs.Prelude.{◌≡◌, ◌≢◌, ◌⊎◌, ◌≤◌, ◌^◌, ℕ, [], false, Some, IfOk, IfErr, OnOk, OnErr, IsTrue};
+ghost use Rattle.std.specs.Prelude.{◌≡◌, ◌≢◌, ◌⊎◌, ◌++◌, [], false, Some, Ok, Err, IfOk, IfErr, OnOk, OnErr, IsTrue};
 ghost use Rattle.sqlite.specs.Files.{over_files, file_state};
 ghost use Rattle.sqlite.specs.State.{HasCleanDisk, Opens};
 ghost use Rattle.sqlite.specs.Tree.{Trees};
@@ -8,9 +8,9 @@ ghost use Rattle.durable.specs.Backing.{MayFind};
 ghost use Rattle.durable.specs.Connected as connected;
 ghost use Rattle.durable.specs.Faults.{is_device_fault};
 ghost use Rattle.durable.specs.Held.{slots_in};
-ghost use Rattle.durable.specs.Kept.{IsHonest, MayHold};
-ghost use Rattle.durable.specs.Records.{Places};
-ghost use Rattle.durable.specs.declared.fault.StoreFault.TheVariants.{Reopen};
+ghost use Rattle.durable.specs.Kept.{IsHonest, MayHold, content, is_waiting};
+ghost use Rattle.durable.specs.Records.{Places, IsAllOrNone, written};
+ghost use Rattle.durable.specs.declared.fault.StoreFault.TheVariants.{Reopen, NoMemory};
 
 use crate::backing::{give_up, open_again};
 use crate::fault::{StoreFault, fault_of};
@@ -19,6 +19,7 @@ use crate::opening::settle;
 use sqlite::{Connection, Error as SqlError, ErrorCode, FileStore, Options};
 use sqlite_disk::{Disk, Files};
 use std::alloc::Global;
+use wire::Input;
 
 /// The store over the connection, or the files after a reopening that failed.
 pub(crate) enum Link<D: Disk + Drop> {
@@ -66,6 +67,25 @@ impl<D: Disk + Drop> Link<D> {
         match self {
             Link::Open(store) => give_up(store.into_connection()),
             Link::Shut(files) => files,
+        }
+    }
+
+    /// Appends the whole batch, or nothing of it.
+    pub(crate) fn append(&mut self, batch: &[Input]) -> Result<(), StoreFault>
+        ensures reopen { IsTrue (is_waiting D.Disk (Some self.old)) → (result ≡ Err Reopen) × (self.new ≡ self.old) }
+        ensures named { is_waiting D.Disk (Some self.old) ≡ false → IfErr result (λ e. (e ≡ NoMemory) ⊎ IsTrue (is_device_fault e)) }
+        ensures stops { OnErr result (IsTrue (is_waiting D.Disk (Some self.new))) }
+        ensures runs { OnOk result (is_waiting D.Disk (Some self.new) ≡ false) }
+        ensures honest { IsHonest D.Disk (Some self.new) → IsHonest D.Disk (Some self.old) }
+        ensures empty { is_waiting D.Disk (Some self.old) ≡ false → batch.now ≡ [] → (result ≡ Ok tt) × (self.new ≡ self.old) }
+        ensures ok { IsHonest D.Disk (Some self.new) → OnOk result (content D.Disk (Some self.new) ≡ content D.Disk (Some self.old) ++ written batch.now) }
+        ensures refused { IsHonest D.Disk (Some self.new) → is_waiting D.Disk (Some self.old) ≡ false → IfErr result (λ e. is_device_fault e ≡ false → (next : Places) → MayHold D.Disk (Some self.new) next → next ≡ content D.Disk (Some self.old)) }
+        ensures crash { IsHonest D.Disk (Some self.new) → is_waiting D.Disk (Some self.old) ≡ false → (next : Places) → MayHold D.Disk (Some self.new) next → IsAllOrNone (content D.Disk (Some self.old)) batch.now next }
+        ensures durable { IsHonest D.Disk (Some self.new) → is_waiting D.Disk (Some self.new) ≡ false → (next : Places) → MayHold D.Disk (Some self.new) next → next ≡ content D.Disk (Some self.new) }
+    {
+        match self {
+            Link::Open(store) => store.append(batch),
+            Link::Shut(_) => Err(StoreFault::Reopen),
         }
     }
 }

@@ -1,5 +1,5 @@
 //! A store in files: by its connection while it is open, and by its files while it is shut.
-ghost use Rattle.std.specs.Prelude.{◌≡◌, ◌≢◌, ◌⊎◌, ◌++◌, [], false, Some, Ok, Err, IfOk, IfErr, OnOk, OnErr, IsTrue};
+ghost use Rattle.std.specs.Prelude.{◌≡◌, ◌≢◌, ◌⊎◌, ◌++◌, ◌≤◌, ◌-◌, ℕ, take, drop, [], false, Some, Ok, Err, IfOk, IfErr, OnOk, OnErr, IsTrue};
 ghost use Rattle.sqlite.specs.Files.{over_files, file_state};
 ghost use Rattle.sqlite.specs.State.{HasCleanDisk, Opens};
 ghost use Rattle.sqlite.specs.Tree.{Trees};
@@ -9,8 +9,8 @@ ghost use Rattle.durable.specs.Connected as connected;
 ghost use Rattle.durable.specs.Faults.{is_device_fault};
 ghost use Rattle.durable.specs.Held.{slots_in};
 ghost use Rattle.durable.specs.Kept.{IsHonest, MayHold, content, is_waiting};
-ghost use Rattle.durable.specs.Records.{Places, IsAllOrNone, written};
-ghost use Rattle.durable.specs.declared.fault.StoreFault.TheVariants.{Reopen, NoMemory};
+ghost use Rattle.durable.specs.Records.{Places, AreRecords, IsDamagedAt, IsAllOrNone, written};
+ghost use Rattle.durable.specs.declared.fault.StoreFault.TheVariants.{Reopen, NoMemory, Damaged};
 
 use crate::backing::{give_up, open_again};
 use crate::fault::{StoreFault, fault_of};
@@ -85,6 +85,23 @@ impl<D: Disk + Drop> Link<D> {
     {
         match self {
             Link::Open(store) => store.append(batch),
+            Link::Shut(_) => Err(StoreFault::Reopen),
+        }
+    }
+
+    /// The records from place `from` on, at most `max`.
+    pub(crate) fn load_page(&mut self, from: u64, max: u64) -> Result<Vec<Input>, StoreFault>
+        ensures reopen { IsTrue (is_waiting D.Disk (Some self.old)) → (result ≡ Err Reopen) × (self.new ≡ self.old) }
+        ensures honest { IsHonest D.Disk (Some self.new) → IsHonest D.Disk (Some self.old) }
+        ensures ok { IsHonest D.Disk (Some self.new) → IfOk result (λ inputs. AreRecords (take max (drop from (content D.Disk (Some self.old)))) inputs.items) }
+        ensures damaged { IsHonest D.Disk (Some self.new) → IfErr result (λ e. (p : ℕ) → e ≡ Damaged p → (from ≤ p) × IsDamagedAt (p - from) (take max (drop from (content D.Disk (Some self.old))))) }
+        ensures stops { is_waiting D.Disk (Some self.old) ≡ false → IfErr result (λ e. is_waiting D.Disk (Some self.new) ≡ is_device_fault e) }
+        ensures runs { OnOk result (is_waiting D.Disk (Some self.new) ≡ false) }
+        ensures kept { IsHonest D.Disk (Some self.new) → is_waiting D.Disk (Some self.new) ≡ false → content D.Disk (Some self.new) ≡ content D.Disk (Some self.old) }
+        ensures crash { IsHonest D.Disk (Some self.new) → is_waiting D.Disk (Some self.old) ≡ false → (next : Places) → MayHold D.Disk (Some self.new) next → next ≡ content D.Disk (Some self.old) }
+    {
+        match self {
+            Link::Open(store) => store.load_page(from, max),
             Link::Shut(_) => Err(StoreFault::Reopen),
         }
     }

@@ -105,6 +105,23 @@ impl<D: Disk + Drop> Link<D> {
             Link::Shut(_) => Err(StoreFault::Reopen),
         }
     }
+
+    /// All records in their order.
+    pub(crate) fn load(&mut self) -> Result<Vec<Input>, StoreFault>
+        ensures reopen { IsTrue (is_waiting D.Disk (Some self.old)) → (result ≡ Err Reopen) × (self.new ≡ self.old) }
+        ensures honest { IsHonest D.Disk (Some self.new) → IsHonest D.Disk (Some self.old) }
+        ensures ok { IsHonest D.Disk (Some self.new) → IfOk result (λ inputs. AreRecords (content D.Disk (Some self.old)) inputs.items) }
+        ensures damaged { IsHonest D.Disk (Some self.new) → IfErr result (λ e. (p : ℕ) → e ≡ Damaged p → IsDamagedAt p (content D.Disk (Some self.old))) }
+        ensures stops { is_waiting D.Disk (Some self.old) ≡ false → IfErr result (λ e. is_waiting D.Disk (Some self.new) ≡ is_device_fault e) }
+        ensures runs { OnOk result (is_waiting D.Disk (Some self.new) ≡ false) }
+        ensures kept { IsHonest D.Disk (Some self.new) → is_waiting D.Disk (Some self.new) ≡ false → content D.Disk (Some self.new) ≡ content D.Disk (Some self.old) }
+        ensures crash { IsHonest D.Disk (Some self.new) → is_waiting D.Disk (Some self.old) ≡ false → (next : Places) → MayHold D.Disk (Some self.new) next → next ≡ content D.Disk (Some self.old) }
+    {
+        match self {
+            Link::Open(store) => store.load(),
+            Link::Shut(_) => Err(StoreFault::Reopen),
+        }
+    }
 }
 
 // A store over an open connection whose file is one of the node, or becomes one. After a fault it gives the files up.

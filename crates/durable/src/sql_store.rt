@@ -84,10 +84,10 @@ impl<D: Disk + Drop> NodeStore for SqlStore<D> {
     ghost faults = { λ s. s.faults };
 
     fn append(&mut self, batch: &[Input]) -> Result<(), StoreFault> {
-        let Some(Link::Open(store)) = &mut self.link else {
+        let Some(link) = &mut self.link else {
             return Err(StoreFault::Reopen);
         };
-        match store.append(batch) {
+        match link.append(batch) {
             Ok(()) => Ok(()),
             Err(fault) => {
                 self.faults = counted(self.faults, fault);
@@ -97,10 +97,10 @@ impl<D: Disk + Drop> NodeStore for SqlStore<D> {
     }
 
     fn load(&mut self) -> Result<Vec<Input>, StoreFault> {
-        let Some(Link::Open(store)) = &mut self.link else {
+        let Some(link) = &mut self.link else {
             return Err(StoreFault::Reopen);
         };
-        match store.load() {
+        match link.load() {
             Ok(inputs) => Ok(inputs),
             Err(fault) => {
                 self.faults = counted(self.faults, fault);
@@ -110,10 +110,10 @@ impl<D: Disk + Drop> NodeStore for SqlStore<D> {
     }
 
     fn load_page(&mut self, from: u64, max: u64) -> Result<Vec<Input>, StoreFault> {
-        let Some(Link::Open(store)) = &mut self.link else {
+        let Some(link) = &mut self.link else {
             return Err(StoreFault::Reopen);
         };
-        match store.load_page(from, max) {
+        match link.load_page(from, max) {
             Ok(inputs) => Ok(inputs),
             Err(fault) => {
                 self.faults = counted(self.faults, fault);

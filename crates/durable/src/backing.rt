@@ -29,10 +29,7 @@ pub(crate) fn open_again<D: Disk + Drop>(
     ensures found { IfOk result (λ conn. HasCleanDisk (file_state conn) → MayFind D.Disk files (file_state conn).committed.trees) }
 {
     if !files.log.may_be_used() || !files.db.may_be_used() {
-        return Err((
-            SqlError::SqliteFailure(ErrorCode::SystemIoFailure),
-            files,
-        ));
+        return Err((SqlError::SqliteFailure(ErrorCode::SystemIoFailure), files));
     }
     match Connection::open_files(alloc, files, options) {
         Ok(conn) => Ok(conn),

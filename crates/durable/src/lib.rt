@@ -4,17 +4,17 @@
 mod backing;
 mod batch;
 mod fault;
+mod layout;
+mod link;
 mod memory_store;
 mod node_store;
 mod open_store;
+mod opening;
 mod reading;
 mod records;
+mod shown;
 #[cfg(test)]
 mod tests;
-mod layout;
-mod opening;
-mod shown;
-mod link;
 
 pub use fault::StoreFault;
 pub use memory_store::{Kept, MemoryStore};

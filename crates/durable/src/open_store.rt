@@ -88,7 +88,12 @@ impl<S: Alter> OpenStore<S> {
     pub(crate) fn into_connection(self) -> Connection<S>
         ensures { result ≡ self.conn }
     {
-        let OpenStore { conn, count: _, standing: _, alloc: _ } = self;
+        let OpenStore {
+            conn,
+            count: _,
+            standing: _,
+            alloc: _,
+        } = self;
         conn
     }
 

@@ -8,6 +8,7 @@ pub mod Bodies
 pub mod Backing
 pub mod Memories
 pub mod Connected
+pub mod Kept
 pub mod Layout
 pub mod Shown
 pub mod Opening

@@ -5,6 +5,7 @@ mod backing;
 mod batch;
 mod fault;
 mod layout;
+mod link;
 mod memory_store;
 mod node_store;
 mod open_store;

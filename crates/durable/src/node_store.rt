@@ -1,5 +1,5 @@
 //! What is asked of a node's store.
-ghost use Rattle.std.specs.Prelude.{◌≡◌, ◌≢◌, ◌++◌, ◌⊎◌, ◌+◌, ◌-◌, ◌<◌, ◌≤◌, ℕ, Bool, false, Err, IfOk, IfErr, OnOk, OnErr, IsTrue, take, drop};
+ghost use Rattle.std.specs.Prelude.{◌≡◌, ◌≢◌, ◌++◌, ◌⊎◌, ◌+◌, ◌-◌, ◌<◌, ◌≤◌, ℕ, Bool, [], false, Ok, Err, IfOk, IfErr, OnOk, OnErr, IsTrue, take, drop};
 ghost use Rattle.durable.specs.Faults.{is_device_fault};
 ghost use Rattle.durable.specs.Records.{Places, AreRecords, IsDamagedAt, IsAllOrNone, written};
 ghost use Rattle.durable.specs.declared.fault.StoreFault.TheVariants.{Reopen, NoMemory, Damaged};
@@ -37,6 +37,7 @@ pub trait NodeStore {
         ensures stops { OnErr result (IsTrue (is_waiting self.new)) }
         ensures runs { OnOk result (is_waiting self.new ≡ false) }
         ensures honest { is_honest self.new → is_honest self.old }
+        ensures empty { is_waiting self.old ≡ false → batch.now ≡ [] → (result ≡ Ok tt) × (self.new ≡ self.old) }
         ensures ok { is_honest self.new → OnOk result (content self.new ≡ content self.old ++ written batch.now) }
         ensures refused { is_honest self.new → is_waiting self.old ≡ false → IfErr result (λ e. is_device_fault e ≡ false → (next : Places) → may_hold self.new next → next ≡ content self.old) }
         ensures crash { is_honest self.new → is_waiting self.old ≡ false → (next : Places) → may_hold self.new next → IsAllOrNone (content self.old) batch.now next }

@@ -45,6 +45,18 @@ impl<S: Alter> Model for OpenStore<S> {
     ghost invariant = { λ s. IsSound S.Store (record { conn = s.conn; count = s.count; is_waiting = waits s.standing }) };
 }
 
+// It is written out, so that a caller does not prove again how each part is dropped.
+impl<S: Alter + Drop> Drop for OpenStore<S> {
+    fn drop(self) {
+        let OpenStore {
+            conn: _,
+            count: _,
+            standing: _,
+            alloc: _,
+        } = self;
+    }
+}
+
 // The count with the batch, if the places fit.
 fn total(count: u64, more: usize) -> Option<u64>
     ensures sum { IfSome result (λ total. total ≡ count + more) }
@@ -61,7 +73,8 @@ impl<S: Alter> OpenStore<S> {
         requires small { count ≤ 2 ^ 63 }
         requires ready { HasCleanDisk (state S.Store conn) → IsReady (state S.Store conn) }
         requires counted { HasCleanDisk (state S.Store conn) → count ≡ length (slots_in (state S.Store conn).committed.trees) }
-        ensures { result ≡ record { conn = conn; count = count; is_waiting = false } }
+        ensures value { result ≡ record { conn = conn; count = count; is_waiting = false } }
+        ensures durable { IsHonest S.Store result → (next : Places) → MayHold S.Store result next → next ≡ content S.Store result }
     {
         OpenStore {
             conn,

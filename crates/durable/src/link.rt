@@ -1,0 +1,162 @@
+//! A store in files: by its connection while it is open, and by its files while it is shut.
+ghost use Rattle.std.specs.Prelude.{◌≡◌, ◌≢◌, ◌⊎◌, ◌++◌, ◌≤◌, ◌-◌, ℕ, take, drop, [], false, Some, Ok, Err, IfOk, IfErr, OnOk, OnErr, IsTrue};
+ghost use Rattle.sqlite.specs.Files.{over_files, file_state};
+ghost use Rattle.sqlite.specs.State.{HasCleanDisk, Opens};
+ghost use Rattle.sqlite.specs.Tree.{Trees};
+ghost use Rattle.sqlite_wal.specs.Reads.{AreClean};
+ghost use Rattle.durable.specs.Backing.{MayFind};
+ghost use Rattle.durable.specs.Connected as connected;
+ghost use Rattle.durable.specs.Faults.{is_device_fault};
+ghost use Rattle.durable.specs.Held.{slots_in};
+ghost use Rattle.durable.specs.Kept.{IsHonest, MayHold, content, is_waiting};
+ghost use Rattle.durable.specs.Records.{Places, AreRecords, IsDamagedAt, IsAllOrNone, written};
+ghost use Rattle.durable.specs.declared.fault.StoreFault.TheVariants.{Reopen, NoMemory, Damaged};
+
+use crate::backing::{give_up, open_again};
+use crate::fault::{StoreFault, fault_of};
+use crate::open_store::OpenStore;
+use crate::opening::settle;
+use sqlite::{Connection, Error as SqlError, ErrorCode, FileStore, Options};
+use sqlite_disk::{Disk, Files};
+use std::alloc::Global;
+use wire::Input;
+
+/// The store over the connection, or the files after a reopening that failed.
+pub(crate) enum Link<D: Disk + Drop> {
+    Open(OpenStore<FileStore<D>>),
+    Shut(Files<D>),
+}
+
+// It is written out, so that a caller does not prove again how each part is dropped.
+impl<D: Disk + Drop> Drop for Link<D> {
+    fn drop(self) {
+        match self {
+            Link::Open(_store) => {}
+            Link::Shut(_files) => {}
+        }
+    }
+}
+
+// What an error of an opening of the files tells.
+fn opening_fault(error: SqlError) -> StoreFault
+    ensures { result ≢ Reopen }
+{
+    match error {
+        SqlError::SqliteFailure(ErrorCode::NotADatabase) => StoreFault::Damaged(0),
+        error => fault_of(error),
+    }
+}
+
+/// How many calls of the device have failed, after this fault too.
+pub(crate) fn counted(faults: u64, fault: StoreFault) -> u64
+    ensures device { IsTrue (is_device_fault fault) → result ≢ faults }
+    ensures other { is_device_fault fault ≡ false → result ≡ faults }
+{
+    match fault {
+        StoreFault::Device | StoreFault::Full => faults.wrapping_add(1),
+        _ => faults,
+    }
+}
+
+impl<D: Disk + Drop> Link<D> {
+    /// The files, with no call of the device.
+    pub(crate) fn into_files(self) -> Files<D>
+        ensures honest { AreClean D.Disk result.log result.db → IsHonest D.Disk (Some self) }
+        ensures left { (db : Trees) → MayFind D.Disk result db → ∥ MayHold D.Disk (Some self) (slots_in db) ∥₁ }
+    {
+        match self {
+            Link::Open(store) => give_up(store.into_connection()),
+            Link::Shut(files) => files,
+        }
+    }
+
+    /// Appends the whole batch, or nothing of it.
+    pub(crate) fn append(&mut self, batch: &[Input]) -> Result<(), StoreFault>
+        ensures reopen { IsTrue (is_waiting D.Disk (Some self.old)) → (result ≡ Err Reopen) × (self.new ≡ self.old) }
+        ensures named { is_waiting D.Disk (Some self.old) ≡ false → IfErr result (λ e. (e ≡ NoMemory) ⊎ IsTrue (is_device_fault e)) }
+        ensures stops { OnErr result (IsTrue (is_waiting D.Disk (Some self.new))) }
+        ensures runs { OnOk result (is_waiting D.Disk (Some self.new) ≡ false) }
+        ensures honest { IsHonest D.Disk (Some self.new) → IsHonest D.Disk (Some self.old) }
+        ensures empty { is_waiting D.Disk (Some self.old) ≡ false → batch.now ≡ [] → (result ≡ Ok tt) × (self.new ≡ self.old) }
+        ensures ok { IsHonest D.Disk (Some self.new) → OnOk result (content D.Disk (Some self.new) ≡ content D.Disk (Some self.old) ++ written batch.now) }
+        ensures refused { IsHonest D.Disk (Some self.new) → is_waiting D.Disk (Some self.old) ≡ false → IfErr result (λ e. is_device_fault e ≡ false → (next : Places) → MayHold D.Disk (Some self.new) next → next ≡ content D.Disk (Some self.old)) }
+        ensures crash { IsHonest D.Disk (Some self.new) → is_waiting D.Disk (Some self.old) ≡ false → (next : Places) → MayHold D.Disk (Some self.new) next → IsAllOrNone (content D.Disk (Some self.old)) batch.now next }
+        ensures durable { IsHonest D.Disk (Some self.new) → is_waiting D.Disk (Some self.new) ≡ false → (next : Places) → MayHold D.Disk (Some self.new) next → next ≡ content D.Disk (Some self.new) }
+    {
+        match self {
+            Link::Open(store) => store.append(batch),
+            Link::Shut(_) => Err(StoreFault::Reopen),
+        }
+    }
+
+    /// The records from place `from` on, at most `max`.
+    pub(crate) fn load_page(&mut self, from: u64, max: u64) -> Result<Vec<Input>, StoreFault>
+        ensures reopen { IsTrue (is_waiting D.Disk (Some self.old)) → (result ≡ Err Reopen) × (self.new ≡ self.old) }
+        ensures honest { IsHonest D.Disk (Some self.new) → IsHonest D.Disk (Some self.old) }
+        ensures ok { IsHonest D.Disk (Some self.new) → IfOk result (λ inputs. AreRecords (take max (drop from (content D.Disk (Some self.old)))) inputs.items) }
+        ensures damaged { IsHonest D.Disk (Some self.new) → IfErr result (λ e. (p : ℕ) → e ≡ Damaged p → (from ≤ p) × IsDamagedAt (p - from) (take max (drop from (content D.Disk (Some self.old))))) }
+        ensures stops { is_waiting D.Disk (Some self.old) ≡ false → IfErr result (λ e. is_waiting D.Disk (Some self.new) ≡ is_device_fault e) }
+        ensures runs { OnOk result (is_waiting D.Disk (Some self.new) ≡ false) }
+        ensures kept { IsHonest D.Disk (Some self.new) → is_waiting D.Disk (Some self.new) ≡ false → content D.Disk (Some self.new) ≡ content D.Disk (Some self.old) }
+        ensures crash { IsHonest D.Disk (Some self.new) → is_waiting D.Disk (Some self.old) ≡ false → (next : Places) → MayHold D.Disk (Some self.new) next → next ≡ content D.Disk (Some self.old) }
+    {
+        match self {
+            Link::Open(store) => store.load_page(from, max),
+            Link::Shut(_) => Err(StoreFault::Reopen),
+        }
+    }
+
+    /// All records in their order.
+    pub(crate) fn load(&mut self) -> Result<Vec<Input>, StoreFault>
+        ensures reopen { IsTrue (is_waiting D.Disk (Some self.old)) → (result ≡ Err Reopen) × (self.new ≡ self.old) }
+        ensures honest { IsHonest D.Disk (Some self.new) → IsHonest D.Disk (Some self.old) }
+        ensures ok { IsHonest D.Disk (Some self.new) → IfOk result (λ inputs. AreRecords (content D.Disk (Some self.old)) inputs.items) }
+        ensures damaged { IsHonest D.Disk (Some self.new) → IfErr result (λ e. (p : ℕ) → e ≡ Damaged p → IsDamagedAt p (content D.Disk (Some self.old))) }
+        ensures stops { is_waiting D.Disk (Some self.old) ≡ false → IfErr result (λ e. is_waiting D.Disk (Some self.new) ≡ is_device_fault e) }
+        ensures runs { OnOk result (is_waiting D.Disk (Some self.new) ≡ false) }
+        ensures kept { IsHonest D.Disk (Some self.new) → is_waiting D.Disk (Some self.new) ≡ false → content D.Disk (Some self.new) ≡ content D.Disk (Some self.old) }
+        ensures crash { IsHonest D.Disk (Some self.new) → is_waiting D.Disk (Some self.old) ≡ false → (next : Places) → MayHold D.Disk (Some self.new) next → next ≡ content D.Disk (Some self.old) }
+    {
+        match self {
+            Link::Open(store) => store.load(),
+            Link::Shut(_) => Err(StoreFault::Reopen),
+        }
+    }
+}
+
+// A store over an open connection whose file is one of the node, or becomes one. After a fault it gives the files up.
+fn settled<D: Disk + Drop>(
+    alloc: Global,
+    mut conn: Connection<FileStore<D>>,
+    name: &str,
+) -> Result<OpenStore<FileStore<D>>, (StoreFault, Files<D>)>
+    requires idle { conn.in_transaction ≡ false }
+    requires opened { HasCleanDisk (file_state conn) → Opens (file_state conn) }
+    ensures runs { IfOk result (λ k. k.is_waiting ≡ false) }
+    ensures honest { IfOk result (λ k. connected.IsHonest over_files k → HasCleanDisk (file_state conn)) }
+    ensures same { IfOk result (λ k. connected.IsHonest over_files k → connected.content over_files k ≡ slots_in (file_state conn).committed.trees) }
+    ensures durable { IfOk result (λ k. connected.IsHonest over_files k → (next : Places) → connected.MayHold over_files k next → next ≡ connected.content over_files k) }
+{
+    match settle(&mut conn, name) {
+        Ok(count) if count <= 1 << 63 => Ok(OpenStore::new(alloc, conn, count)),
+        Ok(_) => Err((StoreFault::Device, give_up(conn))),
+        Err(fault) => Err((fault, give_up(conn))),
+    }
+}
+
+/// Opens the files as a store of the node. An error gives them back.
+pub(crate) fn linked<D: Disk + Drop>(
+    alloc: Global,
+    files: Files<D>,
+    options: Options,
+    name: &str,
+) -> Result<OpenStore<FileStore<D>>, (StoreFault, Files<D>)>
+    ensures runs { IfOk result (λ k. k.is_waiting ≡ false) }
+    ensures found { IfOk result (λ k. connected.IsHonest over_files k → (db : Trees) × MayFind D.Disk files db × (connected.content over_files k ≡ slots_in db)) }
+    ensures durable { IfOk result (λ k. connected.IsHonest over_files k → (next : Places) → connected.MayHold over_files k next → next ≡ connected.content over_files k) }
+{
+    match open_again(alloc, files, options) {
+        Ok(conn) => settled(alloc, conn, name),
+        Err((error, files)) => Err((opening_fault(error), files)),
+    }
+}

@@ -1,6 +1,4 @@
 use Rattle.std.proofs.Common.{◌≡◌, ◌≤◌, ◌-◌, ℕ, take, drop, sym, subst, Some, false, IfOk, IfErr}
-use Rattle.sqlite.specs.Files.{over_files}
-use Rattle.durable.specs.Connected as connected
 use Rattle.durable.specs.Kept.{content, is_waiting}
 use Rattle.durable.specs.Records.{AreRecords, IsDamagedAt}
 use Rattle.durable.specs.declared.fault.StoreFault.TheVariants.{Damaged}

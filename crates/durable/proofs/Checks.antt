@@ -6,7 +6,8 @@ use Rattle.sqlite_sql.specs.declared.ops.BinaryOp.{BinaryOp}
 use Rattle.sqlite_schema.specs.declared.code.Op.{Op}
 use Rattle.sqlite_schema.specs.declared.code.Op.TheVariants.{Literal, Column, Unary, Binary, Case}
 use Rattle.sqlite_schema.specs.Code.{op_term, term_to}
-use Rattle.durable.specs.Layout.{is_first, equality, IsFirst}
+use Rattle.durable.specs.Layout.{IsFirst}
+use Rattle.durable.specs.Tables.{is_first, equality}
 
 column_from : (below : ℕ → Term) (op : Op) → op_term below op ≡ col 1 0 → op ≡ Column 1 0
 column_from below (Literal v) e = absurd cc

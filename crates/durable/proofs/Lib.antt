@@ -15,6 +15,8 @@ pub mod Stretches
 pub mod Answering
 pub mod Queries
 pub mod Reopening
+pub mod Refusing
+pub mod Stores
 pub mod Fronts
 pub mod PlacesRead
 pub mod Opened

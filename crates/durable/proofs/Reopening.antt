@@ -3,7 +3,8 @@ use Rattle.std.proofs.Common.{◌≡◌, IsTrue, sym, subst, true}
 use Rattle.std.proofs.Math.Logic.{∥∥₁_map}
 use Rattle.sqlite_disk.specs.declared.Disk.{Ghosts}
 use Rattle.sqlite_disk.specs.declared.Files.{Files}
-use Rattle.sqlite_wal.specs.Files.{seen_image}
+use Rattle.sqlite_wal.specs.Files.{outcomes}
+use Rattle.sqlite_wal.specs.Recovery.{Image}
 use Rattle.sqlite_wal.specs.Reads.{AreClean}
 use Rattle.sqlite_pool.specs.declared.pool.Pool.{Pool}
 use Rattle.sqlite_pool.specs.Pool.{state, files}
@@ -15,24 +16,29 @@ use Rattle.sqlite.specs.Held.{AreDatabases}
 use Rattle.sqlite.specs.Files.{image_of}
 use Rattle.sqlite_trees.proofs.Doubt.{no_doubt}
 use Rattle.sqlite.proofs.Theorems.{opens_again}
-use Rattle.durable.specs.Backing.{MayFind}
+use Rattle.durable.specs.Backing.{IsFound, MayFind, IsNoDatabase}
 
--- what the files hold now may be left, and they are clean as the store says
-seen-may : {D : Type 0} {g : Ghosts D} (it : Pool D g) → ((file : D) → g.may_leave file (g.seen file)) → AreClean g (files it).0 (files it).1
-    → (state it).may_leave (seen_image g (files it).0 (files it).1) × ((state it).is_clean ≡ true)
+-- what a crash may leave of the files may be left of the store
+may-leave : {D : Type 0} {g : Ghosts D} (it : Pool D g) (image : Image) → AreClean g (files it).0 (files it).1 → outcomes g (files it).0 (files it).1 image → (state it).may_leave image
 unfolding state files
-seen-may it stays honest = ((honest, (stays _, stays _)), honest)
+may-leave it image honest left = (honest, left)
 
-pub found-again : {D : Type 0} {g : Ghosts D} (it : FileStore D g) (left : Files D) → ((file : D) → g.may_leave file (g.seen file)) → (left.log, left.db) ≡ store_files it → (IsClean (view it) → IsTrue (view it).is_numbered)
-    → (IsClean (view it) → AreDatabases (recovers it)) → (db : Trees) → MayFind g left db → ∥ recovers it db ∥₁
-found-again {D} {g} it left stays same numbered sound db found =
-    let honest : AreClean g (store_files it).0 (store_files it).1 = subst (λ (p : D × D). AreClean g p.0 p.1) same found.honest in
-    let may = seen-may it.pool stays honest in
-    let clean : IsClean (view it) = no_doubt (store_state it).is_clean may.1 in
-    let there = subst (λ (p : D × D). (store_state it).may_leave (seen_image g p.0 p.1)) (sym same) may.0 in
-    ∥∥₁_map (opens_again it (numbered clean) (sound clean) (image_of g left) there) (λ known. subst (recovers it) (sym (found.holds known.0 known.2)) known.1)
+pub is-clean : {D : Type 0} {g : Ghosts D} (it : Pool D g) → AreClean g (files it).0 (files it).1 → (state it).is_clean ≡ true
+unfolding state files
+is-clean it honest = honest
 
 -- files that are clean come of a connection that was
-pub honest-before : {D : Type 0} {g : Ghosts D} (it : FileStore D g) (left : Files D) → ((file : D) → g.may_leave file (g.seen file)) → (left.log, left.db) ≡ store_files it → AreClean g left.log left.db → IsClean (view it)
-honest-before {D} {g} it left stays same honest =
-    no_doubt (store_state it).is_clean (seen-may it.pool stays (subst (λ (p : D × D). AreClean g p.0 p.1) same honest)).1
+pub honest-before : {D : Type 0} {g : Ghosts D} (it : FileStore D g) (left : Files D) → (left.log, left.db) ≡ store_files it → AreClean g left.log left.db → IsClean (view it)
+honest-before {D} {g} it left same honest = no_doubt (store_state it).is_clean (is-clean it.pool (subst (λ (p : D × D). AreClean g p.0 p.1) same honest))
+
+pub found-again : {D : Type 0} {g : Ghosts D} (it : FileStore D g) (left : Files D) → (left.log, left.db) ≡ store_files it → (IsClean (view it) → IsTrue (view it).is_numbered)
+    → (IsClean (view it) → AreDatabases (recovers it)) → (db : Trees) → MayFind g left db → ∥ recovers it db ∥₁
+found-again {D} {g} it left same numbered sound db found =
+    let honest = subst (λ (p : D × D). AreClean g p.0 p.1) same found.honest in
+    let there = may-leave it.pool found.image honest (subst (λ (p : D × D). outcomes g p.0 p.1 found.image) same found.left) in
+    let clean = honest-before it left same found.honest in
+    ∥∥₁_map (opens_again it (numbered clean) (sound clean) found.image there) (λ known. subst (recovers it) (sym (found.held.holds known.0 known.2)) known.1)
+
+-- what files hold now is one of the things that an opening may find
+pub now-found : {D : Type 0} {g : Ghosts D} (files : Files D) → ((file : D) → g.may_leave file (g.seen file)) → (db : Trees) → IsFound g files db → MayFind g files db
+now-found {D} {g} files stays db found = record { honest = found.honest; image = image_of g files; left = (stays files.log, stays files.db); held = found.held }

@@ -7,6 +7,7 @@ use Rattle.sqlite.specs.Order.{Row, column}
 use Rattle.sqlite.specs.Effect.{Database}
 use Rattle.sqlite_rules.specs.Edit.{id_in}
 use Rattle.durable.specs.declared.fault.StoreFault.TheVariants.{Damaged, WrongNode, WrongVersion}
+use Rattle.durable.specs.declared.opening.Contents.TheVariants.{NoRow, OwnStore}
 use Rattle.durable.specs.declared.shown.Owner.TheVariants.{Nobody, OtherFormat, OtherNode, Asker}
 use Rattle.durable.specs.Slots.{place_of, slots_from, AreEntries}
 use Rattle.durable.specs.Opening.{HasRows, IsEnd, places_in, IsOwner, IsVerdict, IsNegative}
@@ -21,7 +22,7 @@ below_zero node db (Some place) has end low = (refl, inr (inr (negative db place
 pub nobody : (node : List ℕ) (db : Database) (place : ℤ) → HasRows db → IsOwner node db Nobody → IsEnd false (db.trees 1) (Some place) → IsVerdict node db (Err (Damaged 0))
 nobody node db place has owner end = (refl, inr (inl (has.0, owner, λ none. let never = subst (λ rows. end.0.0 < length (places_in rows)) none end.0.1 in omega (arith, never))))
 
-pub no_row : (node : List ℕ) (db : Database) → HasRows db → IsOwner node db Nobody → IsEnd false (db.trees 1) None → IsVerdict node db (Ok true)
+pub no_row : (node : List ℕ) (db : Database) → HasRows db → IsOwner node db Nobody → IsEnd false (db.trees 1) None → IsVerdict node db (Ok NoRow)
 no_row node db has owner end = (has.0, owner, end)
 
 pub other_format : (node : List ℕ) (db : Database) (least : Option ℤ) → HasRows db → IsOwner node db OtherFormat → IsEnd false (db.trees 1) least → (IsNegative least → ⊥) → IsVerdict node db (Err WrongVersion)
@@ -30,7 +31,7 @@ other_format node db least has owner end high = (some_store db owner.1 least has
 pub other_node : (node : List ℕ) (db : Database) (least : Option ℤ) → HasRows db → IsOwner node db OtherNode → IsEnd false (db.trees 1) least → (IsNegative least → ⊥) → IsVerdict node db (Err WrongNode)
 other_node node db least has owner end high = (some_store db owner.1.1 least has.0 owner.1.2 high end, owner.0, owner.1)
 
-pub a_store : (node : List ℕ) (db : Database) (least : Option ℤ) → HasRows db → IsOwner node db Asker → IsEnd false (db.trees 1) least → (IsNegative least → ⊥) → IsVerdict node db (Ok false)
+pub a_store : (node : List ℕ) (db : Database) (least : Option ℤ) → HasRows db → IsOwner node db Asker → IsEnd false (db.trees 1) least → (IsNegative least → ⊥) → IsVerdict node db (Ok OwnStore)
 a_store node db least has owner end high =
     let entries = entries_from 0 (db.trees 1) has.1.entries has.1.rise (not_low db least high end) in
     let it = store-of node (db.trees 1) db.trees owner refl entries in

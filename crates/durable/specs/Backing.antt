@@ -1,13 +1,30 @@
 -- What an opening of a database file and its log may find.
-use Rattle.std.specs.Prelude.{◌≡◌}
+use Rattle.std.specs.Prelude.{◌≡◌, ◌⊎◌}
 use Rattle.sqlite.specs.Tree.{Trees}
-use Rattle.sqlite.specs.Files.{AreFound, HoldsDatabase, image_of}
+use Rattle.sqlite.specs.Files.{AreFoundIn, HoldsDatabase, IsNothing, image_of}
 use Rattle.sqlite_disk.specs.declared.Disk.{Ghosts}
 use Rattle.sqlite_disk.specs.declared.Files.{Files}
+use Rattle.sqlite_wal.specs.Files.{outcomes}
 use Rattle.sqlite_wal.specs.Reads.{AreClean}
+use Rattle.sqlite_wal.specs.Recovery.{Image}
 
--- the disk returned what was written, and these are the trees of what the files hold
+-- these are the trees of what the two files hold
+pub record AreHeld (image : Image) (db : Trees) : Type 0 where
+  pub holds : (other : Trees) → HoldsDatabase image other → db ≡ other
+  pub reads : AreFoundIn image db
+
+-- the disk returned what was written, and these are the trees of what the files hold now
+pub record IsFound {D : Type 0} (g : Ghosts D) (files : Files D) (db : Trees) : Type 0 where
+  pub honest : AreClean g files.log files.db
+  pub held : AreHeld (image_of g files) db
+
+-- the same, or of what a crash may leave of the files
 pub record MayFind {D : Type 0} (g : Ghosts D) (files : Files D) (db : Trees) : Type 0 where
   pub honest : AreClean g files.log files.db
-  pub holds : (other : Trees) → HoldsDatabase (image_of g files) other → db ≡ other
-  pub reads : AreFound g files db
+  pub image : Image
+  pub left : outcomes g files.log files.db image
+  pub held : AreHeld image db
+
+-- the files hold no database that SQLite opens, and are not new either
+abbrev pub IsNoDatabase : {D : Type 0} → Ghosts D → Files D → Type 0
+IsNoDatabase g files = (((db : Trees) × HoldsDatabase (image_of g files) db) ⊎ IsNothing (image_of g files)) → ⊥

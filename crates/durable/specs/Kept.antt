@@ -1,34 +1,41 @@
 -- A store in files, by its connection while it is open and by its files while it is shut.
-use Rattle.std.specs.Prelude.{◌≡◌, Bool, true, [], Option, Some, None}
+use Rattle.std.specs.Prelude.{◌≡◌, ℕ, Bool, true, false, List, []}
 use Rattle.sqlite.specs.Tree.{Trees}
-use Rattle.sqlite.specs.Files.{over_files}
+use Rattle.sqlite.specs.Files.{over_files, file_state}
 use Rattle.sqlite_disk.specs.declared.Disk.{Ghosts}
 use Rattle.sqlite_wal.specs.Reads.{AreClean}
 use Rattle.durable.specs.Backing.{MayFind}
 use Rattle.durable.specs.Connected as connected
-use Rattle.durable.specs.Held.{slots_in}
+use Rattle.durable.specs.Held.{slots_in, node_in}
 use Rattle.durable.specs.Records.{Places}
 use Rattle.durable.specs.declared.link.Link.{Link}
-use Rattle.durable.specs.declared.link.Link.TheVariants.{Open, Shut}
+use Rattle.durable.specs.declared.link.Link.TheVariants.{Open, Shut, Absent}
 
 module _ {D : Type 0} (g : Ghosts D) where
-  abbrev pub IsHonest : Option (Link D g) → Type 0
-  IsHonest None = ⊥
-  IsHonest (Some (Open k)) = connected.IsHonest over_files k
-  IsHonest (Some (Shut files)) = AreClean g files.log files.db
+  abbrev pub IsHonest : Link D g → Type 0
+  IsHonest (Open k) = connected.IsHonest over_files k
+  IsHonest (Shut files) = AreClean g files.log files.db
+  IsHonest Absent = ⊥
 
-  abbrev pub content : Option (Link D g) → Places
-  content None = []
-  content (Some (Open k)) = connected.content over_files k
-  content (Some (Shut files)) = []
+  abbrev pub content : Link D g → Places
+  content (Open k) = connected.content over_files k
+  content _ = []
 
-  -- what an opening may find
-  abbrev pub MayHold : Option (Link D g) → Places → Type 0
-  MayHold None next = ⊥
-  MayHold (Some (Open k)) next = connected.MayHold over_files k next
-  MayHold (Some (Shut files)) next = (db : Trees) × MayFind g files db × (slots_in db ≡ next)
+  -- what a crash may leave, or an opening may find
+  abbrev pub MayHold : Link D g → Places → Type 0
+  MayHold (Open k) next = connected.MayHold over_files k next
+  MayHold (Shut files) next = (db : Trees) × MayFind g files db × (slots_in db ≡ next)
+  MayHold Absent next = ⊥
 
-  abbrev pub is_waiting : Option (Link D g) → Bool
-  is_waiting None = true
-  is_waiting (Some (Open k)) = k.is_waiting
-  is_waiting (Some (Shut files)) = true
+  abbrev pub is_waiting : Link D g → Bool
+  is_waiting (Open k) = k.is_waiting
+  is_waiting _ = true
+
+  -- whose the last commit is
+  abbrev pub owner : Link D g → List ℕ
+  owner (Open k) = node_in (file_state k.conn).committed.trees
+  owner _ = []
+
+  abbrev pub is_there : Link D g → Bool
+  is_there Absent = false
+  is_there _ = true

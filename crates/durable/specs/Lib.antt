@@ -9,6 +9,8 @@ pub mod Backing
 pub mod Memories
 pub mod Connected
 pub mod Kept
+pub mod Refusals
+pub mod Stores
 pub mod Layout
 pub mod Shown
 pub mod Opening

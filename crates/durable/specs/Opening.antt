@@ -13,6 +13,8 @@ use Rattle.durable.specs.declared.fault.StoreFault.{StoreFault}
 use Rattle.durable.specs.declared.fault.StoreFault.TheVariants.{Device, Full, Damaged, WrongNode, WrongVersion, Reopen, NoMemory}
 use Rattle.durable.specs.declared.shown.Owner.{Owner}
 use Rattle.durable.specs.declared.shown.Owner.TheVariants.{Nobody, OtherFormat, OtherNode, Asker}
+use Rattle.durable.specs.declared.opening.Contents.{Contents}
+use Rattle.durable.specs.declared.opening.Contents.TheVariants.{NoRow, OwnStore}
 use Rattle.durable.specs.Tables.{about, about_table, store_schema, no_schema}
 use Rattle.durable.specs.Held.{slots_in, node_in, IsStore, IsReady}
 
@@ -139,10 +141,10 @@ abbrev pub IsNegative : Option ℤ → Type 0
 IsNegative None = ⊥
 IsNegative (Some place) = place <ℤ pos 0
 
--- what is told of both tables: no row (true), or a store of that node (false), or else why not
-abbrev pub IsVerdict : List ℕ → Database → Result Bool StoreFault → Type 0
-IsVerdict node db (Ok true) = IsEmpty db
-IsVerdict node db (Ok false) = IsStore db.trees × (node_in db.trees ≡ node)
+-- what is told of both tables: no row, or a store of that node, or else why not
+abbrev pub IsVerdict : List ℕ → Database → Result Contents StoreFault → Type 0
+IsVerdict node db (Ok NoRow) = IsEmpty db
+IsVerdict node db (Ok OwnStore) = IsStore db.trees × (node_in db.trees ≡ node)
 IsVerdict node db (Err fault) = IsOpeningFault node db fault
 
 -- What an opening for that node leaves of a connection to a file that held this: a store of the node or the fault, and over a crash what was there or, of a new file, a store without a record.

@@ -1,13 +1,16 @@
 //! How a connection over files is given up, and opened again.
-ghost use Rattle.std.specs.Prelude.{◌≡◌, false, IfOk};
+ghost use Rattle.std.specs.Prelude.{◌≡◌, ◌⊎◌, ℕ, false, IfOk, IfErr, IsTrue};
 ghost use Rattle.sqlite.specs.Tree.{Trees};
 ghost use Rattle.sqlite.specs.State.{HasCleanDisk, Opens};
 ghost use Rattle.sqlite.specs.Files.{file_state};
 ghost use Rattle.sqlite_wal.specs.Reads.{AreClean};
-ghost use Rattle.durable.specs.Backing.{MayFind};
+ghost use Rattle.durable.specs.Backing.{IsFound, MayFind};
+ghost use Rattle.durable.specs.Faults.{is_device_fault};
+ghost use Rattle.durable.specs.Refusals.{IsFileFault};
 
+use crate::fault::{StoreFault, fault_of};
 use sqlite::{Connection, Error as SqlError, ErrorCode, FileStore, Options};
-use sqlite_disk::{Disk, Files};
+use sqlite_disk::{Disk, Files, Tally};
 use std::alloc::Global;
 
 /// Gives the connection up for its files, with no call of the device. What isn't committed is lost.
@@ -18,21 +21,46 @@ pub(crate) fn give_up<D: Disk + Drop>(conn: Connection<FileStore<D>>) -> Files<D
     conn.into_store().close()
 }
 
+// What an error of an opening tells, by what the failed calls of the files had met before it and since. SQLite calls a file
+// corrupt where it can't be a database and where a read was found wrong; only the first is a fault of what is written.
+fn opening_fault(error: SqlError, before: Tally, now: Tally) -> StoreFault
+    ensures named { (result ≡ StoreFault.Damaged 0) ⊎ ((result ≡ StoreFault.NoMemory) ⊎ IsTrue (is_device_fault result)) }
+    ensures damaged { (p : ℕ) → result ≡ StoreFault.Damaged p
+        → (error ≡ SqlError.SqliteFailure ErrorCode.NotADatabase) ⊎ ((error ≡ SqlError.SqliteFailure ErrorCode.DatabaseCorrupt) × (now.caught ≡ before.caught)) }
+{
+    match error {
+        SqlError::SqliteFailure(ErrorCode::NotADatabase) => StoreFault::Damaged(0),
+        SqlError::SqliteFailure(ErrorCode::DatabaseCorrupt) if now.caught == before.caught => {
+            StoreFault::Damaged(0)
+        }
+        error => fault_of(error),
+    }
+}
+
 /// Opens the files. An error gives them back; after a failed sync they can't be used again.
+///
+/// `Damaged(0)`: they hold no database. `Device`, `Full` and `NoMemory` may come at any call.
 pub(crate) fn open_again<D: Disk + Drop>(
     alloc: Global,
     files: Files<D>,
     options: Options,
-) -> Result<Connection<FileStore<D>>, (SqlError, Files<D>)>
+) -> Result<Connection<FileStore<D>>, (StoreFault, Files<D>)>
     ensures idle { IfOk result (λ conn. conn.in_transaction ≡ false) }
     ensures opened { IfOk result (λ conn. HasCleanDisk (file_state conn) → Opens (file_state conn)) }
-    ensures found { IfOk result (λ conn. HasCleanDisk (file_state conn) → MayFind D.Disk files (file_state conn).committed.trees) }
+    ensures found { IfOk result (λ conn. HasCleanDisk (file_state conn) → IsFound D.Disk files (file_state conn).committed.trees) }
+    ensures named { IfErr result (λ e. (e.0 ≡ StoreFault.Damaged 0) ⊎ ((e.0 ≡ StoreFault.NoMemory) ⊎ IsTrue (is_device_fault e.0))) }
+    ensures fault { IfErr result (λ e. AreClean D.Disk e.1.log e.1.db → IsFileFault D.Disk files e.0) }
 {
-    if !files.log.may_be_used() || !files.db.may_be_used() {
-        return Err((SqlError::SqliteFailure(ErrorCode::SystemIoFailure), files));
+    if !files.may_be_used() {
+        return Err((StoreFault::Device, files));
     }
+    let before = files.tally();
     match Connection::open_files(alloc, files, options) {
         Ok(conn) => Ok(conn),
-        Err((error, left)) => Err((error, left.into_files())),
+        Err((error, left)) => {
+            let files = left.into_files();
+            let fault = opening_fault(error, before, files.tally());
+            Err((fault, files))
+        }
     }
 }

@@ -3,7 +3,8 @@ ghost use Rattle.std.specs.Prelude.{◌≡◌, ◌↔◌, ◌∷◌, [], Some, N
 ghost use Rattle.sqlite_sql.specs.Term.{lit, col, op2};
 ghost use Rattle.sqlite_schema.specs.Code.{term_in};
 ghost use Rattle.durable.specs.Tables.{about_table, entries_table};
-ghost use Rattle.durable.specs.Layout.{plain_column, plain_table, is_first, IsFirst, AreTables};
+ghost use Rattle.durable.specs.Layout.{IsFirst, AreTables};
+ghost use Rattle.durable.specs.Tables.{plain_column, plain_table, is_first};
 
 use sqlite::types::Value;
 use sqlite_schema::code::{Op, Terms};

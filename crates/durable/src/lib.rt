@@ -13,9 +13,11 @@ mod opening;
 mod reading;
 mod records;
 mod shown;
+mod sql_store;
 #[cfg(test)]
 mod tests;
 
 pub use fault::StoreFault;
 pub use memory_store::{Kept, MemoryStore};
 pub use node_store::NodeStore;
+pub use sql_store::SqlStore;

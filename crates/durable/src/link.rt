@@ -1,30 +1,36 @@
 //! A store in files: by its connection while it is open, and by its files while it is shut.
-ghost use Rattle.std.specs.Prelude.{◌≡◌, ◌≢◌, ◌⊎◌, ◌++◌, ◌≤◌, ◌-◌, ℕ, take, drop, [], false, Some, Ok, Err, IfOk, IfErr, OnOk, OnErr, IsTrue};
+ghost use Rattle.std.specs.Prelude.{◌≡◌, ◌≢◌, ◌⊎◌, ◌++◌, ◌≤◌, ◌-◌, ℕ, take, drop, [], false, Ok, Err, IfOk, IfErr, OnOk, OnErr, IsTrue};
 ghost use Rattle.sqlite.specs.Files.{over_files, file_state};
 ghost use Rattle.sqlite.specs.State.{HasCleanDisk, Opens};
 ghost use Rattle.sqlite.specs.Tree.{Trees};
 ghost use Rattle.sqlite_wal.specs.Reads.{AreClean};
-ghost use Rattle.durable.specs.Backing.{MayFind};
+ghost use Rattle.units.specs.Code.{node_text};
+ghost use Rattle.durable.specs.Backing.{IsFound, MayFind};
 ghost use Rattle.durable.specs.Connected as connected;
-ghost use Rattle.durable.specs.Faults.{is_device_fault};
-ghost use Rattle.durable.specs.Held.{slots_in};
-ghost use Rattle.durable.specs.Kept.{IsHonest, MayHold, content, is_waiting};
+ghost use Rattle.durable.specs.Faults.{is_device_fault, IsReadFault};
+ghost use Rattle.durable.specs.Held.{slots_in, node_in};
+ghost use Rattle.durable.specs.Kept.{IsHonest, MayHold, content, is_waiting, is_there};
+ghost use Rattle.durable.specs.Opening.{IsOpeningFault};
 ghost use Rattle.durable.specs.Records.{Places, AreRecords, IsDamagedAt, IsAllOrNone, written};
+ghost use Rattle.durable.specs.Refusals.{IsRefusal};
 ghost use Rattle.durable.specs.declared.fault.StoreFault.TheVariants.{Reopen, NoMemory, Damaged};
 
 use crate::backing::{give_up, open_again};
-use crate::fault::{StoreFault, fault_of};
+use crate::fault::StoreFault;
 use crate::open_store::OpenStore;
 use crate::opening::settle;
-use sqlite::{Connection, Error as SqlError, ErrorCode, FileStore, Options};
+use sqlite::{Connection, FileStore, Options};
 use sqlite_disk::{Disk, Files};
 use std::alloc::Global;
+use units::Node;
 use wire::Input;
 
 /// The store over the connection, or the files after a reopening that failed.
 pub(crate) enum Link<D: Disk + Drop> {
     Open(OpenStore<FileStore<D>>),
     Shut(Files<D>),
+    /// Within a reopening alone.
+    Absent,
 }
 
 // It is written out, so that a caller does not prove again how each part is dropped.
@@ -33,17 +39,8 @@ impl<D: Disk + Drop> Drop for Link<D> {
         match self {
             Link::Open(_store) => {}
             Link::Shut(_files) => {}
+            Link::Absent => {}
         }
-    }
-}
-
-// What an error of an opening of the files tells.
-fn opening_fault(error: SqlError) -> StoreFault
-    ensures { result ≢ Reopen }
-{
-    match error {
-        SqlError::SqliteFailure(ErrorCode::NotADatabase) => StoreFault::Damaged(0),
-        error => fault_of(error),
     }
 }
 
@@ -61,65 +58,72 @@ pub(crate) fn counted(faults: u64, fault: StoreFault) -> u64
 impl<D: Disk + Drop> Link<D> {
     /// The files, with no call of the device.
     pub(crate) fn into_files(self) -> Files<D>
-        ensures honest { AreClean D.Disk result.log result.db → IsHonest D.Disk (Some self) }
-        ensures left { (db : Trees) → MayFind D.Disk result db → ∥ MayHold D.Disk (Some self) (slots_in db) ∥₁ }
+        requires there { IsTrue (is_there D.Disk self) }
+        ensures honest { AreClean D.Disk result.log result.db → IsHonest D.Disk self }
+        ensures left { (db : Trees) → MayFind D.Disk result db → ∥ MayHold D.Disk self (slots_in db) ∥₁ }
     {
         match self {
             Link::Open(store) => give_up(store.into_connection()),
             Link::Shut(files) => files,
+            Link::Absent => unreachable!(),
         }
     }
 
     /// Appends the whole batch, or nothing of it.
     pub(crate) fn append(&mut self, batch: &[Input]) -> Result<(), StoreFault>
-        ensures reopen { IsTrue (is_waiting D.Disk (Some self.old)) → (result ≡ Err Reopen) × (self.new ≡ self.old) }
-        ensures named { is_waiting D.Disk (Some self.old) ≡ false → IfErr result (λ e. (e ≡ NoMemory) ⊎ IsTrue (is_device_fault e)) }
-        ensures stops { OnErr result (IsTrue (is_waiting D.Disk (Some self.new))) }
-        ensures runs { OnOk result (is_waiting D.Disk (Some self.new) ≡ false) }
-        ensures honest { IsHonest D.Disk (Some self.new) → IsHonest D.Disk (Some self.old) }
-        ensures empty { is_waiting D.Disk (Some self.old) ≡ false → batch.now ≡ [] → (result ≡ Ok tt) × (self.new ≡ self.old) }
-        ensures ok { IsHonest D.Disk (Some self.new) → OnOk result (content D.Disk (Some self.new) ≡ content D.Disk (Some self.old) ++ written batch.now) }
-        ensures refused { IsHonest D.Disk (Some self.new) → is_waiting D.Disk (Some self.old) ≡ false → IfErr result (λ e. is_device_fault e ≡ false → (next : Places) → MayHold D.Disk (Some self.new) next → next ≡ content D.Disk (Some self.old)) }
-        ensures crash { IsHonest D.Disk (Some self.new) → is_waiting D.Disk (Some self.old) ≡ false → (next : Places) → MayHold D.Disk (Some self.new) next → IsAllOrNone (content D.Disk (Some self.old)) batch.now next }
-        ensures durable { IsHonest D.Disk (Some self.new) → is_waiting D.Disk (Some self.new) ≡ false → (next : Places) → MayHold D.Disk (Some self.new) next → next ≡ content D.Disk (Some self.new) }
+        ensures there { is_there D.Disk self.new ≡ is_there D.Disk self.old }
+        ensures reopen { IsTrue (is_waiting D.Disk self.old) → (result ≡ Err Reopen) × (self.new ≡ self.old) }
+        ensures named { is_waiting D.Disk self.old ≡ false → IfErr result (λ e. (e ≡ NoMemory) ⊎ IsTrue (is_device_fault e)) }
+        ensures stops { OnErr result (IsTrue (is_waiting D.Disk self.new)) }
+        ensures runs { OnOk result (is_waiting D.Disk self.new ≡ false) }
+        ensures honest { IsHonest D.Disk self.new → IsHonest D.Disk self.old }
+        ensures empty { is_waiting D.Disk self.old ≡ false → batch.now ≡ [] → (result ≡ Ok tt) × (self.new ≡ self.old) }
+        ensures ok { IsHonest D.Disk self.new → OnOk result (content D.Disk self.new ≡ content D.Disk self.old ++ written batch.now) }
+        ensures refused { IsHonest D.Disk self.new → is_waiting D.Disk self.old ≡ false → IfErr result (λ e. is_device_fault e ≡ false → (next : Places) → MayHold D.Disk self.new next → next ≡ content D.Disk self.old) }
+        ensures crash { IsHonest D.Disk self.new → is_waiting D.Disk self.old ≡ false → (next : Places) → MayHold D.Disk self.new next → IsAllOrNone (content D.Disk self.old) batch.now next }
+        ensures durable { IsHonest D.Disk self.new → is_waiting D.Disk self.new ≡ false → (next : Places) → MayHold D.Disk self.new next → next ≡ content D.Disk self.new }
     {
         match self {
             Link::Open(store) => store.append(batch),
-            Link::Shut(_) => Err(StoreFault::Reopen),
+            Link::Shut(_) | Link::Absent => Err(StoreFault::Reopen),
         }
     }
 
     /// The records from place `from` on, at most `max`.
     pub(crate) fn load_page(&mut self, from: u64, max: u64) -> Result<Vec<Input>, StoreFault>
-        ensures reopen { IsTrue (is_waiting D.Disk (Some self.old)) → (result ≡ Err Reopen) × (self.new ≡ self.old) }
-        ensures honest { IsHonest D.Disk (Some self.new) → IsHonest D.Disk (Some self.old) }
-        ensures ok { IsHonest D.Disk (Some self.new) → IfOk result (λ inputs. AreRecords (take max (drop from (content D.Disk (Some self.old)))) inputs.items) }
-        ensures damaged { IsHonest D.Disk (Some self.new) → IfErr result (λ e. (p : ℕ) → e ≡ Damaged p → (from ≤ p) × IsDamagedAt (p - from) (take max (drop from (content D.Disk (Some self.old))))) }
-        ensures stops { is_waiting D.Disk (Some self.old) ≡ false → IfErr result (λ e. is_waiting D.Disk (Some self.new) ≡ is_device_fault e) }
-        ensures runs { OnOk result (is_waiting D.Disk (Some self.new) ≡ false) }
-        ensures kept { IsHonest D.Disk (Some self.new) → is_waiting D.Disk (Some self.new) ≡ false → content D.Disk (Some self.new) ≡ content D.Disk (Some self.old) }
-        ensures crash { IsHonest D.Disk (Some self.new) → is_waiting D.Disk (Some self.old) ≡ false → (next : Places) → MayHold D.Disk (Some self.new) next → next ≡ content D.Disk (Some self.old) }
+        ensures there { is_there D.Disk self.new ≡ is_there D.Disk self.old }
+        ensures reopen { IsTrue (is_waiting D.Disk self.old) → (result ≡ Err Reopen) × (self.new ≡ self.old) }
+        ensures honest { IsHonest D.Disk self.new → IsHonest D.Disk self.old }
+        ensures ok { IsHonest D.Disk self.new → IfOk result (λ inputs. AreRecords (take max (drop from (content D.Disk self.old))) inputs.items) }
+        ensures damaged { IsHonest D.Disk self.new → IfErr result (λ e. (p : ℕ) → e ≡ Damaged p → (from ≤ p) × IsDamagedAt (p - from) (take max (drop from (content D.Disk self.old)))) }
+        ensures named { is_waiting D.Disk self.old ≡ false → IfErr result IsReadFault }
+        ensures stops { is_waiting D.Disk self.old ≡ false → IfErr result (λ e. is_waiting D.Disk self.new ≡ is_device_fault e) }
+        ensures runs { OnOk result (is_waiting D.Disk self.new ≡ false) }
+        ensures kept { IsHonest D.Disk self.new → is_waiting D.Disk self.new ≡ false → content D.Disk self.new ≡ content D.Disk self.old }
+        ensures crash { IsHonest D.Disk self.new → is_waiting D.Disk self.old ≡ false → (next : Places) → MayHold D.Disk self.new next → next ≡ content D.Disk self.old }
     {
         match self {
             Link::Open(store) => store.load_page(from, max),
-            Link::Shut(_) => Err(StoreFault::Reopen),
+            Link::Shut(_) | Link::Absent => Err(StoreFault::Reopen),
         }
     }
 
     /// All records in their order.
     pub(crate) fn load(&mut self) -> Result<Vec<Input>, StoreFault>
-        ensures reopen { IsTrue (is_waiting D.Disk (Some self.old)) → (result ≡ Err Reopen) × (self.new ≡ self.old) }
-        ensures honest { IsHonest D.Disk (Some self.new) → IsHonest D.Disk (Some self.old) }
-        ensures ok { IsHonest D.Disk (Some self.new) → IfOk result (λ inputs. AreRecords (content D.Disk (Some self.old)) inputs.items) }
-        ensures damaged { IsHonest D.Disk (Some self.new) → IfErr result (λ e. (p : ℕ) → e ≡ Damaged p → IsDamagedAt p (content D.Disk (Some self.old))) }
-        ensures stops { is_waiting D.Disk (Some self.old) ≡ false → IfErr result (λ e. is_waiting D.Disk (Some self.new) ≡ is_device_fault e) }
-        ensures runs { OnOk result (is_waiting D.Disk (Some self.new) ≡ false) }
-        ensures kept { IsHonest D.Disk (Some self.new) → is_waiting D.Disk (Some self.new) ≡ false → content D.Disk (Some self.new) ≡ content D.Disk (Some self.old) }
-        ensures crash { IsHonest D.Disk (Some self.new) → is_waiting D.Disk (Some self.old) ≡ false → (next : Places) → MayHold D.Disk (Some self.new) next → next ≡ content D.Disk (Some self.old) }
+        ensures there { is_there D.Disk self.new ≡ is_there D.Disk self.old }
+        ensures reopen { IsTrue (is_waiting D.Disk self.old) → (result ≡ Err Reopen) × (self.new ≡ self.old) }
+        ensures honest { IsHonest D.Disk self.new → IsHonest D.Disk self.old }
+        ensures ok { IsHonest D.Disk self.new → IfOk result (λ inputs. AreRecords (content D.Disk self.old) inputs.items) }
+        ensures damaged { IsHonest D.Disk self.new → IfErr result (λ e. (p : ℕ) → e ≡ Damaged p → IsDamagedAt p (content D.Disk self.old)) }
+        ensures named { is_waiting D.Disk self.old ≡ false → IfErr result IsReadFault }
+        ensures stops { is_waiting D.Disk self.old ≡ false → IfErr result (λ e. is_waiting D.Disk self.new ≡ is_device_fault e) }
+        ensures runs { OnOk result (is_waiting D.Disk self.new ≡ false) }
+        ensures kept { IsHonest D.Disk self.new → is_waiting D.Disk self.new ≡ false → content D.Disk self.new ≡ content D.Disk self.old }
+        ensures crash { IsHonest D.Disk self.new → is_waiting D.Disk self.old ≡ false → (next : Places) → MayHold D.Disk self.new next → next ≡ content D.Disk self.old }
     {
         match self {
             Link::Open(store) => store.load(),
-            Link::Shut(_) => Err(StoreFault::Reopen),
+            Link::Shut(_) | Link::Absent => Err(StoreFault::Reopen),
         }
     }
 }
@@ -134,8 +138,12 @@ fn settled<D: Disk + Drop>(
     requires opened { HasCleanDisk (file_state conn) → Opens (file_state conn) }
     ensures runs { IfOk result (λ k. k.is_waiting ≡ false) }
     ensures honest { IfOk result (λ k. connected.IsHonest over_files k → HasCleanDisk (file_state conn)) }
+    ensures owner { IfOk result (λ k. connected.IsHonest over_files k → node_in (file_state k.conn).committed.trees ≡ name.now) }
     ensures same { IfOk result (λ k. connected.IsHonest over_files k → connected.content over_files k ≡ slots_in (file_state conn).committed.trees) }
     ensures durable { IfOk result (λ k. connected.IsHonest over_files k → (next : Places) → connected.MayHold over_files k next → next ≡ connected.content over_files k) }
+    ensures named { IfErr result (λ e. e.0 ≢ Reopen) }
+    ensures refused { IfErr result (λ e. AreClean D.Disk e.1.log e.1.db → HasCleanDisk (file_state conn)) }
+    ensures fault { IfErr result (λ e. AreClean D.Disk e.1.log e.1.db → IsOpeningFault name.now (file_state conn).committed e.0) }
 {
     match settle(&mut conn, name) {
         Ok(count) if count <= 1 << 63 => Ok(OpenStore::new(alloc, conn, count)),
@@ -149,14 +157,18 @@ pub(crate) fn linked<D: Disk + Drop>(
     alloc: Global,
     files: Files<D>,
     options: Options,
-    name: &str,
+    node: Node,
 ) -> Result<OpenStore<FileStore<D>>, (StoreFault, Files<D>)>
     ensures runs { IfOk result (λ k. k.is_waiting ≡ false) }
-    ensures found { IfOk result (λ k. connected.IsHonest over_files k → (db : Trees) × MayFind D.Disk files db × (connected.content over_files k ≡ slots_in db)) }
+    ensures owner { IfOk result (λ k. connected.IsHonest over_files k → node_in (file_state k.conn).committed.trees ≡ node_text node) }
+    ensures found { IfOk result (λ k. connected.IsHonest over_files k → (db : Trees) × IsFound D.Disk files db × (connected.content over_files k ≡ slots_in db)) }
     ensures durable { IfOk result (λ k. connected.IsHonest over_files k → (next : Places) → connected.MayHold over_files k next → next ≡ connected.content over_files k) }
+    ensures named { IfErr result (λ e. e.0 ≢ Reopen) }
+    ensures fault { IfErr result (λ e. AreClean D.Disk e.1.log e.1.db → IsRefusal D.Disk files (node_text node) e.0) }
 {
-    match open_again(alloc, files, options) {
-        Ok(conn) => settled(alloc, conn, name),
-        Err((error, files)) => Err((opening_fault(error), files)),
-    }
+    let Ok(name) = format!(in alloc; "{node}") else {
+        return Err((StoreFault::NoMemory, files));
+    };
+    let conn = open_again(alloc, files, options)?;
+    settled(alloc, conn, &name)
 }

@@ -1,6 +1,6 @@
 //! What is asked of a node's store.
 ghost use Rattle.std.specs.Prelude.{◌≡◌, ◌≢◌, ◌++◌, ◌⊎◌, ◌+◌, ◌-◌, ◌<◌, ◌≤◌, ℕ, Bool, [], false, Ok, Err, IfOk, IfErr, OnOk, OnErr, IsTrue, take, drop};
-ghost use Rattle.durable.specs.Faults.{is_device_fault};
+ghost use Rattle.durable.specs.Faults.{is_device_fault, IsReadFault};
 ghost use Rattle.durable.specs.Records.{Places, AreRecords, IsDamagedAt, IsAllOrNone, written};
 ghost use Rattle.durable.specs.declared.fault.StoreFault.TheVariants.{Reopen, NoMemory, Damaged};
 
@@ -51,6 +51,7 @@ pub trait NodeStore {
         ensures honest { is_honest self.new → is_honest self.old }
         ensures ok { is_honest self.new → IfOk result (λ inputs. AreRecords (content self.old) inputs.items) }
         ensures damaged { is_honest self.new → IfErr result (λ e. (p : ℕ) → e ≡ Damaged p → IsDamagedAt p (content self.old)) }
+        ensures named { is_waiting self.old ≡ false → IfErr result IsReadFault }
         ensures stops { is_waiting self.old ≡ false → IfErr result (λ e. is_waiting self.new ≡ is_device_fault e) }
         ensures runs { OnOk result (is_waiting self.new ≡ false) }
         ensures kept { is_honest self.new → is_waiting self.new ≡ false → content self.new ≡ content self.old }
@@ -65,6 +66,7 @@ pub trait NodeStore {
         ensures honest { is_honest self.new → is_honest self.old }
         ensures ok { is_honest self.new → IfOk result (λ inputs. AreRecords (take max (drop from (content self.old))) inputs.items) }
         ensures damaged { is_honest self.new → IfErr result (λ e. (p : ℕ) → e ≡ Damaged p → (from ≤ p) × IsDamagedAt (p - from) (take max (drop from (content self.old)))) }
+        ensures named { is_waiting self.old ≡ false → IfErr result IsReadFault }
         ensures stops { is_waiting self.old ≡ false → IfErr result (λ e. is_waiting self.new ≡ is_device_fault e) }
         ensures runs { OnOk result (is_waiting self.new ≡ false) }
         ensures kept { is_honest self.new → is_waiting self.new ≡ false → content self.new ≡ content self.old }
@@ -74,10 +76,12 @@ pub trait NodeStore {
     /// Opens the store again, whether or not a fault waits. After Ok the content is one that it could hold before, and after a fault a reopening
     /// still waits.
     fn reopen(&mut self) -> Result<(), StoreFault>
+        ensures named { IfErr result (λ e. e ≢ Reopen) }
         ensures runs { OnOk result (is_waiting self.new ≡ false) }
         ensures stops { OnErr result (IsTrue (is_waiting self.new)) }
         ensures settles { is_honest self.new → OnOk result ∥ may_hold self.old (content self.new) ∥₁ }
-        ensures durable { is_honest self.new → OnOk result ((next : Places) → may_hold self.new next → next ≡ content self.new) };
+        ensures durable { is_honest self.new → OnOk result ((next : Places) → may_hold self.new next → next ≡ content self.new) }
+        ensures cause { IfErr result (λ e. IsTrue (is_device_fault e) → faults self.new ≢ faults self.old) };
 
     /// How many calls of the device have failed; 0 follows the greatest number.
     fn fault_count(&self) -> u64

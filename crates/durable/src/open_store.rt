@@ -5,7 +5,7 @@ ghost use Rattle.durable.specs.Bodies.{items};
 ghost use Rattle.durable.specs.Held.{followed_by, slots_in, IsReady};
 ghost use Rattle.sqlite.specs.State.{HasCleanDisk};
 ghost use Rattle.sqlite.specs.Held.{state};
-ghost use Rattle.durable.specs.Faults.{is_device_fault};
+ghost use Rattle.durable.specs.Faults.{is_device_fault, IsReadFault};
 ghost use Rattle.durable.specs.Records.{Places, AreRecords, IsDamagedAt, IsAllOrNone, written};
 ghost use Rattle.durable.specs.declared.fault.StoreFault.TheVariants.{Reopen, NoMemory, Damaged};
 
@@ -160,7 +160,7 @@ impl<S: Alter> OpenStore<S> {
         ensures honest { IsHonest S.Store self.new → IsHonest S.Store self.old }
         ensures ok { IsHonest S.Store self.new → IfOk result (λ inputs. AreRecords (take (until - first) (drop first (content S.Store self.old))) inputs.items) }
         ensures damaged { IsHonest S.Store self.new → IfErr result (λ e. (p : ℕ) → e ≡ Damaged p → (first ≤ p) × IsDamagedAt (p - first) (take (until - first) (drop first (content S.Store self.old)))) }
-        ensures named { IfErr result (λ e. e ≢ Reopen) }
+        ensures named { IfErr result IsReadFault }
         ensures stops { IfErr result (λ e. self.new.is_waiting ≡ is_device_fault e) }
         ensures runs { OnOk result (self.new.is_waiting ≡ false) }
         ensures count { self.new.count ≡ self.old.count }
@@ -192,6 +192,7 @@ impl<S: Alter> OpenStore<S> {
         ensures honest { IsHonest S.Store self.new → IsHonest S.Store self.old }
         ensures ok { IsHonest S.Store self.new → IfOk result (λ inputs. AreRecords (take max (drop from (content S.Store self.old))) inputs.items) }
         ensures damaged { IsHonest S.Store self.new → IfErr result (λ e. (p : ℕ) → e ≡ Damaged p → (from ≤ p) × IsDamagedAt (p - from) (take max (drop from (content S.Store self.old)))) }
+        ensures named { self.old.is_waiting ≡ false → IfErr result IsReadFault }
         ensures stops { self.old.is_waiting ≡ false → IfErr result (λ e. self.new.is_waiting ≡ is_device_fault e) }
         ensures runs { OnOk result (self.new.is_waiting ≡ false) }
         ensures kept { IsHonest S.Store self.new → self.new.is_waiting ≡ false → content S.Store self.new ≡ content S.Store self.old }
@@ -213,6 +214,7 @@ impl<S: Alter> OpenStore<S> {
         ensures honest { IsHonest S.Store self.new → IsHonest S.Store self.old }
         ensures ok { IsHonest S.Store self.new → IfOk result (λ inputs. AreRecords (content S.Store self.old) inputs.items) }
         ensures damaged { IsHonest S.Store self.new → IfErr result (λ e. (p : ℕ) → e ≡ Damaged p → IsDamagedAt p (content S.Store self.old)) }
+        ensures named { self.old.is_waiting ≡ false → IfErr result IsReadFault }
         ensures stops { self.old.is_waiting ≡ false → IfErr result (λ e. self.new.is_waiting ≡ is_device_fault e) }
         ensures runs { OnOk result (self.new.is_waiting ≡ false) }
         ensures kept { IsHonest S.Store self.new → self.new.is_waiting ≡ false → content S.Store self.new ≡ content S.Store self.old }

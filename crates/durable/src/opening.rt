@@ -1,5 +1,5 @@
 //! Opening: a file that has no row yet is made a store, and of any other it is found whether it is one.
-ghost use Rattle.std.specs.Prelude.{◌≡◌, ◌⊎◌, ℕ, ◌+◌, pos, List, [], length, IsTrue, OnOk, IfOk, IfErr, true, false};
+ghost use Rattle.std.specs.Prelude.{◌≡◌, ◌≢◌, ◌⊎◌, ℕ, ◌+◌, pos, List, [], length, IsTrue, OnOk, IfOk, IfErr, true, false};
 ghost use Rattle.sqlite.specs.Effect.{Database};
 ghost use Rattle.sqlite.specs.Given.{IsPlain};
 ghost use Rattle.sqlite.specs.Listing.{understood};
@@ -180,28 +180,38 @@ fn is_negative(place: Option<i64>) -> bool
     }
 }
 
-/// Whether the tables have no row (true) or are a store of the node that asks (false), or why not.
-fn verdict(owner: Owner, least: Option<i64>) -> Result<bool, StoreFault>
-    ensures { (node : List ℕ) (db : Database) → HasRows db → IsOwner node db owner → IsEnd false (db.trees 1) least → IsVerdict node db result }
+/// What both tables have.
+#[derive(Clone, Copy)]
+enum Contents {
+    NoRow,
+    /// They are a store of the node that asks.
+    OwnStore,
+}
+
+/// What both tables have, or why they are no store of the node that asks.
+fn verdict(owner: Owner, least: Option<i64>) -> Result<Contents, StoreFault>
+    ensures never { IfErr result (λ e. e ≢ StoreFault.Reopen) }
+    ensures verdict { (node : List ℕ) (db : Database) → HasRows db → IsOwner node db owner → IsEnd false (db.trees 1) least → IsVerdict node db result }
 {
     if is_negative(least) {
         return Err(StoreFault::Damaged(0));
     }
     match (owner, least) {
         (Owner::Nobody, Some(_)) => Err(StoreFault::Damaged(0)),
-        (Owner::Nobody, None) => Ok(true),
+        (Owner::Nobody, None) => Ok(Contents::NoRow),
         (Owner::OtherFormat, _) => Err(StoreFault::WrongVersion),
         (Owner::OtherNode, _) => Err(StoreFault::WrongNode),
-        (Owner::Asker, _) => Ok(false),
+        (Owner::Asker, _) => Ok(Contents::OwnStore),
     }
 }
 
-/// Whether the file has no row (true) or is a store of the node (false), or why not.
-fn examine<S: Alter>(conn: &mut Connection<S>, node: &str) -> Result<bool, StoreFault>
+/// What both tables of the file have, or why it is no store of the node.
+fn examine<S: Alter>(conn: &mut Connection<S>, node: &str) -> Result<Contents, StoreFault>
     requires opened { HasCleanDisk (state S.Store conn.old) → IsOpened (state S.Store conn.old) × HasRows (state S.Store conn.old).committed }
     ensures idle { conn.old.in_transaction ≡ false → conn.new.in_transaction ≡ false }
     ensures clean { HasCleanDisk (state S.Store conn.new) → HasCleanDisk (state S.Store conn.old) }
     ensures same { HasCleanDisk (state S.Store conn.new) → OnOk result (IsUnchanged (state S.Store conn.old) (state S.Store conn.new)) }
+    ensures never { IfErr result (λ e. e ≢ StoreFault.Reopen) }
     ensures found { HasCleanDisk (state S.Store conn.new) → IsVerdict node.now (state S.Store conn.old).committed result }
     ensures crash { HasCleanDisk (state S.Store conn.new) → (db : Trees) → (state S.Store conn.new).may_leave db → db ≡ (state S.Store conn.old).committed.trees }
 {
@@ -240,6 +250,7 @@ fn start<S: Alter>(conn: &mut Connection<S>, node: &str) -> Result<u64, StoreFau
     requires opened { HasCleanDisk (state S.Store conn.old) → IsOpened (state S.Store conn.old) × IsBare (state S.Store conn.old).committed }
     ensures idle { conn.new.in_transaction ≡ false }
     ensures clean { HasCleanDisk (state S.Store conn.new) → HasCleanDisk (state S.Store conn.old) }
+    ensures never { IfErr result (λ e. e ≢ StoreFault.Reopen) }
     ensures settled { HasCleanDisk (state S.Store conn.new) → Settles node.now (state S.Store conn.old).committed (state S.Store conn.new) result }
 {
     match make(conn, node) {
@@ -254,6 +265,7 @@ fn adopt<S: Alter>(conn: &mut Connection<S>, node: &str) -> Result<u64, StoreFau
     requires opened { HasCleanDisk (state S.Store conn.old) → IsOpened (state S.Store conn.old) × IsEmpty (state S.Store conn.old).committed }
     ensures idle { conn.new.in_transaction ≡ false }
     ensures clean { HasCleanDisk (state S.Store conn.new) → HasCleanDisk (state S.Store conn.old) }
+    ensures never { IfErr result (λ e. e ≢ StoreFault.Reopen) }
     ensures settled { HasCleanDisk (state S.Store conn.new) → Settles node.now (state S.Store conn.old).committed (state S.Store conn.new) result }
 {
     match own(conn, node) {
@@ -268,12 +280,12 @@ fn resume<S: Alter>(conn: &mut Connection<S>, node: &str) -> Result<u64, StoreFa
     requires opened { HasCleanDisk (state S.Store conn.old) → IsOpened (state S.Store conn.old) × HasRows (state S.Store conn.old).committed }
     ensures idle { conn.new.in_transaction ≡ false }
     ensures clean { HasCleanDisk (state S.Store conn.new) → HasCleanDisk (state S.Store conn.old) }
+    ensures never { IfErr result (λ e. e ≢ StoreFault.Reopen) }
     ensures settled { HasCleanDisk (state S.Store conn.new) → Settles node.now (state S.Store conn.old).committed (state S.Store conn.new) result }
 {
-    if examine(conn, node)? {
-        adopt(conn, node)
-    } else {
-        count(conn)
+    match examine(conn, node)? {
+        Contents::NoRow => adopt(conn, node),
+        Contents::OwnStore => count(conn),
     }
 }
 
@@ -286,6 +298,7 @@ pub(crate) fn settle<S: Alter>(conn: &mut Connection<S>, node: &str) -> Result<u
     requires opened { HasCleanDisk (state S.Store conn.old) → IsOpened (state S.Store conn.old) }
     ensures idle { conn.new.in_transaction ≡ false }
     ensures clean { HasCleanDisk (state S.Store conn.new) → HasCleanDisk (state S.Store conn.old) }
+    ensures never { IfErr result (λ e. e ≢ StoreFault.Reopen) }
     ensures ready { HasCleanDisk (state S.Store conn.new) → OnOk result (IsReady (state S.Store conn.new) × (node_in (state S.Store conn.new).committed.trees ≡ node.now)) }
     ensures count { HasCleanDisk (state S.Store conn.new) → IfOk result (λ count. count ≡ length (slots_in (state S.Store conn.new).committed.trees)) }
     ensures found { HasCleanDisk (state S.Store conn.new) → OnOk result ((IsNew (state S.Store conn.old).committed × (slots_in (state S.Store conn.new).committed.trees ≡ []))

@@ -6,10 +6,10 @@ use Rattle.durable.proofs.backing.give_up.Goals as goal
 pub returns-clause-left : goal.returns-clause-left
 returns-clause-left g c = λ db found.
     let made = c.into_store.ensures in
-    ∥∥₁_map (found-again c.into_store.result c.close.result g.met.D.Disk.seen_may_stay c.close.ensures made.numbered made.sound db found) (λ left. made.quiet.outcomes _ left)
+    ∥∥₁_map (found-again c.into_store.result c.close.result c.close.ensures made.numbered made.sound db found) (λ left. made.quiet.outcomes _ left)
 
 pub returns-clause-honest : goal.returns-clause-honest
 returns-clause-honest g c = λ honest.
     let made = c.into_store.ensures in
-    let late = honest-before c.into_store.result c.close.result g.met.D.Disk.seen_may_stay c.close.ensures honest in
+    let late = honest-before c.into_store.result c.close.result c.close.ensures honest in
     omega (arith, made.quiet.clean, late)

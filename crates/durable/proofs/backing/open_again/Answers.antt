@@ -1,7 +1,13 @@
+use Rattle.durable.proofs.Refusing.{not-opened}
 use Rattle.durable.proofs.backing.open_again.Goals as goal
 
 pub returns-in-Ok-clause-opened : goal.returns-in-Ok-clause-opened
 returns-in-Ok-clause-opened g c = λ clean. (c.in-Ok.ensures.opened clean).0
 
 pub returns-in-Ok-clause-found : goal.returns-in-Ok-clause-found
-returns-in-Ok-clause-found g c = λ clean. let f = c.in-Ok.ensures.found clean in record { honest = f.honest; holds = f.holds; reads = f.reads }
+returns-in-Ok-clause-found g c = λ clean. let f = c.in-Ok.ensures.found clean in record { honest = f.honest; held = record { holds = f.holds; reads = f.reads } }
+
+pub returns-in-Err-clause-fault : goal.returns-in-Err-clause-fault
+returns-in-Err-clause-fault g c honest =
+    not-opened c.args.files c.into_files-files.result c.in-Err.left c.in-Err.error c.tally-before.result c.tally.result c.opening_fault-fault.result c.into_files-files.ensures c.in-Err.ensures.cause honest
+    c.tally-before.ensures c.tally.ensures c.opening_fault-fault.ensures.named c.opening_fault-fault.ensures.damaged

@@ -10,5 +10,5 @@ returns-clause-found g c clean =
     let early = c.least_place.ensures.clean clean in
     let same = (c.in_ok-owner.ensures.same early).0.committed_is in
     let opened = c.requires.opened (c.find_owner.ensures.clean early) in
-    c.verdict.ensures c.args.node.now old.committed opened.1 (c.in_ok-owner.ensures.owner early)
+    c.verdict.ensures.verdict c.args.node.now old.committed opened.1 (c.in_ok-owner.ensures.owner early)
     (subst (λ (db : Database). IsEnd false (db.trees 1) c.in_ok-least.least) same (c.in_ok-least.ensures.least clean))

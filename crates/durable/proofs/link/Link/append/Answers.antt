@@ -1,4 +1,4 @@
-use Rattle.std.proofs.Common.{◌≡◌, sym, subst, Some, false, IfErr}
+use Rattle.std.proofs.Common.{◌≡◌, sym, subst, false, IfErr}
 use Rattle.sqlite.specs.Files.{over_files}
 use Rattle.durable.specs.Connected as connected
 use Rattle.durable.specs.Faults.{is_device_fault}
@@ -8,10 +8,10 @@ use Rattle.durable.proofs.link.Link.append.Goals as goal
 
 pub returns-in-Open-clause-refused : goal.returns-in-Open-clause-refused
 returns-in-Open-clause-refused g c = λ clean runs.
-    subst (λ link. IfErr c.append.result (λ e. is_device_fault e ≡ false → (next : Places) → connected.MayHold over_files c.append.new.self next → next ≡ content g.D.Disk (Some link))) (sym c.in-Open.is)
-    (c.append.ensures.refused clean (subst (λ link. is_waiting g.D.Disk (Some link) ≡ false) c.in-Open.is runs))
+    subst (λ link. IfErr c.append.result (λ e. is_device_fault e ≡ false → (next : Places) → connected.MayHold over_files c.append.new.self next → next ≡ content g.D.Disk link)) (sym c.in-Open.is)
+    (c.append.ensures.refused clean (subst (λ link. is_waiting g.D.Disk link ≡ false) c.in-Open.is runs))
 
 pub returns-in-Open-clause-crash : goal.returns-in-Open-clause-crash
 returns-in-Open-clause-crash g c = λ clean runs next held.
-    subst (λ link. IsAllOrNone (content g.D.Disk (Some link)) c.args.batch.now next) (sym c.in-Open.is)
-    (c.append.ensures.crash clean (subst (λ link. is_waiting g.D.Disk (Some link) ≡ false) c.in-Open.is runs) next held)
+    subst (λ link. IsAllOrNone (content g.D.Disk link) c.args.batch.now next) (sym c.in-Open.is)
+    (c.append.ensures.crash clean (subst (λ link. is_waiting g.D.Disk link ≡ false) c.in-Open.is runs) next held)

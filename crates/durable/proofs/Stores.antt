@@ -1,0 +1,32 @@
+-- A store in files: it is its parts, and what a reopening settles.
+use Rattle.std.proofs.Common.{◌≡◌, ℕ, IsTrue, true, sym, subst}
+use Rattle.std.proofs.Math.Logic.{∥∥₁_map}
+use mathlib.Core.Bool.{Bool-set}
+use mathlib.Core.HLevel.{is_prop→PathP}
+use Rattle.sqlite_disk.specs.declared.Disk.{Ghosts}
+use Rattle.sqlite_disk.specs.declared.Files.{Files}
+use Rattle.sqlite.specs.Tree.{Trees}
+use Rattle.durable.specs.Backing.{IsFound, MayFind}
+use Rattle.durable.specs.Held.{slots_in}
+use Rattle.durable.specs.Kept.{MayHold, is_there}
+use Rattle.durable.specs.Records.{Places}
+use Rattle.durable.specs.declared.link.Link.{Link}
+use Rattle.durable.specs.declared.sql_store.SqlStore.{SqlStore}
+use Rattle.durable.proofs.Reopening.{now-found}
+
+pub same-store : {D : Type 0} {g : Ghosts D} (s : SqlStore D g) (link : Link D g) (faults : ℕ) (there : IsTrue (is_there g link)) → link ≡ s.link → faults ≡ s.faults
+    → record { link = link; node = s.node; faults = faults; options = s.options; alloc = s.alloc; there = there } ≡ s
+same-store {D} {g} s link faults there p q = λ i. record {
+  link = p i;
+  node = s.node;
+  faults = q i;
+  options = s.options;
+  alloc = s.alloc;
+  there = is_prop→PathP (λ j. IsTrue (is_there g (p j))) (λ j. Bool-set (is_there g (p j)) true) there s.there i;
+}
+
+-- what an opening of its files found is one of the things that a store may have held
+pub settled-again : {D : Type 0} (g : Ghosts D) (old link : Link D g) (files : Files D) (next : Places) → link ≡ old → ((file : D) → g.may_leave file (g.seen file))
+    → ((db : Trees) → MayFind g files db → ∥ MayHold g link (slots_in db) ∥₁) → (db : Trees) × IsFound g files db × (next ≡ slots_in db) → ∥ MayHold g old next ∥₁
+settled-again {D} g old link files next same stays left found =
+    ∥∥₁_map (left found.0 (now-found files stays found.0 found.1)) (λ held. subst (λ (places : Places). MayHold g old places) (sym found.2) (subst (λ (l : Link D g). MayHold g l (slots_in found.0)) same held))

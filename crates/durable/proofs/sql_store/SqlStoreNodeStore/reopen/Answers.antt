@@ -1,0 +1,6 @@
+use Rattle.durable.proofs.Stores.{settled-again}
+use Rattle.durable.proofs.sql_store.SqlStoreNodeStore.reopen.Goals as goal
+
+pub returns-in-Ok-clause-settles : goal.returns-in-Ok-clause-settles
+returns-in-Ok-clause-settles g c clean =
+    settled-again g.D.Disk c.args.self.now.link c.replace.result c.into_files-files.result _ c.replace.ensures.value g.met.D.Disk.seen_may_stay c.into_files-files.ensures.left (c.in-Ok.ensures.found clean)

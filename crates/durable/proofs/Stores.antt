@@ -30,3 +30,7 @@ pub settled-again : {D : Type 0} (g : Ghosts D) (old link : Link D g) (files : F
     → ((db : Trees) → MayFind g files db → ∥ MayHold g link (slots_in db) ∥₁) → (db : Trees) × IsFound g files db × (next ≡ slots_in db) → ∥ MayHold g old next ∥₁
 settled-again {D} g old link files next same stays left found =
     ∥∥₁_map (left found.0 (now-found files stays found.0 found.1)) (λ held. subst (λ (places : Places). MayHold g old places) (sym found.2) (subst (λ (l : Link D g). MayHold g l (slots_in found.0)) same held))
+
+pub had-files : {D : Type 0} (g : Ghosts D) (old link : Link D g) (files : Files D) → link ≡ old → ((db : Trees) → MayFind g files db → ∥ MayHold g link (slots_in db) ∥₁)
+    → (db : Trees) → MayFind g files db → ∥ MayHold g old (slots_in db) ∥₁
+had-files {D} g old link files same left db found = subst (λ (l : Link D g). ∥ MayHold g l (slots_in db) ∥₁) same (left db found)

@@ -1,10 +1,17 @@
 -- A store in a file of SQLite and its log.
-use Rattle.std.specs.Prelude.{◌≡◌, ℕ, Bool, List}
+use Rattle.std.specs.Prelude.{ℕ, Bool, List}
+use Rattle.sqlite.specs.Tree.{Trees}
 use Rattle.sqlite_disk.specs.declared.Disk.{Ghosts}
+use Rattle.sqlite_disk.specs.declared.Files.{Files}
+use Rattle.units.specs.Code.{node_text}
+use Rattle.units.specs.declared.code.Node.{Node}
+use Rattle.durable.specs.Backing.{MayFind}
+use Rattle.durable.specs.Held.{slots_in}
 use Rattle.durable.specs.Kept as kept
 use Rattle.durable.specs.Records.{Places}
+use Rattle.durable.specs.Refusals.{IsRefusal}
+use Rattle.durable.specs.declared.fault.StoreFault.{StoreFault}
 use Rattle.durable.specs.declared.sql_store.SqlStore.{SqlStore}
-use Rattle.units.specs.declared.code.Node.{Node}
 
 module _ {D : Type 0} (g : Ghosts D) where
   -- nobody else wrote the files, and the disk returned what was written
@@ -32,3 +39,11 @@ module _ {D : Type 0} (g : Ghosts D) where
 
   abbrev pub faults : SqlStore D g → ℕ
   faults s = s.faults
+
+  -- these files are the store's: what an opening of them finds, the store may have held
+  abbrev pub HadFiles : SqlStore D g → Files D → Type 0
+  HadFiles s files = (db : Trees) → MayFind g files db → ∥ MayHold s (slots_in db) ∥₁
+
+  -- why an opening of its files for its node was refused
+  abbrev pub IsReopeningFault : SqlStore D g → StoreFault → Type 0
+  IsReopeningFault s fault = (files : Files D) × HadFiles s files × IsRefusal g files (node_text (node_of s)) fault

@@ -21,9 +21,9 @@ pub(crate) fn give_up<D: Disk + Drop>(conn: Connection<FileStore<D>>) -> Files<D
     conn.into_store().close()
 }
 
-// What an error of an opening tells, by what the failed calls of the files had met before it and since. SQLite calls a file
-// corrupt where it can't be a database and where a read was found wrong; only the first is a fault of what is written.
-fn opening_fault(error: SqlError, before: Tally, now: Tally) -> StoreFault
+/// What an error of an opening tells, by what the failed calls of the files had met before it and since. SQLite calls a file
+/// corrupt where it can't be a database and where a read was found wrong; only the first is a fault of what is written.
+pub(crate) fn opening_fault(error: SqlError, before: Tally, now: Tally) -> StoreFault
     ensures named { (result ≡ StoreFault.Damaged 0) ⊎ ((result ≡ StoreFault.NoMemory) ⊎ IsTrue (is_device_fault result)) }
     ensures damaged { (p : ℕ) → result ≡ StoreFault.Damaged p
         → (error ≡ SqlError.SqliteFailure ErrorCode.NotADatabase) ⊎ ((error ≡ SqlError.SqliteFailure ErrorCode.DatabaseCorrupt) × (now.caught ≡ before.caught)) }

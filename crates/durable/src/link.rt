@@ -61,6 +61,7 @@ impl<D: Disk + Drop> Link<D> {
         requires there { IsTrue (is_there D.Disk self) }
         ensures honest { AreClean D.Disk result.log result.db → IsHonest D.Disk self }
         ensures left { (db : Trees) → MayFind D.Disk result db → ∥ MayHold D.Disk self (slots_in db) ∥₁ }
+        ensures kept { is_waiting D.Disk self ≡ false → (db : Trees) → MayFind D.Disk result db → ∥ slots_in db ≡ content D.Disk self ∥₁ }
     {
         match self {
             Link::Open(store) => give_up(store.into_connection()),
@@ -128,8 +129,8 @@ impl<D: Disk + Drop> Link<D> {
     }
 }
 
-// A store over an open connection whose file is one of the node, or becomes one. After a fault it gives the files up.
-fn settled<D: Disk + Drop>(
+/// A store over an open connection whose file is one of the node, or becomes one. After a fault it gives the files up.
+pub(crate) fn settled<D: Disk + Drop>(
     alloc: Global,
     mut conn: Connection<FileStore<D>>,
     name: &str,

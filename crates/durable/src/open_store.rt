@@ -86,7 +86,8 @@ impl<S: Alter> OpenStore<S> {
 
     /// The connection.
     pub(crate) fn into_connection(self) -> Connection<S>
-        ensures { result ≡ self.conn }
+        ensures connection { result ≡ self.conn }
+        ensures durable { IsHonest S.Store self → self.is_waiting ≡ false → (next : Places) → MayHold S.Store self next → next ≡ content S.Store self }
     {
         let OpenStore {
             conn,

@@ -1,24 +1,32 @@
 //! A store in a file of SQLite and its log.
-ghost use Rattle.std.specs.Prelude.{◌≡◌, ◌≢◌, false, None, IfOk, IfErr, IsTrue};
+ghost use Rattle.std.specs.Prelude.{◌≡◌, ◌≢◌, ◌⊎◌, false, IfOk, IfErr, IsTrue};
 ghost use Rattle.sqlite.specs.Tree.{Trees};
 ghost use Rattle.sqlite_wal.specs.Reads.{AreClean};
 ghost use Rattle.units.specs.Code.{node_text};
 ghost use Rattle.durable.specs.Backing.{IsFound, MayFind};
+ghost use Rattle.durable.specs.Faults.{is_device_fault};
 ghost use Rattle.durable.specs.Held.{slots_in};
 ghost use Rattle.durable.specs.Kept.{is_there};
 ghost use Rattle.durable.specs.Records.{Places};
 ghost use Rattle.durable.specs.Refusals.{IsRefusal};
-ghost use Rattle.durable.specs.declared.fault.StoreFault.TheVariants.{Reopen};
 
-use crate::fault::StoreFault;
-use crate::link::{Link, counted, linked};
+use crate::backing::opening_fault;
+use crate::fault::{StoreFault, fault_of};
+use crate::link::{Link, counted, linked, settled};
 use crate::node_store::NodeStore;
-use sqlite::Options;
-use sqlite_disk::{Disk, Files};
+use sqlite::{Connection, Error as SqlError, File, Leftover, Options, Unknown};
+use sqlite_disk::{Disk, Files, Tally};
 use std::alloc::Global;
+use std::hash::{BuildHasher, RandomState};
 use std::mem;
 use units::Node;
 use wire::Input;
+
+// What the failed calls of files have met before the first call.
+const UNTOUCHED: Tally = Tally {
+    caught: 0,
+    refused: 0,
+};
 
 /// A store in a file of SQLite and its log.
 #[derive(Drop)]
@@ -62,10 +70,19 @@ impl<D: Disk + Drop> SqlStore<D> {
         })
     }
 
-    /// Gives both files back as they are, with no call of the device: after a fault, say.
-    pub fn into_files(self) -> Files<D>
+    /// For which node it was opened.
+    pub fn node(&self) -> Node
+        ensures { result ≡ node_of D.Disk self.now }
+    {
+        self.node
+    }
+
+    /// Closes the store, and gives both files back with no call of the device, so that no fault can come. An opening of them
+    /// finds the content as it was, or settles it where a fault waits for a reopening.
+    pub fn close_files(self) -> Files<D>
         ensures honest { AreClean D.Disk result.log result.db → IsHonest D.Disk self }
         ensures left { (db : Trees) → MayFind D.Disk result db → ∥ MayHold D.Disk self (slots_in db) ∥₁ }
+        ensures kept { is_waiting D.Disk self ≡ false → (db : Trees) → MayFind D.Disk result db → ∥ slots_in db ≡ content D.Disk self ∥₁ }
     {
         let SqlStore {
             link,
@@ -78,8 +95,67 @@ impl<D: Disk + Drop> SqlStore<D> {
     }
 }
 
+// Why a connection to the files at a path could not be made, by what is left of them, where they were opened at all.
+fn path_fault(error: SqlError, left: Option<Leftover<File>>) -> StoreFault
+    ensures named { (result ≡ StoreFault.Damaged 0) ⊎ ((result ≡ StoreFault.NoMemory) ⊎ IsTrue (is_device_fault result)) }
+{
+    match left {
+        Some(left) => opening_fault(error, UNTOUCHED, left.into_files().tally()),
+        None => fault_of(error),
+    }
+}
+
+impl SqlStore<File> {
+    ghost use Rattle.durable.specs.Stores.{IsHonest, MayHold, content, is_waiting, owner, node_of, faults};
+
+    /// Opens the file at the path, with its log beside it, and makes it a store of the node where there is none.
+    ///
+    /// Faults as of `open_files`, and `Device` where the file can't be opened or another handle has it open. No clause ties
+    /// the answer to what stands at the path.
+    pub fn open_path(
+        rt: &HostRuntime,
+        path: &str,
+        node: Node,
+    ) -> Result<SqlStore<File>, StoreFault>
+        ensures runs { IfOk result (λ s. is_waiting _ s ≡ false) }
+        ensures node { IfOk result (λ s. node_of _ s ≡ node) }
+        ensures faults { IfOk result (λ s. faults _ s ≡ 0) }
+        ensures owner { IfOk result (λ s. IsHonest _ s → owner _ s ≡ node_text node) }
+        ensures durable { IfOk result (λ s. IsHonest _ s → (next : Places) → MayHold _ s next → next ≡ content _ s) }
+        ensures named { IfErr result (λ e. e ≢ StoreFault.Reopen) }
+    {
+        let alloc = rt.alloc();
+        let Ok(name) = format!(in alloc; "{node}") else {
+            return Err(StoreFault::NoMemory);
+        };
+        let Ok(seeds) = RandomState::new(rt) else {
+            return Err(StoreFault::Device);
+        };
+        let options = Options::new(seeds.hash_one(&0u8));
+        let conn = match Connection::open_from(rt, path, false, Unknown) {
+            Ok(conn) => conn,
+            Err((error, left)) => return Err(path_fault(error, left)),
+        };
+        match settled(alloc, conn, &name) {
+            Ok(store) => Ok(SqlStore {
+                link: Link::Open(store),
+                node,
+                faults: 0,
+                options,
+                alloc,
+            }),
+            Err((fault, _)) => Err(fault),
+        }
+    }
+}
+
 impl<D: Disk + Drop> NodeStore for SqlStore<D> {
-    ghost use Rattle.durable.specs.Stores.{IsHonest, MayHold, content, is_waiting, faults};
+    ghost use Rattle.std.specs.Prelude.{◌≡◌, ◌≢◌, false, OnOk, OnErr, IfErr, IsTrue};
+    ghost use Rattle.durable.specs.Faults.{is_device_fault};
+    ghost use Rattle.durable.specs.Records.{Places};
+    ghost use Rattle.durable.specs.declared.fault.StoreFault.TheVariants.{Reopen};
+    ghost use Rattle.units.specs.Code.{node_text};
+    ghost use Rattle.durable.specs.Stores.{IsHonest, MayHold, content, is_waiting, faults, node_of, owner, IsReopeningFault};
 
     ghost is_honest = { λ s. IsHonest D.Disk s };
 
@@ -121,7 +197,18 @@ impl<D: Disk + Drop> NodeStore for SqlStore<D> {
         }
     }
 
-    fn reopen(&mut self) -> Result<(), StoreFault> {
+    /// `Damaged(0)`, `WrongVersion`, `WrongNode` as of an opening. After a sync that failed the same files can't be used again, and every reopening answers `Device`.
+    fn reopen(&mut self) -> Result<(), StoreFault>
+        ensures named { IfErr result (λ e. e ≢ Reopen) }
+        ensures runs { OnOk result (is_waiting D.Disk self.new ≡ false) }
+        ensures stops { OnErr result (IsTrue (is_waiting D.Disk self.new)) }
+        ensures settles { IsHonest D.Disk self.new → OnOk result ∥ MayHold D.Disk self.old (content D.Disk self.new) ∥₁ }
+        ensures durable { IsHonest D.Disk self.new → OnOk result ((next : Places) → MayHold D.Disk self.new next → next ≡ content D.Disk self.new) }
+        ensures cause { IfErr result (λ e. IsTrue (is_device_fault e) → faults D.Disk self.new ≢ faults D.Disk self.old) }
+        ensures node { node_of D.Disk self.new ≡ node_of D.Disk self.old }
+        ensures owner { IsHonest D.Disk self.new → OnOk result (owner D.Disk self.new ≡ node_text (node_of D.Disk self.old)) }
+        ensures fault { IsHonest D.Disk self.new → IfErr result (IsReopeningFault D.Disk self.old) }
+    {
         let files = mem::replace(&mut self.link, Link::Absent).into_files();
         match linked(self.alloc, files, self.options, self.node) {
             Ok(store) => {

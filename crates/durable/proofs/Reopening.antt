@@ -16,7 +16,7 @@ use Rattle.sqlite.specs.Held.{AreDatabases}
 use Rattle.sqlite.specs.Files.{image_of}
 use Rattle.sqlite_trees.proofs.Doubt.{no_doubt}
 use Rattle.sqlite.proofs.Theorems.{opens_again}
-use Rattle.durable.specs.Backing.{IsFound, MayFind, IsNoDatabase}
+use Rattle.durable.specs.Backing.{IsFound, MayFind}
 
 -- what a crash may leave of the files may be left of the store
 may-leave : {D : Type 0} {g : Ghosts D} (it : Pool D g) (image : Image) → AreClean g (files it).0 (files it).1 → outcomes g (files it).0 (files it).1 image → (state it).may_leave image

@@ -4,6 +4,8 @@
 mod backing;
 mod batch;
 mod fault;
+#[cfg(test)]
+mod file_tests;
 mod layout;
 mod link;
 mod memory_store;

@@ -112,11 +112,7 @@ impl SqlStore<File> {
     ///
     /// Faults as of `open_files`, and `Device` where the file can't be opened or another handle has it open. No clause ties
     /// the answer to what stands at the path.
-    pub fn open_path(
-        rt: &HostRuntime,
-        path: &str,
-        node: Node,
-    ) -> Result<SqlStore<File>, StoreFault>
+    pub fn open_path(rt: &HostRuntime, path: &str, node: Node) -> Result<SqlStore<File>, StoreFault>
         ensures runs { IfOk result (λ s. is_waiting _ s ≡ false) }
         ensures node { IfOk result (λ s. node_of _ s ≡ node) }
         ensures faults { IfOk result (λ s. faults _ s ≡ 0) }

@@ -15,6 +15,6 @@ pub returns-in-Open-clause-kept : goal.returns-in-Open-clause-kept
 returns-in-Open-clause-kept g c = λ runs db found.
     let honest = subst (λ conn. HasCleanDisk (file_state conn)) c.into_connection.ensures.connection (c.give_up.ensures.honest found.honest) in
     ∥∥₁_map (c.give_up.ensures.left db found) (λ left.
-      subst (λ link. slots_in db ≡ content g.D.Disk link) (sym c.in-Open.is)
-      (c.into_connection.ensures.durable honest (subst (λ link. is_waiting g.D.Disk link ≡ false) c.in-Open.is runs) (slots_in db)
-      (db, subst (λ conn. (file_state conn).may_leave db) c.into_connection.ensures.connection left, refl)))
+    subst (λ link. slots_in db ≡ content g.D.Disk link) (sym c.in-Open.is)
+    (c.into_connection.ensures.durable honest (subst (λ link. is_waiting g.D.Disk link ≡ false) c.in-Open.is runs) (slots_in db)
+    (db, subst (λ conn. (file_state conn).may_leave db) c.into_connection.ensures.connection left, refl)))

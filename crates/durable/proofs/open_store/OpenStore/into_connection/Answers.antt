@@ -1,4 +1,4 @@
-use Rattle.std.proofs.Common.{◌≡◌, sym, subst, ap, ◌∙◌}
+use Rattle.std.proofs.Common.{sym, subst, ap, ◌∙◌}
 use Rattle.durable.specs.Connected.{IsSound}
 use Rattle.durable.specs.Held.{slots_in}
 use Rattle.durable.proofs.open_store.OpenStore.into_connection.Goals as goal

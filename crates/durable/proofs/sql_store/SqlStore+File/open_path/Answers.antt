@@ -1,7 +1,6 @@
 use Rattle.std.proofs.Common.{◌≡◌, List, ℕ, subst, rules}
-use Rattle.sqlite.specs.Files.{over_files, file_state}
+use Rattle.sqlite.specs.Files.{file_state}
 use Rattle.units.specs.Code.{node_text}
-use Rattle.durable.specs.Connected as connected
 use Rattle.durable.specs.Held.{node_in}
 use Rattle.durable.proofs.sql_store.SqlStore+File.open_path.Goals as goal
 

@@ -1,4 +1,4 @@
-use Rattle.std.proofs.Common.{◌≡◌, Err, ap, refl, sym, subst, rules}
+use Rattle.std.proofs.Common.{rules}
 use Rattle.durable.proofs.Stores.{same-store}
 use Rattle.durable.proofs.sql_store.SqlStoreNodeStore.load_page.Goals as goal
 

@@ -6,9 +6,8 @@ returns-in-Ok-clause-settles g c clean =
     settled-again g.D.Disk c.args.self.now.link c.replace.result c.into_files-files.result _ c.replace.ensures.value g.met.D.Disk.seen_may_stay c.into_files-files.ensures.left (c.in-Ok.ensures.found clean)
 
 pub returns-in-Err-clause-fault : goal.returns-in-Err-clause-fault
-returns-in-Err-clause-fault g c clean =
-    (
-      c.into_files-files.result,
-      had-files g.D.Disk c.args.self.now.link c.replace.result c.into_files-files.result c.replace.ensures.value c.into_files-files.ensures.left,
-      c.in-Err.ensures.fault clean,
-    )
+returns-in-Err-clause-fault g c clean = (
+  c.into_files-files.result,
+  had-files g.D.Disk c.args.self.now.link c.replace.result c.into_files-files.result c.replace.ensures.value c.into_files-files.ensures.left,
+  c.in-Err.ensures.fault clean,
+)

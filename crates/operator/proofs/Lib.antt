@@ -6,3 +6,6 @@ pub mod Standings
 pub mod Runs
 pub mod NoFault
 pub mod WorkedReport
+pub mod RecordLines
+pub mod ShowWords
+pub mod WorkedWords

@@ -12,7 +12,8 @@ use Rattle.operator.specs.declared.fault.Cause.TheVariants.{NotJson, Shape, TooM
 use Rattle.operator.specs.EventLines.{IsEventLine}
 use Rattle.operator.specs.Lines.{Begins, IsLine, IsLineFault, IsTooLong}
 use Rattle.operator.specs.Streams.{longest_input}
-use Rattle.operator.specs.Rehearsal.{room_behind, AreEvents, IsRehearsal, IsSchemeFault, IsEventFault, IsInputFault}
+use Rattle.operator.specs.Rehearsal.{room_behind, AreEvents, IsRehearsal, IsEventFault, IsInputFault}
+use Rattle.operator.specs.SchemeFile.{IsSchemeFault}
 
 -- the bytes have one first line
 line_once : (bytes a b c d : List ℕ) → Begins bytes a b → Begins bytes c d → (a ≡ c) × (b ≡ d)

@@ -11,7 +11,7 @@ use Rattle.world.specs.declared.event.WorldEvent.{WorldEvent}
 use Rattle.world.specs.World.{World, step, run, outcomes}
 use Rattle.operator.specs.declared.fault.Cause.{Cause}
 use Rattle.operator.specs.declared.fault.OpFault.{OpFault}
-use Rattle.operator.specs.declared.fault.OpFault.TheVariants.{Input, Read, Write, NoMemory}
+use Rattle.operator.specs.declared.fault.OpFault.TheVariants.{Input, Read, Write, Store, NoMemory}
 use Rattle.operator.specs.EventLines.{IsEventLine}
 use Rattle.operator.specs.Lines.{IsLine}
 use Rattle.operator.specs.Report.{outcome_line}
@@ -98,6 +98,7 @@ next_fault opened before lines all w text rest room number (Input line cause) ra
 next_fault opened before lines all w text rest room number NoMemory ran some wrong = tt
 next_fault opened before lines all w text rest room number Read ran some wrong = absurd wrong
 next_fault opened before lines all w text rest room number (Write count) ran some wrong = absurd wrong
+next_fault opened before lines all w text rest room number (Store node fault) ran some wrong = absurd wrong
 
 pub ran_all : (opened : World) (before lines : List ℕ) (all : ℕ) (w : World) (text rest : List ℕ) (room number : ℕ) → Ran opened before lines all w text rest room number → length rest ≡ 0
     → (events : List WorldEvent) × AreEvents lines all events × (w ≡ run opened events) × (text ≡ before ++ outcome_lines 1 (outcomes opened events))
@@ -130,6 +131,7 @@ early input first lines scheme (Input line cause) begins is wrong =
 early input first lines scheme NoMemory begins is wrong = tt
 early input first lines scheme Read begins is wrong = absurd wrong
 early input first lines scheme (Write count) begins is wrong = absurd wrong
+early input first lines scheme (Store node fault) begins is wrong = absurd wrong
 
 pub early_too : {T : Type 0} (input first lines : List ℕ) (scheme : Scheme) (r : Result T OpFault) → IsLine input longest_input first lines → IsSchemeText first scheme
     → IfErr r (IsLinesFault lines (room_behind longest_input first)) → IfErr r (IsEarlyFault input)

@@ -1,9 +1,12 @@
--- The words for what is wrong with a line, and the program's exit status.
+-- The words for what is wrong with a line, a store's faults, and the program's exit status.
 use Rattle.std.specs.Prelude.{ℕ, List, codes}
+use Rattle.units.specs.declared.code.Node.{Node}
+use Rattle.durable.specs.declared.fault.StoreFault.{StoreFault}
+use Rattle.durable.specs.declared.fault.StoreFault.TheVariants.{NoMemory as OutOfMemory}
 use Rattle.operator.specs.declared.fault.Cause.{Cause}
 use Rattle.operator.specs.declared.fault.Cause.TheVariants.{NotJson, Shape, TooMany, TooFew, CodeTwice, AccountTwice, UnknownAccount, AllotmentOverlap, Order, Truncated, TooLong}
 use Rattle.operator.specs.declared.fault.OpFault.{OpFault}
-use Rattle.operator.specs.declared.fault.OpFault.TheVariants.{Input, Read, Write, NoMemory}
+use Rattle.operator.specs.declared.fault.OpFault.TheVariants.{Input, Read, Write, Store, NoMemory}
 
 abbrev pub cause_text : Cause → List ℕ
 cause_text NotJson = codes "not-json"
@@ -18,9 +21,15 @@ cause_text Order = codes "order"
 cause_text Truncated = codes "truncated"
 cause_text TooLong = codes "too-long"
 
--- 3: the input, or what it came by; 5: memory
+-- want of memory is the command's own fault, and every other one the store's
+abbrev pub of_store : Node → StoreFault → OpFault
+of_store node OutOfMemory = NoMemory
+of_store node fault = Store node fault
+
+-- 3: the input, or what it came by; 4: a store; 5: memory
 abbrev pub exit_status : OpFault → ℕ
 exit_status (Input line cause) = 3
 exit_status Read = 3
 exit_status (Write count) = 3
+exit_status (Store node fault) = 4
 exit_status NoMemory = 5

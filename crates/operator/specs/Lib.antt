@@ -5,4 +5,6 @@ pub mod Report
 pub mod Streams
 pub mod Words
 pub mod Table
+pub mod SchemeFile
 pub mod Rehearsal
+pub mod Show

@@ -1,19 +1,16 @@
 -- The input of a rehearsal: a scheme's line and event lines; and the first fault that an input has.
-use Rattle.std.specs.Prelude.{◌≡◌, ℕ, zero, suc, ◌+◌, ◌-◌, ◌<◌, ◌⊎◌, List, [], ◌∷◌, length, take, Option, Some, None}
+use Rattle.std.specs.Prelude.{◌≡◌, ℕ, zero, suc, ◌+◌, ◌-◌, ◌<◌, ◌⊎◌, List, [], ◌∷◌, length, take, Option}
 use Rattle.std.specs.Io.KnownBytes.{Appends, Keeps}
-use Rattle.std.specs.Option.{IsSomeAnd}
 use Rattle.world.specs.declared.event.WorldEvent.{WorldEvent}
-use Rattle.scheme.specs.Faults.{IsFault}
 use Rattle.scheme.specs.Text.{IsSchemeText}
-use Rattle.scheme.specs.declared.members.SchemeFault.{SchemeFault}
-use Rattle.scheme.specs.declared.members.SchemeFault.TheVariants as scheme_fault
 use Rattle.scheme.specs.declared.registries.Scheme.{Scheme}
 use Rattle.operator.specs.declared.fault.Cause.{Cause}
-use Rattle.operator.specs.declared.fault.Cause.TheVariants.{NotJson, Shape, TooMany, TooFew, CodeTwice, AccountTwice, UnknownAccount, AllotmentOverlap, Order}
+use Rattle.operator.specs.declared.fault.Cause.TheVariants.{Order}
 use Rattle.operator.specs.declared.fault.OpFault.{OpFault}
-use Rattle.operator.specs.declared.fault.OpFault.TheVariants.{Input, Read, Write, NoMemory}
+use Rattle.operator.specs.declared.fault.OpFault.TheVariants.{Input, Read, Write, Store, NoMemory}
 use Rattle.operator.specs.EventLines.{IsEventLine}
 use Rattle.operator.specs.Lines.{IsLine, IsLineFault}
+use Rattle.operator.specs.SchemeFile.{IsSchemeFault}
 use Rattle.operator.specs.Streams.{longest_input, Takes}
 use Rattle.operator.specs.Table.{IsReport}
 
@@ -37,22 +34,6 @@ pub record IsRehearsal (input : List ℕ) (scheme : Scheme) (events : List World
   pub events_are : AreEvents lines (room_behind longest_input first) events
 
 -- ---- the first fault of an input
-
--- the fault of a scheme that a cause names
-abbrev pub fault_of : Cause → Option SchemeFault
-fault_of NotJson = Some scheme_fault.NotJson
-fault_of Shape = Some scheme_fault.Shape
-fault_of TooMany = Some scheme_fault.TooMany
-fault_of TooFew = Some scheme_fault.TooFew
-fault_of CodeTwice = Some scheme_fault.CodeTwice
-fault_of AccountTwice = Some scheme_fault.AccountTwice
-fault_of UnknownAccount = Some scheme_fault.UnknownAccount
-fault_of AllotmentOverlap = Some scheme_fault.AllotmentOverlap
-fault_of _ = None
-
--- the line is no scheme, for that cause
-abbrev pub IsSchemeFault : List ℕ → Cause → Type 0
-IsSchemeFault line cause = IsSomeAnd (fault_of cause) (IsFault line)
 
 -- the line is no event
 pub record IsNoEvent (bytes : List ℕ) (room : ℕ) (cause : Cause) : Type 0 where
@@ -109,6 +90,7 @@ abbrev pub FailsSo : OpFault → (read_old read_new written_old written_new : Op
 FailsSo (Input line cause) r s v w = Finds r s line cause × Keeps v w
 FailsSo Read r s v w = Keeps v w
 FailsSo NoMemory r s v w = Keeps v w
+FailsSo (Store node fault) r s v w = ⊥
 FailsSo (Write count) r s v w = (text : List ℕ) × Reports r s text × (count < length text) × Appends v w (take count text)
 
 -- what the command has done so far, where it goes on only without a fault
@@ -117,6 +99,7 @@ IsEarlyFault input (Input line cause) = IsInputFault input line cause
 IsEarlyFault input NoMemory = Unit {0}
 IsEarlyFault input Read = ⊥
 IsEarlyFault input (Write count) = ⊥
+IsEarlyFault input (Store node fault) = ⊥
 
 -- a fault of the event lines, the first of which is line 2
 abbrev pub IsLinesFault : List ℕ → ℕ → OpFault → Type 0
@@ -124,13 +107,7 @@ IsLinesFault lines room (Input line cause) = (good : ℕ) × (line ≡ good + 2)
 IsLinesFault lines room NoMemory = Unit {0}
 IsLinesFault lines room Read = ⊥
 IsLinesFault lines room (Write count) = ⊥
-
--- a fault of the scheme's line, which is line 1
-abbrev pub IsSchemeLineFault : List ℕ → OpFault → Type 0
-IsSchemeLineFault first (Input line cause) = (line ≡ 1) × IsSchemeFault first cause
-IsSchemeLineFault first NoMemory = Unit {0}
-IsSchemeLineFault first Read = ⊥
-IsSchemeLineFault first (Write count) = ⊥
+IsLinesFault lines room (Store node fault) = ⊥
 
 -- a fault of the line that comes next
 abbrev pub IsNextFault : List ℕ → ℕ → ℕ → OpFault → Type 0
@@ -138,3 +115,4 @@ IsNextFault lines room number (Input line cause) = (line ≡ number) × (IsLineF
 IsNextFault lines room number NoMemory = Unit {0}
 IsNextFault lines room number Read = ⊥
 IsNextFault lines room number (Write count) = ⊥
+IsNextFault lines room number (Store node fault) = ⊥

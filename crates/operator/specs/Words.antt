@@ -1,23 +1,44 @@
 -- What the words of a command line name, by the matches that clap gives of them.
-use Rattle.std.specs.Prelude.{◌≡◌, Some, true, false, codes}
-use Rattle.clap.specs.Words.{App, new_app, with_subcommand, subcommand_name_of, app_of}
+use Rattle.std.specs.Prelude.{◌≡◌, ℕ, List, [], ◌∷◌, Option, Some, true, false, codes, option_and_then, option_map, string_bytes}
+use Rattle.clap.specs.Words.{App, Rule, Shape, new_app, new_rule, with_subcommand, shape_of, subcommand_name_of, subcommand_rows_of, first_of, app_of}
 use Rattle.clap.specs.declared.builder.command.Command.TheViews.{out-Command}
 use Rattle.clap.specs.Simple.{new_shape}
 use Rattle.clap.specs.declared.builder.command.Command.{Command}
 use Rattle.clap.specs.declared.parser.matches.ArgMatches.{ArgMatches}
 use Rattle.operator.specs.declared.words.Action.{Action}
-use Rattle.operator.specs.declared.words.Action.TheVariants.{Rehearse}
+use Rattle.operator.specs.declared.words.Action.TheVariants.{Rehearse, Show}
 
 -- the program, which demands a subcommand
 abbrev pub program : App
 program = record (new_app (codes "kyoto-link")) { top = record (new_shape (codes "kyoto-link")) { subcommand_required = true } }
 
+-- an argument without a flag, which must be given
+abbrev pub positional : List ℕ → Rule
+positional name = record (new_rule name) { required = true }
+
+abbrev pub show_shape : Shape
+show_shape = record (new_shape (codes "show")) { rules = positional (codes "SCHEME") ∷ positional (codes "DIR") ∷ positional (codes "NODE") ∷ [] }
+
 -- the program with its subcommands
 abbrev pub kyoto_link : App
-kyoto_link = with_subcommand program (new_shape (codes "rehearse"))
+kyoto_link = with_subcommand (with_subcommand program (new_shape (codes "rehearse"))) show_shape
 
 abbrev pub IsCommand : App → Command → Type 0
 IsCommand a c = (app_of c ≡ a) × ((out-Command c).has_globals ≡ false)
 
+abbrev pub IsSubcommand : Shape → Command → Type 0
+IsSubcommand s c = (shape_of c ≡ s) × ((out-Command c).has_globals ≡ false)
+
+-- the value of an argument of the subcommand
+abbrev pub argument_of : ArgMatches → List ℕ → Option (List ℕ)
+argument_of m name = option_and_then (first_of name) (option_map (λ p. p.1) (subcommand_rows_of m))
+
+-- the action is to show, and its words are the values of the three arguments
+abbrev pub IsShow : (List ℕ → Option (List ℕ)) → Action → Type 0
+IsShow value Rehearse = ⊥
+IsShow value (Show scheme folder node) =
+    (value (codes "SCHEME") ≡ Some (string_bytes scheme)) × (value (codes "DIR") ≡ Some (string_bytes folder)) × (value (codes "NODE") ≡ Some (string_bytes node))
+
 abbrev pub NamesAction : ArgMatches → Action → Type 0
 NamesAction m Rehearse = subcommand_name_of m ≡ Some (codes "rehearse")
+NamesAction m (Show scheme folder node) = (subcommand_name_of m ≡ Some (codes "show")) × IsShow (argument_of m) (Show scheme folder node)

@@ -1,10 +1,12 @@
 //! What a command answers where it does not do its work.
 
 ghost use Rattle.std.specs.Prelude.{◌≡◌};
-ghost use Rattle.operator.specs.Faults.{exit_status};
+ghost use Rattle.operator.specs.Faults.{exit_status, of_store};
 
+use durable::StoreFault;
 use std::fmt;
 use thiserror::Error;
+use units::Node;
 
 /// What is wrong with a line of an input.
 #[derive(Clone, Copy, Debug, PartialEq, Eq)]
@@ -68,6 +70,9 @@ pub enum OpFault {
     /// The output could not be written, but for that many of its first bytes.
     #[error("write failed after {0} bytes")]
     Write(u64),
+    /// The store of the node has a fault, which is not want of memory where `store_fault` made it.
+    #[error("store {node}: {fault}")]
+    Store { node: Node, fault: StoreFault },
     /// Memory was refused.
     #[error("out of memory")]
     NoMemory,
@@ -80,7 +85,18 @@ impl OpFault {
     {
         match self {
             OpFault::Input { .. } | OpFault::Read | OpFault::Write(_) => 3,
+            OpFault::Store { .. } => 4,
             OpFault::NoMemory => 5,
         }
+    }
+}
+
+/// What a fault of the node's store is to a command: `NoMemory` for want of memory, else `Store`.
+pub fn store_fault(node: Node, fault: StoreFault) -> OpFault
+    ensures { result ≡ of_store node fault }
+{
+    match fault {
+        StoreFault::NoMemory => OpFault::NoMemory,
+        _ => OpFault::Store { node, fault },
     }
 }

@@ -1,15 +1,21 @@
-//! The program's commands: the words of its command line, `rehearse`, and the report.
+//! The program's commands: the words of its command line, `rehearse` and its report, and `show`.
 #![tactic(auto)]
 
 mod events;
 mod fault;
 mod rehearsal;
 mod report;
+mod scheme_file;
+#[cfg(test)]
+mod show_tests;
+mod showing;
 mod streams;
 #[cfg(test)]
 mod tests;
 mod words;
 
-pub use fault::{Cause, OpFault};
+pub use fault::{Cause, OpFault, store_fault};
 pub use rehearsal::rehearse;
+pub use scheme_file::{node_of, read_scheme};
+pub use showing::show;
 pub use words::{Action, UsageFault, parse_words};

@@ -9,44 +9,23 @@ ghost use Rattle.world.specs.World.{step, run, outcomes};
 ghost use Rattle.operator.specs.EventLines.{IsEventLine};
 ghost use Rattle.operator.specs.Report.{outcome_line};
 ghost use Rattle.operator.specs.Table.{IsReport, outcome_lines};
-ghost use Rattle.operator.specs.Rehearsal.{room_behind, AreEvents, IsRehearsal, IsSchemeLineFault, IsNextFault, IsLinesFault, IsEarlyFault, Reports, FailsSo};
+ghost use Rattle.operator.specs.Rehearsal.{room_behind, AreEvents, IsRehearsal, IsNextFault, IsLinesFault, IsEarlyFault, Reports, FailsSo};
 ghost use Rattle.operator.specs.Lines.{IsLine, IsLineFault, IsTooLong, IsTruncated};
 
 use crate::events::{LineFault, event_of};
 use crate::fault::{Cause, OpFault};
 use crate::report::{push_outcome, push_table};
-use crate::streams::{ReadFault, read_input, write_text};
+use crate::scheme_file::scheme_of;
+use crate::streams::{LONGEST_LINE, ReadFault, read_input, write_text};
 use memchr::memchr;
-use scheme::{Scheme, SchemeFault};
+use scheme::Scheme;
 use std::alloc::Global;
 use std::io::{Read, Write};
 use units::NoMemory;
 use world::{World, WorldEvent};
 
-/// The greatest length of a line in bytes, its newline left out.
-const LONGEST_LINE: usize = 1_048_576;
-
 /// The greatest length of an input in bytes.
 const LONGEST_INPUT: usize = 16_777_216;
-
-fn scheme_of(alloc: Global, line: &[u8]) -> Result<Scheme, OpFault>
-    ensures ok { IfOk result (λ s. IsSchemeText line.now s) }
-    ensures err { IfErr result (IsSchemeLineFault line.now) }
-{
-    let cause = match Scheme::read(alloc, line) {
-        Ok(scheme) => return Ok(scheme),
-        Err(SchemeFault::NoMemory) => return Err(OpFault::NoMemory),
-        Err(SchemeFault::NotJson) => Cause::NotJson,
-        Err(SchemeFault::Shape) => Cause::Shape,
-        Err(SchemeFault::TooMany) => Cause::TooMany,
-        Err(SchemeFault::TooFew) => Cause::TooFew,
-        Err(SchemeFault::CodeTwice) => Cause::CodeTwice,
-        Err(SchemeFault::AccountTwice) => Cause::AccountTwice,
-        Err(SchemeFault::UnknownAccount) => Cause::UnknownAccount,
-        Err(SchemeFault::AllotmentOverlap) => Cause::AllotmentOverlap,
-    };
-    Err(OpFault::Input { line: 1, cause })
-}
 
 /// The first line of `bytes`, and what is behind its newline. `room` is how many more bytes the
 /// input may have.

@@ -6,6 +6,9 @@ ghost use Rattle.operator.specs.Streams.{Takes};
 use std::alloc::Global;
 use std::io::{ErrorKind, Read, Write};
 
+/// The greatest length of a line in bytes, its newline left out.
+pub const LONGEST_LINE: usize = 1_048_576;
+
 /// The greatest length of an input in bytes.
 const LONGEST_INPUT: usize = 16_777_216;
 

@@ -1,6 +1,9 @@
-use crate::{Action, Cause, OpFault, UsageFault, parse_words, rehearse};
+use crate::{Action, Cause, OpFault, UsageFault, parse_words, rehearse, store_fault};
+use durable::StoreFault;
 use std::alloc::{AllocError, Global};
 use std::io::{self, ErrorKind, Read, Write};
+use std::test::Fail;
+use units::{Code, Node};
 
 const SCHEME: &str =
     r#"{"records":1000,"registries":[{"accounts":[7,8],"allotted":[],"code":"JP","eligible":true,"kinds":["AAU","CER"]},{"accounts":[1,2],"allotted":[{"account":1,"units":["NZ:1:1-100:AAU"]}],"code":"NZ","eligible":true,"kinds":["AAU","RMU","ERU","CER","tCER","lCER"]}]}"#;
@@ -248,10 +251,15 @@ fn fault_lines(rt: HostRuntime) {
         line: 2,
         cause: Cause::Order,
     };
+    let nz = Node::Registry(Code::read("NZ").expect(&rt, "a code"));
+    let damaged = store_fault(nz, StoreFault::Damaged(1));
+    let reopen = store_fault(Node::Itl, StoreFault::Reopen);
     let cases = [
         (input, "line 2: order", 3),
         (OpFault::Read, "read failed", 3),
         (OpFault::Write(15), "write failed after 15 bytes", 3),
+        (damaged, "store NZ: damaged 1", 4),
+        (reopen, "store ITL: reopen", 4),
         (OpFault::NoMemory, "out of memory", 5),
     ];
     for (fault, line, status) in cases {
@@ -363,4 +371,38 @@ fn command_words(rt: HostRuntime) {
             Err(UsageFault::Usage(_))
         )
     );
+}
+
+#[test]
+fn words_of_show(rt: HostRuntime) -> Result<(), Fail> {
+    let words = ["kyoto-link", "show", "s.json", "d", "NZ"];
+    let Ok(
+        Action::Show {
+            scheme,
+            folder,
+            node,
+        },
+    ) = parse_words(rt.alloc(), &words)
+    else {
+        return Err("not Show".into());
+    };
+    assert_eq!(rt; scheme.as_str(), "s.json");
+    assert_eq!(rt; folder.as_str(), "d");
+    assert_eq!(rt; node.as_str(), "NZ");
+    assert!(rt;
+        matches!(
+            parse_words(rt.alloc(), &["kyoto-link", "show", "s.json", "d"]),
+            Err(UsageFault::Usage(_))
+        )
+    );
+    assert!(rt;
+        matches!(
+            parse_words(
+                rt.alloc(),
+                &["kyoto-link", "show", "s.json", "d", "NZ", "JP"]
+            ),
+            Err(UsageFault::Usage(_))
+        )
+    );
+    Ok(())
 }

@@ -1,22 +1,29 @@
 //! The command line.
-ghost use Rattle.std.specs.Prelude.{◌≡◌, true, IfOk, IfErr, IfSome, map};
+ghost use Rattle.std.specs.Prelude.{◌≡◌, true, false, Some, IfOk, IfErr, IfSome, codes, map, string_bytes};
+ghost use Rattle.clap.specs.Simple.{new_shape};
 ghost use Rattle.clap.specs.Takes.{takes};
 ghost use Rattle.clap.specs.Values.{kind_of};
-ghost use Rattle.clap.specs.Words.{HasMatchesOf};
+ghost use Rattle.clap.specs.Words.{HasMatchesOf, first_value, found_of, rule_of};
 ghost use Rattle.clap.specs.declared.error.kind.ErrorKind.TheVariants.{OutOfMemory};
 ghost use Rattle.clap.specs.declared.parser.matches.ArgMatches.{ArgMatches};
-ghost use Rattle.operator.specs.Words.{NamesAction, IsCommand, kyoto_link};
+ghost use Rattle.operator.specs.Words.{NamesAction, IsCommand, IsShow, IsSubcommand, kyoto_link, positional, show_shape};
 
 use clap::error::ErrorKind;
-use clap::{ArgMatches, Command, Error};
+use clap::{Arg, ArgMatches, Command, Error};
 use std::alloc::{AllocError, Global};
 use std::convert::AsStr;
 
 /// What the words ask for.
-#[derive(Clone, Copy, Debug, PartialEq, Eq)]
+#[derive(Debug, Drop)]
 pub enum Action {
     /// Run the events that standard input lists, and report.
     Rehearse,
+    /// Write the records of the store of the node `node`, which is in the folder `folder`. The file `scheme` has the scheme.
+    Show {
+        scheme: String,
+        folder: String,
+        node: String,
+    },
 }
 
 /// Why the words name no action. The texts are `clap`'s.
@@ -30,26 +37,82 @@ pub enum UsageFault {
     NoMemory,
 }
 
+fn rehearse_command<'a>(alloc: Global) -> Command<'a>
+    ensures { IsSubcommand (new_shape (codes "rehearse")) result }
+{
+    Command::new(alloc, "rehearse").about(
+        "Run a scheme and its events, read from standard input, and write what each event came to and the table that they lead to",
+    )
+}
+
+fn positional<'a>(alloc: Global, name: &'a str, help: &'a str) -> Arg<'a>
+    ensures rule { rule_of result ≡ positional name.now }
+    ensures global { result.global ≡ false }
+{
+    Arg::new(alloc, name).required(true).help(help)
+}
+
+fn show_command<'a>(alloc: Global) -> Result<Command<'a>, AllocError>
+    ensures { IfOk result (IsSubcommand show_shape) }
+{
+    let scheme = positional(alloc, "SCHEME", "The file with the scheme");
+    let folder = positional(alloc, "DIR", "The folder with the nodes' stores");
+    let node = positional(
+        alloc,
+        "NODE",
+        "The node: ITL, or the code of a registry of the scheme",
+    );
+    Command::new(alloc, "show")
+        .about("Write the records of a node's store, each with its place")
+        .arg(scheme)?
+        .arg(folder)?
+        .arg(node)
+}
+
 fn command<'a>(alloc: Global) -> Result<Command<'a>, AllocError>
     ensures { IfOk result (IsCommand kyoto_link) }
 {
-    let rehearse = Command::new(alloc, "rehearse").about(
-        "Run a scheme and its events, read from standard input, and write what each event came to and the table that they lead to",
-    );
     let program = Command::new(alloc, "kyoto-link")
         .about(
             "The external transfer of emission units between national registries and their transaction log",
         )
         .subcommand_required(true);
-    program.subcommand(rehearse)
+    program
+        .subcommand(rehearse_command(alloc))?
+        .subcommand(show_command(alloc)?)
 }
 
-fn action_of(matches: &ArgMatches) -> Option<Action>
+/// The value of an argument, or `None`, where there is none or memory was refused.
+fn value_of(alloc: Global, matches: &ArgMatches, name: &str) -> Option<String>
+    ensures { IfSome result (λ s. first_value (found_of matches.now) name.now ≡ Some (string_bytes s)) }
+{
+    let value = matches.get_str(name)?;
+    String::from_str(alloc, value).ok()
+}
+
+fn show_action(alloc: Global, matches: &ArgMatches) -> Option<Action>
+    ensures { IfSome result (IsShow (first_value (found_of matches.now))) }
+{
+    let scheme = value_of(alloc, matches, "SCHEME")?;
+    let folder = value_of(alloc, matches, "DIR")?;
+    let node = value_of(alloc, matches, "NODE")?;
+    Some(Action::Show {
+        scheme,
+        folder,
+        node,
+    })
+}
+
+/// The action that the matches name. `None` only where memory was refused, if `clap` gave them.
+fn action_of(alloc: Global, matches: &ArgMatches) -> Option<Action>
     ensures { IfSome result (NamesAction matches.now) }
 {
-    let (name, _) = matches.subcommand()?;
+    let (name, inner) = matches.subcommand()?;
     if name == "rehearse" {
         return Some(Action::Rehearse);
+    }
+    if name == "show" {
+        return show_action(alloc, inner);
     }
     None
 }
@@ -74,7 +137,7 @@ pub fn parse_words<S: AsStr>(alloc: Global, words: &[S]) -> Result<Action, Usage
         return Err(UsageFault::NoMemory);
     };
     match command.try_get_matches_from(words) {
-        Ok(matches) => match action_of(&matches) {
+        Ok(matches) => match action_of(alloc, &matches) {
             Some(action) => Ok(action),
             None => Err(UsageFault::NoMemory),
         },

@@ -1,0 +1,45 @@
+-- What `show` writes of a store, and why it doesn't.
+use Rattle.std.specs.Prelude.{◌≡◌, ◌≢◌, ◌<◌, ◌+◌, ◌++◌, ℕ, List, [], ◌∷◌, length, take, codes, decimal, Option}
+use Rattle.std.specs.Io.KnownBytes.{Appends, Keeps}
+use Rattle.units.specs.declared.code.Node.{Node}
+use Rattle.wire.specs.Records.{record_text}
+use Rattle.wire.specs.declared.input.Input.{Input}
+use Rattle.durable.specs.Records.{Places, AreRecords, IsDamagedAt}
+use Rattle.durable.specs.declared.fault.StoreFault.{StoreFault}
+use Rattle.durable.specs.declared.fault.StoreFault.TheVariants.{Damaged, NoMemory as OutOfMemory}
+use Rattle.operator.specs.declared.fault.OpFault.{OpFault}
+use Rattle.operator.specs.declared.fault.OpFault.TheVariants as op_fault
+
+-- a record behind its place
+abbrev pub record_line : ℕ → Input → List ℕ
+record_line place input = decimal place ++ codes " " ++ record_text input ++ codes "\n"
+
+-- the lines of the records, the first of which is at that place
+abbrev pub record_lines : ℕ → List Input → List ℕ
+record_lines place [] = []
+record_lines place (input ∷ inputs) = record_line place input ++ record_lines (place + 1) inputs
+
+-- the lines of all records, and the last line
+abbrev pub shown : List Input → List ℕ
+shown inputs = record_lines 0 inputs ++ codes "end\n"
+
+-- the fault is that of the node's store, and not want of memory. Where the store is honest, a place that is told as damaged is
+pub record IsToldFault (node told : Node) (fault : StoreFault) (honest : Type 0) (places : Places) : Type 0 where
+  pub whose : told ≡ node
+  pub named : fault ≢ OutOfMemory
+  pub damaged : honest → (p : ℕ) → fault ≡ Damaged p → IsDamagedAt p places
+
+-- the first bytes of what is shown were written, and not all. Where the store is honest, its records are shown
+pub record IsCutOff (count : ℕ) (honest : Type 0) (places : Places) (old new : Option (List ℕ)) : Type 0 where
+  pub inputs : List Input
+  pub are : honest → AreRecords places inputs
+  pub fewer : count < length (shown inputs)
+  pub written : Appends old new (take count (shown inputs))
+
+-- nothing was written, or the first bytes of what is shown, fewer than all
+abbrev pub FailsToShow : OpFault → Node → (honest : Type 0) → Places → (old new : Option (List ℕ)) → Type 0
+FailsToShow (op_fault.Store told fault) node honest places v w = IsToldFault node told fault honest places × Keeps v w
+FailsToShow op_fault.NoMemory node honest places v w = Keeps v w
+FailsToShow (op_fault.Write count) node honest places v w = IsCutOff count honest places v w
+FailsToShow (op_fault.Input line cause) node honest places v w = ⊥
+FailsToShow op_fault.Read node honest places v w = ⊥

@@ -4,9 +4,9 @@
 ghost use Rattle.std.specs.Prelude.{◌≡◌, ◌++◌, IfOk, codes, string_bytes};
 ghost use Rattle.units.specs.Code.{node_text};
 
-use durable::StoreFault;
+use durable::SqlStore;
 use operator::{
-    Action, OpFault, UsageFault, node_of, parse_words, read_scheme, rehearse, store_fault,
+    Action, OpFault, UsageFault, node_of, parse_words, read_scheme, rehearse, show, store_fault,
 };
 use scheme::Scheme;
 use std::alloc::{AllocError, Global};
@@ -40,14 +40,12 @@ fn store_path(alloc: Global, folder: &str, node: Node) -> Result<String, AllocEr
     format!(in alloc; "{folder}/{node}.db")
 }
 
-// TO PLUG IN, until durable has `SqlStore::open_path`. Then the body is
-//     let mut store = match SqlStore::open_path(rt, path, node) {
-//         Ok(store) => store,
-//         Err(fault) => return Err(store_fault(node, fault)),
-//     };
-//     show(rt.alloc(), node, &mut store, &mut io::writer(rt))
-fn show_at(_rt: &HostRuntime, _path: &str, node: Node) -> Result<(), OpFault> {
-    Err(store_fault(node, StoreFault::Device))
+fn show_at(rt: &HostRuntime, path: &str, node: Node) -> Result<(), OpFault> {
+    let mut store = match SqlStore::open_path(rt, path, node) {
+        Ok(store) => store,
+        Err(fault) => return Err(store_fault(node, fault)),
+    };
+    show(rt.alloc(), node, &mut store, &mut io::writer(rt))
 }
 
 fn show_node(rt: &HostRuntime, scheme: &str, folder: &str, node: &str) -> Result<(), OpFault> {

@@ -2,7 +2,7 @@
 ghost use Rattle.std.specs.Prelude.{◌≡◌, ◌≢◌, ◌++◌, List, Err, IfOk, IfErr, IsTrue, OnOk, false};
 ghost use Rattle.std.specs.Io.KnownBytes.{Appends};
 ghost use Rattle.wire.specs.declared.input.Input.{Input};
-ghost use Rattle.durable.specs.Faults.{is_device_fault};
+ghost use Rattle.durable.specs.Faults.{is_device_fault, IsReadFault};
 ghost use Rattle.durable.specs.Records.{AreRecords};
 ghost use Rattle.durable.specs.declared.fault.StoreFault.{StoreFault};
 ghost use Rattle.operator.specs.Show.{FailsToShow, record_line, shown};
@@ -57,6 +57,7 @@ pub fn show<S: NodeStore, W: Write>(
         × Appends (W.contents writer.old) (W.contents writer.new) (shown inputs)) }
     ensures err { IfErr result (λ e. FailsToShow e node (S.is_honest store.new) (S.content store.old) (W.contents writer.old) (W.contents writer.new)) }
     ensures reopen { IsTrue (S.is_waiting store.old) → (result ≡ Err (OpFault.Store node StoreFault.Reopen)) × (store.new ≡ store.old) }
+    ensures named { S.is_waiting store.old ≡ false → IfErr result (λ e. (f : StoreFault) → e ≡ OpFault.Store node f → IsReadFault f) }
     ensures cause { IfErr result (λ e. (f : StoreFault) → e ≡ OpFault.Store node f → IsTrue (is_device_fault f) → S.faults store.new ≢ S.faults store.old) }
     ensures honest { S.is_honest store.new → S.is_honest store.old }
     ensures kept { S.is_honest store.new → S.is_waiting store.new ≡ false → S.content store.new ≡ S.content store.old }

@@ -70,7 +70,7 @@ pub enum OpFault {
     /// The output could not be written, but for that many of its first bytes.
     #[error("write failed after {0} bytes")]
     Write(u64),
-    /// The store of the node has a fault, which is not want of memory where `store_fault` made it.
+    /// The node's store has that fault. Want of memory is `NoMemory`: see `store_fault`.
     #[error("store {node}: {fault}")]
     Store { node: Node, fault: StoreFault },
     /// Memory was refused.

@@ -1,0 +1,165 @@
+#!/usr/bin/env python3
+"""How long a store in a file takes to append records and to load them, beside SQLite's C library.
+
+The stores have 64,000 records, appended one by one or in batches of 64, and 16,000, 32,000 and 64,000 to load.
+Printed are the best times, the store's as a multiple of C's, a batch as a part of as many single appends, and the
+ratio of each doubling of loading. The exit status is 1 where a ratio is over its limit.
+"""
+
+import argparse
+import pathlib
+import shutil
+import sqlite3
+import subprocess
+import sys
+import tempfile
+
+TOP = pathlib.Path(__file__).resolve().parent.parent
+CRATE = TOP / "crates" / "store_bench"
+PROGRAM = CRATE / "out" / "store_bench"
+SOURCE = TOP / "bench" / "store.c"
+RECORD = '{"account":1,"input":"propose","to_account":7,"to_registry":"JP","units":["NZ:1:1-100:AAU"]}'
+BATCH = 64
+RECORDS = 64_000
+MOST_RECORDS = 1_000_000
+MOST_LOADS = 1_000
+MOST_OF_SINGLE = 0.2
+MOST_DOUBLING = 2.3
+
+
+def build():
+    """Proves and builds the program, where that isn't done yet."""
+    if shutil.which("rt") is None:
+        sys.exit("rt, which builds the program, isn't on PATH")
+    # rt runs what it built, so it is asked for no records.
+    words = ["rt", "run", "--", "store", "0", "1", "0"]
+    ended = subprocess.run(words, cwd=CRATE, stdin=subprocess.DEVNULL, capture_output=True, text=True, check=False)
+    if ended.returncode != 0:
+        said = (ended.stdout + ended.stderr)[-2_000:]
+        sys.exit(f"the build failed; this is the end of what rt said:\n{said}")
+
+
+def build_c(program):
+    if shutil.which("gcc") is None:
+        sys.exit("gcc, which builds store.c, isn't on PATH")
+    words = ["gcc", "-O2", "-std=c11", "-Wall", "-Wextra", "-o", program, SOURCE, "-lsqlite3"]
+    if subprocess.run(words, check=False).returncode != 0:
+        sys.exit("store.c could not be built; it needs SQLite's C library with its header")
+
+
+def check_store(path, records):
+    """The store has the records, and is whole."""
+    store = sqlite3.connect(path)
+    wanted = (records, 0, records - 1, records)
+    query = "SELECT count(*), min(place), max(place), sum(body = ?1) FROM entries"
+    found = store.execute(query, (RECORD,)).fetchone()
+    if found != wanted:
+        sys.exit(f"{path.name}: records, first and last place, and right bodies are {found}, and not {wanted}")
+    if store.execute("SELECT id, format, node FROM about").fetchall() != [(1, 1, "NZ")]:
+        sys.exit(f"{path.name} is not a store of NZ")
+    if store.execute("PRAGMA integrity_check").fetchall() != [("ok",)]:
+        sys.exit(f"{path.name} is damaged")
+    store.close()
+
+
+def times(program, room, records, size, loads):
+    """The time of appending and the best one of loading (none without loads), both in milliseconds.
+
+    They count only once the store that was written has been looked at."""
+    with tempfile.TemporaryDirectory(dir=room) as folder:
+        path = pathlib.Path(folder) / "store"
+        words = [program, path, str(records), str(size), str(loads)]
+        ended = subprocess.run(words, stdout=subprocess.PIPE, text=True, check=False)
+        if ended.returncode != 0:
+            sys.exit(f"{program.name} ended with status {ended.returncode}")
+        appending, *loading = [int(line) / 1_000 for line in ended.stdout.splitlines()]
+        if len(loading) != loads:
+            sys.exit(f"{program.name} printed {len(loading)} times of {loads} loads")
+        check_store(path, records)
+    return appending, min(loading, default=None)
+
+
+def append_times(programs, room, given):
+    """The best times of appending, by the size of a batch: of each a list, our time and C's."""
+    best = {size: [float("inf")] * len(programs) for size in (1, BATCH)}
+    for _ in range(given.append_runs):
+        for size, times_of_size in best.items():
+            for place, program in enumerate(programs):
+                appending, _ = times(program, room, given.records, size, 0)
+                times_of_size[place] = min(times_of_size[place], appending)
+    return best
+
+
+def load_times(programs, room, given):
+    """The best times of loading, by the number of records: of each a list, our time and C's."""
+    counts = (given.records // 4, given.records // 2, given.records)
+    best = {count: [float("inf")] * len(programs) for count in counts}
+    for _ in range(given.load_runs):
+        for count, times_of_count in best.items():
+            for place, program in enumerate(programs):
+                _, loading = times(program, room, count, BATCH, given.loads)
+                times_of_count[place] = min(times_of_count[place], loading)
+    return best
+
+
+def beside(what, ours, of_c):
+    return f"{what:<32}  store {ours:10.3f} ms  C {of_c:10.3f} ms  ratio {ours / of_c:.2f}"
+
+
+def report_appends(best, records):
+    """Prints the times of appending, and tells whether they are within the limit."""
+    single, batched = best[1], best[BATCH]
+    print(beside(f"append {records:,} one by one", *single))
+    print(beside(f"append {records:,} in batches of {BATCH}", *batched))
+    of_single = batched[0] / single[0]
+    print(f"a batch of {BATCH} as a part of {BATCH} single appends: {of_single:.3f} (limit {MOST_OF_SINGLE})")
+    return of_single < MOST_OF_SINGLE
+
+
+def report_loads(best):
+    """Prints the times of loading, and tells whether they are within the limit."""
+    kept = True
+    before = None
+    for count, (ours, of_c) in best.items():
+        line = beside(f"load {count:,}", ours, of_c)
+        if before is not None:
+            doubling = ours / before
+            kept = kept and doubling <= MOST_DOUBLING
+            line += f"  doubling {doubling:.2f} (limit {MOST_DOUBLING})"
+        print(line)
+        before = ours
+    return kept
+
+
+def parse_words():
+    parser = argparse.ArgumentParser(description=__doc__.splitlines()[0])
+    parser.add_argument("--records", type=int, default=RECORDS, help="records of the largest store, at least 256")
+    parser.add_argument("--append-runs", type=int, default=3, help="runs of appending; the best times count")
+    parser.add_argument("--load-runs", type=int, default=20, help="runs of loading; the best times count")
+    parser.add_argument("--loads", type=int, default=5, help="loads of a run, at most 1,000")
+    parser.add_argument("--folder", default=TOP.parent, help="where the temporary folder of the stores is made")
+    given = parser.parse_args()
+    given.records = min(max(4 * BATCH, given.records), MOST_RECORDS)
+    given.append_runs = max(1, given.append_runs)
+    given.load_runs = max(1, given.load_runs)
+    given.loads = min(max(1, given.loads), MOST_LOADS)
+    return given
+
+
+def main():
+    given = parse_words()
+    build()
+    with tempfile.TemporaryDirectory(dir=given.folder) as folder:
+        room = pathlib.Path(folder)
+        program_in_c = room / "store_c"
+        build_c(program_in_c)
+        programs = (PROGRAM, program_in_c)
+        appends_kept = report_appends(append_times(programs, room, given), given.records)
+        loads_kept = report_loads(load_times(programs, room, given))
+    kept = appends_kept and loads_kept
+    print("within the limits" if kept else "over a limit")
+    return 0 if kept else 1
+
+
+if __name__ == "__main__":
+    sys.exit(main())

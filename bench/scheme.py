@@ -11,10 +11,11 @@ import itertools
 import json
 import pathlib
 import random
-import shutil
 import string
 import subprocess
 import sys
+
+import building
 
 CRATE = pathlib.Path(__file__).resolve().parent.parent / "crates" / "scheme_bench"
 PROGRAM = CRATE / "out" / "scheme_bench"
@@ -26,19 +27,6 @@ MOST_BLOCKS_OF_AN_ALLOTMENT = 20
 MOST_ROUNDS = 1_000
 MOST_OF_JSON = 3.0
 MOST_DOUBLING = 2.3
-
-
-def build():
-    """Proves and builds the program, where that isn't done yet."""
-    if shutil.which("rt") is None:
-        sys.exit("rt, which builds the program, isn't on PATH")
-    # rt runs what it built, so it is asked for no rounds.
-    words = ["rt", "run", "--", "0"]
-    scheme = (CRATE / "stdin").read_text(encoding="utf-8")
-    ended = subprocess.run(words, cwd=CRATE, input=scheme, capture_output=True, text=True, check=False)
-    if ended.returncode != 0:
-        said = (ended.stdout + ended.stderr)[-2_000:]
-        sys.exit(f"the build failed; this is the end of what rt said:\n{said}")
 
 
 def allotments(accounts, blocks):
@@ -88,7 +76,8 @@ def main():
     parser.add_argument("--runs", type=int, default=20, help="runs of each; the best times count")
     given = parser.parse_args()
     rounds = min(max(1, given.rounds), MOST_ROUNDS)
-    build()
+    # no rounds
+    building.prove_and_build(CRATE, ["0"], (CRATE / "stdin").read_text(encoding="utf-8"))
     texts = {blocks: scheme_text(blocks, registries) for blocks, registries in SIZES}
     best = {blocks: (float("inf"), float("inf")) for blocks in texts}
     for _ in range(max(1, given.runs)):

@@ -14,6 +14,8 @@ import subprocess
 import sys
 import tempfile
 
+import building
+
 TOP = pathlib.Path(__file__).resolve().parent.parent
 CRATE = TOP / "crates" / "store_bench"
 PROGRAM = CRATE / "out" / "store_bench"
@@ -25,18 +27,6 @@ MOST_RECORDS = 1_000_000
 MOST_LOADS = 1_000
 MOST_OF_SINGLE = 0.2
 MOST_DOUBLING = 2.3
-
-
-def build():
-    """Proves and builds the program, where that isn't done yet."""
-    if shutil.which("rt") is None:
-        sys.exit("rt, which builds the program, isn't on PATH")
-    # rt runs what it built, so it is asked for no records.
-    words = ["rt", "run", "--", "store", "0", "1", "0"]
-    ended = subprocess.run(words, cwd=CRATE, stdin=subprocess.DEVNULL, capture_output=True, text=True, check=False)
-    if ended.returncode != 0:
-        said = (ended.stdout + ended.stderr)[-2_000:]
-        sys.exit(f"the build failed; this is the end of what rt said:\n{said}")
 
 
 def build_c(program):
@@ -148,7 +138,8 @@ def parse_words():
 
 def main():
     given = parse_words()
-    build()
+    # no records
+    building.prove_and_build(CRATE, ["store", "0", "1", "0"])
     with tempfile.TemporaryDirectory(dir=given.folder) as folder:
         room = pathlib.Path(folder)
         program_in_c = room / "store_c"

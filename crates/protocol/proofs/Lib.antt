@@ -4,4 +4,4 @@ pub mod WorkedCleanUps
 pub mod WorkedRefusals
 pub mod WorkedAnswers
 pub mod WorkedTurns
-pub mod WorkedTables
+pub mod WorkedRequests

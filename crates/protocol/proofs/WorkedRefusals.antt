@@ -1,15 +1,19 @@
 -- What is refused or fails: orders, transfers, accounts, acknowledgements, and a full journal.
 use Rattle.std.proofs.Common.{◌≡◌, ℕ, true, false, List, [], ◌∷◌, ◌++◌, Some, None, refl, lit<}
-use Rattle.std.specs.Prelude.{◌==◌, ◌&&◌, take}
+use Rattle.std.specs.Prelude.{◌+◌, ◌==◌, ◌&&◌, take}
 use Rattle.units.specs.declared.block.Kind.TheVariants.{Aau, Cer}
 use Rattle.units.specs.Unit.{same_kind}
 use Rattle.units.specs.declared.block.RawBlock.{RawBlock}
 use Rattle.units.specs.declared.code.Node.TheVariants.{Itl}
+use Rattle.status.specs.Id.{id_at, number_from}
 use Rattle.status.specs.Order.{Order}
+use Rattle.status.specs.declared.id.TransactionId.{TransactionId}
 use Rattle.status.specs.declared.words.Status.TheVariants.{Proposed, Rejected, Terminated}
 use Rattle.wire.specs.declared.notice.Notice.TheVariants as notice
+use Rattle.protocol.specs.AtRegistry.{content_of, offer}
 use Rattle.protocol.specs.Checks as checks
 use Rattle.protocol.specs.Checks.{Holding, codes_of}
+use Rattle.protocol.specs.Deciding.{IsRefused}
 use Rattle.protocol.specs.declared.event.Outcome.TheVariants.{Recorded, Repeat, Refused, Done, NotPossible}
 use Rattle.protocol.specs.declared.event.WorldEvent.{WorldEvent}
 use Rattle.protocol.specs.Verdict.{verdict}
@@ -213,22 +217,25 @@ pub propose_refusals_awaited : outcomes (opening scheme_s) awaited_events
 unfolding step verdict
 propose_refusals_awaited = refl
 
--- all numbers are given; each unit is in account 1, free
-abbrev used_up : ℕ → Holding
-used_up proposals = record {
+-- each unit is in account 1, free; the last number, and none after it
+abbrev all_free : Holding
+all_free = record {
   is_closed = λ account. false;
   has = λ account p. (account == 1) && same_kind p.kind Aau;
   is_held = λ s. true;
   is_reserved = λ s. false;
-  proposals = proposals;
 }
 
 abbrev good : Order
 good = record { account = 1; to_registry = jp; to_account = 7; units = all_units }
 
-pub propose_refusals_last_number : (codes_of (checks.propose_refusals scheme_s nz (used_up 999_999) good) ≡ 109 ∷ [])
-    × (codes_of (checks.propose_refusals scheme_s nz (used_up 999_998) good) ≡ [])
-propose_refusals_last_number = (refl, refl)
+abbrev last_id : TransactionId
+last_id = record { code = nz; number = 999_999; in_range = number_from 999_999 refl }
+
+pub propose_refusals_last_number : (codes_of (checks.propose_refusals scheme_s nz all_free good) ≡ [])
+    × (id_at nz (999_998 + 1) ≡ Some last_id)
+    × (offer scheme_s nz [] (content_of good) (id_at nz (999_999 + 1)) ≡ IsRefused 109)
+propose_refusals_last_number = (refl, refl, refl)
 
 -- ---- acknowledgements
 

@@ -1,7 +1,8 @@
 -- Numbered checks and findings. Each is given what it has to know of holdings, accounts and owners, so
 -- that it may be asked of a history and of what a node keeps in memory alike.
-use Rattle.std.specs.Prelude.{ℕ, ◌==◌, ◌&&◌, ◌||◌, not, cond, nat_le, nat_lt, Bool, false, List, [], ◌∷◌, length, Option, Some, None, is_none}
+use Rattle.std.specs.Prelude.{ℕ, ◌==◌, ◌&&◌, ◌&&◌, ◌||◌, not, cond, nat_le, nat_lt, Bool, false, List, [], ◌∷◌, length, Option, is_some, is_none}
 use Rattle.std.specs.List.{list_any}
+use Rattle.std.specs.Option.{option_map_or}
 use Rattle.units.specs.Code.{same_code}
 use Rattle.units.specs.Unit.{same_kind}
 use Rattle.units.specs.declared.block.Kind.{Kind}
@@ -34,14 +35,12 @@ pub record Holding : Type 0 where
   pub has : ℕ → Piece → Bool
   pub is_held : Serial → Bool
   pub is_reserved : Serial → Bool
-  -- how many transactions it has proposed
-  pub proposals : ℕ
 
 -- a first number above the last, or one out of range
 abbrev pub is_out_of_range : RawBlock → Bool
 is_out_of_range b = nat_lt b.last b.first || ((b.first == 0) || nat_lt 999_999_999_999 b.last)
 
--- why an order to transfer units is refused
+-- why an order to transfer units is refused, while a number is left for it
 abbrev pub propose_refusals : Scheme → Code → Holding → Order → Causes
 propose_refusals scheme c known o =
     ((length o.units == 0) || nat_lt 16 (length o.units), 101)
@@ -52,7 +51,6 @@ propose_refusals scheme c known o =
     ∷ (list_any (λ p. known.is_reserved p.unit) (pieces o.units), 106)
     ∷ (not (has_member scheme o.to_registry) || same_code o.to_registry c, 107)
     ∷ ((o.to_account == 0) || nat_lt 999_999_999 o.to_account, 108)
-    ∷ (nat_le 999_999 known.proposals, 109)
     ∷ []
 
 -- what the acquirer finds
@@ -77,18 +75,15 @@ pub record Ledger : Type 0 where
   pub is_eligible : Code → Bool
 
 abbrev pub is_owner : Option Code → Code → Bool
-is_owner None c = false
-is_owner (Some d) c = same_code d c
+is_owner owner c = option_map_or (λ d. same_code d c) owner false
 
 -- allotted, and with another kind
 abbrev pub has_other_kind : Option Holder → Kind → Bool
-has_other_kind None kind = false
-has_other_kind (Some h) kind = not (same_kind h.kind kind)
+has_other_kind holder kind = option_map_or (λ h. not (same_kind h.kind kind)) holder false
 
 -- allotted, and owned by another one
 abbrev pub is_of_another : Option Holder → Option Code → Code → Bool
-is_of_another None owner c = false
-is_of_another (Some h) owner c = not (is_owner owner c)
+is_of_another holder owner c = is_some holder && not (is_owner owner c)
 
 -- what the log finds in a proposal of that initiator
 abbrev pub log_causes : Scheme → Ledger → Code → Content → Causes

@@ -1,13 +1,16 @@
--- What a verdict is, and what every node decides alike.
-use Rattle.std.specs.Prelude.{ℕ, not, cond, nat_le, Bool, false, List, [], ◌∷◌, length, Option, Some, None}
-use Rattle.units.specs.declared.code.Node.{Node}
+-- What a verdict is, how the tables decide one, and what every node decides alike.
+use Rattle.std.specs.Prelude.{ℕ, not, cond, nat_le, Bool, false, List, [], ◌∷◌, length, Option, Some, None, option_and_then}
+use Rattle.std.specs.Option.{option_map_or}
 use Rattle.status.specs.Content.{Content, same_content}
 use Rattle.status.specs.declared.id.TransactionId.{TransactionId}
+use Rattle.status.specs.declared.words.Known.{Known}
+use Rattle.status.specs.declared.words.Known.TheVariants.{Unknown, Bare, Stands}
+use Rattle.status.specs.declared.words.Row.{Row}
+use Rattle.status.specs.declared.words.Row.TheVariants.{Move, Repeat, Late, Refused}
+use Rattle.status.specs.declared.words.RowInput.{RowInput}
+use Rattle.status.specs.declared.words.RowInput.TheVariants.{ProposalWithoutFinding, ProposalWithFindings, EqualProposal}
 use Rattle.status.specs.declared.words.Status.{Status}
 use Rattle.wire.specs.declared.message.Message.{Message}
-use Rattle.wire.specs.declared.message.Message.TheVariants as message
-use Rattle.wire.specs.declared.message.ProposalStatus.{ProposalStatus}
-use Rattle.wire.specs.declared.notice.Notice.{Notice}
 use Rattle.scheme.specs.declared.registries.Scheme.{Scheme}
 use Rattle.protocol.specs.History.{Transition, Entry, sends, is_acknowledged}
 use Rattle.protocol.specs.Checks.{Causes}
@@ -28,26 +31,40 @@ refuse (c ∷ cs) answer = cond c.0 (IsRefused c.1) (refuse cs answer)
 abbrev pub enters : Scheme → List Entry → List Transition → Verdict
 enters scheme es xs = cond (nat_le scheme.records (length es)) (IsRefused 49) (Enters xs)
 
--- ---- transitions
+-- ---- by the tables
 
--- a transaction that is known moves on, with the content that it had
-abbrev pub moved : Transition → Status → ℕ → List Message → Transition
-moved x new moment messages = record { id = x.id; new = new; content = x.content; moment = moment; messages = messages }
+-- what is recorded of a transaction, by the newest transition that names it
+abbrev pub known : Option Transition → Known
+known None = Unknown
+known (Some x) = option_map_or (λ k. Stands x.new) x.content Bare
 
-abbrev pub proposes : Node → Node → TransactionId → ProposalStatus → Content → Message
-proposes from to t status k = message.Proposal (record { from = from; to = to; id = t; status = status; content = k })
+abbrev pub content_in : Option Transition → Option Content
+content_in last = option_and_then (λ x. x.content) last
 
-abbrev pub notifies : Node → Node → TransactionId → Notice → Message
-notifies from to t said = message.Notification (record { from = from; to = to; id = t; notice = said })
+-- the column of a proposal: equal to the one whose content is recorded, else by what was found
+abbrev pub offered : Option Content → List ℕ → RowInput
+offered (Some k) found = EqualProposal
+offered None [] = ProposalWithoutFinding
+offered None (c ∷ cs) = ProposalWithFindings
+
+abbrev pub moved : TransactionId → Option Content → ℕ → List Message → Status → Transition
+moved t k moment messages new = record { id = t; new = new; content = k; moment = moment; messages = messages }
+
+-- the transition of a row that moves
+abbrev pub moved_by : (Status → Transition) → Row → List Transition
+moved_by to (Move new) = to new ∷ []
+moved_by to _ = []
+
+-- what a row says: where it moves, the transition is recorded
+abbrev pub by_row : Scheme → List Entry → (Status → Transition) → Row → Verdict
+by_row scheme es to (Move new) = enters scheme es (to new ∷ [])
+by_row scheme es to Repeat = IsRepeat
+by_row scheme es to Late = IsLate
+by_row scheme es to Refused = IsRefused 46
 
 -- known with another content
 abbrev pub has_other : Option Transition → Content → Bool
-has_other None k = false
-has_other (Some x) k = is_other x.content k
-  where
-    is_other : Option Content → Content → Bool
-    is_other None k = false
-    is_other (Some c) k = not (same_content c k)
+has_other last k = option_map_or (λ content. not (same_content content k)) (content_in last) false
 
 -- ---- acknowledgements
 

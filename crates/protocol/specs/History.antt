@@ -1,8 +1,9 @@
 -- What a journal says: the transitions of its inputs, and what is read off them.
 -- A journal is the list of the inputs that a node recorded, the oldest first. A history is the list of these inputs with
 -- their transitions, the newest first.
-use Rattle.std.specs.Prelude.{ℕ, suc, ◌+◌, ◌==◌, ◌&&◌, ◌||◌, not, cond, Bool, true, false, List, [], ◌∷◌, ◌++◌, find, flat_map, unwrap_or, Option, Some, None, option_map, is_some}
+use Rattle.std.specs.Prelude.{ℕ, suc, ◌+◌, ◌==◌, ◌&&◌, ◌||◌, not, cond, Bool, true, false, List, [], ◌∷◌, ◌++◌, find, flat_map, unwrap_or, Option, Some, None, option_map, option_and_then, is_some}
 use Rattle.std.specs.List.{list_any}
+use Rattle.std.specs.Option.{option_map_or}
 use Rattle.units.specs.Code.{same_code}
 use Rattle.units.specs.Unit.{has_unit}
 use Rattle.units.specs.declared.block.Kind.{Kind}
@@ -16,7 +17,7 @@ use Rattle.status.specs.declared.words.Status.{Status}
 use Rattle.status.specs.declared.words.Status.TheVariants.{Proposed, Checked, Accepted, Completed}
 use Rattle.wire.specs.Cores as cores
 use Rattle.wire.specs.declared.input.Input.{Input}
-use Rattle.wire.specs.declared.input.Input.TheVariants.{OpenAccount, CloseAccount, Eligible}
+use Rattle.wire.specs.declared.input.Input.TheVariants.{Propose, Request, OpenAccount, CloseAccount, Eligible}
 use Rattle.wire.specs.declared.message.Message.{Message}
 use Rattle.scheme.specs.declared.members.Holder.{Holder}
 use Rattle.scheme.specs.declared.registries.Scheme.{Scheme}
@@ -57,8 +58,7 @@ abbrev pub stands : List Transition → TransactionId → Option Status
 stands xs t = option_map (λ x. x.new) (newest xs t)
 
 abbrev pub is_status : Option Status → Status → Bool
-is_status None s = false
-is_status (Some x) s = same_status x s
+is_status stood s = option_map_or (λ x. same_status x s) stood false
 
 abbrev pub stands_at : List Transition → TransactionId → Status → Bool
 stands_at xs t s = is_status (stands xs t) s
@@ -79,12 +79,29 @@ sends (e ∷ es) = sends es ++ messages_of e.transitions
 abbrev pub is_acknowledged : List Entry → ℕ → Bool
 is_acknowledged es key = list_any (λ e. cores.acknowledges key e.input) es
 
+-- ---- what a registry ordered
+
+abbrev pub is_proposal_order : Input → Bool
+is_proposal_order (Propose o) = true
+is_proposal_order _ = false
+
+-- how many orders to transfer units are recorded
+abbrev pub proposals : List Entry → ℕ
+proposals es = number_of (λ e. is_proposal_order e.input) es
+
+abbrev pub is_request_of : TransactionId → Input → Bool
+is_request_of t (Request u) = same_id u t
+is_request_of t _ = false
+
+-- an order to ask for the transaction's cancellation is recorded
+abbrev pub is_requested : List Entry → TransactionId → Bool
+is_requested es t = list_any (λ e. is_request_of t e.input) es
+
 -- ---- what a registry holds
 
 -- the transfer has the unit
 abbrev pub has_serial : Option Content → Serial → Bool
-has_serial None s = false
-has_serial (Some k) s = covers k.units s
+has_serial k s = option_map_or (λ content. covers content.units s) k false
 
 abbrev pub carries : Transition → Serial → Bool
 carries x s = has_serial x.content s
@@ -97,8 +114,7 @@ abbrev pub credits : Code → Serial → Transition → Bool
 credits c s x = same_status x.new Completed && (not (same_code x.id.code c) && carries x s)
 
 abbrev pub is_with : Code → Option Holder → Bool
-is_with c None = false
-is_with c (Some h) = same_code h.registry c
+is_with c holder = option_map_or (λ h. same_code h.registry c) holder false
 
 -- 1 where the unit is allotted to this registry
 abbrev pub at_start : Scheme → Code → Serial → ℕ
@@ -124,8 +140,7 @@ abbrev pub credited_place : Serial → Content → Option Place
 credited_place s k = option_map (λ b. record { account = k.to_account; kind = b.kind }) (find (λ b. has_unit b s) k.units)
 
 abbrev pub place_in : Serial → Option Content → Option Place
-place_in s None = None
-place_in s (Some k) = credited_place s k
+place_in s k = option_and_then (credited_place s) k
 
 abbrev pub place : Scheme → Code → List Transition → Serial → Option Place
 place scheme c [] s = option_map (λ h. record { account = h.account; kind = h.kind }) (allotted scheme s)

@@ -2,6 +2,7 @@ pub mod Pieces
 pub mod Registries
 pub mod History
 pub mod Checks
+pub mod Effects
 pub mod Deciding
 pub mod AtRegistry
 pub mod AtLog

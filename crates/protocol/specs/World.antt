@@ -6,7 +6,7 @@ use Rattle.units.specs.declared.code.Node.{Node}
 use Rattle.units.specs.declared.code.Node.TheVariants.{Itl, Registry}
 use Rattle.status.specs.declared.moment.Moment.{Moment}
 use Rattle.wire.specs.declared.input.Input.{Input}
-use Rattle.wire.specs.declared.input.Input.TheVariants.{Propose, OpenAccount, CloseAccount, Ack, CleanUp, Eligible, Received}
+use Rattle.wire.specs.declared.input.Input.TheVariants.{Propose, Request, OpenAccount, CloseAccount, Ack, CleanUp, Eligible, Received}
 use Rattle.wire.specs.declared.message.Message.{Message}
 use Rattle.wire.specs.declared.message.Message.TheVariants as message
 use Rattle.scheme.specs.declared.registries.Scheme.{Scheme}
@@ -133,13 +133,20 @@ was_posted w n key = list_any (λ p. same_node p.node n && (p.key == key)) w.bag
 
 -- an input that this kind of node takes as an order, or the acknowledgement of a message that it posted
 abbrev pub is_order : World → Node → Input → Bool
+is_order w node (Ack key) = was_posted w node key.value
 is_order w (Registry c) (Propose o) = true
+is_order w (Registry c) (Request t) = true
 is_order w (Registry c) (OpenAccount n) = true
 is_order w (Registry c) (CloseAccount n) = true
+is_order w (Registry c) (CleanUp t) = false
+is_order w (Registry c) (Eligible d may) = false
+is_order w Itl (Propose o) = false
+is_order w Itl (Request t) = false
+is_order w Itl (OpenAccount n) = false
+is_order w Itl (CloseAccount n) = false
 is_order w Itl (CleanUp t) = true
 is_order w Itl (Eligible c may) = true
-is_order w node (Ack key) = was_posted w node key.value
-is_order w _ _ = false
+is_order w node (Received m moment) = false
 
 -- a message goes into the bag
 abbrev pub posted : World → Node → ℕ → Option Message → Stepped
@@ -152,10 +159,12 @@ posted w n key (Some m) = record {
 abbrev pub sender : Message → Node
 sender (message.Proposal p) = p.from
 sender (message.Notification n) = n.from
+sender (message.Request r) = r.from
 
 abbrev pub receiver : Message → Node
 receiver (message.Proposal p) = p.to
 receiver (message.Notification n) = n.to
+receiver (message.Request r) = r.to
 
 -- a message of the bag comes to its addressee
 abbrev pub deliver : World → Moment → Option Posted → Stepped

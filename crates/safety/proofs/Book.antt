@@ -54,7 +54,7 @@ module _ (scheme : Scheme) (f : Node → List Entry) (causal : Causal scheme f) 
         let d = x.0.id.code in
         let code : d ≡ c = code_of_same d c out.1 in
         let last = log-ends-last scheme (f Itl) (causal.made Itl) x.0 x.1 out.0 in
-        let p = proposer scheme (f Itl) (causal.made Itl) x.0.id x.0 last in
+        let p = proposer scheme (f Itl) (causal.made Itl) x.0.id x.0 last (λ e. let y : Completed ≡ Cancelled = sym out.0 ∙ e in cc (y)) in
         let g = p.ended out.0 in
         let q = completed-sent scheme d (f (Registry d)) (causal.made (Registry d)) g.notification (heard-sent scheme f causal Itl (Registry d) x.0.id Completed g) g.told in
         let o = initiator-has scheme f causal x.0.id p.content p.got in

@@ -18,24 +18,25 @@ use Rattle.status.specs.declared.words.Status.TheVariants.{Proposed, Checked, Ac
 use Rattle.wire.specs.declared.message.Message.TheVariants as message
 use Rattle.wire.specs.declared.message.ProposalStatus.TheVariants as proposal
 use Rattle.scheme.specs.declared.registries.Scheme.{Scheme}
-use Rattle.protocol.specs.AtLog.{acquirer_of, checked, checked_status, ledger, told_to}
-use Rattle.protocol.specs.AtRegistry.{arrived, arrived_status, holding, settled_messages}
+use Rattle.protocol.specs.AtLog.{ledger}
+use Rattle.protocol.specs.AtRegistry.{holding}
 use Rattle.protocol.specs.Checks.{acquirer_findings, log_findings}
 use Rattle.protocol.specs.Claims.{committed_of, is_received}
-use Rattle.protocol.specs.Deciding.{moved, notifies, proposes}
+use Rattle.protocol.specs.Effects.{notifies, proposes}
 use Rattle.protocol.specs.History.{Entry, Transition, is_status, newest, sends, transitions_of}
 use Rattle.protocol.specs.Registries.{has_member}
 use Rattle.protocol.specs.WayOut.{IsOpen}
 use Rattle.protocol.specs.World.{World, run}
+use Rattle.safety.proofs.Forms.{arrived, arrived_status, settled_messages, acquirer_of, checked, checked_status, told_to, moved}
 use Rattle.safety.proofs.Causal.{Causal, completed-agrees, ended, heard-sent, log-said}
 use Rattle.safety.proofs.Completions.{stands-so}
-use Rattle.safety.proofs.Ended.{completed-sent, ends-last, own-contents, proposer}
+use Rattle.safety.proofs.Ended.{completed-sent, ends-last, known, own-contents, proposer}
 use Rattle.safety.proofs.Histories.{newest-id}
 use Rattle.safety.proofs.Members.{In, one-some}
 use Rattle.safety.proofs.Said.{IsAgreed, log-backed}
 use Rattle.safety.proofs.Sending.{Calm, Went, send}
 use Rattle.safety.proofs.Spoken.{SaysAtLog, Tells, transition-sends}
-use Rattle.safety.proofs.Stages.{Closes, Stage, already, at-most, cau, foreign, id-at, log-content, log-tells, newest-next, not-open, other-tells, own-tells, received-closed, room-less, room-log, room-registry, stage-next, table-at, then-log, then-registry, told-by}
+use Rattle.safety.proofs.Stages.{Closes, Stage, already, at-most, cau, foreign, id-at, log-content, log-tells, newest-next, not-open, other-tells, own-offer, own-tells, received-closed, room-less, room-log, room-registry, stage-next, table-at, then-log, then-registry, told-by}
 use Rattle.safety.proofs.Stations.{other-way}
 use Rattle.safety.proofs.Taken.{Last, Room, acquirer-takes, acquirer-takes-offer, causal, initiator-takes, log-takes-notice, log-takes-offer, unplaced}
 use Rattle.safety.proofs.Told.{Cause, IsTaken, accepted-sent, told}
@@ -43,16 +44,24 @@ use Rattle.safety.proofs.Told.{Cause, IsTaken, accepted-sent, told}
 -- ---- the stages, the last one first
 
 module _ (scheme : Scheme) (moment : Moment) (t : TransactionId) where
+  -- an acquirer that was not told of a cancellation has a content
+  acquirer-content : (w : World) (x p : Transition) (k : Content) → Stage scheme w t x k → Last w (Registry k.acquirer) t p → (p.new ≡ Cancelled → ⊥) → (c : Content) × (p.content ≡ Some c)
+  acquirer-content w x p k s there other =
+      elim (known scheme k.acquirer (committed_of w (Registry k.acquirer)) ((cau scheme t w x k s).made (Registry k.acquirer)) t p there s.other) [
+        | inl e ↦ absurd (other e.0)
+        | inr z ↦ (z.content, z.is)
+      ]
+
   -- the acquirer completes
   acquirer-completes : (w : World) (x l p : Transition) (k : Content) → Stage scheme w t x k → Room scheme w 0 1 → x.new ≡ Completed → Last w Itl t l → l.new ≡ Completed
       → Last w (Registry k.acquirer) t p → p.new ≡ Accepted → Closes scheme w t 0 1
   acquirer-completes w x l p k s room done log log_done there accepted =
       let says = log-tells scheme t w x k s l log Completed log_done in
-      let content = log-content scheme t w x k s l log in
+      let content = log-content scheme t w x k s l log (λ e. let y : Completed ≡ Cancelled = sym log_done ∙ e in cc (y)) in
       let sent : In (notifies Itl (Registry k.acquirer) t says.0) (sends (committed_of w Itl)) =
       told-by scheme t w x k s Itl l (Registry k.acquirer) says.0 log (subst (λ z. In (notifies Itl z l.id says.0) l.messages) (ap acquirer_of content) says.2) in
       let v =
-      acquirer-takes scheme moment w s.calm k.acquirer t says.0 p Completed sent there s.other (table-at acquirer_row p.new Accepted _ Completed accepted says.1)
+      acquirer-takes scheme moment w s.calm k.acquirer t says.0 p (acquirer-content w x p k s there (λ e. let y : Accepted ≡ Cancelled = sym accepted ∙ e in cc (y))).0 Completed (acquirer-content w x p k s there (λ e. let y : Accepted ≡ Cancelled = sym accepted ∙ e in cc (y))).1 sent there s.other (table-at acquirer_row p.new Accepted _ Completed accepted says.1)
       (let a = room.1 k.acquirer in omega arith) in
       let y : Transition = moved p Completed moment.seconds [] in
       let g : Went scheme w t (Registry k.acquirer) y = send scheme w s.calm (notifies Itl (Registry k.acquirer) t says.0) moment t y s.acquirer sent v (id-at scheme t w x k s (Registry k.acquirer) p there).1 in
@@ -68,7 +77,7 @@ module _ (scheme : Scheme) (moment : Moment) (t : TransactionId) where
       let sent = told-by scheme t w x k s (Registry t.code) x Itl says.0 s.is says.2 in
       let y : Transition = moved l Completed moment.seconds (notifies Itl (told_to l Completed) l.id says.0 ∷ []) in
       let v =
-      log-takes-notice scheme moment w s.calm t.code t says.0 l Completed sent log (table-at log_row l.new Accepted _ Completed log_accepted says.1)
+      log-takes-notice scheme moment w s.calm t.code t says.0 l k Completed (log-content scheme t w x k s l log (λ e. let y : Accepted ≡ Cancelled = sym log_accepted ∙ e in cc (y))) sent log (table-at log_row l.new Accepted _ Completed log_accepted says.1)
       (let a = room.0 in omega arith) in
       let g : Went scheme w t Itl y = send scheme w s.calm (notifies (Registry t.code) Itl t says.0) moment t y refl sent v (id-at scheme t w x k s Itl l log).1 in
       let next = stage-next scheme t w Itl y x k g s refl in
@@ -85,7 +94,7 @@ module _ (scheme : Scheme) (moment : Moment) (t : TransactionId) where
       let c = cau scheme t w x k s in
       let agrees = completed-agrees scheme (committed_of w) c (Registry t.code) t (stands-so (transitions_of (committed_of w (Registry t.code))) t x Completed s.is done) in
       let b = log-backed scheme (committed_of w Itl) (c.made Itl) t agrees.0 agrees.1 agrees.2 in
-      let content : b.content ≡ k = one-some b.content k (sym b.known ∙ log-content scheme t w x k s agrees.0 agrees.1) in
+      let content : b.content ≡ k = one-some b.content k (sym b.known ∙ log-content scheme t w x k s agrees.0 agrees.1 (λ e. subst IsAgreed e agrees.2)) in
       let said : In (message.Notification b.heard.notification) (sends (committed_of w (Registry k.acquirer))) =
       subst (λ (z : Content). In (message.Notification b.heard.notification) (sends (committed_of w (Registry z.acquirer)))) content
       (heard-sent scheme (committed_of w) c Itl (Registry b.content.acquirer) t Accepted b.heard) in
@@ -151,7 +160,7 @@ module _ (scheme : Scheme) (moment : Moment) (t : TransactionId) where
       told-by scheme t w x k s Itl l (Registry t.code) says.0 log (subst (λ (z : TransactionId). In (notifies Itl (Registry z.code) l.id says.0) l.messages) (id-at scheme t w x k s Itl l log).1 says.2) in
       let y : Transition = moved x (answered_to st) moment.seconds (settled_messages t.code x.id (answered_to st)) in
       let v =
-      initiator-takes scheme moment w s.calm t.code t says.0 x (answered_to st) sent s.is (same_code-refl t.code) (table-at initiator_row x.new Proposed _ st waits says.1 ∙ answer-row st answers)
+      initiator-takes scheme moment w s.calm t.code t says.0 x k (answered_to st) s.content sent s.is (same_code-refl t.code) (table-at initiator_row x.new Proposed _ st waits says.1 ∙ answer-row st answers)
       (let a = room.1 t.code in omega arith) in
       let g : Went scheme w t (Registry t.code) y = send scheme w s.calm (notifies Itl (Registry t.code) t says.0) moment t y s.initiator sent v (id-at scheme t w x k s (Registry t.code) x s.is).1 in
       let next : Stage scheme (run w g.events) t y k = record { calm = g.calm; is = g.now; content = s.content; initiator = s.initiator; acquirer = s.acquirer; other = s.other } in
@@ -180,7 +189,7 @@ module _ (scheme : Scheme) (moment : Moment) (t : TransactionId) where
           let sent = told-by scheme t w x k s (Registry k.acquirer) p Itl says.0 there says.2 in
           let y : Transition = moved l st moment.seconds (notifies Itl (told_to l st) l.id says.0 ∷ []) in
           let v =
-          log-takes-notice scheme moment w s.calm k.acquirer t says.0 l st sent log (table-at log_row l.new Checked _ st log_checked says.1 ∙ row)
+          log-takes-notice scheme moment w s.calm k.acquirer t says.0 l k st (log-content scheme t w x k s l log (λ e. let y : Checked ≡ Cancelled = sym log_checked ∙ e in cc (y))) sent log (table-at log_row l.new Checked _ st log_checked says.1 ∙ row)
           (let a = room.0 in omega arith) in
           let g : Went scheme w t Itl y = send scheme w s.calm (notifies (Registry k.acquirer) Itl t says.0) moment t y refl sent v (id-at scheme t w x k s Itl l log).1 in
           let next = stage-next scheme t w Itl y x k g s refl in
@@ -218,7 +227,7 @@ module _ (scheme : Scheme) (moment : Moment) (t : TransactionId) where
           (status p.new (told scheme k.acquirer (committed_of w (Registry k.acquirer)) ((cau scheme t w x k s).made (Registry k.acquirer)) t p there s.other)))
       by None none =
           let says = log-tells scheme t w x k s l log Checked is_checked in
-          let same : says.0 ≡ k = one-some says.0 k (sym says.1 ∙ log-content scheme t w x k s l log) in
+          let same : says.0 ≡ k = one-some says.0 k (sym says.1 ∙ log-content scheme t w x k s l log (λ e. let y : Checked ≡ Cancelled = sym is_checked ∙ e in cc (y))) in
           let id = id-at scheme t w x k s Itl l log in
           let sent : In (proposes Itl (Registry k.acquirer) t proposal.Checked k) (sends (committed_of w Itl)) =
           subst (λ z. In (proposes Itl (Registry k.acquirer) z proposal.Checked k) (sends (committed_of w Itl))) id.1
@@ -241,7 +250,7 @@ module _ (scheme : Scheme) (moment : Moment) (t : TransactionId) where
 
       not-ended : (l : Transition) → Last w Itl t l → l.new ≡ Completed → ⊥
       not-ended l log done =
-          let h = (proposer scheme (committed_of w Itl) (c.made Itl) t l log).ended done in
+          let h = (proposer scheme (committed_of w Itl) (c.made Itl) t l log (λ e. let y : Completed ≡ Cancelled = sym done ∙ e in cc (y))).ended done in
           let d =
           completed-sent scheme t.code (committed_of w (Registry t.code)) (c.made (Registry t.code)) h.notification
           (heard-sent scheme (committed_of w) c Itl (Registry t.code) t Completed h) h.told in
@@ -255,15 +264,15 @@ module _ (scheme : Scheme) (moment : Moment) (t : TransactionId) where
       answered l log st e a =
           at-most scheme t w 1 2 3 3 (omega arith) (omega arith) (initiator-hears w x l k s (room-less scheme t w 1 2 3 3 (omega arith) (omega arith) room) waits log st e a)
 
-      known : (l : Transition) → Last w Itl t l → (st : Status) → l.new ≡ st → Closes scheme w t 3 3
-      known l log Proposed e = absurd (log-tells scheme t w x k s l log Proposed e)
-      known l log Checked e =
+      by-status : (l : Transition) → Last w Itl t l → (st : Status) → l.new ≡ st → Closes scheme w t 3 3
+      by-status l log Proposed e = absurd (log-tells scheme t w x k s l log Proposed e)
+      by-status l log Checked e =
           at-most scheme t w 2 3 3 3 (omega arith) (omega arith) (log-checked w x l k s (room-less scheme t w 2 3 3 3 (omega arith) (omega arith) room) waits log e)
-      known l log Completed e = absurd (not-ended l log e)
-      known l log Accepted e = answered l log Accepted e tt
-      known l log Rejected e = answered l log Rejected e tt
-      known l log Terminated e = answered l log Terminated e tt
-      known l log Cancelled e = answered l log Cancelled e tt
+      by-status l log Completed e = absurd (not-ended l log e)
+      by-status l log Accepted e = answered l log Accepted e tt
+      by-status l log Rejected e = answered l log Rejected e tt
+      by-status l log Terminated e = answered l log Terminated e tt
+      by-status l log Cancelled e = answered l log Cancelled e tt
 
       checks : (v : World) (l : Transition) (found : List ℕ) → l.new ≡ checked_status found → Stage scheme v t x k → Last v Itl t l → Room scheme v 2 3 → Closes scheme v t 2 3
       checks v l [] e next log more = log-checked v x l k next more waits log e
@@ -271,15 +280,9 @@ module _ (scheme : Scheme) (moment : Moment) (t : TransactionId) where
           at-most scheme t v 1 2 2 3 (omega arith) (omega arith) (initiator-hears v x l k next (room-less scheme t v 1 2 2 3 (omega arith) (omega arith) more) waits log Terminated e tt)
 
       by : (o : Option Transition) → newest (transitions_of (committed_of w Itl)) t ≡ o → Closes scheme w t 3 3
-      by (Some l) log = known l log l.new refl
+      by (Some l) log = by-status l log l.new refl
       by None none =
-          let says = own-tells scheme t w x k s Proposed waits in
-          let same : says.0 ≡ k = one-some says.0 k (sym says.1 ∙ s.content) in
-          let id = id-at scheme t w x k s (Registry t.code) x s.is in
-          let sent : In (proposes (Registry t.code) Itl t proposal.Proposed k) (sends (committed_of w (Registry t.code))) =
-          subst (λ z. In (proposes (Registry t.code) Itl z proposal.Proposed k) (sends (committed_of w (Registry t.code)))) id.1
-          (transition-sends (committed_of w (Registry t.code)) x (proposes (Registry t.code) Itl x.id proposal.Proposed k) id.0
-          (subst (λ (z : Content). In (proposes (Registry t.code) Itl x.id proposal.Proposed z) x.messages) same says.2)) in
+          let sent = own-offer scheme t w x k s in
           let y : Transition = checked t k moment.seconds (log_findings scheme (ledger scheme (committed_of w Itl)) t.code k) in
           let v = log-takes-offer scheme moment w s.calm t.code t k sent none (let a = room.0 in omega arith) in
           let g : Went scheme w t Itl y = send scheme w s.calm (proposes (Registry t.code) Itl t proposal.Proposed k) moment t y refl sent v refl in

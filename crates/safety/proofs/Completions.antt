@@ -22,7 +22,7 @@ use Rattle.protocol.specs.Claims.{at_registry}
 use Rattle.protocol.specs.History.{Transition, Entry, transitions_of, newest, stands, sends, is_status, carries, gives, credits}
 use Rattle.safety.proofs.Causal.{Causal, heard-sent, log-said}
 use Rattle.safety.proofs.Counts.{NoRepeat, picked, In-picked}
-use Rattle.safety.proofs.Ended.{each-move, ends-last, ends-once, offered, completed-sent, known, proposer}
+use Rattle.safety.proofs.Ended.{each-move, ends-last, ends-once, offered, completed-sent, known, proposer, proposer-of}
 use Rattle.safety.proofs.Histories.{Made, Offered}
 use Rattle.safety.proofs.Members.{In, status_of_same, one-some}
 use Rattle.safety.proofs.Moves.{RegistryMove}
@@ -110,7 +110,7 @@ module _ (scheme : Scheme) (f : Node → List Entry) (causal : Causal scheme f) 
         | inl e ↦ let y : Completed ≡ Cancelled = sym done ∙ e.0 in absurd (cc (y))
         | inr k ↦
             let o = log-has c t k.content k.got in
-            let p = proposer scheme (f Itl) (causal.made Itl) t o.0 o.1 in
+            let p = proposer-of scheme (f Itl) (causal.made Itl) t o.0 k.content o.1 o.2 in
             let content : p.content ≡ k.content = one-some p.content k.content (sym p.is ∙ o.2) in
             let i = initiator-has t p.content p.got in
             record { content = k.content; is = k.is; here = k.here; initiator = i.0; newest_there = i.1; content_there = i.2 ∙ ap Some content; member_there = p.initiator_known }
@@ -136,6 +136,6 @@ module _ (scheme : Scheme) (f : Node → List Entry) (causal : Causal scheme f) 
   initiator-completed c x i done foreign =
       let d = x.id.code in
       let l = log-completed c x i done foreign in
-      let heard = (proposer scheme (f Itl) (causal.made Itl) x.id l.0 l.1).ended l.2 in
+      let heard = (proposer scheme (f Itl) (causal.made Itl) x.id l.0 l.1 (λ e. let y : Completed ≡ Cancelled = sym l.2 ∙ e in cc (y))).ended l.2 in
       let q = completed-sent scheme d (f (Registry d)) (causal.made (Registry d)) heard.notification (heard-sent scheme f causal Itl (Registry d) x.id Completed heard) heard.told in
       (q.0, q.1, q.2 ∙ heard.about, q.3)

@@ -12,7 +12,7 @@ use Rattle.wire.specs.declared.message.Notification.{Notification}
 use Rattle.wire.specs.declared.message.Proposal.{Proposal}
 use Rattle.wire.specs.declared.notice.Notice.TheVariants as notice
 use Rattle.scheme.specs.declared.registries.Scheme.{Scheme}
-use Rattle.protocol.specs.AtLog.{ledger, checked_message}
+use Rattle.protocol.specs.AtLog.{ledger}
 use Rattle.protocol.specs.Checks.{log_findings}
 use Rattle.protocol.specs.Claims.{DeliversWelcome, TerminatesForEligibility, live_of, whole}
 use Rattle.protocol.specs.Deciding.{Verdict, Enters, IsRepeat, IsLate, IsRefused}
@@ -22,11 +22,12 @@ use Rattle.protocol.specs.World.{World, Station, station, journal, rests, answer
 use Rattle.protocol.specs.declared.event.Outcome.TheVariants.{NotPossible, Refused}
 use Rattle.protocol.specs.declared.event.Posted.{Posted}
 use Rattle.protocol.specs.declared.event.WorldEvent.{WorldEvent}
+use Rattle.safety.proofs.Forms.{checked_message}
 use Rattle.safety.proofs.Findings.{only-eligibility}
 use Rattle.safety.proofs.FromLog.{never-terminates}
 use Rattle.safety.proofs.Histories.{newest-id, one-notice}
 use Rattle.safety.proofs.Members.{In, In-slice_get}
-use Rattle.safety.proofs.Moves.{LogMove, checks, passes, cancels, log-moves}
+use Rattle.safety.proofs.Moves.{LogMove, checks, passes, cancels, forestalls, log-moves}
 use Rattle.safety.proofs.Places.{live-unplaced, opening-placed, run-placed}
 use Rattle.safety.proofs.Positions.{In-contains}
 use Rattle.safety.proofs.Reached.{reached-sound}
@@ -100,7 +101,9 @@ module _ (w : World) (sound : Sound w) (unplaced : Unplaced w.scheme (live_of w)
   terminated-move input x m moment is h (passes k at_moment q new old member right move) done n j codes said code i =
       let was : newest (transitions_of (live_of w Itl)) q.id ≡ Some q = subst (λ z. newest (transitions_of (live_of w Itl)) z ≡ Some q) (sym (newest-id (transitions_of (live_of w Itl)) k.id q old).1) old in
       absurd (never-terminates w.scheme (live_of w Itl) input x q (passes k at_moment q new old member right move) was done)
-  terminated-move input x m moment is h (cancels at_moment t q old was) done n j codes said code i = let y : Cancelled ≡ Terminated = done in absurd (cc (y))
+  terminated-move input x m moment is h (cancels given at_moment t q why old was) done n j codes said code i = let y : Cancelled ≡ Terminated = done in absurd (cc (y))
+
+  terminated-move input x m moment is h (forestalls r at_moment from member none) done n j codes said code i = let y : Cancelled ≡ Terminated = done in absurd (cc (y))
 
   sound-terminates : TerminatesForEligibility w
   unfolding verdict

@@ -10,7 +10,11 @@ use Rattle.units.specs.declared.code.Node.TheVariants.{Itl, Registry}
 use Rattle.status.proofs.Ids.{id_at-code, id_at-number}
 use Rattle.status.specs.Content.{Content}
 use Rattle.status.specs.Id.{same_id, id_at}
+use Rattle.status.specs.Rows.{log_row}
 use Rattle.status.specs.Status.{same_status}
+use Rattle.status.specs.declared.words.Known.TheVariants.{Stands}
+use Rattle.status.specs.declared.words.Row.TheVariants.{Move}
+use Rattle.status.specs.declared.words.RowInput.TheVariants.{Notified}
 use Rattle.status.specs.declared.id.TransactionId.{TransactionId}
 use Rattle.status.specs.declared.words.Status.{Status}
 use Rattle.status.specs.declared.words.Status.TheVariants.{Proposed, Checked, Accepted, Rejected, Terminated, Cancelled, Completed}
@@ -19,18 +23,19 @@ use Rattle.wire.specs.declared.input.Input.{Input}
 use Rattle.wire.specs.declared.message.Message.TheVariants as message
 use Rattle.wire.specs.declared.message.Notification.{Notification}
 use Rattle.wire.specs.declared.message.Proposal.{Proposal}
+use Rattle.wire.specs.declared.message.Request.{Request}
 use Rattle.wire.specs.declared.message.ProposalStatus.TheVariants as proposal
 use Rattle.scheme.specs.declared.registries.Scheme.{Scheme}
 use Rattle.protocol.specs.Registries.{has_member}
-use Rattle.protocol.specs.History.{Transition, Entry, transitions_of, newest, sends, messages_of}
-use Rattle.protocol.specs.Deciding.{moved}
-use Rattle.protocol.specs.AtRegistry.{content_of, proposed, proposals, arrived_status, settled_messages}
-use Rattle.protocol.specs.AtLog.{checked_status, is_no_registry, is_from_another}
+use Rattle.protocol.specs.History.{Transition, Entry, transitions_of, newest, sends, messages_of, proposals}
+use Rattle.protocol.specs.AtRegistry.{content_of}
+use Rattle.protocol.specs.AtLog.{is_no_registry, is_from_another}
+use Rattle.safety.proofs.Forms.{proposed, arrived_status, settled_messages, checked_status, moved}
 use Rattle.safety.proofs.Counts.{count-no, count-yes}
-use Rattle.safety.proofs.Histories.{Made, Heard, Offered, heard-later, offered-later, made-registry, made-log, newest-append, newest-id, newest-in, one-notice, one-proposal}
+use Rattle.safety.proofs.Histories.{Made, Got, Heard, Offered, heard-later, offered-later, made-registry, made-log, newest-append, newest-id, newest-in, one-notice, one-proposal}
 use Rattle.safety.proofs.Local.{made-single, Single}
 use Rattle.safety.proofs.Members.{In, In-cases, In-flat_map, In-left, In-right, id_of_same, same_id-refl, one-some, clash}
-use Rattle.safety.proofs.Moves.{RegistryMove, proposes, arrives, bares, settles, finishes, LogMove, checks, passes, cancels}
+use Rattle.safety.proofs.Moves.{RegistryMove, proposes, asks, arrives, bares, settles, finishes, LogMove, checks, passes, cancels, forestalls}
 use Rattle.safety.proofs.Tables.{initiator-from, acquirer-from, log-from}
 use Rattle.safety.proofs.Told.{arrived-notice}
 
@@ -79,25 +84,11 @@ pub record OwnContent (scheme : Scheme) (c : Code) (x : Transition) : Type 0 whe
   pub acquirer_known : has_member scheme content.acquirer ≡ true
   pub acquirer_other : same_code content.acquirer c ≡ false
 
-abbrev is_own_proposal : Code → Transition → Bool
-is_own_proposal c x = same_code x.id.code c && same_status x.new Proposed
-
--- numbers are given in order
-abbrev pub Numbered : Code → List Transition → Type 0
-Numbered c xs = (x : Transition) → In x xs → same_code x.id.code c ≡ true → x.id.number ≤ proposals c xs
-
 abbrev pub EndsLast : List Transition → Type 0
 EndsLast xs = (x : Transition) → In x xs → x.new ≡ Completed → newest xs x.id ≡ Some x
 
 abbrev pub OwnContents : Scheme → Code → List Transition → Type 0
 OwnContents scheme c xs = (x : Transition) → In x xs → same_code x.id.code c ≡ true → OwnContent scheme c x
-
-proposals-cons : (c : Code) (x : Transition) (xs : List Transition) → proposals c xs ≤ proposals c (x ∷ xs)
-proposals-cons c x xs =
-    elim (cases_Bool (is_own_proposal c x)) [
-      | inl y ↦ let e = count-yes (is_own_proposal c) x xs y in omega arith
-      | inr n ↦ let e = count-no (is_own_proposal c) x xs n in omega arith
-    ]
 
 module _ (scheme : Scheme) (c : Code) where
   pub own-code : (n : ℕ) (t : TransactionId) → id_at c n ≡ Some t → same_code t.code c ≡ true
@@ -125,47 +116,13 @@ module _ (scheme : Scheme) (c : Code) where
             (more es e.input z.0 made.1 (made-registry scheme c e es z.0 made (subst (λ xs. In z.0 xs) (sym z.1) (inl refl))) (each-move P none more es made.1))
       ]
 
-  -- ---- numbers are new
-
-  numbered-move : (es : List Entry) (input : Input) (x : Transition) → RegistryMove scheme c es input x → Numbered c (transitions_of es) → same_code x.id.code c ≡ true
-      → x.id.number ≤ proposals c (x ∷ transitions_of es)
-  numbered-move es input x (proposes o t none is) old own =
-      let n : t.number ≡ proposals c (transitions_of es) + 1 = id_at-number c (proposals c (transitions_of es) + 1) t is in
-      let e = count-yes (is_own_proposal c) (proposed c t (content_of o)) (transitions_of es) (and_from (same_code t.code c) (same_status Proposed Proposed) own refl) in
-      omega arith
-  numbered-move es input x (arrives p moment found f s is none foreign mine) old own = clash (same_code p.id.code c) own foreign
-  numbered-move es input x (bares n moment f cancelled none foreign) old own = clash (same_code n.id.code c) own foreign
-  numbered-move es input x (settles n moment q new f was mine move) old own =
-      let a = old q (newest-id (transitions_of es) n.id q was).0 own in
-      let b = proposals-cons c (moved q new moment.seconds (settled_messages c q.id new)) (transitions_of es) in
-      omega arith
-  numbered-move es input x (finishes n moment q new f was foreign move none) old own = clash (same_code n.id.code c) (own-about es n.id q was own) foreign
-
-  numbered : (es : List Entry) → Made scheme (Registry c) es → Numbered c (transitions_of es)
-  numbered =
-      each-move (Numbered c) (λ x i own. absurd i)
-      (λ es input x made move old y i own. elim i [
-        | inl e ↦
-            subst (λ (z : Transition). z.id.number ≤ proposals c (x ∷ transitions_of es)) e
-            (numbered-move es input x move old (subst (λ (z : Transition). same_code z.id.code c ≡ true) (sym e) own))
-        | inr j ↦ let a = old y j own in let b = proposals-cons c x (transitions_of es) in omega arith
-      ])
-
-  -- the identifier of a proposal is new
-  fresh : (es : List Entry) → Made scheme (Registry c) es → (t : TransactionId) → id_at c (proposals c (transitions_of es) + 1) ≡ Some t
-      → (x : Transition) → newest (transitions_of es) t ≡ Some x → ⊥
-  fresh es made t is x h =
-      let about = newest-id (transitions_of es) t x h in
-      let own : same_code x.id.code c ≡ true = subst (λ (z : TransactionId). same_code z.code c ≡ true) (sym about.1) (own-code (proposals c (transitions_of es) + 1) t is) in
-      let a = numbered es made x about.0 own in
-      let b : x.id.number ≡ t.number = ap (λ (z : TransactionId). z.number) about.1 in
-      let d : t.number ≡ proposals c (transitions_of es) + 1 = id_at-number c (proposals c (transitions_of es) + 1) t is in
-      omega arith
-
   -- ---- no transition follows a completed one
 
   alive : (es : List Entry) (input : Input) (x y : Transition) → Made scheme (Registry c) es → RegistryMove scheme c es input x → newest (transitions_of es) x.id ≡ Some y → y.new ≡ Completed → ⊥
-  alive es input x y made (proposes o t none is) h done = fresh es made t is y h
+  alive es input x y made (proposes o t none is fresh) h done = let e = sym fresh ∙ h in cc (e)
+  alive es input x y made (asks t q was own stood) h done =
+      let a : Proposed ≡ Completed = sym stood ∙ ap (λ (z : Transition). z.new) (newest-own es t q y was h) ∙ done in
+      cc (a)
   alive es input x y made (arrives p moment found f s is none foreign mine) h done = let e = sym none ∙ h in cc (e)
   alive es input x y made (bares n moment f cancelled none foreign) h done = let e = sym none ∙ h in cc (e)
   alive es input x y made (settles n moment q new f was mine move) h done =
@@ -196,9 +153,12 @@ module _ (scheme : Scheme) (c : Code) where
   -- ---- the content of a transfer of one's own
 
   own-move : (es : List Entry) (input : Input) (x : Transition) → RegistryMove scheme c es input x → OwnContents scheme c (transitions_of es) → same_code x.id.code c ≡ true → OwnContent scheme c x
-  own-move es input x (proposes o t none is) old own =
+  own-move es input x (proposes o t none is fresh) old own =
       let a = or_parts (not (has_member scheme o.to_registry)) (same_code o.to_registry c) none.1.1.1.1.1.1.0 in
       record { content = content_of o; is = refl; acquirer_known = not-false (has_member scheme o.to_registry) a.0; acquirer_other = a.1 }
+  own-move es input x (asks t q was mine stood) old own =
+      let a = old q (newest-id (transitions_of es) t q was).0 own in
+      record { content = a.content; is = a.is; acquirer_known = a.acquirer_known; acquirer_other = a.acquirer_other }
   own-move es input x (arrives p moment found f s is none foreign mine) old own = clash (same_code p.id.code c) own foreign
   own-move es input x (bares n moment f cancelled none foreign) old own = clash (same_code n.id.code c) own foreign
   own-move es input x (settles n moment q new f was mine move) old own =
@@ -218,23 +178,26 @@ module _ (scheme : Scheme) (c : Code) where
 
   offer-move : (es : List Entry) (input : Input) (x : Transition) (p : Proposal) → RegistryMove scheme c es input x → In (message.Proposal p) x.messages
       → (x.id ≡ p.id) × (x.content ≡ Some p.content) × (same_code p.id.code c ≡ true)
-  offer-move es input x p (proposes o t none is) (inl e) =
+  offer-move es input x p (proposes o t none is fresh) (inl e) =
       let s = one-proposal _ p e in
       let about : t ≡ p.id = ap (λ (z : Proposal). z.id) s in (
         about,
         ap (λ (z : Proposal). Some z.content) s,
-        subst (λ (z : TransactionId). same_code z.code c ≡ true) about (own-code (proposals c (transitions_of es) + 1) t is),
+        subst (λ (z : TransactionId). same_code z.code c ≡ true) about (own-code (proposals es + 1) t is),
       )
-  offer-move es input x p (proposes o t none is) (inr h) = absurd h
+  offer-move es input x p (proposes o t none is fresh) (inr h) = absurd h
   offer-move es input x p (arrives q moment found f s is none foreign mine) (inl e) = absurd (cc (e))
   offer-move es input x p (arrives q moment found f s is none foreign mine) (inr h) = absurd h
+  offer-move es input x p (asks t q was own stood) (inl e) = absurd (cc (e))
+  offer-move es input x p (asks t q was own stood) (inr h) = absurd h
   offer-move es input x p (bares n moment f cancelled none foreign) h = absurd h
   offer-move es input x p (settles n moment q new f was mine move) h = absurd (settled-offers c q.id new p h)
   offer-move es input x p (finishes n moment q new f was foreign move none) h = absurd h
 
   own-keeps : (es : List Entry) (input : Input) (x y : Transition) → Made scheme (Registry c) es → RegistryMove scheme c es input x → newest (transitions_of es) x.id ≡ Some y
       → same_code x.id.code c ≡ true → x.content ≡ y.content
-  own-keeps es input x y made (proposes o t none is) h own = absurd (fresh es made t is y h)
+  own-keeps es input x y made (proposes o t none is fresh) h own = absurd (let e = sym fresh ∙ h in cc (e))
+  own-keeps es input x y made (asks t q was mine stood) h own = ap (λ (z : Transition). z.content) (newest-own es t q y was h)
   own-keeps es input x y made (arrives p moment found f s is none foreign mine) h own = clash (same_code p.id.code c) own foreign
   own-keeps es input x y made (bares n moment f cancelled none foreign) h own = clash (same_code n.id.code c) own foreign
   own-keeps es input x y made (settles n moment q new f was mine move) h own = ap (λ (z : Transition). z.content) (newest-own es n.id q y was h)
@@ -270,12 +233,14 @@ module _ (scheme : Scheme) (c : Code) where
 
   completed-move : (es : List Entry) (input : Input) (x : Transition) (n : Notification) → RegistryMove scheme c es input x → In (message.Notification n) x.messages → notice_status n.notice ≡ Completed
       → (x.id ≡ n.id) × (x.new ≡ Completed) × (same_code n.id.code c ≡ true)
-  completed-move es input x n (proposes o t none is) (inl e) said = absurd (cc (e))
-  completed-move es input x n (proposes o t none is) (inr h) said = absurd h
+  completed-move es input x n (proposes o t none is fresh) (inl e) said = absurd (cc (e))
+  completed-move es input x n (proposes o t none is fresh) (inr h) said = absurd h
   completed-move es input x n (arrives p moment found f s is none foreign mine) (inl e) said =
       let m = one-notice _ n e in
       absurd (arrived-open found (sym (arrived-notice found) ∙ ap (λ (z : Notification). notice_status z.notice) m ∙ said))
   completed-move es input x n (arrives p moment found f s is none foreign mine) (inr h) said = absurd h
+  completed-move es input x n (asks t q was own stood) (inl e) said = absurd (cc (e))
+  completed-move es input x n (asks t q was own stood) (inr h) said = absurd h
   completed-move es input x n (bares m moment f cancelled none foreign) h said = absurd h
   completed-move es input x n (settles m moment q new f was mine move) h said =
       let g = settled-completed c q.id new n h in
@@ -313,8 +278,8 @@ known-later c e es t x (inr h) = inr (record { content = h.content; is = h.is; g
 module _ (scheme : Scheme) (c : Code) where
   known-move : (es : List Entry) (e : Entry) (t : TransactionId) (input : Input) (x : Transition) → e.input ≡ input → RegistryMove scheme c es input x → x.id ≡ t → same_code t.code c ≡ false
       → ((q : Transition) → newest (transitions_of es) t ≡ Some q → Known c es t q) → Known c (e ∷ es) t x
-  known-move es e t input x i (proposes o u none is) same foreign old =
-      let own : same_code u.code c ≡ true = own-code scheme c (proposals c (transitions_of es) + 1) u is in
+  known-move es e t input x i (proposes o u none is fresh) same foreign old =
+      let own : same_code u.code c ≡ true = own-code scheme c (proposals es + 1) u is in
       clash (same_code t.code c) (subst (λ (z : TransactionId). same_code z.code c ≡ true) same own) foreign
   known-move es e t input x i (arrives p moment found f s is none foreign' mine) same foreign old =
       inr (record {
@@ -323,6 +288,9 @@ module _ (scheme : Scheme) (c : Code) where
         got = record { proposal = p; got = inl (moment, i); sender = f; about = same; status = s; content = refl };
         here = code_of_same p.content.acquirer c mine;
       })
+  known-move es e t input x i (asks u q was own stood) same foreign old =
+      let about : u ≡ t = sym (newest-id (transitions_of es) u q was).1 ∙ same in
+      clash (same_code t.code c) (subst (λ (z : TransactionId). same_code z.code c ≡ true) about own) foreign
   known-move es e t input x i (bares n moment f cancelled none foreign') same foreign old = inl (refl, refl)
   known-move es e t input x i (settles n moment q new f was own move) same foreign old =
       let about : n.id ≡ t = sym (newest-id (transitions_of es) n.id q was).1 ∙ same in
@@ -354,68 +322,110 @@ pub record Proposer (scheme : Scheme) (es : List Entry) (t : TransactionId) (x :
   pub initiator_known : is_no_registry scheme (Registry t.code) ≡ false
   pub ended : x.new ≡ Completed → Heard es (Registry t.code) t Completed
 
+-- or it knows it by a request alone
+pub record Forestalled (es : List Entry) (t : TransactionId) (x : Transition) : Type 0 where
+  pub new : x.new ≡ Cancelled
+  pub content : x.content ≡ None
+  pub request : Request
+  pub got : Got es (message.Request request)
+  pub sender : request.from ≡ Registry t.code
+  pub about : request.id ≡ t
+
+forestalled-later : (e : Entry) (es : List Entry) (t : TransactionId) (x : Transition) → Forestalled es t x → Forestalled (e ∷ es) t x
+forestalled-later e es t x b = record { new = b.new; content = b.content; request = b.request; got = inr b.got; sender = b.sender; about = b.about }
+
 checked-open : (found : List ℕ) → checked_status found ≡ Completed → ⊥
 checked-open [] h = cc (h)
 checked-open (n ∷ ns) h = cc (h)
 
 module _ (scheme : Scheme) where
+  -- it moves on from a status that no request alone brings
+  pub went-on : {X : Type 0} (a told new : Status) → log_row (Stands a) (Notified told) ≡ Move new → a ≡ Cancelled → X
+  went-on a told new move c = elim (log-from a told new move) [
+    | inl m ↦ let y : Checked ≡ Cancelled = sym m.0 ∙ c in absurd (cc (y))
+    | inr m ↦ let y : Accepted ≡ Cancelled = sym m.0 ∙ c in absurd (cc (y))
+  ]
+
   proposer-move : (es : List Entry) (e : Entry) (t : TransactionId) (input : Input) (x : Transition) → e.input ≡ input → LogMove scheme es input x → x.id ≡ t
-      → ((q : Transition) → newest (transitions_of es) t ≡ Some q → Proposer scheme es t q) → Proposer scheme (e ∷ es) t x
+      → ((q : Transition) → newest (transitions_of es) t ≡ Some q → Forestalled es t q ⊎ Proposer scheme es t q) → Forestalled (e ∷ es) t x ⊎ Proposer scheme (e ∷ es) t x
+  proposer-move es e t input x i (forestalls r moment f member none) same old =
+      inl (record { new = refl; content = refl; request = r; got = inl (moment, i); sender = f ∙ ap (λ (z : TransactionId). Registry z.code) same; about = same })
   proposer-move es e t input x i (checks p moment found f s is none member) same old =
       let from : p.from ≡ Registry t.code = f ∙ ap (λ (z : TransactionId). Registry z.code) same in
-      record {
+      inr (record {
         content = p.content;
         is = refl;
         got = record { proposal = p; got = inl (moment, i); sender = from; about = same; status = s; content = refl };
         initiator_known = subst (λ (z : Node). is_no_registry scheme z ≡ false) from member;
         ended = λ h. absurd (checked-open found h);
-      }
+      })
   proposer-move es e t input x i (passes n moment q new was member right move) same old =
       let about : n.id ≡ t = sym (newest-id (transitions_of es) n.id q was).1 ∙ same in
-      let p = old q (subst (λ z. newest (transitions_of es) z ≡ Some q) about was) in
-      record {
-        content = p.content;
-        is = p.is;
-        got = offered-later e es (Registry t.code) t proposal.Proposed p.content p.got;
-        initiator_known = p.initiator_known;
-        ended = λ h. elim (log-from q.new (notice_status n.notice) new move) [
-          | inl m ↦
-              elim m.2 [
-                | inl a ↦ let y : Accepted ≡ Completed = sym a ∙ sym m.1 ∙ h in absurd (cc (y))
-                | inr a ↦ let y : Rejected ≡ Completed = sym a ∙ sym m.1 ∙ h in absurd (cc (y))
-              ]
-          | inr m ↦
-              let w : is_from_another n.from n.id q.content Completed ≡ false = subst (λ s. is_from_another n.from n.id q.content s ≡ false) m.2 right in
-              let who = node_of_same n.from (Registry n.id.code) (not-false (same_node n.from (Registry n.id.code)) w) in
-              record { notification = n; got = inl (moment, i); sender = who ∙ ap (λ (z : TransactionId). Registry z.code) about; about = about; told = m.2 }
-        ];
-      }
-  proposer-move es e t input x i (cancels moment u q was checked) same old =
+      elim (old q (subst (λ z. newest (transitions_of es) z ≡ Some q) about was)) [
+        | inl b ↦ went-on q.new (notice_status n.notice) new move b.new
+        | inr p ↦ inr (record {
+          content = p.content;
+          is = p.is;
+          got = offered-later e es (Registry t.code) t proposal.Proposed p.content p.got;
+          initiator_known = p.initiator_known;
+          ended = λ h. elim (log-from q.new (notice_status n.notice) new move) [
+            | inl m ↦
+                elim m.2 [
+                  | inl a ↦ let y : Accepted ≡ Completed = sym a ∙ sym m.1 ∙ h in absurd (cc (y))
+                  | inr a ↦ let y : Rejected ≡ Completed = sym a ∙ sym m.1 ∙ h in absurd (cc (y))
+                ]
+            | inr m ↦
+                let w : is_from_another n.from n.id q.content Completed ≡ false = subst (λ s. is_from_another n.from n.id q.content s ≡ false) m.2 right in
+                let who = node_of_same n.from (Registry n.id.code) (not-false (same_node n.from (Registry n.id.code)) w) in
+                record { notification = n; got = inl (moment, i); sender = who ∙ ap (λ (z : TransactionId). Registry z.code) about; about = about; told = m.2 }
+          ];
+        })
+      ]
+  proposer-move es e t input x i (cancels given moment u q why was checked) same old =
       let about : u ≡ t = sym (newest-id (transitions_of es) u q was).1 ∙ same in
-      let p = old q (subst (λ z. newest (transitions_of es) z ≡ Some q) about was) in
-      record {
-        content = p.content;
-        is = p.is;
-        got = offered-later e es (Registry t.code) t proposal.Proposed p.content p.got;
-        initiator_known = p.initiator_known;
-        ended = λ h. let y : Cancelled ≡ Completed = h in absurd (cc (y));
-      }
+      elim (old q (subst (λ z. newest (transitions_of es) z ≡ Some q) about was)) [
+        | inl b ↦ let y : Checked ≡ Cancelled = sym checked ∙ b.new in absurd (cc (y))
+        | inr p ↦ inr (record {
+          content = p.content;
+          is = p.is;
+          got = offered-later e es (Registry t.code) t proposal.Proposed p.content p.got;
+          initiator_known = p.initiator_known;
+          ended = λ h. let y : Cancelled ≡ Completed = h in absurd (cc (y));
+        })
+      ]
 
-  pub proposer : (es : List Entry) → Made scheme Itl es → (t : TransactionId) (x : Transition) → newest (transitions_of es) t ≡ Some x → Proposer scheme es t x
-  proposer [] made t x h = absurd (cc (h))
-  proposer (e ∷ es) made t x h =
+  pub proposer-or-none : (es : List Entry) → Made scheme Itl es → (t : TransactionId) (x : Transition) → newest (transitions_of es) t ≡ Some x → Forestalled es t x ⊎ Proposer scheme es t x
+  proposer-or-none [] made t x h = absurd (cc (h))
+  proposer-or-none (e ∷ es) made t x h =
       elim (newest-append e.transitions (transitions_of es) t) [
         | inl u ↦
-            let p = proposer es made.1 t x (sym u ∙ h) in
-            record {
-              content = p.content;
-              is = p.is;
-              got = offered-later e es (Registry t.code) t proposal.Proposed p.content p.got;
-              initiator_known = p.initiator_known;
-              ended = λ d. heard-later e es (Registry t.code) t Completed (p.ended d);
-            }
+            elim (proposer-or-none es made.1 t x (sym u ∙ h)) [
+              | inl b ↦ inl (forestalled-later e es t x b)
+              | inr p ↦ inr (record {
+                content = p.content;
+                is = p.is;
+                got = offered-later e es (Registry t.code) t proposal.Proposed p.content p.got;
+                initiator_known = p.initiator_known;
+                ended = λ d. heard-later e es (Registry t.code) t Completed (p.ended d);
+              })
+            ]
         | inr u ↦
             let j : u.0 ≡ x = one-some u.0 x (sym u.3 ∙ h) in
             proposer-move es e t e.input x refl (subst (λ z. LogMove scheme es e.input z) j (made-log scheme e es u.0 made u.1)) (subst (λ (z : Transition). z.id ≡ t) j u.2)
-            (λ q was. proposer es made.1 t q was)
+            (λ q was. proposer-or-none es made.1 t q was)
       ]
+
+  pub proposer-unless : (es : List Entry) → Made scheme Itl es → (t : TransactionId) (x : Transition) → newest (transitions_of es) t ≡ Some x → (Forestalled es t x → ⊥) → Proposer scheme es t x
+  proposer-unless es made t x h other =
+      elim (proposer-or-none es made t x h) [
+        | inl b ↦ absurd (other b)
+        | inr p ↦ p
+      ]
+
+  -- it stands at a status that no request alone brings
+  pub proposer : (es : List Entry) → Made scheme Itl es → (t : TransactionId) (x : Transition) → newest (transitions_of es) t ≡ Some x → (x.new ≡ Cancelled → ⊥) → Proposer scheme es t x
+  proposer es made t x h other = proposer-unless es made t x h (λ b. other b.new)
+
+  -- it has a content
+  pub proposer-of : (es : List Entry) → Made scheme Itl es → (t : TransactionId) (x : Transition) (k : Content) → newest (transitions_of es) t ≡ Some x → x.content ≡ Some k → Proposer scheme es t x
+  proposer-of es made t x k h content = proposer-unless es made t x h (λ b. let e = sym content ∙ b.content in cc (e))

@@ -150,7 +150,7 @@ module _ (scheme : Scheme) (f : Node → List Entry) (causal : Causal scheme f) 
   not-busy : (c : Code) (t : TransactionId) (s : Serial) → newest (transitions_of (f Itl)) t ≡ None → Waits c s (at_registry f c) t
       → (u : TransactionId) (x : Transition) → newest (transitions_of (f Itl)) u ≡ Some x → IsBusy x.new → has_serial x.content s ≡ true → ⊥
   not-busy c t s none w u x last under has =
-      let b = begun scheme f causal u x last in
+      let b = begun scheme f causal u x last (λ z. subst IsBusy z.new under) in
       let d = u.code in
       let es = f (Registry d) in
       let has_there : carries b.last s ≡ true = subst (λ z. has_serial z s ≡ true) (b.known ∙ sym b.there) has in

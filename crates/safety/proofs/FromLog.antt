@@ -13,18 +13,20 @@ use Rattle.wire.specs.declared.input.Input.{Input}
 use Rattle.wire.specs.declared.message.Message.TheVariants as message
 use Rattle.wire.specs.declared.message.Notification.{Notification}
 use Rattle.wire.specs.declared.message.Proposal.{Proposal}
+use Rattle.wire.specs.declared.message.Request.{Request}
 use Rattle.wire.specs.declared.message.ProposalStatus.TheVariants as proposal
 use Rattle.scheme.specs.declared.registries.Scheme.{Scheme}
-use Rattle.protocol.specs.AtLog.{ledger, checked_status, checked_message, acquirer_of, told_to, is_from_another}
+use Rattle.protocol.specs.AtLog.{ledger, is_from_another}
 use Rattle.protocol.specs.Checks.{has_other_kind, log_causes, log_findings}
 use Rattle.protocol.specs.History.{Transition, Entry, transitions_of, newest, sends, messages_of}
 use Rattle.protocol.specs.Pieces.{Piece, pieces, repeats}
 use Rattle.protocol.specs.Registries.{allotted, has_member}
-use Rattle.safety.proofs.Ended.{proposer}
+use Rattle.safety.proofs.Forms.{checked_status, checked_message, acquirer_of, told_to}
+use Rattle.safety.proofs.Ended.{proposer, went-on}
 use Rattle.safety.proofs.Histories.{Made, Heard, heard-later, made-log, newest-id, newest-append, newest-in, one-notice, one-proposal}
 use Rattle.safety.proofs.LogShapes.{none-stand}
 use Rattle.safety.proofs.Members.{In, In-cases, In-flat_map, one-some}
-use Rattle.safety.proofs.Moves.{LogMove, checks, passes, cancels}
+use Rattle.safety.proofs.Moves.{LogMove, checks, passes, cancels, forestalls}
 use Rattle.safety.proofs.Said.{from_acquirer, log-pair, log-notice-move, log-keeps-content}
 use Rattle.safety.proofs.Tables.{log-from}
 
@@ -82,9 +84,11 @@ module _ (scheme : Scheme) where
       offer (c ∷ cs) is (inr h) = absurd h
   passed-move es input x p (passes n moment q new old member right move) (inl e) = absurd (cc (e))
   passed-move es input x p (passes n moment q new old member right move) (inr h) = absurd h
-  passed-move es input x p (cancels moment t q old was) (inl e) = absurd (cc (e))
-  passed-move es input x p (cancels moment t q old was) (inr (inl e)) = absurd (cc (e))
-  passed-move es input x p (cancels moment t q old was) (inr (inr h)) = absurd h
+  passed-move es input x p (cancels given moment t q why old was) (inl e) = absurd (cc (e))
+  passed-move es input x p (cancels given moment t q why old was) (inr (inl e)) = absurd (cc (e))
+  passed-move es input x p (cancels given moment t q why old was) (inr (inr h)) = absurd h
+  passed-move es input x p (forestalls r moment f member none) (inl e) = absurd (cc (e))
+  passed-move es input x p (forestalls r moment f member none) (inr h) = absurd h
 
   pub passed-on : (es : List Entry) → Made scheme Itl es → (p : Proposal) → In (message.Proposal p) (sends es) → Passed scheme p
   passed-on [] made p h = absurd h
@@ -108,7 +112,8 @@ module _ (scheme : Scheme) where
             ]
         | inr m ↦ let y : Completed ≡ Terminated = sym m.1 ∙ e in cc (y)
       ]
-  never-terminates es input x q (cancels moment t p old was) h e = let y : Cancelled ≡ Terminated = e in cc (y)
+  never-terminates es input x q (forestalls r moment f member none) h e = let y : Cancelled ≡ Terminated = e in cc (y)
+  never-terminates es input x q (cancels given moment t p why old was) h e = let y : Cancelled ≡ Terminated = e in cc (y)
 
   -- a transfer that was passed on is not terminated
   pub passed-open : (es : List Entry) → Made scheme Itl es → (p : Proposal) → In (message.Proposal p) (sends es) → (x : Transition) × (newest (transitions_of es) p.id ≡ Some x) × (x.new ≡ Terminated → ⊥)
@@ -152,16 +157,19 @@ module _ (scheme : Scheme) where
   goes-move es input x n made (passes m moment q new old member right move) (inl e) =
       let s = one-notice _ n e in
       let g = log-notice-move scheme es input x n (passes m moment q new old member right move) (inl e) in
-      let p = proposer scheme es made m.id q old in
+      let p = proposer scheme es made m.id q old (λ c. went-on scheme q.new (notice_status m.notice) new move c) in
       passed-to q new n g.0 g.1 (ap (λ (z : Notification). z.to) s) p.content p.is
   goes-move es input x n made (passes m moment q new old member right move) (inr h) = absurd h
-  goes-move es input x n made (cancels moment t q old was) (inl e) =
+  goes-move es input x n made (cancels given moment t q why old was) (inl e) =
       let s = one-notice _ n e in inl (subst ToInitiator s (record { said = λ d. let y : Cancelled ≡ Completed = d in cc (y); to = refl }))
-  goes-move es input x n made (cancels moment t q old was) (inr (inl e)) =
+  goes-move es input x n made (cancels given moment t q why old was) (inr (inl e)) =
       let s = one-notice _ n e in
-      let p = proposer scheme es made t q old in
+      let p = proposer scheme es made t q old (λ c. let y : Checked ≡ Cancelled = sym was ∙ c in cc (y)) in
       inr (subst (λ z. ToAcquirer z q.content) s (record { said = inr refl; content = p.content; known = p.is; to = ap acquirer_of p.is }))
-  goes-move es input x n made (cancels moment t q old was) (inr (inr h)) = absurd h
+  goes-move es input x n made (cancels given moment t q why old was) (inr (inr h)) = absurd h
+  goes-move es input x n made (forestalls r moment f member none) (inl e) =
+      let s = one-notice _ n e in inl (subst ToInitiator s (record { said = λ d. let y : Cancelled ≡ Completed = d in cc (y); to = refl }))
+  goes-move es input x n made (forestalls r moment f member none) (inr h) = absurd h
 
   -- to whom the log's notifications go
   pub goes : (es : List Entry) → Made scheme Itl es → (n : Notification) → In (message.Notification n) (sends es) → ToInitiator n ⊎ ToKnown es n
@@ -195,6 +203,32 @@ module _ (scheme : Scheme) where
             ]
       ]
 
+  -- ---- the log asks nobody for cancellation
+
+  request-move : (es : List Entry) (input : Input) (x : Transition) (r : Request) → LogMove scheme es input x → In (message.Request r) x.messages → ⊥
+  request-move es input x r (checks p moment found f s is none member) h = go found h
+    where
+      go : (g : List ℕ) → In (message.Request r) (checked_message p.id p.content g ∷ []) → ⊥
+      go [] (inl e) = cc (e)
+      go [] (inr i) = i
+      go (c ∷ cs) (inl e) = cc (e)
+      go (c ∷ cs) (inr i) = i
+  request-move es input x r (passes n moment q new old member right move) (inl e) = cc (e)
+  request-move es input x r (passes n moment q new old member right move) (inr h) = h
+  request-move es input x r (cancels given moment t q why old was) (inl e) = cc (e)
+  request-move es input x r (cancels given moment t q why old was) (inr (inl e)) = cc (e)
+  request-move es input x r (cancels given moment t q why old was) (inr (inr h)) = h
+  request-move es input x r (forestalls q moment f member none) (inl e) = cc (e)
+  request-move es input x r (forestalls q moment f member none) (inr h) = h
+
+  pub no-request : (es : List Entry) → Made scheme Itl es → (r : Request) → In (message.Request r) (sends es) → ⊥
+  no-request [] made r h = h
+  no-request (e ∷ es) made r h =
+      elim (In-cases (message.Request r) (sends es) (messages_of e.transitions) h) [
+        | inl old ↦ no-request es made.1 r old
+        | inr new ↦ let g = In-flat_map (λ (q : Transition). q.messages) (message.Request r) e.transitions new in request-move es e.input g.0 r (made-log scheme e es g.0 made g.1) g.2
+      ]
+
   -- ---- where the log stands Rejected, the acquirer of its content said so
 
   abbrev pub Refusal : List Entry → TransactionId → Transition → Type 0
@@ -215,7 +249,8 @@ module _ (scheme : Scheme) where
             (f.0, f.1, record { notification = n; got = inl (moment, i); sender = f.2; about = about; told = said })
         | inr m ↦ absurd (let y : Completed ≡ Rejected = sym m.1 ∙ h in cc (y))
       ]
-  refusal-move es e t input x i (cancels moment u q old was) same h = absurd (let y : Cancelled ≡ Rejected = h in cc (y))
+  refusal-move es e t input x i (forestalls r moment f member none) same h = absurd (let y : Cancelled ≡ Rejected = h in cc (y))
+  refusal-move es e t input x i (cancels given moment u q why old was) same h = absurd (let y : Cancelled ≡ Rejected = h in cc (y))
 
   pub refusal : (es : List Entry) → Made scheme Itl es → (t : TransactionId) (x : Transition) → newest (transitions_of es) t ≡ Some x → x.new ≡ Rejected → Refusal es t x
   refusal [] made t x h d = absurd (cc (h))
@@ -244,7 +279,8 @@ module _ (scheme : Scheme) where
             ]
         | inr m ↦ let y : Completed ≡ Proposed = sym m.1 ∙ h in cc (y)
       ]
-  proposes-move es input x (cancels moment t q old was) h = let y : Cancelled ≡ Proposed = h in cc (y)
+  proposes-move es input x (forestalls r moment f member none) h = let y : Cancelled ≡ Proposed = h in cc (y)
+  proposes-move es input x (cancels given moment t q why old was) h = let y : Cancelled ≡ Proposed = h in cc (y)
 
   pub never-proposed : (es : List Entry) → Made scheme Itl es → (x : Transition) → In x (transitions_of es) → x.new ≡ Proposed → ⊥
   never-proposed [] made x i h = i

@@ -14,15 +14,16 @@ use Rattle.wire.specs.declared.message.Message.{Message}
 use Rattle.wire.specs.declared.message.Message.TheVariants as message
 use Rattle.wire.specs.declared.message.Notification.{Notification}
 use Rattle.wire.specs.declared.message.Proposal.{Proposal}
+use Rattle.wire.specs.declared.message.Request.{Request}
 use Rattle.wire.specs.declared.message.ProposalStatus.TheVariants as proposal
 use Rattle.scheme.specs.declared.registries.Scheme.{Scheme}
-use Rattle.protocol.specs.AtRegistry.{proposals, arrived_status, settled_messages}
-use Rattle.protocol.specs.History.{Transition, Entry, transitions_of, newest, sends, messages_of}
+use Rattle.protocol.specs.History.{Transition, Entry, transitions_of, newest, sends, messages_of, proposals}
+use Rattle.safety.proofs.Forms.{arrived_status, settled_messages}
 use Rattle.safety.proofs.Ended.{single-same, own-code, newest-own}
-use Rattle.safety.proofs.Histories.{Made, Offered, offered-later, made-registry, newest-id, newest-append, newest-in, one-notice}
+use Rattle.safety.proofs.Histories.{Made, Offered, offered-later, made-registry, newest-id, newest-append, newest-in, one-notice, one-request}
 use Rattle.safety.proofs.Local.{made-single}
 use Rattle.safety.proofs.Members.{In, In-cases, In-flat_map, clash}
-use Rattle.safety.proofs.Moves.{RegistryMove, proposes, arrives, bares, settles, finishes}
+use Rattle.safety.proofs.Moves.{RegistryMove, proposes, asks, arrives, bares, settles, finishes}
 use Rattle.safety.proofs.Tables.{acquirer-from}
 use Rattle.safety.proofs.Told.{settled-notice, arrived-notice}
 
@@ -38,20 +39,24 @@ module _ (scheme : Scheme) (c : Code) where
     answers : (n : Notification) (k : Content) → n.from ≡ Registry c → n.to ≡ Itl → (notice_status n.notice ≡ Accepted) ⊎ (notice_status n.notice ≡ Rejected) → same_code n.id.code c ≡ false
         → Offered es Itl n.id proposal.Checked k → k.acquirer ≡ c → Says es (message.Notification n)
     completes : (n : Notification) → n.from ≡ Registry c → n.to ≡ Itl → notice_status n.notice ≡ Completed → same_code n.id.code c ≡ true → Says es (message.Notification n)
+    asks_log : (r : Request) → r.from ≡ Registry c → r.to ≡ Itl → same_code r.id.code c ≡ true → Says es (message.Request r)
 
   says-later : (e : Entry) (es : List Entry) (m : Message) → Says es m → Says (e ∷ es) m
   says-later e es m (offers p from to status own) = offers p from to status own
   says-later e es m (answers n k from to which foreign got here) = answers n k from to which foreign (offered-later e es Itl n.id proposal.Checked k got) here
   says-later e es m (completes n from to done own) = completes n from to done own
+  says-later e es m (asks_log r from to own) = asks_log r from to own
 
   says-move : (es : List Entry) (e : Entry) (input : Input) (x : Transition) (m : Message) → e.input ≡ input → RegistryMove scheme c es input x → In m x.messages → Says (e ∷ es) m
-  says-move es e input x m i (proposes o t none is) (inl h) = subst (Says (e ∷ es)) h (offers _ refl refl refl (own-code scheme c (proposals c (transitions_of es) + 1) t is))
-  says-move es e input x m i (proposes o t none is) (inr h) = absurd h
+  says-move es e input x m i (proposes o t none is fresh) (inl h) = subst (Says (e ∷ es)) h (offers _ refl refl refl (own-code scheme c (proposals es + 1) t is))
+  says-move es e input x m i (proposes o t none is fresh) (inr h) = absurd h
   says-move es e input x m i (arrives p moment found f s is none foreign mine) (inl h) =
       let got : Offered (e ∷ es) Itl p.id proposal.Checked p.content = record { proposal = p; got = inl (moment, i); sender = f; about = refl; status = s; content = refl } in
       subst (Says (e ∷ es)) h
       (answers _ p.content refl refl (subst (λ z. (z ≡ Accepted) ⊎ (z ≡ Rejected)) (sym (arrived-notice found)) (arrived-answers found)) foreign got (code_of_same p.content.acquirer c mine))
   says-move es e input x m i (arrives p moment found f s is none foreign mine) (inr h) = absurd h
+  says-move es e input x m i (asks t q old own stood) (inl h) = subst (Says (e ∷ es)) h (asks_log _ refl refl (subst (λ (z : TransactionId). same_code z.code c ≡ true) (sym (newest-id (transitions_of es) t q old).1) own))
+  says-move es e input x m i (asks t q old own stood) (inr h) = absurd h
   says-move es e input x m i (bares n moment f cancelled none foreign) h = absurd h
   says-move es e input x m i (settles n moment q new f was mine move) h = done new h
     where
@@ -79,12 +84,51 @@ module _ (scheme : Scheme) (c : Code) where
             says-move es e e.input g.0 m refl (made-registry scheme c e es g.0 made g.1) g.2
       ]
 
+  -- ---- who asked for cancellation had proposed
+
+  asked-move : (es : List Entry) (input : Input) (x : Transition) (r : Request) → RegistryMove scheme c es input x → In (message.Request r) x.messages → x.id ≡ r.id
+  asked-move es input x r (proposes o t none is fresh) (inl e) = absurd (cc (e))
+  asked-move es input x r (proposes o t none is fresh) (inr h) = absurd h
+  asked-move es input x r (asks t q old own stood) (inl e) = let s = one-request _ r e in ap (λ (z : Request). z.id) s
+  asked-move es input x r (asks t q old own stood) (inr h) = absurd h
+  asked-move es input x r (arrives p moment found f s is none foreign mine) (inl e) = absurd (cc (e))
+  asked-move es input x r (arrives p moment found f s is none foreign mine) (inr h) = absurd h
+  asked-move es input x r (bares n moment f cancelled none foreign) h = absurd h
+  asked-move es input x r (settles n moment q new f was mine move) h = absurd (none new h)
+    where
+      none : (new : Status) → In (message.Request r) (settled_messages c q.id new) → ⊥
+      none Completed (inl e) = cc (e)
+      none Completed (inr i) = i
+      none Proposed i = i
+      none Checked i = i
+      none Accepted i = i
+      none Rejected i = i
+      none Terminated i = i
+      none Cancelled i = i
+  asked-move es input x r (finishes n moment q new f was foreign move none) h = absurd h
+
+  pub asked-known : (es : List Entry) → Made scheme (Registry c) es → (r : Request) → In (message.Request r) (sends es) → (x : Transition) × (newest (transitions_of es) r.id ≡ Some x)
+  asked-known [] made r h = absurd h
+  asked-known (e ∷ es) made r h =
+      elim (In-cases (message.Request r) (sends es) (messages_of e.transitions) h) [
+        | inl old ↦
+            let p = asked-known es made.1 r old in
+            elim (newest-append e.transitions (transitions_of es) r.id) [
+              | inl u ↦ (p.0, u ∙ p.1)
+              | inr u ↦ (u.0, u.3)
+            ]
+        | inr new ↦
+            let g = In-flat_map (λ (q : Transition). q.messages) (message.Request r) e.transitions new in
+            let u = newest-in e.transitions (transitions_of es) g.0 r.id g.1 (asked-move es e.input g.0 r (made-registry scheme c e es g.0 made g.1) g.2) in
+            (u.0, u.3)
+      ]
+
   -- ---- a Rejected that was sent stands
 
   rejected-move : (es : List Entry) (input : Input) (q : Transition) (n : Notification) → RegistryMove scheme c es input q → In (message.Notification n) q.messages → notice_status n.notice ≡ Rejected
       → (q.id ≡ n.id) × (q.new ≡ Rejected) × (same_code n.id.code c ≡ false)
-  rejected-move es input q n (proposes o t none is) (inl e) said = absurd (cc (e))
-  rejected-move es input q n (proposes o t none is) (inr h) said = absurd h
+  rejected-move es input q n (proposes o t none is fresh) (inl e) said = absurd (cc (e))
+  rejected-move es input q n (proposes o t none is fresh) (inr h) said = absurd h
   rejected-move es input q n (arrives p moment found f s is none foreign mine) (inl e) said =
       let m = one-notice _ n e in
       let about = ap (λ (z : Notification). z.id) m in (
@@ -93,14 +137,18 @@ module _ (scheme : Scheme) (c : Code) where
         subst (λ (z : TransactionId). same_code z.code c ≡ false) about foreign,
       )
   rejected-move es input q n (arrives p moment found f s is none foreign mine) (inr h) said = absurd h
+  rejected-move es input q n (asks t p old own stood) (inl e) said = absurd (cc (e))
+  rejected-move es input q n (asks t p old own stood) (inr h) said = absurd h
   rejected-move es input q n (bares m moment f cancelled none foreign) h said = absurd h
   rejected-move es input q n (settles m moment p new f was mine move) h said = let x : Completed ≡ Rejected = sym (settled-notice c p.id new n h) ∙ said in absurd (cc (x))
   rejected-move es input q n (finishes m moment p new f was foreign move none) h said = absurd h
 
   stays-rejected : (es : List Entry) (input : Input) (x q : Transition) → RegistryMove scheme c es input x → newest (transitions_of es) x.id ≡ Some q → q.new ≡ Rejected → same_code x.id.code c ≡ false → ⊥
-  stays-rejected es input x q (proposes o t none is) h was foreign = clash (same_code t.code c) (own-code scheme c (proposals c (transitions_of es) + 1) t is) foreign
+  stays-rejected es input x q (proposes o t none is fresh) h was foreign = clash (same_code t.code c) (own-code scheme c (proposals es + 1) t is) foreign
   stays-rejected es input x q (arrives p moment found f s is none foreign' mine) h was foreign = let e = sym none ∙ h in cc (e)
   stays-rejected es input x q (bares n moment f cancelled none foreign') h was foreign = let e = sym none ∙ h in cc (e)
+  stays-rejected es input x q (asks t p old own stood) h was foreign =
+      clash (same_code t.code c) own (subst (λ (z : TransactionId). same_code z.code c ≡ false) (newest-id (transitions_of es) t p old).1 foreign)
   stays-rejected es input x q (settles n moment p new f old own move) h was foreign =
       clash (same_code n.id.code c) own (subst (λ (z : TransactionId). same_code z.code c ≡ false) (newest-id (transitions_of es) n.id p old).1 foreign)
   stays-rejected es input x q (finishes n moment p new f old foreign' move none) h was foreign =

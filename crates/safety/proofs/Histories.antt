@@ -16,6 +16,7 @@ use Rattle.wire.specs.declared.message.Message.{Message}
 use Rattle.wire.specs.declared.message.Message.TheVariants as message
 use Rattle.wire.specs.declared.message.Notification.{Notification}
 use Rattle.wire.specs.declared.message.Proposal.{Proposal}
+use Rattle.wire.specs.declared.message.Request.{Request}
 use Rattle.wire.specs.declared.message.ProposalStatus.{ProposalStatus}
 use Rattle.scheme.specs.declared.registries.Scheme.{Scheme}
 use Rattle.protocol.specs.History.{Transition, Entry, newest, stands}
@@ -55,6 +56,9 @@ one-notice a b e = cc (e)
 
 pub one-proposal : (a b : Proposal) → message.Proposal a ≡ message.Proposal b → a ≡ b
 one-proposal a b e = cc (e)
+
+pub one-request : (a b : Request) → message.Request a ≡ message.Request b → a ≡ b
+one-request a b e = cc (e)
 
 pub heard-later : (e : Entry) (es : List Entry) (from : Node) (t : TransactionId) (s : Status) → Heard es from t s → Heard (e ∷ es) from t s
 heard-later e es from t s h = record { notification = h.notification; got = inr h.got; sender = h.sender; about = h.about; told = h.told }

@@ -8,7 +8,7 @@ use Rattle.units.specs.Code.{same_node}
 use Rattle.units.specs.declared.code.Node.{Node}
 use Rattle.units.specs.declared.code.Node.TheVariants.{Itl, Registry}
 use Rattle.wire.specs.declared.input.Input.{Input}
-use Rattle.wire.specs.declared.input.Input.TheVariants.{Propose, OpenAccount, CloseAccount, Ack, CleanUp, Eligible, Received}
+use Rattle.wire.specs.declared.input.Input.TheVariants.{Propose, Request, OpenAccount, CloseAccount, Ack, CleanUp, Eligible, Received}
 use Rattle.wire.specs.declared.input.Number.{Number}
 use Rattle.scheme.specs.declared.registries.Scheme.{Scheme}
 use Rattle.protocol.specs.Claims.{committed_part, committed_of}
@@ -77,6 +77,7 @@ module _ (w : World) (quiet : Quiet w) where
   next-on (Registry c) (Ack key) xs node says sent = ack-on (Registry c) key xs node (λ bag h. h) says (ack-below w.scheme (committed_of w (Registry c)) key.value xs says)
   next-on Itl (Ack key) xs node says sent = ack-on Itl key xs node (λ bag h. h) says (ack-below w.scheme (committed_of w Itl) key.value xs says)
   next-on (Registry c) (Propose o) xs node says sent = take-on (Registry c) (Propose o) xs node refl says
+  next-on (Registry c) (Request t) xs node says sent = take-on (Registry c) (Request t) xs node refl says
   next-on (Registry c) (OpenAccount account) xs node says sent = take-on (Registry c) (OpenAccount account) xs node refl says
   next-on (Registry c) (CloseAccount account) xs node says sent = take-on (Registry c) (CloseAccount account) xs node refl says
   next-on (Registry c) (CleanUp moment) xs node says sent = absurd (cc (says))
@@ -84,6 +85,7 @@ module _ (w : World) (quiet : Quiet w) where
   next-on Itl (CleanUp moment) xs node says sent = take-on Itl (CleanUp moment) xs node refl says
   next-on Itl (Eligible d may) xs node says sent = take-on Itl (Eligible d may) xs node refl says
   next-on Itl (Propose o) xs node says sent = absurd (cc (says))
+  next-on Itl (Request t) xs node says sent = absurd (cc (says))
   next-on Itl (OpenAccount account) xs node says sent = absurd (cc (says))
   next-on Itl (CloseAccount account) xs node says sent = absurd (cc (says))
 

@@ -31,7 +31,7 @@ use Rattle.safety.proofs.Ended.{ends-last, known, settled-offers}
 use Rattle.safety.proofs.FromLog.{is_of_other_kind, passed-on}
 use Rattle.safety.proofs.Histories.{Made, Offered, offered-later, made-registry, one-proposal}
 use Rattle.safety.proofs.Members.{In, In-cases, In-left, In-right, In-find, In-flat_map, one-some}
-use Rattle.safety.proofs.Moves.{RegistryMove, proposes, arrives, bares, settles, finishes}
+use Rattle.safety.proofs.Moves.{RegistryMove, proposes, asks, arrives, bares, settles, finishes}
 use Rattle.safety.proofs.Units.{piece-of-block}
 
 -- no unit of another kind than it was allotted with
@@ -108,7 +108,7 @@ module _ (scheme : Scheme) (c : Code) where
       (place-right scheme p.unit c (transitions_of es) (credited-kinds es made right p.unit) q e)
 
   offer-move : (es : List Entry) (input : Input) (x : Transition) (p : Proposal) → Made scheme (Registry c) es → OffersRight scheme es → RegistryMove scheme c es input x → In (message.Proposal p) x.messages → IsSound scheme p.content
-  offer-move es input x p made right (proposes o t none is) (inl e) =
+  offer-move es input x p made right (proposes o t none is fresh) (inl e) =
       let xs = transitions_of es in
       subst (λ (z : Proposal). IsSound scheme z.content) (one-proposal _ p e)
       (record {
@@ -119,9 +119,11 @@ module _ (scheme : Scheme) (c : Code) where
             held-kind es made right o.account q (place scheme c xs q.unit) refl (and_parts (holds scheme c xs q.unit) (is_place (place scheme c xs q.unit) o.account q) has).1;
         apart = canonical-no-repeats o.units none.1.0 none.1.1.0;
       })
-  offer-move es input x p made right (proposes o t none is) (inr h) = absurd h
+  offer-move es input x p made right (proposes o t none is fresh) (inr h) = absurd h
   offer-move es input x p made right (arrives q moment found f s is none foreign mine) (inl e) = absurd (cc (e))
   offer-move es input x p made right (arrives q moment found f s is none foreign mine) (inr h) = absurd h
+  offer-move es input x p made right (asks t q was own stood) (inl e) = absurd (cc (e))
+  offer-move es input x p made right (asks t q was own stood) (inr h) = absurd h
   offer-move es input x p made right (bares n moment f cancelled none foreign) h = absurd h
   offer-move es input x p made right (settles n moment q new f was own move) h = absurd (settled-offers c q.id new p h)
   offer-move es input x p made right (finishes n moment q new f was foreign move none) h = absurd h

@@ -3,6 +3,7 @@ pub mod Positions
 pub mod Counts
 pub mod Units
 pub mod Canonical
+pub mod Forms
 pub mod Moves
 pub mod Histories
 pub mod Tables

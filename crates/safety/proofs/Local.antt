@@ -14,28 +14,31 @@ use Rattle.status.specs.declared.id.TransactionId.{TransactionId}
 use Rattle.status.specs.declared.words.Known.TheVariants.{Stands}
 use Rattle.status.specs.declared.words.Row.{Row}
 use Rattle.status.specs.declared.words.Row.TheVariants.{Move, Repeat, Late, Refused}
+use Rattle.status.specs.declared.words.RowInput.{RowInput}
+use Rattle.status.specs.declared.words.RowInput.TheVariants as column
 use Rattle.status.specs.declared.words.RowInput.TheVariants.{Notified}
 use Rattle.status.specs.declared.words.Status.{Status}
 use Rattle.status.specs.declared.words.Status.TheVariants.{Proposed, Cancelled, Completed}
 use Rattle.wire.specs.Notices.{notice_status}
 use Rattle.wire.specs.declared.input.Input.{Input}
-use Rattle.wire.specs.declared.input.Input.TheVariants.{Propose, OpenAccount, CloseAccount, Ack, CleanUp, Eligible, Received}
+use Rattle.wire.specs.declared.input.Input.TheVariants.{Propose, Request, OpenAccount, CloseAccount, Ack, CleanUp, Eligible, Received}
 use Rattle.wire.specs.declared.message.Message.{Message}
 use Rattle.wire.specs.declared.message.Message.TheVariants as message
 use Rattle.scheme.specs.declared.registries.Scheme.{Scheme}
 use Rattle.protocol.specs.Pieces.{Piece, pieces}
 use Rattle.protocol.specs.Registries.{allotted}
-use Rattle.protocol.specs.History.{Transition, Entry, transitions_of, newest, stands_at, is_status, number_of, has_serial, carries, gives, credits, is_with, at_start, holds, reserved, place, is_acknowledged}
+use Rattle.protocol.specs.History.{Transition, Entry, transitions_of, newest, stands_at, is_status, number_of, has_serial, carries, gives, credits, is_with, at_start, holds, reserved, place, is_acknowledged, proposals}
 use Rattle.protocol.specs.Checks.{Causes, propose_refusals, acquirer_findings}
-use Rattle.protocol.specs.Deciding.{Verdict, Enters, IsRepeat, IsRefused, refuse, enters, moved, ack_refusals}
-use Rattle.protocol.specs.AtRegistry.{holding, is_place, proposals, content_of, proposed, offer, arrived, arrived_status, known_already, arrival, settled_messages, settle, holds_some, finish_refusals, finish, bare, registry_notice, registry_refusals, registry_answer, open_refusals, close_refusals, registry_verdict}
+use Rattle.protocol.specs.Deciding.{Verdict, Enters, IsRepeat, IsRefused, refuse, enters, known, content_in, by_row, ack_refusals}
+use Rattle.protocol.specs.AtRegistry.{holding, is_place, content_of, offer, in_role, unless_held, holds_some, request_refusals, request_column, registry_refusals, registry_answer, open_refusals, close_refusals, registry_verdict}
 use Rattle.protocol.specs.Claims.{CountedOnce}
 use Rattle.protocol.specs.Verdict.{verdict, made as made_of}
+use Rattle.safety.proofs.Forms.{proposed, asking, arrived, arrived_status, settled_messages, bare, moved}
 use Rattle.safety.proofs.Canonical.{canonical-piece}
 use Rattle.safety.proofs.Counts.{list-any-none, list-any-in, count-no, count-yes}
 use Rattle.safety.proofs.Histories.{Made, made-registry, newest-id}
 use Rattle.safety.proofs.Members.{In, id_of_same, same_id-refl, clash}
-use Rattle.safety.proofs.Moves.{RegistryMove, proposes, arrives, bares, settles, finishes}
+use Rattle.safety.proofs.Moves.{RegistryMove, proposes, asks, arrives, bares, settles, finishes}
 use Rattle.safety.proofs.Tables.{word_to, initiator-from, acquirer-from}
 use Rattle.safety.proofs.Units.{piece-of}
 
@@ -72,46 +75,33 @@ pub one-enters : (scheme : Scheme) (es : List Entry) (x : Transition) → Single
 one-enters scheme es x = single-cond (nat_le scheme.records (length es)) (IsRefused 49) (Enters (x ∷ [])) (inl refl) (inr (x, refl))
 
 module _ (scheme : Scheme) (c : Code) (es : List Entry) where
+  single-row : (to : Status → Transition) (row : Row) → Single (made_of (by_row scheme es to row))
+  single-row to (Move new) = one-enters scheme es (to new)
+  single-row to Repeat = inl refl
+  single-row to Late = inl refl
+  single-row to Refused = inl refl
+
   single-offer : (k : Content) (t : Option TransactionId) → Single (made_of (offer scheme c es k t))
   single-offer k None = inl refl
-  single-offer k (Some t) = one-enters scheme es (proposed c t k)
+  single-offer k (Some t) = single-row _ (initiator_row (known (newest (transitions_of es) t)) column.Propose)
 
-  single-arrival : (t : TransactionId) (last : Option Transition) (k : Content) (moment : ℕ) → Single (made_of (arrival scheme c es t last k moment))
-  single-arrival t None k moment = one-enters scheme es (arrived c t k moment (acquirer_findings scheme c (holding scheme c es) k))
-  single-arrival t (Some x) k moment = known x.content
-    where
-      known : (o : Option Content) → Single (made_of (known_already o))
-      known None = inl refl
-      known (Some k) = inl refl
-
-  single-settle : (x : Transition) (moment : ℕ) (row : Row) → Single (made_of (settle scheme c es x moment row))
-  single-settle x moment (Move new) = one-enters scheme es (moved x new moment (settled_messages c x.id new))
-  single-settle x moment Repeat = inl refl
-  single-settle x moment Late = inl refl
-  single-settle x moment Refused = inl refl
-
-  single-finish : (x : Transition) (moment : ℕ) (row : Row) → Single (made_of (finish scheme c es x moment row))
-  single-finish x moment (Move new) = single-refuse (finish_refusals scheme c es x new) (enters scheme es (moved x new moment [] ∷ [])) (one-enters scheme es (moved x new moment []))
-  single-finish x moment Repeat = inl refl
-  single-finish x moment Late = inl refl
-  single-finish x moment Refused = inl refl
-
-  single-notice : (t : TransactionId) (last : Option Transition) (told : Status) (moment : ℕ) → Single (made_of (registry_notice scheme c es t last told moment))
-  single-notice t None told moment =
-      single-cond (same_code t.code c) (IsRefused 46) (cond (same_status told Cancelled) (enters scheme es (bare t moment ∷ [])) (IsRefused 46)) (inl refl)
-      (single-cond (same_status told Cancelled) (enters scheme es (bare t moment ∷ [])) (IsRefused 46) (one-enters scheme es (bare t moment)) (inl refl))
-  single-notice t (Some x) told moment =
-      single-cond (same_code t.code c) (settle scheme c es x moment (initiator_row (Stands x.new) (Notified told))) (finish scheme c es x moment (acquirer_row (Stands x.new) (Notified told)))
-      (single-settle x moment (initiator_row (Stands x.new) (Notified told))) (single-finish x moment (acquirer_row (Stands x.new) (Notified told)))
+  single-in_role : (t : TransactionId) (last : Option Transition) (moment : ℕ) (input : RowInput) → Single (made_of (in_role scheme c es t last moment input))
+  single-in_role t last moment input =
+      single-cond (same_code t.code c) _ _ (single-row _ (initiator_row (known last) input))
+      (single-row _ (unless_held (holds_some scheme c (transitions_of es) (content_in last)) (acquirer_row (known last) input)))
 
   single-answer : (m : Message) (moment : ℕ) → Single (made_of (registry_answer scheme c es moment m))
-  single-answer (message.Proposal p) moment = single-arrival p.id (newest (transitions_of es) p.id) p.content moment
-  single-answer (message.Notification n) moment = single-notice n.id (newest (transitions_of es) n.id) (notice_status n.notice) moment
+  single-answer (message.Proposal p) moment = single-row _ (acquirer_row (known (newest (transitions_of es) p.id)) _)
+  single-answer (message.Notification n) moment = single-in_role n.id (newest (transitions_of es) n.id) moment (column.Notified (notice_status n.notice))
+  single-answer (message.Request r) moment = single-in_role r.id (newest (transitions_of es) r.id) moment column.Request
 
   single-transitions : (input : Input) → Single (made_of (registry_verdict scheme c es input))
   single-transitions (Propose o) =
-      single-refuse (propose_refusals scheme c (holding scheme c es) o) (offer scheme c es (content_of o) (id_at c (proposals c (transitions_of es) + 1)))
-      (single-offer (content_of o) (id_at c (proposals c (transitions_of es) + 1)))
+      single-refuse (propose_refusals scheme c (holding scheme c es) o) (offer scheme c es (content_of o) (id_at c (proposals es + 1)))
+      (single-offer (content_of o) (id_at c (proposals es + 1)))
+  single-transitions (Request t) =
+      single-refuse (request_refusals c es t) (in_role scheme c es t (newest (transitions_of es) t) 0 (request_column es t))
+      (single-in_role t (newest (transitions_of es) t) 0 (request_column es t))
   single-transitions (OpenAccount n) = single-refuse (open_refusals scheme c es n.value) (enters scheme es []) (none-enter scheme es)
   single-transitions (CloseAccount n) = single-refuse (close_refusals scheme c es n.value) (enters scheme es []) (none-enter scheme es)
   single-transitions (Ack n) =
@@ -264,6 +254,31 @@ module _ (scheme : Scheme) (c : Code) (s : Serial) where
         ];
       }
 
+  -- one of a transfer that waits on, with the same content
+  again : (x q : Transition) (xs : List Transition) → gives c s x ≡ false → credits c s x ≡ false → newest xs x.id ≡ Some q → q.new ≡ Proposed → x.content ≡ q.content → Local scheme c s xs → Local scheme c s (x ∷ xs)
+  again x q xs given credited old stood same l =
+      let o = count-no (gives c s) x xs given in
+      let i = count-no (credits c s) x xs credited in
+      record {
+        low = let a = l.low in omega arith;
+        high = let a = l.high in omega arith;
+        kept = λ t w. let a = l.kept t (waited t w) in omega arith;
+        one = λ t u w v. l.one t u (waited t w) (waited u v);
+      }
+    where
+      waited : (t : TransactionId) → Waits c s (x ∷ xs) t → Waits c s xs t
+      waited t w =
+          elim (newest-cons x xs t w.last w.is) [
+            | inl e ↦ record {
+              last = q;
+              is = subst (λ z. newest xs z ≡ Some q) e.1 old;
+              new = stood;
+              own = w.own;
+              has = subst (λ k. has_serial k s ≡ true) same (subst (λ (z : Transition). carries z s ≡ true) (sym e.0) w.has);
+            }
+            | inr e ↦ record { last = w.last; is = e.0; new = w.new; own = w.own; has = w.has }
+          ]
+
   settled-move : (es : List Entry) (t : TransactionId) (told : Status) (moment : ℕ) (q : Transition) (new : Status) (messages : List Message) → newest (transitions_of es) t ≡ Some q
       → same_code t.code c ≡ true → initiator_row (Stands q.new) (Notified told) ≡ Move new → Local scheme c s (transitions_of es) → Local scheme c s (moved q new moment messages ∷ transitions_of es)
   settled-move es t told moment q new messages old own move l =
@@ -304,7 +319,7 @@ module _ (scheme : Scheme) (c : Code) (s : Serial) where
       ]
 
   local-move : (es : List Entry) (input : Input) (x : Transition) → RegistryMove scheme c es input x → Local scheme c s (transitions_of es) → Local scheme c s (x ∷ transitions_of es)
-  local-move es input x (proposes o t none is) l =
+  local-move es input x (proposes o t none is fresh) l =
       let xs = transitions_of es in
       asked (proposed c t (content_of o)) xs refl refl
       (λ h.
@@ -321,6 +336,8 @@ module _ (scheme : Scheme) (c : Code) (s : Serial) where
       let y = arrived c p.id p.content moment.seconds found in
       quiet y (transitions_of es) (and_left (same_status (arrived_status found) Completed) (same_code p.id.code c && carries y s) a.0)
       (and_left (same_status (arrived_status found) Completed) (not (same_code p.id.code c) && carries y s) a.0) a.1 l
+  local-move es input x (asks t q old own stood) l =
+      again (asking c q) q (transitions_of es) refl refl (subst (λ z. newest (transitions_of es) z ≡ Some q) (sym (newest-id (transitions_of es) t q old).1) old) stood refl l
   local-move es input x (bares n moment f cancelled none foreign) l = quiet (bare n.id moment.seconds) (transitions_of es) refl refl (λ e. cc (e)) l
   local-move es input x (settles n moment q new f old own move) l = settled-move es n.id (notice_status n.notice) moment.seconds q new (settled_messages c q.id new) old own move l
   local-move es input x (finishes n moment q new f old foreign move none) l = finished-move es n.id (notice_status n.notice) moment.seconds q new old foreign move none l

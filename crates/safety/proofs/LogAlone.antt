@@ -17,21 +17,22 @@ use Rattle.wire.specs.Notices.{notice_status}
 use Rattle.wire.specs.declared.input.Input.{Input}
 use Rattle.scheme.specs.declared.members.Holder.{Holder}
 use Rattle.scheme.specs.declared.registries.Scheme.{Scheme}
-use Rattle.protocol.specs.AtLog.{ledger, checked, checked_status, told_to}
+use Rattle.protocol.specs.AtLog.{ledger}
 use Rattle.protocol.specs.Checks.{is_owner, is_of_another, log_causes, log_findings}
 use Rattle.protocol.specs.Claims.{IsEnd, IsUnderWay, EndsStay, UnderWayApart, OwnedByInitiator}
-use Rattle.protocol.specs.Deciding.{moved, notifies}
+use Rattle.protocol.specs.Effects.{notifies}
 use Rattle.protocol.specs.History.{Transition, Entry, transitions_of, newest, stands, stands_at, is_status, number_of, has_serial, carries, gives, at_start, is_with, book_owner, busy}
 use Rattle.protocol.specs.Pieces.{Piece, pieces}
 use Rattle.protocol.specs.Registries.{allotted}
 use Rattle.protocol.specs.Verdict.{verdict, made as made_of, extend, history_from, history}
+use Rattle.safety.proofs.Forms.{checked, checked_status, told_to, moved}
 use Rattle.safety.proofs.Counts.{NoRepeat, picked, In-picked, count-no, count-yes, list-any-none, list-any-in}
 use Rattle.safety.proofs.Going.{history_from-append, made-history}
 use Rattle.safety.proofs.Histories.{Made, made-log, newest-id, newest-append, newest-stands}
 use Rattle.safety.proofs.Local.{newest-cons}
 use Rattle.safety.proofs.LogShapes.{AllCancelled, each-log-move, none-stand}
 use Rattle.safety.proofs.Members.{In, In-cases, id_of_same, same_id-refl}
-use Rattle.safety.proofs.Moves.{LogMove, checks, passes, cancels, log-moves}
+use Rattle.safety.proofs.Moves.{LogMove, checks, passes, cancels, forestalls, log-moves}
 use Rattle.safety.proofs.Ended.{proposer}
 use Rattle.safety.proofs.Positions.{In-contains}
 use Rattle.safety.proofs.Tables.{log-from}
@@ -244,7 +245,7 @@ module _ (scheme : Scheme) (s : Serial) where
         | inr a ↦ quiet x (transitions_of es) (subst (λ z. same_status z Completed ≡ false) (sym (m.1 ∙ a)) refl) (λ h. subst IsBusy (m.1 ∙ a) h) old
       ]
   passed-move es told q x made was same contents (inr m) old =
-      let p = proposer scheme es made q.id q was in
+      let p = proposer scheme es made q.id q was (λ e. let y : Accepted ≡ Cancelled = sym m.0 ∙ e in cc (y)) in
       elim (cases_Bool (carries x s)) [
         | inl y ↦ booked es q x p.content m.1 same contents (contents ∙ p.is) y was (subst IsBusy (sym m.0) tt) old
         | inr n ↦ still x (transitions_of es) (and_right (same_status x.new Completed) (carries x s) n) (λ t b. (busy-older x (transitions_of es) t (λ h. subst IsBusy m.1 h) b).0) old
@@ -255,7 +256,8 @@ module _ (scheme : Scheme) (s : Serial) where
   book-move es input x made (passes n moment q new was member right move) old =
       passed-move es (notice_status n.notice) q (moved q new moment.seconds (notifies Itl (told_to q new) q.id n.notice ∷ [])) made
       (subst (λ z. newest (transitions_of es) z ≡ Some q) (sym (newest-id (transitions_of es) n.id q was).1) was) refl refl (log-from q.new (notice_status n.notice) new move) old
-  book-move es input x made (cancels moment t q was stood) old = quiet x (transitions_of es) refl (λ h. h) old
+  book-move es input x made (forestalls r moment f member none) old = quiet x (transitions_of es) refl (λ h. h) old
+  book-move es input x made (cancels given moment t q why was stood) old = quiet x (transitions_of es) refl (λ h. h) old
 
   pub in-book : (es : List Entry) → Made scheme Itl es → InBook scheme s (transitions_of es)
   in-book =
@@ -272,7 +274,7 @@ module _ (scheme : Scheme) (s : Serial) where
 
 module _ (scheme : Scheme) where
   -- a transition of the log moves a transfer that is under way
-  log-live : (es : List Entry) (input : Input) (x y : Transition) → LogMove scheme es input x → newest (transitions_of es) x.id ≡ Some y → IsBusy y.new
+  pub log-live : (es : List Entry) (input : Input) (x y : Transition) → LogMove scheme es input x → newest (transitions_of es) x.id ≡ Some y → IsBusy y.new
   log-live es input x y (checks p moment found f s is none member) h = let e = sym none ∙ h in absurd (cc (e))
   log-live es input x y (passes n moment q new was member right move) h =
       let w : newest (transitions_of es) q.id ≡ Some q = subst (λ z. newest (transitions_of es) z ≡ Some q) (sym (newest-id (transitions_of es) n.id q was).1) was in
@@ -282,7 +284,8 @@ module _ (scheme : Scheme) where
         | inl m ↦ subst (λ (z : Transition). IsBusy z.new) same (subst IsBusy (sym m.0) tt)
         | inr m ↦ subst (λ (z : Transition). IsBusy z.new) same (subst IsBusy (sym m.0) tt)
       ]
-  log-live es input x y (cancels moment t q was stood) h =
+  log-live es input x y (forestalls r moment f member none) h = let e = sym none ∙ h in absurd (cc (e))
+  log-live es input x y (cancels given moment t q why was stood) h =
       let w : newest (transitions_of es) q.id ≡ Some q = subst (λ z. newest (transitions_of es) z ≡ Some q) (sym (newest-id (transitions_of es) t q was).1) was in
       let e = sym w ∙ h in
       let same : q ≡ y = cc (e) in
@@ -336,7 +339,8 @@ module _ (scheme : Scheme) where
   completed-owned es input x made (passes n moment q new was member right move) done s has =
       let w : newest (transitions_of es) q.id ≡ Some q = subst (λ z. newest (transitions_of es) z ≡ Some q) (sym (newest-id (transitions_of es) n.id q was).1) was in
       (in-book scheme s es made).owner q.id (record { last = q; is = w; new = log-live es input x q (passes n moment q new was member right move) w; has = has })
-  completed-owned es input x made (cancels moment t q was stood) done s has = absurd (let y : Cancelled ≡ Completed = done in cc (y))
+  completed-owned es input x made (forestalls r moment f member none) done s has = absurd (let y : Cancelled ≡ Completed = done in cc (y))
+  completed-owned es input x made (cancels given moment t q why was stood) done s has = absurd (let y : Cancelled ≡ Completed = done in cc (y))
 
   pub owned-by-initiator : OwnedByInitiator scheme
   unfolding verdict

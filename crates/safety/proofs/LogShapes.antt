@@ -1,6 +1,6 @@
 -- What the log records for one input: nothing, one transition, or cancellations alone. And induction over its transitions.
 use Rattle.std.proofs.Common.{◌≡◌, ℕ, List, [], ◌∷◌, ◌++◌, Bool, true, false, cond, Option, Some, None, ◌⊎◌, inl, inr, refl, sym, ap, subst, map}
-use Rattle.std.specs.Prelude.{nat_le, length}
+use Rattle.std.specs.Prelude.{nat_le, length, filter, flat_map}
 use Rattle.units.specs.declared.code.Node.TheVariants.{Itl}
 use Rattle.status.specs.Content.{Content}
 use Rattle.status.specs.Rows.{log_row}
@@ -8,24 +8,25 @@ use Rattle.status.specs.declared.id.TransactionId.{TransactionId}
 use Rattle.status.specs.declared.words.Known.TheVariants.{Stands}
 use Rattle.status.specs.declared.words.Row.{Row}
 use Rattle.status.specs.declared.words.Row.TheVariants.{Move, Repeat, Late, Refused}
-use Rattle.status.specs.declared.words.RowInput.TheVariants.{Notified}
+use Rattle.status.specs.declared.words.RowInput.TheVariants.{Notified, Request}
+use Rattle.status.specs.declared.words.Status.{Status}
 use Rattle.status.specs.declared.words.Status.TheVariants.{Cancelled}
 use Rattle.wire.specs.Notices.{notice_status}
 use Rattle.wire.specs.declared.input.Input.{Input}
-use Rattle.wire.specs.declared.input.Input.TheVariants.{Propose, OpenAccount, CloseAccount, Ack, CleanUp, Eligible, Received}
+use Rattle.wire.specs.declared.input.Input.TheVariants.{Propose, Request as Ask, OpenAccount, CloseAccount, Ack, CleanUp, Eligible, Received}
 use Rattle.wire.specs.declared.message.Message.{Message}
 use Rattle.wire.specs.declared.message.Message.TheVariants as message
 use Rattle.wire.specs.declared.notice.Notice.{Notice}
 use Rattle.scheme.specs.declared.registries.Scheme.{Scheme}
-use Rattle.protocol.specs.AtLog.{ledger, checked, told_to, log_proposal, pass, log_notice, log_refusals, log_answer, due, by_id, cancelled, cancel_all, same_bool, eligible_refusals, log_verdict}
-use Rattle.protocol.specs.Checks.{Causes, codes_of, log_findings}
-use Rattle.protocol.specs.Deciding.{Enters, IsRepeat, IsRefused, enters, moved, notifies, ack_refusals}
+use Rattle.protocol.specs.AtLog.{log_refusals, log_answer, newest_of_each, is_old, by_id, cleaned, due, clean_up, same_bool, eligible_refusals, log_verdict}
+use Rattle.protocol.specs.Checks.{Causes, codes_of}
+use Rattle.protocol.specs.Deciding.{Enters, IsRepeat, IsRefused, enters, known, by_row, ack_refusals}
 use Rattle.protocol.specs.History.{Transition, Entry, transitions_of, newest, is_acknowledged, is_eligible}
 use Rattle.protocol.specs.Verdict.{verdict, made as made_of}
 use Rattle.safety.proofs.Histories.{Made, made-log}
 use Rattle.safety.proofs.Local.{Single, single-refuse, single-cond, none-enter, one-enters}
-use Rattle.safety.proofs.Members.{In, In-map}
-use Rattle.safety.proofs.Moves.{LogMove, NoneStands}
+use Rattle.safety.proofs.Members.{In, In-flat_map}
+use Rattle.safety.proofs.Moves.{LogMove, NoneStands, cleaned-made}
 
 -- no codes: no cause stands
 pub none-stand : (cs : Causes) → codes_of cs ≡ [] → NoneStands cs
@@ -45,34 +46,30 @@ abbrev pub Shaped : List Transition → Type 0
 Shaped xs = Single xs ⊎ AllCancelled xs
 
 module _ (scheme : Scheme) (es : List Entry) where
-  shape-pass : (x : Transition) (moment : ℕ) (said : Notice) (row : Row) → Single (made_of (pass scheme es x moment said row))
-  shape-pass x moment said (Move new) = one-enters scheme es (moved x new moment (notifies Itl (told_to x new) x.id said ∷ []))
-  shape-pass x moment said Repeat = inl refl
-  shape-pass x moment said Late = inl refl
-  shape-pass x moment said Refused = inl refl
-
-  shape-notice : (last : Option Transition) (said : Notice) (moment : ℕ) → Single (made_of (log_notice scheme es last said moment))
-  shape-notice None said moment = inl refl
-  shape-notice (Some x) said moment = shape-pass x moment said (log_row (Stands x.new) (Notified (notice_status said)))
-
-  shape-proposal : (t : TransactionId) (last : Option Transition) (k : Content) (moment : ℕ) → Single (made_of (log_proposal scheme es t last k moment))
-  shape-proposal t None k moment = one-enters scheme es (checked t k moment (log_findings scheme (ledger scheme es) t.code k))
-  shape-proposal t (Some x) k moment = inl refl
+  shape-row : (to : Status → Transition) (row : Row) → Single (made_of (by_row scheme es to row))
+  shape-row to (Move new) = one-enters scheme es (to new)
+  shape-row to Repeat = inl refl
+  shape-row to Late = inl refl
+  shape-row to Refused = inl refl
 
   shape-answer : (m : Message) (moment : ℕ) → Single (made_of (log_answer scheme es moment m))
-  shape-answer (message.Proposal p) moment = shape-proposal p.id (newest (transitions_of es) p.id) p.content moment
-  shape-answer (message.Notification n) moment = shape-notice (newest (transitions_of es) n.id) n.notice moment
+  shape-answer (message.Proposal p) moment = shape-row _ (log_row (known (newest (transitions_of es) p.id)) _)
+  shape-answer (message.Notification n) moment = shape-row _ (log_row (known (newest (transitions_of es) n.id)) (Notified (notice_status n.notice)))
+  shape-answer (message.Request r) moment = shape-row _ (log_row (known (newest (transitions_of es) r.id)) Request)
 
-  shape-cancel : (moment : ℕ) (xs : List Transition) → AllCancelled (made_of (cancel_all scheme es moment xs))
-  shape-cancel moment [] x i = absurd i
-  shape-cancel moment (q ∷ qs) x i = go (nat_le scheme.records (length es)) i
+  all-cleaned : (moment : ℕ) (qs : List Transition) → AllCancelled (flat_map (cleaned moment) qs)
+  all-cleaned moment qs x i = let g = In-flat_map (cleaned moment) x qs i in sym (ap (λ (z : Transition). z.new) (cleaned-made scheme es moment g.0 x g.2).1)
+
+  shape-clean : (xs : List Transition) → AllCancelled xs → AllCancelled (made_of (clean_up scheme es xs))
+  shape-clean [] all x i = absurd i
+  shape-clean (q ∷ qs) all x i = go (nat_le scheme.records (length es)) i
     where
-      go : (b : Bool) → In x (made_of (cond b (IsRefused 49) (Enters (map (cancelled moment) (q ∷ qs))))) → x.new ≡ Cancelled
+      go : (b : Bool) → In x (made_of (cond b (IsRefused 49) (Enters (q ∷ qs)))) → x.new ≡ Cancelled
       go true i = absurd i
-      go false i = let g = In-map (cancelled moment) x (q ∷ qs) i in sym (ap (λ (z : Transition). z.new) g.2)
+      go false i = all x i
 
   shape : (input : Input) → Shaped (made_of (log_verdict scheme es input))
-  shape (CleanUp t) = inr (shape-cancel t.seconds (by_id (due (transitions_of es) t.seconds)))
+  shape (CleanUp t) = inr (shape-clean (due (transitions_of es) t.seconds) (all-cleaned t.seconds (by_id (filter (is_old t.seconds) (newest_of_each (transitions_of es))))))
   shape (Eligible c may) =
       inl
       (single-refuse (eligible_refusals scheme c) (cond (same_bool (is_eligible scheme es c) may) IsRepeat (enters scheme es []))
@@ -83,6 +80,7 @@ module _ (scheme : Scheme) (es : List Entry) where
       (single-cond (is_acknowledged es n.value) IsRepeat (enters scheme es []) (inl refl) (none-enter scheme es)))
   shape (Received m t) = inl (single-refuse (log_refusals scheme es m) (log_answer scheme es t.seconds m) (shape-answer m t.seconds))
   shape (Propose o) = inl (inl refl)
+  shape (Ask t) = inl (inl refl)
   shape (OpenAccount n) = inl (inl refl)
   shape (CloseAccount n) = inl (inl refl)
 

@@ -16,6 +16,7 @@ use Rattle.protocol.specs.Claims.{StandsAt, at_registry, is_received, owes, hold
 use Rattle.protocol.specs.History.{Transition, Entry, newest, number_of, gives, holds}
 use Rattle.protocol.specs.Owner.{Owner, At, Due, Owing, Owns, OneOwner}
 use Rattle.protocol.specs.Registries.{allotted, has_member}
+use Rattle.safety.proofs.Said.{IsAgreed}
 use Rattle.safety.proofs.Causal.{Causal, completed-agrees}
 use Rattle.safety.proofs.Completions.{given, is-given, stands-so}
 use Rattle.safety.proofs.Counts.{number-one, number-some, number-two}
@@ -47,7 +48,7 @@ module _ (scheme : Scheme) (f : Node → List Entry) (causal : Causal scheme f) 
   initiator-known : (t : TransactionId) → StandsAt f (Registry t.code) t Completed → has_member scheme t.code ≡ true
   initiator-known t h =
       let a = completed-agrees scheme f causal (Registry t.code) t h in
-      not-false (has_member scheme t.code) (proposer scheme (f Itl) (causal.made Itl) t a.0 a.1).initiator_known
+      not-false (has_member scheme t.code) (proposer scheme (f Itl) (causal.made Itl) t a.0 a.1 (λ e. subst IsAgreed e a.2)).initiator_known
 
   counted : (s : Serial) (t : TransactionId) (o : Owing f s t) → Counted s t o.last
   counted s t o =

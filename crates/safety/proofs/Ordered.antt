@@ -9,7 +9,7 @@ use Rattle.units.specs.declared.code.Node.{Node}
 use Rattle.units.specs.declared.code.Node.TheVariants.{Itl, Registry}
 use Rattle.status.specs.declared.moment.Moment.{Moment}
 use Rattle.wire.specs.declared.input.Input.{Input}
-use Rattle.wire.specs.declared.input.Input.TheVariants.{Propose, OpenAccount, CloseAccount, Ack, CleanUp, Eligible, Received}
+use Rattle.wire.specs.declared.input.Input.TheVariants.{Propose, Request, OpenAccount, CloseAccount, Ack, CleanUp, Eligible, Received}
 use Rattle.wire.specs.declared.message.Message.{Message}
 use Rattle.scheme.specs.declared.registries.Scheme.{Scheme}
 use Rattle.protocol.specs.Claims.{committed_part, whole}
@@ -56,6 +56,7 @@ module _ (scheme : Scheme) (n : Node) where
   was-sent : (journals : Node → List Input) (x : Input) (xs : List Input) → EachSent scheme journals (x ∷ xs) → Addressed n x → WasSent scheme journals n x
   was-sent journals (Received m moment) xs sent a = (a, contains-in (sends (history scheme (sender m) (journals (sender m)))) m (sent m moment (inl refl)))
   was-sent journals (Propose o) xs sent a = tt
+  was-sent journals (Request t) xs sent a = tt
   was-sent journals (OpenAccount account) xs sent a = tt
   was-sent journals (CloseAccount account) xs sent a = tt
   was-sent journals (Ack key) xs sent a = tt
@@ -232,6 +233,7 @@ module _ (w : World) (sound : Sound w) (all : AllPlaced w) (o : Ordered w) where
   order-addressed Itl (Received m moment) h = absurd (cc (h))
   order-addressed (Registry c) (Received m moment) h = absurd (cc (h))
   order-addressed n (Propose order) h = tt
+  order-addressed n (Request t) h = tt
   order-addressed n (OpenAccount account) h = tt
   order-addressed n (CloseAccount account) h = tt
   order-addressed n (Ack key) h = tt

@@ -16,7 +16,7 @@ use Rattle.protocol.specs.History.{Transition, Entry, transitions_of}
 use Rattle.safety.proofs.Ended.{each-move, own-about}
 use Rattle.safety.proofs.Histories.{Made}
 use Rattle.safety.proofs.Members.{In, clash}
-use Rattle.safety.proofs.Moves.{RegistryMove, proposes, arrives, bares, settles, finishes}
+use Rattle.safety.proofs.Moves.{RegistryMove, proposes, asks, arrives, bares, settles, finishes}
 use Rattle.safety.proofs.Tables.{initiator-from}
 
 abbrev pub IsOwnStatus : Status → Type 0
@@ -47,7 +47,8 @@ module _ (scheme : Scheme) (c : Code) where
   OwnStatuses xs = (x : Transition) → In x xs → same_code x.id.code c ≡ true → IsOwnStatus x.new
 
   own-status-move : (es : List Entry) (input : Input) (x : Transition) → RegistryMove scheme c es input x → same_code x.id.code c ≡ true → IsOwnStatus x.new
-  own-status-move es input x (proposes o t none is) own = tt
+  own-status-move es input x (proposes o t none is fresh) own = tt
+  own-status-move es input x (asks t q old mine stood) own = tt
   own-status-move es input x (arrives p moment found f s is none foreign mine) own = clash (same_code p.id.code c) own foreign
   own-status-move es input x (bares n moment f cancelled none foreign) own = tt
   own-status-move es input x (settles n moment q new f was mine move) own = own-status q.new (notice_status n.notice) new move

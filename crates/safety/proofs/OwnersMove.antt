@@ -22,6 +22,7 @@ use Rattle.protocol.specs.Registries.{has_member}
 use Rattle.protocol.specs.Verdict.{history}
 use Rattle.protocol.specs.World.{World, station, step}
 use Rattle.protocol.specs.declared.event.WorldEvent.{WorldEvent}
+use Rattle.safety.proofs.Said.{IsAgreed}
 use Rattle.safety.proofs.Causal.{Causal, LogAgrees, completed-agrees, ended}
 use Rattle.safety.proofs.Committing.{step-commits}
 use Rattle.safety.proofs.Completions.{done-status, given, is-credited, stood, stands-so, completed-once, transfer, initiator-has, initiator-completed}
@@ -86,7 +87,7 @@ module _ (scheme : Scheme) (f g : Node → List Entry) (cf : Causal scheme f) (c
       let last = ends-last scheme c (g (Registry c)) (cg.made (Registry c)) x (new-in c x at i) out.0 in
       let agrees = completed-agrees scheme g cg (Registry c) x.id (stands-so (at_registry g c) x.id x Completed last out.0) in
       let log : g Itl ≡ f Itl = elsewhere Itl (subst (λ z. same_node z Itl ≡ false) (sym at) refl) in
-      let p = proposer scheme (g Itl) (cg.made Itl) x.id agrees.0 agrees.1 in
+      let p = proposer scheme (g Itl) (cg.made Itl) x.id agrees.0 agrees.1 (λ e. subst IsAgreed e agrees.2) in
       let before = initiator-has scheme f cf x.id p.content (subst (λ (es : List Entry). Offered es (Registry x.id.code) x.id proposal.Proposed p.content) log p.got) in
       let after = initiator-has scheme g cg x.id p.content p.got in
       let was : newest (at_registry f c) x.id ≡ Some before.0 = subst (λ z. newest (at_registry f z) x.id ≡ Some before.0) own before.1 in

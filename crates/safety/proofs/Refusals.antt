@@ -1,4 +1,7 @@
 -- Answers that refuse for a full journal alone, and the causes of a refusal one by one.
+use Rattle.status.specs.declared.words.Status.{Status}
+use Rattle.status.specs.declared.words.Row.TheVariants.{Move, Repeat, Late, Refused}
+use Rattle.status.specs.declared.words.Row.{Row}
 use Rattle.std.proofs.Common.{◌≡◌, ℕ, List, [], ◌∷◌, Bool, true, false, not, cond, Option, Some, None, ◌⊎◌, inl, inr, refl, sym, ap, subst, ◌∙◌}
 use Rattle.std.specs.Prelude.{nat_le, length, is_some}
 use Rattle.std.proofs.lemmas.Bool.{cond-true, cond-false, not_from_true}
@@ -10,7 +13,7 @@ use Rattle.status.specs.Content.{Content}
 use Rattle.status.specs.declared.id.TransactionId.{TransactionId}
 use Rattle.scheme.specs.declared.registries.Scheme.{Scheme}
 use Rattle.protocol.specs.Checks.{Causes}
-use Rattle.protocol.specs.Deciding.{Verdict, Enters, IsRepeat, IsLate, IsRefused, refuse, enters, has_other}
+use Rattle.protocol.specs.Deciding.{Verdict, Enters, IsRepeat, IsLate, IsRefused, refuse, enters, has_other, by_row}
 use Rattle.protocol.specs.History.{Transition, Entry, newest, is_known}
 use Rattle.safety.proofs.Moves.{NoneStands}
 
@@ -47,6 +50,12 @@ welcome-true b u v e w = subst Welcome (sym (cond-true b u v e)) w
 
 pub welcome-false : (b : Bool) (u v : Verdict) → b ≡ false → Welcome v → Welcome (cond b u v)
 welcome-false b u v e w = subst Welcome (sym (cond-false b u v e)) w
+
+pub welcome-row : (scheme : Scheme) (es : List Entry) (to : Status → Transition) (row : Row) → (row ≡ Refused → ⊥) → Welcome (by_row scheme es to row)
+welcome-row scheme es to (Move new) h = welcome-enters scheme es _
+welcome-row scheme es to Repeat h = welcome-repeat
+welcome-row scheme es to Late h = welcome-late
+welcome-row scheme es to Refused h = absurd (h refl)
 
 -- ---- causes that don't stand
 

@@ -7,20 +7,24 @@ use Rattle.units.specs.declared.code.Node.{Node}
 use Rattle.units.specs.declared.code.Node.TheVariants.{Itl, Registry}
 use Rattle.status.specs.Content.{Content}
 use Rattle.status.specs.declared.id.TransactionId.{TransactionId}
+use Rattle.status.specs.declared.moment.Moment.{Moment}
 use Rattle.status.specs.declared.words.Status.{Status}
 use Rattle.status.specs.declared.words.Status.TheVariants.{Checked, Accepted, Rejected, Terminated, Cancelled, Completed}
 use Rattle.wire.specs.Notices.{notice_status}
 use Rattle.wire.specs.declared.input.Input.{Input}
+use Rattle.wire.specs.declared.input.Input.TheVariants.{Received}
 use Rattle.wire.specs.declared.message.Message.TheVariants as message
 use Rattle.wire.specs.declared.message.Notification.{Notification}
 use Rattle.wire.specs.declared.message.Proposal.{Proposal}
+use Rattle.wire.specs.declared.message.Request.{Request}
 use Rattle.scheme.specs.declared.registries.Scheme.{Scheme}
-use Rattle.protocol.specs.AtLog.{ledger, checked_status, checked_message, acquirer_of, is_no_registry, is_from_another}
+use Rattle.protocol.specs.AtLog.{ledger, is_no_registry, is_not_acquirer, is_from_another}
 use Rattle.protocol.specs.Checks.{log_findings}
 use Rattle.protocol.specs.History.{Transition, Entry, transitions_of, newest, sends, messages_of}
+use Rattle.safety.proofs.Forms.{checked_status, checked_message, acquirer_of}
 use Rattle.safety.proofs.Histories.{Made, Heard, heard-later, made-log, newest-id, newest-append, newest-in, one-notice}
 use Rattle.safety.proofs.Members.{In, In-cases, In-flat_map, one-some}
-use Rattle.safety.proofs.Moves.{LogMove, checks, passes, cancels}
+use Rattle.safety.proofs.Moves.{LogMove, checks, passes, cancels, forestalls, Withdraws, cleans, requested}
 use Rattle.safety.proofs.Tables.{log-from}
 
 -- ---- what stands Accepted or Completed was accepted by its acquirer
@@ -41,15 +45,15 @@ checked-new (c ∷ cs) h = h
 
 module _ (scheme : Scheme) where
   -- who sent an Accepted that moved a transfer: the acquirer of its content
-  pub from_acquirer : (from : Node) (k : Option Content) → is_no_registry scheme from ≡ false → not (same_node from (acquirer_of k)) ≡ false → (c : Content) × (k ≡ Some c) × (from ≡ Registry c.acquirer)
-  from_acquirer from None member right =
-      absurd (let e = node_of_same from Itl (not-false _ right) in let m : is_no_registry scheme Itl ≡ false = subst (λ n. is_no_registry scheme n ≡ false) e member in cc (m))
+  pub from_acquirer : (from : Node) (k : Option Content) → is_no_registry scheme from ≡ false → is_not_acquirer from k ≡ false → (c : Content) × (k ≡ Some c) × (from ≡ Registry c.acquirer)
+  from_acquirer from None member right = absurd (cc (right))
   from_acquirer from (Some c) member right = (c, refl, node_of_same from (Registry c.acquirer) (not-false _ right))
 
   backed-move : (es : List Entry) (e : Entry) (t : TransactionId) (input : Input) (x : Transition) → e.input ≡ input → LogMove scheme es input x → x.id ≡ t → IsAgreed x.new
       → ((q : Transition) → newest (transitions_of es) t ≡ Some q → IsAgreed q.new → Backed es t q) → Backed (e ∷ es) t x
   backed-move es e t input x i (checks p moment found f s is none member) same h older = absurd (checked-new found h)
-  backed-move es e t input x i (cancels moment u q old was) same h older = absurd h
+  backed-move es e t input x i (cancels given moment u q why old was) same h older = absurd h
+  backed-move es e t input x i (forestalls r moment f member none) same h older = absurd h
   backed-move es e t input x i (passes n moment q new old member right move) same h older =
       let about : n.id ≡ t = sym (newest-id (transitions_of es) n.id q old).1 ∙ same in
       elim (log-from q.new (notice_status n.notice) new move) [
@@ -119,13 +123,33 @@ module _ (scheme : Scheme) where
       let from = log-from q.new (notice_status m.notice) new move in
       let same : notice_status m.notice ≡ notice_status n.notice = ap (λ (z : Notification). notice_status z.notice) s in
       (ap (λ (z : Notification). z.id) s, new-told q.new (notice_status m.notice) new from ∙ same, λ e. told-new q.new new (notice_status m.notice) (new-told q.new (notice_status m.notice) new from) from (same ∙ e))
-  log-notice-move es input x n (cancels moment t q old was) (inl e) =
+  log-notice-move es input x n (cancels given moment t q why old was) (inl e) =
       let s = one-notice _ n e in
       (ap (λ (z : Notification). z.id) s, ap (λ (z : Notification). notice_status z.notice) s, λ c. let y : Cancelled ≡ Checked = ap (λ (z : Notification). notice_status z.notice) s ∙ c in absurd (cc (y)))
-  log-notice-move es input x n (cancels moment t q old was) (inr (inl e)) =
+  log-notice-move es input x n (cancels given moment t q why old was) (inr (inl e)) =
       let s = one-notice _ n e in
       (ap (λ (z : Notification). z.id) s, ap (λ (z : Notification). notice_status z.notice) s, λ c. let y : Cancelled ≡ Checked = ap (λ (z : Notification). notice_status z.notice) s ∙ c in absurd (cc (y)))
-  log-notice-move es input x n (cancels moment t q old was) (inr (inr h)) = absurd h
+  log-notice-move es input x n (cancels given moment t q why old was) (inr (inr h)) = absurd h
+  log-notice-move es input x n (forestalls r moment f member none) (inl e) =
+      let s = one-notice _ n e in
+      (ap (λ (z : Notification). z.id) s, ap (λ (z : Notification). notice_status z.notice) s, λ c. let y : Cancelled ≡ Checked = ap (λ (z : Notification). notice_status z.notice) s ∙ c in absurd (cc (y)))
+  log-notice-move es input x n (forestalls r moment f member none) (inr h) = absurd h
+
+  -- what cancels a transaction is no proposal and no notification, and a request cancels none that is not known
+  no-proposal : {X : Type 0} (given : Input) (t : TransactionId) (moment : Moment) (p : Proposal) (at_moment : Moment) → Withdraws given t moment → given ≡ Received (message.Proposal p) at_moment → X
+  no-proposal given t moment p at_moment (cleans _ _) e = absurd (cc (e))
+  no-proposal given t moment p at_moment (requested _ _ _) e = absurd (cc (e))
+
+  no-notification : {X : Type 0} (given : Input) (t : TransactionId) (moment : Moment) (n : Notification) (at_moment : Moment) → Withdraws given t moment → given ≡ Received (message.Notification n) at_moment → X
+  no-notification given t moment n at_moment (cleans _ _) e = absurd (cc (e))
+  no-notification given t moment n at_moment (requested _ _ _) e = absurd (cc (e))
+
+  same-request : (given : Input) (t : TransactionId) (moment : Moment) (r : Request) (at_moment : Moment) → Withdraws given t moment → given ≡ Received (message.Request r) at_moment → t ≡ r.id
+  same-request given t moment r at_moment (cleans _ _) e = absurd (cc (e))
+  same-request given t moment r at_moment (requested q _ _) e = let a : q ≡ r = cc (e) in ap (λ (z : Request). z.id) a
+
+  known-and-new : {X : Type 0} (es : List Entry) (t u : TransactionId) (q : Transition) → t ≡ u → newest (transitions_of es) t ≡ Some q → newest (transitions_of es) u ≡ None → X
+  known-and-new es t u q same old none = absurd (let e = sym old ∙ ap (newest (transitions_of es)) same ∙ none in cc (e))
 
   -- transitions of one input with one identifier have one status and one content
   pub log-pair : (es : List Entry) (i j : Input) (x y : Transition) → i ≡ j → x.id ≡ y.id → LogMove scheme es i x → LogMove scheme es j y → (x.new ≡ y.new) × (x.content ≡ y.content)
@@ -134,7 +158,8 @@ module _ (scheme : Scheme) where
       let b = ap (λ (z : Proposal). log_findings scheme (ledger scheme es) z.id.code z.content) a in
       (ap checked_status (is ∙ b ∙ sym is'), ap (λ (z : Proposal). Some z.content) a)
   log-pair es i j x y e same (checks p moment found f s is none member) (passes n' moment' q' new' old' member' right' move') = absurd (cc (e))
-  log-pair es i j x y e same (checks p moment found f s is none member) (cancels moment' t' q' old' was') = absurd (cc (e))
+  log-pair es i j x y e same (checks p moment found f s is none member) (cancels given' moment' t' q' why' old' was') = no-proposal j t' moment' p moment why' (sym e)
+  log-pair es i j x y e same (checks p moment found f s is none member) (forestalls r' moment' f' member' none') = absurd (cc (e))
   log-pair es i j x y e same (passes n moment q new old member right move) (checks p' moment' found' f' s' is' none' member') = absurd (cc (e))
   log-pair es i j x y e same (passes n moment q new old member right move) (passes n' moment' q' new' old' member' right' move') =
       let a : n ≡ n' = cc (e) in
@@ -144,10 +169,16 @@ module _ (scheme : Scheme) where
       let here = new-told q.new (notice_status n.notice) new (log-from q.new (notice_status n.notice) new move) in
       let there = new-told q'.new (notice_status n'.notice) new' (log-from q'.new (notice_status n'.notice) new' move') in
       (here ∙ told ∙ sym there, ap (λ (z : Transition). z.content) c)
-  log-pair es i j x y e same (passes n moment q new old member right move) (cancels moment' t' q' old' was') = absurd (cc (e))
-  log-pair es i j x y e same (cancels moment t q old was) (checks p' moment' found' f' s' is' none' member') = absurd (cc (e))
-  log-pair es i j x y e same (cancels moment t q old was) (passes n' moment' q' new' old' member' right' move') = absurd (cc (e))
-  log-pair es i j x y e same (cancels moment t q old was) (cancels moment' t' q' old' was') =
+  log-pair es i j x y e same (passes n moment q new old member right move) (cancels given' moment' t' q' why' old' was') = no-notification j t' moment' n moment why' (sym e)
+  log-pair es i j x y e same (passes n moment q new old member right move) (forestalls r' moment' f' member' none') = absurd (cc (e))
+  log-pair es i j x y e same (cancels given moment t q why old was) (checks p' moment' found' f' s' is' none' member') = no-proposal i t moment p' moment' why e
+  log-pair es i j x y e same (cancels given moment t q why old was) (passes n' moment' q' new' old' member' right' move') = no-notification i t moment n' moment' why e
+  log-pair es i j x y e same (cancels given moment t q why old was) (forestalls r' moment' f' member' none') = known-and-new es t r'.id q (same-request i t moment r' moment' why e) old none'
+  log-pair es i j x y e same (forestalls r moment f member none) (checks p' moment' found' f' s' is' none' member') = absurd (cc (e))
+  log-pair es i j x y e same (forestalls r moment f member none) (passes n' moment' q' new' old' member' right' move') = absurd (cc (e))
+  log-pair es i j x y e same (forestalls r moment f member none) (cancels given' moment' t' q' why' old' was') = known-and-new es t' r.id q' (same-request j t' moment' r moment why' (sym e)) old' none
+  log-pair es i j x y e same (forestalls r moment f member none) (forestalls r' moment' f' member' none') = (refl, refl)
+  log-pair es i j x y e same (cancels given moment t q why old was) (cancels given' moment' t' q' why' old' was') =
       let a : t ≡ t' = sym (newest-id (transitions_of es) t q old).1 ∙ same ∙ (newest-id (transitions_of es) t' q' old').1 in
       let b : Some q ≡ Some q' = sym old ∙ ap (newest (transitions_of es)) a ∙ old' in
       let c : q ≡ q' = cc (b) in
@@ -170,7 +201,8 @@ module _ (scheme : Scheme) where
               | inr e ↦ absurd (let y : Completed ≡ Accepted = sym e.1 ∙ m.0 in cc (y))
             ]
       ]
-  log-keeps es input x s not_checked (cancels moment t q old was) past =
+  log-keeps es input x s not_checked (forestalls r moment f member none) past = absurd (subst (IsPast s) none past)
+  log-keeps es input x s not_checked (cancels given moment t q why old was) past =
       let at_q : IsPast s (Some q) = subst (IsPast s) (subst (λ z. newest (transitions_of es) z ≡ Some q) (sym (newest-id (transitions_of es) t q old).1) old) past in
       elim at_q [
         | inl e ↦ absurd (not_checked (sym e ∙ was))
@@ -219,9 +251,11 @@ module _ (scheme : Scheme) where
       offer (c ∷ cs) (inr h) = absurd h
   log-offer-move es input x p (passes n moment q new old member right move) (inl e) = absurd (cc (e))
   log-offer-move es input x p (passes n moment q new old member right move) (inr h) = absurd h
-  log-offer-move es input x p (cancels moment t q old was) (inl e) = absurd (cc (e))
-  log-offer-move es input x p (cancels moment t q old was) (inr (inl e)) = absurd (cc (e))
-  log-offer-move es input x p (cancels moment t q old was) (inr (inr h)) = absurd h
+  log-offer-move es input x p (cancels given moment t q why old was) (inl e) = absurd (cc (e))
+  log-offer-move es input x p (cancels given moment t q why old was) (inr (inl e)) = absurd (cc (e))
+  log-offer-move es input x p (cancels given moment t q why old was) (inr (inr h)) = absurd h
+  log-offer-move es input x p (forestalls r moment f member none) (inl e) = absurd (cc (e))
+  log-offer-move es input x p (forestalls r moment f member none) (inr h) = absurd h
 
   pub log-keeps-content : (es : List Entry) (input : Input) (x y : Transition) (k : Content) → LogMove scheme es input x → newest (transitions_of es) x.id ≡ Some y → y.content ≡ Some k → x.content ≡ Some k
   log-keeps-content es input x y k (checks p moment found f s is none member) h c = absurd (let e = sym none ∙ h in cc (e))
@@ -230,7 +264,8 @@ module _ (scheme : Scheme) where
       let e = sym a ∙ h in
       let b : q ≡ y = cc (e) in
       ap (λ (z : Transition). z.content) b ∙ c
-  log-keeps-content es input x y k (cancels moment t q old was) h c =
+  log-keeps-content es input x y k (forestalls r moment f member none) h c = absurd (let e = sym none ∙ h in cc (e))
+  log-keeps-content es input x y k (cancels given moment t q why old was) h c =
       let a : newest (transitions_of es) q.id ≡ Some q = subst (λ z. newest (transitions_of es) z ≡ Some q) (sym (newest-id (transitions_of es) t q old).1) old in
       let e = sym a ∙ h in
       let b : q ≡ y = cc (e) in

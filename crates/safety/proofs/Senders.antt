@@ -10,13 +10,12 @@ use Rattle.status.specs.declared.words.Status.TheVariants.{Proposed, Checked, Ac
 use Rattle.wire.specs.declared.input.Input.{Input}
 use Rattle.wire.specs.declared.message.Message.{Message}
 use Rattle.scheme.specs.declared.registries.Scheme.{Scheme}
-use Rattle.protocol.specs.AtLog.{checked_message}
-use Rattle.protocol.specs.AtRegistry.{settled_messages}
 use Rattle.protocol.specs.History.{Transition, Entry, sends, messages_of}
 use Rattle.protocol.specs.World.{sender}
+use Rattle.safety.proofs.Forms.{settled_messages, checked_message}
 use Rattle.safety.proofs.Histories.{Made, made-registry, made-log}
 use Rattle.safety.proofs.Members.{In, In-cases, In-flat_map}
-use Rattle.safety.proofs.Moves.{RegistryMove, proposes, arrives, bares, settles, finishes, LogMove, checks, passes, cancels}
+use Rattle.safety.proofs.Moves.{RegistryMove, proposes, asks, arrives, bares, settles, finishes, LogMove, checks, passes, cancels, forestalls}
 
 sender-settled : (c : Code) (u : TransactionId) (new : Status) (m : Message) → In m (settled_messages c u new) → sender m ≡ Registry c
 sender-settled c u Completed m (inl e) = ap sender (sym e)
@@ -29,10 +28,12 @@ sender-settled c u Terminated m h = absurd h
 sender-settled c u Cancelled m h = absurd h
 
 sender-registry : (scheme : Scheme) (c : Code) (es : List Entry) (input : Input) (x : Transition) (m : Message) → RegistryMove scheme c es input x → In m x.messages → sender m ≡ Registry c
-sender-registry scheme c es input x m (proposes o t none is) (inl e) = ap sender (sym e)
-sender-registry scheme c es input x m (proposes o t none is) (inr h) = absurd h
+sender-registry scheme c es input x m (proposes o t none is fresh) (inl e) = ap sender (sym e)
+sender-registry scheme c es input x m (proposes o t none is fresh) (inr h) = absurd h
 sender-registry scheme c es input x m (arrives p moment found f s is none foreign mine) (inl e) = ap sender (sym e)
 sender-registry scheme c es input x m (arrives p moment found f s is none foreign mine) (inr h) = absurd h
+sender-registry scheme c es input x m (asks t q old own stood) (inl e) = ap sender (sym e)
+sender-registry scheme c es input x m (asks t q old own stood) (inr h) = absurd h
 sender-registry scheme c es input x m (bares n moment f told none foreign) h = absurd h
 sender-registry scheme c es input x m (settles n moment q new f old own move) h = sender-settled c q.id new m h
 sender-registry scheme c es input x m (finishes n moment q new f old foreign move none) h = absurd h
@@ -46,9 +47,11 @@ sender-log scheme es input x m (checks p moment found f s is none member) (inl e
 sender-log scheme es input x m (checks p moment found f s is none member) (inr h) = absurd h
 sender-log scheme es input x m (passes n moment q new old member right move) (inl e) = ap sender (sym e)
 sender-log scheme es input x m (passes n moment q new old member right move) (inr h) = absurd h
-sender-log scheme es input x m (cancels moment t q old was) (inl e) = ap sender (sym e)
-sender-log scheme es input x m (cancels moment t q old was) (inr (inl e)) = ap sender (sym e)
-sender-log scheme es input x m (cancels moment t q old was) (inr (inr h)) = absurd h
+sender-log scheme es input x m (cancels given moment t q why old was) (inl e) = ap sender (sym e)
+sender-log scheme es input x m (cancels given moment t q why old was) (inr (inl e)) = ap sender (sym e)
+sender-log scheme es input x m (cancels given moment t q why old was) (inr (inr h)) = absurd h
+sender-log scheme es input x m (forestalls r moment f member none) (inl e) = ap sender (sym e)
+sender-log scheme es input x m (forestalls r moment f member none) (inr h) = absurd h
 
 pub sender-sends : (scheme : Scheme) (n : Node) (es : List Entry) → Made scheme n es → (m : Message) → In m (sends es) → sender m ≡ n
 sender-sends scheme n [] made m h = absurd h

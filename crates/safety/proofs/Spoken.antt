@@ -16,15 +16,15 @@ use Rattle.wire.specs.declared.message.ProposalStatus.TheVariants as proposal
 use Rattle.wire.specs.declared.notice.Notice.{Notice}
 use Rattle.wire.specs.declared.notice.Notice.TheVariants as notice
 use Rattle.scheme.specs.declared.registries.Scheme.{Scheme}
-use Rattle.protocol.specs.AtLog.{acquirer_of, checked, checked_status, told_to}
-use Rattle.protocol.specs.AtRegistry.{arrived, arrived_status, proposals, settled_messages}
-use Rattle.protocol.specs.Deciding.{moved, proposes as to_propose, notifies}
-use Rattle.protocol.specs.History.{Transition, Entry, transitions_of, sends, messages_of}
+use Rattle.protocol.specs.AtRegistry.{content_of}
+use Rattle.protocol.specs.Effects.{notifies, proposes as to_propose}
+use Rattle.protocol.specs.History.{Transition, Entry, transitions_of, sends, messages_of, proposals}
+use Rattle.safety.proofs.Forms.{arrived, arrived_status, settled_messages, acquirer_of, checked, checked_status, told_to, moved}
 use Rattle.safety.proofs.Ended.{each-move, own-code, own-about}
-use Rattle.safety.proofs.Histories.{Made, made-log, newest-id}
+use Rattle.safety.proofs.Histories.{Made, made-registry, made-log, newest-id}
 use Rattle.safety.proofs.Local.{initiator-new}
 use Rattle.safety.proofs.Members.{In, In-cases, In-left, In-right, clash}
-use Rattle.safety.proofs.Moves.{RegistryMove, proposes, arrives, bares, settles, finishes, LogMove, checks, passes, cancels}
+use Rattle.safety.proofs.Moves.{RegistryMove, proposes, asks, arrives, bares, settles, finishes, LogMove, checks, passes, cancels, forestalls}
 use Rattle.safety.proofs.Tables.{log-from, acquirer-from}
 
 -- ---- a message of a transition is sent
@@ -50,7 +50,6 @@ Tells x from to s = (said : Notice) × (notice_status said ≡ s) × In (notifie
 
 -- of a transfer of one's own
 abbrev pub SaysOwn : Code → Transition → Status → Type 0
-SaysOwn c x Proposed = (k : Content) × (x.content ≡ Some k) × In (to_propose (Registry c) Itl x.id proposal.Proposed k) x.messages
 SaysOwn c x Completed = Tells x (Registry c) Itl Completed
 SaysOwn c x _ = Unit {0}
 
@@ -69,7 +68,7 @@ SaysAtLog x s = Tells x Itl (Registry x.id.code) s
 
 module _ (scheme : Scheme) (c : Code) where
   settled-says : (q : Transition) (moment : ℕ) (new : Status) → (new ≡ Proposed → ⊥) → SaysOwn c (moved q new moment (settled_messages c q.id new)) new
-  settled-says q moment Proposed h = absurd (h refl)
+  settled-says q moment Proposed h = tt
   settled-says q moment Completed h = (notice.Completed, refl, inl refl)
   settled-says q moment Checked h = tt
   settled-says q moment Accepted h = tt
@@ -78,19 +77,21 @@ module _ (scheme : Scheme) (c : Code) where
   settled-says q moment Cancelled h = tt
 
   own-says : (es : List Entry) (input : Input) (x : Transition) → RegistryMove scheme c es input x → same_code x.id.code c ≡ true → SaysOwn c x x.new
-  own-says es input x (proposes o t none is) own = (_, refl, inl refl)
+  own-says es input x (proposes o t none is fresh) own = tt
+  own-says es input x (asks t q old mine stood) own = tt
   own-says es input x (arrives p moment found f s is none foreign mine) own = clash (same_code p.id.code c) own foreign
   own-says es input x (bares n moment f told none foreign) own = clash (same_code n.id.code c) own foreign
   own-says es input x (settles n moment q new f old mine move) own = settled-says q moment.seconds new (initiator-new q.new (notice_status n.notice) new move)
   own-says es input x (finishes n moment q new f old foreign move none) own = clash (same_code n.id.code c) (own-about scheme c es n.id q old own) foreign
 
   other-says : (es : List Entry) (input : Input) (x : Transition) → RegistryMove scheme c es input x → same_code x.id.code c ≡ false → SaysOther c x x.new
-  other-says es input x (proposes o t none is) foreign = clash (same_code t.code c) (own-code scheme c (proposals c (transitions_of es) + 1) t is) foreign
+  other-says es input x (proposes o t none is fresh) foreign = clash (same_code t.code c) (own-code scheme c (proposals es + 1) t is) foreign
   other-says es input x (arrives p moment found f s is none other mine) foreign = go found
     where
       go : (found : List ℕ) → SaysOther c (arrived c p.id p.content moment.seconds found) (arrived_status found)
       go [] = (notice.Accepted, refl, inl refl)
       go (n ∷ ns) = (notice.Rejected (n ∷ ns), refl, inl refl)
+  other-says es input x (asks t q old own stood) foreign = clash (same_code q.id.code c) (subst (λ (z : TransactionId). same_code z.code c ≡ true) (sym (newest-id (transitions_of es) t q old).1) own) foreign
   other-says es input x (bares n moment f told none other) foreign = tt
   other-says es input x (settles n moment q new f old mine move) foreign =
       clash (same_code q.id.code c) (subst (λ (z : TransactionId). same_code z.code c ≡ true) (sym (newest-id (transitions_of es) n.id q old).1) mine) foreign
@@ -109,6 +110,29 @@ module _ (scheme : Scheme) (c : Code) where
         | inl e ↦ subst (λ (z : Transition). SaysOwn c z z.new) e (own-says es input y move (subst (λ (z : Transition). same_code z.id.code c ≡ true) (sym e) own))
         | inr j ↦ old x j own
       ])
+
+  -- a registry has sent the proposal of each transfer of its own
+  abbrev pub OwnOffer : List Entry → Transition → Type 0
+  OwnOffer es x = (k : Content) × (x.content ≡ Some k) × In (to_propose (Registry c) Itl x.id proposal.Proposed k) (sends es)
+
+  offered-move : (e : Entry) (es : List Entry) (input : Input) (x : Transition) → RegistryMove scheme c es input x → In x e.transitions → same_code x.id.code c ≡ true
+      → ((q : Transition) → In q (transitions_of es) → same_code q.id.code c ≡ true → OwnOffer es q) → OwnOffer (e ∷ es) x
+  offered-move e es input x (proposes o t none is fresh) i own older = (content_of o, refl, transition-sends (e ∷ es) x _ (In-left x e.transitions (transitions_of es) i) (inl refl))
+  offered-move e es input x (asks t q old mine stood) i own older =
+      let o = older q (newest-id (transitions_of es) t q old).0 own in (o.0, o.1, In-left _ (sends es) (messages_of e.transitions) o.2)
+  offered-move e es input x (arrives p moment found f s is none foreign mine) i own older = clash (same_code p.id.code c) own foreign
+  offered-move e es input x (bares n moment f told none foreign) i own older = clash (same_code n.id.code c) own foreign
+  offered-move e es input x (settles n moment q new f old mine move) i own older =
+      let o = older q (newest-id (transitions_of es) n.id q old).0 own in (o.0, o.1, In-left _ (sends es) (messages_of e.transitions) o.2)
+  offered-move e es input x (finishes n moment q new f old foreign move none) i own older = clash (same_code n.id.code c) (own-about scheme c es n.id q old own) foreign
+
+  pub own-offered : (es : List Entry) → Made scheme (Registry c) es → (x : Transition) → In x (transitions_of es) → same_code x.id.code c ≡ true → OwnOffer es x
+  own-offered [] made x i own = absurd i
+  own-offered (e ∷ es) made x i own =
+      elim (In-cases x e.transitions (transitions_of es) i) [
+        | inl j ↦ offered-move e es e.input x (made-registry scheme c e es x made j) j own (λ q k mine. own-offered es made.1 q k mine)
+        | inr j ↦ let o = own-offered es made.1 x j own in (o.0, o.1, In-left _ (sends es) (messages_of e.transitions) o.2)
+      ]
 
   pub other-said : (es : List Entry) → Made scheme (Registry c) es → (x : Transition) → In x (transitions_of es) → same_code x.id.code c ≡ false → SaysOther c x x.new
   other-said =
@@ -143,7 +167,8 @@ log-says scheme es input x (passes n moment q new old member right move) =
       | inl m ↦ log-passed q moment.seconds n.notice new (sym m.1) (elim m.2 [ inl a ↦ inl (m.1 ∙ a) | inr a ↦ inr (inl (m.1 ∙ a)) ])
       | inr m ↦ log-passed q moment.seconds n.notice new (m.2 ∙ sym m.1) (inr (inr m.1))
     ]
-log-says scheme es input x (cancels moment t q old was) = (notice.Cancelled, refl, inl refl)
+log-says scheme es input x (cancels given moment t q why old was) = (notice.Cancelled, refl, inl refl)
+log-says scheme es input x (forestalls r moment f member none) = (notice.Cancelled, refl, inl refl)
 
 pub log-has-said : (scheme : Scheme) (es : List Entry) → Made scheme Itl es → (x : Transition) → In x (transitions_of es) → SaysAtLog x x.new
 log-has-said scheme [] made x i = absurd i

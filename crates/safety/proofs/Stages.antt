@@ -14,12 +14,12 @@ use Rattle.status.specs.declared.words.Row.{Row}
 use Rattle.status.specs.declared.words.RowInput.{RowInput}
 use Rattle.status.specs.declared.words.RowInput.TheVariants.{Notified}
 use Rattle.status.specs.declared.words.Status.{Status}
-use Rattle.status.specs.declared.words.Status.TheVariants.{Proposed, Completed}
+use Rattle.status.specs.declared.words.Status.TheVariants.{Proposed, Completed, Cancelled}
 use Rattle.wire.specs.declared.message.ProposalStatus.TheVariants as proposal
 use Rattle.wire.specs.declared.notice.Notice.{Notice}
 use Rattle.scheme.specs.declared.registries.Scheme.{Scheme}
 use Rattle.protocol.specs.Claims.{committed_of, is_received}
-use Rattle.protocol.specs.Deciding.{notifies}
+use Rattle.protocol.specs.Effects.{notifies, proposes}
 use Rattle.protocol.specs.History.{Entry, Transition, newest, sends, transitions_of}
 use Rattle.protocol.specs.Registries.{has_member}
 use Rattle.protocol.specs.WayOut.{IsOpen}
@@ -30,7 +30,7 @@ use Rattle.safety.proofs.Ended.{offered, proposer}
 use Rattle.safety.proofs.Histories.{newest-id}
 use Rattle.safety.proofs.Members.{In, one-some}
 use Rattle.safety.proofs.Sending.{Calm, Went}
-use Rattle.safety.proofs.Spoken.{SaysAtLog, SaysOther, SaysOwn, log-has-said, other-said, own-said, transition-sends}
+use Rattle.safety.proofs.Spoken.{SaysAtLog, SaysOther, SaysOwn, log-has-said, other-said, own-said, transition-sends, own-offered}
 use Rattle.safety.proofs.Stations.{other-way}
 use Rattle.safety.proofs.Sums.{one-or-none}
 use Rattle.safety.proofs.Taken.{Last, Room, causal}
@@ -150,9 +150,9 @@ module _ (scheme : Scheme) (t : TransactionId) where
     foreign = other-way (Registry t.code) (Registry k.acquirer) s.other
 
     -- the log knows the same content
-    pub log-content : (l : Transition) → Last w Itl t l → l.content ≡ Some k
-    log-content l is =
-        let p = proposer scheme (committed_of w Itl) (cau.made Itl) t l is in
+    pub log-content : (l : Transition) → Last w Itl t l → (l.new ≡ Cancelled → ⊥) → l.content ≡ Some k
+    log-content l is other =
+        let p = proposer scheme (committed_of w Itl) (cau.made Itl) t l is other in
         let o =
         offered scheme t.code (committed_of w (Registry t.code)) (cau.made (Registry t.code)) p.got.proposal
         (offered-sent scheme (committed_of w) cau Itl (Registry t.code) t proposal.Proposed p.content p.got) in
@@ -198,6 +198,17 @@ module _ (scheme : Scheme) (t : TransactionId) where
         let id = id-at (Registry t.code) x s.is in
         subst (SaysOwn t.code x) e
         (own-said scheme t.code (committed_of w (Registry t.code)) (cau.made (Registry t.code)) x id.0 (subst (λ (z : TransactionId). same_code z.code t.code ≡ true) (sym id.1) (same_code-refl t.code)))
+
+    -- it proposed the content
+    pub own-offer : In (proposes (Registry t.code) Itl t proposal.Proposed k) (sends (committed_of w (Registry t.code)))
+    own-offer =
+        let id = id-at (Registry t.code) x s.is in
+        let o =
+        own-offered scheme t.code (committed_of w (Registry t.code)) (cau.made (Registry t.code)) x id.0
+        (subst (λ (z : TransactionId). same_code z.code t.code ≡ true) (sym id.1) (same_code-refl t.code)) in
+        let same : o.0 ≡ k = one-some o.0 k (sym o.1 ∙ s.content) in
+        subst (λ z. In (proposes (Registry t.code) Itl z proposal.Proposed k) (sends (committed_of w (Registry t.code)))) id.1
+        (subst (λ z. In (proposes (Registry t.code) Itl x.id proposal.Proposed z) (sends (committed_of w (Registry t.code)))) same o.2)
 
     pub other-tells : (p : Transition) → Last w (Registry k.acquirer) t p → (st : Status) → p.new ≡ st → SaysOther k.acquirer p st
     other-tells p is st e =

@@ -7,7 +7,7 @@ use Rattle.units.specs.Code.{same_node}
 use Rattle.units.specs.declared.code.Node.{Node}
 use Rattle.units.specs.declared.code.Node.TheVariants.{Itl, Registry}
 use Rattle.wire.specs.declared.input.Input.{Input}
-use Rattle.wire.specs.declared.input.Input.TheVariants.{Propose, OpenAccount, CloseAccount, Ack, CleanUp, Eligible, Received}
+use Rattle.wire.specs.declared.input.Input.TheVariants.{Propose, Request, OpenAccount, CloseAccount, Ack, CleanUp, Eligible, Received}
 use Rattle.protocol.specs.Claims.{committed_part, committed_of}
 use Rattle.protocol.specs.Deciding.{Enters}
 use Rattle.protocol.specs.History.{Transition, sends}
@@ -77,6 +77,7 @@ module _ (w : World) (all : AllPosted w) where
   next-recorded (Registry c) (Ack key) xs node says sent = take-recorded (Registry c) (Ack key) xs node (posted-key (Registry c) key.value (ack-below w.scheme (committed_of w (Registry c)) key.value xs says)) says
   next-recorded Itl (Ack key) xs node says sent = take-recorded Itl (Ack key) xs node (posted-key Itl key.value (ack-below w.scheme (committed_of w Itl) key.value xs says)) says
   next-recorded (Registry c) (Propose o) xs node says sent = take-recorded (Registry c) (Propose o) xs node refl says
+  next-recorded (Registry c) (Request t) xs node says sent = take-recorded (Registry c) (Request t) xs node refl says
   next-recorded (Registry c) (OpenAccount account) xs node says sent = take-recorded (Registry c) (OpenAccount account) xs node refl says
   next-recorded (Registry c) (CloseAccount account) xs node says sent = take-recorded (Registry c) (CloseAccount account) xs node refl says
   next-recorded (Registry c) (CleanUp moment) xs node says sent = absurd (cc (says))
@@ -84,6 +85,7 @@ module _ (w : World) (all : AllPosted w) where
   next-recorded Itl (CleanUp moment) xs node says sent = take-recorded Itl (CleanUp moment) xs node refl says
   next-recorded Itl (Eligible d may) xs node says sent = take-recorded Itl (Eligible d may) xs node refl says
   next-recorded Itl (Propose o) xs node says sent = absurd (cc (says))
+  next-recorded Itl (Request t) xs node says sent = absurd (cc (says))
   next-recorded Itl (OpenAccount account) xs node says sent = absurd (cc (says))
   next-recorded Itl (CloseAccount account) xs node says sent = absurd (cc (says))
 

@@ -1,5 +1,9 @@
 -- In a quiet world with room, a message that moves a transfer is recorded with the transition of its table.
-use Rattle.std.proofs.Common.{◌≡◌, ℕ, ◌+◌, ◌≤◌, List, [], ◌∷◌, true, false, Some, None, inl, inr, refl, sym, ap, subst, ◌∙◌, arith, length}
+use Rattle.status.specs.declared.words.Row.{Row}
+use Rattle.safety.proofs.Histories.{newest-id}
+use Rattle.safety.proofs.Tables.{known-status, unless-same}
+use Rattle.safety.proofs.Moves.{settled-transition, passed-transition, finished-transition}
+use Rattle.std.proofs.Common.{◌≡◌, ℕ, ◌+◌, ◌≤◌, List, [], ◌∷◌, true, false, Some, None, inl, inr, refl, sym, ap, subst, ◌∙◌, arith, length, Bool}
 use Rattle.std.specs.Prelude.{◌==◌, nat_le}
 use Rattle.std.proofs.lemmas.Bool.{cond-true, cond-false, cases_Bool, lt-leb, eqb-false}
 use Rattle.units.specs.Code.{same_code}
@@ -11,24 +15,28 @@ use Rattle.status.specs.Rows.{initiator_row, log_row, acquirer_row}
 use Rattle.status.specs.declared.id.TransactionId.{TransactionId}
 use Rattle.status.specs.declared.moment.Moment.{Moment}
 use Rattle.status.specs.declared.words.Known.TheVariants.{Stands}
-use Rattle.status.specs.declared.words.Row.TheVariants.{Move}
+use Rattle.status.specs.declared.words.Row.TheVariants.{Move, Refused}
 use Rattle.status.specs.declared.words.RowInput.TheVariants.{Notified}
 use Rattle.status.specs.declared.words.Status.{Status}
-use Rattle.wire.specs.Notices.{notice_status}
+use Rattle.wire.specs.Notices.{notice_status, notice_codes}
 use Rattle.wire.specs.declared.input.Input.TheVariants.{Received}
 use Rattle.wire.specs.declared.message.Message.{Message}
 use Rattle.wire.specs.declared.message.ProposalStatus.TheVariants as proposal
 use Rattle.wire.specs.declared.notice.Notice.{Notice}
 use Rattle.scheme.specs.declared.registries.Scheme.{Scheme}
-use Rattle.protocol.specs.AtLog.{checked, ledger, log_answer, log_notice, log_proposal, log_refusals, pass, told_to}
-use Rattle.protocol.specs.AtRegistry.{arrived, arrival, finish, finish_refusals, holding, registry_answer, registry_notice, registry_refusals, settle, settled_messages}
+use Rattle.protocol.specs.AtLog as log
+use Rattle.protocol.specs.AtLog.{ledger, log_refusals, log_answer}
+use Rattle.protocol.specs.AtRegistry.{holding, arrival, in_role, unless_held, holds_some, registry_refusals, registry_answer}
 use Rattle.protocol.specs.Checks.{Causes, acquirer_findings, log_findings}
 use Rattle.protocol.specs.Claims.{committed_of}
-use Rattle.protocol.specs.Deciding.{Verdict, Enters, IsRefused, enters, moved, notifies, proposes, refuse}
+use Rattle.protocol.specs.Deciding as decide
+use Rattle.protocol.specs.Deciding.{Verdict, Enters, IsRefused, enters, refuse, known, by_row}
+use Rattle.protocol.specs.Effects.{notifies, proposes, initiator_sends, log_sends, acquirer_sends}
 use Rattle.protocol.specs.History.{Entry, Transition, newest, sends, transitions_of}
 use Rattle.protocol.specs.Registries.{is_node}
 use Rattle.protocol.specs.Verdict.{verdict}
 use Rattle.protocol.specs.World.{World, receiver, sender}
+use Rattle.safety.proofs.Forms.{arrived, settled_messages, checked, told_to, moved}
 use Rattle.safety.proofs.Causal.{Causal}
 use Rattle.safety.proofs.Members.{In}
 use Rattle.safety.proofs.Places.{committed-unplaced}
@@ -53,6 +61,25 @@ unrefused (c ∷ cs) v w n =
 
 enters-here : (scheme : Scheme) (es : List Entry) (xs : List Transition) → length es + 1 ≤ scheme.records → enters scheme es xs ≡ Enters xs
 enters-here scheme es xs room = cond-false (nat_le scheme.records (length es)) (IsRefused 49) (Enters xs) (lt-leb scheme.records (length es) (omega arith))
+
+-- a proposal of a transaction that is not known
+checked-here : (scheme : Scheme) (es : List Entry) (t : TransactionId) (k : Content) (moment : ℕ) (found : List ℕ) → length es + 1 ≤ scheme.records
+    → log.checked scheme es t None k moment found ≡ Enters (checked t k moment found ∷ [])
+checked-here scheme es t k moment [] room = enters-here scheme es _ room
+checked-here scheme es t k moment (c ∷ cs) room = enters-here scheme es _ room
+
+arrived-here : (scheme : Scheme) (c : Code) (es : List Entry) (t : TransactionId) (k : Content) (moment : ℕ) (found : List ℕ) → length es + 1 ≤ scheme.records
+    → arrival scheme c es t None k moment found ≡ Enters (arrived c t k moment found ∷ [])
+arrived-here scheme c es t k moment [] room = enters-here scheme es _ room
+arrived-here scheme c es t k moment (n ∷ ns) room = enters-here scheme es _ room
+
+-- what is welcome finds no unit held
+free-row : (scheme : Scheme) (es : List Entry) (to : Status → Transition) (held : Bool) (row : Row) → (row ≡ Refused → ⊥) → Welcome (by_row scheme es to (unless_held held row)) → unless_held held row ≡ row
+free-row scheme es to false row there w = refl
+free-row scheme es to true row there w = unless-same true row (λ e. absurd (
+    let v : Welcome (IsRefused 46) = subst (λ r. Welcome (by_row scheme es to (unless_held true r))) e w in
+    let z = v 46 refl in
+    eqb-false 46 49 refl z))
 
 -- room at the log, and at each registry
 abbrev pub Room : Scheme → World → ℕ → ℕ → Type 0
@@ -83,18 +110,21 @@ module _ (scheme : Scheme) (moment : Moment) (w : World) (calm : Calm scheme w) 
   log-takes-offer c t k h none room =
       let m : Message = proposes (Registry c) Itl t proposal.Proposed k in
       unrefused (log_refusals scheme (committed_of w Itl) m) (log_answer scheme (committed_of w Itl) moment.seconds m) (heard m h) (refl, (refl, (refl, (refl, (refl, tt)))))
-      ∙ ap (λ o. log_proposal scheme (committed_of w Itl) t o k moment.seconds) none
-      ∙ enters-here scheme (committed_of w Itl) (checked t k moment.seconds (log_findings scheme (ledger scheme (committed_of w Itl)) t.code k) ∷ []) room
+      ∙ ap (λ o. log.checked scheme (committed_of w Itl) t o k moment.seconds (log_findings scheme (ledger scheme (committed_of w Itl)) t.code k)) none
+      ∙ checked-here scheme (committed_of w Itl) t k moment.seconds (log_findings scheme (ledger scheme (committed_of w Itl)) t.code k) room
 
-  pub log-takes-notice : (c : Code) (t : TransactionId) (said : Notice) (l : Transition) (new : Status) → In (notifies (Registry c) Itl t said) (sends (committed_of w (Registry c))) → Last w Itl t l
+  pub log-takes-notice : (c : Code) (t : TransactionId) (said : Notice) (l : Transition) (k : Content) (new : Status) → l.content ≡ Some k → In (notifies (Registry c) Itl t said) (sends (committed_of w (Registry c))) → Last w Itl t l
       → log_row (Stands l.new) (Notified (notice_status said)) ≡ Move new → length (committed_of w Itl) + 1 ≤ scheme.records
       → verdict scheme Itl (committed_of w Itl) (Received (notifies (Registry c) Itl t said) moment) ≡ Enters (moved l new moment.seconds (notifies Itl (told_to l new) l.id said ∷ []) ∷ [])
   unfolding verdict
-  log-takes-notice c t said l new h is move room =
+  log-takes-notice c t said l k new content h is move room =
       let m : Message = notifies (Registry c) Itl t said in
       unrefused (log_refusals scheme (committed_of w Itl) m) (log_answer scheme (committed_of w Itl) moment.seconds m) (heard m h) (refl, (refl, (refl, (refl, tt))))
-      ∙ ap (λ o. log_notice scheme (committed_of w Itl) o said moment.seconds) is
-      ∙ ap (λ row. pass scheme (committed_of w Itl) l moment.seconds said row) move
+      ∙ ap (λ o. log.told scheme (committed_of w Itl) t o (notice_codes said) moment.seconds (Notified (notice_status said))) is
+      ∙ ap (by_row scheme (committed_of w Itl) (decide.moved t l.content moment.seconds (log_sends t l.content (notice_codes said) (Notified (notice_status said)))))
+      (ap (λ z. log_row z (Notified (notice_status said))) (known-status l k content) ∙ move)
+      ∙ ap (λ x. enters scheme (committed_of w Itl) (x ∷ []))
+      (passed-transition t l k said new moment.seconds (newest-id (transitions_of (committed_of w Itl)) t l is).1 content move)
       ∙ enters-here scheme (committed_of w Itl) (moved l new moment.seconds (notifies Itl (told_to l new) l.id said ∷ []) ∷ []) room
 
   -- ---- at a registry
@@ -107,40 +137,46 @@ module _ (scheme : Scheme) (moment : Moment) (w : World) (calm : Calm scheme w) 
   acquirer-takes-offer c t k h none room =
       let m : Message = proposes Itl (Registry c) t proposal.Checked k in
       unrefused (registry_refusals c (committed_of w (Registry c)) m) (registry_answer scheme c (committed_of w (Registry c)) moment.seconds m) (heard m h) (refl, (refl, (refl, (refl, (refl, tt)))))
-      ∙ ap (λ o. arrival scheme c (committed_of w (Registry c)) t o k moment.seconds) none
-      ∙ enters-here scheme (committed_of w (Registry c)) (arrived c t k moment.seconds (acquirer_findings scheme c (holding scheme c (committed_of w (Registry c))) k) ∷ []) room
+      ∙ ap (λ o. arrival scheme c (committed_of w (Registry c)) t o k moment.seconds (acquirer_findings scheme c (holding scheme c (committed_of w (Registry c))) k)) none
+      ∙ arrived-here scheme c (committed_of w (Registry c)) t k moment.seconds (acquirer_findings scheme c (holding scheme c (committed_of w (Registry c))) k) room
 
   notice-open : (c : Code) (t : TransactionId) (said : Notice) (x : Transition) → In (notifies Itl (Registry c) t said) (sends (committed_of w Itl)) → Last w (Registry c) t x
       → (verdict scheme (Registry c) (committed_of w (Registry c)) (Received (notifies Itl (Registry c) t said) moment)
-      ≡ registry_notice scheme c (committed_of w (Registry c)) t (Some x) (notice_status said) moment.seconds)
-      × Welcome (registry_notice scheme c (committed_of w (Registry c)) t (Some x) (notice_status said) moment.seconds)
+      ≡ in_role scheme c (committed_of w (Registry c)) t (Some x) moment.seconds (Notified (notice_status said)))
+      × Welcome (in_role scheme c (committed_of w (Registry c)) t (Some x) moment.seconds (Notified (notice_status said)))
   unfolding verdict
   notice-open c t said x h is =
       let m : Message = notifies Itl (Registry c) t said in
       let e =
       unrefused (registry_refusals c (committed_of w (Registry c)) m) (registry_answer scheme c (committed_of w (Registry c)) moment.seconds m) (heard m h) (refl, (refl, (refl, tt)))
-      ∙ ap (λ o. registry_notice scheme c (committed_of w (Registry c)) t o (notice_status said) moment.seconds) is in
+      ∙ ap (λ o. in_role scheme c (committed_of w (Registry c)) t o moment.seconds (Notified (notice_status said))) is in
       (e, subst Welcome e (heard m h))
 
-  pub initiator-takes : (c : Code) (t : TransactionId) (said : Notice) (x : Transition) (new : Status) → In (notifies Itl (Registry c) t said) (sends (committed_of w Itl)) → Last w (Registry c) t x
-      → same_code t.code c ≡ true → initiator_row (Stands x.new) (Notified (notice_status said)) ≡ Move new → length (committed_of w (Registry c)) + 1 ≤ scheme.records
+  pub initiator-takes : (c : Code) (t : TransactionId) (said : Notice) (x : Transition) (k : Content) (new : Status) → x.content ≡ Some k → In (notifies Itl (Registry c) t said) (sends (committed_of w Itl))
+      → Last w (Registry c) t x → same_code t.code c ≡ true → initiator_row (Stands x.new) (Notified (notice_status said)) ≡ Move new → length (committed_of w (Registry c)) + 1 ≤ scheme.records
       → verdict scheme (Registry c) (committed_of w (Registry c)) (Received (notifies Itl (Registry c) t said) moment) ≡ Enters (moved x new moment.seconds (settled_messages c x.id new) ∷ [])
-  initiator-takes c t said x new h is own move room =
+  initiator-takes c t said x k new content h is own move room =
+      let es = committed_of w (Registry c) in
+      let told = notice_status said in
       (notice-open c t said x h is).0
-      ∙ cond-true (same_code t.code c) (settle scheme c (committed_of w (Registry c)) x moment.seconds (initiator_row (Stands x.new) (Notified (notice_status said))))
-      (finish scheme c (committed_of w (Registry c)) x moment.seconds (acquirer_row (Stands x.new) (Notified (notice_status said)))) own
-      ∙ ap (λ row. settle scheme c (committed_of w (Registry c)) x moment.seconds row) move
-      ∙ enters-here scheme (committed_of w (Registry c)) (moved x new moment.seconds (settled_messages c x.id new) ∷ []) room
+      ∙ cond-true (same_code t.code c) _ _ own
+      ∙ ap (by_row scheme es (decide.moved t x.content moment.seconds (initiator_sends c t x.content (Notified told)))) (ap (λ z. initiator_row z (Notified told)) (known-status x k content) ∙ move)
+      ∙ ap (λ y. enters scheme es (y ∷ [])) (settled-transition c t x told new moment.seconds (newest-id (transitions_of es) t x is).1 move)
+      ∙ enters-here scheme es (moved x new moment.seconds (settled_messages c x.id new) ∷ []) room
 
-  pub acquirer-takes : (c : Code) (t : TransactionId) (said : Notice) (x : Transition) (new : Status) → In (notifies Itl (Registry c) t said) (sends (committed_of w Itl)) → Last w (Registry c) t x
-      → same_code t.code c ≡ false → acquirer_row (Stands x.new) (Notified (notice_status said)) ≡ Move new → length (committed_of w (Registry c)) + 1 ≤ scheme.records
+  pub acquirer-takes : (c : Code) (t : TransactionId) (said : Notice) (x : Transition) (k : Content) (new : Status) → x.content ≡ Some k → In (notifies Itl (Registry c) t said) (sends (committed_of w Itl))
+      → Last w (Registry c) t x → same_code t.code c ≡ false → acquirer_row (Stands x.new) (Notified (notice_status said)) ≡ Move new → length (committed_of w (Registry c)) + 1 ≤ scheme.records
       → verdict scheme (Registry c) (committed_of w (Registry c)) (Received (notifies Itl (Registry c) t said) moment) ≡ Enters (moved x new moment.seconds [] ∷ [])
-  acquirer-takes c t said x new h is foreign move room =
+  acquirer-takes c t said x k new content h is foreign move room =
+      let es = committed_of w (Registry c) in
+      let told = notice_status said in
+      let held = holds_some scheme c (transitions_of es) x.content in
+      let to = decide.moved t x.content moment.seconds (acquirer_sends c t [] (Notified told)) in
       let o = notice-open c t said x h is in
       let e =
-      cond-false (same_code t.code c) (settle scheme c (committed_of w (Registry c)) x moment.seconds (initiator_row (Stands x.new) (Notified (notice_status said))))
-      (finish scheme c (committed_of w (Registry c)) x moment.seconds (acquirer_row (Stands x.new) (Notified (notice_status said)))) foreign
-      ∙ ap (λ row. finish scheme c (committed_of w (Registry c)) x moment.seconds row) move in
+      cond-false (same_code t.code c) _ (by_row scheme es to (unless_held held (acquirer_row (known (Some x)) (Notified told)))) foreign
+      ∙ ap (λ row. by_row scheme es to (unless_held held row)) (ap (λ z. acquirer_row z (Notified told)) (known-status x k content) ∙ move) in
       o.0 ∙ e
-      ∙ unrefused (finish_refusals scheme c (committed_of w (Registry c)) x new) (enters scheme (committed_of w (Registry c)) (moved x new moment.seconds [] ∷ [])) (subst Welcome e o.1) (refl, tt)
-      ∙ enters-here scheme (committed_of w (Registry c)) (moved x new moment.seconds [] ∷ []) room
+      ∙ ap (by_row scheme es to) (free-row scheme es to held (Move new) (λ h. cc (h)) (subst Welcome e o.1))
+      ∙ ap (λ y. enters scheme es (y ∷ [])) (finished-transition t x new moment.seconds (newest-id (transitions_of es) t x is).1)
+      ∙ enters-here scheme es (moved x new moment.seconds [] ∷ []) room

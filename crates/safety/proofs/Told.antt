@@ -18,12 +18,13 @@ use Rattle.wire.specs.declared.message.Notification.{Notification}
 use Rattle.wire.specs.declared.message.Proposal.{Proposal}
 use Rattle.wire.specs.declared.message.ProposalStatus.TheVariants as proposal
 use Rattle.scheme.specs.declared.registries.Scheme.{Scheme}
-use Rattle.protocol.specs.AtRegistry.{holding, proposals, arrived_status, arrived_notice, settled_messages}
+use Rattle.protocol.specs.AtRegistry.{holding}
 use Rattle.protocol.specs.Checks.{acquirer_findings}
-use Rattle.protocol.specs.History.{Transition, Entry, transitions_of, newest, sends, messages_of}
+use Rattle.protocol.specs.History.{Transition, Entry, transitions_of, newest, sends, messages_of, proposals}
+use Rattle.safety.proofs.Forms.{arrived_status, arrived_notice, settled_messages}
 use Rattle.safety.proofs.Histories.{Made, Heard, Offered, heard-later, offered-later, made-registry, newest-id, newest-append, newest-in, one-notice}
 use Rattle.safety.proofs.Members.{In, In-cases, In-flat_map, clash}
-use Rattle.safety.proofs.Moves.{RegistryMove, proposes, arrives, bares, settles, finishes}
+use Rattle.safety.proofs.Moves.{RegistryMove, proposes, asks, arrives, bares, settles, finishes}
 use Rattle.safety.proofs.Tables.{word_to, initiator-from, acquirer-from}
 
 -- what an acquirer was told when it went to this status
@@ -71,7 +72,8 @@ module _ (scheme : Scheme) (c : Code) where
   own-and-foreign t u e own foreign = clash (same_code t.code c) own (ap (λ (z : TransactionId). same_code z.code c) e ∙ foreign)
 
   told-own-move : (es : List Entry) (e : Entry) (t : TransactionId) (input : Input) (x : Transition) → e.input ≡ input → RegistryMove scheme c es input x → x.id ≡ t → same_code t.code c ≡ true → OwnCause (e ∷ es) t x.new
-  told-own-move es e t input x i (proposes o u none is) same own = inl refl
+  told-own-move es e t input x i (proposes o u none is fresh) same own = inl refl
+  told-own-move es e t input x i (asks u q old mine stood) same own = inl refl
   told-own-move es e t input x i (arrives p moment found f s is none foreign mine) same own = own-and-foreign t p.id (sym same) own foreign
   told-own-move es e t input x i (bares n moment f cancelled none foreign) same own = own-and-foreign t n.id (sym same) own foreign
   told-own-move es e t input x i (settles n moment q new f old mine move) same own =
@@ -98,8 +100,8 @@ module _ (scheme : Scheme) (c : Code) where
       ]
 
   told-move : (es : List Entry) (e : Entry) (t : TransactionId) (input : Input) (x : Transition) → e.input ≡ input → RegistryMove scheme c es input x → x.id ≡ t → same_code t.code c ≡ false → Cause c (e ∷ es) t x.new
-  told-move es e t input x i (proposes o u none is) same foreign =
-      let code : u.code ≡ c = id_at-code c (proposals c (transitions_of es) + 1) u is in
+  told-move es e t input x i (proposes o u none is fresh) same foreign =
+      let code : u.code ≡ c = id_at-code c (proposals es + 1) u is in
       own-and-foreign u t same (subst (λ z. same_code z c ≡ true) (sym code) (same_code-refl c)) foreign
   told-move es e t input x i (arrives p moment found f s is none foreign' mine) same foreign =
       let offered : Offered (e ∷ es) Itl t proposal.Checked p.content = record { proposal = p; got = inl (moment, i); sender = f; about = same; status = s; content = refl } in
@@ -108,6 +110,7 @@ module _ (scheme : Scheme) (c : Code) where
       arrived_cause : (g : List ℕ) → Offered (e ∷ es) Itl t proposal.Checked p.content → Cause c (e ∷ es) t (arrived_status g)
       arrived_cause [] offered = (p.content, offered, code_of_same p.content.acquirer c mine)
       arrived_cause (y ∷ ys) offered = (p.content, offered, code_of_same p.content.acquirer c mine)
+  told-move es e t input x i (asks u q old own stood) same foreign = own-and-foreign u t (sym (newest-id (transitions_of es) u q old).1 ∙ same) own foreign
   told-move es e t input x i (bares n moment f cancelled none foreign') same foreign = record { notification = n; got = inl (moment, i); sender = f; about = same; told = cancelled }
   told-move es e t input x i (settles n moment q new f old own move) same foreign =
       let about : n.id ≡ t = sym (newest-id (transitions_of es) n.id q old).1 ∙ same in
@@ -135,18 +138,19 @@ module _ (scheme : Scheme) (c : Code) where
 
   arrive-pair : (es : List Entry) (i : Input) (p : Proposal) (moment : Moment) (x : Transition) → i ≡ Received (message.Proposal p) moment → RegistryMove scheme c es i x
       → x.new ≡ arrived_status (acquirer_findings scheme c (holding scheme c es) p.content)
-  arrive-pair es i p moment x e (proposes o u none is) = absurd (cc (e))
+  arrive-pair es i p moment x e (proposes o u none is fresh) = absurd (cc (e))
   arrive-pair es i p moment x e (arrives p' moment' found f s is none foreign mine) =
       let a : p' ≡ p = cc (e) in
       ap arrived_status (is ∙ ap (λ (z : Proposal). acquirer_findings scheme c (holding scheme c es) z.content) a)
+  arrive-pair es i p moment x e (asks u q old own stood) = absurd (cc (e))
   arrive-pair es i p moment x e (bares n moment' f was none foreign) = absurd (cc (e))
   arrive-pair es i p moment x e (settles n moment' q new f old own move) = absurd (cc (e))
   arrive-pair es i p moment x e (finishes n moment' q new f old foreign move none) = absurd (cc (e))
 
   accepted-move : (es : List Entry) (input : Input) (q : Transition) (n : Notification) → RegistryMove scheme c es input q → In (message.Notification n) q.messages → notice_status n.notice ≡ Accepted
       → (q.id ≡ n.id) × (same_code n.id.code c ≡ false) × ((x : Transition) → RegistryMove scheme c es input x → x.id ≡ n.id → x.new ≡ Accepted)
-  accepted-move es input q n (proposes o u none is) (inl e) said = absurd (cc (e))
-  accepted-move es input q n (proposes o u none is) (inr h) said = absurd h
+  accepted-move es input q n (proposes o u none is fresh) (inl e) said = absurd (cc (e))
+  accepted-move es input q n (proposes o u none is fresh) (inr h) said = absurd h
   accepted-move es input q n (arrives p moment found f s is none foreign mine) (inl e) said =
       let m = one-notice _ n e in
       let about = ap (λ (z : Notification). z.id) m in
@@ -156,15 +160,18 @@ module _ (scheme : Scheme) (c : Code) where
         λ x move same. arrive-pair es (Received (message.Proposal p) moment) p moment x refl move ∙ sym (ap arrived_status is) ∙ accepted,
       )
   accepted-move es input q n (arrives p moment found f s is none foreign mine) (inr h) said = absurd h
+  accepted-move es input q n (asks u p old own stood) (inl e) said = absurd (cc (e))
+  accepted-move es input q n (asks u p old own stood) (inr h) said = absurd h
   accepted-move es input q n (bares m moment f was none foreign) h said = absurd h
   accepted-move es input q n (settles m moment p new f old own move) h said = let x : Completed ≡ Accepted = sym (settled-notice c p.id new n h) ∙ said in absurd (cc (x))
   accepted-move es input q n (finishes m moment p new f old foreign move none) h said = absurd h
 
   taken-keeps : (es : List Entry) (input : Input) (x : Transition) → RegistryMove scheme c es input x → same_code x.id.code c ≡ false → IsTaken (newest (transitions_of es) x.id) → IsTaken (Some x)
-  taken-keeps es input x (proposes o u none is) foreign taken =
-      let code : u.code ≡ c = id_at-code c (proposals c (transitions_of es) + 1) u is in
+  taken-keeps es input x (proposes o u none is fresh) foreign taken =
+      let code : u.code ≡ c = id_at-code c (proposals es + 1) u is in
       own-and-foreign u u refl (subst (λ z. same_code z c ≡ true) (sym code) (same_code-refl c)) foreign
   taken-keeps es input x (arrives p moment found f s is none foreign' mine) foreign taken = absurd (subst IsTaken none taken)
+  taken-keeps es input x (asks u q old own stood) foreign taken = own-and-foreign u q.id (sym (newest-id (transitions_of es) u q old).1) own foreign
   taken-keeps es input x (bares n moment f cancelled none foreign') foreign taken = absurd (subst IsTaken none taken)
   taken-keeps es input x (settles n moment q new f old own move) foreign taken = own-and-foreign n.id q.id (sym (newest-id (transitions_of es) n.id q old).1) own foreign
   taken-keeps es input x (finishes n moment q new f old foreign' move none) foreign taken =

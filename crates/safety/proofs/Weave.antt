@@ -6,7 +6,7 @@ use Rattle.units.proofs.Same.{node_of_same, same_node-refl}
 use Rattle.units.specs.Code.{same_node}
 use Rattle.units.specs.declared.code.Node.{Node}
 use Rattle.wire.specs.declared.input.Input.{Input}
-use Rattle.wire.specs.declared.input.Input.TheVariants.{Propose, OpenAccount, CloseAccount, Ack, CleanUp, Eligible, Received}
+use Rattle.wire.specs.declared.input.Input.TheVariants.{Propose, Request, OpenAccount, CloseAccount, Ack, CleanUp, Eligible, Received}
 use Rattle.scheme.specs.declared.registries.Scheme.{Scheme}
 use Rattle.protocol.specs.Deciding.{Enters}
 use Rattle.protocol.specs.History.{sends}
@@ -34,6 +34,7 @@ sent-later scheme a b on n (Received m moment) h = (
       (sends-append scheme (sender m) (a (sender m)) (on (sender m)).0 m (In-contains (sends (history scheme (sender m) (a (sender m)))) m h.1))),
 )
 sent-later scheme a b on n (Propose o) h = tt
+sent-later scheme a b on n (Request t) h = tt
 sent-later scheme a b on n (OpenAccount account) h = tt
 sent-later scheme a b on n (CloseAccount account) h = tt
 sent-later scheme a b on n (Ack key) h = tt

@@ -12,8 +12,8 @@ use Rattle.protocol.specs.History.{Entry, sends}
 use Rattle.protocol.specs.Verdict.{verdict}
 use Rattle.protocol.specs.World.{sender, receiver}
 use Rattle.safety.proofs.Causal.{Causal}
-use Rattle.safety.proofs.FromLog.{goes}
-use Rattle.safety.proofs.FromRegistry.{Says, offers, answers, completes, says}
+use Rattle.safety.proofs.FromLog.{goes, no-request}
+use Rattle.safety.proofs.FromRegistry.{Says, offers, answers, completes, says, asks_log}
 use Rattle.safety.proofs.Members.{In}
 use Rattle.safety.proofs.Refusals.{Welcome}
 use Rattle.safety.proofs.Said.{log-offered}
@@ -28,11 +28,13 @@ said-to-log : (scheme : Scheme) (c : Code) (es : List Entry) (m : Message) → S
 said-to-log scheme c es m (offers p from to status own) = to
 said-to-log scheme c es m (answers n k from to which foreign got here) = to
 said-to-log scheme c es m (completes n from to said own) = to
+said-to-log scheme c es m (asks_log r from to own) = to
 
 module _ (scheme : Scheme) (f : Node → List Entry) (causal : Causal scheme f) where
   -- the log sends nothing to itself
   not-to-itself : (m : Message) → In m (sends (f Itl)) → receiver m ≡ Itl → ⊥
   not-to-itself (message.Proposal p) h e = registry-not-log p.content.acquirer (sym (log-offered scheme (f Itl) (causal.made Itl) p h).3 ∙ e)
+  not-to-itself (message.Request r) h e = no-request scheme (f Itl) (causal.made Itl) r h
   not-to-itself (message.Notification n) h e =
       elim (goes scheme (f Itl) (causal.made Itl) n h) [
         | inl g ↦ registry-not-log n.id.code (sym g.to ∙ e)

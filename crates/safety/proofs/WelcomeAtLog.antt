@@ -1,4 +1,6 @@
 -- What a registry sent, the log refuses only where its journal is full.
+use Rattle.protocol.specs.Checks.{log_findings}
+use Rattle.wire.specs.declared.message.Request.{Request}
 use Rattle.std.proofs.Common.{◌≡◌, ℕ, List, [], true, false, not, Option, Some, None, ◌⊎◌, inl, inr, refl, sym, ap, subst, ◌∙◌}
 use Rattle.std.proofs.lemmas.Bool.{cases_Bool}
 use Rattle.units.proofs.Same.{code_of_same}
@@ -16,7 +18,7 @@ use Rattle.status.specs.declared.words.Row.TheVariants.{Move, Repeat, Late, Refu
 use Rattle.status.specs.declared.words.RowInput.TheVariants.{Notified}
 use Rattle.status.specs.declared.words.Status.{Status}
 use Rattle.status.specs.declared.words.Status.TheVariants.{Proposed, Checked, Accepted, Rejected, Terminated, Cancelled, Completed}
-use Rattle.wire.specs.Notices.{notice_status}
+use Rattle.wire.specs.Notices.{notice_status, notice_codes}
 use Rattle.wire.specs.declared.input.Input.TheVariants.{Received}
 use Rattle.wire.specs.declared.message.Message.{Message}
 use Rattle.wire.specs.declared.message.Message.TheVariants as message
@@ -26,18 +28,20 @@ use Rattle.wire.specs.declared.message.ProposalStatus.{ProposalStatus}
 use Rattle.wire.specs.declared.message.ProposalStatus.TheVariants as proposal
 use Rattle.wire.specs.declared.notice.Notice.{Notice}
 use Rattle.scheme.specs.declared.registries.Scheme.{Scheme}
-use Rattle.protocol.specs.AtLog.{log_proposal, pass, log_notice, is_proposed, acquirer_of, content_in, is_no_registry, is_from_another, log_refusals, log_verdict}
+use Rattle.protocol.specs.AtLog.{ledger, is_proposed, is_no_registry, is_not_acquirer, is_from_another, told, log_refusals, log_answer, log_verdict}
+use Rattle.protocol.specs.Deciding.{content_in, known}
 use Rattle.protocol.specs.History.{Transition, Entry, transitions_of, newest, sends}
 use Rattle.protocol.specs.Registries.{has_member, is_node}
 use Rattle.safety.proofs.Begun.{begun}
 use Rattle.safety.proofs.Causal.{Causal, heard-sent, completed-agrees}
 use Rattle.safety.proofs.Completions.{log-has, stands-so}
-use Rattle.safety.proofs.Ended.{ends-last, offered, completed-sent}
+use Rattle.safety.proofs.Ended.{ends-last, offered, completed-sent, proposer, proposer-or-none}
 use Rattle.safety.proofs.FromLog.{passed-open, refusal, never-proposed}
-use Rattle.safety.proofs.FromRegistry.{Says, offers, answers, completes, says, rejected-sent}
+use Rattle.safety.proofs.FromRegistry.{Says, offers, answers, completes, says, rejected-sent, asks_log}
 use Rattle.safety.proofs.Histories.{Offered, newest-id}
 use Rattle.safety.proofs.Members.{In, one-some}
-use Rattle.safety.proofs.Refusals.{Welcome, welcome-enters, welcome-repeat, welcome-late, welcome-refuse, right-node, is-known, no-other}
+use Rattle.safety.proofs.Tables.{known-status, status-known, log-offer-row, log-request-row}
+use Rattle.safety.proofs.Refusals.{welcome-row, Welcome, welcome-enters, welcome-repeat, welcome-late, welcome-refuse, right-node, is-known, no-other}
 use Rattle.safety.proofs.Said.{IsAgreed, log-backed}
 use Rattle.safety.proofs.Told.{IsTaken, accepted-sent}
 
@@ -87,52 +91,49 @@ module _ (scheme : Scheme) (f : Node → List Entry) (causal : Causal scheme f) 
         | inr n ↦ absurd (subst (λ (es : List Entry). In m (sends es)) (unplaced (Registry c) n) h)
       ]
 
-  welcome-pass : (x : Transition) (moment : ℕ) (said : Notice) (row : Row) → (row ≡ Refused → ⊥) → Welcome (pass scheme (f Itl) x moment said row)
-  welcome-pass x moment said (Move new) h = welcome-enters scheme (f Itl) _
-  welcome-pass x moment said Repeat h = welcome-repeat
-  welcome-pass x moment said Late h = welcome-late
-  welcome-pass x moment said Refused h = absurd (h refl)
-
   -- ---- an offer
 
-  welcome-proposal : (t : TransactionId) (last : Option Transition) (k : Content) (moment : ℕ) → Welcome (log_proposal scheme (f Itl) t last k moment)
-  welcome-proposal t None k moment = welcome-enters scheme (f Itl) _
-  welcome-proposal t (Some x) k moment = welcome-repeat
-
   -- the log knows the content that was offered
-  known-offer : (c : Code) (p : Proposal) → In (message.Proposal p) (sends (f (Registry c))) → (x : Transition) → newest (transitions_of (f Itl)) p.id ≡ Some x → x.content ≡ Some p.content
-  known-offer c p h x e =
+  known-content : (c : Code) (p : Proposal) → In (message.Proposal p) (sends (f (Registry c))) → (x : Transition) (k : Content) → newest (transitions_of (f Itl)) p.id ≡ Some x → x.content ≡ Some k → x.content ≡ Some p.content
+  known-content c p h x k e content =
       let mine = offered scheme c (f (Registry c)) (causal.made (Registry c)) p h in
       let code : p.id.code ≡ c = code_of_same p.id.code c mine.3 in
-      let b = begun scheme f causal p.id x e in
+      let b = begun scheme f causal p.id x e (λ z. let y = sym content ∙ z.content in cc (y)) in
       let there : newest (transitions_of (f (Registry c))) p.id ≡ Some b.last = subst (λ z. newest (transitions_of (f (Registry z))) p.id ≡ Some b.last) code b.is in
       let same : b.last ≡ mine.0 = one-some b.last mine.0 (sym there ∙ mine.1) in
       b.known ∙ sym b.there ∙ ap (λ (z : Transition). z.content) same ∙ mine.2
 
+  known-offer : (c : Code) (p : Proposal) → In (message.Proposal p) (sends (f (Registry c))) → (x : Transition) → newest (transitions_of (f Itl)) p.id ≡ Some x → (x.content ≡ None) ⊎ (x.content ≡ Some p.content)
+  known-offer c p h x e =
+      elim (proposer-or-none scheme (f Itl) (causal.made Itl) p.id x e) [
+        | inl b ↦ inl b.content
+        | inr q ↦ inr (known-content c p h x q.content e q.is)
+      ]
+
   offer-welcome : (c : Code) (p : Proposal) (moment : Moment) → p.from ≡ Registry c → p.to ≡ Itl → p.status ≡ proposal.Proposed → same_code p.id.code c ≡ true → In (message.Proposal p) (sends (f (Registry c)))
       → Welcome (log_verdict scheme (f Itl) (Received (message.Proposal p) moment))
   offer-welcome c p moment from to status own h =
-      welcome-refuse (log_refusals scheme (f Itl) (message.Proposal p)) (log_proposal scheme (f Itl) p.id (newest (transitions_of (f Itl)) p.id) p.content moment.seconds) (
+      welcome-refuse (log_refusals scheme (f Itl) (message.Proposal p)) (log_answer scheme (f Itl) moment.seconds (message.Proposal p)) (
         right-node p.to Itl to,
         (
           subst (λ (n : Node). is_no_registry scheme n ≡ false) (sym from) (sender-member c (message.Proposal p) h),
           (
             right-node p.from (Registry p.id.code) (from ∙ ap (λ (z : Code). Registry z) (sym (code_of_same p.id.code c own))),
-            (no-other (newest (transitions_of (f Itl)) p.id) p.content (λ x e. inr (known-offer c p h x e)), (subst (λ (s : ProposalStatus). not (is_proposed s) ≡ false) (sym status) refl, tt)),
+            (no-other (newest (transitions_of (f Itl)) p.id) p.content (known-offer c p h), (subst (λ (s : ProposalStatus). not (is_proposed s) ≡ false) (sym status) refl, tt)),
           ),
         ),
       )
-      (welcome-proposal p.id (newest (transitions_of (f Itl)) p.id) p.content moment.seconds)
+      (welcome-row scheme (f Itl) _ _ (log-offer-row (newest (transitions_of (f Itl)) p.id) (log_findings scheme (ledger scheme (f Itl)) p.id.code p.content)))
 
   -- ---- a notification
 
-  notice-welcome : (c : Code) (n : Notification) (moment : Moment) (x : Transition) → newest (transitions_of (f Itl)) n.id ≡ Some x → n.from ≡ Registry c → n.to ≡ Itl
+  notice-welcome : (c : Code) (n : Notification) (moment : Moment) (x : Transition) (k : Content) → newest (transitions_of (f Itl)) n.id ≡ Some x → x.content ≡ Some k → n.from ≡ Registry c → n.to ≡ Itl
       → In (message.Notification n) (sends (f (Registry c))) → is_from_another (Registry c) n.id x.content (notice_status n.notice) ≡ false
       → (log_row (Stands x.new) (Notified (notice_status n.notice)) ≡ Refused → ⊥) → Welcome (log_verdict scheme (f Itl) (Received (message.Notification n) moment))
-  notice-welcome c n moment x last from to h right row =
+  notice-welcome c n moment x k last content from to h right row =
       let es = transitions_of (f Itl) in
       let s = notice_status n.notice in
-      welcome-refuse (log_refusals scheme (f Itl) (message.Notification n)) (log_notice scheme (f Itl) (newest es n.id) n.notice moment.seconds) (
+      welcome-refuse (log_refusals scheme (f Itl) (message.Notification n)) (log_answer scheme (f Itl) moment.seconds (message.Notification n)) (
         right-node n.to Itl to,
         (
           subst (λ (m : Node). is_no_registry scheme m ≡ false) (sym from) (sender-member c (message.Notification n) h),
@@ -142,7 +143,8 @@ module _ (scheme : Scheme) (f : Node → List Entry) (causal : Causal scheme f) 
           ),
         ),
       )
-      (subst (λ o. Welcome (log_notice scheme (f Itl) o n.notice moment.seconds)) (sym last) (welcome-pass x moment.seconds n.notice (log_row (Stands x.new) (Notified s)) row))
+      (subst (λ o. Welcome (told scheme (f Itl) n.id o (notice_codes n.notice) moment.seconds (Notified s))) (sym last)
+      (welcome-row scheme (f Itl) _ _ (subst (λ z. log_row z (Notified s) ≡ Refused → ⊥) (sym (known-status x k content)) row)))
 
   completed-welcome : (c : Code) (n : Notification) (moment : Moment) → n.from ≡ Registry c → n.to ≡ Itl → notice_status n.notice ≡ Completed → same_code n.id.code c ≡ true
       → In (message.Notification n) (sends (f (Registry c))) → Welcome (log_verdict scheme (f Itl) (Received (message.Notification n) moment))
@@ -151,7 +153,8 @@ module _ (scheme : Scheme) (f : Node → List Entry) (causal : Causal scheme f) 
       let q = completed-sent scheme c es (causal.made (Registry c)) n h said in
       let last = subst (λ z. newest (transitions_of es) z ≡ Some q.0) q.2 (ends-last scheme c es (causal.made (Registry c)) q.0 q.1 q.3) in
       let a = completed-agrees scheme f causal (Registry c) n.id (stands-so (transitions_of es) n.id q.0 Completed last q.3) in
-      notice-welcome c n moment a.0 a.1 from to h
+      let p = proposer scheme (f Itl) (causal.made Itl) n.id a.0 a.1 (λ e. subst IsAgreed e a.2) in
+      notice-welcome c n moment a.0 p.content a.1 p.is from to h
       (subst (λ s. is_from_another (Registry c) n.id a.0.content s ≡ false) (sym said)
       (right-node (Registry c) (Registry n.id.code) (ap (λ (z : Code). Registry z) (sym (code_of_same n.id.code c own)))))
       (subst (λ s. log_row (Stands a.0.new) (Notified s) ≡ Refused → ⊥) (sym said) (completed-row a.0.new a.2))
@@ -176,25 +179,44 @@ module _ (scheme : Scheme) (f : Node → List Entry) (causal : Causal scheme f) 
       let started : o.0.new ≡ Proposed → ⊥ = λ e. never-proposed scheme log (causal.made Itl) o.0 id.0 e in
       let open_still : o.0.new ≡ Terminated → ⊥ = λ e. p.2 (ap (λ (z : Transition). z.new) same ∙ e) in
       let at_c : (other : Content) → o.0.content ≡ Some other → other.acquirer ≡ c = λ other e. ap (λ (z : Content). z.acquirer) (one-some other k (sym e ∙ o.2)) ∙ here in
-      let right : not (same_node (Registry c) (acquirer_of o.0.content)) ≡ false = right-node (Registry c) (acquirer_of o.0.content) (ap (λ (z : Code). Registry z) (sym here) ∙ ap acquirer_of (sym o.2)) in
+      let right : is_not_acquirer (Registry c) o.0.content ≡ false =
+      subst (λ z. is_not_acquirer (Registry c) z ≡ false) (sym o.2) (right-node (Registry c) (Registry k.acquirer) (ap (λ (z : Code). Registry z) (sym here))) in
       elim which [
         | inl e ↦
-            notice-welcome c n moment o.0 o.1 from to h (subst (λ s. is_from_another (Registry c) n.id o.0.content s ≡ false) (sym e) right)
+            notice-welcome c n moment o.0 k o.1 o.2 from to h (subst (λ s. is_from_another (Registry c) n.id o.0.content s ≡ false) (sym e) right)
             (subst (λ s. log_row (Stands o.0.new) (Notified s) ≡ Refused → ⊥) (sym e) (accepted-row o.0.new started open_still (λ x.
             let g = refusal scheme log (causal.made Itl) n.id o.0 o.1 x in
             not-both c n g.2.notification (sym g.2.about) e g.2.told h (subst (λ z. In (message.Notification g.2.notification) (sends (f (Registry z)))) (at_c g.0 g.1) (heard-sent scheme f causal Itl (Registry g.0.acquirer) n.id Rejected g.2)))))
         | inr e ↦
-            notice-welcome c n moment o.0 o.1 from to h (subst (λ s. is_from_another (Registry c) n.id o.0.content s ≡ false) (sym e) right)
+            notice-welcome c n moment o.0 k o.1 o.2 from to h (subst (λ s. is_from_another (Registry c) n.id o.0.content s ≡ false) (sym e) right)
             (subst (λ s. log_row (Stands o.0.new) (Notified s) ≡ Refused → ⊥) (sym e) (rejected-row o.0.new started open_still (λ x.
             let g = log-backed scheme log (causal.made Itl) n.id o.0 o.1 x in
             not-both c g.heard.notification n g.heard.about g.heard.told e
             (subst (λ z. In (message.Notification g.heard.notification) (sends (f (Registry z)))) (at_c g.content g.known) (heard-sent scheme f causal Itl (Registry g.content.acquirer) n.id Accepted g.heard)) h)))
       ]
 
+  -- ---- a request
+
+  request-welcome : (c : Code) (r : Request) (moment : Moment) → r.from ≡ Registry c → r.to ≡ Itl → same_code r.id.code c ≡ true → In (message.Request r) (sends (f (Registry c)))
+      → Welcome (log_verdict scheme (f Itl) (Received (message.Request r) moment))
+  request-welcome c r moment from to own h =
+      let last = newest (transitions_of (f Itl)) r.id in
+      welcome-refuse (log_refusals scheme (f Itl) (message.Request r)) (log_answer scheme (f Itl) moment.seconds (message.Request r)) (
+        right-node r.to Itl to,
+        (
+          subst (λ (n : Node). is_no_registry scheme n ≡ false) (sym from) (sender-member c (message.Request r) h),
+          (right-node r.from (Registry r.id.code) (from ∙ ap (λ (z : Code). Registry z) (sym (code_of_same r.id.code c own))), tt),
+        ),
+      )
+      (welcome-row scheme (f Itl) _ _ (log-request-row (known last) (λ e.
+      let q = status-known last Proposed e in
+      never-proposed scheme (f Itl) (causal.made Itl) q.last (newest-id (transitions_of (f Itl)) r.id q.last q.is).0 q.new)))
+
   says-welcome : (c : Code) (m : Message) (moment : Moment) → Says scheme c (f (Registry c)) m → In m (sends (f (Registry c))) → Welcome (log_verdict scheme (f Itl) (Received m moment))
   says-welcome c m moment (offers p from to status own) h = offer-welcome c p moment from to status own h
   says-welcome c m moment (answers n k from to which foreign got here) h = answer-welcome c n moment k from to which got here h
   says-welcome c m moment (completes n from to said own) h = completed-welcome c n moment from to said own h
+  says-welcome c m moment (asks_log r from to own) h = request-welcome c r moment from to own h
 
   pub log-welcome : (c : Code) (m : Message) (moment : Moment) → In m (sends (f (Registry c))) → Welcome (log_verdict scheme (f Itl) (Received m moment))
   log-welcome c m moment h = says-welcome c m moment (says scheme c (f (Registry c)) (causal.made (Registry c)) m h) h

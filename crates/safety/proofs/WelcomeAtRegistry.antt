@@ -13,7 +13,7 @@ use Rattle.status.specs.Rows.{initiator_row, acquirer_row}
 use Rattle.status.specs.Status.{same_status}
 use Rattle.status.specs.declared.id.TransactionId.{TransactionId}
 use Rattle.status.specs.declared.moment.Moment.{Moment}
-use Rattle.status.specs.declared.words.Known.TheVariants.{Stands}
+use Rattle.status.specs.declared.words.Known.TheVariants.{Stands, Bare}
 use Rattle.status.specs.declared.words.Row.{Row}
 use Rattle.status.specs.declared.words.Row.TheVariants.{Move, Repeat, Late, Refused}
 use Rattle.status.specs.declared.words.RowInput.TheVariants.{Notified}
@@ -27,25 +27,31 @@ use Rattle.wire.specs.declared.message.Notification.{Notification}
 use Rattle.wire.specs.declared.message.Proposal.{Proposal}
 use Rattle.wire.specs.declared.message.ProposalStatus.{ProposalStatus}
 use Rattle.scheme.specs.declared.registries.Scheme.{Scheme}
-use Rattle.protocol.specs.AtRegistry.{known_already, arrival, settle, finish, finish_refusals, holds_some, registry_notice, is_checked, registry_refusals, registry_verdict}
+use Rattle.protocol.specs.AtRegistry.{holding, in_role, unless_held, holds_some, is_checked, registry_refusals, registry_answer, registry_verdict}
+use Rattle.protocol.specs.Deciding as decide
+use Rattle.protocol.specs.Deciding.{Verdict, content_in, by_row, known as known_as}
+use Rattle.protocol.specs.Effects.{acquirer_sends}
+use Rattle.protocol.specs.Checks.{acquirer_findings}
+use Rattle.std.specs.Option.{option_map_or}
 use Rattle.protocol.specs.Claims.{at_registry, is_received}
-use Rattle.protocol.specs.Deciding.{enters, moved}
+use Rattle.protocol.specs.Deciding.{enters}
 use Rattle.protocol.specs.History.{Transition, Entry, transitions_of, newest, is_status, is_known, stands_at, sends, holds, has_serial}
 use Rattle.protocol.specs.Owner.{Owing}
 use Rattle.protocol.specs.Pieces.{Piece, pieces, repeats}
 use Rattle.protocol.specs.Registries.{has_member}
 use Rattle.protocol.specs.World.{receiver}
-use Rattle.safety.proofs.Begun.{begun}
+use Rattle.safety.proofs.Begun.{begun, initiated}
 use Rattle.safety.proofs.Causal.{Causal, heard-sent, log-said, past-transition}
 use Rattle.safety.proofs.Completions.{log-has}
 use Rattle.safety.proofs.Counts.{list-any-not}
 use Rattle.safety.proofs.Ended.{known}
-use Rattle.safety.proofs.FromLog.{passed-on, goes, ToKnown, never-proposed}
+use Rattle.safety.proofs.FromLog.{no-request, passed-on, goes, ToKnown, never-proposed}
 use Rattle.safety.proofs.Histories.{newest-id}
 use Rattle.safety.proofs.Members.{In, codes-differ, other-code, one-some}
 use Rattle.safety.proofs.OneOwner.{held-or-owed}
 use Rattle.safety.proofs.OwnStatuses.{IsOwnStatus, own-statuses}
-use Rattle.safety.proofs.Refusals.{Welcome, welcome-enters, welcome-repeat, welcome-late, welcome-refuse, welcome-true, welcome-false, right-node, is-known, no-other}
+use Rattle.safety.proofs.Tables.{known-status, acquirer-offer-row, unless-same}
+use Rattle.safety.proofs.Refusals.{welcome-row, Welcome, welcome-enters, welcome-repeat, welcome-late, welcome-refuse, welcome-true, welcome-false, right-node, is-known, no-other}
 use Rattle.safety.proofs.Said.{IsAgreed, log-backed, log-sent, log-offered}
 use Rattle.safety.proofs.Senders.{sender-sends}
 use Rattle.safety.proofs.Tables.{word_to}
@@ -129,14 +135,6 @@ module _ (scheme : Scheme) (f : Node → List Entry) (causal : Causal scheme f) 
 
     -- ---- a proposal
 
-    welcome-arrival : (t : TransactionId) (last : Option Transition) (k : Content) (moment : ℕ) → Welcome (arrival scheme c here t last k moment)
-    welcome-arrival t None k moment = welcome-enters scheme here _
-    welcome-arrival t (Some x) k moment = go x.content
-      where
-        go : (o : Option Content) → Welcome (known_already o)
-        go None = welcome-late
-        go (Some k) = welcome-repeat
-
     offer-welcome : (p : Proposal) (moment : Moment) → In (message.Proposal p) (sends (f Itl)) → p.to ≡ Registry c → Welcome (registry_verdict scheme c here (Received (message.Proposal p) moment))
     offer-welcome p moment h to =
         let facts = passed-on scheme (f Itl) (causal.made Itl) p h in
@@ -144,7 +142,7 @@ module _ (scheme : Scheme) (f : Node → List Entry) (causal : Causal scheme f) 
         let mine : p.content.acquirer ≡ c = registry-code p.content.acquirer c (sym o.3 ∙ to) in
         let foreign : same_code p.id.code c ≡ false = other-code p.id.code c (λ e. codes-differ p.content.acquirer p.id.code facts.acquirer_other (mine ∙ sym e)) in
         let acquirer : same_code p.content.acquirer c ≡ true = subst (λ z. same_code p.content.acquirer z ≡ true) mine (same_code-refl p.content.acquirer) in
-        welcome-refuse (registry_refusals c here (message.Proposal p)) (arrival scheme c here p.id (newest (transitions_of here) p.id) p.content moment.seconds) (
+        welcome-refuse (registry_refusals c here (message.Proposal p)) (registry_answer scheme c here moment.seconds (message.Proposal p)) (
           right-node p.to (Registry c) to,
           (
             right-node p.from Itl (sender-sends scheme Itl (f Itl) (causal.made Itl) (message.Proposal p) h),
@@ -163,26 +161,20 @@ module _ (scheme : Scheme) (f : Node → List Entry) (causal : Causal scheme f) 
             ),
           ),
         )
-        (welcome-arrival p.id (newest (transitions_of here) p.id) p.content moment.seconds)
+        (welcome-row scheme here _ _ (acquirer-offer-row (newest (transitions_of here) p.id) (acquirer_findings scheme c (holding scheme c here) p.content)))
 
     -- ---- a notification
 
     notice-welcome : (n : Notification) (moment : Moment) → In (message.Notification n) (sends (f Itl)) → n.to ≡ Registry c
         → (not (is_known (transitions_of here) n.id) && not (same_status (notice_status n.notice) Cancelled && not (same_code n.id.code c))) ≡ false
-        → Welcome (registry_notice scheme c here n.id (newest (transitions_of here) n.id) (notice_status n.notice) moment.seconds)
+        → Welcome (in_role scheme c here n.id (newest (transitions_of here) n.id) moment.seconds (Notified (notice_status n.notice)))
         → Welcome (registry_verdict scheme c here (Received (message.Notification n) moment))
     notice-welcome n moment h to about w =
-        welcome-refuse (registry_refusals c here (message.Notification n)) (registry_notice scheme c here n.id (newest (transitions_of here) n.id) (notice_status n.notice) moment.seconds)
+        welcome-refuse (registry_refusals c here (message.Notification n)) (in_role scheme c here n.id (newest (transitions_of here) n.id) moment.seconds (Notified (notice_status n.notice)))
         (right-node n.to (Registry c) to, (right-node n.from Itl (sender-sends scheme Itl (f Itl) (causal.made Itl) (message.Notification n) h), (about, tt)))
         w
 
     -- to the initiator
-
-    welcome-settle : (x : Transition) (moment : ℕ) (row : Row) → (row ≡ Refused → ⊥) → Welcome (settle scheme c here x moment row)
-    welcome-settle x moment (Move new) h = welcome-enters scheme here _
-    welcome-settle x moment Repeat h = welcome-repeat
-    welcome-settle x moment Late h = welcome-late
-    welcome-settle x moment Refused h = absurd (h refl)
 
     initiator-welcome : (n : Notification) (moment : Moment) → In (message.Notification n) (sends (f Itl)) → n.to ≡ Registry c → n.id.code ≡ c → (notice_status n.notice ≡ Completed → ⊥)
         → Welcome (registry_verdict scheme c here (Received (message.Notification n) moment))
@@ -190,7 +182,7 @@ module _ (scheme : Scheme) (f : Node → List Entry) (causal : Causal scheme f) 
         let s = notice_status n.notice in
         let past = log-sent scheme (f Itl) (causal.made Itl) n h in
         let l = past-transition s (newest (transitions_of (f Itl)) n.id) past.0 in
-        let b = begun scheme f causal n.id l.0 l.1 in
+        let b = initiated scheme f causal n.id l.0 l.1 in
         let x = b.last in
         let last : newest (transitions_of here) n.id ≡ Some x = subst (λ z. newest (at_registry f z) n.id ≡ Some x) code b.is in
         let own : same_code n.id.code c ≡ true = subst (λ z. same_code n.id.code z ≡ true) code (same_code-refl n.id.code) in
@@ -209,33 +201,31 @@ module _ (scheme : Scheme) (f : Node → List Entry) (causal : Causal scheme f) 
           | inr d ↦ let y : Accepted ≡ Proposed = sym d.0 ∙ e in cc (y)
         ] in
         notice-welcome n moment h to (and_left (not (is_known (transitions_of here) n.id)) _ (is-known (transitions_of here) n.id x last))
-        (subst (λ z. Welcome (registry_notice scheme c here n.id z s moment.seconds)) (sym last)
+        (subst (λ z. Welcome (in_role scheme c here n.id z moment.seconds (Notified s))) (sym last)
         (welcome-true (same_code n.id.code c) _ _ own
-        (welcome-settle x moment.seconds (initiator_row (Stands x.new) (Notified s)) (settles-word x.new s status word not_completed not_proposed past.1))))
+        (welcome-row scheme here _ _
+        (subst (λ z. initiator_row z (Notified s) ≡ Refused → ⊥) (sym (known-status x b.content b.known)) (settles-word x.new s status word not_completed not_proposed past.1)))))
 
     -- to the acquirer
 
-    welcome-finish : (x : Transition) (moment : ℕ) (row : Row) → (row ≡ Refused → ⊥) → (row ≡ Move Completed → holds_some scheme c (transitions_of here) x.content ≡ false) → Welcome (finish scheme c here x moment row)
-    welcome-finish x moment (Move new) h free =
-        welcome-refuse (finish_refusals scheme c here x new) (enters scheme here (moved x new moment [] ∷ [])) (go new free, tt) (welcome-enters scheme here _)
-      where
-        go : (new : Status) → (Move new ≡ Move Completed → holds_some scheme c (transitions_of here) x.content ≡ false) → (same_status new Completed && holds_some scheme c (transitions_of here) x.content) ≡ false
-        go Completed free = free refl
-        go Proposed free = refl
-        go Checked free = refl
-        go Accepted free = refl
-        go Rejected free = refl
-        go Terminated free = refl
-        go Cancelled free = refl
-    welcome-finish x moment Repeat h free = welcome-repeat
-    welcome-finish x moment Late h free = welcome-late
-    welcome-finish x moment Refused h free = absurd (h refl)
+    -- to the acquirer, by the row of what it knows
+    abbrev finish : TransactionId → Option Transition → ℕ → Status → Verdict
+    finish t o moment told =
+        by_row scheme here (decide.moved t (content_in o) moment (acquirer_sends c t [] (Notified told)))
+        (unless_held (holds_some scheme c (transitions_of here) (content_in o)) (acquirer_row (known_as o) (Notified told)))
+
+    welcome-finish : (t : TransactionId) (o : Option Transition) (moment : ℕ) (told : Status) (row : Row) → acquirer_row (known_as o) (Notified told) ≡ row → (row ≡ Refused → ⊥)
+        → (row ≡ Move Completed → holds_some scheme c (transitions_of here) (content_in o) ≡ false) → Welcome (finish t o moment told)
+    welcome-finish t o moment told row is h free =
+        subst (λ z. Welcome (by_row scheme here (decide.moved t (content_in o) moment (acquirer_sends c t [] (Notified told))) z))
+        (sym (ap (unless_held (holds_some scheme c (transitions_of here) (content_in o))) is ∙ unless-same (holds_some scheme c (transitions_of here) (content_in o)) row free))
+        (welcome-row scheme here _ row h)
 
     -- a transfer that the log completed and the acquirer did not owes its units
     owing : (t : TransactionId) (x l : Transition) (k : Content) (s : Serial) → newest (transitions_of here) t ≡ Some x → x.new ≡ Accepted → newest (transitions_of (f Itl)) t ≡ Some l → l.new ≡ Completed → l.content ≡ Some k
         → k.acquirer ≡ c → has_serial (Some k) s ≡ true → Owing f s t
     owing t x l k s last accepted log_last done content mine has =
-        let b = begun scheme f causal t l log_last in
+        let b = begun scheme f causal t l log_last (λ z. let y : Completed ≡ Cancelled = sym done ∙ z.new in cc (y)) in
         let there : b.last.content ≡ Some k = b.there ∙ sym b.known ∙ content in
         record {
           last = b.last;
@@ -263,12 +253,26 @@ module _ (scheme : Scheme) (f : Node → List Entry) (causal : Causal scheme f) 
               held-or-owed scheme f causal p.unit c t (registry-known c t x last, held) owe))
         ]
 
+    -- an acquirer that was not told of a cancellation has the content
+    taken-content : (t : TransactionId) (x : Transition) → newest (transitions_of here) t ≡ Some x → same_code t.code c ≡ false → (x.new ≡ Cancelled → ⊥) → (k : Content) × (x.content ≡ Some k)
+    taken-content t x last foreign other =
+        elim (known scheme c here (causal.made (Registry c)) t x last foreign) [
+          | inl e ↦ absurd (other e.0)
+          | inr z ↦ (z.content, z.is)
+        ]
+
+    table-of : (x : Transition) (s : Status) → (k : Content) × (x.content ≡ Some k) → acquirer_row (known_as (Some x)) (Notified s) ≡ acquirer_row (Stands x.new) (Notified s)
+    table-of x s k = ap (λ z. acquirer_row z (Notified s)) (known-status x k.0 k.1)
+
     told-completed : (t : TransactionId) (l x : Transition) (moment : ℕ) → same_code t.code c ≡ false → newest (transitions_of (f Itl)) t ≡ Some l → l.new ≡ Completed → newest (transitions_of here) t ≡ Some x → IsTaken (Some x)
-        → Welcome (finish scheme c here x moment (acquirer_row (Stands x.new) (Notified Completed)))
+        → Welcome (finish t (Some x) moment Completed)
     told-completed t l x moment foreign log_last done last (inl e) =
-        subst (λ z. Welcome (finish scheme c here x moment (acquirer_row (Stands z) (Notified Completed)))) (sym e)
-        (welcome-finish x moment (Move Completed) (λ h. cc (h)) (λ h. not-held t x l last e foreign log_last done))
-    told-completed t l x moment foreign log_last done last (inr (inl e)) = subst (λ z. Welcome (finish scheme c here x moment (acquirer_row (Stands z) (Notified Completed)))) (sym e) welcome-repeat
+        welcome-finish t (Some x) moment Completed (Move Completed)
+        (table-of x Completed (taken-content t x last foreign (λ d. let y : Accepted ≡ Cancelled = sym e ∙ d in cc (y))) ∙ ap (λ z. acquirer_row (Stands z) (Notified Completed)) e) (λ h. cc (h))
+        (λ h. not-held t x l last e foreign log_last done)
+    told-completed t l x moment foreign log_last done last (inr (inl e)) =
+        welcome-finish t (Some x) moment Completed Repeat
+        (table-of x Completed (taken-content t x last foreign (λ d. let y : Completed ≡ Cancelled = sym e ∙ d in cc (y))) ∙ ap (λ z. acquirer_row (Stands z) (Notified Completed)) e) (λ h. cc (h)) (λ h. absurd (cc (h)))
     told-completed t l x moment foreign log_last done last (inr (inr e)) =
         let p = subst (Cause c here t) e (told scheme c here (causal.made (Registry c)) t x last foreign) in
         let k = log-said scheme f causal (Registry c) t Cancelled p in
@@ -279,15 +283,22 @@ module _ (scheme : Scheme) (f : Node → List Entry) (causal : Causal scheme f) 
         ])
 
     told-cancelled : (t : TransactionId) (l : Transition) (o : Option Transition) (moment : ℕ) → same_code t.code c ≡ false → newest (transitions_of (f Itl)) t ≡ Some l → l.new ≡ Cancelled → newest (transitions_of here) t ≡ o
-        → Welcome (registry_notice scheme c here t o Cancelled moment)
-    told-cancelled t l None moment foreign log_last done last = welcome-false (same_code t.code c) _ _ foreign (welcome-enters scheme here _)
-    told-cancelled t l (Some x) moment foreign log_last done last = welcome-false (same_code t.code c) _ _ foreign (go x.new (told scheme c here (causal.made (Registry c)) t x last foreign))
+        → Welcome (in_role scheme c here t o moment (Notified Cancelled))
+    told-cancelled t l None moment foreign log_last done last =
+        welcome-false (same_code t.code c) _ _ foreign (welcome-finish t None moment Cancelled (Move Cancelled) refl (λ e. cc (e)) (λ e. absurd (cc (e))))
+    told-cancelled t l (Some x) moment foreign log_last done last =
+        welcome-false (same_code t.code c) _ _ foreign
+        (elim (known scheme c here (causal.made (Registry c)) t x last foreign) [
+          | inl e ↦
+              welcome-finish t (Some x) moment Cancelled Repeat (ap (λ z. acquirer_row (option_map_or (λ k. Stands x.new) z Bare) (Notified Cancelled)) e.1) (λ h. cc (h)) (λ h. absurd (cc (h)))
+          | inr z ↦ go x.new (table-of x Cancelled (z.content, z.is)) (told scheme c here (causal.made (Registry c)) t x last foreign)
+        ])
       where
-        go : (s : Status) → Cause c here t s → Welcome (finish scheme c here x moment (acquirer_row (Stands s) (Notified Cancelled)))
-        go Accepted h = welcome-finish x moment (Move Cancelled) (λ e. cc (e)) (λ e. absurd (cc (e)))
-        go Cancelled h = welcome-repeat
-        go Rejected h = welcome-late
-        go Completed h =
+        go : (s : Status) → acquirer_row (known_as (Some x)) (Notified Cancelled) ≡ acquirer_row (Stands s) (Notified Cancelled) → Cause c here t s → Welcome (finish t (Some x) moment Cancelled)
+        go Accepted row h = welcome-finish t (Some x) moment Cancelled (Move Cancelled) row (λ e. cc (e)) (λ e. absurd (cc (e)))
+        go Cancelled row h = welcome-finish t (Some x) moment Cancelled Repeat row (λ e. cc (e)) (λ e. absurd (cc (e)))
+        go Rejected row h = welcome-finish t (Some x) moment Cancelled Late row (λ e. cc (e)) (λ e. absurd (cc (e)))
+        go Completed row h =
             let k = log-said scheme f causal (Registry c) t Completed h in
             let same : k.0 ≡ l = one-some k.0 l (sym k.1 ∙ log_last) in
             let ended : k.0.new ≡ Completed = elim k.2 [
@@ -296,9 +307,9 @@ module _ (scheme : Scheme) (f : Node → List Entry) (causal : Causal scheme f) 
             ] in
             let y : Completed ≡ Cancelled = sym ended ∙ ap (λ (z : Transition). z.new) same ∙ done in
             absurd (cc (y))
-        go Proposed h = absurd h
-        go Checked h = absurd h
-        go Terminated h = absurd h
+        go Proposed row h = absurd h
+        go Checked row h = absurd h
+        go Terminated row h = absurd h
 
     acquirer-welcome : (n : Notification) (moment : Moment) → In (message.Notification n) (sends (f Itl)) → n.to ≡ Registry c → ToKnown (f Itl) n → Welcome (registry_verdict scheme c here (Received (message.Notification n) moment))
     acquirer-welcome n moment h to g =
@@ -310,7 +321,7 @@ module _ (scheme : Scheme) (f : Node → List Entry) (causal : Causal scheme f) 
         let past = past-transition s (newest (transitions_of (f Itl)) t) (log-sent scheme (f Itl) (causal.made Itl) n h).0 in
         let same : past.0 ≡ l = one-some past.0 l (sym past.1 ∙ g.is) in
         let stood = subst (λ (z : Transition). (z.new ≡ s) ⊎ ((s ≡ Accepted) × (z.new ≡ Completed))) same past.2 in
-        let b = begun scheme f causal t l g.is in
+        let b = begun scheme f causal t l g.is (λ z. let y = sym g.goes.known ∙ z.content in cc (y)) in
         let content : b.content ≡ k = one-some b.content k (sym b.known ∙ g.goes.known) in
         let foreign : same_code t.code c ≡ false =
         other-code t.code c (λ e. codes-differ b.content.acquirer t.code b.acquirer_other (ap (λ (z : Content). z.acquirer) content ∙ mine ∙ sym e)) in
@@ -326,9 +337,9 @@ module _ (scheme : Scheme) (f : Node → List Entry) (causal : Causal scheme f) 
               let taken = subst (λ z. IsTaken (newest (transitions_of here) z)) a.heard.about (accepted-sent scheme c here (causal.made (Registry c)) a.heard.notification accepted a.heard.told).1 in
               let x = taken-known (newest (transitions_of here) t) taken in
               notice-welcome n moment h to (and_left (not (is_known (transitions_of here) t)) _ (is-known (transitions_of here) t x.0 x.1))
-              (subst (λ z. Welcome (registry_notice scheme c here t z s moment.seconds)) (sym x.1)
+              (subst (λ z. Welcome (in_role scheme c here t z moment.seconds (Notified s))) (sym x.1)
               (welcome-false (same_code t.code c) _ _ foreign
-              (subst (λ z. Welcome (finish scheme c here x.0 moment.seconds (acquirer_row (Stands x.0.new) (Notified z)))) (sym e)
+              (subst (λ z. Welcome (finish t (Some x.0) moment.seconds z)) (sym e)
               (told-completed t l x.0 moment.seconds foreign g.is done x.1 (subst IsTaken x.1 taken)))))
           | inr e ↦
               let done : l.new ≡ Cancelled = elim stood [
@@ -338,12 +349,13 @@ module _ (scheme : Scheme) (f : Node → List Entry) (causal : Causal scheme f) 
               let cancels : (same_status s Cancelled && not (same_code t.code c)) ≡ true =
               and_from (same_status s Cancelled) (not (same_code t.code c)) (subst (λ z. same_status z Cancelled ≡ true) (sym e) refl) (ap not foreign) in
               notice-welcome n moment h to (and_right (not (is_known (transitions_of here) t)) _ (not_from_true (same_status s Cancelled && not (same_code t.code c)) cancels))
-              (subst (λ z. Welcome (registry_notice scheme c here t (newest (transitions_of here) t) z moment.seconds)) (sym e)
+              (subst (λ z. Welcome (in_role scheme c here t (newest (transitions_of here) t) moment.seconds (Notified z))) (sym e)
               (told-cancelled t l (newest (transitions_of here) t) moment.seconds foreign g.is done refl))
         ]
 
     pub registry-welcome : (m : Message) (moment : Moment) → In m (sends (f Itl)) → (receiver m ≡ Registry c) → Welcome (registry_verdict scheme c here (Received m moment))
     registry-welcome (message.Proposal p) moment h to = offer-welcome p moment h to
+    registry-welcome (message.Request r) moment h to = absurd (no-request scheme (f Itl) (causal.made Itl) r h)
     registry-welcome (message.Notification n) moment h to =
         elim (goes scheme (f Itl) (causal.made Itl) n h) [
           | inl g ↦ initiator-welcome n moment h to (registry-code n.id.code c (sym g.to ∙ to)) g.said

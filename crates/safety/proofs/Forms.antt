@@ -1,0 +1,83 @@
+-- The transitions that the tables make, each by a name of its own.
+use Rattle.std.proofs.Common.{ℕ, List, [], ◌∷◌, Option, Some, None}
+use Rattle.units.specs.declared.code.Code.{Code}
+use Rattle.units.specs.declared.code.Node.{Node}
+use Rattle.units.specs.declared.code.Node.TheVariants.{Itl, Registry}
+use Rattle.status.specs.Content.{Content}
+use Rattle.status.specs.declared.id.TransactionId.{TransactionId}
+use Rattle.status.specs.declared.words.Status.{Status}
+use Rattle.status.specs.declared.words.Status.TheVariants.{Proposed, Checked, Accepted, Rejected, Terminated, Cancelled, Completed}
+use Rattle.wire.specs.declared.message.Message.{Message}
+use Rattle.wire.specs.declared.message.ProposalStatus.TheVariants as proposal
+use Rattle.wire.specs.declared.notice.Notice.{Notice}
+use Rattle.wire.specs.declared.notice.Notice.TheVariants as notice
+use Rattle.protocol.specs.Effects.{proposes, notifies, requests}
+use Rattle.protocol.specs.History.{Transition}
+
+-- a transaction that is known moves on, with the content that it had
+abbrev pub moved : Transition → Status → ℕ → List Message → Transition
+moved x new moment messages = record { id = x.id; new = new; content = x.content; moment = moment; messages = messages }
+
+-- ---- at a registry
+
+abbrev pub proposed : Code → TransactionId → Content → Transition
+proposed c t k = record { id = t; new = Proposed; content = Some k; moment = 0; messages = proposes (Registry c) Itl t proposal.Proposed k ∷ [] }
+
+-- its cancellation was asking for
+abbrev pub asking : Code → Transition → Transition
+asking c x = moved x Proposed 0 (requests (Registry c) Itl x.id ∷ [])
+
+abbrev pub arrived_status : List ℕ → Status
+arrived_status [] = Accepted
+arrived_status (c ∷ cs) = Rejected
+
+abbrev pub arrived_notice : List ℕ → Notice
+arrived_notice [] = notice.Accepted
+arrived_notice (c ∷ cs) = notice.Rejected (c ∷ cs)
+
+abbrev pub arrived : Code → TransactionId → Content → ℕ → List ℕ → Transition
+arrived c t k moment found = record {
+  id = t;
+  new = arrived_status found;
+  content = Some k;
+  moment = moment;
+  messages = notifies (Registry c) Itl t (arrived_notice found) ∷ [];
+}
+
+-- what the initiator sends when its transfer has come to this status
+abbrev pub settled_messages : Code → TransactionId → Status → List Message
+settled_messages c t Completed = notifies (Registry c) Itl t notice.Completed ∷ []
+settled_messages c t _ = []
+
+-- cancelled before its proposal came
+abbrev pub bare : TransactionId → ℕ → Transition
+bare t moment = record { id = t; new = Cancelled; content = None; moment = moment; messages = [] }
+
+-- ---- at the log
+
+abbrev pub checked_status : List ℕ → Status
+checked_status [] = Checked
+checked_status (c ∷ cs) = Terminated
+
+abbrev pub checked_message : TransactionId → Content → List ℕ → Message
+checked_message t k [] = proposes Itl (Registry k.acquirer) t proposal.Checked k
+checked_message t k (c ∷ cs) = notifies Itl (Registry t.code) t (notice.Terminated (c ∷ cs))
+
+abbrev pub checked : TransactionId → Content → ℕ → List ℕ → Transition
+checked t k moment found = record { id = t; new = checked_status found; content = Some k; moment = moment; messages = checked_message t k found ∷ [] }
+
+abbrev pub acquirer_of : Option Content → Node
+acquirer_of None = Itl
+acquirer_of (Some k) = Registry k.acquirer
+
+-- to whom the log passes a notification on: Completed to the acquirer, all else to the initiator
+abbrev pub told_to : Transition → Status → Node
+told_to x Completed = acquirer_of x.content
+told_to x _ = Registry x.id.code
+
+abbrev pub cancelled : ℕ → Transition → Transition
+cancelled moment x = moved x Cancelled moment (notifies Itl (Registry x.id.code) x.id notice.Cancelled ∷ notifies Itl (acquirer_of x.content) x.id notice.Cancelled ∷ [])
+
+-- cancelled at the log before its proposal came
+abbrev pub forestalled : TransactionId → ℕ → Transition
+forestalled t moment = record { id = t; new = Cancelled; content = None; moment = moment; messages = notifies Itl (Registry t.code) t notice.Cancelled ∷ [] }

@@ -5,7 +5,7 @@ use Rattle.status.specs.declared.words.Role.TheVariants.{Initiator, Itl, Acquire
 use Rattle.status.specs.declared.words.Known.{Known}
 use Rattle.status.specs.declared.words.Known.TheVariants.{Unknown, Bare, Stands}
 use Rattle.status.specs.declared.words.RowInput.{RowInput}
-use Rattle.status.specs.declared.words.RowInput.TheVariants.{Propose, ProposalWithoutFinding, ProposalWithFindings, EqualProposal, Notified, CleanUp}
+use Rattle.status.specs.declared.words.RowInput.TheVariants.{Propose, ProposalWithoutFinding, ProposalWithFindings, EqualProposal, Notified, CleanUp, RequestOrder, RepeatedRequestOrder, Request}
 use Rattle.status.specs.declared.words.Row.{Row}
 use Rattle.status.specs.declared.words.Row.TheVariants.{Move, Repeat, Late, Refused}
 
@@ -16,19 +16,23 @@ initiator_row (Stands Proposed) (Notified Accepted) = Move Completed
 initiator_row (Stands Proposed) (Notified Rejected) = Move Rejected
 initiator_row (Stands Proposed) (Notified Terminated) = Move Terminated
 initiator_row (Stands Proposed) (Notified Cancelled) = Move Cancelled
+initiator_row (Stands Proposed) RequestOrder = Move Proposed
 initiator_row (Stands Completed) (Notified Accepted) = Repeat
 initiator_row (Stands Rejected) (Notified Rejected) = Repeat
 initiator_row (Stands Terminated) (Notified Terminated) = Repeat
 initiator_row (Stands Cancelled) (Notified Cancelled) = Repeat
+initiator_row (Stands Proposed) RepeatedRequestOrder = Repeat
 initiator_row _ _ = Refused
 
 -- table L, of the log
 abbrev pub log_row : Known → RowInput → Row
 log_row Unknown ProposalWithoutFinding = Move Checked
 log_row Unknown ProposalWithFindings = Move Terminated
+log_row Unknown Request = Move Cancelled
 log_row (Stands Checked) (Notified Accepted) = Move Accepted
 log_row (Stands Checked) (Notified Rejected) = Move Rejected
 log_row (Stands Checked) CleanUp = Move Cancelled
+log_row (Stands Checked) Request = Move Cancelled
 log_row (Stands Accepted) (Notified Completed) = Move Completed
 log_row (Stands _) EqualProposal = Repeat
 log_row (Stands Accepted) (Notified Accepted) = Repeat
@@ -37,6 +41,14 @@ log_row (Stands Rejected) (Notified Rejected) = Repeat
 log_row (Stands Completed) (Notified Completed) = Repeat
 log_row (Stands Cancelled) (Notified Accepted) = Late
 log_row (Stands Cancelled) (Notified Rejected) = Late
+log_row (Stands Accepted) Request = Late
+log_row (Stands Rejected) Request = Late
+log_row (Stands Terminated) Request = Late
+log_row (Stands Completed) Request = Late
+log_row (Stands Cancelled) Request = Late
+log_row Bare Request = Late
+log_row Bare ProposalWithoutFinding = Late
+log_row Bare ProposalWithFindings = Late
 log_row _ _ = Refused
 
 -- table A, of the acquirer

@@ -22,10 +22,12 @@ fn initiator_row(old: Known, input: RowInput) -> Row
         (Stands(Status::Proposed), RowInput::Notified(Status::Cancelled)) => Row::Move(
             Status::Cancelled,
         ),
+        (Stands(Status::Proposed), RowInput::RequestOrder) => Row::Move(Status::Proposed),
         (Stands(Status::Completed), RowInput::Notified(Status::Accepted))
         | (Stands(Status::Rejected), RowInput::Notified(Status::Rejected))
         | (Stands(Status::Terminated), RowInput::Notified(Status::Terminated))
-        | (Stands(Status::Cancelled), RowInput::Notified(Status::Cancelled)) => Row::Repeat,
+        | (Stands(Status::Cancelled), RowInput::Notified(Status::Cancelled))
+        | (Stands(Status::Proposed), RowInput::RepeatedRequestOrder) => Row::Repeat,
         _ => Row::Refused,
     }
 }
@@ -33,10 +35,11 @@ fn initiator_row(old: Known, input: RowInput) -> Row
 fn log_row(old: Known, input: RowInput) -> Row
     ensures { result ≡ log_row old input }
 {
-    use Known::{Stands, Unknown};
+    use Known::{Bare, Stands, Unknown};
     match (old, input) {
         (Unknown, RowInput::ProposalWithoutFinding) => Row::Move(Status::Checked),
         (Unknown, RowInput::ProposalWithFindings) => Row::Move(Status::Terminated),
+        (Unknown, RowInput::Request) => Row::Move(Status::Cancelled),
         (Stands(Status::Checked), RowInput::Notified(Status::Accepted)) => Row::Move(
             Status::Accepted,
         ),
@@ -44,6 +47,7 @@ fn log_row(old: Known, input: RowInput) -> Row
             Status::Rejected,
         ),
         (Stands(Status::Checked), RowInput::CleanUp) => Row::Move(Status::Cancelled),
+        (Stands(Status::Checked), RowInput::Request) => Row::Move(Status::Cancelled),
         (Stands(Status::Accepted), RowInput::Notified(Status::Completed)) => Row::Move(
             Status::Completed,
         ),
@@ -53,7 +57,15 @@ fn log_row(old: Known, input: RowInput) -> Row
         | (Stands(Status::Rejected), RowInput::Notified(Status::Rejected))
         | (Stands(Status::Completed), RowInput::Notified(Status::Completed)) => Row::Repeat,
         (Stands(Status::Cancelled), RowInput::Notified(Status::Accepted))
-        | (Stands(Status::Cancelled), RowInput::Notified(Status::Rejected)) => Row::Late,
+        | (Stands(Status::Cancelled), RowInput::Notified(Status::Rejected))
+        | (Stands(Status::Accepted), RowInput::Request)
+        | (Stands(Status::Rejected), RowInput::Request)
+        | (Stands(Status::Terminated), RowInput::Request)
+        | (Stands(Status::Completed), RowInput::Request)
+        | (Stands(Status::Cancelled), RowInput::Request)
+        | (Bare, RowInput::Request)
+        | (Bare, RowInput::ProposalWithoutFinding)
+        | (Bare, RowInput::ProposalWithFindings) => Row::Late,
         _ => Row::Refused,
     }
 }

@@ -86,6 +86,31 @@ fn each_role_answers_by_its_own_table(rt: HostRuntime) {
 }
 
 #[test]
+fn orders_and_requests_for_cancellation(rt: HostRuntime) {
+    use RowInput::{CleanUp, RepeatedRequestOrder, Request, RequestOrder};
+    let proposed = Known::Stands(Status::Proposed);
+    for (old, order, to) in [
+        (proposed, RequestOrder, Row::Move(Status::Proposed)),
+        (proposed, RepeatedRequestOrder, Row::Repeat),
+        (Known::Unknown, RequestOrder, Row::Refused),
+    ] {
+        assert_eq!(rt; row(Role::Initiator, old, order), to);
+    }
+    let checked = Known::Stands(Status::Checked);
+    let completed = Known::Stands(Status::Completed);
+    for (old, input, to) in [
+        (Known::Unknown, Request, Row::Move(Status::Cancelled)),
+        (checked, Request, Row::Move(Status::Cancelled)),
+        (completed, Request, Row::Late),
+        (Known::Bare, Request, Row::Late),
+        (Known::Bare, RowInput::ProposalWithoutFinding, Row::Late),
+        (Known::Bare, CleanUp, Row::Refused),
+    ] {
+        assert_eq!(rt; row(Role::Itl, old, input), to);
+    }
+}
+
+#[test]
 fn the_name_of_each_status(rt: HostRuntime) {
     for (text, status) in [
         ("Proposed", Some(Status::Proposed)),

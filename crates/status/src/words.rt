@@ -32,7 +32,7 @@ pub enum Role {
 pub enum Known {
     /// No record names it.
     Unknown,
-    /// A record without content: it was cancelled before its proposal came.
+    /// A record without content: it was cancelled, here or by request, before its proposal came.
     Bare,
     /// It stands so, with its content.
     Stands(Status),
@@ -54,6 +54,12 @@ pub enum RowInput {
     Notified(Status),
     /// A clean-up that finds the transaction due.
     CleanUp,
+    /// An order to ask for cancellation, the first for its transaction.
+    RequestOrder,
+    /// An order to ask for cancellation, after one was recorded for the transaction.
+    RepeatedRequestOrder,
+    /// A registry's request for cancellation, at the log.
+    Request,
 }
 
 /// What the tables say to an input.

@@ -16,13 +16,14 @@ use Rattle.status.specs.declared.words.Status.TheVariants as status
 use Rattle.status.proofs.Ids.{id_text_same}
 use Rattle.wire.specs.Messages.{IsMessage, IsLine}
 use Rattle.wire.specs.Notices.{notice_status, notice_codes, proposal_status}
-use Rattle.wire.specs.Reading.{HasContent, HasNotice, IsProposal, IsNotification}
+use Rattle.wire.specs.Reading.{HasContent, HasNotice, IsProposal, IsNotification, IsRequest}
 use Rattle.wire.specs.declared.message.Message.{Message}
 use Rattle.wire.specs.declared.message.Message.TheVariants as message
 use Rattle.wire.specs.declared.message.Notification.{Notification}
 use Rattle.wire.specs.declared.message.Proposal.{Proposal}
 use Rattle.wire.specs.declared.message.ProposalStatus.{ProposalStatus}
 use Rattle.wire.specs.declared.message.ProposalStatus.TheVariants.{Proposed, Checked}
+use Rattle.wire.specs.declared.message.Request.{Request}
 use Rattle.wire.specs.declared.notice.Notice.{Notice}
 use Rattle.wire.specs.declared.notice.Notice.TheVariants.{Accepted, Rejected, Terminated, Cancelled, Completed}
 use Rattle.wire.proofs.Told.{text_once, whole_once, numbers_once, blocks_once, short_blocks}
@@ -124,17 +125,43 @@ notification_once d m n h k =
     let notices = notice_once d m.notice n.notice (f.1.0, f.1.1.1.0, h.1) (g.1.0, g.1.1.1.0, k.1) in
     λ i. record { from = froms i; to = tos i; id = ids i; notice = notices i }
 
+pub request_once : (d : Data) (r s : Request) → IsRequest d r → IsRequest d s → r ≡ s
+request_once d r s h k =
+    let f = h.1 in
+    let g = k.1 in
+    let froms = node_once d (codes "from") r.from s.from f.1.0 g.1.0 in
+    let tos = node_once d (codes "to") r.to s.to f.1.1.0 g.1.1.0 in
+    let ids = id_once d (codes "transaction") r.id s.id f.1.1.1.0 g.1.1.1.0 in
+    λ i. record { from = froms i; to = tos i; id = ids i }
+
 nine_or_six : (o : Option ℕ) → o ≡ Some 9 → o ≡ Some 6 → ⊥
 nine_or_six o p q = cc (p, q)
 
-not_nine : (d : Data) → HasKeys d 9 → HasKeys d 6 → ⊥
-not_nine d p q = nine_or_six _ p q
+nine_or_four : (o : Option ℕ) → o ≡ Some 9 → o ≡ Some 4 → ⊥
+nine_or_four o p q = cc (p, q)
+
+six_or_four : (o : Option ℕ) → o ≡ Some 6 → o ≡ Some 4 → ⊥
+six_or_four o p q = cc (p, q)
+
+no_notification : (d : Data) → HasKeys d 9 → HasKeys d 6 → ⊥
+no_notification d p q = nine_or_six _ p q
+
+no_proposal : (d : Data) → HasKeys d 9 → HasKeys d 4 → ⊥
+no_proposal d p q = nine_or_four _ p q
+
+no_request : (d : Data) → HasKeys d 6 → HasKeys d 4 → ⊥
+no_request d p q = six_or_four _ p q
 
 pub message_once : (d : Data) (m n : Message) → IsMessage d m → IsMessage d n → m ≡ n
 message_once d (message.Proposal p) (message.Proposal q) h k = ap message.Proposal (proposal_once d p q h k)
-message_once d (message.Proposal p) (message.Notification n) h k = absurd (not_nine d h.0.0 k.0.0)
-message_once d (message.Notification m) (message.Proposal q) h k = absurd (not_nine d k.0.0 h.0.0)
+message_once d (message.Proposal p) (message.Notification n) h k = absurd (no_notification d h.0.0 k.0.0)
+message_once d (message.Proposal p) (message.Request s) h k = absurd (no_proposal d h.0.0 k.0.0)
+message_once d (message.Notification m) (message.Proposal q) h k = absurd (no_notification d k.0.0 h.0.0)
 message_once d (message.Notification m) (message.Notification n) h k = ap message.Notification (notification_once d m n h k)
+message_once d (message.Notification m) (message.Request s) h k = absurd (no_request d h.0.0 k.0.0)
+message_once d (message.Request r) (message.Proposal q) h k = absurd (no_proposal d k.0.0 h.0.0)
+message_once d (message.Request r) (message.Notification n) h k = absurd (no_request d k.0.0 h.0.0)
+message_once d (message.Request r) (message.Request s) h k = ap message.Request (request_once d r s h.0 k.0)
 
 pub line_once : (line : List ℕ) (m n : Message) → IsLine line m → IsLine line n → m ≡ n
 line_once line m n p q =

@@ -1,4 +1,4 @@
--- What is printed for a message: no float, two levels, the fields that were wanted, and few bytes.
+-- What is printed for a message: no float, at most two levels, the fields that were wanted, and few bytes.
 use Rattle.std.proofs.Common.{◌≡◌, ℕ, ◌+◌, ◌*◌, ◌^◌, ◌<◌, ◌≤◌, List, [], ◌∷◌, ◌++◌, length, Bool, true, false, cond, decimal, codes, refl, sym, ap, subst, ◌∙◌, arith, length-append, Some, lit≤, ltb, ◌/◌, ◌%◌}
 use Rattle.std.proofs.lemmas.Fmt.{length-decimal-le}
 use Rattle.std.specs.Char.{digit_char}
@@ -25,13 +25,14 @@ use Rattle.status.specs.declared.id.TransactionId.{TransactionId}
 use Rattle.status.specs.declared.words.Status.{Status}
 use Rattle.status.specs.declared.words.Status.TheVariants as status
 use Rattle.wire.specs.Codes.{Ascends}
-use Rattle.wire.specs.Messages.{proposal_fields, notification_fields, message_fields, message_data, message_text, IsSound, IsLine}
+use Rattle.wire.specs.Messages.{proposal_fields, notification_fields, request_fields, message_fields, message_data, message_text, IsSound, IsLine}
 use Rattle.wire.specs.Notices.{notice_status, notice_codes, IsNotice, proposal_status}
 use Rattle.wire.specs.Objects.{Field, HasExactly, object_of, members_of, whole_items, block_items}
 use Rattle.wire.specs.declared.message.Message.{Message}
 use Rattle.wire.specs.declared.message.Message.TheVariants as message
 use Rattle.wire.specs.declared.message.Notification.{Notification}
 use Rattle.wire.specs.declared.message.Proposal.{Proposal}
+use Rattle.wire.specs.declared.message.Request.{Request}
 use Rattle.wire.specs.declared.notice.Notice.{Notice}
 use Rattle.wire.specs.declared.notice.Notice.TheVariants.{Accepted, Rejected, Terminated, Cancelled, Completed}
 
@@ -48,8 +49,9 @@ whole_no_float (n ∷ ns) = whole_no_float ns
 pub message_no_float : (m : Message) → has_float (message_data m) ≡ false
 message_no_float (message.Proposal p) = rw (blocks_no_float p.content.units) refl
 message_no_float (message.Notification n) = rw (whole_no_float (notice_codes n.notice)) refl
+message_no_float (message.Request r) = refl
 
--- ---- two levels
+-- ---- at most two levels
 
 pub blocks_flat : (bs : List RawBlock) → items_depth (block_items bs) ≡ 0
 blocks_flat [] = refl
@@ -59,15 +61,17 @@ whole_flat : (ns : List ℕ) → items_depth (whole_items ns) ≡ 0
 whole_flat [] = refl
 whole_flat (n ∷ ns) = rw (whole_flat ns) refl
 
-pub message_depth : (m : Message) → depth (message_data m) ≡ 2
-message_depth (message.Proposal p) = rw (blocks_flat p.content.units) refl
-message_depth (message.Notification n) = rw (whole_flat (notice_codes n.notice)) refl
+pub message_depth : (m : Message) → depth (message_data m) ≤ 2
+message_depth (message.Proposal p) = rw (blocks_flat p.content.units) (lit≤ tt)
+message_depth (message.Notification n) = rw (whole_flat (notice_codes n.notice)) (lit≤ tt)
+message_depth (message.Request r) = lit≤ tt
 
 -- ---- the fields that were wanted
 
 pub message_exact : (m : Message) → HasExactly (message_data m) (message_fields m)
 message_exact (message.Proposal p) = (refl, (refl, (refl, (refl, (refl, (refl, (refl, (refl, (refl, (refl, tt))))))))))
 message_exact (message.Notification n) = (refl, (refl, (refl, (refl, (refl, (refl, (refl, tt)))))))
+message_exact (message.Request r) = (refl, (refl, (refl, (refl, (refl, tt)))))
 
 -- ---- few bytes
 
@@ -216,9 +220,23 @@ notification_short n is =
       id_short n.id,
     )
 
+request_short : (r : Request) → most (request_fields r) ≤ 8191
+request_short r =
+    omega (
+      arith,
+      quoted_short (codes "RequestCancellation"),
+      quoted_short (node_text r.from),
+      node_short r.from,
+      quoted_short (node_text r.to),
+      node_short r.to,
+      quoted_short (id_text r.id),
+      id_short r.id,
+    )
+
 pub message_short : (m : Message) → IsSound m → length (message_text m) ≤ 8192
 message_short (message.Proposal p) is = object_short (proposal_fields p) 8191 (proposal_short p is)
 message_short (message.Notification n) is = object_short (notification_fields n) 8191 (notification_short n is)
+message_short (message.Request r) is = object_short (request_fields r) 8191 (request_short r)
 
 -- ---- the text, whole
 

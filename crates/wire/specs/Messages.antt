@@ -13,6 +13,7 @@ use Rattle.wire.specs.declared.message.Message.{Message}
 use Rattle.wire.specs.declared.message.Message.TheVariants as message
 use Rattle.wire.specs.declared.message.Notification.{Notification}
 use Rattle.wire.specs.declared.message.Proposal.{Proposal}
+use Rattle.wire.specs.declared.message.Request.{Request}
 
 -- the fields of a proposal, keys in byte order
 abbrev pub proposal_fields : Proposal → List Field
@@ -27,9 +28,16 @@ notification_fields n =
     (codes "call", string (codes "AcceptNotification")) ∷ (codes "codes", numbers (notice_codes n.notice)) ∷ (codes "from", string (node_text n.from))
     ∷ (codes "status", string (status_text (notice_status n.notice))) ∷ (codes "to", string (node_text n.to)) ∷ (codes "transaction", string (id_text n.id)) ∷ []
 
+-- the fields of a request, keys in byte order
+abbrev pub request_fields : Request → List Field
+request_fields r =
+    (codes "call", string (codes "RequestCancellation")) ∷ (codes "from", string (node_text r.from)) ∷ (codes "to", string (node_text r.to))
+    ∷ (codes "transaction", string (id_text r.id)) ∷ []
+
 abbrev pub message_fields : Message → List Field
 message_fields (message.Proposal p) = proposal_fields p
 message_fields (message.Notification n) = notification_fields n
+message_fields (message.Request r) = request_fields r
 
 abbrev pub message_data : Message → Data
 message_data m = object_of (message_fields m)
@@ -42,6 +50,7 @@ message_text m = compact_text (message_data m)
 abbrev pub IsSound : Message → Type 0
 IsSound (message.Proposal p) = IsContent p.content
 IsSound (message.Notification n) = IsNotice n.notice
+IsSound (message.Request r) = Unit {0}
 
 -- the value writes the message
 abbrev pub IsMessage : Data → Message → Type 0

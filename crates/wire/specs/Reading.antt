@@ -9,7 +9,7 @@ use Rattle.units.specs.declared.block.RawBlock.{RawBlock}
 use Rattle.status.specs.Content.{Content, IsContent}
 use Rattle.status.specs.Status.{status_text}
 use Rattle.status.specs.declared.moment.Moment.{Moment}
-use Rattle.wire.specs.Messages.{proposal_fields, notification_fields, IsMessage}
+use Rattle.wire.specs.Messages.{proposal_fields, notification_fields, request_fields, IsMessage}
 use Rattle.wire.specs.Notices.{notice_status, notice_codes, IsNotice, proposal_status}
 use Rattle.wire.specs.Objects.{HasExactly, whole, numbers, blocks}
 use Rattle.wire.specs.declared.input.Number.{Number}
@@ -17,6 +17,7 @@ use Rattle.wire.specs.declared.message.Message.{Message}
 use Rattle.wire.specs.declared.message.Notification.{Notification}
 use Rattle.wire.specs.declared.message.Proposal.{Proposal}
 use Rattle.wire.specs.declared.message.ProposalStatus.{ProposalStatus}
+use Rattle.wire.specs.declared.message.Request.{Request}
 use Rattle.wire.specs.declared.notice.Notice.{Notice}
 
 -- an item that is the text of a block
@@ -50,6 +51,9 @@ IsProposal d p = HasExactly d (proposal_fields p) × IsContent p.content
 
 abbrev pub IsNotification : Data → Notification → Type 0
 IsNotification d n = HasExactly d (notification_fields n) × IsNotice n.notice
+
+abbrev pub IsRequest : Data → Request → Type 0
+IsRequest d r = HasExactly d (request_fields r)
 
 abbrev pub HasProposalStatus : Data → ProposalStatus → Type 0
 HasProposalStatus d s = HasAt d (codes "status") (string (status_text (proposal_status s)))

@@ -4,11 +4,12 @@ use Rattle.serde_json.specs.Data.{Data, string, null, boolean}
 use Rattle.serde_json.specs.Read.{read}
 use Rattle.serde_json.specs.Written.{compact_text}
 use Rattle.units.specs.Code.{code_text}
+use Rattle.status.specs.Id.{id_text}
 use Rattle.status.specs.Order.{Order, IsOrder}
 use Rattle.wire.specs.Objects.{Field, HasExactly, object_of, whole, blocks}
 use Rattle.wire.specs.Messages.{message_data, IsMessage}
 use Rattle.wire.specs.declared.input.Input.{Input}
-use Rattle.wire.specs.declared.input.Input.TheVariants.{Propose, OpenAccount, CloseAccount, Ack, CleanUp, Eligible, Received}
+use Rattle.wire.specs.declared.input.Input.TheVariants.{Propose, Request, OpenAccount, CloseAccount, Ack, CleanUp, Eligible, Received}
 
 -- the fields of an order to transfer units, which are written as they were ordered
 abbrev pub order_fields : Order → List Field
@@ -19,6 +20,7 @@ order_fields o =
 -- the fields of an input, keys in byte order; where it is a message received, with the value that writes it
 abbrev pub record_fields : Data → Input → List Field
 record_fields message (Propose o) = order_fields o
+record_fields message (Request t) = (codes "input", string (codes "request")) ∷ (codes "transaction", string (id_text t)) ∷ []
 record_fields message (OpenAccount n) = (codes "account", whole n.value) ∷ (codes "input", string (codes "open")) ∷ []
 record_fields message (CloseAccount n) = (codes "account", whole n.value) ∷ (codes "input", string (codes "close")) ∷ []
 record_fields message (Ack n) = (codes "input", string (codes "ack")) ∷ (codes "key", whole n.value) ∷ []

@@ -2,7 +2,7 @@
 ghost use Rattle.std.specs.Prelude.{◌≡◌, ◌<◌, ◌^◌, IfOk, IfSome, IfNone};
 
 use crate::message::Message;
-use status::{Moment, Order};
+use status::{Moment, Order, TransactionId};
 use units::{Code, NoMemory};
 
 /// A number of at most 18 digits.
@@ -17,6 +17,8 @@ pub struct Number {
 pub enum Input {
     /// An order to transfer units.
     Propose(Order),
+    /// An order to ask the log to cancel that transaction.
+    Request(TransactionId),
     /// An order to open the account of that number.
     OpenAccount(Number),
     /// An order to close the account of that number.
@@ -52,6 +54,7 @@ impl Input {
     {
         match self {
             Input::Propose(order) => Ok(Input::Propose(order.copy()?)),
+            Input::Request(id) => Ok(Input::Request(*id)),
             Input::OpenAccount(account) => Ok(Input::OpenAccount(*account)),
             Input::CloseAccount(account) => Ok(Input::CloseAccount(*account)),
             Input::Ack(key) => Ok(Input::Ack(*key)),

@@ -34,7 +34,7 @@ pub use codes::{AcquirerCodes, LogCodes};
 pub use fields::ReadFault;
 pub use input::{Input, Number};
 pub use lines::{Line, LineFault, Splitter, Truncated, cuts};
-pub use message::{Message, Notification, Proposal, ProposalStatus};
+pub use message::{Message, Notification, Proposal, ProposalStatus, Request};
 pub use node_core::{NodeCore, Stepped};
 pub use notice::Notice;
 pub use reading::{decode, one_message};

@@ -33,11 +33,20 @@ pub struct Notification {
     pub notice: Notice,
 }
 
+/// A registry asks the log to cancel a transfer that it proposed.
+#[derive(Clone, Copy, Debug, PartialEq, Eq)]
+pub struct Request {
+    pub from: Node,
+    pub to: Node,
+    pub id: TransactionId,
+}
+
 /// A message from one node to another.
 #[derive(Debug, Drop)]
 pub enum Message {
     Proposal(Proposal),
     Notification(Notification),
+    Request(Request),
 }
 
 impl ProposalStatus {
@@ -129,6 +138,7 @@ impl Message {
         match self {
             Message::Proposal(proposal) => Ok(Message::Proposal(proposal.copy()?)),
             Message::Notification(notification) => Ok(Message::Notification(notification.copy()?)),
+            Message::Request(request) => Ok(Message::Request(*request)),
         }
     }
 }

@@ -1,6 +1,6 @@
 use crate::{
-    AcquirerCodes, LogCodes, Message, Notice, Notification, Proposal, ProposalStatus, Splitter,
-    decode, encode,
+    AcquirerCodes, LogCodes, Message, Notice, Notification, Proposal, ProposalStatus, Request,
+    Splitter, decode, encode,
 };
 use status::{Content, TransactionId};
 use std::alloc::Global;
@@ -12,6 +12,9 @@ const PROPOSAL: &str =
 
 const NOTIFICATION: &str =
     r#"{"call":"AcceptNotification","codes":[],"from":"JP","status":"Accepted","to":"ITL","transaction":"NZ1"}"#;
+
+const REQUEST: &str =
+    r#"{"call":"RequestCancellation","from":"NZ","to":"ITL","transaction":"NZ1"}"#;
 
 const LIMIT: usize = 8192;
 
@@ -68,6 +71,14 @@ fn notification(from: Node, to: Node, notice: Notice) -> Result<Message, Fail> {
     }))
 }
 
+fn request(from: Node) -> Result<Message, Fail> {
+    Ok(Message::Request(Request {
+        from,
+        to: Node::Itl,
+        id: id("NZ1")?,
+    }))
+}
+
 fn checked_proposal(alloc: Global, jp: Code) -> Result<Message, Fail> {
     let units = blocks(alloc, &["NZ:1:1-100:AAU", "CH:2:5-999999999999:lCER"])?;
     let content = Content::new(999_999_999, jp, 7, units).ok_or("no content")?;
@@ -85,7 +96,8 @@ fn texts_are_written_and_read_back(rt: HostRuntime) -> Result<(), Fail> {
     let alloc = rt.alloc();
     assert_eq!(rt; PROPOSAL.len(), 161);
     assert_eq!(rt; NOTIFICATION.len(), 103);
-    for text in [PROPOSAL, NOTIFICATION] {
+    assert_eq!(rt; REQUEST.len(), 73);
+    for text in [PROPOSAL, NOTIFICATION, REQUEST] {
         let message = decode(alloc, text.as_bytes()).expect(&rt, "a message");
         let line = encode(alloc, &message).expect(&rt, "memory");
         assert_eq!(rt; line.as_slice(), text.as_bytes());
@@ -99,7 +111,7 @@ fn texts_are_written_and_read_back(rt: HostRuntime) -> Result<(), Fail> {
 #[test]
 fn a_message_in_two_pieces(rt: HostRuntime) -> Result<(), Fail> {
     let alloc = rt.alloc();
-    for text in [PROPOSAL, NOTIFICATION] {
+    for text in [PROPOSAL, NOTIFICATION, REQUEST] {
         let mut stream = Vec::from_slice(alloc, text.as_bytes())?;
         stream.push(b'\n')?;
         for cut in 0..=stream.len() {
@@ -138,6 +150,7 @@ fn messages_built_from_parts(rt: HostRuntime) -> Result<(), Fail> {
             notification(Node::Itl, nz, terminated)?,
             r#"{"call":"AcceptNotification","codes":[207],"from":"ITL","status":"Terminated","to":"NZ","transaction":"NZ1"}"#,
         ),
+        (request(nz)?, REQUEST),
         (
             checked_proposal(alloc, jp)?,
             r#"{"account":999999999,"call":"AcceptProposal","from":"ITL","status":"Checked","to":"JP","to_account":7,"to_registry":"JP","transaction":"NZ999999","units":["NZ:1:1-100:AAU","CH:2:5-999999999999:lCER"]}"#,
@@ -260,6 +273,28 @@ fn a_notification_with_something_wrong_in_it(rt: HostRuntime) -> Result<(), Fail
     let alloc = rt.alloc();
     for (old, new) in WRONG_IN_NOTIFICATION {
         let line = changed(alloc, NOTIFICATION, old, new)?.expect(&rt, "it stands there once");
+        let fault = decode(alloc, line.as_bytes()).err();
+        assert_eq!(rt; fault, Some(Refusal { code: 41 }), "{new} for {old}");
+    }
+    Ok(())
+}
+
+/// What stands in a request, and what makes it no message in its place.
+const WRONG_IN_REQUEST: [(&str, &str); 7] = [
+    (r#""to":"ITL","#, ""),
+    (r#""to":"ITL","#, r#""to":"ITL","x":1,"#),
+    (r#""from":"NZ""#, r#""codes":[],"from":"NZ""#),
+    (r#""to":"ITL""#, r#""codes":[]"#),
+    (r#""RequestCancellation""#, r#""requestCancellation""#),
+    (r#""RequestCancellation""#, r#""AcceptNotification""#),
+    (r#""NZ1""#, r#""NZ0""#),
+];
+
+#[test]
+fn a_request_with_something_wrong_in_it(rt: HostRuntime) -> Result<(), Fail> {
+    let alloc = rt.alloc();
+    for (old, new) in WRONG_IN_REQUEST {
+        let line = changed(alloc, REQUEST, old, new)?.expect(&rt, "it stands there once");
         let fault = decode(alloc, line.as_bytes()).err();
         assert_eq!(rt; fault, Some(Refusal { code: 41 }), "{new} for {old}");
     }

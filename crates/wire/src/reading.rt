@@ -5,13 +5,13 @@ ghost use Rattle.fields.specs.Fields.{HasAt};
 ghost use Rattle.fields.specs.Found.{Finds};
 ghost use Rattle.status.specs.Content.{Content};
 ghost use Rattle.wire.specs.Messages.{IsMessage, IsLine};
-ghost use Rattle.wire.specs.Reading.{HasContent, Says, HasNotice, HasProposalStatus, IsProposal, IsNotification};
+ghost use Rattle.wire.specs.Reading.{HasContent, Says, HasNotice, HasProposalStatus, IsProposal, IsNotification, IsRequest};
 ghost use Rattle.wire.specs.declared.message.Message.{Message};
 ghost use Rattle.wire.specs.declared.notice.Notice.{Notice};
 
 use crate::codes::{AcquirerCodes, LogCodes};
 use crate::lists::{blocks, codes};
-use crate::message::{Message, Notification, Proposal, ProposalStatus};
+use crate::message::{Message, Notification, Proposal, ProposalStatus, Request};
 use crate::notice::Notice;
 use crate::values::{code_at, has_text, id_at, node_at, whole_at};
 use fields::{ReadFault, has_keys, text_at};
@@ -126,6 +126,18 @@ fn notification(alloc: Global, value: &Value) -> Result<Notification, ReadFault>
     })
 }
 
+fn request(value: &Value) -> Result<Request, ReadFault>
+    ensures { Finds (IsRequest (view value.now)) result }
+{
+    if !has_keys(value, 4) || !has_text(value, "call", "RequestCancellation") {
+        return Err(ReadFault::Shape);
+    }
+    let from = node_at(value, "from")?;
+    let to = node_at(value, "to")?;
+    let id = id_at(value, "transaction")?;
+    Ok(Request { from, to, id })
+}
+
 /// The message that the value writes.
 pub fn message(alloc: Global, value: &Value) -> Result<Message, ReadFault>
     ensures { Finds (IsMessage (view value.now)) result }
@@ -133,6 +145,9 @@ pub fn message(alloc: Global, value: &Value) -> Result<Message, ReadFault>
     if has_text(value, "call", "AcceptProposal") {
         let proposal = proposal(alloc, value)?;
         Ok(Message::Proposal(proposal))
+    } else if has_text(value, "call", "RequestCancellation") {
+        let request = request(value)?;
+        Ok(Message::Request(request))
     } else {
         let notification = notification(alloc, value)?;
         Ok(Message::Notification(notification))

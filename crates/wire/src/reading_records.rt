@@ -3,6 +3,7 @@ ghost use Rattle.std.specs.Prelude.{◌≡◌, List, [], ◌∷◌, ℕ, codes};
 ghost use Rattle.serde_json.specs.Data.{string, boolean};
 ghost use Rattle.serde_json.specs.View.{view};
 ghost use Rattle.units.specs.Code.{code_text};
+ghost use Rattle.status.specs.Id.{id_text};
 ghost use Rattle.status.specs.Order.{IsOrder};
 ghost use Rattle.fields.specs.Fields.{HasAt};
 ghost use Rattle.fields.specs.Found.{Finds};
@@ -16,10 +17,10 @@ use crate::input::{Input, Number};
 use crate::lists::raw_blocks;
 use crate::message::Message;
 use crate::reading::message;
-use crate::values::{code_at, has_text, moment_at, short_at, whole_at};
+use crate::values::{code_at, has_text, id_at, moment_at, short_at, whole_at};
 use fields::{ReadFault, bool_at, has_keys, value_at};
 use serde_json::Value;
-use status::{Moment, Order};
+use status::{Moment, Order, TransactionId};
 use std::alloc::Global;
 use units::Code;
 
@@ -35,6 +36,16 @@ fn order(alloc: Global, value: &Value) -> Result<Order, ReadFault>
     let to_registry = code_at(value, "to_registry")?;
     let units = raw_blocks(alloc, value)?;
     Order::new(account, to_registry, to_account, units).ok_or(ReadFault::Shape)
+}
+
+// The transaction of an order to ask for cancellation.
+fn request(value: &Value) -> Result<TransactionId, ReadFault>
+    ensures { Finds (λ t. HasExactly (view value.now) ((codes "input", string (codes "request")) ∷ (codes "transaction", string (id_text t)) ∷ [])) result }
+{
+    if !has_keys(value, 2) || !has_text(value, "input", "request") {
+        return Err(ReadFault::Shape);
+    }
+    id_at(value, "transaction")
 }
 
 // The account of an order of that word.
@@ -124,6 +135,9 @@ fn small_input(value: &Value) -> Result<Input, ReadFault>
     if has_text(value, "input", "eligible") {
         let (registry, may) = eligibility(value)?;
         return Ok(Input::Eligible { registry, may });
+    }
+    if has_text(value, "input", "request") {
+        return Ok(Input::Request(request(value)?));
     }
     Err(ReadFault::Shape)
 }

@@ -1,10 +1,10 @@
 use crate::{Input, Number, ReadFault, decode_input, encode_input};
-use status::{Moment, Order};
+use status::{Moment, Order, TransactionId};
 use std::alloc::Global;
 use std::test::Fail;
 use units::{Code, Items, RawBlock};
 
-const RECORDS: [&str; 7] = [
+const RECORDS: [&str; 9] = [
     r#"{"account":1,"input":"propose","to_account":7,"to_registry":"JP","units":["NZ:1:1-100:AAU"]}"#,
     r#"{"input":"received","message":{"call":"AcceptNotification","codes":[],"from":"ITL","status":"Accepted","to":"NZ","transaction":"NZ1"},"moment":1335830400}"#,
     r#"{"account":8,"input":"close"}"#,
@@ -12,6 +12,8 @@ const RECORDS: [&str; 7] = [
     r#"{"input":"ack","key":0}"#,
     r#"{"input":"clean_up","moment":1335916800}"#,
     r#"{"input":"eligible","may":false,"registry":"NZ"}"#,
+    r#"{"input":"request","transaction":"NZ1"}"#,
+    r#"{"input":"received","message":{"call":"RequestCancellation","from":"NZ","to":"ITL","transaction":"NZ1"},"moment":1335830400}"#,
 ];
 
 /// Records of orders that no node acts on, and the last numbers of the others.
@@ -54,6 +56,7 @@ fn inputs_built_from_parts(rt: HostRuntime) -> Result<(), Fail> {
     let key = Number::new(0).expect(&rt, "one digit");
     let moment = Moment::new(1_335_916_800).expect(&rt, "in 2012");
     let registry = Code::read("NZ").expect(&rt, "a code");
+    let id = TransactionId::read("NZ1").expect(&rt, "a transaction");
     for (input, text) in [
         (order(alloc)?, RECORDS[0]),
         (Input::CloseAccount(eight), RECORDS[2]),
@@ -67,6 +70,7 @@ fn inputs_built_from_parts(rt: HostRuntime) -> Result<(), Fail> {
             },
             RECORDS[6],
         ),
+        (Input::Request(id), RECORDS[7]),
     ] {
         let line = encode_input(alloc, &input).expect(&rt, "memory");
         assert_eq!(rt; line.as_slice(), text.as_bytes());
@@ -85,7 +89,7 @@ fn an_order_is_kept_as_it_was_given(rt: HostRuntime) -> Result<(), Fail> {
     Ok(())
 }
 
-const NO_RECORDS: [&str; 29] = [
+const NO_RECORDS: [&str; 32] = [
     "",
     "[]",
     "{}",
@@ -111,6 +115,9 @@ const NO_RECORDS: [&str; 29] = [
     r#"{"input":"received","message":{"call":"AcceptNotification","codes":[],"from":"ITL","status":"Accepted","to":"NZ","transaction":"NZ1"},"moment":253370764800}"#,
     r#"{"input":"received","message":{"call":"AcceptNotification","codes":[],"from":"ITL","status":"Accepted","to":"NZ","transaction":"NZ1"}}"#,
     r#"{"input":"received","moment":1335830400}"#,
+    r#"{"input":"request"}"#,
+    r#"{"input":"request","transaction":"NZ0"}"#,
+    r#"{"input":"request","transaction":"NZ1","x":1}"#,
     r#"{"account":1,"input":"propose","to_account":7,"to_registry":"JP","units":["NZ:3:1-5:AAU"]}"#,
     r#"{"account":1,"input":"propose","to_account":7,"to_registry":"JP","units":["NZ:1:1-1000000000000000000:AAU"]}"#,
     r#"{"account":1000000000000000000,"input":"propose","to_account":7,"to_registry":"JP","units":[]}"#,

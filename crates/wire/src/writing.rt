@@ -2,13 +2,13 @@
 ghost use Rattle.std.specs.Prelude.{◌≡◌, IfOk, OnOk, take, drop};
 ghost use Rattle.serde_json.specs.View.{view, members_view};
 ghost use Rattle.status.specs.Content.{IsContent};
-ghost use Rattle.wire.specs.Messages.{proposal_fields, notification_fields, message_data, message_text, IsSound, IsLine};
+ghost use Rattle.wire.specs.Messages.{proposal_fields, notification_fields, request_fields, message_data, message_text, IsSound, IsLine};
 ghost use Rattle.wire.specs.Notices.{IsNotice};
 ghost use Rattle.wire.specs.Objects.{object_of};
 ghost use Rattle.wire.specs.Writing.{put_all};
 
 use crate::members::{numbers, put, put_code, put_id, put_node, put_number, put_text, units};
-use crate::message::{Message, Notification, Proposal};
+use crate::message::{Message, Notification, Proposal, Request};
 use serde_json::{Map, Value};
 use std::alloc::Global;
 use units::NoMemory;
@@ -91,6 +91,17 @@ fn notification_value(alloc: Global, notification: &Notification) -> Result<Valu
     Ok(Value::Object(map))
 }
 
+fn request_value(alloc: Global, request: Request) -> Result<Value, NoMemory>
+    ensures { IfOk result (λ v. view v ≡ object_of (request_fields request)) }
+{
+    let mut map = Map::new(alloc);
+    put_text(alloc, &mut map, "call", "RequestCancellation")?;
+    put_node(alloc, &mut map, "from", request.from)?;
+    put_node(alloc, &mut map, "to", request.to)?;
+    put_id(alloc, &mut map, "transaction", request.id)?;
+    Ok(Value::Object(map))
+}
+
 /// The value that writes a message.
 pub fn message_value(alloc: Global, message: &Message) -> Result<Value, NoMemory>
     ensures value { IfOk result (λ v. view v ≡ message_data message.now) }
@@ -99,6 +110,7 @@ pub fn message_value(alloc: Global, message: &Message) -> Result<Value, NoMemory
     match message {
         Message::Proposal(proposal) => proposal_value(alloc, proposal),
         Message::Notification(notification) => notification_value(alloc, notification),
+        Message::Request(request) => request_value(alloc, *request),
     }
 }
 

@@ -2,6 +2,7 @@
 ghost use Rattle.std.specs.Prelude.{◌≡◌, [], ◌∷◌, codes, IfOk, OnOk, take};
 ghost use Rattle.serde_json.specs.Data.{string, boolean};
 ghost use Rattle.serde_json.specs.View.{view, members_view};
+ghost use Rattle.status.specs.Id.{id_text};
 ghost use Rattle.status.specs.Order.{IsOrder};
 ghost use Rattle.units.specs.Code.{code_text};
 ghost use Rattle.wire.specs.Messages.{message_data, IsSound};
@@ -10,11 +11,11 @@ ghost use Rattle.wire.specs.Records.{order_fields, record_data, record_text, IsR
 ghost use Rattle.wire.specs.Writing.{put_all, IsSoundInput};
 
 use crate::input::Input;
-use crate::members::{ordered_units, put, put_code, put_number, put_text};
+use crate::members::{ordered_units, put, put_code, put_id, put_number, put_text};
 use crate::message::Message;
 use crate::writing::message_value;
 use serde_json::{Map, Value};
-use status::{Moment, Order};
+use status::{Moment, Order, TransactionId};
 use std::alloc::Global;
 use units::{Code, NoMemory};
 
@@ -36,6 +37,15 @@ fn order_value(alloc: Global, order: &Order) -> Result<Value, NoMemory>
     put_accounts(alloc, &mut map, order)?;
     let units = ordered_units(alloc, order.units())?;
     put(alloc, &mut map, "units", Value::Array(units))?;
+    Ok(Value::Object(map))
+}
+
+fn request_value(alloc: Global, id: TransactionId) -> Result<Value, NoMemory>
+    ensures { IfOk result (λ v. view v ≡ object_of ((codes "input", string (codes "request")) ∷ (codes "transaction", string (id_text id)) ∷ [])) }
+{
+    let mut map = Map::new(alloc);
+    put_text(alloc, &mut map, "input", "request")?;
+    put_id(alloc, &mut map, "transaction", id)?;
     Ok(Value::Object(map))
 }
 
@@ -95,6 +105,7 @@ fn record_value(alloc: Global, input: &Input) -> Result<Value, NoMemory>
 {
     match input {
         Input::Propose(order) => order_value(alloc, order),
+        Input::Request(id) => request_value(alloc, *id),
         Input::OpenAccount(account) => account_value(alloc, account.value, "open"),
         Input::CloseAccount(account) => account_value(alloc, account.value, "close"),
         Input::Ack(key) => ack_value(alloc, key.value),

@@ -4,7 +4,9 @@ use Rattle.std.proofs.Common.{sym, true≢false}
 use Rattle.std.proofs.lemmas.Bool.{leb-true}
 use Rattle.units.specs.declared.code.Code.{Code}
 use Rattle.units.specs.Code.{code_text, same_code}
+use Rattle.std.specs.declared.cmp.Ordering.{Ordering}
 use Rattle.status.specs.Facts.{IsTransactionNumber}
+use Rattle.status.specs.contracts.id.TransactionIdOrd.TheImpl.{cmp-value as id-order}
 use Rattle.status.specs.declared.id.TransactionId.{TransactionId}
 
 -- the code, then the number
@@ -13,6 +15,10 @@ id_text t = code_text t.code ++ decimal t.number
 
 abbrev pub same_id : TransactionId → TransactionId → Bool
 same_id a b = same_code a.code b.code && (a.number == b.number)
+
+-- by code and number
+abbrev pub id_cmp : TransactionId → TransactionId → Ordering
+id_cmp = id-order.it
 
 abbrev pub is_number : ℕ → Bool
 is_number n = nat_le 1 n && nat_le n 999_999

@@ -1,23 +1,22 @@
--- A way out: further events after which no transfer is open and every allotted unit is spendable.
-use Rattle.std.specs.Prelude.{◌&&◌, ◌||◌, not, ◌≡◌, ◌≤◌, ◌⊎◌, ℕ, ◌+◌, ◌*◌, is_some, Bool, true, false, List, [], ◌∷◌, Some, length}
-use Rattle.units.specs.Code.{same_code}
+-- A way out: further events after which no transaction is open and every allotted unit is spendable.
+use Rattle.std.specs.Prelude.{◌≡◌, ◌≤◌, ◌⊎◌, ℕ, ◌+◌, ◌*◌, is_some, true, List, [], ◌∷◌, Contains, Some, length}
 use Rattle.units.specs.declared.block.Unit.{Unit as Serial}
 use Rattle.units.specs.declared.code.Code.{Code}
 use Rattle.units.specs.declared.code.Node.{Node}
-use Rattle.status.specs.Status.{same_status}
 use Rattle.status.specs.declared.id.TransactionId.{TransactionId}
-use Rattle.status.specs.declared.words.Status.TheVariants.{Proposed, Completed}
+use Rattle.status.specs.declared.words.Status.{Status}
+use Rattle.status.specs.declared.words.Status.TheVariants.{Proposed}
 use Rattle.scheme.specs.declared.registries.Scheme.{Scheme}
 use Rattle.protocol.specs.declared.event.WorldEvent.{WorldEvent}
 use Rattle.protocol.specs.declared.event.WorldEvent.TheVariants.{Take, Commit, Post, Deliver, Crash, Restart}
-use Rattle.protocol.specs.History.{Entry, Transition, newest, number_of, spendable, stands_at}
+use Rattle.protocol.specs.History.{Entry, spendable}
 use Rattle.protocol.specs.Registries.{allotted, has_member, is_node}
 use Rattle.protocol.specs.World.{World, Station, station, run}
-use Rattle.protocol.specs.Claims.{over, is_received, at_registry, committed_of, live_of, whole}
+use Rattle.protocol.specs.Claims.{IsUnderWay, StandsAt, at_registry, committed_of, live_of, whole}
 
--- the transfer stands Proposed at its initiator, or Completed there and not at its acquirer
+-- at some node the transaction has status Proposed, Checked or Accepted
 abbrev pub IsOpen : (Node → List Entry) → TransactionId → Type 0
-IsOpen f t = (x : Transition) × (newest (at_registry f t.code) t ≡ Some x) × ((x.new ≡ Proposed) ⊎ ((x.new ≡ Completed) × (is_received f t x.content ≡ false)))
+IsOpen f t = (n : Node) × (s : Status) × StandsAt f n t s × ((s ≡ Proposed) ⊎ IsUnderWay s)
 
 -- the node runs and has committed all
 pub record IsIdle (w : World) (n : Node) : Type 0 where
@@ -26,7 +25,7 @@ pub record IsIdle (w : World) (n : Node) : Type 0 where
   pub runs : at.runs ≡ true
   pub settled : at.tail ≡ []
 
--- every node is idle, no transfer is open, and each allotted unit is spendable at a registry
+-- every node is idle, no transaction is open, and each allotted unit is spendable at a registry
 pub record AtRest (w : World) : Type 0 where
   pub idle : (n : Node) → is_node w.scheme n ≡ true → IsIdle w n
   pub closed : (t : TransactionId) → IsOpen (committed_of w) t → ⊥
@@ -46,15 +45,6 @@ OnlyTransport (Post n key ∷ es) = OnlyTransport es
 OnlyTransport (Deliver index moment ∷ es) = OnlyTransport es
 OnlyTransport (Restart n ∷ es) = OnlyTransport es
 
--- how many transfers are open
-abbrev pub is_open : (Node → List Entry) → Code → Transition → Bool
-is_open f c x =
-    same_code x.id.code c
-    && ((same_status x.new Proposed && stands_at (at_registry f c) x.id Proposed) || (same_status x.new Completed && not (is_received f x.id x.content)))
-
-abbrev pub open_transfers : Scheme → (Node → List Entry) → ℕ
-open_transfers scheme f = over (λ m. number_of (is_open f m.code) (at_registry f m.code)) scheme.members
-
--- from a world with room for three records of each open transfer, events of transport alone lead to one at rest
+-- from a world with room for three records of each open transaction, events of transport alone lead to one at rest
 abbrev pub WayOut : World → Type 0
-WayOut w = HasRoom w (3 * open_transfers w.scheme (live_of w)) → (more : List WorldEvent) × OnlyTransport more × AtRest (run w more)
+WayOut w = (transactions : List TransactionId) → ((t : TransactionId) → IsOpen (live_of w) t → Contains transactions t) → HasRoom w (3 * length transactions) → (more : List WorldEvent) × OnlyTransport more × AtRest (run w more)

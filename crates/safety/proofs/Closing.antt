@@ -1,8 +1,14 @@
 -- From a quiet world with room an open transfer is brought to its end, message by message.
+use Rattle.units.specs.declared.code.Node.{Node}
+use Rattle.safety.proofs.Tables.{word_to}
+use Rattle.safety.proofs.OwnStatuses.{own-statuses, IsOwnStatus}
+use Rattle.safety.proofs.FromRegistry.{rejected-sent}
+use Rattle.safety.proofs.FromLog.{refusal, passed-open}
+use Rattle.safety.proofs.Begun.{initiated}
 use Rattle.std.proofs.Common.{◌≡◌, ℕ, List, [], ◌∷◌, true, Option, Some, None, ◌⊎◌, inl, inr, refl, sym, ap, subst, ◌∙◌, arith}
 use Rattle.std.specs.Prelude.{option_map}
 use Rattle.std.proofs.lemmas.Bool.{cases_Bool}
-use Rattle.units.proofs.Same.{same_code-refl}
+use Rattle.units.proofs.Same.{same_code-refl, code_of_same}
 use Rattle.units.specs.Code.{same_code}
 use Rattle.units.specs.declared.code.Node.TheVariants.{Itl, Registry}
 use Rattle.status.specs.Content.{Content}
@@ -17,11 +23,12 @@ use Rattle.status.specs.declared.words.Status.{Status}
 use Rattle.status.specs.declared.words.Status.TheVariants.{Proposed, Checked, Accepted, Rejected, Terminated, Cancelled, Completed}
 use Rattle.wire.specs.declared.message.Message.TheVariants as message
 use Rattle.wire.specs.declared.message.ProposalStatus.TheVariants as proposal
+use Rattle.wire.specs.declared.notice.Notice.TheVariants as notice
 use Rattle.scheme.specs.declared.registries.Scheme.{Scheme}
 use Rattle.protocol.specs.AtLog.{ledger}
 use Rattle.protocol.specs.AtRegistry.{holding}
 use Rattle.protocol.specs.Checks.{acquirer_findings, log_findings}
-use Rattle.protocol.specs.Claims.{committed_of, is_received}
+use Rattle.protocol.specs.Claims.{committed_of, is_received, IsEnd, IsUnderWay, StandsAt}
 use Rattle.protocol.specs.Effects.{notifies, proposes}
 use Rattle.protocol.specs.History.{Entry, Transition, is_status, newest, sends, transitions_of}
 use Rattle.protocol.specs.Registries.{has_member}
@@ -29,21 +36,25 @@ use Rattle.protocol.specs.WayOut.{IsOpen}
 use Rattle.protocol.specs.World.{World, run}
 use Rattle.safety.proofs.Forms.{arrived, arrived_status, settled_messages, acquirer_of, checked, checked_status, told_to, moved}
 use Rattle.safety.proofs.Causal.{Causal, completed-agrees, ended, heard-sent, log-said}
-use Rattle.safety.proofs.Completions.{stands-so}
-use Rattle.safety.proofs.Ended.{completed-sent, ends-last, known, own-contents, proposer}
-use Rattle.safety.proofs.Histories.{newest-id}
+use Rattle.safety.proofs.Completions.{stands-so, log-has, initiator-has, offered-sent}
+use Rattle.safety.proofs.Ended.{completed-sent, ends-last, known, own-contents, proposer, proposer-of}
+use Rattle.safety.proofs.Histories.{newest-id, newest-stands, Offered, Heard}
 use Rattle.safety.proofs.Members.{In, one-some}
 use Rattle.safety.proofs.Said.{IsAgreed, log-backed}
 use Rattle.safety.proofs.Sending.{Calm, Went, send}
 use Rattle.safety.proofs.Spoken.{SaysAtLog, Tells, transition-sends}
-use Rattle.safety.proofs.Stages.{Closes, Stage, already, at-most, cau, foreign, id-at, log-content, log-tells, newest-next, not-open, other-tells, own-offer, own-tells, received-closed, room-less, room-log, room-registry, stage-next, table-at, then-log, then-registry, told-by}
+use Rattle.safety.proofs.Stages.{Closes, Stage, acquirer-is, already, at-most, cau, closed-when, ended-not-open, foreign, id-at, log-content, log-tells, log-tells-acquirer, newest-next, other-tells, own-offer, own-tells, room-less, room-log, room-registry, stage-next, table-at, then-log, then-registry, told-by}
 use Rattle.safety.proofs.Stations.{other-way}
 use Rattle.safety.proofs.Taken.{Last, Room, acquirer-takes, acquirer-takes-offer, causal, initiator-takes, log-takes-notice, log-takes-offer, unplaced}
-use Rattle.safety.proofs.Told.{Cause, IsTaken, accepted-sent, told}
+use Rattle.safety.proofs.Told.{Cause, IsTaken, accepted-sent, told, OwnCause, told-own}
 
 -- ---- the stages, the last one first
 
 module _ (scheme : Scheme) (moment : Moment) (t : TransactionId) where
+  -- what holds of the newest transition of a node
+  only : (w : World) (n : Node) (x : Transition) → Last w n t x → IsEnd x.new → (y : Transition) → Last w n t y → IsEnd y.new
+  only w n x is e y at = subst (λ (z : Transition). IsEnd z.new) (one-some x y (sym is ∙ at)) e
+
   -- an acquirer that was not told of a cancellation has a content
   acquirer-content : (w : World) (x p : Transition) (k : Content) → Stage scheme w t x k → Last w (Registry k.acquirer) t p → (p.new ≡ Cancelled → ⊥) → (c : Content) × (p.content ≡ Some c)
   acquirer-content w x p k s there other =
@@ -66,8 +77,10 @@ module _ (scheme : Scheme) (moment : Moment) (t : TransactionId) where
       let y : Transition = moved p Completed moment.seconds [] in
       let g : Went scheme w t (Registry k.acquirer) y = send scheme w s.calm (notifies Itl (Registry k.acquirer) t says.0) moment t y s.acquirer sent v (id-at scheme t w x k s (Registry k.acquirer) p there).1 in
       let next = stage-next scheme t w (Registry k.acquirer) y x k g s (foreign scheme t w x k s) in
-      let received : is_received (committed_of (run w g.events)) t (Some k) ≡ true = ap (λ (o : Option Transition). is_status (option_map (λ (z : Transition). z.new) o) Completed) g.now in
-      then-registry scheme t w k.acquirer y 0 0 g (already scheme t (run w g.events) 0 0 g.calm (received-closed scheme t (run w g.events) x k next done received))
+      let log_then = newest-next scheme t w (Registry k.acquirer) Itl y (Some l) g refl log in
+      then-registry scheme t w k.acquirer y 0 0 g
+      (already scheme t (run w g.events) 0 0 g.calm
+      (closed-when scheme t (run w g.events) x k next (subst IsEnd (sym done) tt) (only (run w g.events) Itl l log_then (subst IsEnd (sym log_done) tt)) (only (run w g.events) (Registry k.acquirer) y g.now tt)))
 
   -- the log completes
   log-completes : (w : World) (x l p : Transition) (k : Content) → Stage scheme w t x k → Room scheme w 1 1 → x.new ≡ Completed → Last w Itl t l → l.new ≡ Accepted
@@ -105,9 +118,15 @@ module _ (scheme : Scheme) (moment : Moment) (t : TransactionId) where
         | inr e ↦
             elim e [
               | inl d ↦
+                  let heard =
+                  subst (Cause k.acquirer (committed_of w (Registry k.acquirer)) t) d (told scheme k.acquirer (committed_of w (Registry k.acquirer)) (c.made (Registry k.acquirer)) t p.0 p.1 s.other) in
+                  let l = log-said scheme (committed_of w) c (Registry k.acquirer) t Completed heard in
+                  let ended_there : l.0.new ≡ Completed = elim l.2 [
+                    | inl e ↦ e
+                    | inr e ↦ e.1
+                  ] in
                   already scheme t w 1 1 s.calm
-                  (received-closed scheme t w x k s done
-                  (ap (λ (o : Option Transition). is_status (option_map (λ (z : Transition). z.new) o) Completed) p.1 ∙ subst (λ z. same_status z Completed ≡ true) (sym d) refl))
+                  (closed-when scheme t w x k s (subst IsEnd (sym done) tt) (only w Itl l.0 l.1 (subst IsEnd (sym ended_there) tt)) (only w (Registry k.acquirer) p.0 p.1 (subst IsEnd (sym d) tt)))
               | inr d ↦ absurd (ended scheme (committed_of w) c (Registry k.acquirer) t agrees (inr (inr (stands-so (transitions_of (committed_of w (Registry k.acquirer))) t p.0 Cancelled p.1 d))))
             ]
       ]
@@ -121,6 +140,98 @@ module _ (scheme : Scheme) (moment : Moment) (t : TransactionId) where
       by l p Rejected e a log there accepted = absurd a
       by l p Terminated e a log there accepted = absurd a
       by l p Cancelled e a log there accepted = absurd a
+
+  -- where the log stands Rejected or Terminated, the acquirer has not accepted
+  ended-acquirer : (w : World) (x l p : Transition) (k : Content) → Stage scheme w t x k → Last w Itl t l → (l.new ≡ Rejected) ⊎ (l.new ≡ Terminated) → Last w (Registry k.acquirer) t p → IsEnd p.new
+  ended-acquirer w x l p k s log which there = go p.new refl (told scheme k.acquirer (committed_of w (Registry k.acquirer)) (c.made (Registry k.acquirer)) t p there s.other)
+    where
+      c : Causal scheme (committed_of w)
+      c = cau scheme t w x k s
+
+      refused : p.new ≡ Accepted → l.new ≡ Rejected → ⊥
+      refused e d =
+          let r = refusal scheme (committed_of w Itl) (c.made Itl) t l log d in
+          let content : r.0 ≡ k = one-some r.0 k (sym r.1 ∙ log-content scheme t w x k s l log (λ y. let z : Rejected ≡ Cancelled = sym d ∙ y in cc (z))) in
+          let sent =
+          subst (λ (z : Content). In (message.Notification r.2.notification) (sends (committed_of w (Registry z.acquirer)))) content
+          (heard-sent scheme (committed_of w) c Itl (Registry r.0.acquirer) t Rejected r.2) in
+          let q = rejected-sent scheme k.acquirer (committed_of w (Registry k.acquirer)) (c.made (Registry k.acquirer)) r.2.notification sent r.2.told in
+          let at_t : newest (transitions_of (committed_of w (Registry k.acquirer))) t ≡ Some q.0 = subst (λ z. newest (transitions_of (committed_of w (Registry k.acquirer))) z ≡ Some q.0) r.2.about q.1 in
+          let y : Accepted ≡ Rejected = sym e ∙ ap (λ (z : Transition). z.new) (one-some p q.0 (sym there ∙ at_t)) ∙ q.2 in
+          cc (y)
+
+      passed : (m : Content) → Offered (committed_of w (Registry k.acquirer)) Itl t proposal.Checked m → l.new ≡ Terminated → ⊥
+      passed m got d =
+          let o = passed-open scheme (committed_of w Itl) (c.made Itl) got.proposal (offered-sent scheme (committed_of w) c (Registry k.acquirer) Itl t proposal.Checked m got) in
+          let at_t : Last w Itl t o.0 = subst (λ z. Last w Itl z o.0) got.about o.1 in
+          o.2 (ap (λ (z : Transition). z.new) (one-some o.0 l (sym at_t ∙ log)) ∙ d)
+
+      go : (st : Status) → p.new ≡ st → Cause k.acquirer (committed_of w (Registry k.acquirer)) t st → IsEnd st
+      go Accepted e h = elim which [
+        | inl d ↦ refused e d
+        | inr d ↦ passed h.0 h.1 d
+      ]
+      go Rejected e h = tt
+      go Terminated e h = tt
+      go Cancelled e h = tt
+      go Completed e h = tt
+      go Proposed e h = h
+      go Checked e h = h
+
+  -- cancelled at the log and at the initiator: an acquirer that accepted is told so
+  cancel-acquirer : (w : World) (x l : Transition) (k : Content) → Stage scheme w t x k → Room scheme w 0 1 → x.new ≡ Cancelled → Last w Itl t l → l.new ≡ Cancelled → Closes scheme w t 0 1
+  cancel-acquirer w x l k s room own log log_cancelled = by (newest (transitions_of (committed_of w (Registry k.acquirer))) t) refl
+    where
+      c : Causal scheme (committed_of w)
+      c = cau scheme t w x k s
+
+      ended_here : ((p : Transition) → Last w (Registry k.acquirer) t p → IsEnd p.new) → Closes scheme w t 0 1
+      ended_here h = already scheme t w 0 1 s.calm (closed-when scheme t w x k s (subst IsEnd (sym own) tt) (only w Itl l log (subst IsEnd (sym log_cancelled) tt)) h)
+
+      accepted : (p : Transition) → Last w (Registry k.acquirer) t p → p.new ≡ Accepted → Closes scheme w t 0 1
+      accepted p there e =
+          let has = acquirer-content w x p k s there (λ d. let y : Accepted ≡ Cancelled = sym e ∙ d in cc (y)) in
+          let got =
+          subst (λ st. Cause k.acquirer (committed_of w (Registry k.acquirer)) t st) e (told scheme k.acquirer (committed_of w (Registry k.acquirer)) (c.made (Registry k.acquirer)) t p there s.other) in
+          let o = log-has scheme (committed_of w) c k.acquirer t got.0 got.1 in
+          let q = proposer-of scheme (committed_of w Itl) (c.made Itl) t o.0 got.0 o.1 o.2 in
+          let i = initiator-has scheme (committed_of w) c t q.content q.got in
+          let named : q.content ≡ k = one-some q.content k (sym i.2 ∙ ap (λ (y : Transition). y.content) (one-some i.0 x (sym i.1 ∙ s.is)) ∙ s.content) in
+          let content : l.content ≡ Some k = ap (λ (y : Transition). y.content) (one-some l o.0 (sym log ∙ o.1)) ∙ q.is ∙ ap Some named in
+          let sent = log-tells-acquirer scheme t w x k s l log log_cancelled content in
+          let v =
+          acquirer-takes scheme moment w s.calm k.acquirer t notice.Cancelled p has.0 Cancelled has.1 sent there s.other (table-at acquirer_row p.new Accepted Cancelled Cancelled e refl)
+          (let a = room.1 k.acquirer in omega arith) in
+          let y : Transition = moved p Cancelled moment.seconds [] in
+          let g : Went scheme w t (Registry k.acquirer) y =
+          send scheme w s.calm (notifies Itl (Registry k.acquirer) t notice.Cancelled) moment t y s.acquirer sent v (id-at scheme t w x k s (Registry k.acquirer) p there).1 in
+          let next = stage-next scheme t w (Registry k.acquirer) y x k g s (foreign scheme t w x k s) in
+          let log_then = newest-next scheme t w (Registry k.acquirer) Itl y (Some l) g refl log in
+          then-registry scheme t w k.acquirer y 0 0 g
+          (already scheme t (run w g.events) 0 0 g.calm
+          (closed-when scheme t (run w g.events) x k next (subst IsEnd (sym own) tt) (only (run w g.events) Itl l log_then (subst IsEnd (sym log_cancelled) tt)) (only (run w g.events) (Registry k.acquirer) y g.now tt)))
+
+      status : (p : Transition) → Last w (Registry k.acquirer) t p → (st : Status) → p.new ≡ st → Cause k.acquirer (committed_of w (Registry k.acquirer)) t st → Closes scheme w t 0 1
+      status p there Accepted e h = accepted p there e
+      status p there Rejected e h = ended_here (only w (Registry k.acquirer) p there (subst IsEnd (sym e) tt))
+      status p there Cancelled e h = ended_here (only w (Registry k.acquirer) p there (subst IsEnd (sym e) tt))
+      status p there Completed e h = ended_here (only w (Registry k.acquirer) p there (subst IsEnd (sym e) tt))
+      status p there Terminated e h = ended_here (only w (Registry k.acquirer) p there (subst IsEnd (sym e) tt))
+      status p there Proposed e h = absurd h
+      status p there Checked e h = absurd h
+
+      by : (o : Option Transition) → newest (transitions_of (committed_of w (Registry k.acquirer))) t ≡ o → Closes scheme w t 0 1
+      by None none = ended_here (λ p there. absurd (let e = sym none ∙ there in cc (e)))
+      by (Some p) there = status p there p.new refl (told scheme k.acquirer (committed_of w (Registry k.acquirer)) (c.made (Registry k.acquirer)) t p there s.other)
+
+  -- an end without units moved, at the initiator and at the log
+  close-ended : (w : World) (x l : Transition) (k : Content) → Stage scheme w t x k → x.new ≡ l.new → Last w Itl t l → (l.new ≡ Rejected) ⊎ (l.new ≡ Terminated) → Closes scheme w t 1 1
+  close-ended w x l k s same log which =
+      let ends : IsEnd l.new = elim which [
+        | inl e ↦ subst IsEnd (sym e) tt
+        | inr e ↦ subst IsEnd (sym e) tt
+      ] in
+      already scheme t w 1 1 s.calm (closed-when scheme t w x k s (subst IsEnd (sym same) ends) (only w Itl l log ends) (λ p there. ended-acquirer w x l p k s log which there))
 
   -- the log has the answer
   abbrev IsAnswer : Status → Type 0
@@ -164,16 +275,18 @@ module _ (scheme : Scheme) (moment : Moment) (t : TransactionId) where
       (let a = room.1 t.code in omega arith) in
       let g : Went scheme w t (Registry t.code) y = send scheme w s.calm (notifies Itl (Registry t.code) t says.0) moment t y s.initiator sent v (id-at scheme t w x k s (Registry t.code) x s.is).1 in
       let next : Stage scheme (run w g.events) t y k = record { calm = g.calm; is = g.now; content = s.content; initiator = s.initiator; acquirer = s.acquirer; other = s.other } in
-      then-registry scheme t w t.code y 1 1 g (settles (run w g.events) y st answers next refl (room-registry scheme t w t.code y 1 1 g room))
+      let log_then = newest-next scheme t w (Registry t.code) Itl y (Some l) g refl log in
+      then-registry scheme t w t.code y 1 1 g (settles (run w g.events) y l st answers next refl log_then e (room-registry scheme t w t.code y 1 1 g room))
     where
-      settles : (v : World) (y : Transition) (st : Status) → IsAnswer st → Stage scheme v t y k → y.new ≡ answered_to st → Room scheme v 1 1 → Closes scheme v t 1 1
-      settles v y Accepted a next e room = close-owed v y k next room e
-      settles v y Rejected a next e room = already scheme t v 1 1 next.calm (not-open scheme t v y k next Rejected e (λ z. cc (z)) (λ z. cc (z)))
-      settles v y Terminated a next e room = already scheme t v 1 1 next.calm (not-open scheme t v y k next Terminated e (λ z. cc (z)) (λ z. cc (z)))
-      settles v y Cancelled a next e room = already scheme t v 1 1 next.calm (not-open scheme t v y k next Cancelled e (λ z. cc (z)) (λ z. cc (z)))
-      settles v y Proposed a next e room = absurd a
-      settles v y Checked a next e room = absurd a
-      settles v y Completed a next e room = absurd a
+      settles : (v : World) (y l : Transition) (st : Status) → IsAnswer st → Stage scheme v t y k → y.new ≡ answered_to st → Last v Itl t l → l.new ≡ st → Room scheme v 1 1 → Closes scheme v t 1 1
+      settles v y l Accepted a next e log d room = close-owed v y k next room e
+      settles v y l Rejected a next e log d room = close-ended v y l k next (e ∙ sym d) log (inl d)
+      settles v y l Terminated a next e log d room = close-ended v y l k next (e ∙ sym d) log (inr d)
+      settles v y l Cancelled a next e log d room =
+          at-most scheme t v 0 1 1 1 (omega arith) (omega arith) (cancel-acquirer v y l k next (room-less scheme t v 0 1 1 1 (omega arith) (omega arith) room) e log d)
+      settles v y l Proposed a next e log d room = absurd a
+      settles v y l Checked a next e log d room = absurd a
+      settles v y l Completed a next e log d room = absurd a
 
   -- the acquirer has answered
   acquirer-answered : (w : World) (x l p : Transition) (k : Content) → Stage scheme w t x k → Room scheme w 2 2 → x.new ≡ Proposed → Last w Itl t l → l.new ≡ Checked
@@ -289,27 +402,100 @@ module _ (scheme : Scheme) (moment : Moment) (t : TransactionId) where
           let next = stage-next scheme t w Itl y x k g s refl in
           then-log scheme t w y 2 3 g (checks (run w g.events) y (log_findings scheme (ledger scheme (committed_of w Itl)) t.code k) refl next g.now (room-log scheme t w y 2 3 g room))
 
-  -- an open transfer, however far it has come
-  pub close-open : (w : World) → Calm scheme w → Room scheme w 3 3 → IsOpen (committed_of w) t → Closes scheme w t 3 3
-  close-open w calm room o =
-      let c = causal scheme w calm in
-      let id = newest-id (transitions_of (committed_of w (Registry t.code))) t o.0 o.1 in
-      let own =
-      own-contents scheme t.code (committed_of w (Registry t.code)) (c.made (Registry t.code)) o.0 id.0 (subst (λ (z : TransactionId). same_code z.code t.code ≡ true) (sym id.1) (same_code-refl t.code)) in
-      let member : has_member scheme t.code ≡ true =
-      elim (cases_Bool (has_member scheme t.code)) [
-        | inl y ↦ y
-        | inr n ↦ absurd (let e = subst (λ (es : List Entry). newest (transitions_of es) t ≡ Some o.0) (unplaced scheme w calm (Registry t.code) n) o.1 in cc (e))
-      ] in
-      let s : Stage scheme w t o.0 own.content = record {
-        calm = calm;
-        is = o.1;
-        content = own.is;
-        initiator = member;
-        acquirer = own.acquirer_known;
-        other = other-way (Registry own.content.acquirer) (Registry t.code) own.acquirer_other;
-      } in
-      elim o.2 [
-        | inl e ↦ close-proposed w o.0 own.content s room e
-        | inr e ↦ at-most scheme t w 1 1 3 3 (omega arith) (omega arith) (close-owed w o.0 own.content s (room-less scheme t w 1 1 3 3 (omega arith) (omega arith) room) e.0)
-      ]
+  -- ---- however far it has come
+
+  -- nothing is known anywhere of what its initiator doesn't know
+  unknown : (w : World) → Calm scheme w → newest (transitions_of (committed_of w (Registry t.code))) t ≡ None → IsOpen (committed_of w) t → ⊥
+  unknown w calm none o = go o.0 o.1 o.2 o.3
+    where
+      c : Causal scheme (committed_of w)
+      c = causal scheme w calm
+
+      at_log : (l : Transition) → Last w Itl t l → ⊥
+      at_log l log = let i = initiated scheme (committed_of w) c t l log in let e = sym none ∙ i.is in cc (e)
+
+      go : (n : Node) (st : Status) → StandsAt (committed_of w) n t st → (st ≡ Proposed) ⊎ IsUnderWay st → ⊥
+      go Itl st is under = let g = newest-stands (transitions_of (committed_of w Itl)) t st (newest (transitions_of (committed_of w Itl)) t) refl is in at_log g.0 g.1
+      go (Registry d) st is under =
+          let es = committed_of w (Registry d) in
+          let g = newest-stands (transitions_of es) t st (newest (transitions_of es) t) refl is in
+          elim (cases_Bool (same_code t.code d)) [
+            | inl mine ↦
+                let here : Last w (Registry t.code) t g.0 = subst (λ z. Last w (Registry z) t g.0) (sym (code_of_same t.code d mine)) g.1 in
+                let e = sym none ∙ here in
+                cc (e)
+            | inr elsewhere ↦
+                elim (known scheme d es (c.made (Registry d)) t g.0 g.1 elsewhere) [
+                  | inl e ↦ ended-not-open st (subst IsEnd (sym e.0 ∙ g.2) tt) under
+                  | inr z ↦ let h = log-has scheme (committed_of w) c d t z.content z.got in at_log h.0 h.1
+                ]
+          ]
+
+  pub close-one : (w : World) → Calm scheme w → Room scheme w 3 3 → Closes scheme w t 3 3
+  close-one w calm room = by (newest (transitions_of (committed_of w (Registry t.code))) t) refl
+    where
+      c : Causal scheme (committed_of w)
+      c = causal scheme w calm
+
+      stage : (x : Transition) → Last w (Registry t.code) t x → (k : Content) × Stage scheme w t x k
+      stage x is =
+          let id = newest-id (transitions_of (committed_of w (Registry t.code))) t x is in
+          let own =
+          own-contents scheme t.code (committed_of w (Registry t.code)) (c.made (Registry t.code)) x id.0 (subst (λ (z : TransactionId). same_code z.code t.code ≡ true) (sym id.1) (same_code-refl t.code)) in
+          let member : has_member scheme t.code ≡ true =
+          elim (cases_Bool (has_member scheme t.code)) [
+            | inl y ↦ y
+            | inr n ↦ absurd (let e = subst (λ (es : List Entry). newest (transitions_of es) t ≡ Some x) (unplaced scheme w calm (Registry t.code) n) is in cc (e))
+          ] in (
+            own.content,
+            record {
+              calm = calm;
+              is = is;
+              content = own.is;
+              initiator = member;
+              acquirer = own.acquirer_known;
+              other = other-way (Registry own.content.acquirer) (Registry t.code) own.acquirer_other;
+            },
+          )
+
+      -- the log stands at the end that the initiator was told of
+      told-end : (x : Transition) → Last w (Registry t.code) t x → (st : Status) → x.new ≡ st → (st ≡ Proposed → ⊥) → word_to st ≡ st → (st ≡ Accepted → ⊥) → (l : Transition) × Last w Itl t l × (l.new ≡ st)
+      told-end x is st e other word not_accepted =
+          elim (subst (OwnCause (committed_of w (Registry t.code)) t) e (told-own scheme t.code (committed_of w (Registry t.code)) (c.made (Registry t.code)) t x is (same_code-refl t.code))) [
+            | inl d ↦ absurd (other d)
+            | inr h ↦
+                let l = log-said scheme (committed_of w) c (Registry t.code) t st (subst (Heard (committed_of w (Registry t.code)) Itl t) word h) in (
+                  l.0,
+                  l.1,
+                  elim l.2 [
+                    | inl d ↦ d
+                    | inr d ↦ absurd (not_accepted d.0)
+                  ],
+                )
+          ]
+
+      by-status : (x : Transition) → Last w (Registry t.code) t x → (st : Status) → x.new ≡ st → IsOwnStatus st → Closes scheme w t 3 3
+      by-status x is Proposed e own = let s = stage x is in close-proposed w x s.0 s.1 room e
+      by-status x is Completed e own =
+          let s = stage x is in at-most scheme t w 1 1 3 3 (omega arith) (omega arith) (close-owed w x s.0 s.1 (room-less scheme t w 1 1 3 3 (omega arith) (omega arith) room) e)
+      by-status x is Rejected e own =
+          let s = stage x is in
+          let l = told-end x is Rejected e (λ z. cc (z)) refl (λ z. cc (z)) in
+          at-most scheme t w 1 1 3 3 (omega arith) (omega arith) (close-ended w x l.0 s.0 s.1 (e ∙ sym l.2) l.1 (inl l.2))
+      by-status x is Terminated e own =
+          let s = stage x is in
+          let l = told-end x is Terminated e (λ z. cc (z)) refl (λ z. cc (z)) in
+          at-most scheme t w 1 1 3 3 (omega arith) (omega arith) (close-ended w x l.0 s.0 s.1 (e ∙ sym l.2) l.1 (inr l.2))
+      by-status x is Cancelled e own =
+          let s = stage x is in
+          let l = told-end x is Cancelled e (λ z. cc (z)) refl (λ z. cc (z)) in
+          at-most scheme t w 0 1 3 3 (omega arith) (omega arith) (cancel-acquirer w x l.0 s.0 s.1 (room-less scheme t w 0 1 3 3 (omega arith) (omega arith) room) e l.1 l.2)
+      by-status x is Checked e own = absurd own
+      by-status x is Accepted e own = absurd own
+
+      by : (o : Option Transition) → newest (transitions_of (committed_of w (Registry t.code))) t ≡ o → Closes scheme w t 3 3
+      by None none = already scheme t w 3 3 calm (unknown w calm none)
+      by (Some x) is =
+          let id = newest-id (transitions_of (committed_of w (Registry t.code))) t x is in
+          by-status x is x.new refl
+          (own-statuses scheme t.code (committed_of w (Registry t.code)) (c.made (Registry t.code)) x id.0 (subst (λ (z : TransactionId). same_code z.code t.code ≡ true) (sym id.1) (same_code-refl t.code)))

@@ -1,5 +1,5 @@
 -- What a transition that stands so has sent.
-use Rattle.std.proofs.Common.{◌≡◌, ℕ, ◌+◌, List, [], ◌∷◌, true, false, Some, ◌⊎◌, inl, inr, refl, sym, subst, ◌∙◌}
+use Rattle.std.proofs.Common.{◌≡◌, ℕ, ◌+◌, List, [], ◌∷◌, true, false, Option, Some, ◌⊎◌, inl, inr, refl, sym, ap, subst, ◌∙◌}
 use Rattle.std.specs.Prelude.{flat_map}
 use Rattle.units.specs.Code.{same_code}
 use Rattle.units.specs.declared.code.Code.{Code}
@@ -176,4 +176,34 @@ log-has-said scheme (e ∷ es) made x i =
     elim (In-cases x e.transitions (transitions_of es) i) [
       | inl j ↦ log-says scheme es e.input x (made-log scheme e es x made j)
       | inr j ↦ log-has-said scheme es made.1 x j
+    ]
+
+-- ---- what is cancelled with a content is told to its acquirer too
+
+cancelled-move : (scheme : Scheme) (es : List Entry) (input : Input) (x : Transition) → LogMove scheme es input x → x.new ≡ Cancelled → (k : Content) → x.content ≡ Some k
+    → In (notifies Itl (Registry k.acquirer) x.id notice.Cancelled) x.messages
+cancelled-move scheme es input x (checks p moment found f s is none member) e k content = absurd (go found e)
+  where
+    go : (found : List ℕ) → checked_status found ≡ Cancelled → ⊥
+    go [] e = cc (e)
+    go (n ∷ ns) e = cc (e)
+cancelled-move scheme es input x (passes n moment q new old member right move) e k content =
+    elim (log-from q.new (notice_status n.notice) new move) [
+      | inl m ↦
+          elim m.2 [
+            | inl a ↦ let y : Accepted ≡ Cancelled = sym a ∙ sym m.1 ∙ e in absurd (cc (y))
+            | inr a ↦ let y : Rejected ≡ Cancelled = sym a ∙ sym m.1 ∙ e in absurd (cc (y))
+          ]
+      | inr m ↦ let y : Completed ≡ Cancelled = sym m.1 ∙ e in absurd (cc (y))
+    ]
+cancelled-move scheme es input x (cancels given moment t q why old was) e k content = inr (inl (ap (λ (z : Option Content). notifies Itl (acquirer_of z) q.id notice.Cancelled) content))
+cancelled-move scheme es input x (forestalls r moment f member none) e k content = absurd (cc (content))
+
+pub cancelled-said : (scheme : Scheme) (es : List Entry) → Made scheme Itl es → (x : Transition) → In x (transitions_of es) → x.new ≡ Cancelled → (k : Content) → x.content ≡ Some k
+    → In (notifies Itl (Registry k.acquirer) x.id notice.Cancelled) x.messages
+cancelled-said scheme [] made x i e k content = absurd i
+cancelled-said scheme (e ∷ es) made x i c k content =
+    elim (In-cases x e.transitions (transitions_of es) i) [
+      | inl j ↦ cancelled-move scheme es e.input x (made-log scheme e es x made j) c k content
+      | inr j ↦ cancelled-said scheme es made.1 x j c k content
     ]

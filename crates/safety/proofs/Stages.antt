@@ -1,6 +1,7 @@
 -- How far a transfer has come in a quiet world, what was sent of it so far, and steps after one another.
-use Rattle.std.proofs.Common.{◌≡◌, ℕ, ◌+◌, ◌≤◌, List, [], true, false, Option, Some, inl, inr, refl, sym, ap, subst, ◌∙◌, arith, length}
-use Rattle.units.proofs.Same.{same_code-refl}
+use Rattle.std.proofs.lemmas.Bool.{cases_Bool}
+use Rattle.std.proofs.Common.{◌≡◌, ℕ, ◌+◌, ◌≤◌, List, [], true, false, Option, Some, inl, inr, refl, sym, ap, subst, ◌∙◌, arith, length, ◌⊎◌}
+use Rattle.units.proofs.Same.{same_code-refl, code_of_same}
 use Rattle.units.specs.Code.{same_code, same_node}
 use Rattle.units.specs.declared.code.Code.{Code}
 use Rattle.units.specs.declared.code.Node.{Node}
@@ -14,23 +15,24 @@ use Rattle.status.specs.declared.words.Row.{Row}
 use Rattle.status.specs.declared.words.RowInput.{RowInput}
 use Rattle.status.specs.declared.words.RowInput.TheVariants.{Notified}
 use Rattle.status.specs.declared.words.Status.{Status}
-use Rattle.status.specs.declared.words.Status.TheVariants.{Proposed, Completed, Cancelled}
+use Rattle.status.specs.declared.words.Status.TheVariants.{Proposed, Completed, Cancelled, Checked, Accepted, Rejected, Terminated}
 use Rattle.wire.specs.declared.message.ProposalStatus.TheVariants as proposal
 use Rattle.wire.specs.declared.notice.Notice.{Notice}
+use Rattle.wire.specs.declared.notice.Notice.TheVariants as notice
 use Rattle.scheme.specs.declared.registries.Scheme.{Scheme}
-use Rattle.protocol.specs.Claims.{committed_of, is_received}
+use Rattle.protocol.specs.Claims.{committed_of, is_received, IsEnd, IsUnderWay, StandsAt}
 use Rattle.protocol.specs.Effects.{notifies, proposes}
 use Rattle.protocol.specs.History.{Entry, Transition, newest, sends, transitions_of}
 use Rattle.protocol.specs.Registries.{has_member}
 use Rattle.protocol.specs.WayOut.{IsOpen}
 use Rattle.protocol.specs.World.{World, run}
 use Rattle.safety.proofs.Causal.{Causal}
-use Rattle.safety.proofs.Completions.{offered-sent}
-use Rattle.safety.proofs.Ended.{offered, proposer}
-use Rattle.safety.proofs.Histories.{newest-id}
+use Rattle.safety.proofs.Completions.{offered-sent, log-has, initiator-has}
+use Rattle.safety.proofs.Ended.{offered, proposer, known, proposer-of}
+use Rattle.safety.proofs.Histories.{newest-id, newest-stands}
 use Rattle.safety.proofs.Members.{In, one-some}
 use Rattle.safety.proofs.Sending.{Calm, Went}
-use Rattle.safety.proofs.Spoken.{SaysAtLog, SaysOther, SaysOwn, log-has-said, other-said, own-said, transition-sends, own-offered}
+use Rattle.safety.proofs.Spoken.{SaysAtLog, SaysOther, SaysOwn, log-has-said, other-said, own-said, transition-sends, own-offered, cancelled-said}
 use Rattle.safety.proofs.Stations.{other-way}
 use Rattle.safety.proofs.Sums.{one-or-none}
 use Rattle.safety.proofs.Taken.{Last, Room, causal}
@@ -58,6 +60,24 @@ pub record Stage (scheme : Scheme) (w : World) (t : TransactionId) (x : Transiti
 -- a table is read at what stands and what is told
 pub table-at : (table : Known → RowInput → Row) (a b c d : Status) → a ≡ b → c ≡ d → table (Stands a) (Notified c) ≡ table (Stands b) (Notified d)
 table-at table a b c d e h = ap (λ z. table (Stands z) (Notified c)) e ∙ ap (λ z. table (Stands b) (Notified z)) h
+
+-- what has ended is not open
+pub ended-not-open : (s : Status) → IsEnd s → (s ≡ Proposed) ⊎ IsUnderWay s → ⊥
+ended-not-open Proposed e h = e
+ended-not-open Checked e h = e
+ended-not-open Accepted e h = e
+ended-not-open Rejected e (inl h) = cc (h)
+ended-not-open Rejected e (inr (inl h)) = cc (h)
+ended-not-open Rejected e (inr (inr h)) = cc (h)
+ended-not-open Terminated e (inl h) = cc (h)
+ended-not-open Terminated e (inr (inl h)) = cc (h)
+ended-not-open Terminated e (inr (inr h)) = cc (h)
+ended-not-open Cancelled e (inl h) = cc (h)
+ended-not-open Cancelled e (inr (inl h)) = cc (h)
+ended-not-open Cancelled e (inr (inr h)) = cc (h)
+ended-not-open Completed e (inl h) = cc (h)
+ended-not-open Completed e (inr (inl h)) = cc (h)
+ended-not-open Completed e (inr (inr h)) = cc (h)
 
 -- ---- one step after another
 
@@ -160,26 +180,40 @@ module _ (scheme : Scheme) (t : TransactionId) where
         let same : o.0 ≡ x = one-some o.0 x (sym at_t ∙ s.is) in
         p.is ∙ ap Some (sym p.got.content) ∙ sym o.2 ∙ ap (λ (z : Transition). z.content) same ∙ s.content
 
-    pub open-here : (o : IsOpen (committed_of w) t) → o.0 ≡ x
-    open-here o = one-some o.0 x (sym o.1 ∙ s.is)
-
-    pub not-open : (st : Status) → x.new ≡ st → (st ≡ Proposed → ⊥) → (st ≡ Completed → ⊥) → IsOpen (committed_of w) t → ⊥
-    not-open st e a b o =
-        let here : o.0.new ≡ st = ap (λ (z : Transition). z.new) (open-here o) ∙ e in
-        elim o.2 [
-          | inl p ↦ a (sym here ∙ p)
-          | inr p ↦ b (sym here ∙ p.0)
+    -- an acquirer that was not told of a cancellation is the one that the initiator named
+    pub acquirer-is : (c : Code) (p : Transition) → same_code t.code c ≡ false → Last w (Registry c) t p → (p.new ≡ Cancelled → ⊥) → c ≡ k.acquirer
+    acquirer-is c p elsewhere is going =
+        elim (known scheme c (committed_of w (Registry c)) (cau.made (Registry c)) t p is elsewhere) [
+          | inl e ↦ absurd (going e.0)
+          | inr z ↦
+              let o = log-has scheme (committed_of w) cau c t z.content z.got in
+              let q = proposer-of scheme (committed_of w Itl) (cau.made Itl) t o.0 z.content o.1 o.2 in
+              let i = initiator-has scheme (committed_of w) cau t q.content q.got in
+              let same : i.0 ≡ x = one-some i.0 x (sym i.1 ∙ s.is) in
+              let there : q.content ≡ k = one-some q.content k (sym i.2 ∙ ap (λ (y : Transition). y.content) same ∙ s.content) in
+              let here : z.content ≡ q.content = one-some z.content q.content (sym o.2 ∙ q.is) in
+              sym z.here ∙ ap (λ (y : Content). y.acquirer) (here ∙ there)
         ]
 
-    pub received-closed : x.new ≡ Completed → is_received (committed_of w) t (Some k) ≡ true → IsOpen (committed_of w) t → ⊥
-    received-closed done received o =
-        elim o.2 [
-          | inl p ↦ let e : Completed ≡ Proposed = sym done ∙ ap (λ (z : Transition). z.new) (sym (open-here o)) ∙ p in cc (e)
-          | inr p ↦
-              let owed : is_received (committed_of w) t (Some k) ≡ false = subst (λ z. is_received (committed_of w) t z ≡ false) (ap (λ (z : Transition). z.content) (open-here o) ∙ s.content) p.1 in
-              let e : true ≡ false = sym received ∙ owed in
-              cc (e)
-        ]
+    -- it is not open where it has come to an end at its three nodes
+    pub closed-when : IsEnd x.new → ((l : Transition) → Last w Itl t l → IsEnd l.new) → ((p : Transition) → Last w (Registry k.acquirer) t p → IsEnd p.new) → IsOpen (committed_of w) t → ⊥
+    closed-when own log acquirer o = go o.0 o.1 o.2 o.3
+      where
+        go : (n : Node) (st : Status) → StandsAt (committed_of w) n t st → (st ≡ Proposed) ⊎ IsUnderWay st → ⊥
+        go Itl st is under =
+            let g = newest-stands (transitions_of (committed_of w Itl)) t st (newest (transitions_of (committed_of w Itl)) t) refl is in
+            ended-not-open st (subst IsEnd g.2 (log g.0 g.1)) under
+        go (Registry c) st is under =
+            let g = newest-stands (transitions_of (committed_of w (Registry c))) t st (newest (transitions_of (committed_of w (Registry c))) t) refl is in
+            elim (cases_Bool (same_code t.code c)) [
+              | inl mine ↦
+                  let here : Last w (Registry t.code) t g.0 = subst (λ z. Last w (Registry z) t g.0) (sym (code_of_same t.code c mine)) g.1 in
+                  let same : g.0 ≡ x = one-some g.0 x (sym here ∙ s.is) in
+                  ended-not-open st (subst IsEnd (ap (λ (y : Transition). y.new) (sym same) ∙ g.2) own) under
+              | inr elsewhere ↦
+                  let named = acquirer-is c g.0 elsewhere g.1 (λ e. ended-not-open st (subst IsEnd (sym e ∙ g.2) tt) under) in
+                  ended-not-open st (subst IsEnd g.2 (acquirer g.0 (subst (λ z. Last w (Registry z) t g.0) named g.1))) under
+            ]
 
     pub id-at : (n : Node) (y : Transition) → Last w n t y → In y (transitions_of (committed_of w n)) × (y.id ≡ t)
     id-at n y is = newest-id (transitions_of (committed_of w n)) t y is
@@ -192,6 +226,10 @@ module _ (scheme : Scheme) (t : TransactionId) where
 
     pub log-tells : (l : Transition) → Last w Itl t l → (st : Status) → l.new ≡ st → SaysAtLog l st
     log-tells l is st e = subst (SaysAtLog l) e (log-has-said scheme (committed_of w Itl) (cau.made Itl) l (id-at Itl l is).0)
+
+    -- what the log cancelled with a content, its acquirer was told
+    pub log-tells-acquirer : (l : Transition) → Last w Itl t l → l.new ≡ Cancelled → l.content ≡ Some k → In (notifies Itl (Registry k.acquirer) t notice.Cancelled) (sends (committed_of w Itl))
+    log-tells-acquirer l is e content = told-by Itl l (Registry k.acquirer) notice.Cancelled is (cancelled-said scheme (committed_of w Itl) (cau.made Itl) l (id-at Itl l is).0 e k content)
 
     pub own-tells : (st : Status) → x.new ≡ st → SaysOwn t.code x st
     own-tells st e =

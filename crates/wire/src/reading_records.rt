@@ -39,7 +39,7 @@ fn order(alloc: Global, value: &Value) -> Result<Order, ReadFault>
 }
 
 // The transaction of an order to ask for cancellation.
-fn request(value: &Value) -> Result<TransactionId, ReadFault>
+fn request_order(value: &Value) -> Result<TransactionId, ReadFault>
     ensures { Finds (λ t. HasExactly (view value.now) ((codes "input", string (codes "request")) ∷ (codes "transaction", string (id_text t)) ∷ [])) result }
 {
     if !has_keys(value, 2) || !has_text(value, "input", "request") {
@@ -137,7 +137,7 @@ fn small_input(value: &Value) -> Result<Input, ReadFault>
         return Ok(Input::Eligible { registry, may });
     }
     if has_text(value, "input", "request") {
-        return Ok(Input::Request(request(value)?));
+        return Ok(Input::Request(request_order(value)?));
     }
     Err(ReadFault::Shape)
 }

@@ -40,7 +40,8 @@ fn order_value(alloc: Global, order: &Order) -> Result<Value, NoMemory>
     Ok(Value::Object(map))
 }
 
-fn request_value(alloc: Global, id: TransactionId) -> Result<Value, NoMemory>
+// An order to ask for cancellation.
+fn request_order_value(alloc: Global, id: TransactionId) -> Result<Value, NoMemory>
     ensures { IfOk result (λ v. view v ≡ object_of ((codes "input", string (codes "request")) ∷ (codes "transaction", string (id_text id)) ∷ [])) }
 {
     let mut map = Map::new(alloc);
@@ -105,7 +106,7 @@ fn record_value(alloc: Global, input: &Input) -> Result<Value, NoMemory>
 {
     match input {
         Input::Propose(order) => order_value(alloc, order),
-        Input::Request(id) => request_value(alloc, *id),
+        Input::Request(id) => request_order_value(alloc, *id),
         Input::OpenAccount(account) => account_value(alloc, account.value, "open"),
         Input::CloseAccount(account) => account_value(alloc, account.value, "close"),
         Input::Ack(key) => ack_value(alloc, key.value),

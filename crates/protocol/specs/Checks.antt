@@ -1,6 +1,6 @@
 -- Numbered checks and findings. Each is given what it has to know of holdings, accounts and owners, so
 -- that it may be asked of a history and of what a node keeps in memory alike.
-use Rattle.std.specs.Prelude.{ℕ, ◌==◌, ◌&&◌, ◌&&◌, ◌||◌, not, cond, nat_le, nat_lt, Bool, false, List, [], ◌∷◌, length, Option, is_some, is_none}
+use Rattle.std.specs.Prelude.{ℕ, ◌==◌, ◌&&◌, ◌&&◌, ◌||◌, not, cond, nat_le, nat_lt, Bool, false, List, [], ◌∷◌, length, map, filter, Option, is_some, is_none}
 use Rattle.std.specs.List.{list_any}
 use Rattle.std.specs.Option.{option_map_or}
 use Rattle.units.specs.Code.{same_code}
@@ -22,8 +22,7 @@ Causes = List (Bool × ℕ)
 
 -- the codes whose causes stand
 abbrev pub codes_of : Causes → List ℕ
-codes_of [] = []
-codes_of (c ∷ cs) = cond c.0 (c.1 ∷ codes_of cs) (codes_of cs)
+codes_of causes = map (λ c. c.1) (filter (λ c. c.0) causes)
 
 -- ---- at a registry
 

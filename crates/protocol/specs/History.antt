@@ -1,7 +1,7 @@
 -- What a journal says: the transitions of its inputs, and what is read off them.
 -- A journal is the list of the inputs that a node recorded, the oldest first. A history is the list of these inputs with
 -- their transitions, the newest first.
-use Rattle.std.specs.Prelude.{ℕ, suc, ◌+◌, ◌==◌, ◌&&◌, ◌||◌, not, cond, Bool, true, false, List, [], ◌∷◌, ◌++◌, find, flat_map, unwrap_or, Option, Some, None, option_map, option_and_then, is_some}
+use Rattle.std.specs.Prelude.{ℕ, suc, ◌+◌, ◌==◌, ◌&&◌, ◌||◌, not, cond, Bool, true, false, List, [], ◌∷◌, ◌++◌, find, flat_map, map, unwrap_or, Option, Some, None, option_map, option_and_then, is_some}
 use Rattle.std.specs.List.{list_any}
 use Rattle.std.specs.Option.{option_map_or}
 use Rattle.units.specs.Code.{same_code}
@@ -44,8 +44,7 @@ pub record Entry : Type 0 where
 
 -- the transitions in turn, the newest entry's first
 abbrev pub transitions_of : List Entry → List Transition
-transitions_of [] = []
-transitions_of (e ∷ es) = e.transitions ++ transitions_of es
+transitions_of es = flat_map (λ e. e.transitions) es
 
 -- ---- where a transaction stands
 
@@ -77,7 +76,7 @@ sends [] = []
 sends (e ∷ es) = sends es ++ messages_of e.transitions
 
 abbrev pub is_acknowledged : List Entry → ℕ → Bool
-is_acknowledged es key = list_any (λ e. cores.acknowledges key e.input) es
+is_acknowledged es key = cores.is_acknowledged (map (λ e. e.input) es) key
 
 -- ---- what a registry ordered
 

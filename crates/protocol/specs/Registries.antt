@@ -1,6 +1,7 @@
 -- What the scheme says of a registry.
 use Rattle.std.specs.Prelude.{ℕ, ◌==◌, Bool, true, false, Option, Some, None, is_some}
 use Rattle.std.specs.List.{list_any}
+use Rattle.std.specs.Option.{option_map_or}
 use Rattle.units.specs.Unit.{same_kind}
 use Rattle.units.specs.declared.block.Kind.{Kind}
 use Rattle.units.specs.declared.block.Unit.{Unit as Serial}
@@ -29,16 +30,14 @@ abbrev pub allotted : Scheme → Serial → Option Holder
 allotted scheme s = start.allotted scheme.members s
 
 abbrev pub lists_account : Option Member → ℕ → Bool
-lists_account None account = false
-lists_account (Some m) account = list_any (λ a. a == account) m.accounts
+lists_account registry account = option_map_or (λ m. order.has_account m account) registry false
 
 -- the registry has the account
 abbrev pub has_account : Scheme → Code → ℕ → Bool
 has_account scheme c account = lists_account (member scheme c) account
 
 abbrev pub lists_kind : Option Member → Kind → Bool
-lists_kind None kind = false
-lists_kind (Some m) kind = list_any (λ k. same_kind k kind) m.kinds
+lists_kind registry kind = option_map_or (λ m. list_any (λ k. same_kind k kind) m.kinds) registry false
 
 -- the registry takes units of the kind
 abbrev pub takes_kind : Scheme → Code → Kind → Bool

@@ -1,5 +1,6 @@
 -- What a node answers to an input after a journal, and the history that a journal makes.
 use Rattle.std.specs.Prelude.{List, [], ◌∷◌}
+use Rattle.std.specs.List.{fold}
 use Rattle.units.specs.declared.code.Node.{Node}
 use Rattle.units.specs.declared.code.Node.TheVariants.{Itl, Registry}
 use Rattle.wire.specs.declared.input.Input.{Input}
@@ -25,8 +26,7 @@ extend scheme n es input = record { input = input; transitions = made (verdict s
 
 -- the history of a journal, whose inputs stand in their order
 abbrev pub history_from : Scheme → Node → List Entry → List Input → List Entry
-history_from scheme n es [] = es
-history_from scheme n es (i ∷ is) = history_from scheme n (extend scheme n es i) is
+history_from scheme n es journal = fold (extend scheme n) es journal
 
 abbrev pub history : Scheme → Node → List Input → List Entry
 history scheme n journal = history_from scheme n [] journal

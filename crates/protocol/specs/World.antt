@@ -1,6 +1,6 @@
 -- The world: every node's committed journal, tail and running flag, and all messages ever posted.
 use Rattle.std.specs.Prelude.{ℕ, ◌==◌, ◌&&◌, cond, nat_le, Bool, true, false, List, [], ◌∷◌, ◌++◌, take, drop, length, map, find, slice_get, Option, Some, None, option_and_then}
-use Rattle.std.specs.List.{list_any}
+use Rattle.std.specs.List.{list_any, fold}
 use Rattle.units.specs.Code.{same_node}
 use Rattle.units.specs.declared.code.Node.{Node}
 use Rattle.units.specs.declared.code.Node.TheVariants.{Itl, Registry}
@@ -182,8 +182,7 @@ step w (Restart n) = at_node w (station w n) restart
 -- ---- a list of events
 
 abbrev pub run : World → List WorldEvent → World
-run w [] = w
-run w (e ∷ es) = run (step w e).world es
+run w events = fold (λ v e. (step v e).world) w events
 
 -- the outcomes in turn
 abbrev pub outcomes : World → List WorldEvent → List Outcome

@@ -1,6 +1,6 @@
 -- The log finds nothing in a proposal that was sent, but that a registry is not eligible.
 use Rattle.std.proofs.Common.{◌≡◌, ℕ, ◌+◌, List, [], ◌∷◌, Bool, true, false, not, cond, Option, Some, None, ◌⊎◌, inl, inr, refl, sym, ap, subst, ◌∙◌, arith}
-use Rattle.std.specs.Prelude.{◌&&◌, ◌||◌, is_some, is_none}
+use Rattle.std.specs.Prelude.{◌&&◌, ◌||◌, is_some, is_none, filter}
 use Rattle.std.specs.List.{list_any}
 use Rattle.std.proofs.lemmas.Bool.{cases_Bool, and_parts, or_cases, or_from, not_from_true, eq-eqb}
 use Rattle.units.proofs.Same.{code_of_same, same_code-refl}
@@ -35,7 +35,7 @@ use Rattle.safety.proofs.Histories.{newest-id}
 use Rattle.safety.proofs.KindsKept.{sound-offer}
 use Rattle.safety.proofs.Local.{Waits, local-history}
 use Rattle.safety.proofs.LogAlone.{IsBusy}
-use Rattle.safety.proofs.Members.{In, codes-differ, other-code, one-some, clash}
+use Rattle.safety.proofs.Members.{In, codes-differ, other-code, one-some, clash, In-map, In-filter}
 use Rattle.safety.proofs.OneOwner.{held-or-owed, one-owner, causal-one-owner}
 use Rattle.safety.proofs.OwnStatuses.{IsOwnStatus, own-statuses}
 use Rattle.safety.proofs.Tables.{word_to}
@@ -49,12 +49,10 @@ use Rattle.safety.proofs.WelcomeAtRegistry.{registry-known}
 -- the cause of a code that is found stands
 code-cause : (cs : Causes) (n : ℕ) → In n (codes_of cs) → (c : Bool × ℕ) × In c cs × (c.0 ≡ true) × (c.1 ≡ n)
 code-cause [] n h = absurd h
-code-cause (c ∷ cs) n h = go c.0 refl (λ i. code-cause cs n i) h
-  where
-    go : (b : Bool) → c.0 ≡ b → (In n (codes_of cs) → (d : Bool × ℕ) × In d cs × (d.0 ≡ true) × (d.1 ≡ n)) → In n (cond b (c.1 ∷ codes_of cs) (codes_of cs)) → (d : Bool × ℕ) × In d (c ∷ cs) × (d.0 ≡ true) × (d.1 ≡ n)
-    go true e rest (inl i) = (c, inl refl, e, i)
-    go true e rest (inr i) = let r = rest i in (r.0, inr r.1, r.2, r.3)
-    go false e rest i = let r = rest i in (r.0, inr r.1, r.2, r.3)
+code-cause (c ∷ cs) n h =
+    let g = In-map (λ (d : Bool × ℕ). d.1) n (filter (λ (d : Bool × ℕ). d.0) (c ∷ cs)) h in
+    let i = In-filter (λ (d : Bool × ℕ). d.0) (c ∷ cs) g.0 g.1 in
+    (g.0, i.0, i.1, g.2)
 
 not-this : {X : Type 0} (b : Bool) (n : ℕ) (c : Bool × ℕ) → (b, n) ≡ c → b ≡ false → c.0 ≡ true → X
 not-this b n c e none stands = clash b (ap (λ (z : Bool × ℕ). z.0) e ∙ stands) none

@@ -33,7 +33,7 @@ pub none-stand : (cs : Causes) → codes_of cs ≡ [] → NoneStands cs
 none-stand [] h = tt
 none-stand (c ∷ cs) h = go c.0 (λ e. none-stand cs e) h
   where
-    go : (b : Bool) → (codes_of cs ≡ [] → NoneStands cs) → cond b (c.1 ∷ codes_of cs) (codes_of cs) ≡ [] → (b ≡ false) × NoneStands cs
+    go : (b : Bool) → (codes_of cs ≡ [] → NoneStands cs) → map (λ (d : Bool × ℕ). d.1) (cond b (c ∷ filter (λ (d : Bool × ℕ). d.0) cs) (filter (λ (d : Bool × ℕ). d.0) cs)) ≡ [] → (b ≡ false) × NoneStands cs
     go true f e = absurd (cc (e))
     go false f e = (refl, f e)
 

@@ -1,5 +1,5 @@
 -- What holds of the registries of every scheme.
-use Rattle.std.specs.Prelude.{ℕ, ◌+◌, ◌*◌, ◌<◌, ◌≤◌, List, [], ◌∷◌, ◌++◌, length, map, IsTrue, ◌==◌, Option}
+use Rattle.std.specs.Prelude.{ℕ, ◌+◌, ◌*◌, ◌<◌, ◌≤◌, List, [], ◌∷◌, ◌++◌, length, map, Bool, IsTrue, ◌==◌, Option}
 use Rattle.std.specs.List.{AllByRecursion, list_any, find}
 use Rattle.units.specs.Apart.{Pairwise, AllApart}
 use Rattle.units.specs.Code.{same_code}
@@ -26,8 +26,11 @@ abbrev pub code_rank : Code → ℕ
 code_rank c = 256 * c.first + c.second
 
 -- one of the registry's accounts has that number
+abbrev pub has_account : Member → ℕ → Bool
+has_account m number = list_any (λ n. n == number) m.accounts
+
 abbrev pub HasAccount : Member → ℕ → Type 0
-HasAccount m number = IsTrue (list_any (λ n. n == number) m.accounts)
+HasAccount m number = IsTrue (has_account m number)
 
 -- at most 32 registries, 1,000 accounts in each, and 10,000 allotted blocks
 pub record AreFew (members : List Member) : Type 0 where

@@ -21,7 +21,7 @@ use Rattle.protocol.specs.declared.event.Posted.{Posted}
 use Rattle.protocol.specs.declared.event.WorldEvent.TheVariants.{Deliver}
 use Rattle.protocol.specs.Deciding.{Enters}
 use Rattle.protocol.specs.History.{Entry, Transition, transitions_of, newest, stands, stands_at, number_of, holds, spendable, gives, credits, at_start, book_owner, carries}
-use Rattle.protocol.specs.Registries.{allotted, has_member}
+use Rattle.protocol.specs.Registries.{allotted}
 use Rattle.protocol.specs.Verdict.{history, verdict}
 use Rattle.protocol.specs.World.{World, Station, station, journal, step, receiver}
 
@@ -84,7 +84,7 @@ OnePlace scheme f = (s : Serial) → holders scheme f s + owed scheme f s ≡ co
 
 -- no unit is spendable in two registries
 abbrev pub SpentOnce : Scheme → (Node → List Entry) → Type 0
-SpentOnce scheme f = (s : Serial) (c d : Code) → has_member scheme c ≡ true → has_member scheme d ≡ true → spendable scheme c (at_registry f c) s ≡ true → spendable scheme d (at_registry f d) s ≡ true → c ≡ d
+SpentOnce scheme f = (s : Serial) (c d : Code) → spendable scheme c (at_registry f c) s ≡ true → spendable scheme d (at_registry f d) s ≡ true → c ≡ d
 
 -- a registry that holds a unit is its owner in the log's book
 abbrev pub HolderOwns : Scheme → (Node → List Entry) → Type 0

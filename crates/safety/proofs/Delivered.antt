@@ -28,13 +28,12 @@ use Rattle.safety.proofs.FromLog.{never-terminates}
 use Rattle.safety.proofs.Histories.{newest-id, one-notice}
 use Rattle.safety.proofs.Members.{In, In-slice_get}
 use Rattle.safety.proofs.Moves.{LogMove, checks, passes, cancels, forestalls, log-moves}
-use Rattle.safety.proofs.Places.{live-unplaced, opening-placed, run-placed}
+use Rattle.safety.proofs.Places.{Unplaced, live-unplaced, opening-placed, run-placed}
 use Rattle.safety.proofs.Positions.{In-contains}
 use Rattle.safety.proofs.Reached.{reached-sound}
 use Rattle.safety.proofs.Sound.{Sound, live-causal, live-sends}
 use Rattle.safety.proofs.Stations.{at-node}
 use Rattle.safety.proofs.Welcome.{welcome}
-use Rattle.safety.proofs.WelcomeAtLog.{Unplaced}
 
 -- a turn that is refused is refused by the verdict
 refused-turn : (b : Bool) (s : Station) (input : Input) (v : Verdict) (code : ℕ) → (cond b (answered s input v) (rests s NotPossible)).outcome ≡ Refused code → v ≡ IsRefused code

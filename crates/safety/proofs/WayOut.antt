@@ -40,7 +40,7 @@ use Rattle.safety.proofs.Stages.{Closes, already}
 use Rattle.safety.proofs.Sums.{In-flat, length-flat, over-same, some-member}
 use Rattle.safety.proofs.Taken.{Room}
 use Rattle.safety.proofs.Waking.{Reaches, quieted, reaches-on}
-use Rattle.safety.proofs.WelcomeAtLog.{Unplaced}
+use Rattle.safety.proofs.Places.{Unplaced}
 
 -- ---- open or not
 

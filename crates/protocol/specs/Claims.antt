@@ -5,6 +5,8 @@ use Rattle.units.specs.declared.code.Code.{Code}
 use Rattle.units.specs.declared.code.Node.{Node}
 use Rattle.units.specs.declared.code.Node.TheVariants.{Itl, Registry}
 use Rattle.status.specs.Content.{Content}
+use Rattle.status.specs.Id.{same_id}
+use Rattle.status.specs.Status.{same_status}
 use Rattle.status.specs.declared.id.TransactionId.{TransactionId}
 use Rattle.status.specs.declared.moment.Moment.{Moment}
 use Rattle.status.specs.declared.words.Status.{Status}
@@ -96,6 +98,10 @@ HolderOwns scheme f = (s : Serial) (c : Code) → holds scheme c (at_registry f 
 abbrev pub CountedOnce : Scheme → Code → List Transition → Type 0
 CountedOnce scheme c xs =
     (s : Serial) → (number_of (gives c s) xs ≤ at_start scheme c s + number_of (credits c s) xs) × (at_start scheme c s + number_of (credits c s) xs ≤ number_of (gives c s) xs + 1)
+
+-- a transition to Completed is the newest of its transaction, and its only one
+abbrev pub CompletedOnce : List Transition → Type 0
+CompletedOnce xs = (x : Transition) → Contains xs x → x.new ≡ Completed → (newest xs x.id ≡ Some x) × (number_of (λ y. same_id y.id x.id && same_status y.new Completed) xs ≡ 1)
 
 -- ---- of the log alone, whatever it is given
 

@@ -22,7 +22,7 @@ use Rattle.protocol.specs.declared.event.Outcome.TheVariants.{Refused}
 use Rattle.protocol.specs.declared.event.Posted.{Posted}
 use Rattle.protocol.specs.declared.event.WorldEvent.TheVariants.{Deliver}
 use Rattle.protocol.specs.Deciding.{Enters}
-use Rattle.protocol.specs.History.{Entry, Transition, transitions_of, newest, stands, stands_at, number_of, holds, spendable, gives, credits, at_start, book_owner, carries}
+use Rattle.protocol.specs.History.{Entry, Transition, transitions_of, newest, stands, stands_at, sends, number_of, holds, spendable, gives, credits, at_start, book_owner, carries}
 use Rattle.protocol.specs.Registries.{allotted}
 use Rattle.protocol.specs.Verdict.{history, verdict}
 use Rattle.protocol.specs.World.{World, Station, station, journal, step, receiver}
@@ -139,9 +139,7 @@ OwnedByInitiator scheme =
 abbrev pub DeliversWelcome : World → Type 0
 DeliversWelcome w = (index : ℕ) (moment : Moment) (code : ℕ) → (step w (Deliver index moment)).outcome ≡ Refused code → code ≡ 49
 
--- where a delivered message makes the log record Terminated, the codes are those of eligibility
-abbrev pub TerminatesForEligibility : World → Type 0
-TerminatesForEligibility w =
-    (index : ℕ) (moment : Moment) (p : Posted) (xs : List Transition) → slice_get w.bag index ≡ Some p → receiver p.message ≡ Itl
-    → verdict w.scheme Itl (live_of w Itl) (Received p.message moment) ≡ Enters xs → (x : Transition) → Contains xs x → x.new ≡ Terminated
-    → (n : Notification) → Contains x.messages (message.Notification n) → (found : List ℕ) → n.notice ≡ notice.Terminated found → (code : ℕ) → Contains found code → (code ≡ 207) ⊎ (code ≡ 208)
+-- where the log tells a registry Terminated, the codes are those of eligibility
+abbrev pub TerminatesForEligibility : (Node → List Entry) → Type 0
+TerminatesForEligibility f =
+    (n : Notification) (found : List ℕ) (code : ℕ) → Contains (sends (f Itl)) (message.Notification n) → n.notice ≡ notice.Terminated found → Contains found code → (code ≡ 207) ⊎ (code ≡ 208)

@@ -1,35 +1,20 @@
 -- What comes of deliveries in worlds that events lead to.
-use Rattle.std.proofs.Common.{◌≡◌, ℕ, List, [], ◌∷◌, Bool, true, false, cond, Option, Some, None, ◌⊎◌, inl, inr, refl, sym, ap, subst, ◌∙◌}
+use Rattle.std.proofs.Common.{◌≡◌, ℕ, List, Bool, true, false, cond, Option, Some, None, refl, sym, ap, subst}
 use Rattle.std.specs.Prelude.{slice_get}
-use Rattle.units.specs.declared.code.Node.TheVariants.{Itl, Registry}
 use Rattle.status.specs.declared.moment.Moment.{Moment}
-use Rattle.status.specs.declared.words.Status.TheVariants.{Terminated, Cancelled}
 use Rattle.wire.specs.declared.input.Input.{Input}
 use Rattle.wire.specs.declared.input.Input.TheVariants.{Received}
-use Rattle.wire.specs.declared.message.Message.{Message}
-use Rattle.wire.specs.declared.message.Message.TheVariants as message
-use Rattle.wire.specs.declared.message.Notification.{Notification}
-use Rattle.wire.specs.declared.message.Proposal.{Proposal}
-use Rattle.wire.specs.declared.notice.Notice.TheVariants as notice
 use Rattle.scheme.specs.declared.registries.Scheme.{Scheme}
-use Rattle.protocol.specs.AtLog.{ledger}
-use Rattle.protocol.specs.Checks.{log_findings}
-use Rattle.protocol.specs.Claims.{DeliversWelcome, TerminatesForEligibility, live_of, whole}
+use Rattle.protocol.specs.Claims.{DeliversWelcome, live_of, whole}
 use Rattle.protocol.specs.Deciding.{Verdict, Enters, IsRepeat, IsLate, IsRefused}
-use Rattle.protocol.specs.History.{Transition, transitions_of, newest, sends}
-use Rattle.protocol.specs.Verdict.{verdict, history, made}
+use Rattle.protocol.specs.History.{sends}
+use Rattle.protocol.specs.Verdict.{verdict, history}
 use Rattle.protocol.specs.World.{World, Station, station, journal, rests, answered, take_input, at_node, opening, run, deliver, step, sender, receiver}
 use Rattle.protocol.specs.declared.event.Outcome.TheVariants.{NotPossible, Refused}
 use Rattle.protocol.specs.declared.event.Posted.{Posted}
 use Rattle.protocol.specs.declared.event.WorldEvent.{WorldEvent}
-use Rattle.safety.proofs.Forms.{checked_message}
-use Rattle.safety.proofs.Findings.{only-eligibility}
-use Rattle.safety.proofs.FromLog.{never-terminates}
-use Rattle.safety.proofs.Histories.{newest-id, one-notice}
 use Rattle.safety.proofs.Members.{In, In-slice_get}
-use Rattle.safety.proofs.Moves.{LogMove, checks, passes, cancels, forestalls, log-moves}
 use Rattle.safety.proofs.Places.{Unplaced, live-unplaced, opening-placed, run-placed}
-use Rattle.safety.proofs.Positions.{In-contains}
 use Rattle.safety.proofs.Reached.{reached-sound}
 use Rattle.safety.proofs.Sound.{Sound, live-causal, live-sends}
 use Rattle.safety.proofs.Stations.{at-node}

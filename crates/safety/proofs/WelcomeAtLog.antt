@@ -31,7 +31,7 @@ use Rattle.scheme.specs.declared.registries.Scheme.{Scheme}
 use Rattle.protocol.specs.AtLog.{ledger, is_proposed, is_no_registry, is_not_acquirer, is_from_another, told, log_refusals, log_answer, log_verdict}
 use Rattle.protocol.specs.Deciding.{content_in, known}
 use Rattle.protocol.specs.History.{Transition, Entry, transitions_of, newest, sends}
-use Rattle.protocol.specs.Registries.{has_member, is_node}
+use Rattle.protocol.specs.Registries.{has_member}
 use Rattle.safety.proofs.Begun.{begun}
 use Rattle.safety.proofs.Causal.{Causal, heard-sent, completed-agrees}
 use Rattle.safety.proofs.Completions.{log-has, stands-so}

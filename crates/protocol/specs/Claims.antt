@@ -1,29 +1,29 @@
 -- What is claimed of the histories of all nodes.
-use Rattle.std.specs.Prelude.{◌≡◌, ◌≤◌, ◌⊎◌, ℕ, ◌+◌, ◌&&◌, not, cond, is_some, Bool, true, false, List, [], ◌∷◌, ◌++◌, Contains, slice_get, Option, Some, None}
+use Rattle.std.specs.Prelude.{◌≡◌, ◌≤◌, ◌⊎◌, ℕ, ◌+◌, ◌&&◌, not, cond, is_some, Bool, true, false, List, [], ◌∷◌, ◌++◌, Contains, Option, Some, None}
 use Rattle.units.specs.declared.block.Unit.{Unit as Serial}
 use Rattle.units.specs.declared.code.Code.{Code}
 use Rattle.units.specs.declared.code.Node.{Node}
 use Rattle.units.specs.declared.code.Node.TheVariants.{Itl, Registry}
 use Rattle.status.specs.Content.{Content}
+use Rattle.status.specs.Id.{same_id}
+use Rattle.status.specs.Status.{same_status}
 use Rattle.status.specs.declared.id.TransactionId.{TransactionId}
 use Rattle.status.specs.declared.moment.Moment.{Moment}
 use Rattle.status.specs.declared.words.Status.{Status}
 use Rattle.status.specs.declared.words.Status.TheVariants.{Checked, Accepted, Rejected, Terminated, Cancelled, Completed}
 use Rattle.wire.specs.declared.input.Input.{Input}
-use Rattle.wire.specs.declared.input.Input.TheVariants.{Received}
 use Rattle.wire.specs.declared.message.Message.TheVariants as message
 use Rattle.wire.specs.declared.message.Notification.{Notification}
 use Rattle.wire.specs.declared.notice.Notice.TheVariants as notice
 use Rattle.scheme.specs.declared.members.Member.{Member}
 use Rattle.scheme.specs.declared.registries.Scheme.{Scheme}
 use Rattle.protocol.specs.declared.event.Outcome.TheVariants.{Refused}
-use Rattle.protocol.specs.declared.event.Posted.{Posted}
 use Rattle.protocol.specs.declared.event.WorldEvent.TheVariants.{Deliver}
 use Rattle.protocol.specs.Deciding.{Enters}
-use Rattle.protocol.specs.History.{Entry, Transition, transitions_of, newest, stands, stands_at, number_of, holds, spendable, gives, credits, at_start, book_owner, carries}
-use Rattle.protocol.specs.Registries.{allotted, has_member}
+use Rattle.protocol.specs.History.{Entry, Transition, transitions_of, newest, stands, stands_at, sends, number_of, holds, spendable, gives, credits, at_start, book_owner, carries}
+use Rattle.protocol.specs.Registries.{allotted}
 use Rattle.protocol.specs.Verdict.{history, verdict}
-use Rattle.protocol.specs.World.{World, Station, station, journal, step, receiver}
+use Rattle.protocol.specs.World.{World, Station, station, journal, step}
 
 -- ---- the histories of all nodes
 
@@ -84,7 +84,7 @@ OnePlace scheme f = (s : Serial) → holders scheme f s + owed scheme f s ≡ co
 
 -- no unit is spendable in two registries
 abbrev pub SpentOnce : Scheme → (Node → List Entry) → Type 0
-SpentOnce scheme f = (s : Serial) (c d : Code) → has_member scheme c ≡ true → has_member scheme d ≡ true → spendable scheme c (at_registry f c) s ≡ true → spendable scheme d (at_registry f d) s ≡ true → c ≡ d
+SpentOnce scheme f = (s : Serial) (c d : Code) → spendable scheme c (at_registry f c) s ≡ true → spendable scheme d (at_registry f d) s ≡ true → c ≡ d
 
 -- a registry that holds a unit is its owner in the log's book
 abbrev pub HolderOwns : Scheme → (Node → List Entry) → Type 0
@@ -96,6 +96,10 @@ HolderOwns scheme f = (s : Serial) (c : Code) → holds scheme c (at_registry f 
 abbrev pub CountedOnce : Scheme → Code → List Transition → Type 0
 CountedOnce scheme c xs =
     (s : Serial) → (number_of (gives c s) xs ≤ at_start scheme c s + number_of (credits c s) xs) × (at_start scheme c s + number_of (credits c s) xs ≤ number_of (gives c s) xs + 1)
+
+-- a transition to Completed is the newest of its transaction, and its only one
+abbrev pub CompletedOnce : List Transition → Type 0
+CompletedOnce xs = (x : Transition) → Contains xs x → x.new ≡ Completed → (newest xs x.id ≡ Some x) × (number_of (λ y. same_id y.id x.id && same_status y.new Completed) xs ≡ 1)
 
 -- ---- of the log alone, whatever it is given
 
@@ -133,9 +137,7 @@ OwnedByInitiator scheme =
 abbrev pub DeliversWelcome : World → Type 0
 DeliversWelcome w = (index : ℕ) (moment : Moment) (code : ℕ) → (step w (Deliver index moment)).outcome ≡ Refused code → code ≡ 49
 
--- where a delivered message makes the log record Terminated, the codes are those of eligibility
-abbrev pub TerminatesForEligibility : World → Type 0
-TerminatesForEligibility w =
-    (index : ℕ) (moment : Moment) (p : Posted) (xs : List Transition) → slice_get w.bag index ≡ Some p → receiver p.message ≡ Itl
-    → verdict w.scheme Itl (live_of w Itl) (Received p.message moment) ≡ Enters xs → (x : Transition) → Contains xs x → x.new ≡ Terminated
-    → (n : Notification) → Contains x.messages (message.Notification n) → (found : List ℕ) → n.notice ≡ notice.Terminated found → (code : ℕ) → Contains found code → (code ≡ 207) ⊎ (code ≡ 208)
+-- where the log tells a registry Terminated, the codes are those of eligibility
+abbrev pub TerminatesForEligibility : (Node → List Entry) → Type 0
+TerminatesForEligibility f =
+    (n : Notification) (found : List ℕ) (code : ℕ) → Contains (sends (f Itl)) (message.Notification n) → n.notice ≡ notice.Terminated found → Contains found code → (code ≡ 207) ⊎ (code ≡ 208)

@@ -12,3 +12,4 @@ pub mod Claims
 pub mod Owner
 pub mod WayOut
 pub mod Weave
+pub mod Plausible

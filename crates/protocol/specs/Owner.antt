@@ -1,5 +1,5 @@
 -- Who owns a unit: the registry that holds it, or the completed transfer that owes it.
-use Rattle.std.specs.Prelude.{◌≡◌, ◌⊎◌, is_some, true, false, List, Some}
+use Rattle.std.specs.Prelude.{◌≡◌, ◌⊎◌, is_some, true, false, List, Some, option_map}
 use Rattle.units.specs.declared.block.Unit.{Unit as Serial}
 use Rattle.units.specs.declared.code.Code.{Code}
 use Rattle.units.specs.declared.code.Node.{Node}
@@ -41,10 +41,10 @@ pub record Completes (f g : Node → List Entry) (n : Node) (t : TransactionId) 
   pub has : carries last s ≡ true
   pub before : StandsAt f n t Completed → ⊥
 
--- at its initiator this hands the unit to the transfer, at its acquirer the transfer hands it on
+-- at its initiator this hands the unit to the transfer, at the acquirer that its content names the transfer hands it on
 pub data Moves (f g : Node → List Entry) (s : Serial) : Owner → Owner → Type 0 where
   sends_off : (t : TransactionId) → Completes f g (Registry t.code) t s → Moves f g s (At t.code) (Due t)
-  takes_in : (t : TransactionId) (c : Code) → (t.code ≡ c → ⊥) → Completes f g (Registry c) t s → Moves f g s (Due t) (At c)
+  takes_in : (t : TransactionId) (c : Code) (done : Completes f g (Registry c) t s) → option_map (λ k. k.acquirer) done.last.content ≡ Some c → Moves f g s (Due t) (At c)
 
 -- an owner stays or moves so
 abbrev pub OwnersMove : Scheme → (f g : Node → List Entry) → Type 0

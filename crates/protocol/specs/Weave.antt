@@ -1,5 +1,5 @@
 -- Journals that some list of events leads to, told by an order of their records.
-use Rattle.std.specs.Prelude.{◌≡◌, ℕ, cond, true, false, List, [], ◌∷◌, ◌++◌, Contains, Option, Some, None, slice_get}
+use Rattle.std.specs.Prelude.{◌≡◌, ℕ, cond, true, List, [], ◌∷◌, ◌++◌, Contains, Option, Some, None, slice_get}
 use Rattle.units.specs.Code.{same_node}
 use Rattle.units.specs.declared.code.Node.{Node}
 use Rattle.wire.specs.declared.input.Input.{Input}
@@ -52,29 +52,16 @@ abbrev pub InTurn : Scheme → List Placed → Type 0
 InTurn scheme [] = Unit {0}
 InTurn scheme (r ∷ rs) = IsNext scheme (journals_of rs) r × InTurn scheme rs
 
--- the journals go on from others
-abbrev pub GoOn : (past whole : Node → List Input) → Type 0
-GoOn past whole = (n : Node) → (rest : List Input) × (whole n ≡ past n ++ rest)
+-- the journals are prefixes of others
+abbrev pub ArePrefixes : (past whole : Node → List Input) → Type 0
+ArePrefixes past whole = (n : Node) → (rest : List Input) × (whole n ≡ past n ++ rest)
 
 -- a record that is next, and that the journals go on with
 abbrev pub HasNext : Scheme → (past whole : Node → List Input) → Type 0
 HasNext scheme past whole = (r : Placed) × IsNext scheme past r × ((rest : List Input) × (whole r.node ≡ past r.node ++ r.input ∷ rest))
 
--- each record of a journal was recorded after the earlier ones
-abbrev pub AllRecorded : Scheme → Node → List Input → List Input → Type 0
-AllRecorded scheme n past [] = Unit {0}
-AllRecorded scheme n past (i ∷ is) = ((xs : List Transition) × (verdict scheme n (history scheme n past) i ≡ Enters xs)) × AllRecorded scheme n (past ++ i ∷ []) is
-
--- each received message was sent to the node by its sender's whole journal
-abbrev pub AllSent : Scheme → (Node → List Input) → List Input → Node → Type 0
-AllSent scheme journals [] n = Unit {0}
-AllSent scheme journals (i ∷ is) n = WasSent scheme journals n i × AllSent scheme journals is n
-
-abbrev pub IsPlausible : Scheme → (Node → List Input) → Type 0
-IsPlausible scheme journals = (n : Node) → (is_node scheme n ≡ false → journals n ≡ []) × AllRecorded scheme n [] (journals n) × AllSent scheme journals (journals n) n
-
 -- every node is idle, and each message that was sent is in the bag
-pub record AllPosted (w : World) : Type 0 where
+pub record IsQuiet (w : World) : Type 0 where
   pub idle : (n : Node) → is_node w.scheme n ≡ true → IsIdle w n
   pub posted : (n : Node) (key : ℕ) (m : Message) → slice_get (sends (committed_of w n)) key ≡ Some m → Contains w.bag (record { node = n; key = key; message = m })
 
@@ -92,5 +79,5 @@ IsStuck w journals =
 
 -- where a stuck world is reached, no events lead to the journals, unless it is there
 abbrev pub StuckIsFinal : World → (Node → List Input) → Type 0
-StuckIsFinal w journals = AllPosted w → GoOn (λ n. committed_part (station w n)) journals → IsStuck w journals
+StuckIsFinal w journals = IsQuiet w → ArePrefixes (λ n. committed_part (station w n)) journals → IsStuck w journals
     → (others : List WorldEvent) → Projects w.scheme others journals → (n : Node) → committed_part (station w n) ≡ journals n

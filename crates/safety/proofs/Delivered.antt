@@ -1,40 +1,24 @@
 -- What comes of deliveries in worlds that events lead to.
-use Rattle.std.proofs.Common.{◌≡◌, ℕ, List, [], ◌∷◌, Bool, true, false, cond, Option, Some, None, ◌⊎◌, inl, inr, refl, sym, ap, subst, ◌∙◌}
+use Rattle.std.proofs.Common.{◌≡◌, ℕ, List, Bool, true, false, cond, Option, Some, None, refl, sym, ap, subst}
 use Rattle.std.specs.Prelude.{slice_get}
-use Rattle.units.specs.declared.code.Node.TheVariants.{Itl, Registry}
 use Rattle.status.specs.declared.moment.Moment.{Moment}
-use Rattle.status.specs.declared.words.Status.TheVariants.{Terminated, Cancelled}
 use Rattle.wire.specs.declared.input.Input.{Input}
 use Rattle.wire.specs.declared.input.Input.TheVariants.{Received}
-use Rattle.wire.specs.declared.message.Message.{Message}
-use Rattle.wire.specs.declared.message.Message.TheVariants as message
-use Rattle.wire.specs.declared.message.Notification.{Notification}
-use Rattle.wire.specs.declared.message.Proposal.{Proposal}
-use Rattle.wire.specs.declared.notice.Notice.TheVariants as notice
 use Rattle.scheme.specs.declared.registries.Scheme.{Scheme}
-use Rattle.protocol.specs.AtLog.{ledger}
-use Rattle.protocol.specs.Checks.{log_findings}
-use Rattle.protocol.specs.Claims.{DeliversWelcome, TerminatesForEligibility, live_of, whole}
+use Rattle.protocol.specs.Claims.{DeliversWelcome, live_of, whole}
 use Rattle.protocol.specs.Deciding.{Verdict, Enters, IsRepeat, IsLate, IsRefused}
-use Rattle.protocol.specs.History.{Transition, transitions_of, newest, sends}
-use Rattle.protocol.specs.Verdict.{verdict, history, made}
+use Rattle.protocol.specs.History.{sends}
+use Rattle.protocol.specs.Verdict.{verdict, history}
 use Rattle.protocol.specs.World.{World, Station, station, journal, rests, answered, take_input, at_node, opening, run, deliver, step, sender, receiver}
 use Rattle.protocol.specs.declared.event.Outcome.TheVariants.{NotPossible, Refused}
 use Rattle.protocol.specs.declared.event.Posted.{Posted}
 use Rattle.protocol.specs.declared.event.WorldEvent.{WorldEvent}
-use Rattle.safety.proofs.Forms.{checked_message}
-use Rattle.safety.proofs.Findings.{only-eligibility}
-use Rattle.safety.proofs.FromLog.{never-terminates}
-use Rattle.safety.proofs.Histories.{newest-id, one-notice}
 use Rattle.safety.proofs.Members.{In, In-slice_get}
-use Rattle.safety.proofs.Moves.{LogMove, checks, passes, cancels, forestalls, log-moves}
-use Rattle.safety.proofs.Places.{live-unplaced, opening-placed, run-placed}
-use Rattle.safety.proofs.Positions.{In-contains}
+use Rattle.safety.proofs.Places.{Unplaced, live-unplaced, opening-placed, run-placed}
 use Rattle.safety.proofs.Reached.{reached-sound}
 use Rattle.safety.proofs.Sound.{Sound, live-causal, live-sends}
 use Rattle.safety.proofs.Stations.{at-node}
 use Rattle.safety.proofs.Welcome.{welcome}
-use Rattle.safety.proofs.WelcomeAtLog.{Unplaced}
 
 -- a turn that is refused is refused by the verdict
 refused-turn : (b : Bool) (s : Station) (input : Input) (v : Verdict) (code : ℕ) → (cond b (answered s input v) (rests s NotPossible)).outcome ≡ Refused code → v ≡ IsRefused code
@@ -43,12 +27,6 @@ refused-turn true s input (Enters xs) code h = absurd (cc (h))
 refused-turn true s input IsRepeat code h = absurd (cc (h))
 refused-turn true s input IsLate code h = absurd (cc (h))
 refused-turn true s input (IsRefused c) code h = let same : c ≡ code = cc (h) in ap IsRefused same
-
-one-message : (a b : Message) (s t : Moment) → Received a s ≡ Received b t → a ≡ b
-one-message a b s t e = cc (e)
-
-one-list : (a b : List ℕ) → notice.Terminated a ≡ notice.Terminated b → a ≡ b
-one-list a b e = cc (e)
 
 module _ (w : World) (sound : Sound w) (unplaced : Unplaced w.scheme (live_of w)) where
   -- a message of the bag was sent by the live journal of its sender
@@ -80,38 +58,6 @@ module _ (w : World) (sound : Sound w) (unplaced : Unplaced w.scheme (live_of w)
   unfolding step
   sound-delivers index moment code outcome = delivered index moment code (slice_get w.bag index) refl outcome
 
-  -- ---- what is terminated
-
-  terminated-codes : (p : Proposal) (found : List ℕ) → found ≡ log_findings w.scheme (ledger w.scheme (live_of w Itl)) p.id.code p.content → In (message.Proposal p) (sends (live_of w (Registry p.id.code)))
-      → newest (transitions_of (live_of w Itl)) p.id ≡ None → (n : Notification) → In (message.Notification n) (checked_message p.id p.content found ∷ []) → (codes : List ℕ) → n.notice ≡ notice.Terminated codes
-      → (code : ℕ) → In code codes → (code ≡ 207) ⊎ (code ≡ 208)
-  terminated-codes p [] is sent none n (inl e) codes said code i = absurd (cc (e))
-  terminated-codes p [] is sent none n (inr h) codes said code i = absurd h
-  terminated-codes p (c ∷ cs) is sent none n (inl e) codes said code i =
-      let same = one-list (c ∷ cs) codes (ap (λ (z : Notification). z.notice) (one-notice _ n e) ∙ said) in
-      only-eligibility w.scheme (live_of w) (live-causal w sound) unplaced p.id.code p sent none code (subst (In code) (sym same ∙ is) i)
-  terminated-codes p (c ∷ cs) is sent none n (inr h) codes said code i = absurd h
-
-  terminated-move : (input : Input) (x : Transition) (m : Message) (moment : Moment) → input ≡ Received m moment → In m (sends (live_of w (sender m))) → LogMove w.scheme (live_of w Itl) input x → x.new ≡ Terminated
-      → (n : Notification) → In (message.Notification n) x.messages → (codes : List ℕ) → n.notice ≡ notice.Terminated codes → (code : ℕ) → In code codes → (code ≡ 207) ⊎ (code ≡ 208)
-  terminated-move input x m moment is h (checks p at_moment found from status findings none member) done n j codes said code i =
-      let it : m ≡ message.Proposal p = sym (one-message (message.Proposal p) m at_moment moment is) in
-      let sent = subst (λ z. In (message.Proposal p) (sends (live_of w z))) from (subst (λ z. In z (sends (live_of w (sender z)))) it h) in
-      terminated-codes p found findings sent none n j codes said code i
-  terminated-move input x m moment is h (passes k at_moment q new old member right move) done n j codes said code i =
-      let was : newest (transitions_of (live_of w Itl)) q.id ≡ Some q = subst (λ z. newest (transitions_of (live_of w Itl)) z ≡ Some q) (sym (newest-id (transitions_of (live_of w Itl)) k.id q old).1) old in
-      absurd (never-terminates w.scheme (live_of w Itl) input x q (passes k at_moment q new old member right move) was done)
-  terminated-move input x m moment is h (cancels given at_moment t q why old was) done n j codes said code i = let y : Cancelled ≡ Terminated = done in absurd (cc (y))
-
-  terminated-move input x m moment is h (forestalls r at_moment from member none) done n j codes said code i = let y : Cancelled ≡ Terminated = done in absurd (cc (y))
-
-  sound-terminates : TerminatesForEligibility w
-  unfolding verdict
-  sound-terminates index moment p xs e here v x i done n j codes said code k =
-      terminated-move (Received p.message moment) x p.message moment refl (bag-sent index p e)
-      (log-moves w.scheme (live_of w Itl) (Received p.message moment) x (subst (λ z. In x (made z)) (sym v) (In-contains xs x i))) done n (In-contains x.messages (message.Notification n) j) codes said code
-      (In-contains codes code k)
-
 -- ---- worlds that events lead to
 
 reached-unplaced : (scheme : Scheme) (events : List WorldEvent) → Unplaced (run (opening scheme) events).scheme (live_of (run (opening scheme) events))
@@ -119,6 +65,3 @@ reached-unplaced scheme events = live-unplaced (run (opening scheme) events) (ru
 
 pub delivers-welcome : (scheme : Scheme) (events : List WorldEvent) → DeliversWelcome (run (opening scheme) events)
 delivers-welcome scheme events = sound-delivers (run (opening scheme) events) (reached-sound scheme events) (reached-unplaced scheme events)
-
-pub terminates-for-eligibility : (scheme : Scheme) (events : List WorldEvent) → TerminatesForEligibility (run (opening scheme) events)
-terminates-for-eligibility scheme events = sound-terminates (run (opening scheme) events) (reached-sound scheme events) (reached-unplaced scheme events)

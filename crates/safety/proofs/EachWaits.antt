@@ -23,9 +23,10 @@ use Rattle.scheme.specs.Order.{AreFew, AreMembers}
 use Rattle.scheme.specs.declared.members.Member.{Member}
 use Rattle.scheme.specs.declared.registries.Scheme.{Scheme}
 use Rattle.protocol.proofs.WorkedScheme.{nz, jp, nz_node, nz1, first_of_may, a_day_after, thousand}
+use Rattle.protocol.specs.Plausible.{AllRecorded, AllSent, IsPlausible}
 use Rattle.protocol.specs.Registries.{is_node}
 use Rattle.protocol.specs.Verdict.{verdict}
-use Rattle.protocol.specs.Weave.{Projects, WasSent, GoOn, AllRecorded, AllSent, IsPlausible}
+use Rattle.protocol.specs.Weave.{Projects, WasSent, ArePrefixes}
 use Rattle.protocol.specs.declared.event.WorldEvent.{WorldEvent}
 use Rattle.safety.proofs.Ordered.{always-next}
 
@@ -130,7 +131,7 @@ plausible (Registry c) =
 
 -- ---- and no events lead to them
 
-goes-on : GoOn past journals
+goes-on : ArePrefixes past journals
 goes-on Itl = (journals Itl, refl)
 goes-on (Registry c) = go (same_code c jp)
   where

@@ -1,7 +1,7 @@
 -- A completed transition is the last of its transaction, and contents are the same all along the way.
 use Rattle.std.proofs.Common.{◌≡◌, ℕ, ◌+◌, ◌≤◌, List, [], ◌∷◌, ◌++◌, Bool, true, false, not, Some, None, ◌⊎◌, inl, inr, refl, sym, ap, subst, ◌∙◌, arith}
 use Rattle.std.specs.Prelude.{◌&&◌}
-use Rattle.std.proofs.lemmas.Bool.{and_from, or_parts, not-false, cond-true, cond-false, cases_Bool}
+use Rattle.std.proofs.lemmas.Bool.{and_parts, and_from, and_left, or_parts, not-false, cond-true, cond-false, cases_Bool}
 use Rattle.units.proofs.Same.{code_of_same, same_code-refl, node_of_same}
 use Rattle.units.specs.Code.{same_code, same_node}
 use Rattle.units.specs.declared.code.Code.{Code}
@@ -27,15 +27,17 @@ use Rattle.wire.specs.declared.message.Request.{Request}
 use Rattle.wire.specs.declared.message.ProposalStatus.TheVariants as proposal
 use Rattle.scheme.specs.declared.registries.Scheme.{Scheme}
 use Rattle.protocol.specs.Registries.{has_member}
-use Rattle.protocol.specs.History.{Transition, Entry, transitions_of, newest, sends, messages_of, proposals}
+use Rattle.protocol.specs.Claims.{CompletedOnce}
+use Rattle.protocol.specs.History.{Transition, Entry, transitions_of, newest, number_of, sends, messages_of, proposals}
 use Rattle.protocol.specs.AtRegistry.{content_of}
 use Rattle.protocol.specs.AtLog.{is_no_registry, is_from_another}
 use Rattle.safety.proofs.Forms.{proposed, arrived_status, settled_messages, checked_status, moved}
-use Rattle.safety.proofs.Counts.{count-no, count-yes}
+use Rattle.safety.proofs.Counts.{list-any-not, number-none, count-no, count-yes}
 use Rattle.safety.proofs.Histories.{Made, Got, Heard, Offered, heard-later, offered-later, made-registry, made-log, newest-append, newest-id, newest-in, one-notice, one-proposal}
 use Rattle.safety.proofs.Local.{made-single, Single}
-use Rattle.safety.proofs.Members.{In, In-cases, In-flat_map, In-left, In-right, id_of_same, same_id-refl, one-some, clash}
+use Rattle.safety.proofs.Members.{In, In-cases, In-flat_map, In-left, In-right, id_of_same, same_id-refl, status_of_same, one-some, clash}
 use Rattle.safety.proofs.Moves.{RegistryMove, proposes, asks, arrives, bares, settles, finishes, LogMove, checks, passes, cancels, forestalls}
+use Rattle.safety.proofs.Positions.{In-contains}
 use Rattle.safety.proofs.Tables.{initiator-from, acquirer-from, log-from}
 use Rattle.safety.proofs.Told.{arrived-notice}
 
@@ -149,6 +151,39 @@ module _ (scheme : Scheme) (c : Code) where
   -- no two transitions complete one transaction
   pub ends-once : (es : List Entry) (input : Input) (x y : Transition) → Made scheme (Registry c) es → RegistryMove scheme c es input x → In y (transitions_of es) → y.new ≡ Completed → x.id ≡ y.id → ⊥
   ends-once es input x y made move i done same = alive es input x y made move (subst (λ z. newest (transitions_of es) z ≡ Some y) (sym same) (ends-last es made y i done)) done
+
+  -- so one transition completes it
+  abbrev is_end_of : TransactionId → Transition → Bool
+  is_end_of t x = same_id x.id t && same_status x.new Completed
+
+  abbrev EndsOnce : List Transition → Type 0
+  EndsOnce xs = (x : Transition) → In x xs → x.new ≡ Completed → number_of (is_end_of x.id) xs ≡ 1
+
+  one-end : (es : List Entry) → Made scheme (Registry c) es → EndsOnce (transitions_of es)
+  one-end =
+      each-move EndsOnce (λ x i done. absurd i)
+      (λ es input x made move old y i done. elim i [
+        | inl e ↦
+            let done_here : x.new ≡ Completed = ap (λ (z : Transition). z.new) e ∙ done in
+            let here : is_end_of y.id x ≡ true =
+            and_from (same_id x.id y.id) (same_status x.new Completed) (subst (λ (z : Transition). same_id x.id z.id ≡ true) e (same_id-refl x.id)) (subst (λ z. same_status z Completed ≡ true) (sym done_here) refl) in
+            let none =
+            number-none (is_end_of y.id) (transitions_of es)
+            (list-any-not (is_end_of y.id) (transitions_of es)
+            (λ z j h.
+            let parts = and_parts (same_id z.id y.id) (same_status z.new Completed) h in
+            ends-once es input x z made move j (status_of_same z.new Completed parts.1) (ap (λ (w : Transition). w.id) e ∙ sym (id_of_same z.id y.id parts.0)))) in
+            let more = count-yes (is_end_of y.id) x (transitions_of es) here in
+            omega arith
+        | inr j ↦
+            elim (cases_Bool (same_id x.id y.id)) [
+              | inl t ↦ absurd (ends-once es input x y made move j done (id_of_same x.id y.id t))
+              | inr n ↦ count-no (is_end_of y.id) x (transitions_of es) (and_left (same_id x.id y.id) (same_status x.new Completed) n) ∙ old y j done
+            ]
+      ])
+
+  pub completed-is-last : (es : List Entry) → Made scheme (Registry c) es → CompletedOnce (transitions_of es)
+  completed-is-last es made x i done = let h = In-contains (transitions_of es) x i in (ends-last es made x h done, one-end es made x h done)
 
   -- ---- the content of a transfer of one's own
 

@@ -41,7 +41,7 @@ use Rattle.safety.proofs.OwnStatuses.{IsOwnStatus, own-statuses}
 use Rattle.safety.proofs.Tables.{word_to}
 use Rattle.safety.proofs.Told.{told-own}
 use Rattle.safety.proofs.Units.{covered}
-use Rattle.safety.proofs.WelcomeAtLog.{Unplaced}
+use Rattle.safety.proofs.Places.{Unplaced}
 use Rattle.safety.proofs.WelcomeAtRegistry.{registry-known}
 
 -- ---- codes and their causes

@@ -45,6 +45,7 @@ pub mod KindsKept
 pub mod Welcome
 pub mod Findings
 pub mod Delivered
+pub mod Terminates
 pub mod Spoken
 pub mod Waking
 pub mod Sending

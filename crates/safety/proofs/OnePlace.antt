@@ -1,7 +1,7 @@
 -- A unit is held once or owed once, in histories whose received messages were all sent.
 use Rattle.std.proofs.Common.{◌≡◌, ℕ, ◌+◌, List, Bool, true, false, not, cond, Some, is_some, option_map, inl, inr, sym, ap, subst, ◌∙◌, arith, length, flat_map}
 use Rattle.std.specs.Prelude.{◌&&◌}
-use Rattle.std.proofs.lemmas.Bool.{cases_Bool, and_parts, and_from, not-false}
+use Rattle.std.proofs.lemmas.Bool.{cases_Bool, and_parts, and_from, not-false, eqb-true}
 use Rattle.units.proofs.Same.{code_of_same, same_code-refl}
 use Rattle.units.specs.Code.{same_code}
 use Rattle.units.specs.declared.block.Unit.{Unit as Serial}
@@ -14,7 +14,7 @@ use Rattle.status.specs.declared.words.Status.TheVariants.{Completed}
 use Rattle.scheme.specs.declared.members.Member.{Member}
 use Rattle.scheme.specs.declared.registries.Scheme.{Scheme}
 use Rattle.protocol.specs.Claims.{at_registry, over, is_received, owes, holders, owed, OnePlace, SpentOnce}
-use Rattle.protocol.specs.History.{Transition, Entry, newest, stands_at, is_status, number_of, has_serial, gives, credits, at_start, holds, reserved}
+use Rattle.protocol.specs.History.{Transition, Entry, transitions_of, newest, stands_at, is_status, number_of, has_serial, gives, credits, at_start, holds, reserved}
 use Rattle.protocol.specs.Registries.{allotted, has_member}
 use Rattle.safety.proofs.Causal.{Causal}
 use Rattle.safety.proofs.Completions.{done-status, given, credited, is-given, is-credited, stood, completed-once, transfer, initiator-completed}
@@ -23,7 +23,8 @@ use Rattle.safety.proofs.Ended.{ends-last, own-contents}
 use Rattle.safety.proofs.Histories.{newest-id}
 use Rattle.safety.proofs.Local.{local-history}
 use Rattle.safety.proofs.Members.{In, In-flat_map, codes-differ, other-code, one-some}
-use Rattle.safety.proofs.Sums.{over-parts, over-same, over-balance, over-start, one-above, one-or-none, some-member, codes-rise, In-flat, length-flat, no-repeat-flat}
+use Rattle.safety.proofs.Places.{Unplaced}
+use Rattle.safety.proofs.Sums.{over-parts, over-same, over-balance, over-start, start-member, one-above, one-or-none, some-member, codes-rise, In-flat, length-flat, no-repeat-flat}
 
 module _ (scheme : Scheme) (f : Node → List Entry) (causal : Causal scheme f) (s : Serial) where
   -- the transition gives the unit away, and its acquirer has received it
@@ -156,16 +157,26 @@ module _ (scheme : Scheme) (f : Node → List Entry) (causal : Causal scheme f) 
 pub causal-one-place : (scheme : Scheme) (f : Node → List Entry) → Causal scheme f → OnePlace scheme f
 causal-one-place scheme f causal s = in-one-place scheme f causal s
 
+-- who holds a unit is a registry of the scheme: no other one has a history, and nothing is allotted to it
+pub holding-member : (scheme : Scheme) (f : Node → List Entry) → Unplaced scheme f → (s : Serial) (c : Code) → holds scheme c (at_registry f c) s ≡ true → has_member scheme c ≡ true
+holding-member scheme f unplaced s c h =
+    elim (cases_Bool (has_member scheme c)) [
+      | inl y ↦ y
+      | inr n ↦
+          let start = eqb-true (at_start scheme c s + 0) (0 + 1) (subst (λ (es : List Entry). holds scheme c (transitions_of es) s ≡ true) (unplaced (Registry c) n) h) in
+          start-member scheme c s (omega arith)
+    ]
+
 -- where a unit is in one place, no two registries can spend it
-pub spent-once : (scheme : Scheme) (f : Node → List Entry) → OnePlace scheme f → SpentOnce scheme f
-spent-once scheme f place s c d known_c known_d spend_c spend_d =
+pub spent-once : (scheme : Scheme) (f : Node → List Entry) → Unplaced scheme f → OnePlace scheme f → SpentOnce scheme f
+spent-once scheme f unplaced place s c d spend_c spend_d =
     elim (cases_Bool (same_code c d)) [
       | inl y ↦ code_of_same c d y
       | inr other ↦
-          let m = some-member scheme c known_c in
-          let k = some-member scheme d known_d in
           let a = (and_parts (holds scheme c (at_registry f c) s) (not (reserved c (at_registry f c) s)) spend_c).0 in
           let b = (and_parts (holds scheme d (at_registry f d) s) (not (reserved d (at_registry f d) s)) spend_d).0 in
+          let m = some-member scheme c (holding-member scheme f unplaced s c a) in
+          let k = some-member scheme d (holding-member scheme f unplaced s d b) in
           let two =
           number-two (λ (m : Member). holds scheme m.code (at_registry f m.code) s) scheme.members m.0 k.0 m.1 k.1 (subst (λ z. holds scheme z (at_registry f z) s ≡ true) (sym m.2) a)
           (subst (λ z. holds scheme z (at_registry f z) s ≡ true) (sym k.2) b) (λ e. codes-differ c d other (sym m.2 ∙ ap (λ (z : Member). z.code) e ∙ k.2)) in

@@ -17,7 +17,7 @@ use Rattle.protocol.specs.Deciding.{Verdict, Enters, IsRepeat, IsLate, IsRefused
 use Rattle.protocol.specs.History.{Transition, sends}
 use Rattle.protocol.specs.Registries.{is_node}
 use Rattle.protocol.specs.Verdict.{verdict, history}
-use Rattle.protocol.specs.Weave.{Projects, Placed, journals_of, WasSent, IsNext, InTurn, GoOn, HasNext}
+use Rattle.protocol.specs.Weave.{Projects, Placed, journals_of, WasSent, IsNext, InTurn, ArePrefixes, HasNext}
 use Rattle.protocol.specs.World.{World, Station, Turn, station, journal, put, stays, opening, rests, answered, take_input, commit, crash, restart, sent, at_node, is_order, posted, sender, receiver, deliver, step, run}
 use Rattle.protocol.specs.declared.event.Outcome.TheVariants.{Done, NotPossible}
 use Rattle.protocol.specs.declared.event.Posted.{Posted}
@@ -276,5 +276,5 @@ ordered scheme events journals h =
     let o = run-ordered (opening scheme) events (opening-sound scheme) (opening-placed scheme) (opening-ordered scheme) in
     (o.order, subst (λ (z : Scheme). InTurn z o.order) (reached-scheme scheme events) o.turn, λ n. o.same n ∙ (h n).0)
 
-pub always-next : (scheme : Scheme) (events : List WorldEvent) (journals past : Node → List Input) → Projects scheme events journals → GoOn past journals → ((n : Node) → past n ≡ journals n) ⊎ HasNext scheme past journals
+pub always-next : (scheme : Scheme) (events : List WorldEvent) (journals past : Node → List Input) → Projects scheme events journals → ArePrefixes past journals → ((n : Node) → past n ≡ journals n) ⊎ HasNext scheme past journals
 always-next scheme events journals past h on = let o = ordered scheme events journals h in never-stuck scheme o.0 past journals o.1 o.2 on

@@ -8,6 +8,7 @@ use Rattle.units.specs.declared.block.Unit.{Unit as Serial}
 use Rattle.units.specs.declared.code.Code.{Code}
 use Rattle.units.specs.declared.code.Node.{Node}
 use Rattle.units.specs.declared.code.Node.TheVariants.{Itl, Registry}
+use Rattle.status.specs.Content.{Content}
 use Rattle.status.specs.Status.{same_status}
 use Rattle.status.specs.declared.id.TransactionId.{TransactionId}
 use Rattle.status.specs.declared.words.Status.{Status}
@@ -215,7 +216,7 @@ module _ (scheme : Scheme) (f g : Node → List Entry) (cf : Causal scheme f) (c
       let comes = is-credited a s x done (subst (λ (z : TransactionId). same_code z.code a ≡ false) (sym id.1) foreign) has in
       let held = held-now s a x at i comes (λ h. held-or-owed scheme f cf s a t (member, h) o) in
       let completes : Completes f g (Registry a) t s = record { last = x; is = last; new = done; has = has; before = not-before a t x at i done id.1 } in
-      (At a, (member, held), inr (takes_in t a (codes-differ t.code a foreign) completes))
+      (At a, (member, held), inr (takes_in t a completes (ap (option_map (λ (k : Content). k.acquirer)) tr.is ∙ ap Some tr.here)))
 
   is-waiting : {X : Type 0} (a : Code) (t : TransactionId) → stands_at (at_registry f a) t Completed ≡ false → newest (at_registry g a) t ≡ newest (at_registry f a) t → stands_at (at_registry g a) t Completed ≡ true → X
   is-waiting a t waits same received =

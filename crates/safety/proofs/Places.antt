@@ -16,6 +16,7 @@ use Rattle.scheme.specs.declared.members.Member.{Member}
 use Rattle.scheme.specs.declared.registries.Scheme.{Scheme}
 use Rattle.protocol.specs.Claims.{live_of, committed_of, whole, committed_part}
 use Rattle.protocol.specs.Deciding.{Verdict, Enters, IsRepeat, IsLate, IsRefused}
+use Rattle.protocol.specs.History.{Entry}
 use Rattle.protocol.specs.Registries.{is_node}
 use Rattle.protocol.specs.Verdict.{verdict, history}
 use Rattle.protocol.specs.World.{World, Station, Turn, Stepped, station, journal, put, stays, opening, opening_station, rests, answered, take_input, commit, crash, restart, sent, at_node, is_order, posted, receiver, deliver, step, run}
@@ -132,9 +133,12 @@ some-there (Some x) e = (x, refl)
 unplaced : (w : World) → AllPlaced w → (n : Node) → is_node w.scheme n ≡ false → station w n ≡ None
 unplaced w all n h = none-there (station w n) (all n ∙ h)
 
--- no history is without a node
-pub live-unplaced : (w : World) → AllPlaced w → (n : Node) → is_node w.scheme n ≡ false → live_of w n ≡ []
+-- nodes that are none have no history
+abbrev pub Unplaced : Scheme → (Node → List Entry) → Type 0
+Unplaced scheme f = (n : Node) → is_node scheme n ≡ false → f n ≡ []
+
+pub live-unplaced : (w : World) → AllPlaced w → Unplaced w.scheme (live_of w)
 live-unplaced w all n h = ap (λ o. history w.scheme n (whole o)) (unplaced w all n h)
 
-pub committed-unplaced : (w : World) → AllPlaced w → (n : Node) → is_node w.scheme n ≡ false → committed_of w n ≡ []
+pub committed-unplaced : (w : World) → AllPlaced w → Unplaced w.scheme (committed_of w)
 committed-unplaced w all n h = ap (λ o. history w.scheme n (committed_part o)) (unplaced w all n h)

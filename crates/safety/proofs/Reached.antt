@@ -5,6 +5,7 @@ use Rattle.protocol.specs.Claims.{live_of, committed_of}
 use Rattle.protocol.specs.World.{World, opening, run}
 use Rattle.protocol.specs.declared.event.WorldEvent.{WorldEvent}
 use Rattle.safety.proofs.Causal.{Causal}
+use Rattle.safety.proofs.Places.{AllPlaced, Unplaced, opening-placed, run-placed, live-unplaced, committed-unplaced}
 use Rattle.safety.proofs.Schemes.{run-scheme}
 use Rattle.safety.proofs.Sound.{Sound, run-sound, opening-sound, live-causal, committed-causal}
 
@@ -27,3 +28,17 @@ pub reached-committed : (scheme : Scheme) (events : List WorldEvent) → Causal 
 reached-committed scheme events =
     let w = reached scheme events in
     subst (λ (z : Scheme). Causal z (committed_of w)) (reached-scheme scheme events) (committed-causal w (reached-sound scheme events))
+
+-- no node beside the log and the scheme's registries has a history
+placed : (scheme : Scheme) (events : List WorldEvent) → AllPlaced (reached scheme events)
+placed scheme events = run-placed (opening scheme) events (opening-placed scheme)
+
+pub reached-live-unplaced : (scheme : Scheme) (events : List WorldEvent) → Unplaced scheme (live_of (reached scheme events))
+reached-live-unplaced scheme events =
+    let w = reached scheme events in
+    subst (λ (z : Scheme). Unplaced z (live_of w)) (reached-scheme scheme events) (live-unplaced w (placed scheme events))
+
+pub reached-committed-unplaced : (scheme : Scheme) (events : List WorldEvent) → Unplaced scheme (committed_of (reached scheme events))
+reached-committed-unplaced scheme events =
+    let w = reached scheme events in
+    subst (λ (z : Scheme). Unplaced z (committed_of w)) (reached-scheme scheme events) (committed-unplaced w (placed scheme events))

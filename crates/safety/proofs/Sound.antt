@@ -149,7 +149,7 @@ sound-at w sound n None f is keeps = sound
 sound-at w sound n (Some s) f is keeps = sound-put w sound n s is (f s).station (keeps s is)
 
 -- an order is no message
-order-fair : (w : World) (n : Node) (i : Input) → is_order w n i ≡ true → (m : Message) (moment : Moment) → i ≡ Received m moment → In m (sends (committed_of w (sender m)))
+pub order-fair : (w : World) (n : Node) (i : Input) → is_order w n i ≡ true → (m : Message) (moment : Moment) → i ≡ Received m moment → In m (sends (committed_of w (sender m)))
 order-fair w n i order m moment e = absurd (never n (subst (λ z. is_order w n z ≡ true) e order))
   where
     never : (k : Node) → is_order w k (Received m moment) ≡ true → ⊥

@@ -13,7 +13,7 @@ use Rattle.protocol.specs.Deciding.{Enters}
 use Rattle.protocol.specs.History.{Transition, sends}
 use Rattle.protocol.specs.Registries.{is_node}
 use Rattle.protocol.specs.Verdict.{verdict, history}
-use Rattle.protocol.specs.Weave.{WasSent, AllPosted, Gives, StuckIsFinal}
+use Rattle.protocol.specs.Weave.{WasSent, IsQuiet, Gives, StuckIsFinal}
 use Rattle.protocol.specs.World.{World, Turn, Stepped, station, stays, take_input, at_node, is_order, was_posted, sender, deliver, step}
 use Rattle.protocol.specs.declared.event.Outcome.TheVariants.{Recorded, NotPossible}
 use Rattle.protocol.specs.declared.event.Posted.{Posted}
@@ -26,7 +26,7 @@ use Rattle.safety.proofs.Positions.{In-contains, place-of, some-at}
 use Rattle.safety.proofs.Quiet.{takes}
 use Rattle.safety.proofs.Stations.{at-node}
 
-module _ (w : World) (all : AllPosted w) where
+module _ (w : World) (all : IsQuiet w) where
   -- one event makes the node record the input
   abbrev IsRecorded : Node → Input → Type 0
   IsRecorded n input = (e : WorldEvent) × Gives w e n input × ((place : ℕ) × ((step w e).outcome ≡ Recorded place))

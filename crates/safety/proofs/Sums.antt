@@ -170,6 +170,20 @@ over-start scheme s = go (allotted scheme s) refl
     go None e = over-none scheme.members
     go (Some h) e = let m = holder-member scheme.members s h e in one-at h.registry scheme.members (codes-rise scheme) m.0 m.1 m.2
 
+-- where a unit starts, a registry of the scheme is
+pub start-member : (scheme : Scheme) (c : Code) (s : Serial) → at_start scheme c s ≡ 1 → has_member scheme c ≡ true
+start-member scheme c s h = go (allotted scheme s) refl (here (is_with c (allotted scheme s)) h)
+  where
+    here : (b : Bool) → cond {A = ℕ} b 1 0 ≡ 1 → b ≡ true
+    here true e = refl
+    here false e = absurd (omega arith)
+
+    go : (o : Option Holder) → allotted scheme s ≡ o → is_with c o ≡ true → has_member scheme c ≡ true
+    go None e y = absurd (cc (y))
+    go (Some k) e y =
+        let m = holder-member scheme.members s k e in
+        subst (λ z. has_member scheme z ≡ true) (sym m.2 ∙ code_of_same k.registry c y) (is-member scheme m.0 m.1)
+
 -- ---- lists of identifiers, registry by registry
 
 pub In-flat : (g : Member → List TransactionId) (ms : List Member) (m : Member) (t : TransactionId) → In m ms → In t (g m) → In t (flat_map g ms)

@@ -321,11 +321,11 @@ passed-sends x k said new e h = go said (log-from x.new (notice_status said) new
     go notice.Accepted (inr m) = absurd (let y = m.2 in cc (y))
     go (notice.Rejected codes) (inl m) = subst (λ s. log_sends x.id (Some k) codes (Notified Rejected) ≡ notifies Itl (told_to x s) x.id (notice.Rejected codes) ∷ []) (sym m.1) refl
     go (notice.Rejected codes) (inr m) = absurd (let y = m.2 in cc (y))
-    go (notice.Terminated codes) (inl m) = absurd (elim m.2 [ | inl y ↦ cc (y) | inr y ↦ cc (y) ])
+    go (notice.Terminated codes) (inl m) = absurd (elim m.2 [ inl y ↦ cc (y) | inr y ↦ cc (y) ])
     go (notice.Terminated codes) (inr m) = absurd (let y = m.2 in cc (y))
-    go notice.Cancelled (inl m) = absurd (elim m.2 [ | inl y ↦ cc (y) | inr y ↦ cc (y) ])
+    go notice.Cancelled (inl m) = absurd (elim m.2 [ inl y ↦ cc (y) | inr y ↦ cc (y) ])
     go notice.Cancelled (inr m) = absurd (let y = m.2 in cc (y))
-    go notice.Completed (inl m) = absurd (elim m.2 [ | inl y ↦ cc (y) | inr y ↦ cc (y) ])
+    go notice.Completed (inl m) = absurd (elim m.2 [ inl y ↦ cc (y) | inr y ↦ cc (y) ])
     go notice.Completed (inr m) =
         subst (λ s. log_sends x.id (Some k) [] (Notified Completed) ≡ notifies Itl (told_to x s) x.id notice.Completed ∷ []) (sym m.1)
         (subst (λ o. log_sends x.id (Some k) [] (Notified Completed) ≡ notifies Itl (acquirer_of o) x.id notice.Completed ∷ []) (sym e) refl)

@@ -44,7 +44,7 @@ use Rattle.safety.proofs.Refusals.{Welcome}
 use Rattle.safety.proofs.Sending.{Calm}
 use Rattle.safety.proofs.Sound.{committed-causal}
 use Rattle.safety.proofs.Welcome.{welcome}
-use Rattle.safety.proofs.WelcomeAtLog.{Unplaced}
+use Rattle.safety.proofs.Places.{Unplaced}
 
 abbrev None49 : Causes → Type 0
 None49 [] = Unit {0}

@@ -45,7 +45,7 @@ use Rattle.safety.proofs.Stages.{Closes, already}
 use Rattle.safety.proofs.Sums.{In-flat, length-flat, over-same, some-member}
 use Rattle.safety.proofs.Taken.{Room}
 use Rattle.safety.proofs.Waking.{Reaches, quieted, reaches-on}
-use Rattle.safety.proofs.WelcomeAtLog.{Unplaced}
+use Rattle.safety.proofs.Places.{Unplaced}
 
 -- a transaction is open by its newest transitions
 open-same : (f g : Node → List Entry) (u : TransactionId) → ((n : Node) → newest (transitions_of (f n)) u ≡ newest (transitions_of (g n)) u) → IsOpen f u → IsOpen g u

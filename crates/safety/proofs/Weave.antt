@@ -11,7 +11,7 @@ use Rattle.scheme.specs.declared.registries.Scheme.{Scheme}
 use Rattle.protocol.specs.Deciding.{Enters}
 use Rattle.protocol.specs.History.{sends}
 use Rattle.protocol.specs.Verdict.{verdict, history}
-use Rattle.protocol.specs.Weave.{Placed, journals_of, WasSent, InTurn, GoOn, HasNext}
+use Rattle.protocol.specs.Weave.{Placed, journals_of, WasSent, InTurn, ArePrefixes, HasNext}
 use Rattle.protocol.specs.World.{sender}
 use Rattle.safety.proofs.Going.{sends-append}
 use Rattle.safety.proofs.Members.{In}
@@ -26,7 +26,7 @@ pub journals-there : (r : Placed) (rs : List Placed) (n : Node) → same_node n 
 journals-there r rs n other = cond-false (same_node n r.node) (journals_of rs n ++ r.input ∷ []) (journals_of rs n) other
 
 -- more may have been sent since
-pub sent-later : (scheme : Scheme) (a b : Node → List Input) → GoOn a b → (n : Node) (input : Input) → WasSent scheme a n input → WasSent scheme b n input
+pub sent-later : (scheme : Scheme) (a b : Node → List Input) → ArePrefixes a b → (n : Node) (input : Input) → WasSent scheme a n input → WasSent scheme b n input
 sent-later scheme a b on n (Received m moment) h = (
   h.0,
   contains-in (sends (history scheme (sender m) (b (sender m)))) m
@@ -41,9 +41,9 @@ sent-later scheme a b on n (Ack key) h = tt
 sent-later scheme a b on n (CleanUp moment) h = tt
 sent-later scheme a b on n (Eligible c may) h = tt
 
-module _ (scheme : Scheme) (past whole : Node → List Input) (on : GoOn past whole) where
+module _ (scheme : Scheme) (past whole : Node → List Input) (on : ArePrefixes past whole) where
   -- either the journals so far have all records of the order, or one of them is next
-  greedy-to : (order : List Placed) → InTurn scheme order → GoOn (journals_of order) whole → GoOn (journals_of order) past ⊎ HasNext scheme past whole
+  greedy-to : (order : List Placed) → InTurn scheme order → ArePrefixes (journals_of order) whole → ArePrefixes (journals_of order) past ⊎ HasNext scheme past whole
   greedy-to [] turn inside = inl (λ n. (past n, refl))
   greedy-to (r ∷ rs) turn inside =
       elim (greedy-to rs turn.1 older) [
@@ -54,14 +54,14 @@ module _ (scheme : Scheme) (past whole : Node → List Input) (on : GoOn past wh
       whole_is : whole r.node ≡ journals_of rs r.node ++ r.input ∷ (inside r.node).0
       whole_is = (inside r.node).1 ∙ ap (λ xs. xs ++ (inside r.node).0) (journals-here r rs) ∙ append_assoc (journals_of rs r.node) (r.input ∷ []) (inside r.node).0
 
-      older : GoOn (journals_of rs) whole
+      older : ArePrefixes (journals_of rs) whole
       older n =
           elim (cases_Bool (same_node n r.node)) [
             | inl y ↦ (r.input ∷ (inside r.node).0, subst (λ z. whole z ≡ journals_of rs z ++ r.input ∷ (inside r.node).0) (sym (node_of_same n r.node y)) whole_is)
             | inr other ↦ ((inside n).0, (inside n).1 ∙ ap (λ xs. xs ++ (inside n).0) (journals-there r rs n other))
           ]
 
-      at_node : GoOn (journals_of rs) past → (extra : List Input) → past r.node ≡ journals_of rs r.node ++ extra → GoOn (journals_of (r ∷ rs)) past ⊎ HasNext scheme past whole
+      at_node : ArePrefixes (journals_of rs) past → (extra : List Input) → past r.node ≡ journals_of rs r.node ++ extra → ArePrefixes (journals_of (r ∷ rs)) past ⊎ HasNext scheme past whole
       at_node covers [] e =
           let same : past r.node ≡ journals_of rs r.node = e ∙ append-nil (journals_of rs r.node) in
           let next = turn.0 in
@@ -90,7 +90,7 @@ module _ (scheme : Scheme) (past whole : Node → List Input) (on : GoOn past wh
           ])
 
 -- journals that have an order go on from any part of them
-pub never-stuck : (scheme : Scheme) (order : List Placed) (past whole : Node → List Input) → InTurn scheme order → ((n : Node) → journals_of order n ≡ whole n) → GoOn past whole
+pub never-stuck : (scheme : Scheme) (order : List Placed) (past whole : Node → List Input) → InTurn scheme order → ((n : Node) → journals_of order n ≡ whole n) → ArePrefixes past whole
     → ((n : Node) → past n ≡ whole n) ⊎ HasNext scheme past whole
 never-stuck scheme order past whole turn same on =
     elim (greedy-to scheme past whole on order turn (λ n. ([], sym (same n) ∙ sym (append-nil (journals_of order n))))) [
@@ -98,7 +98,7 @@ never-stuck scheme order past whole turn same on =
       | inr next ↦ inr next
     ]
   where
-    all : GoOn (journals_of order) past → (n : Node) → past n ≡ whole n
+    all : ArePrefixes (journals_of order) past → (n : Node) → past n ≡ whole n
     all covers n =
         let covered : past n ≡ whole n ++ (covers n).0 = (covers n).1 ∙ ap (λ zs. zs ++ (covers n).0) (same n) in
         let both : whole n ++ [] ≡ whole n ++ ((covers n).0 ++ (on n).0) =

@@ -17,7 +17,8 @@ use Rattle.safety.proofs.FromRegistry.{Says, offers, answers, completes, says, a
 use Rattle.safety.proofs.Members.{In}
 use Rattle.safety.proofs.Refusals.{Welcome}
 use Rattle.safety.proofs.Said.{log-offered}
-use Rattle.safety.proofs.WelcomeAtLog.{Unplaced, log-welcome}
+use Rattle.safety.proofs.Places.{Unplaced}
+use Rattle.safety.proofs.WelcomeAtLog.{log-welcome}
 use Rattle.safety.proofs.WelcomeAtRegistry.{registry-welcome}
 
 registry-not-log : (c : Code) → Registry c ≡ Itl → ⊥

@@ -31,7 +31,7 @@ use Rattle.scheme.specs.declared.registries.Scheme.{Scheme}
 use Rattle.protocol.specs.AtLog.{ledger, is_proposed, is_no_registry, is_not_acquirer, is_from_another, told, log_refusals, log_answer, log_verdict}
 use Rattle.protocol.specs.Deciding.{content_in, known}
 use Rattle.protocol.specs.History.{Transition, Entry, transitions_of, newest, sends}
-use Rattle.protocol.specs.Registries.{has_member, is_node}
+use Rattle.protocol.specs.Registries.{has_member}
 use Rattle.safety.proofs.Begun.{begun}
 use Rattle.safety.proofs.Causal.{Causal, heard-sent, completed-agrees}
 use Rattle.safety.proofs.Completions.{log-has, stands-so}
@@ -41,6 +41,7 @@ use Rattle.safety.proofs.FromRegistry.{Says, offers, answers, completes, says, r
 use Rattle.safety.proofs.Histories.{Offered, newest-id}
 use Rattle.safety.proofs.Members.{In, one-some}
 use Rattle.safety.proofs.Tables.{known-status, status-known, log-offer-row, log-request-row}
+use Rattle.safety.proofs.Places.{Unplaced}
 use Rattle.safety.proofs.Refusals.{welcome-row, Welcome, welcome-enters, welcome-repeat, welcome-late, welcome-refuse, right-node, is-known, no-other}
 use Rattle.safety.proofs.Said.{IsAgreed, log-backed}
 use Rattle.safety.proofs.Told.{IsTaken, accepted-sent}
@@ -78,10 +79,6 @@ taken-not-rejected : (s : Status) → s ≡ Rejected → (s ≡ Accepted) ⊎ ((
 taken-not-rejected s e (inl h) = let y : Accepted ≡ Rejected = sym h ∙ e in cc (y)
 taken-not-rejected s e (inr (inl h)) = let y : Completed ≡ Rejected = sym h ∙ e in cc (y)
 taken-not-rejected s e (inr (inr h)) = let y : Cancelled ≡ Rejected = sym h ∙ e in cc (y)
-
--- nodes that are none have no history
-abbrev pub Unplaced : Scheme → (Node → List Entry) → Type 0
-Unplaced scheme f = (n : Node) → is_node scheme n ≡ false → f n ≡ []
 
 module _ (scheme : Scheme) (f : Node → List Entry) (causal : Causal scheme f) (unplaced : Unplaced scheme f) where
   sender-member : (c : Code) (m : Message) → In m (sends (f (Registry c))) → is_no_registry scheme (Registry c) ≡ false

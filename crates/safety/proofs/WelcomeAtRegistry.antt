@@ -57,7 +57,7 @@ use Rattle.safety.proofs.Senders.{sender-sends}
 use Rattle.safety.proofs.Tables.{word_to}
 use Rattle.safety.proofs.Told.{Cause, IsTaken, told-own, told, accepted-sent}
 use Rattle.safety.proofs.Units.{covered}
-use Rattle.safety.proofs.WelcomeAtLog.{Unplaced}
+use Rattle.safety.proofs.Places.{Unplaced}
 
 -- ---- the tables of a registry have a row
 

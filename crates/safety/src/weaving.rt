@@ -3,7 +3,8 @@ ghost use Rattle.std.specs.Prelude.{List, ◌≡◌, ◌⊎◌};
 ghost use Rattle.units.specs.declared.code.Node.{Node};
 ghost use Rattle.wire.specs.declared.input.Input.{Input};
 ghost use Rattle.scheme.specs.declared.registries.Scheme.{Scheme};
-ghost use Rattle.protocol.specs.Weave.{GoOn, HasNext, InTurn, IsPlausible, Placed, Projects, StuckIsFinal, journals_of};
+ghost use Rattle.protocol.specs.Plausible.{IsPlausible};
+ghost use Rattle.protocol.specs.Weave.{ArePrefixes, HasNext, InTurn, Placed, Projects, StuckIsFinal, journals_of};
 ghost use Rattle.protocol.specs.World.{opening, run};
 ghost use Rattle.protocol.specs.declared.event.WorldEvent.{WorldEvent};
 
@@ -13,7 +14,7 @@ ghost use Rattle.protocol.specs.declared.event.WorldEvent.{WorldEvent};
 pub fn journals_weave()
     ensures reached { (scheme : Scheme) (order : List Placed) → InTurn scheme order → (events : List WorldEvent) × Projects scheme events (journals_of order) }
     ensures ordered { (scheme : Scheme) (events : List WorldEvent) (journals : Node → List Input) → Projects scheme events journals → (order : List Placed) × InTurn scheme order × ((n : Node) → journals_of order n ≡ journals n) }
-    ensures never_stuck { (scheme : Scheme) (events : List WorldEvent) (journals past : Node → List Input) → Projects scheme events journals → GoOn past journals → ((n : Node) → past n ≡ journals n) ⊎ HasNext scheme past journals }
+    ensures never_stuck { (scheme : Scheme) (events : List WorldEvent) (journals past : Node → List Input) → Projects scheme events journals → ArePrefixes past journals → ((n : Node) → past n ≡ journals n) ⊎ HasNext scheme past journals }
     ensures stuck { (scheme : Scheme) (events : List WorldEvent) (journals : Node → List Input) → StuckIsFinal (run (opening scheme) events) journals }
 {}
 

@@ -24,7 +24,7 @@ use Rattle.protocol.specs.AtRegistry.{holding}
 use Rattle.protocol.specs.Checks.{log_findings, acquirer_findings}
 use Rattle.protocol.specs.Deciding.{Verdict, IsRepeat, IsLate, IsRefused}
 use Rattle.protocol.specs.History.{Entry}
-use Rattle.protocol.specs.Pieces.{canonical}
+use Rattle.units.specs.Canonical.{canonical}
 use Rattle.protocol.specs.Verdict.{verdict, history}
 use Rattle.protocol.specs.World.{World, opening, step, outcomes}
 use Rattle.protocol.proofs.WorkedAnswers.{au}

@@ -26,7 +26,8 @@ use Rattle.wire.specs.declared.message.ProposalStatus.{ProposalStatus}
 use Rattle.wire.specs.declared.message.ProposalStatus.TheVariants as proposal
 use Rattle.scheme.specs.Order.{all_blocks}
 use Rattle.scheme.specs.declared.registries.Scheme.{Scheme}
-use Rattle.protocol.specs.Pieces.{Piece, pieces, repeats, canonical}
+use Rattle.units.specs.Canonical.{canonical}
+use Rattle.protocol.specs.Pieces.{Piece, pieces, repeats}
 use Rattle.protocol.specs.Registries.{has_account}
 use Rattle.protocol.specs.History.{Transition, Entry, Place, transitions_of, newest, stands_at, is_known, proposals, is_requested, holds, reserved, place, is_closed}
 use Rattle.protocol.specs.Checks.{Causes, Holding, propose_refusals, acquirer_findings}

@@ -21,7 +21,7 @@ use Rattle.wire.specs.declared.input.Input.TheVariants.{Propose, Request, OpenAc
 use Rattle.wire.specs.declared.message.Message.{Message}
 use Rattle.scheme.specs.declared.members.Holder.{Holder}
 use Rattle.scheme.specs.declared.registries.Scheme.{Scheme}
-use Rattle.protocol.specs.Pieces.{covers}
+use Rattle.units.specs.Unit.{have_unit}
 use Rattle.protocol.specs.Registries.{member, allotted, begins_eligible}
 
 -- how many of them pass the test
@@ -100,7 +100,7 @@ is_requested es t = list_any (λ e. is_request_of t e.input) es
 
 -- the transfer has the unit
 abbrev pub has_serial : Option Content → Serial → Bool
-has_serial k s = option_map_or (λ content. covers content.units s) k false
+has_serial k s = option_map_or (λ content. have_unit content.units s) k false
 
 abbrev pub carries : Transition → Serial → Bool
 carries x s = has_serial x.content s

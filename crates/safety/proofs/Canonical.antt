@@ -11,7 +11,9 @@ use Rattle.units.specs.declared.block.Unit.{Unit as Serial}
 use Rattle.status.proofs.Contents.{kind_of_same}
 use Rattle.protocol.specs.Checks.{is_out_of_range}
 use Rattle.protocol.specs.History.{number_of}
-use Rattle.protocol.specs.Pieces.{Piece, piece, pieces, pieces_of, covers, repeats, same_unit, up_from, canonical, put_block, join_block, in_order, joined, comes_before, is_next}
+use Rattle.units.specs.Canonical.{canonical, put_block, join_block, in_order, joined, comes_before, goes_on}
+use Rattle.units.specs.Unit.{have_unit}
+use Rattle.protocol.specs.Pieces.{Piece, piece, pieces, pieces_of, repeats, same_unit, up_from}
 use Rattle.safety.proofs.Counts.{list-any-some, list-any-none, list-any-not, count-yes, count-no, number-none, number-append, number-one}
 use Rattle.safety.proofs.Members.{In, In-cases, In-left, In-right}
 use Rattle.safety.proofs.Units.{period_of_same, unit_of_same, same_unit-refl, piece-of}
@@ -100,7 +102,7 @@ map-both : {A B : Type 0} (g : A → B) (xs ys : List A) → map g (xs ++ ys) �
 map-both g [] ys = refl
 map-both g (x ∷ xs) ys = ap (λ zs. g x ∷ zs) (map-both g xs ys)
 
-join-pieces : (b c : RawBlock) → b.first ≤ b.last → c.first ≤ c.last → is_next b c ≡ true → pieces_of (record b { last = c.last }) ≡ pieces_of b ++ pieces_of c
+join-pieces : (b c : RawBlock) → b.first ≤ b.last → c.first ≤ c.last → goes_on b c ≡ true → pieces_of (record b { last = c.last }) ≡ pieces_of b ++ pieces_of c
 join-pieces b c gb gc h =
     let x = and_parts (same_code b.origin c.origin) _ h in
     let y = and_parts (same_period b.period c.period) _ x.1 in
@@ -124,9 +126,9 @@ join-pieces b c gb gc h =
 join-both : (s : Serial) (b : RawBlock) (bs : List RawBlock) → b.first ≤ b.last → AllGood bs
     → (tally s (pieces (join_block b bs)) ≡ tally s (pieces_of b) + tally s (pieces bs)) × AllGood (join_block b bs)
 join-both s b [] g h = (number-append (is_at s) (pieces_of b) [], (g, tt))
-join-both s b (c ∷ cs) g h = go (is_next b c) refl
+join-both s b (c ∷ cs) g h = go (goes_on b c) refl
   where
-    go : (t : Bool) → is_next b c ≡ t
+    go : (t : Bool) → goes_on b c ≡ t
         → (tally s (pieces (cond t (record b { last = c.last } ∷ cs) (b ∷ c ∷ cs))) ≡ tally s (pieces_of b) + tally s (pieces (c ∷ cs))) × AllGood (cond t (record b { last = c.last } ∷ cs) (b ∷ c ∷ cs))
     go true e =
         let j = join-pieces b c g h.0 e in
@@ -187,9 +189,9 @@ order-from (b ∷ bs) p h =
 
 join-from : (b : RawBlock) (bs : List RawBlock) (p : Piece) → b.first ≤ b.last → AllGood bs → In p (pieces (join_block b bs)) → In p (pieces (b ∷ bs))
 join-from b [] p g good h = h
-join-from b (c ∷ cs) p g good h = go (is_next b c) refl h
+join-from b (c ∷ cs) p g good h = go (goes_on b c) refl h
   where
-    go : (t : Bool) → is_next b c ≡ t → In p (pieces (cond t (record b { last = c.last } ∷ cs) (b ∷ c ∷ cs))) → In p (pieces (b ∷ c ∷ cs))
+    go : (t : Bool) → goes_on b c ≡ t → In p (pieces (cond t (record b { last = c.last } ∷ cs) (b ∷ c ∷ cs))) → In p (pieces (b ∷ c ∷ cs))
     go true e i = subst (In p) (ap (λ w. w ++ pieces cs) (join-pieces b c g good.0 e) ∙ append_assoc (pieces_of b) (pieces_of c) (pieces cs)) i
     go false e i = i
 
@@ -205,5 +207,5 @@ pub canonical-from : (bs : List RawBlock) → list_any is_out_of_range bs ≡ fa
 canonical-from bs good p h = order-from bs p (joined-from (in_order bs) p (order-good bs (good-ranges bs good)) h)
 
 -- a unit of the canonical form is one of the blocks
-pub canonical-piece : (bs : List RawBlock) → list_any is_out_of_range bs ≡ false → (s : Serial) → covers (canonical bs) s ≡ true → (p : Piece) × In p (pieces bs) × (p.unit ≡ s)
+pub canonical-piece : (bs : List RawBlock) → list_any is_out_of_range bs ≡ false → (s : Serial) → have_unit (canonical bs) s ≡ true → (p : Piece) × In p (pieces bs) × (p.unit ≡ s)
 canonical-piece bs good s h = let p = piece-of (canonical bs) s h in (p.0, canonical-from bs good p.0 p.1, p.2)

@@ -1,4 +1,5 @@
 -- The log finds nothing in a proposal that was sent, but that a registry is not eligible.
+use Rattle.units.specs.Unit.{have_unit}
 use Rattle.std.proofs.Common.{◌≡◌, ℕ, ◌+◌, List, [], ◌∷◌, Bool, true, false, not, cond, Option, Some, None, ◌⊎◌, inl, inr, refl, sym, ap, subst, ◌∙◌, arith}
 use Rattle.std.specs.Prelude.{◌&&◌, ◌||◌, is_some, is_none, filter}
 use Rattle.std.specs.List.{list_any}
@@ -22,7 +23,7 @@ use Rattle.protocol.specs.Checks.{Causes, codes_of, is_owner, is_of_another, log
 use Rattle.protocol.specs.Claims.{at_registry, is_received}
 use Rattle.protocol.specs.History.{Transition, Entry, transitions_of, newest, stands_at, sends, number_of, has_serial, carries, gives, credits, at_start, busy}
 use Rattle.protocol.specs.Owner.{At, Owns}
-use Rattle.protocol.specs.Pieces.{Piece, pieces, covers}
+use Rattle.protocol.specs.Pieces.{Piece, pieces}
 use Rattle.protocol.specs.Registries.{allotted, has_member}
 use Rattle.safety.proofs.Begun.{Begun, begun, log-one-content}
 use Rattle.safety.proofs.Book.{holder-is-owner}
@@ -114,7 +115,7 @@ module _ (scheme : Scheme) (f : Node → List Entry) (causal : Causal scheme f) 
       )
 
   -- a proposal that was sent and that the log doesn't know waits
-  still-waits : (c : Code) (p : Proposal) → In (message.Proposal p) (sends (f (Registry c))) → newest (transitions_of (f Itl)) p.id ≡ None → (s : Serial) → covers p.content.units s ≡ true → Waits c s (at_registry f c) p.id
+  still-waits : (c : Code) (p : Proposal) → In (message.Proposal p) (sends (f (Registry c))) → newest (transitions_of (f Itl)) p.id ≡ None → (s : Serial) → have_unit p.content.units s ≡ true → Waits c s (at_registry f c) p.id
   still-waits c p h none s has =
       let o = offered scheme c (f (Registry c)) (causal.made (Registry c)) p h in
       record {

@@ -4,12 +4,12 @@ use Rattle.std.specs.Prelude.{◌||◌, ◌==◌, nat_le}
 use Rattle.std.proofs.lemmas.Bool.{cases_Bool, and_parts, and_from, eq-eqb, eqb-true, eqb-false, le-leb, leb-true}
 use Rattle.units.proofs.Same.{code_of_same, same_code-refl}
 use Rattle.units.specs.Code.{same_code}
-use Rattle.units.specs.Unit.{has_unit, same_period, period_index}
+use Rattle.units.specs.Unit.{has_unit, same_period, period_index, have_unit}
 use Rattle.units.specs.declared.block.Period.{Period}
 use Rattle.units.specs.declared.block.Period.TheVariants.{First, Second}
 use Rattle.units.specs.declared.block.RawBlock.{RawBlock}
 use Rattle.units.specs.declared.block.Unit.{Unit as Serial}
-use Rattle.protocol.specs.Pieces.{Piece, piece, pieces, pieces_of, covers, same_unit, up_from}
+use Rattle.protocol.specs.Pieces.{Piece, piece, pieces, pieces_of, same_unit, up_from}
 use Rattle.safety.proofs.Members.{In, In-cases, In-left, In-right, In-map, map-In}
 
 pub period_of_same : (p q : Period) → same_period p q ≡ true → p ≡ q
@@ -75,20 +75,20 @@ piece-of-block b s h =
     subst (λ q. In q (pieces_of b)) same i
 
 -- a unit that blocks cover is the unit of one of their pieces, and of no other
-pub piece-of : (blocks : List RawBlock) (s : Serial) → covers blocks s ≡ true → (p : Piece) × In p (pieces blocks) × (p.unit ≡ s)
+pub piece-of : (blocks : List RawBlock) (s : Serial) → have_unit blocks s ≡ true → (p : Piece) × In p (pieces blocks) × (p.unit ≡ s)
 piece-of [] s h = absurd (cc)
 piece-of (b ∷ bs) s h =
     elim (cases_Bool (has_unit b s)) [
       | inl y ↦ (record { unit = s; kind = b.kind }, In-left (record { unit = s; kind = b.kind }) (pieces_of b) (pieces bs) (piece-of-block b s y), refl)
-      | inr n ↦ let r = piece-of bs s (subst (λ t. (t || covers bs s) ≡ true) n h) in (r.0, In-right r.0 (pieces_of b) (pieces bs) r.1, r.2)
+      | inr n ↦ let r = piece-of bs s (subst (λ t. (t || have_unit bs s) ≡ true) n h) in (r.0, In-right r.0 (pieces_of b) (pieces bs) r.1, r.2)
     ]
 
-pub covered : (blocks : List RawBlock) (p : Piece) → In p (pieces blocks) → covers blocks p.unit ≡ true
+pub covered : (blocks : List RawBlock) (p : Piece) → In p (pieces blocks) → have_unit blocks p.unit ≡ true
 covered [] p h = absurd h
 covered (b ∷ bs) p h =
     elim (In-cases p (pieces_of b) (pieces bs) h) [
-      | inl i ↦ subst (λ t. (t || covers bs p.unit) ≡ true) (sym (block-of-piece b p i).0) refl
-      | inr i ↦ or_right (has_unit b p.unit) (covers bs p.unit) (covered bs p i)
+      | inl i ↦ subst (λ t. (t || have_unit bs p.unit) ≡ true) (sym (block-of-piece b p i).0) refl
+      | inr i ↦ or_right (has_unit b p.unit) (have_unit bs p.unit) (covered bs p i)
     ]
   where
     or_right : (x y : Bool) → y ≡ true → (x || y) ≡ true

@@ -14,3 +14,4 @@ pub mod CountingUnits
 pub mod OrderingJoins
 pub mod OrderingMoves
 pub mod OneText
+pub mod CanonicalBlocks

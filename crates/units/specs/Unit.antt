@@ -36,6 +36,10 @@ same_raw a b = same_code a.origin b.origin && (same_period a.period b.period && 
 abbrev pub has_unit : RawBlock → Serial → Bool
 has_unit b s = same_code b.origin s.origin && (same_period b.period s.period && (nat_le b.first s.number && nat_le s.number b.last))
 
+-- one of the raw blocks has the unit
+abbrev pub have_unit : List RawBlock → Serial → Bool
+have_unit blocks s = list_any (λ b. has_unit b s) blocks
+
 -- one of the blocks has the unit
 abbrev pub covers : List Block → Serial → Bool
 covers blocks s = list_any (λ b. has_unit b.raw s) blocks

@@ -2,7 +2,7 @@
 ghost use Rattle.std.specs.Prelude.{◌≡◌, ◌≢◌, ◌⊎◌, Some, None, IsTrue, IsSome, OnOk, OnErr, IfOk, IfErr, map as list_map, if◌then◌else◌};
 ghost use Rattle.std.specs.Bool.{OnTrue, OnFalse};
 ghost use Rattle.std.specs.FinMap as map;
-ghost use Rattle.units.specs.Canonical.{AreCanonical, interval_of};
+ghost use Rattle.units.specs.Canonical.{AreCanonical, canonical as canonical_form, interval_of};
 ghost use Rattle.units.specs.Facts.{IsRange};
 ghost use Rattle.units.specs.Intervals.{AreKept, mark_at};
 ghost use Rattle.units.specs.Unit.{has_unit, covers};
@@ -131,6 +131,7 @@ impl BlockSet {
     /// joined. Or `NoMemory`.
     pub fn canonical(&self, alloc: Global) -> Result<Vec<Block>, NoMemory>
         ensures ordered { IfOk result (λ v. AreCanonical (λ _. 0) (list_map interval_of v.items)) }
+        ensures form { IfOk result (λ v. canonical_form (list_map (λ b. b.raw) v.items) ≡ list_map (λ b. b.raw) v.items) }
         ensures kept { IfOk result (λ v. AreKept (list_map interval_of v.items)) }
         ensures same { IfOk result (λ v. (u : Serial) → mark_at (list_map interval_of v.items) u ≡ map.get self.now u) }
     {

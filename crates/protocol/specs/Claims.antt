@@ -1,5 +1,6 @@
 -- What is claimed of the histories of all nodes.
 use Rattle.std.specs.Prelude.{◌≡◌, ◌≤◌, ◌⊎◌, ℕ, ◌+◌, ◌&&◌, not, cond, is_some, Bool, true, false, List, [], ◌∷◌, ◌++◌, Contains, Option, Some, None}
+use Rattle.std.specs.Option.{option_map_or}
 use Rattle.units.specs.declared.block.Unit.{Unit as Serial}
 use Rattle.units.specs.declared.code.Code.{Code}
 use Rattle.units.specs.declared.code.Node.{Node}
@@ -28,12 +29,10 @@ use Rattle.protocol.specs.World.{World, Station, station, journal, step}
 -- ---- the histories of all nodes
 
 abbrev pub committed_part : Option Station → List Input
-committed_part None = []
-committed_part (Some s) = s.committed
+committed_part station = option_map_or (λ s. s.committed) station []
 
 abbrev pub whole : Option Station → List Input
-whole None = []
-whole (Some s) = journal s
+whole station = option_map_or journal station []
 
 -- by committed journals, and with the tails
 abbrev pub committed_of : World → Node → List Entry
@@ -64,8 +63,7 @@ over g (m ∷ ms) = g m + over g ms
 
 -- the transfer stands Completed at its acquirer
 abbrev pub is_received : (Node → List Entry) → TransactionId → Option Content → Bool
-is_received f t None = false
-is_received f t (Some k) = stands_at (at_registry f k.acquirer) t Completed
+is_received f t k = option_map_or (λ content. stands_at (at_registry f content.acquirer) t Completed) k false
 
 -- the transition completes a transfer of the unit at its initiator, and its acquirer has not completed it
 abbrev pub owes : (Node → List Entry) → Code → Serial → Transition → Bool

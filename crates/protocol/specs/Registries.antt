@@ -44,5 +44,4 @@ abbrev pub takes_kind : Scheme → Code → Kind → Bool
 takes_kind scheme c kind = lists_kind (member scheme c) kind
 
 abbrev pub begins_eligible : Option Member → Bool
-begins_eligible None = false
-begins_eligible (Some m) = m.eligible
+begins_eligible registry = option_map_or (λ m. m.eligible) registry false

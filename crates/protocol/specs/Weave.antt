@@ -1,5 +1,6 @@
 -- Journals that some list of events leads to, told by an order of their records.
 use Rattle.std.specs.Prelude.{◌≡◌, ℕ, cond, true, List, [], ◌∷◌, ◌++◌, Contains, Option, Some, None, slice_get}
+use Rattle.std.specs.Option.{option_map_or}
 use Rattle.units.specs.Code.{same_node}
 use Rattle.units.specs.declared.code.Node.{Node}
 use Rattle.wire.specs.declared.input.Input.{Input}
@@ -19,8 +20,7 @@ use Rattle.protocol.specs.Claims.{committed_part, committed_of}
 use Rattle.protocol.specs.WayOut.{IsIdle}
 
 abbrev pub uncommitted : Option Station → List Input
-uncommitted None = []
-uncommitted (Some s) = s.tail
+uncommitted station = option_map_or (λ s. s.tail) station []
 
 -- the events end with these committed journals and empty tails
 abbrev pub Projects : Scheme → List WorldEvent → (Node → List Input) → Type 0

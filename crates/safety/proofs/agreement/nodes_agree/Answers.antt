@@ -1,6 +1,6 @@
 use Rattle.protocol.specs.Claims.{live_of, committed_of}
-use Rattle.safety.proofs.Causal.{causal-agrees}
-use Rattle.safety.proofs.Reached.{reached, reached-live, reached-committed}
+use Rattle.safety.proofs.AgreementOfNodes.CausalHistories.{causal-agrees}
+use Rattle.safety.proofs.WorldLemmas.ReachedWorlds.{reached, reached-live, reached-committed}
 use Rattle.safety.proofs.agreement.nodes_agree.Goals as goal
 
 pub returns-clause-live : goal.returns-clause-live

@@ -1,7 +1,7 @@
 use Rattle.units.specs.declared.code.Node.TheVariants.{Registry}
 use Rattle.protocol.specs.Verdict.{history}
-use Rattle.safety.proofs.Ended.{completed-is-last}
-use Rattle.safety.proofs.Going.{made-history}
+use Rattle.safety.proofs.OneRegistry.TransactionEnds.{completed-is-last}
+use Rattle.safety.proofs.MovesAndHistories.LongerHistories.{made-history}
 use Rattle.safety.proofs.counting.completed_once.Goals as goal
 
 pub returns : goal.returns

@@ -1,7 +1,7 @@
 use Rattle.units.specs.declared.code.Node.TheVariants.{Registry}
 use Rattle.protocol.specs.Verdict.{history}
-use Rattle.safety.proofs.Going.{made-history}
-use Rattle.safety.proofs.Local.{counted-once}
+use Rattle.safety.proofs.MovesAndHistories.LongerHistories.{made-history}
+use Rattle.safety.proofs.OneRegistry.UnitsCountedOnce.{counted-once}
 use Rattle.safety.proofs.counting.registry_counts_once.Goals as goal
 
 pub returns : goal.returns

@@ -1,5 +1,5 @@
-use Rattle.safety.proofs.Delivered.{delivers-welcome}
-use Rattle.safety.proofs.Terminates.{terminates-live, terminates-committed}
+use Rattle.safety.proofs.DeliveryLemmas.WelcomeDeliveries.{delivers-welcome}
+use Rattle.safety.proofs.DeliveryLemmas.TerminatedTransfers.{terminates-live, terminates-committed}
 use Rattle.safety.proofs.deliveries.deliveries_are_welcome.Goals as goal
 
 pub returns : goal.returns

@@ -1,4 +1,4 @@
-use Rattle.safety.proofs.LogAlone.{ends-stay, under-way-apart, owned-by-initiator}
+use Rattle.safety.proofs.OneLog.OwnersInLog.{ends-stay, under-way-apart, owned-by-initiator}
 use Rattle.safety.proofs.log.log_alone.Goals as goal
 
 pub returns : goal.returns

@@ -1,6 +1,6 @@
 use Rattle.protocol.specs.Claims.{live_of, committed_of}
-use Rattle.safety.proofs.OnePlace.{causal-one-place, spent-once}
-use Rattle.safety.proofs.Reached.{reached, reached-live, reached-committed, reached-live-unplaced, reached-committed-unplaced}
+use Rattle.safety.proofs.OwnersOfUnits.UnitsInOnePlace.{causal-one-place, spent-once}
+use Rattle.safety.proofs.WorldLemmas.ReachedWorlds.{reached, reached-live, reached-committed, reached-live-unplaced, reached-committed-unplaced}
 use Rattle.safety.proofs.one_place.units_stand_in_one_place.Goals as goal
 
 pub returns-clause-live : goal.returns-clause-live

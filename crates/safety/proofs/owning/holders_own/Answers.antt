@@ -1,6 +1,6 @@
 use Rattle.protocol.specs.Claims.{live_of, committed_of}
-use Rattle.safety.proofs.Book.{holder-owns}
-use Rattle.safety.proofs.Reached.{reached, reached-live, reached-committed}
+use Rattle.safety.proofs.OwnersOfUnits.HoldersInLog.{holder-owns}
+use Rattle.safety.proofs.WorldLemmas.ReachedWorlds.{reached, reached-live, reached-committed}
 use Rattle.safety.proofs.owning.holders_own.Goals as goal
 
 pub returns-clause-live : goal.returns-clause-live

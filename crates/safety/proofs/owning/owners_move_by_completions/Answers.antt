@@ -3,8 +3,8 @@ use Rattle.scheme.specs.declared.registries.Scheme.{Scheme}
 use Rattle.protocol.specs.Claims.{committed_of}
 use Rattle.protocol.specs.Owner.{OwnersMove}
 use Rattle.protocol.specs.World.{step}
-use Rattle.safety.proofs.OwnersMove.{event-moves}
-use Rattle.safety.proofs.Reached.{reached, reached-scheme, reached-sound}
+use Rattle.safety.proofs.OwnersOfUnits.OwnersAfterEvents.{event-moves}
+use Rattle.safety.proofs.WorldLemmas.ReachedWorlds.{reached, reached-scheme, reached-sound}
 use Rattle.safety.proofs.owning.owners_move_by_completions.Goals as goal
 
 pub returns : goal.returns

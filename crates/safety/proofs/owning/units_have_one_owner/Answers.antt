@@ -1,6 +1,6 @@
 use Rattle.protocol.specs.Claims.{live_of, committed_of}
-use Rattle.safety.proofs.OneOwner.{causal-one-owner}
-use Rattle.safety.proofs.Reached.{reached, reached-live, reached-committed}
+use Rattle.safety.proofs.OwnersOfUnits.UnitsWithOneOwner.{causal-one-owner}
+use Rattle.safety.proofs.WorldLemmas.ReachedWorlds.{reached, reached-live, reached-committed}
 use Rattle.safety.proofs.owning.units_have_one_owner.Goals as goal
 
 pub returns-clause-live : goal.returns-clause-live

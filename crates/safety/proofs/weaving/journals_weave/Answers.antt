@@ -1,7 +1,7 @@
 use Rattle.protocol.specs.World.{opening, run}
-use Rattle.safety.proofs.InTurn.{in-turn-reached}
-use Rattle.safety.proofs.Ordered.{ordered, always-next}
-use Rattle.safety.proofs.Stuck.{stuck-is-final}
+use Rattle.safety.proofs.JournalWeaves.EventsFromOrders.{in-turn-reached}
+use Rattle.safety.proofs.JournalWeaves.OrdersFromEvents.{ordered, always-next}
+use Rattle.safety.proofs.JournalWeaves.StuckWorlds.{stuck-is-final}
 use Rattle.safety.proofs.weaving.journals_weave.Goals as goal
 
 pub returns : goal.returns

@@ -1,4 +1,4 @@
-use Rattle.safety.proofs.EachWaits.{two_units, journals, plausible, not-projected}
+use Rattle.safety.proofs.JournalWeaves.WaitingJournals.{two_units, journals, plausible, not-projected}
 use Rattle.safety.proofs.weaving.plausible_is_not_enough.Goals as goal
 
 pub returns : goal.returns

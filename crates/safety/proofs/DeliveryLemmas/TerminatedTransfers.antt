@@ -33,41 +33,41 @@ use Rattle.protocol.specs.declared.event.Outcome.TheVariants.{NotPossible}
 use Rattle.protocol.specs.declared.event.Posted.{Posted}
 use Rattle.protocol.specs.declared.event.WorldEvent.{WorldEvent}
 use Rattle.protocol.specs.declared.event.WorldEvent.TheVariants.{Take, Commit, Post, Deliver, Crash, Restart}
-use Rattle.safety.proofs.DeliveryLemmas.FindingsInProposals.{only-eligibility}
+use Rattle.safety.proofs.DeliveryLemmas.FindingsInProposals.{only_eligibility}
 use Rattle.safety.proofs.MovesAndHistories.TransitionForms.{checked_message}
-use Rattle.safety.proofs.MovesAndHistories.LongerHistories.{history_from-append, sends-append}
-use Rattle.safety.proofs.MovesAndHistories.NewestTransitions.{one-notice}
-use Rattle.safety.proofs.ListLemmas.Membership.{In, In-cases, In-flat_map, In-slice_get}
-use Rattle.safety.proofs.MovesAndHistories.TableMoves.{LogMove, checks, passes, cancels, forestalls, log-moves}
-use Rattle.safety.proofs.WorldLemmas.NodesWithStation.{AllPlaced, step-placed, opening-placed, live-unplaced, take-node, commit-node, crash-node, restart-node}
-use Rattle.safety.proofs.ListLemmas.Positions.{In-contains}
+use Rattle.safety.proofs.MovesAndHistories.LongerHistories.{history_from_append, sends_append}
+use Rattle.safety.proofs.MovesAndHistories.NewestTransitions.{one_notice}
+use Rattle.safety.proofs.ListLemmas.Membership.{In, In_cases, In_flat_map, In_slice_get}
+use Rattle.safety.proofs.MovesAndHistories.TableMoves.{LogMove, checks, passes, cancels, forestalls, log_moves}
+use Rattle.safety.proofs.WorldLemmas.NodesWithStation.{AllPlaced, step_placed, opening_placed, live_unplaced, take_node, commit_node, crash_node, restart_node}
+use Rattle.safety.proofs.ListLemmas.Positions.{In_contains}
 use Rattle.safety.proofs.WorldLemmas.ReachedWorlds.{reached}
-use Rattle.safety.proofs.WorldLemmas.SoundWorlds.{Sound, step-sound, opening-sound, order-fair, no-journal, live-causal, live-sends}
-use Rattle.safety.proofs.WorldLemmas.StationsAfterPut.{at-node, at-put, at-elsewhere}
-use Rattle.safety.proofs.MovesAndHistories.TableRows.{log-from}
+use Rattle.safety.proofs.WorldLemmas.SoundWorlds.{Sound, step_sound, opening_sound, order_fair, no_journal, live_causal, live_sends}
+use Rattle.safety.proofs.WorldLemmas.StationsAfterPut.{found_at_node, at_put, at_elsewhere}
+use Rattle.safety.proofs.MovesAndHistories.TableRows.{log_from}
 
 -- ---- what one input makes the log say
 
-one-message : (a b : Message) (s t : Moment) → Received a s ≡ Received b t → a ≡ b
-one-message a b s t e = cc (e)
+one_message : (a b : Message) (s t : Moment) → Received a s ≡ Received b t → a ≡ b
+one_message a b s t e = cc (e)
 
-one-list : (a b : List ℕ) → notice.Terminated a ≡ notice.Terminated b → a ≡ b
-one-list a b e = cc (e)
+one_list : (a b : List ℕ) → notice.Terminated a ≡ notice.Terminated b → a ≡ b
+one_list a b e = cc (e)
 
-not-cancelled : (found : List ℕ) → notice.Cancelled ≡ notice.Terminated found → ⊥
-not-cancelled found e = cc (e)
+not_cancelled : (found : List ℕ) → notice.Cancelled ≡ notice.Terminated found → ⊥
+not_cancelled found e = cc (e)
 
 -- a notification of Terminated has codes of eligibility alone
 abbrev IsFair : Notification → Type 0
 IsFair n = (found : List ℕ) (code : ℕ) → n.notice ≡ notice.Terminated found → In code found → (code ≡ 207) ⊎ (code ≡ 208)
 
 -- one that the log tells of a cancellation
-cancels-fair : (a n : Notification) → a.notice ≡ notice.Cancelled → message.Notification a ≡ message.Notification n → IsFair n
-cancels-fair a n is e found code said i = absurd (not-cancelled found (sym is ∙ ap (λ (z : Notification). z.notice) (one-notice a n e) ∙ said))
+cancels_fair : (a n : Notification) → a.notice ≡ notice.Cancelled → message.Notification a ≡ message.Notification n → IsFair n
+cancels_fair a n is e found code said i = absurd (not_cancelled found (sym is ∙ ap (λ (z : Notification). z.notice) (one_notice a n e) ∙ said))
 
 -- the log passes no notification of Terminated on
-passed-on : {X : Type 0} (a told new : Status) → log_row (Stands a) (Notified told) ≡ Move new → told ≡ Terminated → X
-passed-on a told new move is = elim (log-from a told new move) [
+passed_on : {X : Type 0} (a told new : Status) → log_row (Stands a) (Notified told) ≡ Move new → told ≡ Terminated → X
+passed_on a told new move is = elim (log_from a told new move) [
   | inl m ↦
       elim m.2 [
         | inl t ↦ let y : Accepted ≡ Terminated = sym t ∙ is in absurd (cc (y))
@@ -81,35 +81,35 @@ abbrev WasSent : World → Input → Type 0
 WasSent w input = (m : Message) (moment : Moment) → input ≡ Received m moment → In m (sends (committed_of w (sender m)))
 
 module _ (w : World) (sound : Sound w) (placed : AllPlaced w) where
-  terminated-codes : (p : Proposal) (found : List ℕ) → found ≡ log_findings w.scheme (ledger w.scheme (live_of w Itl)) p.id.code p.content → In (message.Proposal p) (sends (live_of w (Registry p.id.code)))
+  terminated_codes : (p : Proposal) (found : List ℕ) → found ≡ log_findings w.scheme (ledger w.scheme (live_of w Itl)) p.id.code p.content → In (message.Proposal p) (sends (live_of w (Registry p.id.code)))
       → newest (transitions_of (live_of w Itl)) p.id ≡ None → (n : Notification) → In (message.Notification n) (checked_message p.id p.content found ∷ []) → IsFair n
-  terminated-codes p [] is came none n (inl e) codes code said i = absurd (cc (e))
-  terminated-codes p [] is came none n (inr h) codes code said i = absurd h
-  terminated-codes p (c ∷ cs) is came none n (inl e) codes code said i =
-      let same = one-list (c ∷ cs) codes (ap (λ (z : Notification). z.notice) (one-notice _ n e) ∙ said) in
-      only-eligibility w.scheme (live_of w) (live-causal w sound) (live-unplaced w placed) p.id.code p came none code (subst (In code) (sym same ∙ is) i)
-  terminated-codes p (c ∷ cs) is came none n (inr h) codes code said i = absurd h
+  terminated_codes p [] is came none n (inl e) codes code said i = absurd (cc (e))
+  terminated_codes p [] is came none n (inr h) codes code said i = absurd h
+  terminated_codes p (c ∷ cs) is came none n (inl e) codes code said i =
+      let same = one_list (c ∷ cs) codes (ap (λ (z : Notification). z.notice) (one_notice _ n e) ∙ said) in
+      only_eligibility w.scheme (live_of w) (live_causal w sound) (live_unplaced w placed) p.id.code p came none code (subst (In code) (sym same ∙ is) i)
+  terminated_codes p (c ∷ cs) is came none n (inr h) codes code said i = absurd h
 
-  move-fair : (input : Input) (x : Transition) → WasSent w input → LogMove w.scheme (live_of w Itl) input x → (n : Notification) → In (message.Notification n) x.messages → IsFair n
-  move-fair input x came (checks p moment found from status findings none member) n h =
+  move_fair : (input : Input) (x : Transition) → WasSent w input → LogMove w.scheme (live_of w Itl) input x → (n : Notification) → In (message.Notification n) x.messages → IsFair n
+  move_fair input x came (checks p moment found from status findings none member) n h =
       let committed = came (message.Proposal p) moment refl in
-      let live = live-sends w p.from (message.Proposal p) committed in
-      terminated-codes p found findings (subst (λ z. In (message.Proposal p) (sends (live_of w z))) from live) none n h
-  move-fair input x came (passes k moment q new old member right move) n (inl e) = λ found code said i.
-      passed-on q.new (notice_status k.notice) new move (ap notice_status (ap (λ (z : Notification). z.notice) (one-notice _ n e) ∙ said))
-  move-fair input x came (passes k moment q new old member right move) n (inr h) = absurd h
-  move-fair input x came (cancels given moment t q why old was) n (inl e) = cancels-fair _ n refl e
-  move-fair input x came (cancels given moment t q why old was) n (inr (inl e)) = cancels-fair _ n refl e
-  move-fair input x came (cancels given moment t q why old was) n (inr (inr h)) = absurd h
-  move-fair input x came (forestalls r moment from member none) n (inl e) = cancels-fair _ n refl e
-  move-fair input x came (forestalls r moment from member none) n (inr h) = absurd h
+      let live = live_sends w p.from (message.Proposal p) committed in
+      terminated_codes p found findings (subst (λ z. In (message.Proposal p) (sends (live_of w z))) from live) none n h
+  move_fair input x came (passes k moment q new old member right move) n (inl e) = λ found code said i.
+      passed_on q.new (notice_status k.notice) new move (ap notice_status (ap (λ (z : Notification). z.notice) (one_notice _ n e) ∙ said))
+  move_fair input x came (passes k moment q new old member right move) n (inr h) = absurd h
+  move_fair input x came (cancels given moment t q why old was) n (inl e) = cancels_fair _ n refl e
+  move_fair input x came (cancels given moment t q why old was) n (inr (inl e)) = cancels_fair _ n refl e
+  move_fair input x came (cancels given moment t q why old was) n (inr (inr h)) = absurd h
+  move_fair input x came (forestalls r moment from member none) n (inl e) = cancels_fair _ n refl e
+  move_fair input x came (forestalls r moment from member none) n (inr h) = absurd h
 
-  input-fair : (input : Input) → WasSent w input → (n : Notification) → In (message.Notification n) (messages_of (made (verdict w.scheme Itl (live_of w Itl) input))) → IsFair n
+  input_fair : (input : Input) → WasSent w input → (n : Notification) → In (message.Notification n) (messages_of (made (verdict w.scheme Itl (live_of w Itl) input))) → IsFair n
   unfolding verdict
-  input-fair input came n h =
+  input_fair input came n h =
       let xs = made (verdict w.scheme Itl (live_of w Itl) input) in
-      let g = In-flat_map (λ (x : Transition). x.messages) (message.Notification n) xs h in
-      move-fair input g.0 came (log-moves w.scheme (live_of w Itl) input g.0 g.1) n g.2
+      let g = In_flat_map (λ (x : Transition). x.messages) (message.Notification n) xs h in
+      move_fair input g.0 came (log_moves w.scheme (live_of w Itl) input g.0 g.1) n g.2
 
 -- ---- what an event does to a live journal: it leaves it, cuts it off, or adds an input to it
 
@@ -122,42 +122,42 @@ Longer w xs ys = (input : Input) × WasSent w input × (ys ≡ xs ++ input ∷ [
 abbrev Goes : World → Station → Station → Type 0
 Goes w s t = Shorter (journal s) (journal t) ⊎ Longer w (journal s) (journal t)
 
-same-goes : (w : World) (s t : Station) → journal t ≡ journal s → Goes w s t
-same-goes w s t e = inl ([], sym e ∙ sym (append-nil (journal t)))
+same_goes : (w : World) (s t : Station) → journal t ≡ journal s → Goes w s t
+same_goes w s t e = inl ([], sym e ∙ sym (append-nil (journal t)))
 
-cond-goes : (w : World) (s : Station) (b : Bool) (t u : Turn) → Goes w s t.station → Goes w s u.station → Goes w s (cond b t u).station
-cond-goes w s true t u h i = h
-cond-goes w s false t u h i = i
+cond_goes : (w : World) (s : Station) (b : Bool) (t u : Turn) → Goes w s t.station → Goes w s u.station → Goes w s (cond b t u).station
+cond_goes w s true t u h i = h
+cond_goes w s false t u h i = i
 
-answered-goes : (w : World) (s : Station) (i : Input) (v : Verdict) → WasSent w i → Goes w s (answered s i v).station
-answered-goes w s i (Enters xs) came = inr (i, came, sym (append_assoc s.committed s.tail (i ∷ [])))
-answered-goes w s i IsRepeat came = same-goes w s s refl
-answered-goes w s i IsLate came = same-goes w s s refl
-answered-goes w s i (IsRefused code) came = same-goes w s s refl
+answered_goes : (w : World) (s : Station) (i : Input) (v : Verdict) → WasSent w i → Goes w s (answered s i v).station
+answered_goes w s i (Enters xs) came = inr (i, came, sym (append_assoc s.committed s.tail (i ∷ [])))
+answered_goes w s i IsRepeat came = same_goes w s s refl
+answered_goes w s i IsLate came = same_goes w s s refl
+answered_goes w s i (IsRefused code) came = same_goes w s s refl
 
-take-goes : (w : World) (i : Input) (s : Station) → WasSent w i → Goes w s (take_input w.scheme i s).station
-take-goes w i s came =
+take_goes : (w : World) (i : Input) (s : Station) → WasSent w i → Goes w s (take_input w.scheme i s).station
+take_goes w i s came =
     let v = verdict w.scheme s.node (history w.scheme s.node (journal s)) i in
-    cond-goes w s s.runs (answered s i v) (rests s NotPossible) (answered-goes w s i v came) (same-goes w s s refl)
+    cond_goes w s s.runs (answered s i v) (rests s NotPossible) (answered_goes w s i v came) (same_goes w s s refl)
 
 -- the tail in two
-cut-tail : (k : ℕ) (s : Station) → (s.committed ++ take k s.tail) ++ drop k s.tail ≡ journal s
-cut-tail k s = append_assoc s.committed (take k s.tail) (drop k s.tail) ∙ ap (λ z. s.committed ++ z) (take-append-drop k s.tail)
+cut_tail : (k : ℕ) (s : Station) → (s.committed ++ take k s.tail) ++ drop k s.tail ≡ journal s
+cut_tail k s = append_assoc s.committed (take k s.tail) (drop k s.tail) ∙ ap (λ z. s.committed ++ z) (take-append-drop k s.tail)
 
-commit-goes : (w : World) (count : ℕ) (s : Station) → Goes w s (commit count s).station
-commit-goes w count s =
-    cond-goes w s s.runs _ (rests s NotPossible)
-    (cond-goes w s (nat_le count (length s.tail)) _ (rests s NotPossible)
-    (same-goes w s (record s { committed = s.committed ++ take count s.tail; tail = drop count s.tail }) (cut-tail count s)) (same-goes w s s refl)) (same-goes w s s refl)
+commit_goes : (w : World) (count : ℕ) (s : Station) → Goes w s (commit count s).station
+commit_goes w count s =
+    cond_goes w s s.runs _ (rests s NotPossible)
+    (cond_goes w s (nat_le count (length s.tail)) _ (rests s NotPossible)
+    (same_goes w s (record s { committed = s.committed ++ take count s.tail; tail = drop count s.tail }) (cut_tail count s)) (same_goes w s s refl)) (same_goes w s s refl)
 
-crash-goes : (w : World) (kept : ℕ) (s : Station) → Goes w s (crash kept s).station
-crash-goes w kept s =
-    cond-goes w s s.runs _ (rests s NotPossible)
-    (cond-goes w s (nat_le kept (length s.tail)) _ (rests s NotPossible)
-    (inl (drop kept s.tail, sym (cut-tail kept s) ∙ ap (λ z. z ++ drop kept s.tail) (sym (append-nil (s.committed ++ take kept s.tail))))) (same-goes w s s refl)) (same-goes w s s refl)
+crash_goes : (w : World) (kept : ℕ) (s : Station) → Goes w s (crash kept s).station
+crash_goes w kept s =
+    cond_goes w s s.runs _ (rests s NotPossible)
+    (cond_goes w s (nat_le kept (length s.tail)) _ (rests s NotPossible)
+    (inl (drop kept s.tail, sym (cut_tail kept s) ∙ ap (λ z. z ++ drop kept s.tail) (sym (append-nil (s.committed ++ take kept s.tail))))) (same_goes w s s refl)) (same_goes w s s refl)
 
-restart-goes : (w : World) (s : Station) → Goes w s (restart s).station
-restart-goes w s = cond-goes w s s.runs (rests s NotPossible) _ (same-goes w s s refl) (same-goes w s (record s { runs = true }) refl)
+restart_goes : (w : World) (s : Station) → Goes w s (restart s).station
+restart_goes w s = cond_goes w s s.runs (rests s NotPossible) _ (same_goes w s s refl) (same_goes w s (record s { runs = true }) refl)
 
 -- ---- what the log says in a world
 
@@ -165,77 +165,77 @@ abbrev AllFair : List Entry → Type 0
 AllFair es = (n : Notification) → In (message.Notification n) (sends es) → IsFair n
 
 module _ (w : World) (sound : Sound w) (placed : AllPlaced w) (old : AllFair (live_of w Itl)) where
-  goes-fair : (xs ys : List Input) → whole (station w Itl) ≡ xs → Shorter xs ys ⊎ Longer w xs ys → AllFair (history w.scheme Itl ys)
-  goes-fair xs ys is (inl r) n h =
-      old n (subst (λ zs. In (message.Notification n) (sends (history w.scheme Itl zs))) (sym r.1 ∙ sym is) (sends-append w.scheme Itl ys r.0 (message.Notification n) h))
-  goes-fair xs ys is (inr r) n h =
+  goes_fair : (xs ys : List Input) → whole (station w Itl) ≡ xs → Shorter xs ys ⊎ Longer w xs ys → AllFair (history w.scheme Itl ys)
+  goes_fair xs ys is (inl r) n h =
+      old n (subst (λ zs. In (message.Notification n) (sends (history w.scheme Itl zs))) (sym r.1 ∙ sym is) (sends_append w.scheme Itl ys r.0 (message.Notification n) h))
+  goes_fair xs ys is (inr r) n h =
       let whole_now = whole (station w Itl) in
       let longer : ys ≡ whole_now ++ r.0 ∷ [] = r.2 ∙ ap (λ zs. zs ++ r.0 ∷ []) (sym is) in
-      let later = subst (λ (es : List Entry). In (message.Notification n) (sends es)) (ap (history w.scheme Itl) longer ∙ history_from-append w.scheme Itl [] whole_now (r.0 ∷ [])) h in
-      elim (In-cases (message.Notification n) (sends (live_of w Itl)) (messages_of (made (verdict w.scheme Itl (live_of w Itl) r.0))) later) [
+      let later = subst (λ (es : List Entry). In (message.Notification n) (sends es)) (ap (history w.scheme Itl) longer ∙ history_from_append w.scheme Itl [] whole_now (r.0 ∷ [])) h in
+      elim (In_cases (message.Notification n) (sends (live_of w Itl)) (messages_of (made (verdict w.scheme Itl (live_of w Itl) r.0))) later) [
         | inl i ↦ old n i
-        | inr i ↦ input-fair w sound placed r.0 r.1 n i
+        | inr i ↦ input_fair w sound placed r.0 r.1 n i
       ]
 
-  put-fair : (n : Node) (s t : Station) → station w n ≡ Some s → t.node ≡ s.node → Goes w s t → AllFair (live_of (put w t) Itl)
-  put-fair n s t is node goes =
-      let own = node ∙ at-node n w.stations s is in
+  put_fair : (n : Node) (s t : Station) → station w n ≡ Some s → t.node ≡ s.node → Goes w s t → AllFair (live_of (put w t) Itl)
+  put_fair n s t is node goes =
+      let own = node ∙ found_at_node n w.stations s is in
       elim (cases_Bool (same_node n Itl)) [
         | inl y ↦
             let at = node_of_same n Itl y in
             let before : whole (station w Itl) ≡ journal s = subst (λ z. whole (station w z) ≡ journal s) at (ap whole is) in
-            let after : whole (station (put w t) Itl) ≡ journal t = subst (λ z. whole (station (put w t) z) ≡ journal t) at (ap whole (at-put n w.stations s t is own)) in
-            subst (λ zs. AllFair (history w.scheme Itl zs)) (sym after) (goes-fair (journal s) (journal t) before goes)
-        | inr other ↦ subst (λ o. AllFair (history w.scheme Itl (whole o))) (sym (at-elsewhere n Itl w.stations t own other)) old
+            let after : whole (station (put w t) Itl) ≡ journal t = subst (λ z. whole (station (put w t) z) ≡ journal t) at (ap whole (at_put n w.stations s t is own)) in
+            subst (λ zs. AllFair (history w.scheme Itl zs)) (sym after) (goes_fair (journal s) (journal t) before goes)
+        | inr other ↦ subst (λ o. AllFair (history w.scheme Itl (whole o))) (sym (at_elsewhere n Itl w.stations t own other)) old
       ]
 
-  turn-fair : (n : Node) (o : Option Station) (f : Station → Turn) → station w n ≡ o → ((s : Station) → (f s).station.node ≡ s.node) → ((s : Station) → Goes w s (f s).station) → AllFair (live_of (at_node w o f).world Itl)
-  turn-fair n None f is node goes = old
-  turn-fair n (Some s) f is node goes = put-fair n s (f s).station is (node s) (goes s)
+  turn_fair : (n : Node) (o : Option Station) (f : Station → Turn) → station w n ≡ o → ((s : Station) → (f s).station.node ≡ s.node) → ((s : Station) → Goes w s (f s).station) → AllFair (live_of (at_node w o f).world Itl)
+  turn_fair n None f is node goes = old
+  turn_fair n (Some s) f is node goes = put_fair n s (f s).station is (node s) (goes s)
 
-  take-fair : (n : Node) (i : Input) → WasSent w i → AllFair (live_of (at_node w (station w n) (take_input w.scheme i)).world Itl)
-  take-fair n i came = turn-fair n (station w n) (take_input w.scheme i) refl (take-node w.scheme i) (λ s. take-goes w i s came)
+  take_fair : (n : Node) (i : Input) → WasSent w i → AllFair (live_of (at_node w (station w n) (take_input w.scheme i)).world Itl)
+  take_fair n i came = turn_fair n (station w n) (take_input w.scheme i) refl (take_node w.scheme i) (λ s. take_goes w i s came)
 
-  posted-fair : (n : Node) (key : ℕ) (o : Option Message) → AllFair (live_of (posted w n key o).world Itl)
-  posted-fair n key None = old
-  posted-fair n key (Some m) = old
+  posted_fair : (n : Node) (key : ℕ) (o : Option Message) → AllFair (live_of (posted w n key o).world Itl)
+  posted_fair n key None = old
+  posted_fair n key (Some m) = old
 
-  deliver-fair : (moment : Moment) (o : Option Posted) → ((p : Posted) → o ≡ Some p → In p w.bag) → AllFair (live_of (deliver w moment o).world Itl)
-  deliver-fair moment None there = old
-  deliver-fair moment (Some p) there =
-      take-fair (receiver p.message) (Received p.message moment)
-      (λ m at e. subst (λ z. In z (sends (committed_of w (sender z)))) (one-message p.message m moment at e) (sound.posted p (there p refl)))
+  deliver_fair : (moment : Moment) (o : Option Posted) → ((p : Posted) → o ≡ Some p → In p w.bag) → AllFair (live_of (deliver w moment o).world Itl)
+  deliver_fair moment None there = old
+  deliver_fair moment (Some p) there =
+      take_fair (receiver p.message) (Received p.message moment)
+      (λ m at e. subst (λ z. In z (sends (committed_of w (sender z)))) (one_message p.message m moment at e) (sound.posted p (there p refl)))
 
-  ordered-fair : (n : Node) (i : Input) (b : Bool) → is_order w n i ≡ b → AllFair (live_of (cond b (at_node w (station w n) (take_input w.scheme i)) (stays w NotPossible)).world Itl)
-  ordered-fair n i true order = take-fair n i (order-fair w n i order)
-  ordered-fair n i false order = old
+  ordered_fair : (n : Node) (i : Input) (b : Bool) → is_order w n i ≡ b → AllFair (live_of (cond b (at_node w (station w n) (take_input w.scheme i)) (stays w NotPossible)).world Itl)
+  ordered_fair n i true order = take_fair n i (order_fair w n i order)
+  ordered_fair n i false order = old
 
-  step-fair : (e : WorldEvent) → AllFair (live_of (step w e).world Itl)
+  step_fair : (e : WorldEvent) → AllFair (live_of (step w e).world Itl)
   unfolding step
-  step-fair (Take n i) = ordered-fair n i (is_order w n i) refl
-  step-fair (Commit n count) = turn-fair n (station w n) (commit count) refl (commit-node count) (commit-goes w count)
-  step-fair (Post n key) = posted-fair n key (option_and_then (sent w.scheme key) (station w n))
-  step-fair (Deliver index moment) = deliver-fair moment (slice_get w.bag index) (λ p e. In-slice_get w.bag index p e)
-  step-fair (Crash n kept) = turn-fair n (station w n) (crash kept) refl (crash-node kept) (crash-goes w kept)
-  step-fair (Restart n) = turn-fair n (station w n) restart refl restart-node (restart-goes w)
+  step_fair (Take n i) = ordered_fair n i (is_order w n i) refl
+  step_fair (Commit n count) = turn_fair n (station w n) (commit count) refl (commit_node count) (commit_goes w count)
+  step_fair (Post n key) = posted_fair n key (option_and_then (sent w.scheme key) (station w n))
+  step_fair (Deliver index moment) = deliver_fair moment (slice_get w.bag index) (λ p e. In_slice_get w.bag index p e)
+  step_fair (Crash n kept) = turn_fair n (station w n) (crash kept) refl (crash_node kept) (crash_goes w kept)
+  step_fair (Restart n) = turn_fair n (station w n) restart refl restart_node (restart_goes w)
 
-run-fair : (w : World) (events : List WorldEvent) → Sound w → AllPlaced w → AllFair (live_of w Itl) → AllFair (live_of (run w events) Itl)
-run-fair w [] sound placed old = old
-run-fair w (e ∷ es) sound placed old = run-fair (step w e).world es (step-sound w e sound) (step-placed w e placed) (step-fair w sound placed old e)
+run_fair : (w : World) (events : List WorldEvent) → Sound w → AllPlaced w → AllFair (live_of w Itl) → AllFair (live_of (run w events) Itl)
+run_fair w [] sound placed old = old
+run_fair w (e ∷ es) sound placed old = run_fair (step w e).world es (step_sound w e sound) (step_placed w e placed) (step_fair w sound placed old e)
 
-opening-fair : (scheme : Scheme) → AllFair (live_of (opening scheme) Itl)
-opening-fair scheme n h = absurd (subst (λ zs. In (message.Notification n) (sends (history scheme Itl zs))) (no-journal scheme Itl) h)
+opening_fair : (scheme : Scheme) → AllFair (live_of (opening scheme) Itl)
+opening_fair scheme n h = absurd (subst (λ zs. In (message.Notification n) (sends (history scheme Itl zs))) (no_journal scheme Itl) h)
 
-reached-fair : (scheme : Scheme) (events : List WorldEvent) → AllFair (live_of (reached scheme events) Itl)
-reached-fair scheme events = run-fair (opening scheme) events (opening-sound scheme) (opening-placed scheme) (opening-fair scheme)
+reached_fair : (scheme : Scheme) (events : List WorldEvent) → AllFair (live_of (reached scheme events) Itl)
+reached_fair scheme events = run_fair (opening scheme) events (opening_sound scheme) (opening_placed scheme) (opening_fair scheme)
 
 -- ---- the law
 
-pub terminates-live : (scheme : Scheme) (events : List WorldEvent) → TerminatesForEligibility (live_of (reached scheme events))
-terminates-live scheme events n found code h said i =
-    reached-fair scheme events n (In-contains (sends (live_of (reached scheme events) Itl)) (message.Notification n) h) found code said (In-contains found code i)
+pub terminates_live : (scheme : Scheme) (events : List WorldEvent) → TerminatesForEligibility (live_of (reached scheme events))
+terminates_live scheme events n found code h said i =
+    reached_fair scheme events n (In_contains (sends (live_of (reached scheme events) Itl)) (message.Notification n) h) found code said (In_contains found code i)
 
-pub terminates-committed : (scheme : Scheme) (events : List WorldEvent) → TerminatesForEligibility (committed_of (reached scheme events))
-terminates-committed scheme events n found code h said i =
+pub terminates_committed : (scheme : Scheme) (events : List WorldEvent) → TerminatesForEligibility (committed_of (reached scheme events))
+terminates_committed scheme events n found code h said i =
     let w = reached scheme events in
-    reached-fair scheme events n (live-sends w Itl (message.Notification n) (In-contains (sends (committed_of w Itl)) (message.Notification n) h)) found code said (In-contains found code i)
+    reached_fair scheme events n (live_sends w Itl (message.Notification n) (In_contains (sends (committed_of w Itl)) (message.Notification n) h)) found code said (In_contains found code i)

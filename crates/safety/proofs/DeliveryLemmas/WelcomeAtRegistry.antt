@@ -41,89 +41,89 @@ use Rattle.protocol.specs.Pieces.{Piece, pieces, repeats}
 use Rattle.protocol.specs.Registries.{has_member}
 use Rattle.protocol.specs.World.{receiver}
 use Rattle.safety.proofs.AgreementOfNodes.InitiatorRecords.{begun, initiated}
-use Rattle.safety.proofs.AgreementOfNodes.CausalHistories.{Causal, heard-sent, log-said, past-transition}
-use Rattle.safety.proofs.AgreementOfNodes.CompletionsAgree.{log-has}
-use Rattle.safety.proofs.ListLemmas.CountsInLists.{list-any-not}
+use Rattle.safety.proofs.AgreementOfNodes.CausalHistories.{Causal, heard_sent, log_said, past_transition}
+use Rattle.safety.proofs.AgreementOfNodes.CompletionsAgree.{log_has}
+use Rattle.safety.proofs.ListLemmas.CountsInLists.{list_any_not}
 use Rattle.safety.proofs.OneRegistry.TransactionEnds.{known}
-use Rattle.safety.proofs.OneLog.LogSendings.{no-request, passed-on, goes, ToKnown, never-proposed}
-use Rattle.safety.proofs.MovesAndHistories.NewestTransitions.{newest-id}
-use Rattle.safety.proofs.ListLemmas.Membership.{In, codes-differ, other-code, one-some}
-use Rattle.safety.proofs.OwnersOfUnits.UnitsWithOneOwner.{held-or-owed}
-use Rattle.safety.proofs.OneRegistry.InitiatorStatuses.{IsOwnStatus, own-statuses}
-use Rattle.safety.proofs.MovesAndHistories.TableRows.{known-status, acquirer-offer-row, unless-same}
-use Rattle.safety.proofs.MovesAndHistories.RefusalCauses.{welcome-row, Welcome, welcome-enters, welcome-repeat, welcome-late, welcome-refuse, welcome-true, welcome-false, right-node, is-known, no-other}
-use Rattle.safety.proofs.OneLog.LogHearings.{IsAgreed, log-backed, log-sent, log-offered}
-use Rattle.safety.proofs.MovesAndHistories.MessageSenders.{sender-sends}
+use Rattle.safety.proofs.OneLog.LogSendings.{no_request, passed_on, goes, ToKnown, never_proposed}
+use Rattle.safety.proofs.MovesAndHistories.NewestTransitions.{newest_id}
+use Rattle.safety.proofs.ListLemmas.Membership.{In, codes_differ, other_code, one_some}
+use Rattle.safety.proofs.OwnersOfUnits.UnitsWithOneOwner.{held_or_owed}
+use Rattle.safety.proofs.OneRegistry.InitiatorStatuses.{IsOwnStatus, own_statuses}
+use Rattle.safety.proofs.MovesAndHistories.TableRows.{known_status, acquirer_offer_row, unless_same}
+use Rattle.safety.proofs.MovesAndHistories.RefusalCauses.{welcome_row, Welcome, welcome_enters, welcome_repeat, welcome_late, welcome_refuse, welcome_true, welcome_false, right_node, known_by_newest, no_other}
+use Rattle.safety.proofs.OneLog.LogHearings.{IsAgreed, log_backed, log_sent, log_offered}
+use Rattle.safety.proofs.MovesAndHistories.MessageSenders.{sender_sends}
 use Rattle.safety.proofs.MovesAndHistories.TableRows.{word_to}
-use Rattle.safety.proofs.OneRegistry.RegistryHearings.{Cause, IsTaken, told-own, told, accepted-sent}
+use Rattle.safety.proofs.OneRegistry.RegistryHearings.{Cause, IsTaken, told_own, told, accepted_sent}
 use Rattle.safety.proofs.ListLemmas.UnitsOfBlocks.{covered}
 use Rattle.safety.proofs.WorldLemmas.NodesWithStation.{Unplaced}
 
 -- ---- the tables of a registry have a row
 
-word-not-completed : (s : Status) → word_to s ≡ Completed → ⊥
-word-not-completed Completed h = cc (h)
-word-not-completed Proposed h = cc (h)
-word-not-completed Checked h = cc (h)
-word-not-completed Accepted h = cc (h)
-word-not-completed Rejected h = cc (h)
-word-not-completed Terminated h = cc (h)
-word-not-completed Cancelled h = cc (h)
+word_not_completed : (s : Status) → word_to s ≡ Completed → ⊥
+word_not_completed Completed h = cc (h)
+word_not_completed Proposed h = cc (h)
+word_not_completed Checked h = cc (h)
+word_not_completed Accepted h = cc (h)
+word_not_completed Rejected h = cc (h)
+word_not_completed Terminated h = cc (h)
+word_not_completed Cancelled h = cc (h)
 
 -- two words of the log about one transfer, none of them Completed, are the same
-one-word : (now s log : Status) → (s ≡ Completed → ⊥) → (log ≡ word_to now) ⊎ ((word_to now ≡ Accepted) × (log ≡ Completed)) → (log ≡ s) ⊎ ((s ≡ Accepted) × (log ≡ Completed)) → word_to now ≡ s
-one-word now s log other (inl a) (inl b) = sym a ∙ b
-one-word now s log other (inl a) (inr b) = absurd (word-not-completed now (sym a ∙ b.1))
-one-word now s log other (inr a) (inl b) = absurd (other (sym b ∙ a.1))
-one-word now s log other (inr a) (inr b) = a.0 ∙ sym b.0
+one_word : (now s log : Status) → (s ≡ Completed → ⊥) → (log ≡ word_to now) ⊎ ((word_to now ≡ Accepted) × (log ≡ Completed)) → (log ≡ s) ⊎ ((s ≡ Accepted) × (log ≡ Completed)) → word_to now ≡ s
+one_word now s log other (inl a) (inl b) = sym a ∙ b
+one_word now s log other (inl a) (inr b) = absurd (word_not_completed now (sym a ∙ b.1))
+one_word now s log other (inr a) (inl b) = absurd (other (sym b ∙ a.1))
+one_word now s log other (inr a) (inr b) = a.0 ∙ sym b.0
 
 -- where the initiator stands at an end, it was told so before
-told-again : (now s : Status) → IsOwnStatus now → word_to now ≡ s → (now ≡ Proposed → ⊥) → initiator_row (Stands now) (Notified (word_to now)) ≡ Refused → ⊥
-told-again Proposed s own e other h = other refl
-told-again Checked s own e other h = own
-told-again Accepted s own e other h = own
-told-again Rejected s own e other h = cc (h)
-told-again Terminated s own e other h = cc (h)
-told-again Cancelled s own e other h = cc (h)
-told-again Completed s own e other h = cc (h)
+told_again : (now s : Status) → IsOwnStatus now → word_to now ≡ s → (now ≡ Proposed → ⊥) → initiator_row (Stands now) (Notified (word_to now)) ≡ Refused → ⊥
+told_again Proposed s own e other h = other refl
+told_again Checked s own e other h = own
+told_again Accepted s own e other h = own
+told_again Rejected s own e other h = cc (h)
+told_again Terminated s own e other h = cc (h)
+told_again Cancelled s own e other h = cc (h)
+told_again Completed s own e other h = cc (h)
 
-told-first : (s : Status) → (s ≡ Completed → ⊥) → (s ≡ Proposed → ⊥) → (s ≡ Checked → ⊥) → initiator_row (Stands Proposed) (Notified s) ≡ Refused → ⊥
-told-first Accepted a b d h = cc (h)
-told-first Rejected a b d h = cc (h)
-told-first Terminated a b d h = cc (h)
-told-first Cancelled a b d h = cc (h)
-told-first Completed a b d h = a refl
-told-first Proposed a b d h = b refl
-told-first Checked a b d h = d refl
+told_first : (s : Status) → (s ≡ Completed → ⊥) → (s ≡ Proposed → ⊥) → (s ≡ Checked → ⊥) → initiator_row (Stands Proposed) (Notified s) ≡ Refused → ⊥
+told_first Accepted a b d h = cc (h)
+told_first Rejected a b d h = cc (h)
+told_first Terminated a b d h = cc (h)
+told_first Cancelled a b d h = cc (h)
+told_first Completed a b d h = a refl
+told_first Proposed a b d h = b refl
+told_first Checked a b d h = d refl
 
-proposed-or-not : (s : Status) → (s ≡ Proposed) ⊎ (s ≡ Proposed → ⊥)
-proposed-or-not Proposed = inl refl
-proposed-or-not Checked = inr (λ e. cc (e))
-proposed-or-not Accepted = inr (λ e. cc (e))
-proposed-or-not Rejected = inr (λ e. cc (e))
-proposed-or-not Terminated = inr (λ e. cc (e))
-proposed-or-not Cancelled = inr (λ e. cc (e))
-proposed-or-not Completed = inr (λ e. cc (e))
+proposed_or_not : (s : Status) → (s ≡ Proposed) ⊎ (s ≡ Proposed → ⊥)
+proposed_or_not Proposed = inl refl
+proposed_or_not Checked = inr (λ e. cc (e))
+proposed_or_not Accepted = inr (λ e. cc (e))
+proposed_or_not Rejected = inr (λ e. cc (e))
+proposed_or_not Terminated = inr (λ e. cc (e))
+proposed_or_not Cancelled = inr (λ e. cc (e))
+proposed_or_not Completed = inr (λ e. cc (e))
 
-settles-word : (now s : Status) → IsOwnStatus now → (now ≡ Proposed) ⊎ (word_to now ≡ s) → (s ≡ Completed → ⊥) → (s ≡ Proposed → ⊥) → (s ≡ Checked → ⊥) → initiator_row (Stands now) (Notified s) ≡ Refused → ⊥
-settles-word now s own (inl e) a b d h = told-first s a b d (subst (λ z. initiator_row (Stands z) (Notified s) ≡ Refused) e h)
-settles-word now s own (inr e) a b d h =
-    elim (proposed-or-not now) [
-      | inl p ↦ told-first s a b d (subst (λ z. initiator_row (Stands z) (Notified s) ≡ Refused) p h)
-      | inr other ↦ told-again now s own e other (subst (λ w. initiator_row (Stands now) (Notified w) ≡ Refused) (sym e) h)
+settles_word : (now s : Status) → IsOwnStatus now → (now ≡ Proposed) ⊎ (word_to now ≡ s) → (s ≡ Completed → ⊥) → (s ≡ Proposed → ⊥) → (s ≡ Checked → ⊥) → initiator_row (Stands now) (Notified s) ≡ Refused → ⊥
+settles_word now s own (inl e) a b d h = told_first s a b d (subst (λ z. initiator_row (Stands z) (Notified s) ≡ Refused) e h)
+settles_word now s own (inr e) a b d h =
+    elim (proposed_or_not now) [
+      | inl p ↦ told_first s a b d (subst (λ z. initiator_row (Stands z) (Notified s) ≡ Refused) p h)
+      | inr other ↦ told_again now s own e other (subst (λ w. initiator_row (Stands now) (Notified w) ≡ Refused) (sym e) h)
     ]
 
-registry-code : (a b : Code) → Registry a ≡ Registry b → a ≡ b
-registry-code a b e = cc (e)
+registry_code : (a b : Code) → Registry a ≡ Registry b → a ≡ b
+registry_code a b e = cc (e)
 
-taken-known : (o : Option Transition) → IsTaken o → (x : Transition) × (o ≡ Some x)
-taken-known None h = absurd h
-taken-known (Some x) h = (x, refl)
+taken_known : (o : Option Transition) → IsTaken o → (x : Transition) × (o ≡ Some x)
+taken_known None h = absurd h
+taken_known (Some x) h = (x, refl)
 
 module _ (scheme : Scheme) (f : Node → List Entry) (causal : Causal scheme f) (unplaced : Unplaced scheme f) where
   -- a registry with a history is one of the scheme's
-  pub registry-known : (c : Code) (t : TransactionId) (x : Transition) → newest (at_registry f c) t ≡ Some x → has_member scheme c ≡ true
-  registry-known c t x h =
+  pub registry_known : (c : Code) (t : TransactionId) (x : Transition) → newest (at_registry f c) t ≡ Some x → has_member scheme c ≡ true
+  registry_known c t x h =
       elim (cases_Bool (has_member scheme c)) [
         | inl y ↦ y
         | inr n ↦ let e = subst (λ (es : List Entry). newest (transitions_of es) t ≡ Some x) (unplaced (Registry c) n) h in absurd (cc (e))
@@ -135,25 +135,25 @@ module _ (scheme : Scheme) (f : Node → List Entry) (causal : Causal scheme f) 
 
     -- ---- a proposal
 
-    offer-welcome : (p : Proposal) (moment : Moment) → In (message.Proposal p) (sends (f Itl)) → p.to ≡ Registry c → Welcome (registry_verdict scheme c here (Received (message.Proposal p) moment))
-    offer-welcome p moment h to =
-        let facts = passed-on scheme (f Itl) (causal.made Itl) p h in
-        let o = log-offered scheme (f Itl) (causal.made Itl) p h in
-        let mine : p.content.acquirer ≡ c = registry-code p.content.acquirer c (sym o.3 ∙ to) in
-        let foreign : same_code p.id.code c ≡ false = other-code p.id.code c (λ e. codes-differ p.content.acquirer p.id.code facts.acquirer_other (mine ∙ sym e)) in
+    offer_welcome : (p : Proposal) (moment : Moment) → In (message.Proposal p) (sends (f Itl)) → p.to ≡ Registry c → Welcome (registry_verdict scheme c here (Received (message.Proposal p) moment))
+    offer_welcome p moment h to =
+        let facts = passed_on scheme (f Itl) (causal.made Itl) p h in
+        let o = log_offered scheme (f Itl) (causal.made Itl) p h in
+        let mine : p.content.acquirer ≡ c = registry_code p.content.acquirer c (sym o.3 ∙ to) in
+        let foreign : same_code p.id.code c ≡ false = other_code p.id.code c (λ e. codes_differ p.content.acquirer p.id.code facts.acquirer_other (mine ∙ sym e)) in
         let acquirer : same_code p.content.acquirer c ≡ true = subst (λ z. same_code p.content.acquirer z ≡ true) mine (same_code-refl p.content.acquirer) in
-        welcome-refuse (registry_refusals c here (message.Proposal p)) (registry_answer scheme c here moment.seconds (message.Proposal p)) (
-          right-node p.to (Registry c) to,
+        welcome_refuse (registry_refusals c here (message.Proposal p)) (registry_answer scheme c here moment.seconds (message.Proposal p)) (
+          right_node p.to (Registry c) to,
           (
-            right-node p.from Itl (sender-sends scheme Itl (f Itl) (causal.made Itl) (message.Proposal p) h),
+            right_node p.from Itl (sender_sends scheme Itl (f Itl) (causal.made Itl) (message.Proposal p) h),
             (
               or_from (not (same_code p.content.acquirer c)) _ (not_from_true (same_code p.content.acquirer c) acquirer) (or_from (same_code p.id.code c) (repeats (pieces p.content.units)) foreign facts.apart),
               (
-                no-other (newest (transitions_of here) p.id) p.content (λ x e. elim (known scheme c here (causal.made (Registry c)) p.id x e foreign) [
+                no_other (newest (transitions_of here) p.id) p.content (λ x e. elim (known scheme c here (causal.made (Registry c)) p.id x e foreign) [
                   | inl z ↦ inl z.1
                   | inr z ↦
-                      let l = log-has scheme f causal c p.id z.content z.got in
-                      let same : l.0 ≡ o.0 = one-some l.0 o.0 (sym l.1 ∙ o.1) in
+                      let l = log_has scheme f causal c p.id z.content z.got in
+                      let same : l.0 ≡ o.0 = one_some l.0 o.0 (sym l.1 ∙ o.1) in
                       inr (z.is ∙ sym l.2 ∙ ap (λ (w : Transition). w.content) same ∙ o.2)
                 ]),
                 (subst (λ (s : ProposalStatus). not (is_checked s) ≡ false) (sym facts.status) refl, tt),
@@ -161,50 +161,50 @@ module _ (scheme : Scheme) (f : Node → List Entry) (causal : Causal scheme f) 
             ),
           ),
         )
-        (welcome-row scheme here _ _ (acquirer-offer-row (newest (transitions_of here) p.id) (acquirer_findings scheme c (holding scheme c here) p.content)))
+        (welcome_row scheme here _ _ (acquirer_offer_row (newest (transitions_of here) p.id) (acquirer_findings scheme c (holding scheme c here) p.content)))
 
     -- ---- a notification
 
-    notice-welcome : (n : Notification) (moment : Moment) → In (message.Notification n) (sends (f Itl)) → n.to ≡ Registry c
+    notice_welcome : (n : Notification) (moment : Moment) → In (message.Notification n) (sends (f Itl)) → n.to ≡ Registry c
         → (not (is_known (transitions_of here) n.id) && not (same_status (notice_status n.notice) Cancelled && not (same_code n.id.code c))) ≡ false
         → Welcome (in_role scheme c here n.id (newest (transitions_of here) n.id) moment.seconds (Notified (notice_status n.notice)))
         → Welcome (registry_verdict scheme c here (Received (message.Notification n) moment))
-    notice-welcome n moment h to about w =
-        welcome-refuse (registry_refusals c here (message.Notification n)) (in_role scheme c here n.id (newest (transitions_of here) n.id) moment.seconds (Notified (notice_status n.notice)))
-        (right-node n.to (Registry c) to, (right-node n.from Itl (sender-sends scheme Itl (f Itl) (causal.made Itl) (message.Notification n) h), (about, tt)))
+    notice_welcome n moment h to about w =
+        welcome_refuse (registry_refusals c here (message.Notification n)) (in_role scheme c here n.id (newest (transitions_of here) n.id) moment.seconds (Notified (notice_status n.notice)))
+        (right_node n.to (Registry c) to, (right_node n.from Itl (sender_sends scheme Itl (f Itl) (causal.made Itl) (message.Notification n) h), (about, tt)))
         w
 
     -- to the initiator
 
-    initiator-welcome : (n : Notification) (moment : Moment) → In (message.Notification n) (sends (f Itl)) → n.to ≡ Registry c → n.id.code ≡ c → (notice_status n.notice ≡ Completed → ⊥)
+    initiator_welcome : (n : Notification) (moment : Moment) → In (message.Notification n) (sends (f Itl)) → n.to ≡ Registry c → n.id.code ≡ c → (notice_status n.notice ≡ Completed → ⊥)
         → Welcome (registry_verdict scheme c here (Received (message.Notification n) moment))
-    initiator-welcome n moment h to code not_completed =
+    initiator_welcome n moment h to code not_completed =
         let s = notice_status n.notice in
-        let past = log-sent scheme (f Itl) (causal.made Itl) n h in
-        let l = past-transition s (newest (transitions_of (f Itl)) n.id) past.0 in
+        let past = log_sent scheme (f Itl) (causal.made Itl) n h in
+        let l = past_transition s (newest (transitions_of (f Itl)) n.id) past.0 in
         let b = initiated scheme f causal n.id l.0 l.1 in
         let x = b.last in
         let last : newest (transitions_of here) n.id ≡ Some x = subst (λ z. newest (at_registry f z) n.id ≡ Some x) code b.is in
         let own : same_code n.id.code c ≡ true = subst (λ z. same_code n.id.code z ≡ true) code (same_code-refl n.id.code) in
-        let id = newest-id (transitions_of here) n.id x last in
-        let status = own-statuses scheme c here (causal.made (Registry c)) x id.0 (subst (λ (z : TransactionId). same_code z.code c ≡ true) (sym id.1) own) in
-        let word : (x.new ≡ Proposed) ⊎ (word_to x.new ≡ s) = elim (told-own scheme c here (causal.made (Registry c)) n.id x last own) [
+        let id = newest_id (transitions_of here) n.id x last in
+        let status = own_statuses scheme c here (causal.made (Registry c)) x id.0 (subst (λ (z : TransactionId). same_code z.code c ≡ true) (sym id.1) own) in
+        let word : (x.new ≡ Proposed) ⊎ (word_to x.new ≡ s) = elim (told_own scheme c here (causal.made (Registry c)) n.id x last own) [
           | inl e ↦ inl e
           | inr g ↦
-              let k = log-said scheme f causal (Registry c) n.id (word_to x.new) g in
-              let same : k.0 ≡ l.0 = one-some k.0 l.0 (sym k.1 ∙ l.1) in
+              let k = log_said scheme f causal (Registry c) n.id (word_to x.new) g in
+              let same : k.0 ≡ l.0 = one_some k.0 l.0 (sym k.1 ∙ l.1) in
               let said = subst (λ (z : Transition). (z.new ≡ word_to x.new) ⊎ ((word_to x.new ≡ Accepted) × (z.new ≡ Completed))) same k.2 in
-              inr (one-word x.new s l.0.new not_completed said l.2)
+              inr (one_word x.new s l.0.new not_completed said l.2)
         ] in
         let not_proposed : s ≡ Proposed → ⊥ = λ e. elim l.2 [
-          | inl d ↦ never-proposed scheme (f Itl) (causal.made Itl) l.0 (newest-id (transitions_of (f Itl)) n.id l.0 l.1).0 (d ∙ e)
+          | inl d ↦ never_proposed scheme (f Itl) (causal.made Itl) l.0 (newest_id (transitions_of (f Itl)) n.id l.0 l.1).0 (d ∙ e)
           | inr d ↦ let y : Accepted ≡ Proposed = sym d.0 ∙ e in cc (y)
         ] in
-        notice-welcome n moment h to (and_left (not (is_known (transitions_of here) n.id)) _ (is-known (transitions_of here) n.id x last))
+        notice_welcome n moment h to (and_left (not (is_known (transitions_of here) n.id)) _ (known_by_newest (transitions_of here) n.id x last))
         (subst (λ z. Welcome (in_role scheme c here n.id z moment.seconds (Notified s))) (sym last)
-        (welcome-true (same_code n.id.code c) _ _ own
-        (welcome-row scheme here _ _
-        (subst (λ z. initiator_row z (Notified s) ≡ Refused → ⊥) (sym (known-status x b.content b.known)) (settles-word x.new s status word not_completed not_proposed past.1)))))
+        (welcome_true (same_code n.id.code c) _ _ own
+        (welcome_row scheme here _ _
+        (subst (λ z. initiator_row z (Notified s) ≡ Refused → ⊥) (sym (known_status x b.content b.known)) (settles_word x.new s status word not_completed not_proposed past.1)))))
 
     -- to the acquirer
 
@@ -214,12 +214,12 @@ module _ (scheme : Scheme) (f : Node → List Entry) (causal : Causal scheme f) 
         by_row scheme here (decide.moved t (content_in o) moment (acquirer_sends c t [] (Notified told)))
         (unless_held (holds_some scheme c (transitions_of here) (content_in o)) (acquirer_row (known_as o) (Notified told)))
 
-    welcome-finish : (t : TransactionId) (o : Option Transition) (moment : ℕ) (told : Status) (row : Row) → acquirer_row (known_as o) (Notified told) ≡ row → (row ≡ Refused → ⊥)
+    welcome_finish : (t : TransactionId) (o : Option Transition) (moment : ℕ) (told : Status) (row : Row) → acquirer_row (known_as o) (Notified told) ≡ row → (row ≡ Refused → ⊥)
         → (row ≡ Move Completed → holds_some scheme c (transitions_of here) (content_in o) ≡ false) → Welcome (finish t o moment told)
-    welcome-finish t o moment told row is h free =
+    welcome_finish t o moment told row is h free =
         subst (λ z. Welcome (by_row scheme here (decide.moved t (content_in o) moment (acquirer_sends c t [] (Notified told))) z))
-        (sym (ap (unless_held (holds_some scheme c (transitions_of here) (content_in o))) is ∙ unless-same (holds_some scheme c (transitions_of here) (content_in o)) row free))
-        (welcome-row scheme here _ row h)
+        (sym (ap (unless_held (holds_some scheme c (transitions_of here) (content_in o))) is ∙ unless_same (holds_some scheme c (transitions_of here) (content_in o)) row free))
+        (welcome_row scheme here _ row h)
 
     -- a transfer that the log completed and the acquirer did not owes its units
     owing : (t : TransactionId) (x l : Transition) (k : Content) (s : Serial) → newest (transitions_of here) t ≡ Some x → x.new ≡ Accepted → newest (transitions_of (f Itl)) t ≡ Some l → l.new ≡ Completed → l.content ≡ Some k
@@ -239,68 +239,68 @@ module _ (scheme : Scheme) (f : Node → List Entry) (causal : Causal scheme f) 
         }
 
     -- so its acquirer holds none of them
-    not-held : (t : TransactionId) (x l : Transition) → newest (transitions_of here) t ≡ Some x → x.new ≡ Accepted → same_code t.code c ≡ false → newest (transitions_of (f Itl)) t ≡ Some l → l.new ≡ Completed
+    not_held : (t : TransactionId) (x l : Transition) → newest (transitions_of here) t ≡ Some x → x.new ≡ Accepted → same_code t.code c ≡ false → newest (transitions_of (f Itl)) t ≡ Some l → l.new ≡ Completed
         → holds_some scheme c (transitions_of here) x.content ≡ false
-    not-held t x l last accepted foreign log_last done =
+    not_held t x l last accepted foreign log_last done =
         elim (known scheme c here (causal.made (Registry c)) t x last foreign) [
           | inl e ↦ subst (λ k. holds_some scheme c (transitions_of here) k ≡ false) (sym e.1) refl
           | inr z ↦
               subst (λ k. holds_some scheme c (transitions_of here) k ≡ false) (sym z.is)
-              (list-any-not (λ (p : Piece). holds scheme c (transitions_of here) p.unit) (pieces z.content.units) (λ p i held.
-              let o = log-has scheme f causal c t z.content z.got in
-              let content : l.content ≡ Some z.content = ap (λ (v : Transition). v.content) (one-some l o.0 (sym log_last ∙ o.1)) ∙ o.2 in
+              (list_any_not (λ (p : Piece). holds scheme c (transitions_of here) p.unit) (pieces z.content.units) (λ p i held.
+              let o = log_has scheme f causal c t z.content z.got in
+              let content : l.content ≡ Some z.content = ap (λ (v : Transition). v.content) (one_some l o.0 (sym log_last ∙ o.1)) ∙ o.2 in
               let owe = owing t x l z.content p.unit last accepted log_last done content z.here (covered z.content.units p i) in
-              held-or-owed scheme f causal p.unit c t (registry-known c t x last, held) owe))
+              held_or_owed scheme f causal p.unit c t (registry_known c t x last, held) owe))
         ]
 
     -- an acquirer that was not told of a cancellation has the content
-    taken-content : (t : TransactionId) (x : Transition) → newest (transitions_of here) t ≡ Some x → same_code t.code c ≡ false → (x.new ≡ Cancelled → ⊥) → (k : Content) × (x.content ≡ Some k)
-    taken-content t x last foreign other =
+    taken_content : (t : TransactionId) (x : Transition) → newest (transitions_of here) t ≡ Some x → same_code t.code c ≡ false → (x.new ≡ Cancelled → ⊥) → (k : Content) × (x.content ≡ Some k)
+    taken_content t x last foreign other =
         elim (known scheme c here (causal.made (Registry c)) t x last foreign) [
           | inl e ↦ absurd (other e.0)
           | inr z ↦ (z.content, z.is)
         ]
 
-    table-of : (x : Transition) (s : Status) → (k : Content) × (x.content ≡ Some k) → acquirer_row (known_as (Some x)) (Notified s) ≡ acquirer_row (Stands x.new) (Notified s)
-    table-of x s k = ap (λ z. acquirer_row z (Notified s)) (known-status x k.0 k.1)
+    table_of : (x : Transition) (s : Status) → (k : Content) × (x.content ≡ Some k) → acquirer_row (known_as (Some x)) (Notified s) ≡ acquirer_row (Stands x.new) (Notified s)
+    table_of x s k = ap (λ z. acquirer_row z (Notified s)) (known_status x k.0 k.1)
 
-    told-completed : (t : TransactionId) (l x : Transition) (moment : ℕ) → same_code t.code c ≡ false → newest (transitions_of (f Itl)) t ≡ Some l → l.new ≡ Completed → newest (transitions_of here) t ≡ Some x → IsTaken (Some x)
+    told_completed : (t : TransactionId) (l x : Transition) (moment : ℕ) → same_code t.code c ≡ false → newest (transitions_of (f Itl)) t ≡ Some l → l.new ≡ Completed → newest (transitions_of here) t ≡ Some x → IsTaken (Some x)
         → Welcome (finish t (Some x) moment Completed)
-    told-completed t l x moment foreign log_last done last (inl e) =
-        welcome-finish t (Some x) moment Completed (Move Completed)
-        (table-of x Completed (taken-content t x last foreign (λ d. let y : Accepted ≡ Cancelled = sym e ∙ d in cc (y))) ∙ ap (λ z. acquirer_row (Stands z) (Notified Completed)) e) (λ h. cc (h))
-        (λ h. not-held t x l last e foreign log_last done)
-    told-completed t l x moment foreign log_last done last (inr (inl e)) =
-        welcome-finish t (Some x) moment Completed Repeat
-        (table-of x Completed (taken-content t x last foreign (λ d. let y : Completed ≡ Cancelled = sym e ∙ d in cc (y))) ∙ ap (λ z. acquirer_row (Stands z) (Notified Completed)) e) (λ h. cc (h)) (λ h. absurd (cc (h)))
-    told-completed t l x moment foreign log_last done last (inr (inr e)) =
+    told_completed t l x moment foreign log_last done last (inl e) =
+        welcome_finish t (Some x) moment Completed (Move Completed)
+        (table_of x Completed (taken_content t x last foreign (λ d. let y : Accepted ≡ Cancelled = sym e ∙ d in cc (y))) ∙ ap (λ z. acquirer_row (Stands z) (Notified Completed)) e) (λ h. cc (h))
+        (λ h. not_held t x l last e foreign log_last done)
+    told_completed t l x moment foreign log_last done last (inr (inl e)) =
+        welcome_finish t (Some x) moment Completed Repeat
+        (table_of x Completed (taken_content t x last foreign (λ d. let y : Completed ≡ Cancelled = sym e ∙ d in cc (y))) ∙ ap (λ z. acquirer_row (Stands z) (Notified Completed)) e) (λ h. cc (h)) (λ h. absurd (cc (h)))
+    told_completed t l x moment foreign log_last done last (inr (inr e)) =
         let p = subst (Cause c here t) e (told scheme c here (causal.made (Registry c)) t x last foreign) in
-        let k = log-said scheme f causal (Registry c) t Cancelled p in
-        let same : k.0 ≡ l = one-some k.0 l (sym k.1 ∙ log_last) in
+        let k = log_said scheme f causal (Registry c) t Cancelled p in
+        let same : k.0 ≡ l = one_some k.0 l (sym k.1 ∙ log_last) in
         absurd (elim k.2 [
           | inl d ↦ let y : Cancelled ≡ Completed = sym d ∙ ap (λ (z : Transition). z.new) same ∙ done in cc (y)
           | inr d ↦ let y : Cancelled ≡ Accepted = d.0 in cc (y)
         ])
 
-    told-cancelled : (t : TransactionId) (l : Transition) (o : Option Transition) (moment : ℕ) → same_code t.code c ≡ false → newest (transitions_of (f Itl)) t ≡ Some l → l.new ≡ Cancelled → newest (transitions_of here) t ≡ o
+    told_cancelled : (t : TransactionId) (l : Transition) (o : Option Transition) (moment : ℕ) → same_code t.code c ≡ false → newest (transitions_of (f Itl)) t ≡ Some l → l.new ≡ Cancelled → newest (transitions_of here) t ≡ o
         → Welcome (in_role scheme c here t o moment (Notified Cancelled))
-    told-cancelled t l None moment foreign log_last done last =
-        welcome-false (same_code t.code c) _ _ foreign (welcome-finish t None moment Cancelled (Move Cancelled) refl (λ e. cc (e)) (λ e. absurd (cc (e))))
-    told-cancelled t l (Some x) moment foreign log_last done last =
-        welcome-false (same_code t.code c) _ _ foreign
+    told_cancelled t l None moment foreign log_last done last =
+        welcome_false (same_code t.code c) _ _ foreign (welcome_finish t None moment Cancelled (Move Cancelled) refl (λ e. cc (e)) (λ e. absurd (cc (e))))
+    told_cancelled t l (Some x) moment foreign log_last done last =
+        welcome_false (same_code t.code c) _ _ foreign
         (elim (known scheme c here (causal.made (Registry c)) t x last foreign) [
           | inl e ↦
-              welcome-finish t (Some x) moment Cancelled Repeat (ap (λ z. acquirer_row (option_map_or (λ k. Stands x.new) z Bare) (Notified Cancelled)) e.1) (λ h. cc (h)) (λ h. absurd (cc (h)))
-          | inr z ↦ go x.new (table-of x Cancelled (z.content, z.is)) (told scheme c here (causal.made (Registry c)) t x last foreign)
+              welcome_finish t (Some x) moment Cancelled Repeat (ap (λ z. acquirer_row (option_map_or (λ k. Stands x.new) z Bare) (Notified Cancelled)) e.1) (λ h. cc (h)) (λ h. absurd (cc (h)))
+          | inr z ↦ go x.new (table_of x Cancelled (z.content, z.is)) (told scheme c here (causal.made (Registry c)) t x last foreign)
         ])
       where
         go : (s : Status) → acquirer_row (known_as (Some x)) (Notified Cancelled) ≡ acquirer_row (Stands s) (Notified Cancelled) → Cause c here t s → Welcome (finish t (Some x) moment Cancelled)
-        go Accepted row h = welcome-finish t (Some x) moment Cancelled (Move Cancelled) row (λ e. cc (e)) (λ e. absurd (cc (e)))
-        go Cancelled row h = welcome-finish t (Some x) moment Cancelled Repeat row (λ e. cc (e)) (λ e. absurd (cc (e)))
-        go Rejected row h = welcome-finish t (Some x) moment Cancelled Late row (λ e. cc (e)) (λ e. absurd (cc (e)))
+        go Accepted row h = welcome_finish t (Some x) moment Cancelled (Move Cancelled) row (λ e. cc (e)) (λ e. absurd (cc (e)))
+        go Cancelled row h = welcome_finish t (Some x) moment Cancelled Repeat row (λ e. cc (e)) (λ e. absurd (cc (e)))
+        go Rejected row h = welcome_finish t (Some x) moment Cancelled Late row (λ e. cc (e)) (λ e. absurd (cc (e)))
         go Completed row h =
-            let k = log-said scheme f causal (Registry c) t Completed h in
-            let same : k.0 ≡ l = one-some k.0 l (sym k.1 ∙ log_last) in
+            let k = log_said scheme f causal (Registry c) t Completed h in
+            let same : k.0 ≡ l = one_some k.0 l (sym k.1 ∙ log_last) in
             let ended : k.0.new ≡ Completed = elim k.2 [
               | inl d ↦ d
               | inr d ↦ d.1
@@ -311,36 +311,36 @@ module _ (scheme : Scheme) (f : Node → List Entry) (causal : Causal scheme f) 
         go Checked row h = absurd h
         go Terminated row h = absurd h
 
-    acquirer-welcome : (n : Notification) (moment : Moment) → In (message.Notification n) (sends (f Itl)) → n.to ≡ Registry c → ToKnown (f Itl) n → Welcome (registry_verdict scheme c here (Received (message.Notification n) moment))
-    acquirer-welcome n moment h to g =
+    acquirer_welcome : (n : Notification) (moment : Moment) → In (message.Notification n) (sends (f Itl)) → n.to ≡ Registry c → ToKnown (f Itl) n → Welcome (registry_verdict scheme c here (Received (message.Notification n) moment))
+    acquirer_welcome n moment h to g =
         let s = notice_status n.notice in
         let t = n.id in
         let l = g.last in
         let k = g.goes.content in
-        let mine : k.acquirer ≡ c = registry-code k.acquirer c (sym g.goes.to ∙ to) in
-        let past = past-transition s (newest (transitions_of (f Itl)) t) (log-sent scheme (f Itl) (causal.made Itl) n h).0 in
-        let same : past.0 ≡ l = one-some past.0 l (sym past.1 ∙ g.is) in
+        let mine : k.acquirer ≡ c = registry_code k.acquirer c (sym g.goes.to ∙ to) in
+        let past = past_transition s (newest (transitions_of (f Itl)) t) (log_sent scheme (f Itl) (causal.made Itl) n h).0 in
+        let same : past.0 ≡ l = one_some past.0 l (sym past.1 ∙ g.is) in
         let stood = subst (λ (z : Transition). (z.new ≡ s) ⊎ ((s ≡ Accepted) × (z.new ≡ Completed))) same past.2 in
         let b = begun scheme f causal t l g.is (λ z. let y = sym g.goes.known ∙ z.content in cc (y)) in
-        let content : b.content ≡ k = one-some b.content k (sym b.known ∙ g.goes.known) in
+        let content : b.content ≡ k = one_some b.content k (sym b.known ∙ g.goes.known) in
         let foreign : same_code t.code c ≡ false =
-        other-code t.code c (λ e. codes-differ b.content.acquirer t.code b.acquirer_other (ap (λ (z : Content). z.acquirer) content ∙ mine ∙ sym e)) in
+        other_code t.code c (λ e. codes_differ b.content.acquirer t.code b.acquirer_other (ap (λ (z : Content). z.acquirer) content ∙ mine ∙ sym e)) in
         elim g.goes.said [
           | inl e ↦
               let done : l.new ≡ Completed = elim stood [
                 | inl d ↦ d ∙ e
                 | inr d ↦ d.1
               ] in
-              let a = log-backed scheme (f Itl) (causal.made Itl) t l g.is (subst IsAgreed (sym done) tt) in
-              let who : a.content.acquirer ≡ c = ap (λ (z : Content). z.acquirer) (one-some a.content k (sym a.known ∙ g.goes.known)) ∙ mine in
-              let accepted = subst (λ z. In (message.Notification a.heard.notification) (sends (f (Registry z)))) who (heard-sent scheme f causal Itl (Registry a.content.acquirer) t Accepted a.heard) in
-              let taken = subst (λ z. IsTaken (newest (transitions_of here) z)) a.heard.about (accepted-sent scheme c here (causal.made (Registry c)) a.heard.notification accepted a.heard.told).1 in
-              let x = taken-known (newest (transitions_of here) t) taken in
-              notice-welcome n moment h to (and_left (not (is_known (transitions_of here) t)) _ (is-known (transitions_of here) t x.0 x.1))
+              let a = log_backed scheme (f Itl) (causal.made Itl) t l g.is (subst IsAgreed (sym done) tt) in
+              let who : a.content.acquirer ≡ c = ap (λ (z : Content). z.acquirer) (one_some a.content k (sym a.known ∙ g.goes.known)) ∙ mine in
+              let accepted = subst (λ z. In (message.Notification a.heard.notification) (sends (f (Registry z)))) who (heard_sent scheme f causal Itl (Registry a.content.acquirer) t Accepted a.heard) in
+              let taken = subst (λ z. IsTaken (newest (transitions_of here) z)) a.heard.about (accepted_sent scheme c here (causal.made (Registry c)) a.heard.notification accepted a.heard.told).1 in
+              let x = taken_known (newest (transitions_of here) t) taken in
+              notice_welcome n moment h to (and_left (not (is_known (transitions_of here) t)) _ (known_by_newest (transitions_of here) t x.0 x.1))
               (subst (λ z. Welcome (in_role scheme c here t z moment.seconds (Notified s))) (sym x.1)
-              (welcome-false (same_code t.code c) _ _ foreign
+              (welcome_false (same_code t.code c) _ _ foreign
               (subst (λ z. Welcome (finish t (Some x.0) moment.seconds z)) (sym e)
-              (told-completed t l x.0 moment.seconds foreign g.is done x.1 (subst IsTaken x.1 taken)))))
+              (told_completed t l x.0 moment.seconds foreign g.is done x.1 (subst IsTaken x.1 taken)))))
           | inr e ↦
               let done : l.new ≡ Cancelled = elim stood [
                 | inl d ↦ d ∙ e
@@ -348,16 +348,16 @@ module _ (scheme : Scheme) (f : Node → List Entry) (causal : Causal scheme f) 
               ] in
               let cancels : (same_status s Cancelled && not (same_code t.code c)) ≡ true =
               and_from (same_status s Cancelled) (not (same_code t.code c)) (subst (λ z. same_status z Cancelled ≡ true) (sym e) refl) (ap not foreign) in
-              notice-welcome n moment h to (and_right (not (is_known (transitions_of here) t)) _ (not_from_true (same_status s Cancelled && not (same_code t.code c)) cancels))
+              notice_welcome n moment h to (and_right (not (is_known (transitions_of here) t)) _ (not_from_true (same_status s Cancelled && not (same_code t.code c)) cancels))
               (subst (λ z. Welcome (in_role scheme c here t (newest (transitions_of here) t) moment.seconds (Notified z))) (sym e)
-              (told-cancelled t l (newest (transitions_of here) t) moment.seconds foreign g.is done refl))
+              (told_cancelled t l (newest (transitions_of here) t) moment.seconds foreign g.is done refl))
         ]
 
-    pub registry-welcome : (m : Message) (moment : Moment) → In m (sends (f Itl)) → (receiver m ≡ Registry c) → Welcome (registry_verdict scheme c here (Received m moment))
-    registry-welcome (message.Proposal p) moment h to = offer-welcome p moment h to
-    registry-welcome (message.Request r) moment h to = absurd (no-request scheme (f Itl) (causal.made Itl) r h)
-    registry-welcome (message.Notification n) moment h to =
+    pub registry_welcome : (m : Message) (moment : Moment) → In m (sends (f Itl)) → (receiver m ≡ Registry c) → Welcome (registry_verdict scheme c here (Received m moment))
+    registry_welcome (message.Proposal p) moment h to = offer_welcome p moment h to
+    registry_welcome (message.Request r) moment h to = absurd (no_request scheme (f Itl) (causal.made Itl) r h)
+    registry_welcome (message.Notification n) moment h to =
         elim (goes scheme (f Itl) (causal.made Itl) n h) [
-          | inl g ↦ initiator-welcome n moment h to (registry-code n.id.code c (sym g.to ∙ to)) g.said
-          | inr g ↦ acquirer-welcome n moment h to g
+          | inl g ↦ initiator_welcome n moment h to (registry_code n.id.code c (sym g.to ∙ to)) g.said
+          | inr g ↦ acquirer_welcome n moment h to g
         ]

@@ -19,53 +19,53 @@ use Rattle.protocol.specs.declared.event.Outcome.TheVariants.{Recorded, NotPossi
 use Rattle.protocol.specs.declared.event.Posted.{Posted}
 use Rattle.protocol.specs.declared.event.WorldEvent.{WorldEvent}
 use Rattle.protocol.specs.declared.event.WorldEvent.TheVariants.{Take, Deliver}
-use Rattle.safety.proofs.ListLemmas.CountsInLists.{list-any-in}
-use Rattle.safety.proofs.JournalWeaves.EventsFromOrders.{ack-below}
-use Rattle.safety.proofs.JournalWeaves.OrdersFromEvents.{always-next}
-use Rattle.safety.proofs.ListLemmas.Positions.{In-contains, place-of, some-at}
+use Rattle.safety.proofs.ListLemmas.CountsInLists.{list_any_in}
+use Rattle.safety.proofs.JournalWeaves.EventsFromOrders.{ack_below}
+use Rattle.safety.proofs.JournalWeaves.OrdersFromEvents.{always_next}
+use Rattle.safety.proofs.ListLemmas.Positions.{In_contains, place_of, some_at}
 use Rattle.safety.proofs.WorldLemmas.QuietWorlds.{takes}
-use Rattle.safety.proofs.WorldLemmas.StationsAfterPut.{at-node}
+use Rattle.safety.proofs.WorldLemmas.StationsAfterPut.{found_at_node}
 
 module _ (w : World) (all : IsQuiet w) where
   -- one event makes the node record the input
   abbrev IsRecorded : Node → Input → Type 0
   IsRecorded n input = (e : WorldEvent) × Gives w e n input × ((place : ℕ) × ((step w e).outcome ≡ Recorded place))
 
-  node-records : (n : Node) (input : Input) (xs : List Transition) → is_node w.scheme n ≡ true → verdict w.scheme n (committed_of w n) input ≡ Enters xs
+  node_records : (n : Node) (input : Input) (xs : List Transition) → is_node w.scheme n ≡ true → verdict w.scheme n (committed_of w n) input ≡ Enters xs
       → (place : ℕ) × ((at_node w (station w n) (take_input w.scheme input)).outcome ≡ Recorded place)
-  node-records n input xs node says =
+  node_records n input xs node says =
       let idle = all.idle n node in
       let here = subst (λ o. verdict w.scheme n (history w.scheme n (committed_part o)) input ≡ Enters xs) idle.is says in (
         _,
         ap (λ o. (at_node w o (take_input w.scheme input)).outcome) idle.is
-            ∙ ap (λ (turn : Turn). turn.outcome) (takes w.scheme n idle.at input xs (at-node n w.stations idle.at idle.is) idle.runs idle.settled here),
+            ∙ ap (λ (turn : Turn). turn.outcome) (takes w.scheme n idle.at input xs (found_at_node n w.stations idle.at idle.is) idle.runs idle.settled here),
       )
 
-  take-recorded : (n : Node) (input : Input) (xs : List Transition) → is_node w.scheme n ≡ true → is_order w n input ≡ true → verdict w.scheme n (committed_of w n) input ≡ Enters xs → IsRecorded n input
+  take_recorded : (n : Node) (input : Input) (xs : List Transition) → is_node w.scheme n ≡ true → is_order w n input ≡ true → verdict w.scheme n (committed_of w n) input ≡ Enters xs → IsRecorded n input
   unfolding step
-  take-recorded n input xs node order says =
-      let r = node-records n input xs node says in (
+  take_recorded n input xs node order says =
+      let r = node_records n input xs node says in (
         Take n input,
         (refl, refl),
         (r.0, ap (λ (z : Stepped). z.outcome) (cond-true (is_order w n input) (at_node w (station w n) (take_input w.scheme input)) (stays w NotPossible) order) ∙ r.1),
       )
 
   -- each key that was sent is in the bag
-  posted-key : (n : Node) (key : ℕ) → key < length (sends (committed_of w n)) → was_posted w n key ≡ true
-  posted-key n key below =
-      let m = some-at (sends (committed_of w n)) key below in
+  posted_key : (n : Node) (key : ℕ) → key < length (sends (committed_of w n)) → was_posted w n key ≡ true
+  posted_key n key below =
+      let m = some_at (sends (committed_of w n)) key below in
       let p : Posted = record { node = n; key = key; message = m.0 } in
-      list-any-in (λ (q : Posted). same_node q.node n && (q.key == key)) w.bag p (In-contains w.bag p (all.posted n key m.0 m.1))
+      list_any_in (λ (q : Posted). same_node q.node n && (q.key == key)) w.bag p (In_contains w.bag p (all.posted n key m.0 m.1))
       (and_from (same_node n n) (key == key) (same_node-refl n) (eq-eqb key key refl))
 
-  next-recorded : (n : Node) (input : Input) (xs : List Transition) → is_node w.scheme n ≡ true → verdict w.scheme n (committed_of w n) input ≡ Enters xs
+  next_recorded : (n : Node) (input : Input) (xs : List Transition) → is_node w.scheme n ≡ true → verdict w.scheme n (committed_of w n) input ≡ Enters xs
       → WasSent w.scheme (λ m. committed_part (station w m)) n input → IsRecorded n input
   unfolding step verdict
-  next-recorded n (Received m moment) xs node says sent =
-      let key = place-of (sends (committed_of w (sender m))) m (In-contains (sends (committed_of w (sender m))) m sent.1) in
+  next_recorded n (Received m moment) xs node says sent =
+      let key = place_of (sends (committed_of w (sender m))) m (In_contains (sends (committed_of w (sender m))) m sent.1) in
       let p : Posted = record { node = sender m; key = key.0; message = m } in
-      let index = place-of w.bag p (In-contains w.bag p (all.posted (sender m) key.0 m key.1)) in
-      let r = node-records n (Received m moment) xs node says in (
+      let index = place_of w.bag p (In_contains w.bag p (all.posted (sender m) key.0 m key.1)) in
+      let r = node_records n (Received m moment) xs node says in (
         Deliver index.0 moment,
         (p, index.1, sent.0, refl),
         (
@@ -74,28 +74,28 @@ module _ (w : World) (all : IsQuiet w) where
               ∙ ap (λ z. (at_node w (station w z) (take_input w.scheme (Received m moment))).outcome) sent.0 ∙ r.1,
         ),
       )
-  next-recorded (Registry c) (Ack key) xs node says sent = take-recorded (Registry c) (Ack key) xs node (posted-key (Registry c) key.value (ack-below w.scheme (committed_of w (Registry c)) key.value xs says)) says
-  next-recorded Itl (Ack key) xs node says sent = take-recorded Itl (Ack key) xs node (posted-key Itl key.value (ack-below w.scheme (committed_of w Itl) key.value xs says)) says
-  next-recorded (Registry c) (Propose o) xs node says sent = take-recorded (Registry c) (Propose o) xs node refl says
-  next-recorded (Registry c) (Request t) xs node says sent = take-recorded (Registry c) (Request t) xs node refl says
-  next-recorded (Registry c) (OpenAccount account) xs node says sent = take-recorded (Registry c) (OpenAccount account) xs node refl says
-  next-recorded (Registry c) (CloseAccount account) xs node says sent = take-recorded (Registry c) (CloseAccount account) xs node refl says
-  next-recorded (Registry c) (CleanUp moment) xs node says sent = absurd (cc (says))
-  next-recorded (Registry c) (Eligible d may) xs node says sent = absurd (cc (says))
-  next-recorded Itl (CleanUp moment) xs node says sent = take-recorded Itl (CleanUp moment) xs node refl says
-  next-recorded Itl (Eligible d may) xs node says sent = take-recorded Itl (Eligible d may) xs node refl says
-  next-recorded Itl (Propose o) xs node says sent = absurd (cc (says))
-  next-recorded Itl (Request t) xs node says sent = absurd (cc (says))
-  next-recorded Itl (OpenAccount account) xs node says sent = absurd (cc (says))
-  next-recorded Itl (CloseAccount account) xs node says sent = absurd (cc (says))
+  next_recorded (Registry c) (Ack key) xs node says sent = take_recorded (Registry c) (Ack key) xs node (posted_key (Registry c) key.value (ack_below w.scheme (committed_of w (Registry c)) key.value xs says)) says
+  next_recorded Itl (Ack key) xs node says sent = take_recorded Itl (Ack key) xs node (posted_key Itl key.value (ack_below w.scheme (committed_of w Itl) key.value xs says)) says
+  next_recorded (Registry c) (Propose o) xs node says sent = take_recorded (Registry c) (Propose o) xs node refl says
+  next_recorded (Registry c) (Request t) xs node says sent = take_recorded (Registry c) (Request t) xs node refl says
+  next_recorded (Registry c) (OpenAccount account) xs node says sent = take_recorded (Registry c) (OpenAccount account) xs node refl says
+  next_recorded (Registry c) (CloseAccount account) xs node says sent = take_recorded (Registry c) (CloseAccount account) xs node refl says
+  next_recorded (Registry c) (CleanUp moment) xs node says sent = absurd (cc (says))
+  next_recorded (Registry c) (Eligible d may) xs node says sent = absurd (cc (says))
+  next_recorded Itl (CleanUp moment) xs node says sent = take_recorded Itl (CleanUp moment) xs node refl says
+  next_recorded Itl (Eligible d may) xs node says sent = take_recorded Itl (Eligible d may) xs node refl says
+  next_recorded Itl (Propose o) xs node says sent = absurd (cc (says))
+  next_recorded Itl (Request t) xs node says sent = absurd (cc (says))
+  next_recorded Itl (OpenAccount account) xs node says sent = absurd (cc (says))
+  next_recorded Itl (CloseAccount account) xs node says sent = absurd (cc (says))
 
-pub stuck-is-final : (w : World) (journals : Node → List Input) → StuckIsFinal w journals
-stuck-is-final w journals all on stuck others h =
-    elim (always-next w.scheme others journals (λ n. committed_part (station w n)) h on) [
+pub stuck_is_final : (w : World) (journals : Node → List Input) → StuckIsFinal w journals
+stuck_is_final w journals all on stuck others h =
+    elim (always_next w.scheme others journals (λ n. committed_part (station w n)) h on) [
       | inl same ↦ same
       | inr next ↦
           absurd
           (let r = next.0 in
-          let g = next-recorded w all r.node r.input next.1.1.0 next.1.0 next.1.1.1 next.1.2 in
+          let g = next_recorded w all r.node r.input next.1.1.0 next.1.0 next.1.1.1 next.1.2 in
           stuck r.node r.input next.2.0 g.0 g.2.0 next.2.1 g.1 g.2.1)
     ]

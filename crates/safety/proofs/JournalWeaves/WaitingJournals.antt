@@ -28,7 +28,7 @@ use Rattle.protocol.specs.Registries.{is_node}
 use Rattle.protocol.specs.Verdict.{verdict}
 use Rattle.protocol.specs.Weave.{Projects, WasSent, ArePrefixes}
 use Rattle.protocol.specs.declared.event.WorldEvent.{WorldEvent}
-use Rattle.safety.proofs.JournalWeaves.OrdersFromEvents.{always-next}
+use Rattle.safety.proofs.JournalWeaves.OrdersFromEvents.{always_next}
 
 -- ---- a scheme of two registries with one unit each
 
@@ -44,18 +44,18 @@ member_of c = record { code = c; accounts = 1 ∷ []; allotted = record { accoun
 abbrev members : List Member
 members = member_of jp ∷ member_of nz ∷ []
 
-codes-differ : jp ≡ nz → ⊥
-codes-differ e = let same : ◌≡◌ {A = ℕ} 74 78 = ap (λ (c : Code). c.first) e in omega arith
+codes_differ : jp ≡ nz → ⊥
+codes_differ e = let same : ◌≡◌ {A = ℕ} 74 78 = ap (λ (c : Code). c.first) e in omega arith
 
 apart : AreApart (one_of jp) (one_of nz)
-apart s a b = codes-differ (code_of_same jp s.origin (and_parts _ _ a).0 ∙ sym (code_of_same nz s.origin (and_parts _ _ b).0))
+apart s a b = codes_differ (code_of_same jp s.origin (and_parts _ _ a).0 ∙ sym (code_of_same nz s.origin (and_parts _ _ b).0))
 
 few : AreFew members
 few = record { registries = lit≤ tt; accounts = (lit≤ tt, (lit≤ tt, tt)); blocks = lit≤ tt }
 
 pub sound : AreMembers members
 sound = record {
-  free = (few, (lit≤ tt, (((codes-differ, tt), (tt, tt)), (((tt, tt), ((tt, tt), tt)), (((refl, tt), ((refl, tt), tt)), (((apart, tt), (tt, tt)), tt))))));
+  free = (few, (lit≤ tt, (((codes_differ, tt), (tt, tt)), (((tt, tt), ((tt, tt), tt)), (((refl, tt), ((refl, tt), tt)), (((apart, tt), (tt, tt)), tt))))));
   ordered = ((lit< tt, tt), (tt, tt));
 }
 
@@ -104,8 +104,8 @@ abbrev past : Node → List Input
 past Itl = []
 past (Registry c) = cond (same_code c jp) of_jp []
 
-no-third : (c : Code) → same_code c jp ≡ false → same_code c nz ≡ false → journals (Registry c) ≡ []
-no-third c a b = cond-false (same_code c jp) of_jp (cond (same_code c nz) of_nz []) a ∙ cond-false (same_code c nz) of_nz [] b
+no_third : (c : Code) → same_code c jp ≡ false → same_code c nz ≡ false → journals (Registry c) ≡ []
+no_third c a b = cond-false (same_code c jp) of_jp (cond (same_code c nz) of_nz []) a ∙ cond-false (same_code c nz) of_nz [] b
 
 -- what holds of JP, of NZ, and of registries without a journal, holds of each
 each : (P : (c : Code) → List Input → Type 0) → P jp of_jp → P nz of_nz → ((c : Code) → same_code c jp ≡ false → same_code c nz ≡ false → P c []) → (c : Code) → P c (journals (Registry c))
@@ -115,7 +115,7 @@ each P at_jp at_nz other c =
       | inr a ↦
           elim (cases_Bool (same_code c nz)) [
             | inl y ↦ subst (λ z. P z (journals (Registry z))) (sym (code_of_same c nz y)) at_nz
-            | inr b ↦ subst (P c) (sym (no-third c a b)) (other c a b)
+            | inr b ↦ subst (P c) (sym (no_third c a b)) (other c a b)
           ]
     ]
 
@@ -131,22 +131,22 @@ plausible (Registry c) =
 
 -- ---- and no events lead to them
 
-goes-on : ArePrefixes past journals
-goes-on Itl = (journals Itl, refl)
-goes-on (Registry c) = go (same_code c jp)
+goes_on : ArePrefixes past journals
+goes_on Itl = (journals Itl, refl)
+goes_on (Registry c) = go (same_code c jp)
   where
     go : (b : Bool) → (rest : List Input) × (cond b of_jp (cond (same_code c nz) of_nz []) ≡ cond b of_jp [] ++ rest)
     go true = ([], refl)
     go false = (cond (same_code c nz) of_nz [], refl)
 
 -- neither first record that is left was sent
-none-next : (n : Node) (input : Input) (rest : List Input) → WasSent two_units past n input → journals n ≡ past n ++ input ∷ rest → ⊥
-none-next Itl input rest sent e =
+none_next : (n : Node) (input : Input) (rest : List Input) → WasSent two_units past n input → journals n ≡ past n ++ input ∷ rest → ⊥
+none_next Itl input rest sent e =
     let first : input ≡ log_hears_nz = cc (e) in
     let s : WasSent two_units past Itl log_hears_nz = subst (WasSent two_units past Itl) first sent in
     let below = s.1.1 in
     omega arith
-none-next (Registry c) input rest sent e = go (same_code c jp) e
+none_next (Registry c) input rest sent e = go (same_code c jp) e
   where
     second : (b : Bool) → cond b of_nz [] ≡ input ∷ rest → ⊥
     second true f =
@@ -160,9 +160,9 @@ none-next (Registry c) input rest sent e = go (same_code c jp) e
     go true f = cc (f)
     go false f = second (same_code c nz) f
 
-pub not-projected : (events : List WorldEvent) → Projects two_units events journals → ⊥
-not-projected events h =
-    elim (always-next two_units events journals past h goes-on) [
+pub not_projected : (events : List WorldEvent) → Projects two_units events journals → ⊥
+not_projected events h =
+    elim (always_next two_units events journals past h goes_on) [
       | inl same ↦ let e = same Itl in cc (e)
-      | inr next ↦ none-next next.0.node next.0.input next.2.0 next.1.2 next.2.1
+      | inr next ↦ none_next next.0.node next.0.input next.2.0 next.1.2 next.2.1
     ]

@@ -10,7 +10,7 @@ use Rattle.units.specs.declared.block.Period.TheVariants.{First, Second}
 use Rattle.units.specs.declared.block.RawBlock.{RawBlock}
 use Rattle.units.specs.declared.block.Unit.{Unit as Serial}
 use Rattle.protocol.specs.Pieces.{Piece, piece, pieces, pieces_of, same_unit, up_from}
-use Rattle.safety.proofs.ListLemmas.Membership.{In, In-cases, In-left, In-right, In-map, map-In}
+use Rattle.safety.proofs.ListLemmas.Membership.{In, In_cases, In_left, In_right, In_map, map_In}
 
 pub period_of_same : (p q : Period) → same_period p q ≡ true → p ≡ q
 period_of_same First First e = refl
@@ -27,31 +27,31 @@ unit_of_same a b e =
     let n = eqb-true a.number b.number y.1 in
     λ i. record { origin = o i; period = p i; number = n i }
 
-pub same_unit-refl : (s : Serial) → same_unit s s ≡ true
-same_unit-refl s = and_from (same_code s.origin s.origin) _ (same_code-refl s.origin) (and_from (same_period s.period s.period) (s.number == s.number) (eq-eqb (period_index s.period) (period_index s.period) refl) (eq-eqb s.number s.number refl))
+pub same_unit_refl : (s : Serial) → same_unit s s ≡ true
+same_unit_refl s = and_from (same_code s.origin s.origin) _ (same_code-refl s.origin) (and_from (same_period s.period s.period) (s.number == s.number) (eq-eqb (period_index s.period) (period_index s.period) refl) (eq-eqb s.number s.number refl))
 
 -- ---- the numbers of a block
 
-In-up : (first count n : ℕ) → In n (up_from first count) → (first ≤ n) × (n < first + count)
-In-up first zero n h = absurd h
-In-up first (suc count) n (inl e) = (omega arith, omega arith)
-In-up first (suc count) n (inr h) = let r = In-up (suc first) count n h in (let a = r.0 in omega arith, let b = r.1 in omega arith)
+In_up : (first count n : ℕ) → In n (up_from first count) → (first ≤ n) × (n < first + count)
+In_up first zero n h = absurd h
+In_up first (suc count) n (inl e) = (omega arith, omega arith)
+In_up first (suc count) n (inr h) = let r = In_up (suc first) count n h in (let a = r.0 in omega arith, let b = r.1 in omega arith)
 
-up-In : (first count n : ℕ) → first ≤ n → n < first + count → In n (up_from first count)
-up-In first zero n a b = absurd (omega arith)
-up-In first (suc count) n a b =
+up_In : (first count n : ℕ) → first ≤ n → n < first + count → In n (up_from first count)
+up_In first zero n a b = absurd (omega arith)
+up_In first (suc count) n a b =
     elim (cases_Bool (first == n)) [
       | inl y ↦ inl (eqb-true first n y)
-      | inr m ↦ inr (up-In (suc first) count n (let d = eqb-false first n m in omega arith) (omega arith))
+      | inr m ↦ inr (up_In (suc first) count n (let d = eqb-false first n m in omega arith) (omega arith))
     ]
 
 -- ---- the units of blocks
 
 -- a piece of a block is one of its units
-block-of-piece : (b : RawBlock) (p : Piece) → In p (pieces_of b) → (has_unit b p.unit ≡ true) × (p.kind ≡ b.kind)
-block-of-piece b p h =
-    let m = In-map (piece b) p (up_from b.first (suc b.last - b.first)) h in
-    let r = In-up b.first (suc b.last - b.first) m.0 m.1 in
+block_of_piece : (b : RawBlock) (p : Piece) → In p (pieces_of b) → (has_unit b p.unit ≡ true) × (p.kind ≡ b.kind)
+block_of_piece b p h =
+    let m = In_map (piece b) p (up_from b.first (suc b.last - b.first)) h in
+    let r = In_up b.first (suc b.last - b.first) m.0 m.1 in
     let low = r.0 in
     let high = r.1 in
     let last : m.0 ≤ b.last = omega arith in
@@ -61,8 +61,8 @@ block-of-piece b p h =
     (subst (λ (q : Piece). has_unit b q.unit ≡ true) m.2 own, sym (ap (λ (q : Piece). q.kind) m.2))
 
 -- a unit of a block is one of its pieces
-pub piece-of-block : (b : RawBlock) (s : Serial) → has_unit b s ≡ true → In (record { unit = s; kind = b.kind }) (pieces_of b)
-piece-of-block b s h =
+pub piece_of_block : (b : RawBlock) (s : Serial) → has_unit b s ≡ true → In (record { unit = s; kind = b.kind }) (pieces_of b)
+piece_of_block b s h =
     let x = and_parts (same_code b.origin s.origin) _ h in
     let y = and_parts (same_period b.period s.period) _ x.1 in
     let z = and_parts (nat_le b.first s.number) (nat_le s.number b.last) y.1 in
@@ -70,24 +70,24 @@ piece-of-block b s h =
     let p = period_of_same b.period s.period y.0 in
     let low = leb-true b.first s.number z.0 in
     let high = leb-true s.number b.last z.1 in
-    let i = map-In (piece b) s.number (up_from b.first (suc b.last - b.first)) (up-In b.first (suc b.last - b.first) s.number low (omega arith)) in
+    let i = map_In (piece b) s.number (up_from b.first (suc b.last - b.first)) (up_In b.first (suc b.last - b.first) s.number low (omega arith)) in
     let same : piece b s.number ≡ record { unit = s; kind = b.kind } = λ j. record { unit = record { origin = o j; period = p j; number = s.number }; kind = b.kind } in
     subst (λ q. In q (pieces_of b)) same i
 
 -- a unit that blocks cover is the unit of one of their pieces, and of no other
-pub piece-of : (blocks : List RawBlock) (s : Serial) → have_unit blocks s ≡ true → (p : Piece) × In p (pieces blocks) × (p.unit ≡ s)
-piece-of [] s h = absurd (cc)
-piece-of (b ∷ bs) s h =
+pub piece_of : (blocks : List RawBlock) (s : Serial) → have_unit blocks s ≡ true → (p : Piece) × In p (pieces blocks) × (p.unit ≡ s)
+piece_of [] s h = absurd (cc)
+piece_of (b ∷ bs) s h =
     elim (cases_Bool (has_unit b s)) [
-      | inl y ↦ (record { unit = s; kind = b.kind }, In-left (record { unit = s; kind = b.kind }) (pieces_of b) (pieces bs) (piece-of-block b s y), refl)
-      | inr n ↦ let r = piece-of bs s (subst (λ t. (t || have_unit bs s) ≡ true) n h) in (r.0, In-right r.0 (pieces_of b) (pieces bs) r.1, r.2)
+      | inl y ↦ (record { unit = s; kind = b.kind }, In_left (record { unit = s; kind = b.kind }) (pieces_of b) (pieces bs) (piece_of_block b s y), refl)
+      | inr n ↦ let r = piece_of bs s (subst (λ t. (t || have_unit bs s) ≡ true) n h) in (r.0, In_right r.0 (pieces_of b) (pieces bs) r.1, r.2)
     ]
 
 pub covered : (blocks : List RawBlock) (p : Piece) → In p (pieces blocks) → have_unit blocks p.unit ≡ true
 covered [] p h = absurd h
 covered (b ∷ bs) p h =
-    elim (In-cases p (pieces_of b) (pieces bs) h) [
-      | inl i ↦ subst (λ t. (t || have_unit bs p.unit) ≡ true) (sym (block-of-piece b p i).0) refl
+    elim (In_cases p (pieces_of b) (pieces bs) h) [
+      | inl i ↦ subst (λ t. (t || have_unit bs p.unit) ≡ true) (sym (block_of_piece b p i).0) refl
       | inr i ↦ or_right (has_unit b p.unit) (have_unit bs p.unit) (covered bs p i)
     ]
   where

@@ -24,55 +24,55 @@ use Rattle.protocol.specs.Effects.{notifies, initiator_sends, log_sends}
 use Rattle.protocol.specs.History.{Transition}
 use Rattle.safety.proofs.MovesAndHistories.TransitionForms.{settled_messages, acquirer_of, told_to}
 
-pub log-from : (a told new : Status) → log_row (Stands a) (Notified told) ≡ Move new
+pub log_from : (a told new : Status) → log_row (Stands a) (Notified told) ≡ Move new
     → ((a ≡ Checked) × (new ≡ told) × ((told ≡ Accepted) ⊎ (told ≡ Rejected))) ⊎ ((a ≡ Accepted) × (new ≡ Completed) × (told ≡ Completed))
-log-from Checked Accepted new h = inl (refl, cc, inl refl)
-log-from Checked Rejected new h = inl (refl, cc, inr refl)
-log-from Accepted Completed new h = inr (refl, cc, refl)
-log-from Accepted Accepted new h = absurd (cc)
-log-from Completed Accepted new h = absurd (cc)
-log-from Rejected Rejected new h = absurd (cc)
-log-from Completed Completed new h = absurd (cc)
-log-from Cancelled Accepted new h = absurd (cc)
-log-from Cancelled Rejected new h = absurd (cc)
-log-from Proposed Proposed new h = absurd (cc)
-log-from Terminated Terminated new h = absurd (cc)
-log-from _ _ new h = absurd (cc)
+log_from Checked Accepted new h = inl (refl, cc, inl refl)
+log_from Checked Rejected new h = inl (refl, cc, inr refl)
+log_from Accepted Completed new h = inr (refl, cc, refl)
+log_from Accepted Accepted new h = absurd (cc)
+log_from Completed Accepted new h = absurd (cc)
+log_from Rejected Rejected new h = absurd (cc)
+log_from Completed Completed new h = absurd (cc)
+log_from Cancelled Accepted new h = absurd (cc)
+log_from Cancelled Rejected new h = absurd (cc)
+log_from Proposed Proposed new h = absurd (cc)
+log_from Terminated Terminated new h = absurd (cc)
+log_from _ _ new h = absurd (cc)
 
 -- what the initiator was told when it went to this status
 abbrev pub word_to : Status → Status
 word_to Completed = Accepted
 word_to s = s
 
-pub initiator-from : (a told new : Status) → initiator_row (Stands a) (Notified told) ≡ Move new → (a ≡ Proposed) × (word_to new ≡ told)
-initiator-from Proposed Accepted new h = let e : new ≡ Completed = cc in (refl, ap word_to e)
-initiator-from Proposed Rejected new h = let e : new ≡ Rejected = cc in (refl, ap word_to e)
-initiator-from Proposed Terminated new h = let e : new ≡ Terminated = cc in (refl, ap word_to e)
-initiator-from Proposed Cancelled new h = let e : new ≡ Cancelled = cc in (refl, ap word_to e)
-initiator-from Completed Accepted new h = absurd (cc)
-initiator-from Rejected Rejected new h = absurd (cc)
-initiator-from Terminated Terminated new h = absurd (cc)
-initiator-from Cancelled Cancelled new h = absurd (cc)
-initiator-from Checked Checked new h = absurd (cc)
-initiator-from Accepted Accepted new h = absurd (cc)
-initiator-from _ _ new h = absurd (cc)
+pub initiator_from : (a told new : Status) → initiator_row (Stands a) (Notified told) ≡ Move new → (a ≡ Proposed) × (word_to new ≡ told)
+initiator_from Proposed Accepted new h = let e : new ≡ Completed = cc in (refl, ap word_to e)
+initiator_from Proposed Rejected new h = let e : new ≡ Rejected = cc in (refl, ap word_to e)
+initiator_from Proposed Terminated new h = let e : new ≡ Terminated = cc in (refl, ap word_to e)
+initiator_from Proposed Cancelled new h = let e : new ≡ Cancelled = cc in (refl, ap word_to e)
+initiator_from Completed Accepted new h = absurd (cc)
+initiator_from Rejected Rejected new h = absurd (cc)
+initiator_from Terminated Terminated new h = absurd (cc)
+initiator_from Cancelled Cancelled new h = absurd (cc)
+initiator_from Checked Checked new h = absurd (cc)
+initiator_from Accepted Accepted new h = absurd (cc)
+initiator_from _ _ new h = absurd (cc)
 
-pub acquirer-from : (a told new : Status) → acquirer_row (Stands a) (Notified told) ≡ Move new → (a ≡ Accepted) × (new ≡ told) × ((told ≡ Completed) ⊎ (told ≡ Cancelled))
-acquirer-from Accepted Completed new h = (refl, cc, inl refl)
-acquirer-from Accepted Cancelled new h = (refl, cc, inr refl)
-acquirer-from Rejected Cancelled new h = absurd (cc)
-acquirer-from Completed Completed new h = absurd (cc)
-acquirer-from Cancelled Cancelled new h = absurd (cc)
-acquirer-from Proposed Proposed new h = absurd (cc)
-acquirer-from Checked Checked new h = absurd (cc)
-acquirer-from Terminated Terminated new h = absurd (cc)
-acquirer-from _ _ new h = absurd (cc)
+pub acquirer_from : (a told new : Status) → acquirer_row (Stands a) (Notified told) ≡ Move new → (a ≡ Accepted) × (new ≡ told) × ((told ≡ Completed) ⊎ (told ≡ Cancelled))
+acquirer_from Accepted Completed new h = (refl, cc, inl refl)
+acquirer_from Accepted Cancelled new h = (refl, cc, inr refl)
+acquirer_from Rejected Cancelled new h = absurd (cc)
+acquirer_from Completed Completed new h = absurd (cc)
+acquirer_from Cancelled Cancelled new h = absurd (cc)
+acquirer_from Proposed Proposed new h = absurd (cc)
+acquirer_from Checked Checked new h = absurd (cc)
+acquirer_from Terminated Terminated new h = absurd (cc)
+acquirer_from _ _ new h = absurd (cc)
 
 -- ---- what is recorded of a transaction
 
-pub nothing-known : (o : Option Transition) → known o ≡ Unknown → o ≡ None
-nothing-known None h = refl
-nothing-known (Some x) h = absurd (go x.content h)
+pub nothing_known : (o : Option Transition) → known o ≡ Unknown → o ≡ None
+nothing_known None h = refl
+nothing_known (Some x) h = absurd (go x.content h)
   where
     go : (k : Option Content) → option_map_or (λ c. Stands x.new) k Bare ≡ Unknown → ⊥
     go None h = cc (h)
@@ -86,153 +86,153 @@ pub record Recorded (o : Option Transition) (a : Status) : Type 0 where
   pub content : Content
   pub known : last.content ≡ Some content
 
-pub status-known : (o : Option Transition) (a : Status) → known o ≡ Stands a → Recorded o a
-status-known None a h = absurd (unknown-stands a h)
+pub status_known : (o : Option Transition) (a : Status) → known o ≡ Stands a → Recorded o a
+status_known None a h = absurd (unknown_stands a h)
   where
-    unknown-stands : (b : Status) → Unknown ≡ Stands b → ⊥
-    unknown-stands b e = cc (e)
-status-known (Some x) a h = go x.content refl h
+    unknown_stands : (b : Status) → Unknown ≡ Stands b → ⊥
+    unknown_stands b e = cc (e)
+status_known (Some x) a h = go x.content refl h
   where
     go : (k : Option Content) → x.content ≡ k → option_map_or (λ c. Stands x.new) k Bare ≡ Stands a → Recorded (Some x) a
     go None e h = absurd (cc (h))
     go (Some k) e h = let s : x.new ≡ a = cc (h) in record { last = x; is = refl; new = s; content = k; known = e }
 
-pub known-status : (x : Transition) (k : Content) → x.content ≡ Some k → known (Some x) ≡ Stands x.new
-known-status x k e = ap (λ (o : Option Content). option_map_or (λ c. Stands x.new) o Bare) e
+pub known_status : (x : Transition) (k : Content) → x.content ≡ Some k → known (Some x) ≡ Stands x.new
+known_status x k e = ap (λ (o : Option Content). option_map_or (λ c. Stands x.new) o Bare) e
 
 -- ---- rows that move, whatever is known
 
-pub initiator-proposes : (k : Known) (new : Status) → initiator_row k Propose ≡ Move new → (k ≡ Unknown) × (new ≡ Proposed)
-initiator-proposes Unknown new h = (refl, cc)
-initiator-proposes Bare new h = absurd (cc (h))
-initiator-proposes (Stands Proposed) new h = absurd (cc (h))
-initiator-proposes (Stands Checked) new h = absurd (cc (h))
-initiator-proposes (Stands Accepted) new h = absurd (cc (h))
-initiator-proposes (Stands Rejected) new h = absurd (cc (h))
-initiator-proposes (Stands Terminated) new h = absurd (cc (h))
-initiator-proposes (Stands Cancelled) new h = absurd (cc (h))
-initiator-proposes (Stands Completed) new h = absurd (cc (h))
+pub initiator_proposes : (k : Known) (new : Status) → initiator_row k Propose ≡ Move new → (k ≡ Unknown) × (new ≡ Proposed)
+initiator_proposes Unknown new h = (refl, cc)
+initiator_proposes Bare new h = absurd (cc (h))
+initiator_proposes (Stands Proposed) new h = absurd (cc (h))
+initiator_proposes (Stands Checked) new h = absurd (cc (h))
+initiator_proposes (Stands Accepted) new h = absurd (cc (h))
+initiator_proposes (Stands Rejected) new h = absurd (cc (h))
+initiator_proposes (Stands Terminated) new h = absurd (cc (h))
+initiator_proposes (Stands Cancelled) new h = absurd (cc (h))
+initiator_proposes (Stands Completed) new h = absurd (cc (h))
 
-pub initiator-asks : (k : Known) (new : Status) → initiator_row k RequestOrder ≡ Move new → (k ≡ Stands Proposed) × (new ≡ Proposed)
-initiator-asks Unknown new h = absurd (cc (h))
-initiator-asks Bare new h = absurd (cc (h))
-initiator-asks (Stands Proposed) new h = (refl, cc)
-initiator-asks (Stands Checked) new h = absurd (cc (h))
-initiator-asks (Stands Accepted) new h = absurd (cc (h))
-initiator-asks (Stands Rejected) new h = absurd (cc (h))
-initiator-asks (Stands Terminated) new h = absurd (cc (h))
-initiator-asks (Stands Cancelled) new h = absurd (cc (h))
-initiator-asks (Stands Completed) new h = absurd (cc (h))
+pub initiator_asks : (k : Known) (new : Status) → initiator_row k RequestOrder ≡ Move new → (k ≡ Stands Proposed) × (new ≡ Proposed)
+initiator_asks Unknown new h = absurd (cc (h))
+initiator_asks Bare new h = absurd (cc (h))
+initiator_asks (Stands Proposed) new h = (refl, cc)
+initiator_asks (Stands Checked) new h = absurd (cc (h))
+initiator_asks (Stands Accepted) new h = absurd (cc (h))
+initiator_asks (Stands Rejected) new h = absurd (cc (h))
+initiator_asks (Stands Terminated) new h = absurd (cc (h))
+initiator_asks (Stands Cancelled) new h = absurd (cc (h))
+initiator_asks (Stands Completed) new h = absurd (cc (h))
 
-pub initiator-asks-once : (k : Known) (new : Status) → initiator_row k RepeatedRequestOrder ≡ Move new → ⊥
-initiator-asks-once Unknown new h = cc (h)
-initiator-asks-once Bare new h = cc (h)
-initiator-asks-once (Stands Proposed) new h = cc (h)
-initiator-asks-once (Stands Checked) new h = cc (h)
-initiator-asks-once (Stands Accepted) new h = cc (h)
-initiator-asks-once (Stands Rejected) new h = cc (h)
-initiator-asks-once (Stands Terminated) new h = cc (h)
-initiator-asks-once (Stands Cancelled) new h = cc (h)
-initiator-asks-once (Stands Completed) new h = cc (h)
+pub initiator_asks_once : (k : Known) (new : Status) → initiator_row k RepeatedRequestOrder ≡ Move new → ⊥
+initiator_asks_once Unknown new h = cc (h)
+initiator_asks_once Bare new h = cc (h)
+initiator_asks_once (Stands Proposed) new h = cc (h)
+initiator_asks_once (Stands Checked) new h = cc (h)
+initiator_asks_once (Stands Accepted) new h = cc (h)
+initiator_asks_once (Stands Rejected) new h = cc (h)
+initiator_asks_once (Stands Terminated) new h = cc (h)
+initiator_asks_once (Stands Cancelled) new h = cc (h)
+initiator_asks_once (Stands Completed) new h = cc (h)
 
-pub initiator-unasked : (k : Known) (new : Status) → initiator_row k Request ≡ Move new → ⊥
-initiator-unasked Unknown new h = cc (h)
-initiator-unasked Bare new h = cc (h)
-initiator-unasked (Stands Proposed) new h = cc (h)
-initiator-unasked (Stands Checked) new h = cc (h)
-initiator-unasked (Stands Accepted) new h = cc (h)
-initiator-unasked (Stands Rejected) new h = cc (h)
-initiator-unasked (Stands Terminated) new h = cc (h)
-initiator-unasked (Stands Cancelled) new h = cc (h)
-initiator-unasked (Stands Completed) new h = cc (h)
+pub initiator_unasked : (k : Known) (new : Status) → initiator_row k Request ≡ Move new → ⊥
+initiator_unasked Unknown new h = cc (h)
+initiator_unasked Bare new h = cc (h)
+initiator_unasked (Stands Proposed) new h = cc (h)
+initiator_unasked (Stands Checked) new h = cc (h)
+initiator_unasked (Stands Accepted) new h = cc (h)
+initiator_unasked (Stands Rejected) new h = cc (h)
+initiator_unasked (Stands Terminated) new h = cc (h)
+initiator_unasked (Stands Cancelled) new h = cc (h)
+initiator_unasked (Stands Completed) new h = cc (h)
 
-pub acquirer-unasked : (k : Known) (new : Status) → acquirer_row k Request ≡ Move new → ⊥
-acquirer-unasked Unknown new h = cc (h)
-acquirer-unasked Bare new h = cc (h)
-acquirer-unasked (Stands Proposed) new h = cc (h)
-acquirer-unasked (Stands Checked) new h = cc (h)
-acquirer-unasked (Stands Accepted) new h = cc (h)
-acquirer-unasked (Stands Rejected) new h = cc (h)
-acquirer-unasked (Stands Terminated) new h = cc (h)
-acquirer-unasked (Stands Cancelled) new h = cc (h)
-acquirer-unasked (Stands Completed) new h = cc (h)
+pub acquirer_unasked : (k : Known) (new : Status) → acquirer_row k Request ≡ Move new → ⊥
+acquirer_unasked Unknown new h = cc (h)
+acquirer_unasked Bare new h = cc (h)
+acquirer_unasked (Stands Proposed) new h = cc (h)
+acquirer_unasked (Stands Checked) new h = cc (h)
+acquirer_unasked (Stands Accepted) new h = cc (h)
+acquirer_unasked (Stands Rejected) new h = cc (h)
+acquirer_unasked (Stands Terminated) new h = cc (h)
+acquirer_unasked (Stands Cancelled) new h = cc (h)
+acquirer_unasked (Stands Completed) new h = cc (h)
 
-pub initiator-notified : (k : Known) (told new : Status) → initiator_row k (Notified told) ≡ Move new → (a : Status) × (k ≡ Stands a)
-initiator-notified (Stands a) told new h = (a, refl)
-initiator-notified Unknown Proposed new h = absurd (cc (h))
-initiator-notified Unknown Checked new h = absurd (cc (h))
-initiator-notified Unknown Accepted new h = absurd (cc (h))
-initiator-notified Unknown Rejected new h = absurd (cc (h))
-initiator-notified Unknown Terminated new h = absurd (cc (h))
-initiator-notified Unknown Cancelled new h = absurd (cc (h))
-initiator-notified Unknown Completed new h = absurd (cc (h))
-initiator-notified Bare Proposed new h = absurd (cc (h))
-initiator-notified Bare Checked new h = absurd (cc (h))
-initiator-notified Bare Accepted new h = absurd (cc (h))
-initiator-notified Bare Rejected new h = absurd (cc (h))
-initiator-notified Bare Terminated new h = absurd (cc (h))
-initiator-notified Bare Cancelled new h = absurd (cc (h))
-initiator-notified Bare Completed new h = absurd (cc (h))
+pub initiator_notified : (k : Known) (told new : Status) → initiator_row k (Notified told) ≡ Move new → (a : Status) × (k ≡ Stands a)
+initiator_notified (Stands a) told new h = (a, refl)
+initiator_notified Unknown Proposed new h = absurd (cc (h))
+initiator_notified Unknown Checked new h = absurd (cc (h))
+initiator_notified Unknown Accepted new h = absurd (cc (h))
+initiator_notified Unknown Rejected new h = absurd (cc (h))
+initiator_notified Unknown Terminated new h = absurd (cc (h))
+initiator_notified Unknown Cancelled new h = absurd (cc (h))
+initiator_notified Unknown Completed new h = absurd (cc (h))
+initiator_notified Bare Proposed new h = absurd (cc (h))
+initiator_notified Bare Checked new h = absurd (cc (h))
+initiator_notified Bare Accepted new h = absurd (cc (h))
+initiator_notified Bare Rejected new h = absurd (cc (h))
+initiator_notified Bare Terminated new h = absurd (cc (h))
+initiator_notified Bare Cancelled new h = absurd (cc (h))
+initiator_notified Bare Completed new h = absurd (cc (h))
 
-pub log-notified : (k : Known) (told new : Status) → log_row k (Notified told) ≡ Move new → (a : Status) × (k ≡ Stands a)
-log-notified (Stands a) told new h = (a, refl)
-log-notified Unknown Proposed new h = absurd (cc (h))
-log-notified Unknown Checked new h = absurd (cc (h))
-log-notified Unknown Accepted new h = absurd (cc (h))
-log-notified Unknown Rejected new h = absurd (cc (h))
-log-notified Unknown Terminated new h = absurd (cc (h))
-log-notified Unknown Cancelled new h = absurd (cc (h))
-log-notified Unknown Completed new h = absurd (cc (h))
-log-notified Bare Proposed new h = absurd (cc (h))
-log-notified Bare Checked new h = absurd (cc (h))
-log-notified Bare Accepted new h = absurd (cc (h))
-log-notified Bare Rejected new h = absurd (cc (h))
-log-notified Bare Terminated new h = absurd (cc (h))
-log-notified Bare Cancelled new h = absurd (cc (h))
-log-notified Bare Completed new h = absurd (cc (h))
+pub log_notified : (k : Known) (told new : Status) → log_row k (Notified told) ≡ Move new → (a : Status) × (k ≡ Stands a)
+log_notified (Stands a) told new h = (a, refl)
+log_notified Unknown Proposed new h = absurd (cc (h))
+log_notified Unknown Checked new h = absurd (cc (h))
+log_notified Unknown Accepted new h = absurd (cc (h))
+log_notified Unknown Rejected new h = absurd (cc (h))
+log_notified Unknown Terminated new h = absurd (cc (h))
+log_notified Unknown Cancelled new h = absurd (cc (h))
+log_notified Unknown Completed new h = absurd (cc (h))
+log_notified Bare Proposed new h = absurd (cc (h))
+log_notified Bare Checked new h = absurd (cc (h))
+log_notified Bare Accepted new h = absurd (cc (h))
+log_notified Bare Rejected new h = absurd (cc (h))
+log_notified Bare Terminated new h = absurd (cc (h))
+log_notified Bare Cancelled new h = absurd (cc (h))
+log_notified Bare Completed new h = absurd (cc (h))
 
-pub acquirer-notified : (k : Known) (told new : Status) → acquirer_row k (Notified told) ≡ Move new → ((a : Status) × (k ≡ Stands a)) ⊎ ((k ≡ Unknown) × (told ≡ Cancelled) × (new ≡ Cancelled))
-acquirer-notified (Stands a) told new h = inl (a, refl)
-acquirer-notified Unknown Cancelled new h = inr (refl, refl, cc)
-acquirer-notified Unknown Proposed new h = absurd (cc (h))
-acquirer-notified Unknown Checked new h = absurd (cc (h))
-acquirer-notified Unknown Accepted new h = absurd (cc (h))
-acquirer-notified Unknown Rejected new h = absurd (cc (h))
-acquirer-notified Unknown Terminated new h = absurd (cc (h))
-acquirer-notified Unknown Completed new h = absurd (cc (h))
-acquirer-notified Bare Proposed new h = absurd (cc (h))
-acquirer-notified Bare Checked new h = absurd (cc (h))
-acquirer-notified Bare Accepted new h = absurd (cc (h))
-acquirer-notified Bare Rejected new h = absurd (cc (h))
-acquirer-notified Bare Terminated new h = absurd (cc (h))
-acquirer-notified Bare Cancelled new h = absurd (cc (h))
-acquirer-notified Bare Completed new h = absurd (cc (h))
+pub acquirer_notified : (k : Known) (told new : Status) → acquirer_row k (Notified told) ≡ Move new → ((a : Status) × (k ≡ Stands a)) ⊎ ((k ≡ Unknown) × (told ≡ Cancelled) × (new ≡ Cancelled))
+acquirer_notified (Stands a) told new h = inl (a, refl)
+acquirer_notified Unknown Cancelled new h = inr (refl, refl, cc)
+acquirer_notified Unknown Proposed new h = absurd (cc (h))
+acquirer_notified Unknown Checked new h = absurd (cc (h))
+acquirer_notified Unknown Accepted new h = absurd (cc (h))
+acquirer_notified Unknown Rejected new h = absurd (cc (h))
+acquirer_notified Unknown Terminated new h = absurd (cc (h))
+acquirer_notified Unknown Completed new h = absurd (cc (h))
+acquirer_notified Bare Proposed new h = absurd (cc (h))
+acquirer_notified Bare Checked new h = absurd (cc (h))
+acquirer_notified Bare Accepted new h = absurd (cc (h))
+acquirer_notified Bare Rejected new h = absurd (cc (h))
+acquirer_notified Bare Terminated new h = absurd (cc (h))
+acquirer_notified Bare Cancelled new h = absurd (cc (h))
+acquirer_notified Bare Completed new h = absurd (cc (h))
 
-pub log-asked : (k : Known) (new : Status) → log_row k Request ≡ Move new → ((k ≡ Unknown) ⊎ (k ≡ Stands Checked)) × (new ≡ Cancelled)
-log-asked Unknown new h = (inl refl, cc)
-log-asked Bare new h = absurd (cc (h))
-log-asked (Stands Checked) new h = (inr refl, cc)
-log-asked (Stands Proposed) new h = absurd (cc (h))
-log-asked (Stands Accepted) new h = absurd (cc (h))
-log-asked (Stands Rejected) new h = absurd (cc (h))
-log-asked (Stands Terminated) new h = absurd (cc (h))
-log-asked (Stands Cancelled) new h = absurd (cc (h))
-log-asked (Stands Completed) new h = absurd (cc (h))
+pub log_asked : (k : Known) (new : Status) → log_row k Request ≡ Move new → ((k ≡ Unknown) ⊎ (k ≡ Stands Checked)) × (new ≡ Cancelled)
+log_asked Unknown new h = (inl refl, cc)
+log_asked Bare new h = absurd (cc (h))
+log_asked (Stands Checked) new h = (inr refl, cc)
+log_asked (Stands Proposed) new h = absurd (cc (h))
+log_asked (Stands Accepted) new h = absurd (cc (h))
+log_asked (Stands Rejected) new h = absurd (cc (h))
+log_asked (Stands Terminated) new h = absurd (cc (h))
+log_asked (Stands Cancelled) new h = absurd (cc (h))
+log_asked (Stands Completed) new h = absurd (cc (h))
 
-pub log-cleans : (k : Known) (new : Status) → log_row k CleanUp ≡ Move new → (k ≡ Stands Checked) × (new ≡ Cancelled)
-log-cleans Unknown new h = absurd (cc (h))
-log-cleans Bare new h = absurd (cc (h))
-log-cleans (Stands Checked) new h = (refl, cc)
-log-cleans (Stands Proposed) new h = absurd (cc (h))
-log-cleans (Stands Accepted) new h = absurd (cc (h))
-log-cleans (Stands Rejected) new h = absurd (cc (h))
-log-cleans (Stands Terminated) new h = absurd (cc (h))
-log-cleans (Stands Cancelled) new h = absurd (cc (h))
-log-cleans (Stands Completed) new h = absurd (cc (h))
+pub log_cleans : (k : Known) (new : Status) → log_row k CleanUp ≡ Move new → (k ≡ Stands Checked) × (new ≡ Cancelled)
+log_cleans Unknown new h = absurd (cc (h))
+log_cleans Bare new h = absurd (cc (h))
+log_cleans (Stands Checked) new h = (refl, cc)
+log_cleans (Stands Proposed) new h = absurd (cc (h))
+log_cleans (Stands Accepted) new h = absurd (cc (h))
+log_cleans (Stands Rejected) new h = absurd (cc (h))
+log_cleans (Stands Terminated) new h = absurd (cc (h))
+log_cleans (Stands Cancelled) new h = absurd (cc (h))
+log_cleans (Stands Completed) new h = absurd (cc (h))
 
 -- a proposal of a transaction that is known moves nothing
-pub acquirer-offered : (x : Transition) (found : List ℕ) (new : Status) → acquirer_row (known (Some x)) (offered (content_in (Some x)) found) ≡ Move new → ⊥
-acquirer-offered x found new h = go x.content x.new found new h
+pub acquirer_offered : (x : Transition) (found : List ℕ) (new : Status) → acquirer_row (known (Some x)) (offered (content_in (Some x)) found) ≡ Move new → ⊥
+acquirer_offered x found new h = go x.content x.new found new h
   where
     go : (k : Option Content) (s : Status) (found : List ℕ) (new : Status) → acquirer_row (option_map_or (λ c. Stands s) k Bare) (offered k found) ≡ Move new → ⊥
     go None s [] new h = cc (h)
@@ -246,8 +246,8 @@ acquirer-offered x found new h = go x.content x.new found new h
     go (Some k) Completed found new h = cc (h)
 
 -- a proposal of a transaction that is known moves nothing
-pub log-offered : (x : Transition) (found : List ℕ) (new : Status) → log_row (known (Some x)) (offered (content_in (Some x)) found) ≡ Move new → ⊥
-log-offered x found new h = go x.content x.new found new h
+pub log_offered : (x : Transition) (found : List ℕ) (new : Status) → log_row (known (Some x)) (offered (content_in (Some x)) found) ≡ Move new → ⊥
+log_offered x found new h = go x.content x.new found new h
   where
     go : (k : Option Content) (s : Status) (found : List ℕ) (new : Status) → log_row (option_map_or (λ c. Stands s) k Bare) (offered k found) ≡ Move new → ⊥
     go None s [] new h = cc (h)
@@ -262,8 +262,8 @@ log-offered x found new h = go x.content x.new found new h
 
 -- ---- the acquirer takes no unit in that it holds
 
-pub unless-moves : (held : Bool) (row : Row) (new : Status) → unless_held held row ≡ Move new → (row ≡ Move new) × ((same_status new Completed && held) ≡ false)
-unless-moves false row new h = (h, without new)
+pub unless_moves : (held : Bool) (row : Row) (new : Status) → unless_held held row ≡ Move new → (row ≡ Move new) × ((same_status new Completed && held) ≡ false)
+unless_moves false row new h = (h, without new)
   where
     without : (s : Status) → (same_status s Completed && false) ≡ false
     without Proposed = refl
@@ -273,21 +273,21 @@ unless-moves false row new h = (h, without new)
     without Terminated = refl
     without Cancelled = refl
     without Completed = refl
-unless-moves true (Move Proposed) new h = let e : Proposed ≡ new = cc (h) in (h, subst (λ s. (same_status s Completed && true) ≡ false) e refl)
-unless-moves true (Move Checked) new h = let e : Checked ≡ new = cc (h) in (h, subst (λ s. (same_status s Completed && true) ≡ false) e refl)
-unless-moves true (Move Accepted) new h = let e : Accepted ≡ new = cc (h) in (h, subst (λ s. (same_status s Completed && true) ≡ false) e refl)
-unless-moves true (Move Rejected) new h = let e : Rejected ≡ new = cc (h) in (h, subst (λ s. (same_status s Completed && true) ≡ false) e refl)
-unless-moves true (Move Terminated) new h = let e : Terminated ≡ new = cc (h) in (h, subst (λ s. (same_status s Completed && true) ≡ false) e refl)
-unless-moves true (Move Cancelled) new h = let e : Cancelled ≡ new = cc (h) in (h, subst (λ s. (same_status s Completed && true) ≡ false) e refl)
-unless-moves true (Move Completed) new h = absurd (cc (h))
-unless-moves true Repeat new h = absurd (cc (h))
-unless-moves true Late new h = absurd (cc (h))
-unless-moves true Refused new h = absurd (cc (h))
+unless_moves true (Move Proposed) new h = let e : Proposed ≡ new = cc (h) in (h, subst (λ s. (same_status s Completed && true) ≡ false) e refl)
+unless_moves true (Move Checked) new h = let e : Checked ≡ new = cc (h) in (h, subst (λ s. (same_status s Completed && true) ≡ false) e refl)
+unless_moves true (Move Accepted) new h = let e : Accepted ≡ new = cc (h) in (h, subst (λ s. (same_status s Completed && true) ≡ false) e refl)
+unless_moves true (Move Rejected) new h = let e : Rejected ≡ new = cc (h) in (h, subst (λ s. (same_status s Completed && true) ≡ false) e refl)
+unless_moves true (Move Terminated) new h = let e : Terminated ≡ new = cc (h) in (h, subst (λ s. (same_status s Completed && true) ≡ false) e refl)
+unless_moves true (Move Cancelled) new h = let e : Cancelled ≡ new = cc (h) in (h, subst (λ s. (same_status s Completed && true) ≡ false) e refl)
+unless_moves true (Move Completed) new h = absurd (cc (h))
+unless_moves true Repeat new h = absurd (cc (h))
+unless_moves true Late new h = absurd (cc (h))
+unless_moves true Refused new h = absurd (cc (h))
 
 -- ---- what goes out
 
-pub settled-sends : (c : Code) (t : TransactionId) (k : Option Content) (a told new : Status) → initiator_row (Stands a) (Notified told) ≡ Move new → initiator_sends c t k (Notified told) ≡ settled_messages c t new
-settled-sends c t k a told new h = let m = initiator-from a told new h in subst (λ s. initiator_sends c t k (Notified s) ≡ settled_messages c t new) m.1 (go new a told h)
+pub settled_sends : (c : Code) (t : TransactionId) (k : Option Content) (a told new : Status) → initiator_row (Stands a) (Notified told) ≡ Move new → initiator_sends c t k (Notified told) ≡ settled_messages c t new
+settled_sends c t k a told new h = let m = initiator_from a told new h in subst (λ s. initiator_sends c t k (Notified s) ≡ settled_messages c t new) m.1 (go new a told h)
   where
     go : (new a told : Status) → initiator_row (Stands a) (Notified told) ≡ Move new → initiator_sends c t k (Notified (word_to new)) ≡ settled_messages c t new
     go Completed a told h = refl
@@ -311,9 +311,9 @@ settled-sends c t k a told new h = let m = initiator-from a told new h in subst 
         never Accepted Accepted h = cc (h)
         never _ _ h = cc (h)
 
-pub passed-sends : (x : Transition) (k : Content) (said : Notice) (new : Status) → x.content ≡ Some k → log_row (Stands x.new) (Notified (notice_status said)) ≡ Move new
+pub passed_sends : (x : Transition) (k : Content) (said : Notice) (new : Status) → x.content ≡ Some k → log_row (Stands x.new) (Notified (notice_status said)) ≡ Move new
     → log_sends x.id (Some k) (notice_codes said) (Notified (notice_status said)) ≡ notifies Itl (told_to x new) x.id said ∷ []
-passed-sends x k said new e h = go said (log-from x.new (notice_status said) new h)
+passed_sends x k said new e h = go said (log_from x.new (notice_status said) new h)
   where
     go : (said : Notice) → ((x.new ≡ Checked) × (new ≡ notice_status said) × ((notice_status said ≡ Accepted) ⊎ (notice_status said ≡ Rejected))) ⊎ ((x.new ≡ Accepted) × (new ≡ Completed) × (notice_status said ≡ Completed))
         → log_sends x.id (Some k) (notice_codes said) (Notified (notice_status said)) ≡ notifies Itl (told_to x new) x.id said ∷ []
@@ -330,25 +330,25 @@ passed-sends x k said new e h = go said (log-from x.new (notice_status said) new
         subst (λ s. log_sends x.id (Some k) [] (Notified Completed) ≡ notifies Itl (told_to x s) x.id notice.Completed ∷ []) (sym m.1)
         (subst (λ o. log_sends x.id (Some k) [] (Notified Completed) ≡ notifies Itl (acquirer_of o) x.id notice.Completed ∷ []) (sym e) refl)
 
-pub unless-same : (held : Bool) (row : Row) → (row ≡ Move Completed → held ≡ false) → unless_held held row ≡ row
-unless-same false row h = refl
-unless-same true (Move Completed) h = absurd (let e = h refl in cc (e))
-unless-same true (Move Proposed) h = refl
-unless-same true (Move Checked) h = refl
-unless-same true (Move Accepted) h = refl
-unless-same true (Move Rejected) h = refl
-unless-same true (Move Terminated) h = refl
-unless-same true (Move Cancelled) h = refl
-unless-same true Repeat h = refl
-unless-same true Late h = refl
-unless-same true Refused h = refl
+pub unless_same : (held : Bool) (row : Row) → (row ≡ Move Completed → held ≡ false) → unless_held held row ≡ row
+unless_same false row h = refl
+unless_same true (Move Completed) h = absurd (let e = h refl in cc (e))
+unless_same true (Move Proposed) h = refl
+unless_same true (Move Checked) h = refl
+unless_same true (Move Accepted) h = refl
+unless_same true (Move Rejected) h = refl
+unless_same true (Move Terminated) h = refl
+unless_same true (Move Cancelled) h = refl
+unless_same true Repeat h = refl
+unless_same true Late h = refl
+unless_same true Refused h = refl
 
 -- ---- rows that are there
 
-pub acquirer-offer-row : (o : Option Transition) (found : List ℕ) → acquirer_row (known o) (offered (content_in o) found) ≡ Refused → ⊥
-acquirer-offer-row None [] h = cc (h)
-acquirer-offer-row None (c ∷ cs) h = cc (h)
-acquirer-offer-row (Some x) found h = go x.content x.new found h
+pub acquirer_offer_row : (o : Option Transition) (found : List ℕ) → acquirer_row (known o) (offered (content_in o) found) ≡ Refused → ⊥
+acquirer_offer_row None [] h = cc (h)
+acquirer_offer_row None (c ∷ cs) h = cc (h)
+acquirer_offer_row (Some x) found h = go x.content x.new found h
   where
     go : (k : Option Content) (s : Status) (found : List ℕ) → acquirer_row (option_map_or (λ c. Stands s) k Bare) (offered k found) ≡ Refused → ⊥
     go None s [] h = cc (h)
@@ -361,10 +361,10 @@ acquirer-offer-row (Some x) found h = go x.content x.new found h
     go (Some k) Cancelled found h = cc (h)
     go (Some k) Completed found h = cc (h)
 
-pub log-offer-row : (o : Option Transition) (found : List ℕ) → log_row (known o) (offered (content_in o) found) ≡ Refused → ⊥
-log-offer-row None [] h = cc (h)
-log-offer-row None (c ∷ cs) h = cc (h)
-log-offer-row (Some x) found h = go x.content x.new found h
+pub log_offer_row : (o : Option Transition) (found : List ℕ) → log_row (known o) (offered (content_in o) found) ≡ Refused → ⊥
+log_offer_row None [] h = cc (h)
+log_offer_row None (c ∷ cs) h = cc (h)
+log_offer_row (Some x) found h = go x.content x.new found h
   where
     go : (k : Option Content) (s : Status) (found : List ℕ) → log_row (option_map_or (λ c. Stands s) k Bare) (offered k found) ≡ Refused → ⊥
     go None s [] h = cc (h)
@@ -378,13 +378,13 @@ log-offer-row (Some x) found h = go x.content x.new found h
     go (Some k) Completed found h = cc (h)
 
 -- nothing stands Proposed at the log, so a request has a row
-pub log-request-row : (k : Known) → (k ≡ Stands Proposed → ⊥) → log_row k Request ≡ Refused → ⊥
-log-request-row Unknown other h = cc (h)
-log-request-row Bare other h = cc (h)
-log-request-row (Stands Proposed) other h = other refl
-log-request-row (Stands Checked) other h = cc (h)
-log-request-row (Stands Accepted) other h = cc (h)
-log-request-row (Stands Rejected) other h = cc (h)
-log-request-row (Stands Terminated) other h = cc (h)
-log-request-row (Stands Cancelled) other h = cc (h)
-log-request-row (Stands Completed) other h = cc (h)
+pub log_request_row : (k : Known) → (k ≡ Stands Proposed → ⊥) → log_row k Request ≡ Refused → ⊥
+log_request_row Unknown other h = cc (h)
+log_request_row Bare other h = cc (h)
+log_request_row (Stands Proposed) other h = other refl
+log_request_row (Stands Checked) other h = cc (h)
+log_request_row (Stands Accepted) other h = cc (h)
+log_request_row (Stands Rejected) other h = cc (h)
+log_request_row (Stands Terminated) other h = cc (h)
+log_request_row (Stands Cancelled) other h = cc (h)
+log_request_row (Stands Completed) other h = cc (h)

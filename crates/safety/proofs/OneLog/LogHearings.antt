@@ -22,10 +22,10 @@ use Rattle.protocol.specs.AtLog.{ledger, is_no_registry, is_not_acquirer, is_fro
 use Rattle.protocol.specs.Checks.{log_findings}
 use Rattle.protocol.specs.History.{Transition, Entry, transitions_of, newest, sends, messages_of}
 use Rattle.safety.proofs.MovesAndHistories.TransitionForms.{checked_status, checked_message, acquirer_of}
-use Rattle.safety.proofs.MovesAndHistories.NewestTransitions.{Made, Heard, heard-later, made-log, newest-id, newest-append, newest-in, one-notice}
-use Rattle.safety.proofs.ListLemmas.Membership.{In, In-cases, In-flat_map, one-some}
+use Rattle.safety.proofs.MovesAndHistories.NewestTransitions.{Made, Heard, heard_later, made_log, newest_id, newest_append, newest_in, one_notice}
+use Rattle.safety.proofs.ListLemmas.Membership.{In, In_cases, In_flat_map, one_some}
 use Rattle.safety.proofs.MovesAndHistories.TableMoves.{LogMove, checks, passes, cancels, forestalls, Withdraws, cleans, requested}
-use Rattle.safety.proofs.MovesAndHistories.TableRows.{log-from}
+use Rattle.safety.proofs.MovesAndHistories.TableRows.{log_from}
 
 -- ---- what stands Accepted or Completed was accepted by its acquirer
 
@@ -39,9 +39,9 @@ IsAgreed Accepted = Unit {0}
 IsAgreed Completed = Unit {0}
 IsAgreed _ = ⊥
 
-checked-new : (found : List ℕ) → IsAgreed (checked_status found) → ⊥
-checked-new [] h = h
-checked-new (c ∷ cs) h = h
+checked_new : (found : List ℕ) → IsAgreed (checked_status found) → ⊥
+checked_new [] h = h
+checked_new (c ∷ cs) h = h
 
 module _ (scheme : Scheme) where
   -- who sent an Accepted that moved a transfer: the acquirer of its content
@@ -49,14 +49,14 @@ module _ (scheme : Scheme) where
   from_acquirer from None member right = absurd (cc (right))
   from_acquirer from (Some c) member right = (c, refl, node_of_same from (Registry c.acquirer) (not-false _ right))
 
-  backed-move : (es : List Entry) (e : Entry) (t : TransactionId) (input : Input) (x : Transition) → e.input ≡ input → LogMove scheme es input x → x.id ≡ t → IsAgreed x.new
+  backed_move : (es : List Entry) (e : Entry) (t : TransactionId) (input : Input) (x : Transition) → e.input ≡ input → LogMove scheme es input x → x.id ≡ t → IsAgreed x.new
       → ((q : Transition) → newest (transitions_of es) t ≡ Some q → IsAgreed q.new → Backed es t q) → Backed (e ∷ es) t x
-  backed-move es e t input x i (checks p moment found f s is none member) same h older = absurd (checked-new found h)
-  backed-move es e t input x i (cancels given moment u q why old was) same h older = absurd h
-  backed-move es e t input x i (forestalls r moment f member none) same h older = absurd h
-  backed-move es e t input x i (passes n moment q new old member right move) same h older =
-      let about : n.id ≡ t = sym (newest-id (transitions_of es) n.id q old).1 ∙ same in
-      elim (log-from q.new (notice_status n.notice) new move) [
+  backed_move es e t input x i (checks p moment found f s is none member) same h older = absurd (checked_new found h)
+  backed_move es e t input x i (cancels given moment u q why old was) same h older = absurd h
+  backed_move es e t input x i (forestalls r moment f member none) same h older = absurd h
+  backed_move es e t input x i (passes n moment q new old member right move) same h older =
+      let about : n.id ≡ t = sym (newest_id (transitions_of es) n.id q old).1 ∙ same in
+      elim (log_from q.new (notice_status n.notice) new move) [
         | inl m ↦
             elim m.2 [
               | inl a ↦
@@ -70,20 +70,20 @@ module _ (scheme : Scheme) where
             ]
         | inr m ↦
             let b = older q (subst (λ z. newest (transitions_of es) z ≡ Some q) about old) (subst IsAgreed (sym m.0) tt) in
-            record { content = b.content; heard = heard-later e es (Registry b.content.acquirer) t Accepted b.heard; known = b.known }
+            record { content = b.content; heard = heard_later e es (Registry b.content.acquirer) t Accepted b.heard; known = b.known }
       ]
 
-  pub log-backed : (es : List Entry) → Made scheme Itl es → (t : TransactionId) (x : Transition) → newest (transitions_of es) t ≡ Some x → IsAgreed x.new → Backed es t x
-  log-backed [] made t x h a = absurd (cc)
-  log-backed (e ∷ es) made t x h a =
-      elim (newest-append e.transitions (transitions_of es) t) [
+  pub log_backed : (es : List Entry) → Made scheme Itl es → (t : TransactionId) (x : Transition) → newest (transitions_of es) t ≡ Some x → IsAgreed x.new → Backed es t x
+  log_backed [] made t x h a = absurd (cc)
+  log_backed (e ∷ es) made t x h a =
+      elim (newest_append e.transitions (transitions_of es) t) [
         | inl u ↦
-            let b = log-backed es made.1 t x (sym u ∙ h) a in
-            record { content = b.content; heard = heard-later e es (Registry b.content.acquirer) t Accepted b.heard; known = b.known }
+            let b = log_backed es made.1 t x (sym u ∙ h) a in
+            record { content = b.content; heard = heard_later e es (Registry b.content.acquirer) t Accepted b.heard; known = b.known }
         | inr u ↦
-            let j : u.0 ≡ x = one-some u.0 x (sym u.3 ∙ h) in
-            backed-move es e t e.input x refl (subst (λ z. LogMove scheme es e.input z) j (made-log scheme e es u.0 made u.1)) (subst (λ (z : Transition). z.id ≡ t) j u.2) a
-            (λ q old b. log-backed es made.1 t q old b)
+            let j : u.0 ≡ x = one_some u.0 x (sym u.3 ∙ h) in
+            backed_move es e t e.input x refl (subst (λ z. LogMove scheme es e.input z) j (made_log scheme e es u.0 made u.1)) (subst (λ (z : Transition). z.id ≡ t) j u.2) a
+            (λ q old b. log_backed es made.1 t q old b)
       ]
 
 -- ---- what the log sent, it stands by
@@ -93,103 +93,103 @@ abbrev pub IsPast : Status → Option Transition → Type 0
 IsPast s None = ⊥
 IsPast s (Some x) = (x.new ≡ s) ⊎ ((s ≡ Accepted) × (x.new ≡ Completed))
 
-checked-notice : (t : TransactionId) (k : Content) (found : List ℕ) (n : Notification) → In (message.Notification n) (checked_message t k found ∷ [])
+checked_notice : (t : TransactionId) (k : Content) (found : List ℕ) (n : Notification) → In (message.Notification n) (checked_message t k found ∷ [])
     → (t ≡ n.id) × (checked_status found ≡ notice_status n.notice) × (notice_status n.notice ≡ Terminated)
-checked-notice t k [] n (inl e) = absurd (cc (e))
-checked-notice t k [] n (inr h) = absurd h
-checked-notice t k (c ∷ cs) n (inl e) = let s = one-notice _ n e in (ap (λ (z : Notification). z.id) s, ap (λ (z : Notification). notice_status z.notice) s, sym (ap (λ (z : Notification). notice_status z.notice) s))
-checked-notice t k (c ∷ cs) n (inr h) = absurd h
+checked_notice t k [] n (inl e) = absurd (cc (e))
+checked_notice t k [] n (inr h) = absurd h
+checked_notice t k (c ∷ cs) n (inl e) = let s = one_notice _ n e in (ap (λ (z : Notification). z.id) s, ap (λ (z : Notification). notice_status z.notice) s, sym (ap (λ (z : Notification). notice_status z.notice) s))
+checked_notice t k (c ∷ cs) n (inr h) = absurd h
 
 module _ (scheme : Scheme) where
-  told-new : (a new told : Status) → new ≡ told → ((a ≡ Checked) × (new ≡ told) × ((told ≡ Accepted) ⊎ (told ≡ Rejected))) ⊎ ((a ≡ Accepted) × (new ≡ Completed) × (told ≡ Completed)) → told ≡ Checked → ⊥
-  told-new a new told e (inl m) c =
+  told_new : (a new told : Status) → new ≡ told → ((a ≡ Checked) × (new ≡ told) × ((told ≡ Accepted) ⊎ (told ≡ Rejected))) ⊎ ((a ≡ Accepted) × (new ≡ Completed) × (told ≡ Completed)) → told ≡ Checked → ⊥
+  told_new a new told e (inl m) c =
       elim m.2 [
         | inl b ↦ let x : Accepted ≡ Checked = sym b ∙ c in cc (x)
         | inr b ↦ let x : Rejected ≡ Checked = sym b ∙ c in cc (x)
       ]
-  told-new a new told e (inr m) c = let x : Completed ≡ Checked = sym m.2 ∙ c in cc (x)
+  told_new a new told e (inr m) c = let x : Completed ≡ Checked = sym m.2 ∙ c in cc (x)
 
-  new-told : (a told new : Status) → ((a ≡ Checked) × (new ≡ told) × ((told ≡ Accepted) ⊎ (told ≡ Rejected))) ⊎ ((a ≡ Accepted) × (new ≡ Completed) × (told ≡ Completed)) → new ≡ told
-  new-told a told new (inl m) = m.1
-  new-told a told new (inr m) = m.1 ∙ sym m.2
+  new_told : (a told new : Status) → ((a ≡ Checked) × (new ≡ told) × ((told ≡ Accepted) ⊎ (told ≡ Rejected))) ⊎ ((a ≡ Accepted) × (new ≡ Completed) × (told ≡ Completed)) → new ≡ told
+  new_told a told new (inl m) = m.1
+  new_told a told new (inr m) = m.1 ∙ sym m.2
 
-  pub log-notice-move : (es : List Entry) (input : Input) (x : Transition) (n : Notification) → LogMove scheme es input x → In (message.Notification n) x.messages
+  pub log_notice_move : (es : List Entry) (input : Input) (x : Transition) (n : Notification) → LogMove scheme es input x → In (message.Notification n) x.messages
       → (x.id ≡ n.id) × (x.new ≡ notice_status n.notice) × (notice_status n.notice ≡ Checked → ⊥)
-  log-notice-move es input x n (checks p moment found f s is none member) h =
-      let g = checked-notice p.id p.content found n h in (g.0, g.1, λ e. absurd (let y : Terminated ≡ Checked = sym g.2 ∙ e in cc (y)))
-  log-notice-move es input x n (passes m moment q new old member right move) (inr h) = absurd h
-  log-notice-move es input x n (passes m moment q new old member right move) (inl h) =
-      let s = one-notice _ n h in
-      let from = log-from q.new (notice_status m.notice) new move in
+  log_notice_move es input x n (checks p moment found f s is none member) h =
+      let g = checked_notice p.id p.content found n h in (g.0, g.1, λ e. absurd (let y : Terminated ≡ Checked = sym g.2 ∙ e in cc (y)))
+  log_notice_move es input x n (passes m moment q new old member right move) (inr h) = absurd h
+  log_notice_move es input x n (passes m moment q new old member right move) (inl h) =
+      let s = one_notice _ n h in
+      let from = log_from q.new (notice_status m.notice) new move in
       let same : notice_status m.notice ≡ notice_status n.notice = ap (λ (z : Notification). notice_status z.notice) s in
-      (ap (λ (z : Notification). z.id) s, new-told q.new (notice_status m.notice) new from ∙ same, λ e. told-new q.new new (notice_status m.notice) (new-told q.new (notice_status m.notice) new from) from (same ∙ e))
-  log-notice-move es input x n (cancels given moment t q why old was) (inl e) =
-      let s = one-notice _ n e in
+      (ap (λ (z : Notification). z.id) s, new_told q.new (notice_status m.notice) new from ∙ same, λ e. told_new q.new new (notice_status m.notice) (new_told q.new (notice_status m.notice) new from) from (same ∙ e))
+  log_notice_move es input x n (cancels given moment t q why old was) (inl e) =
+      let s = one_notice _ n e in
       (ap (λ (z : Notification). z.id) s, ap (λ (z : Notification). notice_status z.notice) s, λ c. let y : Cancelled ≡ Checked = ap (λ (z : Notification). notice_status z.notice) s ∙ c in absurd (cc (y)))
-  log-notice-move es input x n (cancels given moment t q why old was) (inr (inl e)) =
-      let s = one-notice _ n e in
+  log_notice_move es input x n (cancels given moment t q why old was) (inr (inl e)) =
+      let s = one_notice _ n e in
       (ap (λ (z : Notification). z.id) s, ap (λ (z : Notification). notice_status z.notice) s, λ c. let y : Cancelled ≡ Checked = ap (λ (z : Notification). notice_status z.notice) s ∙ c in absurd (cc (y)))
-  log-notice-move es input x n (cancels given moment t q why old was) (inr (inr h)) = absurd h
-  log-notice-move es input x n (forestalls r moment f member none) (inl e) =
-      let s = one-notice _ n e in
+  log_notice_move es input x n (cancels given moment t q why old was) (inr (inr h)) = absurd h
+  log_notice_move es input x n (forestalls r moment f member none) (inl e) =
+      let s = one_notice _ n e in
       (ap (λ (z : Notification). z.id) s, ap (λ (z : Notification). notice_status z.notice) s, λ c. let y : Cancelled ≡ Checked = ap (λ (z : Notification). notice_status z.notice) s ∙ c in absurd (cc (y)))
-  log-notice-move es input x n (forestalls r moment f member none) (inr h) = absurd h
+  log_notice_move es input x n (forestalls r moment f member none) (inr h) = absurd h
 
   -- what cancels a transaction is no proposal and no notification, and a request cancels none that is not known
-  no-proposal : {X : Type 0} (given : Input) (t : TransactionId) (moment : Moment) (p : Proposal) (at_moment : Moment) → Withdraws given t moment → given ≡ Received (message.Proposal p) at_moment → X
-  no-proposal given t moment p at_moment (cleans _ _) e = absurd (cc (e))
-  no-proposal given t moment p at_moment (requested _ _ _) e = absurd (cc (e))
+  no_proposal : {X : Type 0} (given : Input) (t : TransactionId) (moment : Moment) (p : Proposal) (at_moment : Moment) → Withdraws given t moment → given ≡ Received (message.Proposal p) at_moment → X
+  no_proposal given t moment p at_moment (cleans _ _) e = absurd (cc (e))
+  no_proposal given t moment p at_moment (requested _ _ _) e = absurd (cc (e))
 
-  no-notification : {X : Type 0} (given : Input) (t : TransactionId) (moment : Moment) (n : Notification) (at_moment : Moment) → Withdraws given t moment → given ≡ Received (message.Notification n) at_moment → X
-  no-notification given t moment n at_moment (cleans _ _) e = absurd (cc (e))
-  no-notification given t moment n at_moment (requested _ _ _) e = absurd (cc (e))
+  no_notification : {X : Type 0} (given : Input) (t : TransactionId) (moment : Moment) (n : Notification) (at_moment : Moment) → Withdraws given t moment → given ≡ Received (message.Notification n) at_moment → X
+  no_notification given t moment n at_moment (cleans _ _) e = absurd (cc (e))
+  no_notification given t moment n at_moment (requested _ _ _) e = absurd (cc (e))
 
-  same-request : (given : Input) (t : TransactionId) (moment : Moment) (r : Request) (at_moment : Moment) → Withdraws given t moment → given ≡ Received (message.Request r) at_moment → t ≡ r.id
-  same-request given t moment r at_moment (cleans _ _) e = absurd (cc (e))
-  same-request given t moment r at_moment (requested q _ _) e = let a : q ≡ r = cc (e) in ap (λ (z : Request). z.id) a
+  same_request : (given : Input) (t : TransactionId) (moment : Moment) (r : Request) (at_moment : Moment) → Withdraws given t moment → given ≡ Received (message.Request r) at_moment → t ≡ r.id
+  same_request given t moment r at_moment (cleans _ _) e = absurd (cc (e))
+  same_request given t moment r at_moment (requested q _ _) e = let a : q ≡ r = cc (e) in ap (λ (z : Request). z.id) a
 
-  known-and-new : {X : Type 0} (es : List Entry) (t u : TransactionId) (q : Transition) → t ≡ u → newest (transitions_of es) t ≡ Some q → newest (transitions_of es) u ≡ None → X
-  known-and-new es t u q same old none = absurd (let e = sym old ∙ ap (newest (transitions_of es)) same ∙ none in cc (e))
+  known_and_new : {X : Type 0} (es : List Entry) (t u : TransactionId) (q : Transition) → t ≡ u → newest (transitions_of es) t ≡ Some q → newest (transitions_of es) u ≡ None → X
+  known_and_new es t u q same old none = absurd (let e = sym old ∙ ap (newest (transitions_of es)) same ∙ none in cc (e))
 
   -- transitions of one input with one identifier have one status and one content
-  pub log-pair : (es : List Entry) (i j : Input) (x y : Transition) → i ≡ j → x.id ≡ y.id → LogMove scheme es i x → LogMove scheme es j y → (x.new ≡ y.new) × (x.content ≡ y.content)
-  log-pair es i j x y e same (checks p moment found f s is none member) (checks p' moment' found' f' s' is' none' member') =
+  pub log_pair : (es : List Entry) (i j : Input) (x y : Transition) → i ≡ j → x.id ≡ y.id → LogMove scheme es i x → LogMove scheme es j y → (x.new ≡ y.new) × (x.content ≡ y.content)
+  log_pair es i j x y e same (checks p moment found f s is none member) (checks p' moment' found' f' s' is' none' member') =
       let a : p ≡ p' = cc (e) in
       let b = ap (λ (z : Proposal). log_findings scheme (ledger scheme es) z.id.code z.content) a in
       (ap checked_status (is ∙ b ∙ sym is'), ap (λ (z : Proposal). Some z.content) a)
-  log-pair es i j x y e same (checks p moment found f s is none member) (passes n' moment' q' new' old' member' right' move') = absurd (cc (e))
-  log-pair es i j x y e same (checks p moment found f s is none member) (cancels given' moment' t' q' why' old' was') = no-proposal j t' moment' p moment why' (sym e)
-  log-pair es i j x y e same (checks p moment found f s is none member) (forestalls r' moment' f' member' none') = absurd (cc (e))
-  log-pair es i j x y e same (passes n moment q new old member right move) (checks p' moment' found' f' s' is' none' member') = absurd (cc (e))
-  log-pair es i j x y e same (passes n moment q new old member right move) (passes n' moment' q' new' old' member' right' move') =
+  log_pair es i j x y e same (checks p moment found f s is none member) (passes n' moment' q' new' old' member' right' move') = absurd (cc (e))
+  log_pair es i j x y e same (checks p moment found f s is none member) (cancels given' moment' t' q' why' old' was') = no_proposal j t' moment' p moment why' (sym e)
+  log_pair es i j x y e same (checks p moment found f s is none member) (forestalls r' moment' f' member' none') = absurd (cc (e))
+  log_pair es i j x y e same (passes n moment q new old member right move) (checks p' moment' found' f' s' is' none' member') = absurd (cc (e))
+  log_pair es i j x y e same (passes n moment q new old member right move) (passes n' moment' q' new' old' member' right' move') =
       let a : n ≡ n' = cc (e) in
       let b : Some q ≡ Some q' = sym old ∙ ap (λ (z : Notification). newest (transitions_of es) z.id) a ∙ old' in
       let c : q ≡ q' = cc (b) in
       let told = ap (λ (z : Notification). notice_status z.notice) a in
-      let here = new-told q.new (notice_status n.notice) new (log-from q.new (notice_status n.notice) new move) in
-      let there = new-told q'.new (notice_status n'.notice) new' (log-from q'.new (notice_status n'.notice) new' move') in
+      let here = new_told q.new (notice_status n.notice) new (log_from q.new (notice_status n.notice) new move) in
+      let there = new_told q'.new (notice_status n'.notice) new' (log_from q'.new (notice_status n'.notice) new' move') in
       (here ∙ told ∙ sym there, ap (λ (z : Transition). z.content) c)
-  log-pair es i j x y e same (passes n moment q new old member right move) (cancels given' moment' t' q' why' old' was') = no-notification j t' moment' n moment why' (sym e)
-  log-pair es i j x y e same (passes n moment q new old member right move) (forestalls r' moment' f' member' none') = absurd (cc (e))
-  log-pair es i j x y e same (cancels given moment t q why old was) (checks p' moment' found' f' s' is' none' member') = no-proposal i t moment p' moment' why e
-  log-pair es i j x y e same (cancels given moment t q why old was) (passes n' moment' q' new' old' member' right' move') = no-notification i t moment n' moment' why e
-  log-pair es i j x y e same (cancels given moment t q why old was) (forestalls r' moment' f' member' none') = known-and-new es t r'.id q (same-request i t moment r' moment' why e) old none'
-  log-pair es i j x y e same (forestalls r moment f member none) (checks p' moment' found' f' s' is' none' member') = absurd (cc (e))
-  log-pair es i j x y e same (forestalls r moment f member none) (passes n' moment' q' new' old' member' right' move') = absurd (cc (e))
-  log-pair es i j x y e same (forestalls r moment f member none) (cancels given' moment' t' q' why' old' was') = known-and-new es t' r.id q' (same-request j t' moment' r moment why' (sym e)) old' none
-  log-pair es i j x y e same (forestalls r moment f member none) (forestalls r' moment' f' member' none') = (refl, refl)
-  log-pair es i j x y e same (cancels given moment t q why old was) (cancels given' moment' t' q' why' old' was') =
-      let a : t ≡ t' = sym (newest-id (transitions_of es) t q old).1 ∙ same ∙ (newest-id (transitions_of es) t' q' old').1 in
+  log_pair es i j x y e same (passes n moment q new old member right move) (cancels given' moment' t' q' why' old' was') = no_notification j t' moment' n moment why' (sym e)
+  log_pair es i j x y e same (passes n moment q new old member right move) (forestalls r' moment' f' member' none') = absurd (cc (e))
+  log_pair es i j x y e same (cancels given moment t q why old was) (checks p' moment' found' f' s' is' none' member') = no_proposal i t moment p' moment' why e
+  log_pair es i j x y e same (cancels given moment t q why old was) (passes n' moment' q' new' old' member' right' move') = no_notification i t moment n' moment' why e
+  log_pair es i j x y e same (cancels given moment t q why old was) (forestalls r' moment' f' member' none') = known_and_new es t r'.id q (same_request i t moment r' moment' why e) old none'
+  log_pair es i j x y e same (forestalls r moment f member none) (checks p' moment' found' f' s' is' none' member') = absurd (cc (e))
+  log_pair es i j x y e same (forestalls r moment f member none) (passes n' moment' q' new' old' member' right' move') = absurd (cc (e))
+  log_pair es i j x y e same (forestalls r moment f member none) (cancels given' moment' t' q' why' old' was') = known_and_new es t' r.id q' (same_request j t' moment' r moment why' (sym e)) old' none
+  log_pair es i j x y e same (forestalls r moment f member none) (forestalls r' moment' f' member' none') = (refl, refl)
+  log_pair es i j x y e same (cancels given moment t q why old was) (cancels given' moment' t' q' why' old' was') =
+      let a : t ≡ t' = sym (newest_id (transitions_of es) t q old).1 ∙ same ∙ (newest_id (transitions_of es) t' q' old').1 in
       let b : Some q ≡ Some q' = sym old ∙ ap (newest (transitions_of es)) a ∙ old' in
       let c : q ≡ q' = cc (b) in
       (refl, ap (λ (z : Transition). z.content) c)
 
   -- a later transition keeps it
-  log-keeps : (es : List Entry) (input : Input) (x : Transition) (s : Status) → (s ≡ Checked → ⊥) → LogMove scheme es input x → IsPast s (newest (transitions_of es) x.id) → IsPast s (Some x)
-  log-keeps es input x s not_checked (checks p moment found f t is none member) past = absurd (subst (IsPast s) none past)
-  log-keeps es input x s not_checked (passes n moment q new old member right move) past =
-      let at_q : IsPast s (Some q) = subst (IsPast s) (subst (λ z. newest (transitions_of es) z ≡ Some q) (sym (newest-id (transitions_of es) n.id q old).1) old) past in
-      elim (log-from q.new (notice_status n.notice) new move) [
+  log_keeps : (es : List Entry) (input : Input) (x : Transition) (s : Status) → (s ≡ Checked → ⊥) → LogMove scheme es input x → IsPast s (newest (transitions_of es) x.id) → IsPast s (Some x)
+  log_keeps es input x s not_checked (checks p moment found f t is none member) past = absurd (subst (IsPast s) none past)
+  log_keeps es input x s not_checked (passes n moment q new old member right move) past =
+      let at_q : IsPast s (Some q) = subst (IsPast s) (subst (λ z. newest (transitions_of es) z ≡ Some q) (sym (newest_id (transitions_of es) n.id q old).1) old) past in
+      elim (log_from q.new (notice_status n.notice) new move) [
         | inl m ↦
             elim at_q [
               | inl e ↦ absurd (not_checked (sym e ∙ m.0))
@@ -201,33 +201,33 @@ module _ (scheme : Scheme) where
               | inr e ↦ absurd (let y : Completed ≡ Accepted = sym e.1 ∙ m.0 in cc (y))
             ]
       ]
-  log-keeps es input x s not_checked (forestalls r moment f member none) past = absurd (subst (IsPast s) none past)
-  log-keeps es input x s not_checked (cancels given moment t q why old was) past =
-      let at_q : IsPast s (Some q) = subst (IsPast s) (subst (λ z. newest (transitions_of es) z ≡ Some q) (sym (newest-id (transitions_of es) t q old).1) old) past in
+  log_keeps es input x s not_checked (forestalls r moment f member none) past = absurd (subst (IsPast s) none past)
+  log_keeps es input x s not_checked (cancels given moment t q why old was) past =
+      let at_q : IsPast s (Some q) = subst (IsPast s) (subst (λ z. newest (transitions_of es) z ≡ Some q) (sym (newest_id (transitions_of es) t q old).1) old) past in
       elim at_q [
         | inl e ↦ absurd (not_checked (sym e ∙ was))
         | inr e ↦ absurd (let y : Completed ≡ Checked = sym e.1 ∙ was in cc (y))
       ]
 
-  pub log-sent : (es : List Entry) → Made scheme Itl es → (n : Notification) → In (message.Notification n) (sends es) → IsPast (notice_status n.notice) (newest (transitions_of es) n.id) × (notice_status n.notice ≡ Checked → ⊥)
-  log-sent [] made n h = absurd h
-  log-sent (e ∷ es) made n h =
-      elim (In-cases (message.Notification n) (sends es) (messages_of e.transitions) h) [
+  pub log_sent : (es : List Entry) → Made scheme Itl es → (n : Notification) → In (message.Notification n) (sends es) → IsPast (notice_status n.notice) (newest (transitions_of es) n.id) × (notice_status n.notice ≡ Checked → ⊥)
+  log_sent [] made n h = absurd h
+  log_sent (e ∷ es) made n h =
+      elim (In_cases (message.Notification n) (sends es) (messages_of e.transitions) h) [
         | inl old ↦
-            let p = log-sent es made.1 n old in
+            let p = log_sent es made.1 n old in
             let s = notice_status n.notice in (
-              elim (newest-append e.transitions (transitions_of es) n.id) [
+              elim (newest_append e.transitions (transitions_of es) n.id) [
                 | inl u ↦ subst (IsPast s) (sym u) p.0
-                | inr u ↦ subst (IsPast s) (sym u.3) (log-keeps es e.input u.0 s p.1 (made-log scheme e es u.0 made u.1) (subst (λ z. IsPast s (newest (transitions_of es) z)) (sym u.2) p.0))
+                | inr u ↦ subst (IsPast s) (sym u.3) (log_keeps es e.input u.0 s p.1 (made_log scheme e es u.0 made u.1) (subst (λ z. IsPast s (newest (transitions_of es) z)) (sym u.2) p.0))
               ],
               p.1,
             )
         | inr new ↦
-            let g = In-flat_map (λ (q : Transition). q.messages) (message.Notification n) e.transitions new in
-            let move = made-log scheme e es g.0 made g.1 in
-            let m = log-notice-move es e.input g.0 n move g.2 in
-            let u = newest-in e.transitions (transitions_of es) g.0 n.id g.1 m.0 in (
-              subst (IsPast (notice_status n.notice)) (sym u.3) (inl ((log-pair es e.input e.input u.0 g.0 refl (u.2 ∙ sym m.0) (made-log scheme e es u.0 made u.1) move).0 ∙ m.1)),
+            let g = In_flat_map (λ (q : Transition). q.messages) (message.Notification n) e.transitions new in
+            let move = made_log scheme e es g.0 made g.1 in
+            let m = log_notice_move es e.input g.0 n move g.2 in
+            let u = newest_in e.transitions (transitions_of es) g.0 n.id g.1 m.0 in (
+              subst (IsPast (notice_status n.notice)) (sym u.3) (inl ((log_pair es e.input e.input u.0 g.0 refl (u.2 ∙ sym m.0) (made_log scheme e es u.0 made u.1) move).0 ∙ m.1)),
               m.2,
             )
       ]
@@ -235,9 +235,9 @@ module _ (scheme : Scheme) where
 -- ---- the content that the log passes on stays that of its transfer
 
 module _ (scheme : Scheme) where
-  log-offer-move : (es : List Entry) (input : Input) (x : Transition) (p : Proposal) → LogMove scheme es input x → In (message.Proposal p) x.messages
+  log_offer_move : (es : List Entry) (input : Input) (x : Transition) (p : Proposal) → LogMove scheme es input x → In (message.Proposal p) x.messages
       → (x.id ≡ p.id) × (x.content ≡ Some p.content) × (p.to ≡ Registry p.content.acquirer)
-  log-offer-move es input x p (checks q moment found f s is none member) h = offer found h
+  log_offer_move es input x p (checks q moment found f s is none member) h = offer found h
     where
       one : (a b : Proposal) → message.Proposal a ≡ message.Proposal b → a ≡ b
       one a b e = cc (e)
@@ -249,48 +249,48 @@ module _ (scheme : Scheme) where
       offer [] (inr h) = absurd h
       offer (c ∷ cs) (inl e) = absurd (cc (e))
       offer (c ∷ cs) (inr h) = absurd h
-  log-offer-move es input x p (passes n moment q new old member right move) (inl e) = absurd (cc (e))
-  log-offer-move es input x p (passes n moment q new old member right move) (inr h) = absurd h
-  log-offer-move es input x p (cancels given moment t q why old was) (inl e) = absurd (cc (e))
-  log-offer-move es input x p (cancels given moment t q why old was) (inr (inl e)) = absurd (cc (e))
-  log-offer-move es input x p (cancels given moment t q why old was) (inr (inr h)) = absurd h
-  log-offer-move es input x p (forestalls r moment f member none) (inl e) = absurd (cc (e))
-  log-offer-move es input x p (forestalls r moment f member none) (inr h) = absurd h
+  log_offer_move es input x p (passes n moment q new old member right move) (inl e) = absurd (cc (e))
+  log_offer_move es input x p (passes n moment q new old member right move) (inr h) = absurd h
+  log_offer_move es input x p (cancels given moment t q why old was) (inl e) = absurd (cc (e))
+  log_offer_move es input x p (cancels given moment t q why old was) (inr (inl e)) = absurd (cc (e))
+  log_offer_move es input x p (cancels given moment t q why old was) (inr (inr h)) = absurd h
+  log_offer_move es input x p (forestalls r moment f member none) (inl e) = absurd (cc (e))
+  log_offer_move es input x p (forestalls r moment f member none) (inr h) = absurd h
 
-  pub log-keeps-content : (es : List Entry) (input : Input) (x y : Transition) (k : Content) → LogMove scheme es input x → newest (transitions_of es) x.id ≡ Some y → y.content ≡ Some k → x.content ≡ Some k
-  log-keeps-content es input x y k (checks p moment found f s is none member) h c = absurd (let e = sym none ∙ h in cc (e))
-  log-keeps-content es input x y k (passes n moment q new old member right move) h c =
-      let a : newest (transitions_of es) q.id ≡ Some q = subst (λ z. newest (transitions_of es) z ≡ Some q) (sym (newest-id (transitions_of es) n.id q old).1) old in
+  pub log_keeps_content : (es : List Entry) (input : Input) (x y : Transition) (k : Content) → LogMove scheme es input x → newest (transitions_of es) x.id ≡ Some y → y.content ≡ Some k → x.content ≡ Some k
+  log_keeps_content es input x y k (checks p moment found f s is none member) h c = absurd (let e = sym none ∙ h in cc (e))
+  log_keeps_content es input x y k (passes n moment q new old member right move) h c =
+      let a : newest (transitions_of es) q.id ≡ Some q = subst (λ z. newest (transitions_of es) z ≡ Some q) (sym (newest_id (transitions_of es) n.id q old).1) old in
       let e = sym a ∙ h in
       let b : q ≡ y = cc (e) in
       ap (λ (z : Transition). z.content) b ∙ c
-  log-keeps-content es input x y k (forestalls r moment f member none) h c = absurd (let e = sym none ∙ h in cc (e))
-  log-keeps-content es input x y k (cancels given moment t q why old was) h c =
-      let a : newest (transitions_of es) q.id ≡ Some q = subst (λ z. newest (transitions_of es) z ≡ Some q) (sym (newest-id (transitions_of es) t q old).1) old in
+  log_keeps_content es input x y k (forestalls r moment f member none) h c = absurd (let e = sym none ∙ h in cc (e))
+  log_keeps_content es input x y k (cancels given moment t q why old was) h c =
+      let a : newest (transitions_of es) q.id ≡ Some q = subst (λ z. newest (transitions_of es) z ≡ Some q) (sym (newest_id (transitions_of es) t q old).1) old in
       let e = sym a ∙ h in
       let b : q ≡ y = cc (e) in
       ap (λ (z : Transition). z.content) b ∙ c
 
-  pub log-offered : (es : List Entry) → Made scheme Itl es → (p : Proposal) → In (message.Proposal p) (sends es)
+  pub log_offered : (es : List Entry) → Made scheme Itl es → (p : Proposal) → In (message.Proposal p) (sends es)
       → (x : Transition) × (newest (transitions_of es) p.id ≡ Some x) × (x.content ≡ Some p.content) × (p.to ≡ Registry p.content.acquirer)
-  log-offered [] made p h = absurd h
-  log-offered (e ∷ es) made p h =
-      elim (In-cases (message.Proposal p) (sends es) (messages_of e.transitions) h) [
+  log_offered [] made p h = absurd h
+  log_offered (e ∷ es) made p h =
+      elim (In_cases (message.Proposal p) (sends es) (messages_of e.transitions) h) [
         | inl old ↦
-            let o = log-offered es made.1 p old in
-            elim (newest-append e.transitions (transitions_of es) p.id) [
+            let o = log_offered es made.1 p old in
+            elim (newest_append e.transitions (transitions_of es) p.id) [
               | inl u ↦ (o.0, u ∙ o.1, o.2, o.3)
               | inr u ↦ (
                 u.0,
                 u.3,
-                log-keeps-content es e.input u.0 o.0 p.content (made-log scheme e es u.0 made u.1) (subst (λ z. newest (transitions_of es) z ≡ Some o.0) (sym u.2) o.1) o.2,
+                log_keeps_content es e.input u.0 o.0 p.content (made_log scheme e es u.0 made u.1) (subst (λ z. newest (transitions_of es) z ≡ Some o.0) (sym u.2) o.1) o.2,
                 o.3,
               )
             ]
         | inr new ↦
-            let g = In-flat_map (λ (q : Transition). q.messages) (message.Proposal p) e.transitions new in
-            let move = made-log scheme e es g.0 made g.1 in
-            let n = log-offer-move es e.input g.0 p move g.2 in
-            let u = newest-in e.transitions (transitions_of es) g.0 p.id g.1 n.0 in
-            (u.0, u.3, (log-pair scheme es e.input e.input u.0 g.0 refl (u.2 ∙ sym n.0) (made-log scheme e es u.0 made u.1) move).1 ∙ n.1, n.2)
+            let g = In_flat_map (λ (q : Transition). q.messages) (message.Proposal p) e.transitions new in
+            let move = made_log scheme e es g.0 made g.1 in
+            let n = log_offer_move es e.input g.0 p move g.2 in
+            let u = newest_in e.transitions (transitions_of es) g.0 p.id g.1 n.0 in
+            (u.0, u.3, (log_pair scheme es e.input e.input u.0 g.0 refl (u.2 ∙ sym n.0) (made_log scheme e es u.0 made u.1) move).1 ∙ n.1, n.2)
       ]

@@ -22,13 +22,13 @@ use Rattle.protocol.specs.History.{Transition, Entry, transitions_of, newest, se
 use Rattle.protocol.specs.Pieces.{Piece, pieces, repeats}
 use Rattle.protocol.specs.Registries.{allotted, has_member}
 use Rattle.safety.proofs.MovesAndHistories.TransitionForms.{checked_status, checked_message, acquirer_of, told_to}
-use Rattle.safety.proofs.OneRegistry.TransactionEnds.{proposer, went-on}
-use Rattle.safety.proofs.MovesAndHistories.NewestTransitions.{Made, Heard, heard-later, made-log, newest-id, newest-append, newest-in, one-notice, one-proposal}
-use Rattle.safety.proofs.OneLog.LogInputs.{none-stand}
-use Rattle.safety.proofs.ListLemmas.Membership.{In, In-cases, In-flat_map, one-some}
+use Rattle.safety.proofs.OneRegistry.TransactionEnds.{proposer, went_on}
+use Rattle.safety.proofs.MovesAndHistories.NewestTransitions.{Made, Heard, heard_later, made_log, newest_id, newest_append, newest_in, one_notice, one_proposal}
+use Rattle.safety.proofs.OneLog.LogInputs.{none_stand}
+use Rattle.safety.proofs.ListLemmas.Membership.{In, In_cases, In_flat_map, one_some}
 use Rattle.safety.proofs.MovesAndHistories.TableMoves.{LogMove, checks, passes, cancels, forestalls}
-use Rattle.safety.proofs.OneLog.LogHearings.{from_acquirer, log-pair, log-notice-move, log-keeps-content}
-use Rattle.safety.proofs.MovesAndHistories.TableRows.{log-from}
+use Rattle.safety.proofs.OneLog.LogHearings.{from_acquirer, log_pair, log_notice_move, log_keeps_content}
+use Rattle.safety.proofs.MovesAndHistories.TableRows.{log_from}
 
 -- a unit of another kind than it was allotted with
 abbrev pub is_of_other_kind : Scheme → Piece → Bool
@@ -62,14 +62,14 @@ pub record ToKnown (es : List Entry) (n : Notification) : Type 0 where
 module _ (scheme : Scheme) where
   -- ---- proposals
 
-  passed-move : (es : List Entry) (input : Input) (x : Transition) (p : Proposal) → LogMove scheme es input x → In (message.Proposal p) x.messages → Passed scheme p × (x.id ≡ p.id) × (x.new ≡ Checked)
-  passed-move es input x p (checks q moment found f s is none member) h = offer found is h
+  passed_move : (es : List Entry) (input : Input) (x : Transition) (p : Proposal) → LogMove scheme es input x → In (message.Proposal p) x.messages → Passed scheme p × (x.id ≡ p.id) × (x.new ≡ Checked)
+  passed_move es input x p (checks q moment found f s is none member) h = offer found is h
     where
       offer : (g : List ℕ) → g ≡ log_findings scheme (ledger scheme es) q.id.code q.content → In (message.Proposal p) (checked_message q.id q.content g ∷ [])
           → Passed scheme p × (q.id ≡ p.id) × (checked_status g ≡ Checked)
       offer [] is (inl e) =
-          let s = one-proposal _ p e in
-          let free = none-stand (log_causes scheme (ledger scheme es) q.id.code q.content) (sym is) in (
+          let s = one_proposal _ p e in
+          let free = none_stand (log_causes scheme (ledger scheme es) q.id.code q.content) (sym is) in (
             subst (Passed scheme) s (record {
               status = refl;
               apart = free.1.0;
@@ -82,29 +82,29 @@ module _ (scheme : Scheme) where
       offer [] is (inr h) = absurd h
       offer (c ∷ cs) is (inl e) = absurd (cc (e))
       offer (c ∷ cs) is (inr h) = absurd h
-  passed-move es input x p (passes n moment q new old member right move) (inl e) = absurd (cc (e))
-  passed-move es input x p (passes n moment q new old member right move) (inr h) = absurd h
-  passed-move es input x p (cancels given moment t q why old was) (inl e) = absurd (cc (e))
-  passed-move es input x p (cancels given moment t q why old was) (inr (inl e)) = absurd (cc (e))
-  passed-move es input x p (cancels given moment t q why old was) (inr (inr h)) = absurd h
-  passed-move es input x p (forestalls r moment f member none) (inl e) = absurd (cc (e))
-  passed-move es input x p (forestalls r moment f member none) (inr h) = absurd h
+  passed_move es input x p (passes n moment q new old member right move) (inl e) = absurd (cc (e))
+  passed_move es input x p (passes n moment q new old member right move) (inr h) = absurd h
+  passed_move es input x p (cancels given moment t q why old was) (inl e) = absurd (cc (e))
+  passed_move es input x p (cancels given moment t q why old was) (inr (inl e)) = absurd (cc (e))
+  passed_move es input x p (cancels given moment t q why old was) (inr (inr h)) = absurd h
+  passed_move es input x p (forestalls r moment f member none) (inl e) = absurd (cc (e))
+  passed_move es input x p (forestalls r moment f member none) (inr h) = absurd h
 
-  pub passed-on : (es : List Entry) → Made scheme Itl es → (p : Proposal) → In (message.Proposal p) (sends es) → Passed scheme p
-  passed-on [] made p h = absurd h
-  passed-on (e ∷ es) made p h =
-      elim (In-cases (message.Proposal p) (sends es) (messages_of e.transitions) h) [
-        | inl old ↦ passed-on es made.1 p old
+  pub passed_on : (es : List Entry) → Made scheme Itl es → (p : Proposal) → In (message.Proposal p) (sends es) → Passed scheme p
+  passed_on [] made p h = absurd h
+  passed_on (e ∷ es) made p h =
+      elim (In_cases (message.Proposal p) (sends es) (messages_of e.transitions) h) [
+        | inl old ↦ passed_on es made.1 p old
         | inr new ↦
-            let g = In-flat_map (λ (q : Transition). q.messages) (message.Proposal p) e.transitions new in
-            (passed-move es e.input g.0 p (made-log scheme e es g.0 made g.1) g.2).0
+            let g = In_flat_map (λ (q : Transition). q.messages) (message.Proposal p) e.transitions new in
+            (passed_move es e.input g.0 p (made_log scheme e es g.0 made g.1) g.2).0
       ]
 
   -- what the log knows it doesn't terminate
-  pub never-terminates : (es : List Entry) (input : Input) (x q : Transition) → LogMove scheme es input x → newest (transitions_of es) x.id ≡ Some q → x.new ≡ Terminated → ⊥
-  never-terminates es input x q (checks p moment found f s is none member) h e = let z = sym none ∙ h in cc (z)
-  never-terminates es input x q (passes n moment p new old member right move) h e =
-      elim (log-from p.new (notice_status n.notice) new move) [
+  pub never_terminates : (es : List Entry) (input : Input) (x q : Transition) → LogMove scheme es input x → newest (transitions_of es) x.id ≡ Some q → x.new ≡ Terminated → ⊥
+  never_terminates es input x q (checks p moment found f s is none member) h e = let z = sym none ∙ h in cc (z)
+  never_terminates es input x q (passes n moment p new old member right move) h e =
+      elim (log_from p.new (notice_status n.notice) new move) [
         | inl m ↦
             elim m.2 [
               | inl a ↦ let y : Accepted ≡ Terminated = sym a ∙ sym m.1 ∙ e in cc (y)
@@ -112,121 +112,121 @@ module _ (scheme : Scheme) where
             ]
         | inr m ↦ let y : Completed ≡ Terminated = sym m.1 ∙ e in cc (y)
       ]
-  never-terminates es input x q (forestalls r moment f member none) h e = let y : Cancelled ≡ Terminated = e in cc (y)
-  never-terminates es input x q (cancels given moment t p why old was) h e = let y : Cancelled ≡ Terminated = e in cc (y)
+  never_terminates es input x q (forestalls r moment f member none) h e = let y : Cancelled ≡ Terminated = e in cc (y)
+  never_terminates es input x q (cancels given moment t p why old was) h e = let y : Cancelled ≡ Terminated = e in cc (y)
 
   -- a transfer that was passed on is not terminated
-  pub passed-open : (es : List Entry) → Made scheme Itl es → (p : Proposal) → In (message.Proposal p) (sends es) → (x : Transition) × (newest (transitions_of es) p.id ≡ Some x) × (x.new ≡ Terminated → ⊥)
-  passed-open [] made p h = absurd h
-  passed-open (e ∷ es) made p h =
-      elim (In-cases (message.Proposal p) (sends es) (messages_of e.transitions) h) [
+  pub passed_open : (es : List Entry) → Made scheme Itl es → (p : Proposal) → In (message.Proposal p) (sends es) → (x : Transition) × (newest (transitions_of es) p.id ≡ Some x) × (x.new ≡ Terminated → ⊥)
+  passed_open [] made p h = absurd h
+  passed_open (e ∷ es) made p h =
+      elim (In_cases (message.Proposal p) (sends es) (messages_of e.transitions) h) [
         | inl old ↦
-            let o = passed-open es made.1 p old in
-            elim (newest-append e.transitions (transitions_of es) p.id) [
+            let o = passed_open es made.1 p old in
+            elim (newest_append e.transitions (transitions_of es) p.id) [
               | inl u ↦ (o.0, u ∙ o.1, o.2)
-              | inr u ↦ (u.0, u.3, never-terminates es e.input u.0 o.0 (made-log scheme e es u.0 made u.1) (subst (λ z. newest (transitions_of es) z ≡ Some o.0) (sym u.2) o.1))
+              | inr u ↦ (u.0, u.3, never_terminates es e.input u.0 o.0 (made_log scheme e es u.0 made u.1) (subst (λ z. newest (transitions_of es) z ≡ Some o.0) (sym u.2) o.1))
             ]
         | inr new ↦
-            let g = In-flat_map (λ (q : Transition). q.messages) (message.Proposal p) e.transitions new in
-            let move = made-log scheme e es g.0 made g.1 in
-            let n = passed-move es e.input g.0 p move g.2 in
-            let u = newest-in e.transitions (transitions_of es) g.0 p.id g.1 n.1 in
-            let same = (log-pair scheme es e.input e.input u.0 g.0 refl (u.2 ∙ sym n.1) (made-log scheme e es u.0 made u.1) move).0 in
+            let g = In_flat_map (λ (q : Transition). q.messages) (message.Proposal p) e.transitions new in
+            let move = made_log scheme e es g.0 made g.1 in
+            let n = passed_move es e.input g.0 p move g.2 in
+            let u = newest_in e.transitions (transitions_of es) g.0 p.id g.1 n.1 in
+            let same = (log_pair scheme es e.input e.input u.0 g.0 refl (u.2 ∙ sym n.1) (made_log scheme e es u.0 made u.1) move).0 in
             (u.0, u.3, λ x. let y : Checked ≡ Terminated = sym n.2 ∙ sym same ∙ x in cc (y))
       ]
 
   -- ---- notifications
 
-  passed-to : (q : Transition) (new : Status) (n : Notification) → q.id ≡ n.id → new ≡ notice_status n.notice → told_to q new ≡ n.to → (k : Content) → q.content ≡ Some k → ToInitiator n ⊎ ToAcquirer n q.content
-  passed-to q Completed n about said to k known = inr (record { said = inl (sym said); content = k; known = known; to = sym to ∙ ap acquirer_of known })
-  passed-to q Proposed n about said to k known = inl (record { said = λ e. let y : Proposed ≡ Completed = said ∙ e in cc (y); to = sym to ∙ ap (λ (z : TransactionId). Registry z.code) about })
-  passed-to q Checked n about said to k known = inl (record { said = λ e. let y : Checked ≡ Completed = said ∙ e in cc (y); to = sym to ∙ ap (λ (z : TransactionId). Registry z.code) about })
-  passed-to q Accepted n about said to k known = inl (record { said = λ e. let y : Accepted ≡ Completed = said ∙ e in cc (y); to = sym to ∙ ap (λ (z : TransactionId). Registry z.code) about })
-  passed-to q Rejected n about said to k known = inl (record { said = λ e. let y : Rejected ≡ Completed = said ∙ e in cc (y); to = sym to ∙ ap (λ (z : TransactionId). Registry z.code) about })
-  passed-to q Terminated n about said to k known = inl (record { said = λ e. let y : Terminated ≡ Completed = said ∙ e in cc (y); to = sym to ∙ ap (λ (z : TransactionId). Registry z.code) about })
-  passed-to q Cancelled n about said to k known = inl (record { said = λ e. let y : Cancelled ≡ Completed = said ∙ e in cc (y); to = sym to ∙ ap (λ (z : TransactionId). Registry z.code) about })
+  passed_to : (q : Transition) (new : Status) (n : Notification) → q.id ≡ n.id → new ≡ notice_status n.notice → told_to q new ≡ n.to → (k : Content) → q.content ≡ Some k → ToInitiator n ⊎ ToAcquirer n q.content
+  passed_to q Completed n about said to k known = inr (record { said = inl (sym said); content = k; known = known; to = sym to ∙ ap acquirer_of known })
+  passed_to q Proposed n about said to k known = inl (record { said = λ e. let y : Proposed ≡ Completed = said ∙ e in cc (y); to = sym to ∙ ap (λ (z : TransactionId). Registry z.code) about })
+  passed_to q Checked n about said to k known = inl (record { said = λ e. let y : Checked ≡ Completed = said ∙ e in cc (y); to = sym to ∙ ap (λ (z : TransactionId). Registry z.code) about })
+  passed_to q Accepted n about said to k known = inl (record { said = λ e. let y : Accepted ≡ Completed = said ∙ e in cc (y); to = sym to ∙ ap (λ (z : TransactionId). Registry z.code) about })
+  passed_to q Rejected n about said to k known = inl (record { said = λ e. let y : Rejected ≡ Completed = said ∙ e in cc (y); to = sym to ∙ ap (λ (z : TransactionId). Registry z.code) about })
+  passed_to q Terminated n about said to k known = inl (record { said = λ e. let y : Terminated ≡ Completed = said ∙ e in cc (y); to = sym to ∙ ap (λ (z : TransactionId). Registry z.code) about })
+  passed_to q Cancelled n about said to k known = inl (record { said = λ e. let y : Cancelled ≡ Completed = said ∙ e in cc (y); to = sym to ∙ ap (λ (z : TransactionId). Registry z.code) about })
 
-  goes-move : (es : List Entry) (input : Input) (x : Transition) (n : Notification) → Made scheme Itl es → LogMove scheme es input x → In (message.Notification n) x.messages → ToInitiator n ⊎ ToAcquirer n x.content
-  goes-move es input x n made (checks p moment found f s is none member) h = inl (go found h)
+  goes_move : (es : List Entry) (input : Input) (x : Transition) (n : Notification) → Made scheme Itl es → LogMove scheme es input x → In (message.Notification n) x.messages → ToInitiator n ⊎ ToAcquirer n x.content
+  goes_move es input x n made (checks p moment found f s is none member) h = inl (go found h)
     where
       go : (g : List ℕ) → In (message.Notification n) (checked_message p.id p.content g ∷ []) → ToInitiator n
       go [] (inl e) = absurd (cc (e))
       go [] (inr h) = absurd h
-      go (c ∷ cs) (inl e) = let s = one-notice _ n e in subst ToInitiator s (record { said = λ d. let y : Terminated ≡ Completed = d in cc (y); to = refl })
+      go (c ∷ cs) (inl e) = let s = one_notice _ n e in subst ToInitiator s (record { said = λ d. let y : Terminated ≡ Completed = d in cc (y); to = refl })
       go (c ∷ cs) (inr h) = absurd h
-  goes-move es input x n made (passes m moment q new old member right move) (inl e) =
-      let s = one-notice _ n e in
-      let g = log-notice-move scheme es input x n (passes m moment q new old member right move) (inl e) in
-      let p = proposer scheme es made m.id q old (λ c. went-on scheme q.new (notice_status m.notice) new move c) in
-      passed-to q new n g.0 g.1 (ap (λ (z : Notification). z.to) s) p.content p.is
-  goes-move es input x n made (passes m moment q new old member right move) (inr h) = absurd h
-  goes-move es input x n made (cancels given moment t q why old was) (inl e) =
-      let s = one-notice _ n e in inl (subst ToInitiator s (record { said = λ d. let y : Cancelled ≡ Completed = d in cc (y); to = refl }))
-  goes-move es input x n made (cancels given moment t q why old was) (inr (inl e)) =
-      let s = one-notice _ n e in
+  goes_move es input x n made (passes m moment q new old member right move) (inl e) =
+      let s = one_notice _ n e in
+      let g = log_notice_move scheme es input x n (passes m moment q new old member right move) (inl e) in
+      let p = proposer scheme es made m.id q old (λ c. went_on scheme q.new (notice_status m.notice) new move c) in
+      passed_to q new n g.0 g.1 (ap (λ (z : Notification). z.to) s) p.content p.is
+  goes_move es input x n made (passes m moment q new old member right move) (inr h) = absurd h
+  goes_move es input x n made (cancels given moment t q why old was) (inl e) =
+      let s = one_notice _ n e in inl (subst ToInitiator s (record { said = λ d. let y : Cancelled ≡ Completed = d in cc (y); to = refl }))
+  goes_move es input x n made (cancels given moment t q why old was) (inr (inl e)) =
+      let s = one_notice _ n e in
       let p = proposer scheme es made t q old (λ c. let y : Checked ≡ Cancelled = sym was ∙ c in cc (y)) in
       inr (subst (λ z. ToAcquirer z q.content) s (record { said = inr refl; content = p.content; known = p.is; to = ap acquirer_of p.is }))
-  goes-move es input x n made (cancels given moment t q why old was) (inr (inr h)) = absurd h
-  goes-move es input x n made (forestalls r moment f member none) (inl e) =
-      let s = one-notice _ n e in inl (subst ToInitiator s (record { said = λ d. let y : Cancelled ≡ Completed = d in cc (y); to = refl }))
-  goes-move es input x n made (forestalls r moment f member none) (inr h) = absurd h
+  goes_move es input x n made (cancels given moment t q why old was) (inr (inr h)) = absurd h
+  goes_move es input x n made (forestalls r moment f member none) (inl e) =
+      let s = one_notice _ n e in inl (subst ToInitiator s (record { said = λ d. let y : Cancelled ≡ Completed = d in cc (y); to = refl }))
+  goes_move es input x n made (forestalls r moment f member none) (inr h) = absurd h
 
   -- to whom the log's notifications go
   pub goes : (es : List Entry) → Made scheme Itl es → (n : Notification) → In (message.Notification n) (sends es) → ToInitiator n ⊎ ToKnown es n
   goes [] made n h = absurd h
   goes (e ∷ es) made n h =
-      elim (In-cases (message.Notification n) (sends es) (messages_of e.transitions) h) [
+      elim (In_cases (message.Notification n) (sends es) (messages_of e.transitions) h) [
         | inl old ↦
             elim (goes es made.1 n old) [
               | inl i ↦ inl i
               | inr i ↦
-                  elim (newest-append e.transitions (transitions_of es) n.id) [
+                  elim (newest_append e.transitions (transitions_of es) n.id) [
                     | inl u ↦ inr (record { last = i.last; is = u ∙ i.is; goes = i.goes })
                     | inr u ↦
-                        let k = log-keeps-content scheme es e.input u.0 i.last i.goes.content (made-log scheme e es u.0 made u.1) (subst (λ z. newest (transitions_of es) z ≡ Some i.last) (sym u.2) i.is) i.goes.known in
+                        let k = log_keeps_content scheme es e.input u.0 i.last i.goes.content (made_log scheme e es u.0 made u.1) (subst (λ z. newest (transitions_of es) z ≡ Some i.last) (sym u.2) i.is) i.goes.known in
                         inr (record { last = u.0; is = u.3; goes = subst (ToAcquirer n) (i.goes.known ∙ sym k) i.goes })
                   ]
             ]
         | inr new ↦
-            let g = In-flat_map (λ (q : Transition). q.messages) (message.Notification n) e.transitions new in
-            let move = made-log scheme e es g.0 made g.1 in
-            let m = log-notice-move scheme es e.input g.0 n move g.2 in
-            let u = newest-in e.transitions (transitions_of es) g.0 n.id g.1 m.0 in
-            elim (goes-move es e.input g.0 n made.1 move g.2) [
+            let g = In_flat_map (λ (q : Transition). q.messages) (message.Notification n) e.transitions new in
+            let move = made_log scheme e es g.0 made g.1 in
+            let m = log_notice_move scheme es e.input g.0 n move g.2 in
+            let u = newest_in e.transitions (transitions_of es) g.0 n.id g.1 m.0 in
+            elim (goes_move es e.input g.0 n made.1 move g.2) [
               | inl i ↦ inl i
               | inr i ↦
                   inr (record {
                     last = u.0;
                     is = u.3;
-                    goes = subst (ToAcquirer n) (sym (log-pair scheme es e.input e.input u.0 g.0 refl (u.2 ∙ sym m.0) (made-log scheme e es u.0 made u.1) move).1) i;
+                    goes = subst (ToAcquirer n) (sym (log_pair scheme es e.input e.input u.0 g.0 refl (u.2 ∙ sym m.0) (made_log scheme e es u.0 made u.1) move).1) i;
                   })
             ]
       ]
 
   -- ---- the log asks nobody for cancellation
 
-  request-move : (es : List Entry) (input : Input) (x : Transition) (r : Request) → LogMove scheme es input x → In (message.Request r) x.messages → ⊥
-  request-move es input x r (checks p moment found f s is none member) h = go found h
+  request_move : (es : List Entry) (input : Input) (x : Transition) (r : Request) → LogMove scheme es input x → In (message.Request r) x.messages → ⊥
+  request_move es input x r (checks p moment found f s is none member) h = go found h
     where
       go : (g : List ℕ) → In (message.Request r) (checked_message p.id p.content g ∷ []) → ⊥
       go [] (inl e) = cc (e)
       go [] (inr i) = i
       go (c ∷ cs) (inl e) = cc (e)
       go (c ∷ cs) (inr i) = i
-  request-move es input x r (passes n moment q new old member right move) (inl e) = cc (e)
-  request-move es input x r (passes n moment q new old member right move) (inr h) = h
-  request-move es input x r (cancels given moment t q why old was) (inl e) = cc (e)
-  request-move es input x r (cancels given moment t q why old was) (inr (inl e)) = cc (e)
-  request-move es input x r (cancels given moment t q why old was) (inr (inr h)) = h
-  request-move es input x r (forestalls q moment f member none) (inl e) = cc (e)
-  request-move es input x r (forestalls q moment f member none) (inr h) = h
+  request_move es input x r (passes n moment q new old member right move) (inl e) = cc (e)
+  request_move es input x r (passes n moment q new old member right move) (inr h) = h
+  request_move es input x r (cancels given moment t q why old was) (inl e) = cc (e)
+  request_move es input x r (cancels given moment t q why old was) (inr (inl e)) = cc (e)
+  request_move es input x r (cancels given moment t q why old was) (inr (inr h)) = h
+  request_move es input x r (forestalls q moment f member none) (inl e) = cc (e)
+  request_move es input x r (forestalls q moment f member none) (inr h) = h
 
-  pub no-request : (es : List Entry) → Made scheme Itl es → (r : Request) → In (message.Request r) (sends es) → ⊥
-  no-request [] made r h = h
-  no-request (e ∷ es) made r h =
-      elim (In-cases (message.Request r) (sends es) (messages_of e.transitions) h) [
-        | inl old ↦ no-request es made.1 r old
-        | inr new ↦ let g = In-flat_map (λ (q : Transition). q.messages) (message.Request r) e.transitions new in request-move es e.input g.0 r (made-log scheme e es g.0 made g.1) g.2
+  pub no_request : (es : List Entry) → Made scheme Itl es → (r : Request) → In (message.Request r) (sends es) → ⊥
+  no_request [] made r h = h
+  no_request (e ∷ es) made r h =
+      elim (In_cases (message.Request r) (sends es) (messages_of e.transitions) h) [
+        | inl old ↦ no_request es made.1 r old
+        | inr new ↦ let g = In_flat_map (λ (q : Transition). q.messages) (message.Request r) e.transitions new in request_move es e.input g.0 r (made_log scheme e es g.0 made g.1) g.2
       ]
 
   -- ---- where the log stands Rejected, the acquirer of its content said so
@@ -234,44 +234,44 @@ module _ (scheme : Scheme) where
   abbrev pub Refusal : List Entry → TransactionId → Transition → Type 0
   Refusal es t x = (k : Content) × (x.content ≡ Some k) × Heard es (Registry k.acquirer) t Rejected
 
-  checked-rejects : (found : List ℕ) → checked_status found ≡ Rejected → ⊥
-  checked-rejects [] h = cc (h)
-  checked-rejects (c ∷ cs) h = cc (h)
+  checked_rejects : (found : List ℕ) → checked_status found ≡ Rejected → ⊥
+  checked_rejects [] h = cc (h)
+  checked_rejects (c ∷ cs) h = cc (h)
 
-  refusal-move : (es : List Entry) (e : Entry) (t : TransactionId) (input : Input) (x : Transition) → e.input ≡ input → LogMove scheme es input x → x.id ≡ t → x.new ≡ Rejected → Refusal (e ∷ es) t x
-  refusal-move es e t input x i (checks p moment found f s is none member) same h = absurd (checked-rejects found h)
-  refusal-move es e t input x i (passes n moment q new old member right move) same h =
-      let about : n.id ≡ t = sym (newest-id (transitions_of es) n.id q old).1 ∙ same in
-      elim (log-from q.new (notice_status n.notice) new move) [
+  refusal_move : (es : List Entry) (e : Entry) (t : TransactionId) (input : Input) (x : Transition) → e.input ≡ input → LogMove scheme es input x → x.id ≡ t → x.new ≡ Rejected → Refusal (e ∷ es) t x
+  refusal_move es e t input x i (checks p moment found f s is none member) same h = absurd (checked_rejects found h)
+  refusal_move es e t input x i (passes n moment q new old member right move) same h =
+      let about : n.id ≡ t = sym (newest_id (transitions_of es) n.id q old).1 ∙ same in
+      elim (log_from q.new (notice_status n.notice) new move) [
         | inl m ↦
             let said : notice_status n.notice ≡ Rejected = sym m.1 ∙ h in
             let f = from_acquirer scheme n.from q.content member (subst (λ s. is_from_another n.from n.id q.content s ≡ false) said right) in
             (f.0, f.1, record { notification = n; got = inl (moment, i); sender = f.2; about = about; told = said })
         | inr m ↦ absurd (let y : Completed ≡ Rejected = sym m.1 ∙ h in cc (y))
       ]
-  refusal-move es e t input x i (forestalls r moment f member none) same h = absurd (let y : Cancelled ≡ Rejected = h in cc (y))
-  refusal-move es e t input x i (cancels given moment u q why old was) same h = absurd (let y : Cancelled ≡ Rejected = h in cc (y))
+  refusal_move es e t input x i (forestalls r moment f member none) same h = absurd (let y : Cancelled ≡ Rejected = h in cc (y))
+  refusal_move es e t input x i (cancels given moment u q why old was) same h = absurd (let y : Cancelled ≡ Rejected = h in cc (y))
 
   pub refusal : (es : List Entry) → Made scheme Itl es → (t : TransactionId) (x : Transition) → newest (transitions_of es) t ≡ Some x → x.new ≡ Rejected → Refusal es t x
   refusal [] made t x h d = absurd (cc (h))
   refusal (e ∷ es) made t x h d =
-      elim (newest-append e.transitions (transitions_of es) t) [
-        | inl u ↦ let p = refusal es made.1 t x (sym u ∙ h) d in (p.0, p.1, heard-later e es (Registry p.0.acquirer) t Rejected p.2)
+      elim (newest_append e.transitions (transitions_of es) t) [
+        | inl u ↦ let p = refusal es made.1 t x (sym u ∙ h) d in (p.0, p.1, heard_later e es (Registry p.0.acquirer) t Rejected p.2)
         | inr u ↦
-            let j : u.0 ≡ x = one-some u.0 x (sym u.3 ∙ h) in
-            refusal-move es e t e.input x refl (subst (λ z. LogMove scheme es e.input z) j (made-log scheme e es u.0 made u.1)) (subst (λ (z : Transition). z.id ≡ t) j u.2) d
+            let j : u.0 ≡ x = one_some u.0 x (sym u.3 ∙ h) in
+            refusal_move es e t e.input x refl (subst (λ z. LogMove scheme es e.input z) j (made_log scheme e es u.0 made u.1)) (subst (λ (z : Transition). z.id ≡ t) j u.2) d
       ]
 
   -- ---- nothing stands Proposed at the log
 
-  checked-proposes : (found : List ℕ) → checked_status found ≡ Proposed → ⊥
-  checked-proposes [] h = cc (h)
-  checked-proposes (c ∷ cs) h = cc (h)
+  checked_proposes : (found : List ℕ) → checked_status found ≡ Proposed → ⊥
+  checked_proposes [] h = cc (h)
+  checked_proposes (c ∷ cs) h = cc (h)
 
-  proposes-move : (es : List Entry) (input : Input) (x : Transition) → LogMove scheme es input x → x.new ≡ Proposed → ⊥
-  proposes-move es input x (checks p moment found f s is none member) h = checked-proposes found h
-  proposes-move es input x (passes n moment q new old member right move) h =
-      elim (log-from q.new (notice_status n.notice) new move) [
+  proposes_move : (es : List Entry) (input : Input) (x : Transition) → LogMove scheme es input x → x.new ≡ Proposed → ⊥
+  proposes_move es input x (checks p moment found f s is none member) h = checked_proposes found h
+  proposes_move es input x (passes n moment q new old member right move) h =
+      elim (log_from q.new (notice_status n.notice) new move) [
         | inl m ↦
             elim m.2 [
               | inl a ↦ let y : Accepted ≡ Proposed = sym a ∙ sym m.1 ∙ h in cc (y)
@@ -279,13 +279,13 @@ module _ (scheme : Scheme) where
             ]
         | inr m ↦ let y : Completed ≡ Proposed = sym m.1 ∙ h in cc (y)
       ]
-  proposes-move es input x (forestalls r moment f member none) h = let y : Cancelled ≡ Proposed = h in cc (y)
-  proposes-move es input x (cancels given moment t q why old was) h = let y : Cancelled ≡ Proposed = h in cc (y)
+  proposes_move es input x (forestalls r moment f member none) h = let y : Cancelled ≡ Proposed = h in cc (y)
+  proposes_move es input x (cancels given moment t q why old was) h = let y : Cancelled ≡ Proposed = h in cc (y)
 
-  pub never-proposed : (es : List Entry) → Made scheme Itl es → (x : Transition) → In x (transitions_of es) → x.new ≡ Proposed → ⊥
-  never-proposed [] made x i h = i
-  never-proposed (e ∷ es) made x i h =
-      elim (In-cases x e.transitions (transitions_of es) i) [
-        | inl j ↦ proposes-move es e.input x (made-log scheme e es x made j) h
-        | inr j ↦ never-proposed es made.1 x j h
+  pub never_proposed : (es : List Entry) → Made scheme Itl es → (x : Transition) → In x (transitions_of es) → x.new ≡ Proposed → ⊥
+  never_proposed [] made x i h = i
+  never_proposed (e ∷ es) made x i h =
+      elim (In_cases x e.transitions (transitions_of es) i) [
+        | inl j ↦ proposes_move es e.input x (made_log scheme e es x made j) h
+        | inr j ↦ never_proposed es made.1 x j h
       ]

@@ -20,26 +20,26 @@ use Rattle.protocol.specs.WayOut.{OnlyTransport}
 use Rattle.protocol.specs.World.{World, receiver, run, sender, station}
 use Rattle.protocol.specs.declared.event.WorldEvent.{WorldEvent}
 use Rattle.protocol.specs.declared.event.WorldEvent.TheVariants.{Commit, Deliver, Post}
-use Rattle.safety.proofs.MovesAndHistories.LongerHistories.{history_from-append}
-use Rattle.safety.proofs.ListLemmas.Membership.{In, same_id-refl}
-use Rattle.safety.proofs.WorldLemmas.QuietWorlds.{Grown, Quiet, delivers, quiet-after}
-use Rattle.safety.proofs.WorldLemmas.SchemesKept.{run-scheme}
+use Rattle.safety.proofs.MovesAndHistories.LongerHistories.{history_from_append}
+use Rattle.safety.proofs.ListLemmas.Membership.{In, same_id_refl}
+use Rattle.safety.proofs.WorldLemmas.QuietWorlds.{Grown, Quiet, delivers, quiet_after}
+use Rattle.safety.proofs.WorldLemmas.SchemesKept.{run_scheme}
 
 -- ---- histories of a world that grew
 
 module _ (w : World) (events : List WorldEvent) (n : Node) (input : Input) (g : Grown w events n input) where
-  grown-here : committed_of (run w events) n ≡ history w.scheme n (committed_part (station w n) ++ input ∷ [])
-  grown-here = ap (λ (z : Scheme). history z n (committed_part (station (run w events) n))) (run-scheme w events) ∙ ap (history w.scheme n) (ap committed_part g.here ∙ g.committed)
+  grown_here : committed_of (run w events) n ≡ history w.scheme n (committed_part (station w n) ++ input ∷ [])
+  grown_here = ap (λ (z : Scheme). history z n (committed_part (station (run w events) n))) (run_scheme w events) ∙ ap (history w.scheme n) (ap committed_part g.here ∙ g.committed)
 
-  grown-elsewhere : (m : Node) → same_node n m ≡ false → committed_of (run w events) m ≡ committed_of w m
-  grown-elsewhere m other =
-      ap (λ (z : Scheme). history z m (committed_part (station (run w events) m))) (run-scheme w events) ∙ ap (λ o. history w.scheme m (committed_part o)) (g.elsewhere m other)
+  grown_elsewhere : (m : Node) → same_node n m ≡ false → committed_of (run w events) m ≡ committed_of w m
+  grown_elsewhere m other =
+      ap (λ (z : Scheme). history z m (committed_part (station (run w events) m))) (run_scheme w events) ∙ ap (λ o. history w.scheme m (committed_part o)) (g.elsewhere m other)
 
   -- with the transitions that its verdict enters
-  grown-entry : (xs : List Transition) → verdict w.scheme n (committed_of w n) input ≡ Enters xs
+  grown_entry : (xs : List Transition) → verdict w.scheme n (committed_of w n) input ≡ Enters xs
       → committed_of (run w events) n ≡ record { input = input; transitions = xs } ∷ committed_of w n
-  grown-entry xs says =
-      grown-here ∙ history_from-append w.scheme n [] (committed_part (station w n)) (input ∷ [])
+  grown_entry xs says =
+      grown_here ∙ history_from_append w.scheme n [] (committed_part (station w n)) (input ∷ [])
       ∙ ap {B = List Entry} (λ (z : Verdict). record { input = input; transitions = made z } ∷ committed_of w n) says
 
 -- ---- a message goes
@@ -49,8 +49,8 @@ pub record Calm (scheme : Scheme) (w : World) : Type 0 where
   pub quiet : Quiet w
   pub same : w.scheme ≡ scheme
 
-calm-after : (scheme : Scheme) (w : World) (events : List WorldEvent) → Calm scheme w → Quiet (run w events) → Calm scheme (run w events)
-calm-after scheme w events calm quiet = record { quiet = quiet; same = run-scheme w events ∙ calm.same }
+calm_after : (scheme : Scheme) (w : World) (events : List WorldEvent) → Calm scheme w → Quiet (run w events) → Calm scheme (run w events)
+calm_after scheme w events calm quiet = record { quiet = quiet; same = run_scheme w events ∙ calm.same }
 
 -- a message was sent on, and the receiver made one transition of it
 pub record Went (scheme : Scheme) (w : World) (t : TransactionId) (n : Node) (x : Transition) : Type 0 where
@@ -69,15 +69,15 @@ send scheme w calm m moment t x node sent says id =
     let says_here : verdict w.scheme n (committed_of w n) (Received m moment) ≡ Enters (x ∷ []) = subst (λ (z : Scheme). verdict z n (committed_of w n) (Received m moment) ≡ Enters (x ∷ [])) (sym calm.same) says in
     let d = delivers w calm.quiet m moment (x ∷ []) (subst (λ (z : Scheme). is_node z n ≡ true) (sym calm.same) node) sent says_here in
     let events : List WorldEvent = Post (sender m) d.0 ∷ Deliver (length w.bag) moment ∷ Commit (receiver m) 1 ∷ [] in
-    let here = grown-entry w events n (Received m moment) d.1 (x ∷ []) says_here in
-    let elsewhere = grown-elsewhere w events n (Received m moment) d.1 in
+    let here = grown_entry w events n (Received m moment) d.1 (x ∷ []) says_here in
+    let elsewhere = grown_elsewhere w events n (Received m moment) d.1 in
     record {
       events = events;
       transport = tt;
-      calm = calm-after scheme w events calm (quiet-after w events n (Received m moment) calm.quiet d.1);
+      calm = calm_after scheme w events calm (quiet_after w events n (Received m moment) calm.quiet d.1);
       now =
           ap (λ (es : List Entry). newest (transitions_of es) t) here
-          ∙ cond-true (same_id x.id t) (Some x) (newest (transitions_of (committed_of w n)) t) (subst (λ (z : TransactionId). same_id x.id z ≡ true) id (same_id-refl x.id));
+          ∙ cond-true (same_id x.id t) (Some x) (newest (transitions_of (committed_of w n)) t) (subst (λ (z : TransactionId). same_id x.id z ≡ true) id (same_id_refl x.id));
       others = λ z u other.
           elim (cases_Bool (same_node n z)) [
             | inl y ↦

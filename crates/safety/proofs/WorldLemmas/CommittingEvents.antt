@@ -16,8 +16,8 @@ use Rattle.protocol.specs.declared.event.Outcome.TheVariants.{NotPossible}
 use Rattle.protocol.specs.declared.event.Posted.{Posted}
 use Rattle.protocol.specs.declared.event.WorldEvent.{WorldEvent}
 use Rattle.protocol.specs.declared.event.WorldEvent.TheVariants.{Take, Commit, Post, Deliver, Crash, Restart}
-use Rattle.safety.proofs.WorldLemmas.NodesWithStation.{take-node, commit-node, crash-node, restart-node}
-use Rattle.safety.proofs.WorldLemmas.StationsAfterPut.{at-node, at-put, at-elsewhere}
+use Rattle.safety.proofs.WorldLemmas.NodesWithStation.{take_node, commit_node, crash_node, restart_node}
+use Rattle.safety.proofs.WorldLemmas.StationsAfterPut.{found_at_node, at_put, at_elsewhere}
 
 -- ---- a node's turn
 
@@ -25,34 +25,34 @@ use Rattle.safety.proofs.WorldLemmas.StationsAfterPut.{at-node, at-put, at-elsew
 abbrev Grows : Station → Station → Type 0
 Grows s t = (more : List Input) × (t.committed ≡ s.committed ++ more)
 
-same-grows : (s t : Station) → t.committed ≡ s.committed → Grows s t
-same-grows s t e = ([], e ∙ sym (append-nil s.committed))
+same_grows : (s t : Station) → t.committed ≡ s.committed → Grows s t
+same_grows s t e = ([], e ∙ sym (append-nil s.committed))
 
-cond-grows : (s : Station) (b : Bool) (t u : Turn) → Grows s t.station → Grows s u.station → Grows s (cond b t u).station
-cond-grows s true t u h i = h
-cond-grows s false t u h i = i
+cond_grows : (s : Station) (b : Bool) (t u : Turn) → Grows s t.station → Grows s u.station → Grows s (cond b t u).station
+cond_grows s true t u h i = h
+cond_grows s false t u h i = i
 
-answered-grows : (s : Station) (i : Input) (v : Verdict) → Grows s (answered s i v).station
-answered-grows s i (Enters xs) = same-grows s (answered s i (Enters xs)).station refl
-answered-grows s i IsRepeat = same-grows s s refl
-answered-grows s i IsLate = same-grows s s refl
-answered-grows s i (IsRefused code) = same-grows s s refl
+answered_grows : (s : Station) (i : Input) (v : Verdict) → Grows s (answered s i v).station
+answered_grows s i (Enters xs) = same_grows s (answered s i (Enters xs)).station refl
+answered_grows s i IsRepeat = same_grows s s refl
+answered_grows s i IsLate = same_grows s s refl
+answered_grows s i (IsRefused code) = same_grows s s refl
 
-take-grows : (scheme : Scheme) (i : Input) (s : Station) → Grows s (take_input scheme i s).station
-take-grows scheme i s =
+take_grows : (scheme : Scheme) (i : Input) (s : Station) → Grows s (take_input scheme i s).station
+take_grows scheme i s =
     let v = verdict scheme s.node (history scheme s.node (journal s)) i in
-    cond-grows s s.runs (answered s i v) (rests s NotPossible) (answered-grows s i v) (same-grows s s refl)
+    cond_grows s s.runs (answered s i v) (rests s NotPossible) (answered_grows s i v) (same_grows s s refl)
 
-commit-grows : (count : ℕ) (s : Station) → Grows s (commit count s).station
-commit-grows count s =
-    cond-grows s s.runs _ (rests s NotPossible) (cond-grows s (nat_le count (length s.tail)) _ (rests s NotPossible) (take count s.tail, refl) (same-grows s s refl)) (same-grows s s refl)
+commit_grows : (count : ℕ) (s : Station) → Grows s (commit count s).station
+commit_grows count s =
+    cond_grows s s.runs _ (rests s NotPossible) (cond_grows s (nat_le count (length s.tail)) _ (rests s NotPossible) (take count s.tail, refl) (same_grows s s refl)) (same_grows s s refl)
 
-crash-grows : (kept : ℕ) (s : Station) → Grows s (crash kept s).station
-crash-grows kept s =
-    cond-grows s s.runs _ (rests s NotPossible) (cond-grows s (nat_le kept (length s.tail)) _ (rests s NotPossible) (take kept s.tail, refl) (same-grows s s refl)) (same-grows s s refl)
+crash_grows : (kept : ℕ) (s : Station) → Grows s (crash kept s).station
+crash_grows kept s =
+    cond_grows s s.runs _ (rests s NotPossible) (cond_grows s (nat_le kept (length s.tail)) _ (rests s NotPossible) (take kept s.tail, refl) (same_grows s s refl)) (same_grows s s refl)
 
-restart-grows : (s : Station) → Grows s (restart s).station
-restart-grows s = cond-grows s s.runs (rests s NotPossible) _ (same-grows s s refl) (same-grows s (record s { runs = true }) refl)
+restart_grows : (s : Station) → Grows s (restart s).station
+restart_grows s = cond_grows s s.runs (rests s NotPossible) _ (same_grows s s refl) (same_grows s (record s { runs = true }) refl)
 
 -- ---- an event
 
@@ -62,48 +62,48 @@ pub record Commits (w v : World) : Type 0 where
   pub here : committed_part (station v node) ≡ committed_part (station w node) ++ more
   pub elsewhere : (m : Node) → same_node node m ≡ false → committed_part (station v m) ≡ committed_part (station w m)
 
-none-commits : (w v : World) → ((m : Node) → station v m ≡ station w m) → Commits w v
-none-commits w v same = record {
+none_commits : (w v : World) → ((m : Node) → station v m ≡ station w m) → Commits w v
+none_commits w v same = record {
   node = Itl;
   more = [];
   here = ap committed_part (same Itl) ∙ sym (append-nil (committed_part (station w Itl)));
   elsewhere = λ m other. ap committed_part (same m);
 }
 
-put-commits : (w : World) (n : Node) (s t : Station) → station w n ≡ Some s → t.node ≡ s.node → Grows s t → Commits w (put w t)
-put-commits w n s t is node grows =
-    let own = node ∙ at-node n w.stations s is in
+put_commits : (w : World) (n : Node) (s t : Station) → station w n ≡ Some s → t.node ≡ s.node → Grows s t → Commits w (put w t)
+put_commits w n s t is node grows =
+    let own = node ∙ found_at_node n w.stations s is in
     record {
       node = n;
       more = grows.0;
-      here = ap committed_part (at-put n w.stations s t is own) ∙ grows.1 ∙ ap (λ o. committed_part o ++ grows.0) (sym is);
-      elsewhere = λ m other. ap committed_part (at-elsewhere n m w.stations t own other);
+      here = ap committed_part (at_put n w.stations s t is own) ∙ grows.1 ∙ ap (λ o. committed_part o ++ grows.0) (sym is);
+      elsewhere = λ m other. ap committed_part (at_elsewhere n m w.stations t own other);
     }
 
-turn-commits : (w : World) (n : Node) (o : Option Station) (f : Station → Turn) → station w n ≡ o → ((s : Station) → (f s).station.node ≡ s.node) → ((s : Station) → Grows s (f s).station) → Commits w (at_node w o f).world
-turn-commits w n None f is node grows = none-commits w w (λ m. refl)
-turn-commits w n (Some s) f is node grows = put-commits w n s (f s).station is (node s) (grows s)
+turn_commits : (w : World) (n : Node) (o : Option Station) (f : Station → Turn) → station w n ≡ o → ((s : Station) → (f s).station.node ≡ s.node) → ((s : Station) → Grows s (f s).station) → Commits w (at_node w o f).world
+turn_commits w n None f is node grows = none_commits w w (λ m. refl)
+turn_commits w n (Some s) f is node grows = put_commits w n s (f s).station is (node s) (grows s)
 
-cond-commits : (w : World) (b : Bool) (x y : Stepped) → Commits w x.world → Commits w y.world → Commits w (cond b x y).world
-cond-commits w true x y h i = h
-cond-commits w false x y h i = i
+cond_commits : (w : World) (b : Bool) (x y : Stepped) → Commits w x.world → Commits w y.world → Commits w (cond b x y).world
+cond_commits w true x y h i = h
+cond_commits w false x y h i = i
 
-posted-commits : (w : World) (n : Node) (key : ℕ) (o : Option Message) → Commits w (posted w n key o).world
-posted-commits w n key None = none-commits w w (λ m. refl)
-posted-commits w n key (Some x) = none-commits w (posted w n key (Some x)).world (λ m. refl)
+posted_commits : (w : World) (n : Node) (key : ℕ) (o : Option Message) → Commits w (posted w n key o).world
+posted_commits w n key None = none_commits w w (λ m. refl)
+posted_commits w n key (Some x) = none_commits w (posted w n key (Some x)).world (λ m. refl)
 
-take-commits : (w : World) (n : Node) (i : Input) → Commits w (at_node w (station w n) (take_input w.scheme i)).world
-take-commits w n i = turn-commits w n (station w n) (take_input w.scheme i) refl (take-node w.scheme i) (take-grows w.scheme i)
+take_commits : (w : World) (n : Node) (i : Input) → Commits w (at_node w (station w n) (take_input w.scheme i)).world
+take_commits w n i = turn_commits w n (station w n) (take_input w.scheme i) refl (take_node w.scheme i) (take_grows w.scheme i)
 
-deliver-commits : (w : World) (moment : Moment) (o : Option Posted) → Commits w (deliver w moment o).world
-deliver-commits w moment None = none-commits w w (λ m. refl)
-deliver-commits w moment (Some p) = take-commits w (receiver p.message) (Received p.message moment)
+deliver_commits : (w : World) (moment : Moment) (o : Option Posted) → Commits w (deliver w moment o).world
+deliver_commits w moment None = none_commits w w (λ m. refl)
+deliver_commits w moment (Some p) = take_commits w (receiver p.message) (Received p.message moment)
 
-pub step-commits : (w : World) (e : WorldEvent) → Commits w (step w e).world
+pub step_commits : (w : World) (e : WorldEvent) → Commits w (step w e).world
 unfolding step
-step-commits w (Take n i) = cond-commits w (is_order w n i) (at_node w (station w n) (take_input w.scheme i)) (stays w NotPossible) (take-commits w n i) (none-commits w w (λ m. refl))
-step-commits w (Commit n count) = turn-commits w n (station w n) (commit count) refl (commit-node count) (commit-grows count)
-step-commits w (Post n key) = posted-commits w n key (option_and_then (sent w.scheme key) (station w n))
-step-commits w (Deliver index moment) = deliver-commits w moment (slice_get w.bag index)
-step-commits w (Crash n kept) = turn-commits w n (station w n) (crash kept) refl (crash-node kept) (crash-grows kept)
-step-commits w (Restart n) = turn-commits w n (station w n) restart refl restart-node restart-grows
+step_commits w (Take n i) = cond_commits w (is_order w n i) (at_node w (station w n) (take_input w.scheme i)) (stays w NotPossible) (take_commits w n i) (none_commits w w (λ m. refl))
+step_commits w (Commit n count) = turn_commits w n (station w n) (commit count) refl (commit_node count) (commit_grows count)
+step_commits w (Post n key) = posted_commits w n key (option_and_then (sent w.scheme key) (station w n))
+step_commits w (Deliver index moment) = deliver_commits w moment (slice_get w.bag index)
+step_commits w (Crash n kept) = turn_commits w n (station w n) (crash kept) refl (crash_node kept) (crash_grows kept)
+step_commits w (Restart n) = turn_commits w n (station w n) restart refl restart_node restart_grows

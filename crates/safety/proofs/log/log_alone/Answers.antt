@@ -1,5 +1,5 @@
-use Rattle.safety.proofs.LogAlone.{ends-stay, under-way-apart, owned-by-initiator}
+use Rattle.safety.proofs.OneLog.OwnersInLog.{ends_stay, under_way_apart, owned_by_initiator}
 use Rattle.safety.proofs.log.log_alone.Goals as goal
 
 pub returns : goal.returns
-returns c = record { ends_stay = ends-stay; apart = under-way-apart; owned = owned-by-initiator }
+returns c = record { ends_stay = ends_stay; apart = under_way_apart; owned = owned_by_initiator }

@@ -1,10 +1,10 @@
 use Rattle.protocol.specs.Claims.{live_of, committed_of}
-use Rattle.safety.proofs.OneOwner.{causal-one-owner}
-use Rattle.safety.proofs.Reached.{reached, reached-live, reached-committed}
+use Rattle.safety.proofs.OwnersOfUnits.UnitsWithOneOwner.{causal_one_owner}
+use Rattle.safety.proofs.WorldLemmas.ReachedWorlds.{reached, reached_live, reached_committed}
 use Rattle.safety.proofs.owning.units_have_one_owner.Goals as goal
 
 pub returns-clause-live : goal.returns-clause-live
-returns-clause-live c = λ scheme events. causal-one-owner scheme (live_of (reached scheme events)) (reached-live scheme events)
+returns-clause-live c = λ scheme events. causal_one_owner scheme (live_of (reached scheme events)) (reached_live scheme events)
 
 pub returns-clause-committed : goal.returns-clause-committed
-returns-clause-committed c = λ scheme events. causal-one-owner scheme (committed_of (reached scheme events)) (reached-committed scheme events)
+returns-clause-committed c = λ scheme events. causal_one_owner scheme (committed_of (reached scheme events)) (reached_committed scheme events)

@@ -1,13 +1,13 @@
 use Rattle.protocol.specs.World.{opening, run}
-use Rattle.safety.proofs.InTurn.{in-turn-reached}
-use Rattle.safety.proofs.Ordered.{ordered, always-next}
-use Rattle.safety.proofs.Stuck.{stuck-is-final}
+use Rattle.safety.proofs.JournalWeaves.EventsFromOrders.{in_turn_reached}
+use Rattle.safety.proofs.JournalWeaves.OrdersFromEvents.{ordered, always_next}
+use Rattle.safety.proofs.JournalWeaves.StuckWorlds.{stuck_is_final}
 use Rattle.safety.proofs.weaving.journals_weave.Goals as goal
 
 pub returns : goal.returns
 returns c = record {
-  reached = in-turn-reached;
+  reached = in_turn_reached;
   ordered = ordered;
-  never_stuck = always-next;
-  stuck = λ scheme events journals. stuck-is-final (run (opening scheme) events) journals;
+  never_stuck = always_next;
+  stuck = λ scheme events journals. stuck_is_final (run (opening scheme) events) journals;
 }

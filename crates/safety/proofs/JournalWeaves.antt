@@ -1,0 +1,6 @@
+-- Orders of the records of journals: from events, to events, and journals that have none.
+pub mod RecordOrders
+pub mod EventsFromOrders
+pub mod OrdersFromEvents
+pub mod StuckWorlds
+pub mod WaitingJournals

@@ -1,0 +1,67 @@
+-- What a node sends names it as the sender.
+use Rattle.std.proofs.Common.{◌≡◌, ℕ, List, [], ◌∷◌, inl, inr, refl, sym, ap, ◌∙◌}
+use Rattle.units.specs.declared.code.Code.{Code}
+use Rattle.units.specs.declared.code.Node.{Node}
+use Rattle.units.specs.declared.code.Node.TheVariants.{Itl, Registry}
+use Rattle.status.specs.Content.{Content}
+use Rattle.status.specs.declared.id.TransactionId.{TransactionId}
+use Rattle.status.specs.declared.words.Status.{Status}
+use Rattle.status.specs.declared.words.Status.TheVariants.{Proposed, Checked, Accepted, Rejected, Terminated, Cancelled, Completed}
+use Rattle.wire.specs.declared.input.Input.{Input}
+use Rattle.wire.specs.declared.message.Message.{Message}
+use Rattle.scheme.specs.declared.registries.Scheme.{Scheme}
+use Rattle.protocol.specs.History.{Transition, Entry, sends, messages_of}
+use Rattle.protocol.specs.World.{sender}
+use Rattle.safety.proofs.MovesAndHistories.TransitionForms.{settled_messages, checked_message}
+use Rattle.safety.proofs.MovesAndHistories.NewestTransitions.{Made, made_registry, made_log}
+use Rattle.safety.proofs.ListLemmas.Membership.{In, In_cases, In_flat_map}
+use Rattle.safety.proofs.MovesAndHistories.TableMoves.{RegistryMove, proposes, asks, arrives, bares, settles, finishes, LogMove, checks, passes, cancels, forestalls}
+
+sender_settled : (c : Code) (u : TransactionId) (new : Status) (m : Message) → In m (settled_messages c u new) → sender m ≡ Registry c
+sender_settled c u Completed m (inl e) = ap sender (sym e)
+sender_settled c u Completed m (inr h) = absurd h
+sender_settled c u Proposed m h = absurd h
+sender_settled c u Checked m h = absurd h
+sender_settled c u Accepted m h = absurd h
+sender_settled c u Rejected m h = absurd h
+sender_settled c u Terminated m h = absurd h
+sender_settled c u Cancelled m h = absurd h
+
+sender_registry : (scheme : Scheme) (c : Code) (es : List Entry) (input : Input) (x : Transition) (m : Message) → RegistryMove scheme c es input x → In m x.messages → sender m ≡ Registry c
+sender_registry scheme c es input x m (proposes o t none is fresh) (inl e) = ap sender (sym e)
+sender_registry scheme c es input x m (proposes o t none is fresh) (inr h) = absurd h
+sender_registry scheme c es input x m (arrives p moment found f s is none foreign mine) (inl e) = ap sender (sym e)
+sender_registry scheme c es input x m (arrives p moment found f s is none foreign mine) (inr h) = absurd h
+sender_registry scheme c es input x m (asks t q old own stood) (inl e) = ap sender (sym e)
+sender_registry scheme c es input x m (asks t q old own stood) (inr h) = absurd h
+sender_registry scheme c es input x m (bares n moment f told none foreign) h = absurd h
+sender_registry scheme c es input x m (settles n moment q new f old own move) h = sender_settled c q.id new m h
+sender_registry scheme c es input x m (finishes n moment q new f old foreign move none) h = absurd h
+
+sender_checked : (t : TransactionId) (k : Content) (found : List ℕ) → sender (checked_message t k found) ≡ Itl
+sender_checked t k [] = refl
+sender_checked t k (c ∷ cs) = refl
+
+sender_log : (scheme : Scheme) (es : List Entry) (input : Input) (x : Transition) (m : Message) → LogMove scheme es input x → In m x.messages → sender m ≡ Itl
+sender_log scheme es input x m (checks p moment found f s is none member) (inl e) = ap sender (sym e) ∙ sender_checked p.id p.content found
+sender_log scheme es input x m (checks p moment found f s is none member) (inr h) = absurd h
+sender_log scheme es input x m (passes n moment q new old member right move) (inl e) = ap sender (sym e)
+sender_log scheme es input x m (passes n moment q new old member right move) (inr h) = absurd h
+sender_log scheme es input x m (cancels given moment t q why old was) (inl e) = ap sender (sym e)
+sender_log scheme es input x m (cancels given moment t q why old was) (inr (inl e)) = ap sender (sym e)
+sender_log scheme es input x m (cancels given moment t q why old was) (inr (inr h)) = absurd h
+sender_log scheme es input x m (forestalls r moment f member none) (inl e) = ap sender (sym e)
+sender_log scheme es input x m (forestalls r moment f member none) (inr h) = absurd h
+
+pub sender_sends : (scheme : Scheme) (n : Node) (es : List Entry) → Made scheme n es → (m : Message) → In m (sends es) → sender m ≡ n
+sender_sends scheme n [] made m h = absurd h
+sender_sends scheme Itl (e ∷ es) made m h =
+    elim (In_cases m (sends es) (messages_of e.transitions) h) [
+      | inl old ↦ sender_sends scheme Itl es made.1 m old
+      | inr new ↦ let g = In_flat_map (λ (x : Transition). x.messages) m e.transitions new in sender_log scheme es e.input g.0 m (made_log scheme e es g.0 made g.1) g.2
+    ]
+sender_sends scheme (Registry c) (e ∷ es) made m h =
+    elim (In_cases m (sends es) (messages_of e.transitions) h) [
+      | inl old ↦ sender_sends scheme (Registry c) es made.1 m old
+      | inr new ↦ let g = In_flat_map (λ (x : Transition). x.messages) m e.transitions new in sender_registry scheme c es e.input g.0 m (made_registry scheme c e es g.0 made g.1) g.2
+    ]

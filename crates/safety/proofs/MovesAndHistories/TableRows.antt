@@ -1,0 +1,390 @@
+-- The rows that move, by their tables: from which status, on which word, to which status.
+use Rattle.std.proofs.Common.{◌≡◌, ◌⊎◌, ℕ, List, [], ◌∷◌, Bool, true, false, Option, Some, None, inl, inr, refl, sym, ap, subst, ◌∙◌}
+use Rattle.std.specs.Prelude.{◌&&◌}
+use Rattle.std.specs.Option.{option_map_or}
+use Rattle.units.specs.declared.code.Code.{Code}
+use Rattle.units.specs.declared.code.Node.TheVariants.{Itl, Registry}
+use Rattle.status.specs.Content.{Content}
+use Rattle.status.specs.Status.{same_status}
+use Rattle.status.specs.declared.id.TransactionId.{TransactionId}
+use Rattle.status.specs.Rows.{initiator_row, log_row, acquirer_row}
+use Rattle.status.specs.declared.words.Known.{Known}
+use Rattle.status.specs.declared.words.Known.TheVariants.{Unknown, Bare, Stands}
+use Rattle.status.specs.declared.words.Row.{Row}
+use Rattle.status.specs.declared.words.Row.TheVariants.{Move, Repeat, Late, Refused}
+use Rattle.status.specs.declared.words.RowInput.TheVariants.{Propose, Notified, CleanUp, RequestOrder, RepeatedRequestOrder, Request}
+use Rattle.status.specs.declared.words.Status.{Status}
+use Rattle.status.specs.declared.words.Status.TheVariants.{Proposed, Checked, Accepted, Rejected, Terminated, Cancelled, Completed}
+use Rattle.wire.specs.Notices.{notice_status, notice_codes}
+use Rattle.wire.specs.declared.notice.Notice.{Notice}
+use Rattle.wire.specs.declared.notice.Notice.TheVariants as notice
+use Rattle.protocol.specs.AtRegistry.{unless_held}
+use Rattle.protocol.specs.Deciding.{known, content_in, offered}
+use Rattle.protocol.specs.Effects.{notifies, initiator_sends, log_sends}
+use Rattle.protocol.specs.History.{Transition}
+use Rattle.safety.proofs.MovesAndHistories.TransitionForms.{settled_messages, acquirer_of, told_to}
+
+pub log_from : (a told new : Status) → log_row (Stands a) (Notified told) ≡ Move new
+    → ((a ≡ Checked) × (new ≡ told) × ((told ≡ Accepted) ⊎ (told ≡ Rejected))) ⊎ ((a ≡ Accepted) × (new ≡ Completed) × (told ≡ Completed))
+log_from Checked Accepted new h = inl (refl, cc, inl refl)
+log_from Checked Rejected new h = inl (refl, cc, inr refl)
+log_from Accepted Completed new h = inr (refl, cc, refl)
+log_from Accepted Accepted new h = absurd (cc)
+log_from Completed Accepted new h = absurd (cc)
+log_from Rejected Rejected new h = absurd (cc)
+log_from Completed Completed new h = absurd (cc)
+log_from Cancelled Accepted new h = absurd (cc)
+log_from Cancelled Rejected new h = absurd (cc)
+log_from Proposed Proposed new h = absurd (cc)
+log_from Terminated Terminated new h = absurd (cc)
+log_from _ _ new h = absurd (cc)
+
+-- what the initiator was told when it went to this status
+abbrev pub word_to : Status → Status
+word_to Completed = Accepted
+word_to s = s
+
+pub initiator_from : (a told new : Status) → initiator_row (Stands a) (Notified told) ≡ Move new → (a ≡ Proposed) × (word_to new ≡ told)
+initiator_from Proposed Accepted new h = let e : new ≡ Completed = cc in (refl, ap word_to e)
+initiator_from Proposed Rejected new h = let e : new ≡ Rejected = cc in (refl, ap word_to e)
+initiator_from Proposed Terminated new h = let e : new ≡ Terminated = cc in (refl, ap word_to e)
+initiator_from Proposed Cancelled new h = let e : new ≡ Cancelled = cc in (refl, ap word_to e)
+initiator_from Completed Accepted new h = absurd (cc)
+initiator_from Rejected Rejected new h = absurd (cc)
+initiator_from Terminated Terminated new h = absurd (cc)
+initiator_from Cancelled Cancelled new h = absurd (cc)
+initiator_from Checked Checked new h = absurd (cc)
+initiator_from Accepted Accepted new h = absurd (cc)
+initiator_from _ _ new h = absurd (cc)
+
+pub acquirer_from : (a told new : Status) → acquirer_row (Stands a) (Notified told) ≡ Move new → (a ≡ Accepted) × (new ≡ told) × ((told ≡ Completed) ⊎ (told ≡ Cancelled))
+acquirer_from Accepted Completed new h = (refl, cc, inl refl)
+acquirer_from Accepted Cancelled new h = (refl, cc, inr refl)
+acquirer_from Rejected Cancelled new h = absurd (cc)
+acquirer_from Completed Completed new h = absurd (cc)
+acquirer_from Cancelled Cancelled new h = absurd (cc)
+acquirer_from Proposed Proposed new h = absurd (cc)
+acquirer_from Checked Checked new h = absurd (cc)
+acquirer_from Terminated Terminated new h = absurd (cc)
+acquirer_from _ _ new h = absurd (cc)
+
+-- ---- what is recorded of a transaction
+
+pub nothing_known : (o : Option Transition) → known o ≡ Unknown → o ≡ None
+nothing_known None h = refl
+nothing_known (Some x) h = absurd (go x.content h)
+  where
+    go : (k : Option Content) → option_map_or (λ c. Stands x.new) k Bare ≡ Unknown → ⊥
+    go None h = cc (h)
+    go (Some k) h = cc (h)
+
+-- it has a content, and this status
+pub record Recorded (o : Option Transition) (a : Status) : Type 0 where
+  pub last : Transition
+  pub is : o ≡ Some last
+  pub new : last.new ≡ a
+  pub content : Content
+  pub known : last.content ≡ Some content
+
+pub status_known : (o : Option Transition) (a : Status) → known o ≡ Stands a → Recorded o a
+status_known None a h = absurd (unknown_stands a h)
+  where
+    unknown_stands : (b : Status) → Unknown ≡ Stands b → ⊥
+    unknown_stands b e = cc (e)
+status_known (Some x) a h = go x.content refl h
+  where
+    go : (k : Option Content) → x.content ≡ k → option_map_or (λ c. Stands x.new) k Bare ≡ Stands a → Recorded (Some x) a
+    go None e h = absurd (cc (h))
+    go (Some k) e h = let s : x.new ≡ a = cc (h) in record { last = x; is = refl; new = s; content = k; known = e }
+
+pub known_status : (x : Transition) (k : Content) → x.content ≡ Some k → known (Some x) ≡ Stands x.new
+known_status x k e = ap (λ (o : Option Content). option_map_or (λ c. Stands x.new) o Bare) e
+
+-- ---- rows that move, whatever is known
+
+pub initiator_proposes : (k : Known) (new : Status) → initiator_row k Propose ≡ Move new → (k ≡ Unknown) × (new ≡ Proposed)
+initiator_proposes Unknown new h = (refl, cc)
+initiator_proposes Bare new h = absurd (cc (h))
+initiator_proposes (Stands Proposed) new h = absurd (cc (h))
+initiator_proposes (Stands Checked) new h = absurd (cc (h))
+initiator_proposes (Stands Accepted) new h = absurd (cc (h))
+initiator_proposes (Stands Rejected) new h = absurd (cc (h))
+initiator_proposes (Stands Terminated) new h = absurd (cc (h))
+initiator_proposes (Stands Cancelled) new h = absurd (cc (h))
+initiator_proposes (Stands Completed) new h = absurd (cc (h))
+
+pub initiator_asks : (k : Known) (new : Status) → initiator_row k RequestOrder ≡ Move new → (k ≡ Stands Proposed) × (new ≡ Proposed)
+initiator_asks Unknown new h = absurd (cc (h))
+initiator_asks Bare new h = absurd (cc (h))
+initiator_asks (Stands Proposed) new h = (refl, cc)
+initiator_asks (Stands Checked) new h = absurd (cc (h))
+initiator_asks (Stands Accepted) new h = absurd (cc (h))
+initiator_asks (Stands Rejected) new h = absurd (cc (h))
+initiator_asks (Stands Terminated) new h = absurd (cc (h))
+initiator_asks (Stands Cancelled) new h = absurd (cc (h))
+initiator_asks (Stands Completed) new h = absurd (cc (h))
+
+pub initiator_asks_once : (k : Known) (new : Status) → initiator_row k RepeatedRequestOrder ≡ Move new → ⊥
+initiator_asks_once Unknown new h = cc (h)
+initiator_asks_once Bare new h = cc (h)
+initiator_asks_once (Stands Proposed) new h = cc (h)
+initiator_asks_once (Stands Checked) new h = cc (h)
+initiator_asks_once (Stands Accepted) new h = cc (h)
+initiator_asks_once (Stands Rejected) new h = cc (h)
+initiator_asks_once (Stands Terminated) new h = cc (h)
+initiator_asks_once (Stands Cancelled) new h = cc (h)
+initiator_asks_once (Stands Completed) new h = cc (h)
+
+pub initiator_unasked : (k : Known) (new : Status) → initiator_row k Request ≡ Move new → ⊥
+initiator_unasked Unknown new h = cc (h)
+initiator_unasked Bare new h = cc (h)
+initiator_unasked (Stands Proposed) new h = cc (h)
+initiator_unasked (Stands Checked) new h = cc (h)
+initiator_unasked (Stands Accepted) new h = cc (h)
+initiator_unasked (Stands Rejected) new h = cc (h)
+initiator_unasked (Stands Terminated) new h = cc (h)
+initiator_unasked (Stands Cancelled) new h = cc (h)
+initiator_unasked (Stands Completed) new h = cc (h)
+
+pub acquirer_unasked : (k : Known) (new : Status) → acquirer_row k Request ≡ Move new → ⊥
+acquirer_unasked Unknown new h = cc (h)
+acquirer_unasked Bare new h = cc (h)
+acquirer_unasked (Stands Proposed) new h = cc (h)
+acquirer_unasked (Stands Checked) new h = cc (h)
+acquirer_unasked (Stands Accepted) new h = cc (h)
+acquirer_unasked (Stands Rejected) new h = cc (h)
+acquirer_unasked (Stands Terminated) new h = cc (h)
+acquirer_unasked (Stands Cancelled) new h = cc (h)
+acquirer_unasked (Stands Completed) new h = cc (h)
+
+pub initiator_notified : (k : Known) (told new : Status) → initiator_row k (Notified told) ≡ Move new → (a : Status) × (k ≡ Stands a)
+initiator_notified (Stands a) told new h = (a, refl)
+initiator_notified Unknown Proposed new h = absurd (cc (h))
+initiator_notified Unknown Checked new h = absurd (cc (h))
+initiator_notified Unknown Accepted new h = absurd (cc (h))
+initiator_notified Unknown Rejected new h = absurd (cc (h))
+initiator_notified Unknown Terminated new h = absurd (cc (h))
+initiator_notified Unknown Cancelled new h = absurd (cc (h))
+initiator_notified Unknown Completed new h = absurd (cc (h))
+initiator_notified Bare Proposed new h = absurd (cc (h))
+initiator_notified Bare Checked new h = absurd (cc (h))
+initiator_notified Bare Accepted new h = absurd (cc (h))
+initiator_notified Bare Rejected new h = absurd (cc (h))
+initiator_notified Bare Terminated new h = absurd (cc (h))
+initiator_notified Bare Cancelled new h = absurd (cc (h))
+initiator_notified Bare Completed new h = absurd (cc (h))
+
+pub log_notified : (k : Known) (told new : Status) → log_row k (Notified told) ≡ Move new → (a : Status) × (k ≡ Stands a)
+log_notified (Stands a) told new h = (a, refl)
+log_notified Unknown Proposed new h = absurd (cc (h))
+log_notified Unknown Checked new h = absurd (cc (h))
+log_notified Unknown Accepted new h = absurd (cc (h))
+log_notified Unknown Rejected new h = absurd (cc (h))
+log_notified Unknown Terminated new h = absurd (cc (h))
+log_notified Unknown Cancelled new h = absurd (cc (h))
+log_notified Unknown Completed new h = absurd (cc (h))
+log_notified Bare Proposed new h = absurd (cc (h))
+log_notified Bare Checked new h = absurd (cc (h))
+log_notified Bare Accepted new h = absurd (cc (h))
+log_notified Bare Rejected new h = absurd (cc (h))
+log_notified Bare Terminated new h = absurd (cc (h))
+log_notified Bare Cancelled new h = absurd (cc (h))
+log_notified Bare Completed new h = absurd (cc (h))
+
+pub acquirer_notified : (k : Known) (told new : Status) → acquirer_row k (Notified told) ≡ Move new → ((a : Status) × (k ≡ Stands a)) ⊎ ((k ≡ Unknown) × (told ≡ Cancelled) × (new ≡ Cancelled))
+acquirer_notified (Stands a) told new h = inl (a, refl)
+acquirer_notified Unknown Cancelled new h = inr (refl, refl, cc)
+acquirer_notified Unknown Proposed new h = absurd (cc (h))
+acquirer_notified Unknown Checked new h = absurd (cc (h))
+acquirer_notified Unknown Accepted new h = absurd (cc (h))
+acquirer_notified Unknown Rejected new h = absurd (cc (h))
+acquirer_notified Unknown Terminated new h = absurd (cc (h))
+acquirer_notified Unknown Completed new h = absurd (cc (h))
+acquirer_notified Bare Proposed new h = absurd (cc (h))
+acquirer_notified Bare Checked new h = absurd (cc (h))
+acquirer_notified Bare Accepted new h = absurd (cc (h))
+acquirer_notified Bare Rejected new h = absurd (cc (h))
+acquirer_notified Bare Terminated new h = absurd (cc (h))
+acquirer_notified Bare Cancelled new h = absurd (cc (h))
+acquirer_notified Bare Completed new h = absurd (cc (h))
+
+pub log_asked : (k : Known) (new : Status) → log_row k Request ≡ Move new → ((k ≡ Unknown) ⊎ (k ≡ Stands Checked)) × (new ≡ Cancelled)
+log_asked Unknown new h = (inl refl, cc)
+log_asked Bare new h = absurd (cc (h))
+log_asked (Stands Checked) new h = (inr refl, cc)
+log_asked (Stands Proposed) new h = absurd (cc (h))
+log_asked (Stands Accepted) new h = absurd (cc (h))
+log_asked (Stands Rejected) new h = absurd (cc (h))
+log_asked (Stands Terminated) new h = absurd (cc (h))
+log_asked (Stands Cancelled) new h = absurd (cc (h))
+log_asked (Stands Completed) new h = absurd (cc (h))
+
+pub log_cleans : (k : Known) (new : Status) → log_row k CleanUp ≡ Move new → (k ≡ Stands Checked) × (new ≡ Cancelled)
+log_cleans Unknown new h = absurd (cc (h))
+log_cleans Bare new h = absurd (cc (h))
+log_cleans (Stands Checked) new h = (refl, cc)
+log_cleans (Stands Proposed) new h = absurd (cc (h))
+log_cleans (Stands Accepted) new h = absurd (cc (h))
+log_cleans (Stands Rejected) new h = absurd (cc (h))
+log_cleans (Stands Terminated) new h = absurd (cc (h))
+log_cleans (Stands Cancelled) new h = absurd (cc (h))
+log_cleans (Stands Completed) new h = absurd (cc (h))
+
+-- a proposal of a transaction that is known moves nothing
+pub acquirer_offered : (x : Transition) (found : List ℕ) (new : Status) → acquirer_row (known (Some x)) (offered (content_in (Some x)) found) ≡ Move new → ⊥
+acquirer_offered x found new h = go x.content x.new found new h
+  where
+    go : (k : Option Content) (s : Status) (found : List ℕ) (new : Status) → acquirer_row (option_map_or (λ c. Stands s) k Bare) (offered k found) ≡ Move new → ⊥
+    go None s [] new h = cc (h)
+    go None s (c ∷ cs) new h = cc (h)
+    go (Some k) Proposed found new h = cc (h)
+    go (Some k) Checked found new h = cc (h)
+    go (Some k) Accepted found new h = cc (h)
+    go (Some k) Rejected found new h = cc (h)
+    go (Some k) Terminated found new h = cc (h)
+    go (Some k) Cancelled found new h = cc (h)
+    go (Some k) Completed found new h = cc (h)
+
+-- a proposal of a transaction that is known moves nothing
+pub log_offered : (x : Transition) (found : List ℕ) (new : Status) → log_row (known (Some x)) (offered (content_in (Some x)) found) ≡ Move new → ⊥
+log_offered x found new h = go x.content x.new found new h
+  where
+    go : (k : Option Content) (s : Status) (found : List ℕ) (new : Status) → log_row (option_map_or (λ c. Stands s) k Bare) (offered k found) ≡ Move new → ⊥
+    go None s [] new h = cc (h)
+    go None s (c ∷ cs) new h = cc (h)
+    go (Some k) Proposed found new h = cc (h)
+    go (Some k) Checked found new h = cc (h)
+    go (Some k) Accepted found new h = cc (h)
+    go (Some k) Rejected found new h = cc (h)
+    go (Some k) Terminated found new h = cc (h)
+    go (Some k) Cancelled found new h = cc (h)
+    go (Some k) Completed found new h = cc (h)
+
+-- ---- the acquirer takes no unit in that it holds
+
+pub unless_moves : (held : Bool) (row : Row) (new : Status) → unless_held held row ≡ Move new → (row ≡ Move new) × ((same_status new Completed && held) ≡ false)
+unless_moves false row new h = (h, without new)
+  where
+    without : (s : Status) → (same_status s Completed && false) ≡ false
+    without Proposed = refl
+    without Checked = refl
+    without Accepted = refl
+    without Rejected = refl
+    without Terminated = refl
+    without Cancelled = refl
+    without Completed = refl
+unless_moves true (Move Proposed) new h = let e : Proposed ≡ new = cc (h) in (h, subst (λ s. (same_status s Completed && true) ≡ false) e refl)
+unless_moves true (Move Checked) new h = let e : Checked ≡ new = cc (h) in (h, subst (λ s. (same_status s Completed && true) ≡ false) e refl)
+unless_moves true (Move Accepted) new h = let e : Accepted ≡ new = cc (h) in (h, subst (λ s. (same_status s Completed && true) ≡ false) e refl)
+unless_moves true (Move Rejected) new h = let e : Rejected ≡ new = cc (h) in (h, subst (λ s. (same_status s Completed && true) ≡ false) e refl)
+unless_moves true (Move Terminated) new h = let e : Terminated ≡ new = cc (h) in (h, subst (λ s. (same_status s Completed && true) ≡ false) e refl)
+unless_moves true (Move Cancelled) new h = let e : Cancelled ≡ new = cc (h) in (h, subst (λ s. (same_status s Completed && true) ≡ false) e refl)
+unless_moves true (Move Completed) new h = absurd (cc (h))
+unless_moves true Repeat new h = absurd (cc (h))
+unless_moves true Late new h = absurd (cc (h))
+unless_moves true Refused new h = absurd (cc (h))
+
+-- ---- what goes out
+
+pub settled_sends : (c : Code) (t : TransactionId) (k : Option Content) (a told new : Status) → initiator_row (Stands a) (Notified told) ≡ Move new → initiator_sends c t k (Notified told) ≡ settled_messages c t new
+settled_sends c t k a told new h = let m = initiator_from a told new h in subst (λ s. initiator_sends c t k (Notified s) ≡ settled_messages c t new) m.1 (go new a told h)
+  where
+    go : (new a told : Status) → initiator_row (Stands a) (Notified told) ≡ Move new → initiator_sends c t k (Notified (word_to new)) ≡ settled_messages c t new
+    go Completed a told h = refl
+    go Rejected a told h = refl
+    go Terminated a told h = refl
+    go Cancelled a told h = refl
+    go Proposed a told h = refl
+    go Checked a told h = refl
+    go Accepted a told h = absurd (never a told h)
+      where
+        never : (a told : Status) → initiator_row (Stands a) (Notified told) ≡ Move Accepted → ⊥
+        never Proposed Accepted h = cc (h)
+        never Proposed Rejected h = cc (h)
+        never Proposed Terminated h = cc (h)
+        never Proposed Cancelled h = cc (h)
+        never Completed Accepted h = cc (h)
+        never Rejected Rejected h = cc (h)
+        never Terminated Terminated h = cc (h)
+        never Cancelled Cancelled h = cc (h)
+        never Checked Checked h = cc (h)
+        never Accepted Accepted h = cc (h)
+        never _ _ h = cc (h)
+
+pub passed_sends : (x : Transition) (k : Content) (said : Notice) (new : Status) → x.content ≡ Some k → log_row (Stands x.new) (Notified (notice_status said)) ≡ Move new
+    → log_sends x.id (Some k) (notice_codes said) (Notified (notice_status said)) ≡ notifies Itl (told_to x new) x.id said ∷ []
+passed_sends x k said new e h = go said (log_from x.new (notice_status said) new h)
+  where
+    go : (said : Notice) → ((x.new ≡ Checked) × (new ≡ notice_status said) × ((notice_status said ≡ Accepted) ⊎ (notice_status said ≡ Rejected))) ⊎ ((x.new ≡ Accepted) × (new ≡ Completed) × (notice_status said ≡ Completed))
+        → log_sends x.id (Some k) (notice_codes said) (Notified (notice_status said)) ≡ notifies Itl (told_to x new) x.id said ∷ []
+    go notice.Accepted (inl m) = subst (λ s. log_sends x.id (Some k) [] (Notified Accepted) ≡ notifies Itl (told_to x s) x.id notice.Accepted ∷ []) (sym m.1) refl
+    go notice.Accepted (inr m) = absurd (let y = m.2 in cc (y))
+    go (notice.Rejected codes) (inl m) = subst (λ s. log_sends x.id (Some k) codes (Notified Rejected) ≡ notifies Itl (told_to x s) x.id (notice.Rejected codes) ∷ []) (sym m.1) refl
+    go (notice.Rejected codes) (inr m) = absurd (let y = m.2 in cc (y))
+    go (notice.Terminated codes) (inl m) = absurd (elim m.2 [ inl y ↦ cc (y) | inr y ↦ cc (y) ])
+    go (notice.Terminated codes) (inr m) = absurd (let y = m.2 in cc (y))
+    go notice.Cancelled (inl m) = absurd (elim m.2 [ inl y ↦ cc (y) | inr y ↦ cc (y) ])
+    go notice.Cancelled (inr m) = absurd (let y = m.2 in cc (y))
+    go notice.Completed (inl m) = absurd (elim m.2 [ inl y ↦ cc (y) | inr y ↦ cc (y) ])
+    go notice.Completed (inr m) =
+        subst (λ s. log_sends x.id (Some k) [] (Notified Completed) ≡ notifies Itl (told_to x s) x.id notice.Completed ∷ []) (sym m.1)
+        (subst (λ o. log_sends x.id (Some k) [] (Notified Completed) ≡ notifies Itl (acquirer_of o) x.id notice.Completed ∷ []) (sym e) refl)
+
+pub unless_same : (held : Bool) (row : Row) → (row ≡ Move Completed → held ≡ false) → unless_held held row ≡ row
+unless_same false row h = refl
+unless_same true (Move Completed) h = absurd (let e = h refl in cc (e))
+unless_same true (Move Proposed) h = refl
+unless_same true (Move Checked) h = refl
+unless_same true (Move Accepted) h = refl
+unless_same true (Move Rejected) h = refl
+unless_same true (Move Terminated) h = refl
+unless_same true (Move Cancelled) h = refl
+unless_same true Repeat h = refl
+unless_same true Late h = refl
+unless_same true Refused h = refl
+
+-- ---- rows that are there
+
+pub acquirer_offer_row : (o : Option Transition) (found : List ℕ) → acquirer_row (known o) (offered (content_in o) found) ≡ Refused → ⊥
+acquirer_offer_row None [] h = cc (h)
+acquirer_offer_row None (c ∷ cs) h = cc (h)
+acquirer_offer_row (Some x) found h = go x.content x.new found h
+  where
+    go : (k : Option Content) (s : Status) (found : List ℕ) → acquirer_row (option_map_or (λ c. Stands s) k Bare) (offered k found) ≡ Refused → ⊥
+    go None s [] h = cc (h)
+    go None s (c ∷ cs) h = cc (h)
+    go (Some k) Proposed found h = cc (h)
+    go (Some k) Checked found h = cc (h)
+    go (Some k) Accepted found h = cc (h)
+    go (Some k) Rejected found h = cc (h)
+    go (Some k) Terminated found h = cc (h)
+    go (Some k) Cancelled found h = cc (h)
+    go (Some k) Completed found h = cc (h)
+
+pub log_offer_row : (o : Option Transition) (found : List ℕ) → log_row (known o) (offered (content_in o) found) ≡ Refused → ⊥
+log_offer_row None [] h = cc (h)
+log_offer_row None (c ∷ cs) h = cc (h)
+log_offer_row (Some x) found h = go x.content x.new found h
+  where
+    go : (k : Option Content) (s : Status) (found : List ℕ) → log_row (option_map_or (λ c. Stands s) k Bare) (offered k found) ≡ Refused → ⊥
+    go None s [] h = cc (h)
+    go None s (c ∷ cs) h = cc (h)
+    go (Some k) Proposed found h = cc (h)
+    go (Some k) Checked found h = cc (h)
+    go (Some k) Accepted found h = cc (h)
+    go (Some k) Rejected found h = cc (h)
+    go (Some k) Terminated found h = cc (h)
+    go (Some k) Cancelled found h = cc (h)
+    go (Some k) Completed found h = cc (h)
+
+-- nothing stands Proposed at the log, so a request has a row
+pub log_request_row : (k : Known) → (k ≡ Stands Proposed → ⊥) → log_row k Request ≡ Refused → ⊥
+log_request_row Unknown other h = cc (h)
+log_request_row Bare other h = cc (h)
+log_request_row (Stands Proposed) other h = other refl
+log_request_row (Stands Checked) other h = cc (h)
+log_request_row (Stands Accepted) other h = cc (h)
+log_request_row (Stands Rejected) other h = cc (h)
+log_request_row (Stands Terminated) other h = cc (h)
+log_request_row (Stands Cancelled) other h = cc (h)
+log_request_row (Stands Completed) other h = cc (h)

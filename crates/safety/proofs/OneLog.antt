@@ -1,0 +1,5 @@
+-- The history of the log by itself, whatever messages come to it.
+pub mod LogHearings
+pub mod LogInputs
+pub mod OwnersInLog
+pub mod LogSendings

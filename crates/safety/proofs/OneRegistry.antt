@@ -1,0 +1,6 @@
+-- The history of one registry by itself, whatever messages come to it.
+pub mod UnitsCountedOnce
+pub mod RegistryHearings
+pub mod TransactionEnds
+pub mod InitiatorStatuses
+pub mod RegistrySendings

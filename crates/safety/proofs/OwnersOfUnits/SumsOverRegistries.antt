@@ -1,0 +1,203 @@
+-- Sums over the registries of a scheme, whose codes differ; and that each allotted unit starts at one of them.
+use Rattle.std.proofs.Common.{◌≡◌, ℕ, zero, suc, ◌+◌, ◌≤◌, ◌<◌, List, [], ◌∷◌, Bool, true, false, cond, Option, Some, None, option_map, is_some, inl, inr, refl, sym, ap, subst, ◌∙◌, arith, length, length-append, flat_map, find}
+use Rattle.std.specs.Prelude.{◌==◌}
+use Rattle.std.specs.List.{AllByRecursion}
+use Rattle.std.specs.Option.{option_or}
+use Rattle.std.proofs.lemmas.Bool.{cond-true, cond-false, cases_Bool, eqb-true, eqb-false}
+use Rattle.units.proofs.Same.{code_of_same, same_code-refl}
+use Rattle.units.specs.Apart.{Pairwise}
+use Rattle.units.specs.Code.{same_code}
+use Rattle.units.specs.Unit.{has_unit}
+use Rattle.units.specs.declared.block.Block.{Block}
+use Rattle.units.specs.declared.block.Unit.{Unit as Serial}
+use Rattle.units.specs.declared.code.Code.{Code}
+use Rattle.status.specs.declared.id.TransactionId.{TransactionId}
+use Rattle.scheme.specs.Allotted as start
+use Rattle.scheme.specs.Order.{code_rank}
+use Rattle.scheme.specs.declared.members.Allotment.{Allotment}
+use Rattle.scheme.specs.declared.members.Holder.{Holder}
+use Rattle.scheme.specs.declared.members.Member.{Member}
+use Rattle.scheme.specs.declared.registries.Scheme.{Scheme}
+use Rattle.protocol.specs.Claims.{over}
+use Rattle.protocol.specs.History.{number_of, at_start, is_with}
+use Rattle.protocol.specs.Registries.{allotted, has_member}
+use Rattle.safety.proofs.ListLemmas.CountsInLists.{NoRepeat, no_repeat_append}
+use Rattle.safety.proofs.ListLemmas.Membership.{In, In_left, In_right, In_find, In_flat_map, other_code}
+
+-- ---- sums
+
+pub over_parts : (g h k : Member → ℕ) → ((m : Member) → g m ≡ h m + k m) → (ms : List Member) → over g ms ≡ over h ms + over k ms
+over_parts g h k e [] = refl
+over_parts g h k e (m ∷ ms) = let a = e m in let b = over_parts g h k e ms in omega arith
+
+pub over_same : (g h : Member → ℕ) → ((m : Member) → g m ≡ h m) → (ms : List Member) → over g ms ≡ over h ms
+over_same g h e [] = refl
+over_same g h e (m ∷ ms) = let a = e m in let b = over_same g h e ms in omega arith
+
+-- where at each registry what is had and what is gone make up what was there and what came, so do the sums
+pub over_balance : (p : Member → Bool) (gone there came : Member → ℕ) → ((m : Member) → cond (p m) 1 0 + gone m ≡ there m + came m) → (ms : List Member)
+    → number_of p ms + over gone ms ≡ over there ms + over came ms
+over_balance p gone there came e [] = refl
+over_balance p gone there came e (m ∷ ms) = go (p m) (e m) (over_balance p gone there came e ms)
+  where
+    go : (b : Bool) → cond b 1 0 + gone m ≡ there m + came m → number_of p ms + over gone ms ≡ over there ms + over came ms
+        → cond b (suc (number_of p ms)) (number_of p ms) + (gone m + over gone ms) ≡ (there m + over there ms) + (came m + over came ms)
+    go true x y = omega arith
+    go false x y = omega arith
+
+-- a number that is one above another or the same
+pub one_above : (x y : ℕ) → y ≤ x → x ≤ y + 1 → cond (x == (y + 1)) 1 0 + y ≡ x
+one_above x y low high =
+    elim (cases_Bool (x == (y + 1))) [
+      | inl t ↦ let e = cond-true {A = ℕ} (x == (y + 1)) 1 0 t in let q = eqb-true x (y + 1) t in omega arith
+      | inr f ↦ let e = cond-false {A = ℕ} (x == (y + 1)) 1 0 f in let q = eqb-false x (y + 1) f in omega arith
+    ]
+
+pub one_or_none : (b : Bool) → cond b 1 0 ≤ 1
+one_or_none true = omega arith
+one_or_none false = omega arith
+
+pub over_least : (g : Member → ℕ) (ms : List Member) (m : Member) (k : ℕ) → In m ms → k ≤ g m → k ≤ over g ms
+over_least g [] m k i h = absurd i
+over_least g (n ∷ ms) m k (inl e) h = let a = subst (λ z. k ≤ g z) (sym e) h in omega arith
+over_least g (n ∷ ms) m k (inr i) h = let a = over_least g ms m k i h in omega arith
+
+pub over_some : (g : Member → ℕ) (ms : List Member) → 1 ≤ over g ms → (m : Member) × In m ms × (1 ≤ g m)
+over_some g [] h = absurd (omega arith)
+over_some g (m ∷ ms) h = go (g m) refl (λ k. over_some g ms k)
+  where
+    go : (k : ℕ) → g m ≡ k → (1 ≤ over g ms → (n : Member) × In n ms × (1 ≤ g n)) → (n : Member) × In n (m ∷ ms) × (1 ≤ g n)
+    go zero e rest = let r = rest (omega arith) in (r.0, inr r.1, r.2)
+    go (suc k) e rest = (m, inl refl, omega arith)
+
+-- two registries of other codes count twice
+pub over_two : (g : Member → ℕ) (ms : List Member) (m n : Member) → In m ms → In n ms → (m.code ≡ n.code → ⊥) → 1 ≤ g m → 1 ≤ g n → 2 ≤ over g ms
+over_two g [] m n i j other a b = absurd i
+over_two g (k ∷ ks) m n (inl e) (inl d) other a b = absurd (other (ap (λ (z : Member). z.code) (sym e ∙ d)))
+over_two g (k ∷ ks) m n (inl e) (inr j) other a b = let x = subst (λ z. 1 ≤ g z) (sym e) a in let y = over_least g ks n 1 j b in omega arith
+over_two g (k ∷ ks) m n (inr i) (inl d) other a b = let x = subst (λ z. 1 ≤ g z) (sym d) b in let y = over_least g ks m 1 i a in omega arith
+over_two g (k ∷ ks) m n (inr i) (inr j) other a b = let x = over_two g ks m n i j other a b in omega arith
+
+-- ---- the registries of a scheme
+
+pub some_member : (scheme : Scheme) (c : Code) → has_member scheme c ≡ true → (m : Member) × In m scheme.members × (m.code ≡ c)
+some_member scheme c h = go (find (λ (m : Member). same_code m.code c) scheme.members) refl h
+  where
+    go : (o : Option Member) → find (λ (m : Member). same_code m.code c) scheme.members ≡ o → is_some o ≡ true → (m : Member) × In m scheme.members × (m.code ≡ c)
+    go None e y = absurd (cc (y))
+    go (Some m) e y = let g = In_find (λ (n : Member). same_code n.code c) scheme.members m e in (m, g.0, code_of_same m.code c g.1)
+
+pub is_member : (scheme : Scheme) (m : Member) → In m scheme.members → has_member scheme m.code ≡ true
+is_member scheme m i = go scheme.members i
+  where
+    found : (b : Bool) (n : Member) (o : Option Member) → is_some o ≡ true → is_some (cond b (Some n) o) ≡ true
+    found true n o e = refl
+    found false n o e = e
+
+    first : (b : Bool) (n : Member) (o : Option Member) → b ≡ true → is_some (cond b (Some n) o) ≡ true
+    first true n o e = refl
+    first false n o e = absurd (cc (e))
+
+    go : (ms : List Member) → In m ms → is_some (find (λ (n : Member). same_code n.code m.code) ms) ≡ true
+    go [] h = absurd h
+    go (n ∷ ms) (inl e) = first (same_code n.code m.code) n (find (λ (k : Member). same_code k.code m.code) ms) (subst (λ (z : Member). same_code n.code z.code ≡ true) e (same_code-refl n.code))
+    go (n ∷ ms) (inr h) = found (same_code n.code m.code) n (find (λ (k : Member). same_code k.code m.code) ms) (go ms h)
+
+-- the codes rise, so they differ
+abbrev pub CodesRise : List Member → Type 0
+CodesRise ms = Pairwise (λ a b. code_rank a.code < code_rank b.code) ms
+
+pub codes_rise : (scheme : Scheme) → CodesRise scheme.members
+codes_rise scheme = scheme.sound.ordered
+
+other_member : (m : Member) (ms : List Member) → AllByRecursion (λ n. code_rank m.code < code_rank n.code) ms → (n : Member) → In n ms → m.code ≡ n.code → ⊥
+other_member m [] rise n i e = absurd i
+other_member m (k ∷ ks) rise n (inl d) e =
+    let lt = rise.0 in
+    let same : code_rank m.code ≡ code_rank k.code = ap code_rank (e ∙ sym (ap (λ (z : Member). z.code) d)) in
+    omega arith
+other_member m (k ∷ ks) rise n (inr i) e = other_member m ks rise.1 n i e
+
+-- ---- where a unit starts
+
+-- exactly one registry has a code that some registry has
+none_at : (c : Code) (ms : List Member) → ((m : Member) → In m ms → m.code ≡ c → ⊥) → over (λ m. cond (same_code c m.code) 1 0) ms ≡ 0
+none_at c [] other = refl
+none_at c (m ∷ ms) other =
+    let a = cond-false {A = ℕ} (same_code c m.code) 1 0 (other_code c m.code (λ e. other m (inl refl) (sym e))) in
+    let b = none_at c ms (λ n i. other n (inr i)) in
+    omega arith
+
+one_at : (c : Code) (ms : List Member) → CodesRise ms → (m : Member) → In m ms → c ≡ m.code → over (λ m. cond (same_code c m.code) 1 0) ms ≡ 1
+one_at c [] rise m h e = absurd h
+one_at c (n ∷ ms) rise m (inl i) e =
+    let x : c ≡ n.code = e ∙ sym (ap (λ (z : Member). z.code) i) in
+    let a = cond-true {A = ℕ} (same_code c n.code) 1 0 (subst (λ z. same_code c z ≡ true) x (same_code-refl c)) in
+    let b = none_at c ms (λ k j d. other_member n ms rise.0 k j (sym x ∙ sym d)) in
+    omega arith
+one_at c (n ∷ ms) rise m (inr i) e =
+    let a = cond-false {A = ℕ} (same_code c n.code) 1 0 (other_code c n.code (λ d. other_member n ms rise.0 m i (sym d ∙ e))) in
+    let b = one_at c ms rise.1 m i e in
+    omega arith
+
+over_none : (ms : List Member) → over (λ m. 0) ms ≡ 0
+over_none [] = refl
+over_none (m ∷ ms) = let b = over_none ms in omega arith
+
+-- who holds a unit at the start is a registry of the scheme
+allotted_code : (c : Code) (shares : List Allotment) (s : Serial) (h : Holder) → start.allotted_in c shares s ≡ Some h → h.registry ≡ c
+allotted_code c [] s h e = absurd (cc (e))
+allotted_code c (a ∷ rest) s h e = go (find (λ (b : Block). has_unit b.raw s) a.units) e (λ d. allotted_code c rest s h d)
+  where
+    go : (o : Option Block) → option_or (option_map (λ (b : Block). start.holder c a.account b.raw.kind) o) (start.allotted_in c rest s) ≡ Some h → (start.allotted_in c rest s ≡ Some h → h.registry ≡ c) → h.registry ≡ c
+    go None d older = older d
+    go (Some b) d older = let same : start.holder c a.account b.raw.kind ≡ h = cc (d) in sym (ap (λ (z : Holder). z.registry) same)
+
+holder_member : (ms : List Member) (s : Serial) (h : Holder) → start.allotted ms s ≡ Some h → (m : Member) × In m ms × (h.registry ≡ m.code)
+holder_member [] s h e = absurd (cc (e))
+holder_member (m ∷ ms) s h e = go (start.allotted_in m.code m.allotted s) refl e (λ d. holder_member ms s h d)
+  where
+    go : (o : Option Holder) → start.allotted_in m.code m.allotted s ≡ o → option_or o (start.allotted ms s) ≡ Some h → (start.allotted ms s ≡ Some h → (n : Member) × In n ms × (h.registry ≡ n.code))
+        → (n : Member) × In n (m ∷ ms) × (h.registry ≡ n.code)
+    go None d f older = let r = older f in (r.0, inr r.1, r.2)
+    go (Some k) d f older = (m, inl refl, allotted_code m.code m.allotted s h (d ∙ f))
+
+-- an allotted unit starts at one registry, another unit at none
+pub over_start : (scheme : Scheme) (s : Serial) → over (λ m. at_start scheme m.code s) scheme.members ≡ cond (is_some (allotted scheme s)) 1 0
+over_start scheme s = go (allotted scheme s) refl
+  where
+    go : (o : Option Holder) → allotted scheme s ≡ o → over (λ m. cond (is_with m.code o) 1 0) scheme.members ≡ cond (is_some o) 1 0
+    go None e = over_none scheme.members
+    go (Some h) e = let m = holder_member scheme.members s h e in one_at h.registry scheme.members (codes_rise scheme) m.0 m.1 m.2
+
+-- where a unit starts, a registry of the scheme is
+pub start_member : (scheme : Scheme) (c : Code) (s : Serial) → at_start scheme c s ≡ 1 → has_member scheme c ≡ true
+start_member scheme c s h = go (allotted scheme s) refl (here (is_with c (allotted scheme s)) h)
+  where
+    here : (b : Bool) → cond {A = ℕ} b 1 0 ≡ 1 → b ≡ true
+    here true e = refl
+    here false e = absurd (omega arith)
+
+    go : (o : Option Holder) → allotted scheme s ≡ o → is_with c o ≡ true → has_member scheme c ≡ true
+    go None e y = absurd (cc (y))
+    go (Some k) e y =
+        let m = holder_member scheme.members s k e in
+        subst (λ z. has_member scheme z ≡ true) (sym m.2 ∙ code_of_same k.registry c y) (is_member scheme m.0 m.1)
+
+-- ---- lists of identifiers, registry by registry
+
+pub In_flat : (g : Member → List TransactionId) (ms : List Member) (m : Member) (t : TransactionId) → In m ms → In t (g m) → In t (flat_map g ms)
+In_flat g [] m t i h = absurd i
+In_flat g (n ∷ ms) m t (inl e) h = In_left t (g n) (flat_map g ms) (subst (λ z. In t (g z)) (sym e) h)
+In_flat g (n ∷ ms) m t (inr i) h = In_right t (g n) (flat_map g ms) (In_flat g ms m t i h)
+
+pub length_flat : (g : Member → List TransactionId) (ms : List Member) → length (flat_map g ms) ≡ over (λ m. length (g m)) ms
+length_flat g [] = refl
+length_flat g (m ∷ ms) = let a = length-append (g m) (flat_map g ms) in let b = length_flat g ms in omega arith
+
+-- no identifier is there twice, where none is there twice at one registry nor at two
+pub no_repeat_flat : (g : Member → List TransactionId) → ((m : Member) → NoRepeat (g m)) → ((m n : Member) (t : TransactionId) → In t (g m) → In t (g n) → m.code ≡ n.code) → (ms : List Member) → CodesRise ms
+    → NoRepeat (flat_map g ms)
+no_repeat_flat g one same [] rise = tt
+no_repeat_flat g one same (m ∷ ms) rise =
+    no_repeat_append (g m) (flat_map g ms) (one m) (no_repeat_flat g one same ms rise.1) (λ t i j. let k = In_flat_map g t ms j in other_member m ms rise.0 k.0 k.1 (same m k.0 t i k.2))

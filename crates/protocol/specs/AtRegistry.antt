@@ -132,25 +132,16 @@ abbrev pub open_refusals : Scheme → Code → List Entry → ℕ → Causes
 open_refusals scheme c es account = (not (has_account scheme c account), 110) ∷ (not (is_closed es account), 111) ∷ []
 
 -- the units that were ever in play: those allotted, and those of transfers
-abbrev pub pieces_in : Option Content → List Piece
-pieces_in k = option_map_or (λ content. pieces content.units) k []
-
 abbrev pub seen : Scheme → List Transition → List Piece
-seen scheme xs = pieces (raws (all_blocks scheme.members)) ++ flat_map (λ x. pieces_in x.content) xs
-
-abbrev pub is_at : Option Place → ℕ → Bool
-is_at q account = option_map_or (λ at. at.account == account) q false
+seen scheme xs = pieces (raws (all_blocks scheme.members)) ++ flat_map (λ x. option_map_or (λ k. pieces k.units) x.content []) xs
 
 -- the account holds units
 abbrev pub is_used : Scheme → Code → List Transition → ℕ → Bool
-is_used scheme c xs account = list_any (λ p. holds scheme c xs p.unit && is_at (place scheme c xs p.unit) account) (seen scheme xs)
-
-abbrev pub goes_to : Option Content → ℕ → Bool
-goes_to k account = option_map_or (λ content. content.to_account == account) k false
+is_used scheme c xs account = list_any (λ p. holds scheme c xs p.unit && option_map_or (λ q. q.account == account) (place scheme c xs p.unit) false) (seen scheme xs)
 
 -- a transfer into the account stands Accepted
 abbrev pub is_awaited : Code → List Transition → ℕ → Bool
-is_awaited c xs account = list_any (λ x. not (same_code x.id.code c) && (stands_at xs x.id Accepted && goes_to x.content account)) xs
+is_awaited c xs account = list_any (λ x. not (same_code x.id.code c) && (stands_at xs x.id Accepted && option_map_or (λ k. k.to_account == account) x.content false)) xs
 
 abbrev pub close_refusals : Scheme → Code → List Entry → ℕ → Causes
 close_refusals scheme c es account =

@@ -22,7 +22,7 @@ use Rattle.wire.specs.declared.message.Message.{Message}
 use Rattle.scheme.specs.declared.members.Holder.{Holder}
 use Rattle.scheme.specs.declared.registries.Scheme.{Scheme}
 use Rattle.units.specs.Unit.{have_unit}
-use Rattle.protocol.specs.Registries.{member, allotted, begins_eligible}
+use Rattle.protocol.specs.Registries.{member, allotted}
 
 -- how many of them pass the test
 abbrev pub number_of : {X : Type 0} → (X → Bool) → List X → ℕ
@@ -175,5 +175,5 @@ allows c _ = None
 
 -- eligible as the last order for it says, else as the scheme says
 abbrev pub is_eligible : Scheme → List Entry → Code → Bool
-is_eligible scheme [] c = begins_eligible (member scheme c)
+is_eligible scheme [] c = option_map_or (λ m. m.eligible) (member scheme c) false
 is_eligible scheme (e ∷ es) c = unwrap_or (allows c e.input) (is_eligible scheme es c)

@@ -36,12 +36,6 @@ lists_account registry account = option_map_or (λ m. order.has_account m accoun
 abbrev pub has_account : Scheme → Code → ℕ → Bool
 has_account scheme c account = lists_account (member scheme c) account
 
-abbrev pub lists_kind : Option Member → Kind → Bool
-lists_kind registry kind = option_map_or (λ m. list_any (λ k. same_kind k kind) m.kinds) registry false
-
 -- the registry takes units of the kind
 abbrev pub takes_kind : Scheme → Code → Kind → Bool
-takes_kind scheme c kind = lists_kind (member scheme c) kind
-
-abbrev pub begins_eligible : Option Member → Bool
-begins_eligible registry = option_map_or (λ m. m.eligible) registry false
+takes_kind scheme c kind = option_map_or (λ m. list_any (λ k. same_kind k kind) m.kinds) (member scheme c) false

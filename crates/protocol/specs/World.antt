@@ -1,5 +1,5 @@
 -- The world: every node's committed journal, tail and running flag, and all messages ever posted.
-use Rattle.std.specs.Prelude.{ℕ, ◌==◌, ◌&&◌, cond, nat_le, Bool, true, false, List, [], ◌∷◌, ◌++◌, take, drop, length, map, find, slice_get, Option, Some, None, option_and_then}
+use Rattle.std.specs.Prelude.{ℕ, ◌==◌, ◌&&◌, not, cond, nat_le, Bool, true, false, List, [], ◌∷◌, ◌++◌, take, drop, length, map, find, slice_get, Option, Some, None, option_and_then}
 use Rattle.std.specs.List.{list_any, fold}
 use Rattle.units.specs.Code.{same_node}
 use Rattle.units.specs.declared.code.Node.{Node}
@@ -131,22 +131,20 @@ at_node w (Some s) f = record { world = put w (f s).station; outcome = (f s).out
 abbrev pub was_posted : World → Node → ℕ → Bool
 was_posted w n key = list_any (λ p. same_node p.node n && (p.key == key)) w.bag
 
+abbrev pub is_registry : Node → Bool
+is_registry Itl = false
+is_registry (Registry c) = true
+
 -- an input that this kind of node takes as an order, or the acknowledgement of a message that it posted
 abbrev pub is_order : World → Node → Input → Bool
-is_order w node (Ack key) = was_posted w node key.value
-is_order w (Registry c) (Propose o) = true
-is_order w (Registry c) (Request t) = true
-is_order w (Registry c) (OpenAccount n) = true
-is_order w (Registry c) (CloseAccount n) = true
-is_order w (Registry c) (CleanUp t) = false
-is_order w (Registry c) (Eligible d may) = false
-is_order w Itl (Propose o) = false
-is_order w Itl (Request t) = false
-is_order w Itl (OpenAccount n) = false
-is_order w Itl (CloseAccount n) = false
-is_order w Itl (CleanUp t) = true
-is_order w Itl (Eligible c may) = true
-is_order w node (Received m moment) = false
+is_order w n (Propose o) = is_registry n
+is_order w n (Request t) = is_registry n
+is_order w n (OpenAccount account) = is_registry n
+is_order w n (CloseAccount account) = is_registry n
+is_order w n (CleanUp t) = not (is_registry n)
+is_order w n (Eligible c may) = not (is_registry n)
+is_order w n (Ack key) = was_posted w n key.value
+is_order w n (Received m moment) = false
 
 -- a message goes into the bag
 abbrev pub posted : World → Node → ℕ → Option Message → Stepped

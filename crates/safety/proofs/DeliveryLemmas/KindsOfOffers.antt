@@ -1,4 +1,6 @@
 -- A unit keeps the kind that it was allotted with: what a registry offers has each unit once, and of that kind.
+-- The log only passes on offers without units of another kind, so what a registry takes in has the right kinds. What it holds was
+-- allotted to it or taken in, and an offer is the canonical form of units that are held.
 use Rattle.std.proofs.Common.{◌≡◌, ℕ, List, [], ◌∷◌, true, false, not, Option, Some, None, inl, inr, refl, sym, ap, subst, ◌∙◌}
 use Rattle.std.specs.Prelude.{◌&&◌, ◌==◌, find, option_map}
 use Rattle.std.proofs.lemmas.Bool.{and_parts, not-false, cond-true, cond-false, cases_Bool, eq-eqb}

@@ -1,4 +1,6 @@
--- Counting in lists: how many pass a test, and that lists without repeats and with the same members are equally long.
+-- Counting in lists: how many elements pass a test, and lists without repeats.
+-- The main lemmas compare lengths: a list without repeats whose members are all in another list is no longer than it (`no_longer`), and
+-- two such lists with the same members are equally long (`same_length`). Other files compare numbers of transfers in this way.
 use Rattle.std.proofs.Common.{◌≡◌, ℕ, suc, ◌+◌, ◌≤◌, List, [], ◌∷◌, ◌++◌, Bool, true, false, not, cond, inl, inr, refl, sym, ap, subst, ◌∙◌, arith, length, length-append}
 use Rattle.std.specs.Prelude.{◌&&◌, ◌||◌}
 use Rattle.std.specs.List.{list_any}

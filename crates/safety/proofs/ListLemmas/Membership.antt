@@ -129,6 +129,3 @@ status_at_index Completed = refl
 
 pub status_of_same : (a b : Status) → same_status a b ≡ true → a ≡ b
 status_of_same a b e = sym (status_at_index a) ∙ ap status_at (eqb-true (status_index a) (status_index b) e) ∙ status_at_index b
-
-pub same_status_refl : (a : Status) → same_status a a ≡ true
-same_status_refl a = eq-eqb (status_index a) (status_index a) refl

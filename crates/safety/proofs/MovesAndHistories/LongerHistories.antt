@@ -1,4 +1,6 @@
--- Histories that go on with more inputs.
+-- Histories that get longer by more inputs of the journal.
+-- The entries of a longer journal stand in front of the older entries, and nothing that was sent or received before is lost.
+-- With one input more, a received message is that input or was received before.
 use Rattle.std.proofs.Common.{◌≡◌, List, [], ◌∷◌, ◌++◌, ◌⊎◌, inl, inr, refl, sym, subst, ◌∙◌, append_assoc}
 use Rattle.units.specs.declared.code.Node.{Node}
 use Rattle.status.specs.declared.moment.Moment.{Moment}

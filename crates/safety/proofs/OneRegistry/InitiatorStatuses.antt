@@ -1,4 +1,5 @@
 -- The statuses of a transfer at its initiator: it never stands Checked or Accepted there.
+-- The initiator's table has no row to these two statuses, and an induction over the moves of a registry carries this to the whole history.
 use Rattle.std.proofs.Common.{◌≡◌, List, true, inl, inr, sym, subst}
 use Rattle.units.specs.Code.{same_code}
 use Rattle.units.specs.declared.code.Code.{Code}

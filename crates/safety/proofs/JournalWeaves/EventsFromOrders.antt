@@ -23,9 +23,9 @@ use Rattle.protocol.specs.World.{World, Station, opening, run, station, sender, 
 use Rattle.protocol.specs.declared.event.Posted.{Posted}
 use Rattle.protocol.specs.declared.event.WorldEvent.{WorldEvent}
 use Rattle.protocol.specs.declared.event.WorldEvent.TheVariants.{Take, Commit, Post, Deliver}
-use Rattle.safety.proofs.ListLemmas.CountsInLists.{list_any_in}
-use Rattle.safety.proofs.ListLemmas.Membership.{In_right}
-use Rattle.safety.proofs.ListLemmas.Positions.{In_contains, some_at}
+use Rattle.lemmas.proofs.SomePass.{list_any_in}
+use Rattle.lemmas.proofs.Membership.{In_right}
+use Rattle.lemmas.proofs.Positions.{In_contains, some_at}
 use Rattle.safety.proofs.WorldLemmas.QuietWorlds.{Quiet, there, Grown, record_on, bag_on, take_step, post_step, delivers, opening_quiet, quiet_after, run_append}
 use Rattle.safety.proofs.WorldLemmas.ReachedWorlds.{reached, reached_scheme}
 use Rattle.safety.proofs.WorldLemmas.SoundWorlds.{none_committed}

@@ -16,8 +16,8 @@ use Rattle.protocol.specs.Verdict.{verdict, history}
 use Rattle.protocol.specs.Weave.{Placed, journals_of, WasSent, InTurn, ArePrefixes, HasNext}
 use Rattle.protocol.specs.World.{sender}
 use Rattle.safety.proofs.MovesAndHistories.LongerHistories.{sends_append}
-use Rattle.safety.proofs.ListLemmas.Membership.{In}
-use Rattle.safety.proofs.ListLemmas.Positions.{In_contains, contains_in, left_empty}
+use Rattle.lemmas.proofs.Membership.{In}
+use Rattle.lemmas.proofs.Positions.{In_contains, contains_in, left_empty}
 
 -- ---- one more record
 

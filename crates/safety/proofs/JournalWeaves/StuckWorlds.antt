@@ -21,10 +21,10 @@ use Rattle.protocol.specs.declared.event.Outcome.TheVariants.{Recorded, NotPossi
 use Rattle.protocol.specs.declared.event.Posted.{Posted}
 use Rattle.protocol.specs.declared.event.WorldEvent.{WorldEvent}
 use Rattle.protocol.specs.declared.event.WorldEvent.TheVariants.{Take, Deliver}
-use Rattle.safety.proofs.ListLemmas.CountsInLists.{list_any_in}
+use Rattle.lemmas.proofs.SomePass.{list_any_in}
 use Rattle.safety.proofs.JournalWeaves.EventsFromOrders.{ack_below}
 use Rattle.safety.proofs.JournalWeaves.OrdersFromEvents.{always_next}
-use Rattle.safety.proofs.ListLemmas.Positions.{In_contains, place_of, some_at}
+use Rattle.lemmas.proofs.Positions.{In_contains, place_of, some_at}
 use Rattle.safety.proofs.WorldLemmas.QuietWorlds.{takes}
 use Rattle.safety.proofs.WorldLemmas.StationsAfterPut.{found_at_node}
 

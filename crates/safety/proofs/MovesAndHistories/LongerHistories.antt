@@ -11,7 +11,7 @@ use Rattle.scheme.specs.declared.registries.Scheme.{Scheme}
 use Rattle.protocol.specs.History.{Transition, Entry, transitions_of, sends, messages_of}
 use Rattle.protocol.specs.Verdict.{verdict, extend, history_from, history, made}
 use Rattle.safety.proofs.MovesAndHistories.NewestTransitions.{Made, Got}
-use Rattle.safety.proofs.ListLemmas.Membership.{In, In_left}
+use Rattle.lemmas.proofs.Membership.{In, In_left}
 
 pub history_from_append : (scheme : Scheme) (n : Node) (es : List Entry) (xs ys : List Input) → history_from scheme n es (xs ++ ys) ≡ history_from scheme n (history_from scheme n es xs) ys
 history_from_append scheme n es [] ys = refl

@@ -36,12 +36,15 @@ use Rattle.protocol.specs.History.{Transition, Entry, transitions_of, newest, nu
 use Rattle.protocol.specs.AtRegistry.{content_of}
 use Rattle.protocol.specs.AtLog.{is_no_registry, is_from_another}
 use Rattle.safety.proofs.MovesAndHistories.TransitionForms.{arrived_status, settled_messages, checked_status}
-use Rattle.safety.proofs.ListLemmas.CountsInLists.{list_any_not, number_none, count_no, count_yes}
+use Rattle.lemmas.proofs.SomePass.{list_any_not}
+use Rattle.safety.proofs.ListLemmas.CountsInLists.{number_none, count_no, count_yes}
 use Rattle.safety.proofs.MovesAndHistories.NewestTransitions.{Made, Got, Heard, Offered, heard_later, offered_later, made_registry, made_log, newest_append, newest_id, newest_in, one_notice, one_proposal}
 use Rattle.safety.proofs.OneRegistry.UnitsCountedOnce.{made_single, Single}
-use Rattle.safety.proofs.ListLemmas.Membership.{In, In_cases, In_flat_map, In_left, In_right, id_of_same, same_id_refl, status_of_same, one_some, clash}
+use Rattle.lemmas.proofs.Membership.{In, In_cases, In_flat_map, In_left, In_right}
+use Rattle.lemmas.proofs.OneValue.{one_some, clash}
+use Rattle.safety.proofs.ListLemmas.TestsOfSameness.{id_of_same, same_id_refl, status_of_same}
 use Rattle.safety.proofs.MovesAndHistories.TableMoves.{RegistryMove, proposes, asks, arrives, bares, settles, finishes, LogMove, checks, passes, cancels, forestalls}
-use Rattle.safety.proofs.ListLemmas.Positions.{In_contains}
+use Rattle.lemmas.proofs.Positions.{In_contains}
 use Rattle.safety.proofs.MovesAndHistories.TableRows.{initiator_from, acquirer_from, log_from}
 use Rattle.safety.proofs.OneRegistry.RegistryHearings.{arrived_notice_status}
 

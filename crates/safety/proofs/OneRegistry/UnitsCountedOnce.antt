@@ -39,9 +39,12 @@ use Rattle.protocol.specs.Claims.{CountedOnce}
 use Rattle.protocol.specs.Verdict.{verdict, made as made_of}
 use Rattle.safety.proofs.MovesAndHistories.TransitionForms.{proposed, asking, arrived, arrived_status, settled_messages, bare, moved}
 use Rattle.safety.proofs.ListLemmas.CanonicalBlocks.{canonical_piece}
-use Rattle.safety.proofs.ListLemmas.CountsInLists.{list_any_none, list_any_in, count_no, count_yes}
+use Rattle.lemmas.proofs.SomePass.{list_any_none, list_any_in}
+use Rattle.safety.proofs.ListLemmas.CountsInLists.{count_no, count_yes}
 use Rattle.safety.proofs.MovesAndHistories.NewestTransitions.{Made, made_registry, newest_id}
-use Rattle.safety.proofs.ListLemmas.Membership.{In, id_of_same, same_id_refl, clash}
+use Rattle.lemmas.proofs.Membership.{In}
+use Rattle.lemmas.proofs.OneValue.{clash}
+use Rattle.safety.proofs.ListLemmas.TestsOfSameness.{id_of_same, same_id_refl}
 use Rattle.safety.proofs.MovesAndHistories.TableMoves.{RegistryMove, proposes, asks, arrives, bares, settles, finishes}
 use Rattle.safety.proofs.MovesAndHistories.TableRows.{word_to, initiator_from, acquirer_from}
 use Rattle.safety.proofs.ListLemmas.UnitsOfBlocks.{piece_of}

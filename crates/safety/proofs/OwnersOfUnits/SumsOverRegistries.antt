@@ -23,8 +23,9 @@ use Rattle.scheme.specs.declared.registries.Scheme.{Scheme}
 use Rattle.protocol.specs.Claims.{over}
 use Rattle.protocol.specs.History.{number_of, at_start, is_with}
 use Rattle.protocol.specs.Registries.{allotted, has_member}
-use Rattle.safety.proofs.ListLemmas.CountsInLists.{NoRepeat, no_repeat_append}
-use Rattle.safety.proofs.ListLemmas.Membership.{In, In_left, In_right, In_find, In_flat_map, other_code}
+use Rattle.lemmas.proofs.NoRepeats.{NoRepeat, no_repeat_append}
+use Rattle.lemmas.proofs.Membership.{In, In_left, In_right, In_find, In_flat_map}
+use Rattle.safety.proofs.ListLemmas.TestsOfSameness.{other_code}
 
 -- ---- sums
 

@@ -23,7 +23,8 @@ use Rattle.protocol.specs.World.{World, receiver, run, sender, station}
 use Rattle.protocol.specs.declared.event.WorldEvent.{WorldEvent}
 use Rattle.protocol.specs.declared.event.WorldEvent.TheVariants.{Commit, Deliver, Post}
 use Rattle.safety.proofs.MovesAndHistories.LongerHistories.{history_from_append}
-use Rattle.safety.proofs.ListLemmas.Membership.{In, same_id_refl}
+use Rattle.lemmas.proofs.Membership.{In}
+use Rattle.safety.proofs.ListLemmas.TestsOfSameness.{same_id_refl}
 use Rattle.safety.proofs.WorldLemmas.QuietWorlds.{Grown, Quiet, delivers, quiet_after}
 use Rattle.safety.proofs.WorldLemmas.SchemesKept.{run_scheme}
 

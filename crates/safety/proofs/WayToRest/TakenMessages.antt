@@ -40,7 +40,7 @@ use Rattle.protocol.specs.Verdict.{verdict}
 use Rattle.protocol.specs.World.{World, receiver, sender}
 use Rattle.safety.proofs.MovesAndHistories.TransitionForms.{arrived, settled_messages, checked, told_to, moved}
 use Rattle.safety.proofs.AgreementOfNodes.CausalHistories.{Causal}
-use Rattle.safety.proofs.ListLemmas.Membership.{In}
+use Rattle.lemmas.proofs.Membership.{In}
 use Rattle.safety.proofs.WorldLemmas.NodesWithStation.{committed_unplaced}
 use Rattle.safety.proofs.MovesAndHistories.RefusalCauses.{Welcome}
 use Rattle.safety.proofs.WayToRest.SendingMessages.{Calm}

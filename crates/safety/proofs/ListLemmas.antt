@@ -1,6 +1,5 @@
--- Lists and blocks: membership, positions, counts, and the units of blocks.
-pub mod Membership
-pub mod Positions
+-- Lists and blocks: tests of sameness, counts, and the units of blocks. What is general is in the crate `lemmas`.
+pub mod TestsOfSameness
 pub mod CountsInLists
 pub mod UnitsOfBlocks
 pub mod CanonicalBlocks

@@ -1,4 +1,8 @@
--- Histories whose received messages were all sent agree.
+-- Histories whose received messages were all sent agree: where one node stands Completed, no node stands Rejected, Terminated or Cancelled.
+-- `Causal` says that each node's history was made by its verdicts, and that what it received was sent. No events appear here.
+-- A status at a registry has a cause (`told`), the cause was sent by the log, and the log stands by what it sent (`log_said`). So a
+-- Completed anywhere puts the log at Accepted or Completed, and any other end anywhere puts it elsewhere. A Rejected at the acquirer is
+-- refuted by the Accepted that the same acquirer sent.
 use Rattle.std.proofs.Common.{◌≡◌, List, true, false, Option, Some, None, ◌⊎◌, inl, inr, refl, sym, ap, subst, ◌∙◌}
 use Rattle.std.proofs.lemmas.Bool.{cases_Bool}
 use Rattle.units.specs.Code.{same_code}
@@ -16,7 +20,8 @@ use Rattle.protocol.specs.Claims.{Agrees, StandsAt}
 use Rattle.protocol.specs.History.{Transition, Entry, transitions_of, newest, sends}
 use Rattle.protocol.specs.World.{sender}
 use Rattle.safety.proofs.MovesAndHistories.NewestTransitions.{Made, Got, Heard, newest_stands}
-use Rattle.safety.proofs.ListLemmas.Membership.{In, one_some}
+use Rattle.lemmas.proofs.Membership.{In}
+use Rattle.lemmas.proofs.OneValue.{one_some}
 use Rattle.safety.proofs.OneLog.LogHearings.{IsAgreed, log_backed, IsPast, log_sent, log_offered}
 use Rattle.safety.proofs.MovesAndHistories.TableRows.{word_to}
 use Rattle.safety.proofs.OneRegistry.RegistryHearings.{Cause, OwnCause, told_own, told, IsTaken, accepted_sent}

@@ -1,4 +1,7 @@
 -- What the completions of transfers at their two registries have to do with one another.
+-- An acquirer completes when the log tells it so, the log completed then, and the log completes when the initiator tells it so (`log_completed`,
+-- `initiator_completed`). The offers say in the same way that the content is the same at all three nodes (`transfer`).
+-- At one registry no transaction is completed twice, so that completions can be counted by transaction.
 use Rattle.std.proofs.Common.{◌≡◌, List, ◌∷◌, Bool, true, false, not, cond, Option, Some, None, option_map, inl, inr, refl, sym, ap, subst, ◌∙◌}
 use Rattle.std.specs.Prelude.{◌&&◌}
 use Rattle.std.proofs.lemmas.Bool.{and_parts, and_from, not-true}
@@ -21,10 +24,13 @@ use Rattle.protocol.specs.AtLog.{is_no_registry}
 use Rattle.protocol.specs.Claims.{at_registry}
 use Rattle.protocol.specs.History.{Transition, Entry, transitions_of, newest, stands, sends, is_status, carries, gives, credits}
 use Rattle.safety.proofs.AgreementOfNodes.CausalHistories.{Causal, heard_sent, log_said}
-use Rattle.safety.proofs.ListLemmas.CountsInLists.{NoRepeat, picked, In_picked}
+use Rattle.lemmas.proofs.NoRepeats.{NoRepeat}
+use Rattle.safety.proofs.ListLemmas.CountsInLists.{picked, In_picked}
 use Rattle.safety.proofs.OneRegistry.TransactionEnds.{each_move, ends_last, ends_once, offered, completed_sent, known, proposer, proposer_of}
 use Rattle.safety.proofs.MovesAndHistories.NewestTransitions.{Made, Offered}
-use Rattle.safety.proofs.ListLemmas.Membership.{In, status_of_same, one_some}
+use Rattle.lemmas.proofs.Membership.{In}
+use Rattle.lemmas.proofs.OneValue.{one_some}
+use Rattle.safety.proofs.ListLemmas.TestsOfSameness.{status_of_same}
 use Rattle.safety.proofs.MovesAndHistories.TableMoves.{RegistryMove}
 use Rattle.safety.proofs.OneLog.LogHearings.{log_offered}
 use Rattle.safety.proofs.OneRegistry.RegistryHearings.{Cause, told}

@@ -1,4 +1,6 @@
--- Of a transfer that the log knows, what its initiator recorded.
+-- What the initiator of a transfer recorded, given that the log knows the transfer.
+-- The log heard a proposal of the transfer, the proposal was sent, and who sends a proposal has recorded it with the same content for good.
+-- So the initiator has a newest transition of the transfer, and its content is the one at the log.
 use Rattle.protocol.specs.Claims.{at_registry}
 use Rattle.std.proofs.Common.{◌≡◌, List, [], ◌∷◌, true, false, Some, inl, inr, refl, sym, ap, subst, ◌∙◌}
 use Rattle.units.proofs.Same.{same_code-refl}
@@ -17,7 +19,8 @@ use Rattle.safety.proofs.OneRegistry.TransactionEnds.{ends_last, own_contents, c
 use Rattle.safety.proofs.OneRegistry.RegistrySendings.{asked_known}
 use Rattle.safety.proofs.OneLog.OwnersInLog.{IsBusy, log_live}
 use Rattle.safety.proofs.MovesAndHistories.NewestTransitions.{Made, made_log, newest_id, newest_append, newest_in}
-use Rattle.safety.proofs.ListLemmas.Membership.{In, In_cases, one_some}
+use Rattle.lemmas.proofs.Membership.{In, In_cases}
+use Rattle.lemmas.proofs.OneValue.{one_some}
 use Rattle.safety.proofs.MovesAndHistories.TableMoves.{newest_some}
 use Rattle.safety.proofs.OneLog.LogHearings.{log_pair, log_keeps_content}
 

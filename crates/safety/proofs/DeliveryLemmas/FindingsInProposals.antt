@@ -1,6 +1,10 @@
 -- The log finds nothing in a proposal that was sent, but that a registry is not eligible.
+-- As long as the log does not know the proposal, its initiator has had no answer, and so the transfer still waits there and its units are held.
+-- Each of the other six findings is then refuted: the acquirer is a registry of the scheme, the units are allotted, they are the initiator's in
+-- the log's book (`HoldersInLog`), each is there once and of its kind (`KindsOfOffers`), and none is under way. A unit that is under way by another transfer would
+-- have a second owner, or wait twice at one registry.
 use Rattle.units.specs.Unit.{have_unit}
-use Rattle.std.proofs.Common.{◌≡◌, ℕ, ◌+◌, List, [], ◌∷◌, Bool, true, false, not, cond, Option, Some, None, ◌⊎◌, inl, inr, refl, sym, ap, subst, ◌∙◌, arith}
+use Rattle.std.proofs.Common.{◌≡◌, ℕ, ◌+◌, List, [], ◌∷◌, Bool, true, false, not, Option, Some, None, ◌⊎◌, inl, inr, refl, sym, ap, subst, ◌∙◌, arith}
 use Rattle.std.specs.Prelude.{◌&&◌, ◌||◌, is_some, is_none, filter}
 use Rattle.std.specs.List.{list_any}
 use Rattle.std.proofs.lemmas.Bool.{cases_Bool, and_parts, or_cases, or_from, not_from_true, eq-eqb}
@@ -29,14 +33,16 @@ use Rattle.safety.proofs.AgreementOfNodes.InitiatorRecords.{Begun, begun, log_on
 use Rattle.safety.proofs.OwnersOfUnits.HoldersInLog.{holder_is_owner}
 use Rattle.safety.proofs.AgreementOfNodes.CausalHistories.{Causal, log_said}
 use Rattle.safety.proofs.AgreementOfNodes.CompletionsAgree.{stood, log_completed}
-use Rattle.safety.proofs.ListLemmas.CountsInLists.{list_any_not}
+use Rattle.lemmas.proofs.SomePass.{list_any_not}
 use Rattle.safety.proofs.OneRegistry.TransactionEnds.{offered, own_contents}
 use Rattle.safety.proofs.OneLog.LogSendings.{is_of_other_kind}
 use Rattle.safety.proofs.MovesAndHistories.NewestTransitions.{newest_id}
 use Rattle.safety.proofs.DeliveryLemmas.KindsOfOffers.{sound_offer}
 use Rattle.safety.proofs.OneRegistry.UnitsCountedOnce.{Waits, local_history}
 use Rattle.safety.proofs.OneLog.OwnersInLog.{IsBusy}
-use Rattle.safety.proofs.ListLemmas.Membership.{In, codes_differ, other_code, one_some, clash, In_map, In_filter}
+use Rattle.lemmas.proofs.Membership.{In, In_map, In_filter}
+use Rattle.lemmas.proofs.OneValue.{one_some, clash}
+use Rattle.safety.proofs.ListLemmas.TestsOfSameness.{codes_differ, other_code}
 use Rattle.safety.proofs.OwnersOfUnits.UnitsWithOneOwner.{held_or_owed, one_owner, causal_one_owner}
 use Rattle.safety.proofs.OneRegistry.InitiatorStatuses.{IsOwnStatus, own_statuses}
 use Rattle.safety.proofs.MovesAndHistories.TableRows.{word_to}

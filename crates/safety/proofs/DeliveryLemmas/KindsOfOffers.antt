@@ -1,4 +1,6 @@
 -- A unit keeps the kind that it was allotted with: what a registry offers has each unit once, and of that kind.
+-- The log only passes on offers without units of another kind, so what a registry takes in has the right kinds. What it holds was
+-- allotted to it or taken in, and an offer is the canonical form of units that are held.
 use Rattle.std.proofs.Common.{◌≡◌, ℕ, List, [], ◌∷◌, true, false, not, Option, Some, None, inl, inr, refl, sym, ap, subst, ◌∙◌}
 use Rattle.std.specs.Prelude.{◌&&◌, ◌==◌, find, option_map}
 use Rattle.std.proofs.lemmas.Bool.{and_parts, not-false, cond-true, cond-false, cases_Bool, eq-eqb}
@@ -26,11 +28,12 @@ use Rattle.protocol.specs.Registries.{allotted}
 use Rattle.safety.proofs.ListLemmas.CanonicalBlocks.{canonical_no_repeats, canonical_from}
 use Rattle.safety.proofs.AgreementOfNodes.CausalHistories.{Causal}
 use Rattle.safety.proofs.AgreementOfNodes.CompletionsAgree.{credited, offered_sent}
-use Rattle.safety.proofs.ListLemmas.CountsInLists.{list_any_none}
+use Rattle.lemmas.proofs.SomePass.{list_any_none}
 use Rattle.safety.proofs.OneRegistry.TransactionEnds.{ends_last, known, settled_offers}
 use Rattle.safety.proofs.OneLog.LogSendings.{is_of_other_kind, passed_on}
 use Rattle.safety.proofs.MovesAndHistories.NewestTransitions.{Made, Offered, offered_later, made_registry, one_proposal}
-use Rattle.safety.proofs.ListLemmas.Membership.{In, In_cases, In_left, In_right, In_find, In_flat_map, one_some}
+use Rattle.lemmas.proofs.Membership.{In, In_cases, In_left, In_right, In_find, In_flat_map}
+use Rattle.lemmas.proofs.OneValue.{one_some}
 use Rattle.safety.proofs.MovesAndHistories.TableMoves.{RegistryMove, proposes, asks, arrives, bares, settles, finishes}
 use Rattle.safety.proofs.ListLemmas.UnitsOfBlocks.{piece_of_block}
 

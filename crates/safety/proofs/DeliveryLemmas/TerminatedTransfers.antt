@@ -1,4 +1,7 @@
 -- Where the log tells a registry Terminated, it found eligibility alone, over every list of events.
+-- One input makes the log say so only if it checks a proposal, and `FindingsInProposals` says what it finds. A notification that the log sent
+-- stays among what it sent, but what it looked at may have changed since. So the claim is carried along the events as an invariant of the log's live
+-- journal: an event leaves that journal as it is, cuts it off, or adds one input to it.
 use Rattle.std.proofs.Common.{◌≡◌, ℕ, List, [], ◌∷◌, ◌++◌, Bool, true, false, cond, Option, Some, None, ◌⊎◌, inl, inr, refl, sym, ap, subst, ◌∙◌, append_assoc, append-nil, take, drop, length, take-append-drop}
 use Rattle.std.specs.Prelude.{nat_le, option_and_then, slice_get}
 use Rattle.std.proofs.lemmas.Bool.{cases_Bool}
@@ -37,10 +40,10 @@ use Rattle.safety.proofs.DeliveryLemmas.FindingsInProposals.{only_eligibility}
 use Rattle.safety.proofs.MovesAndHistories.TransitionForms.{checked_message}
 use Rattle.safety.proofs.MovesAndHistories.LongerHistories.{history_from_append, sends_append}
 use Rattle.safety.proofs.MovesAndHistories.NewestTransitions.{one_notice}
-use Rattle.safety.proofs.ListLemmas.Membership.{In, In_cases, In_flat_map, In_slice_get}
+use Rattle.lemmas.proofs.Membership.{In, In_cases, In_flat_map, In_slice_get}
 use Rattle.safety.proofs.MovesAndHistories.TableMoves.{LogMove, checks, passes, cancels, forestalls, log_moves}
 use Rattle.safety.proofs.WorldLemmas.NodesWithStation.{AllPlaced, step_placed, opening_placed, live_unplaced, take_node, commit_node, crash_node, restart_node}
-use Rattle.safety.proofs.ListLemmas.Positions.{In_contains}
+use Rattle.lemmas.proofs.Positions.{In_contains}
 use Rattle.safety.proofs.WorldLemmas.ReachedWorlds.{reached}
 use Rattle.safety.proofs.WorldLemmas.SoundWorlds.{Sound, step_sound, opening_sound, order_fair, no_journal, live_causal, live_sends}
 use Rattle.safety.proofs.WorldLemmas.StationsAfterPut.{found_at_node, at_put, at_elsewhere}

@@ -1,20 +1,21 @@
 -- What a registry sent, the log refuses only where its journal is full.
+-- A refusal has one of a few causes, each a test on the message and the history. The sender recorded what it sent, so each cause is refuted from the
+-- sender's history, and the table has a row for the message at whatever the log knows.
+-- Where the log already has an answer of the acquirer, the two answers are compared: no acquirer both accepts and rejects one transfer.
 use Rattle.protocol.specs.Checks.{log_findings}
 use Rattle.wire.specs.declared.message.Request.{Request}
-use Rattle.std.proofs.Common.{◌≡◌, ℕ, List, [], true, false, not, Option, Some, None, ◌⊎◌, inl, inr, refl, sym, ap, subst, ◌∙◌}
+use Rattle.std.proofs.Common.{◌≡◌, List, true, false, not, Some, None, ◌⊎◌, inl, inr, refl, sym, ap, subst, ◌∙◌}
 use Rattle.std.proofs.lemmas.Bool.{cases_Bool}
 use Rattle.units.proofs.Same.{code_of_same}
-use Rattle.units.specs.Code.{same_code, same_node}
+use Rattle.units.specs.Code.{same_code}
 use Rattle.units.specs.declared.code.Code.{Code}
 use Rattle.units.specs.declared.code.Node.{Node}
 use Rattle.units.specs.declared.code.Node.TheVariants.{Itl, Registry}
 use Rattle.status.specs.Content.{Content}
 use Rattle.status.specs.Rows.{log_row}
-use Rattle.status.specs.declared.id.TransactionId.{TransactionId}
 use Rattle.status.specs.declared.moment.Moment.{Moment}
 use Rattle.status.specs.declared.words.Known.TheVariants.{Stands}
-use Rattle.status.specs.declared.words.Row.{Row}
-use Rattle.status.specs.declared.words.Row.TheVariants.{Move, Repeat, Late, Refused}
+use Rattle.status.specs.declared.words.Row.TheVariants.{Refused}
 use Rattle.status.specs.declared.words.RowInput.TheVariants.{Notified}
 use Rattle.status.specs.declared.words.Status.{Status}
 use Rattle.status.specs.declared.words.Status.TheVariants.{Proposed, Checked, Accepted, Rejected, Terminated, Cancelled, Completed}
@@ -26,7 +27,6 @@ use Rattle.wire.specs.declared.message.Notification.{Notification}
 use Rattle.wire.specs.declared.message.Proposal.{Proposal}
 use Rattle.wire.specs.declared.message.ProposalStatus.{ProposalStatus}
 use Rattle.wire.specs.declared.message.ProposalStatus.TheVariants as proposal
-use Rattle.wire.specs.declared.notice.Notice.{Notice}
 use Rattle.scheme.specs.declared.registries.Scheme.{Scheme}
 use Rattle.protocol.specs.AtLog.{ledger, is_proposed, is_no_registry, is_not_acquirer, is_from_another, told, log_refusals, log_answer, log_verdict}
 use Rattle.protocol.specs.Deciding.{content_in, known}
@@ -39,10 +39,11 @@ use Rattle.safety.proofs.OneRegistry.TransactionEnds.{ends_last, offered, comple
 use Rattle.safety.proofs.OneLog.LogSendings.{passed_open, refusal, never_proposed}
 use Rattle.safety.proofs.OneRegistry.RegistrySendings.{Says, offers, answers, completes, says, rejected_sent, asks_log}
 use Rattle.safety.proofs.MovesAndHistories.NewestTransitions.{Offered, newest_id}
-use Rattle.safety.proofs.ListLemmas.Membership.{In, one_some}
+use Rattle.lemmas.proofs.Membership.{In}
+use Rattle.lemmas.proofs.OneValue.{one_some}
 use Rattle.safety.proofs.MovesAndHistories.TableRows.{known_status, status_known, log_offer_row, log_request_row}
 use Rattle.safety.proofs.WorldLemmas.NodesWithStation.{Unplaced}
-use Rattle.safety.proofs.MovesAndHistories.RefusalCauses.{welcome_row, Welcome, welcome_enters, welcome_repeat, welcome_late, welcome_refuse, right_node, known_by_newest, no_other}
+use Rattle.safety.proofs.MovesAndHistories.RefusalCauses.{welcome_row, Welcome, welcome_refuse, right_node, known_by_newest, no_other}
 use Rattle.safety.proofs.OneLog.LogHearings.{IsAgreed, log_backed}
 use Rattle.safety.proofs.OneRegistry.RegistryHearings.{IsTaken, accepted_sent}
 

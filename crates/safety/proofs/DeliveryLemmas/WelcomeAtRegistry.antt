@@ -1,5 +1,8 @@
 -- What the log sent, its addressee refuses only where its journal is full.
-use Rattle.std.proofs.Common.{◌≡◌, ℕ, List, [], ◌∷◌, true, false, not, Option, Some, None, ◌⊎◌, inl, inr, refl, sym, ap, subst, ◌∙◌}
+-- The log sends to the initiator or the acquirer of a content that it knows, so the causes about addresses are refuted by `LogSendings`.
+-- For the table, the words of the log about one transfer are compared: an addressee that has come to an end was told so before, and the log does not
+-- say two different ends. That a completed unit is not held by the acquirer follows from its one owner, which is the transfer that owes it.
+use Rattle.std.proofs.Common.{◌≡◌, ℕ, List, [], true, false, not, Option, Some, None, ◌⊎◌, inl, inr, refl, sym, ap, subst, ◌∙◌}
 use Rattle.std.specs.Prelude.{◌&&◌, option_map}
 use Rattle.std.proofs.lemmas.Bool.{and_from, and_left, and_right, or_from, not_from_true, cases_Bool}
 use Rattle.units.proofs.Same.{same_code-refl}
@@ -43,15 +46,17 @@ use Rattle.protocol.specs.World.{receiver}
 use Rattle.safety.proofs.AgreementOfNodes.InitiatorRecords.{begun, initiated}
 use Rattle.safety.proofs.AgreementOfNodes.CausalHistories.{Causal, heard_sent, log_said, past_transition}
 use Rattle.safety.proofs.AgreementOfNodes.CompletionsAgree.{log_has}
-use Rattle.safety.proofs.ListLemmas.CountsInLists.{list_any_not}
+use Rattle.lemmas.proofs.SomePass.{list_any_not}
 use Rattle.safety.proofs.OneRegistry.TransactionEnds.{known}
 use Rattle.safety.proofs.OneLog.LogSendings.{no_request, passed_on, goes, ToKnown, never_proposed}
 use Rattle.safety.proofs.MovesAndHistories.NewestTransitions.{newest_id}
-use Rattle.safety.proofs.ListLemmas.Membership.{In, codes_differ, other_code, one_some}
+use Rattle.lemmas.proofs.Membership.{In}
+use Rattle.lemmas.proofs.OneValue.{one_some}
+use Rattle.safety.proofs.ListLemmas.TestsOfSameness.{codes_differ, other_code}
 use Rattle.safety.proofs.OwnersOfUnits.UnitsWithOneOwner.{held_or_owed}
 use Rattle.safety.proofs.OneRegistry.InitiatorStatuses.{IsOwnStatus, own_statuses}
 use Rattle.safety.proofs.MovesAndHistories.TableRows.{known_status, acquirer_offer_row, unless_same}
-use Rattle.safety.proofs.MovesAndHistories.RefusalCauses.{welcome_row, Welcome, welcome_enters, welcome_repeat, welcome_late, welcome_refuse, welcome_true, welcome_false, right_node, known_by_newest, no_other}
+use Rattle.safety.proofs.MovesAndHistories.RefusalCauses.{welcome_row, Welcome, welcome_refuse, welcome_true, welcome_false, right_node, known_by_newest, no_other}
 use Rattle.safety.proofs.OneLog.LogHearings.{IsAgreed, log_backed, log_sent, log_offered}
 use Rattle.safety.proofs.MovesAndHistories.MessageSenders.{sender_sends}
 use Rattle.safety.proofs.MovesAndHistories.TableRows.{word_to}

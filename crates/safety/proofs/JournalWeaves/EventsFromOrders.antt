@@ -1,4 +1,6 @@
 -- An order of records in which each is next in its turn is gone through by some list of events.
+-- By induction over the order, the events so far lead to a quiet world with the journals so far. The next record is an order of its node, an
+-- acknowledgement or a message that was sent, and for each of them there are events that make the node record it.
 use Rattle.std.proofs.Common.{◌≡◌, ℕ, ◌<◌, List, [], ◌∷◌, ◌++◌, Bool, true, false, cond, Option, None, Some, inl, inr, refl, sym, ap, subst, ◌∙◌, length}
 use Rattle.std.specs.Prelude.{◌&&◌, ◌==◌, nat_le}
 use Rattle.std.proofs.lemmas.Bool.{cases_Bool, and_from, eq-eqb, leb-false}
@@ -21,9 +23,9 @@ use Rattle.protocol.specs.World.{World, Station, opening, run, station, sender, 
 use Rattle.protocol.specs.declared.event.Posted.{Posted}
 use Rattle.protocol.specs.declared.event.WorldEvent.{WorldEvent}
 use Rattle.protocol.specs.declared.event.WorldEvent.TheVariants.{Take, Commit, Post, Deliver}
-use Rattle.safety.proofs.ListLemmas.CountsInLists.{list_any_in}
-use Rattle.safety.proofs.ListLemmas.Membership.{In_right}
-use Rattle.safety.proofs.ListLemmas.Positions.{In_contains, some_at}
+use Rattle.lemmas.proofs.SomePass.{list_any_in}
+use Rattle.lemmas.proofs.Membership.{In_right}
+use Rattle.lemmas.proofs.Positions.{In_contains, some_at}
 use Rattle.safety.proofs.WorldLemmas.QuietWorlds.{Quiet, there, Grown, record_on, bag_on, take_step, post_step, delivers, opening_quiet, quiet_after, run_append}
 use Rattle.safety.proofs.WorldLemmas.ReachedWorlds.{reached, reached_scheme}
 use Rattle.safety.proofs.WorldLemmas.SoundWorlds.{none_committed}

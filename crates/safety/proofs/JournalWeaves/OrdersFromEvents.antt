@@ -1,4 +1,7 @@
 -- What events lead to has an order of its records in which each is next in its turn.
+-- The order is that in which the records were committed. The invariant `Ordered` also covers the records that are not committed yet: each was entered by
+-- the verdict after the earlier ones of its node. A commit puts some of them behind the order. Their messages were delivered from the bag,
+-- so they were sent by committed records.
 use Rattle.std.proofs.Common.{◌≡◌, ℕ, List, [], ◌∷◌, ◌++◌, Bool, true, false, cond, Option, Some, None, ◌⊎◌, inl, inr, refl, sym, ap, subst, ◌∙◌, append_assoc, take, drop, length, take-append-drop}
 use Rattle.std.specs.Prelude.{nat_le, is_some, option_and_then, slice_get}
 use Rattle.std.proofs.lemmas.Bool.{cases_Bool}
@@ -25,9 +28,10 @@ use Rattle.protocol.specs.declared.event.WorldEvent.{WorldEvent}
 use Rattle.protocol.specs.declared.event.WorldEvent.TheVariants.{Take, Commit, Post, Deliver, Crash, Restart}
 use Rattle.safety.proofs.MovesAndHistories.LongerHistories.{sends_append, got_in}
 use Rattle.safety.proofs.MovesAndHistories.NewestTransitions.{Got}
-use Rattle.safety.proofs.ListLemmas.Membership.{In, In_right, one_some}
+use Rattle.lemmas.proofs.Membership.{In, In_right}
+use Rattle.lemmas.proofs.OneValue.{one_some}
 use Rattle.safety.proofs.WorldLemmas.NodesWithStation.{AllPlaced, step_placed, opening_placed}
-use Rattle.safety.proofs.ListLemmas.Positions.{contains_in, In_take, right_empty}
+use Rattle.lemmas.proofs.Positions.{contains_in, In_take, right_empty}
 use Rattle.safety.proofs.WorldLemmas.ReachedWorlds.{reached_scheme}
 use Rattle.safety.proofs.WorldLemmas.SoundWorlds.{Sound, step_sound, opening_sound, no_journal, none_committed}
 use Rattle.safety.proofs.WorldLemmas.StationsAfterPut.{found_at_node, at_put, at_elsewhere, other_way}

@@ -1,4 +1,6 @@
 -- Orders of records: from any part of the journals that an order makes, one of its records is next.
+-- The order is gone through from its first record. The first record that the part does not have yet is next: all records before it are there, so
+-- its verdict is the same, and what it received was sent. This stays so with more records at other nodes, as what was sent stays sent.
 use Rattle.std.proofs.Common.{◌≡◌, List, [], ◌∷◌, ◌++◌, false, ◌⊎◌, inl, inr, refl, sym, ap, subst, ◌∙◌, append_assoc}
 use Rattle.std.proofs.lemmas.Bool.{cond-true, cond-false, cases_Bool}
 use Rattle.std.proofs.lemmas.List.{append-nil, append_cancel_left}
@@ -14,8 +16,8 @@ use Rattle.protocol.specs.Verdict.{verdict, history}
 use Rattle.protocol.specs.Weave.{Placed, journals_of, WasSent, InTurn, ArePrefixes, HasNext}
 use Rattle.protocol.specs.World.{sender}
 use Rattle.safety.proofs.MovesAndHistories.LongerHistories.{sends_append}
-use Rattle.safety.proofs.ListLemmas.Membership.{In}
-use Rattle.safety.proofs.ListLemmas.Positions.{In_contains, contains_in, left_empty}
+use Rattle.lemmas.proofs.Membership.{In}
+use Rattle.lemmas.proofs.Positions.{In_contains, contains_in, left_empty}
 
 -- ---- one more record
 

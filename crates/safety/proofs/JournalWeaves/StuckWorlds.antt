@@ -1,4 +1,6 @@
 -- A world that is stuck short of some journals shows that no events lead to them.
+-- If some events led to the journals, then one record would be next after what the world has committed (`always_next`). The world is quiet, and all that
+-- was sent is in its bag, so one event makes the node record it. A stuck world has no such event.
 use Rattle.std.proofs.Common.{◌≡◌, ℕ, ◌<◌, List, true, inl, inr, refl, ap, subst, ◌∙◌, length}
 use Rattle.std.specs.Prelude.{◌&&◌, ◌==◌}
 use Rattle.std.proofs.lemmas.Bool.{cond-true, and_from, eq-eqb}
@@ -19,10 +21,10 @@ use Rattle.protocol.specs.declared.event.Outcome.TheVariants.{Recorded, NotPossi
 use Rattle.protocol.specs.declared.event.Posted.{Posted}
 use Rattle.protocol.specs.declared.event.WorldEvent.{WorldEvent}
 use Rattle.protocol.specs.declared.event.WorldEvent.TheVariants.{Take, Deliver}
-use Rattle.safety.proofs.ListLemmas.CountsInLists.{list_any_in}
+use Rattle.lemmas.proofs.SomePass.{list_any_in}
 use Rattle.safety.proofs.JournalWeaves.EventsFromOrders.{ack_below}
 use Rattle.safety.proofs.JournalWeaves.OrdersFromEvents.{always_next}
-use Rattle.safety.proofs.ListLemmas.Positions.{In_contains, place_of, some_at}
+use Rattle.lemmas.proofs.Positions.{In_contains, place_of, some_at}
 use Rattle.safety.proofs.WorldLemmas.QuietWorlds.{takes}
 use Rattle.safety.proofs.WorldLemmas.StationsAfterPut.{found_at_node}
 

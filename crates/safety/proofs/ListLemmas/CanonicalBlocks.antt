@@ -1,4 +1,6 @@
 -- Putting blocks in order and joining neighbours keeps how often each unit stands in them.
+-- `tally` counts a unit in a list of pieces. Each step of the canonical form, which puts a block in its place and joins two neighbours, is shown to
+-- keep every tally. A list of pieces has no repeats exactly if every tally is at most one, so the canonical form has none if the blocks had none.
 use Rattle.std.proofs.Common.{◌≡◌, ℕ, zero, suc, ◌+◌, ◌-◌, ◌≤◌, List, [], ◌∷◌, ◌++◌, Bool, true, false, cond, inl, inr, refl, sym, ap, subst, ◌∙◌, arith, map, append_assoc}
 use Rattle.std.specs.Prelude.{◌||◌, ◌==◌, nat_lt}
 use Rattle.std.specs.List.{list_any}
@@ -14,8 +16,9 @@ use Rattle.protocol.specs.History.{number_of}
 use Rattle.units.specs.Canonical.{canonical, put_block, join_block, in_order, joined, comes_before, goes_on}
 use Rattle.units.specs.Unit.{have_unit}
 use Rattle.protocol.specs.Pieces.{Piece, piece, pieces, pieces_of, repeats, same_unit, up_from}
-use Rattle.safety.proofs.ListLemmas.CountsInLists.{list_any_some, list_any_none, list_any_not, count_yes, count_no, number_none, number_append, number_one}
-use Rattle.safety.proofs.ListLemmas.Membership.{In, In_cases, In_left, In_right}
+use Rattle.lemmas.proofs.SomePass.{list_any_some, list_any_none, list_any_not}
+use Rattle.safety.proofs.ListLemmas.CountsInLists.{count_yes, count_no, number_none, number_append, number_one}
+use Rattle.lemmas.proofs.Membership.{In, In_cases, In_left, In_right}
 use Rattle.safety.proofs.ListLemmas.UnitsOfBlocks.{period_of_same, unit_of_same, same_unit_refl, piece_of}
 
 abbrev is_at : Serial → Piece → Bool

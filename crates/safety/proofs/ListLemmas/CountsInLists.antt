@@ -1,40 +1,12 @@
--- Counting in lists: how many pass a test, and that lists without repeats and with the same members are equally long.
-use Rattle.std.proofs.Common.{◌≡◌, ℕ, suc, ◌+◌, ◌≤◌, List, [], ◌∷◌, ◌++◌, Bool, true, false, not, cond, inl, inr, refl, sym, ap, subst, ◌∙◌, arith, length, length-append}
-use Rattle.std.specs.Prelude.{◌&&◌, ◌||◌}
+-- Counting in lists: how many elements of a list pass a test, and the identifiers of the transitions that pass.
+use Rattle.std.proofs.Common.{◌≡◌, ℕ, suc, ◌+◌, ◌≤◌, List, [], ◌∷◌, ◌++◌, Bool, true, false, not, cond, inl, inr, refl, sym, ap, subst, ◌∙◌, arith, length}
+use Rattle.std.specs.Prelude.{◌&&◌}
 use Rattle.std.specs.List.{list_any}
 use Rattle.std.proofs.lemmas.Bool.{or_parts, cond-true, cond-false, cases_Bool}
 use Rattle.status.specs.declared.id.TransactionId.{TransactionId}
 use Rattle.protocol.specs.History.{Transition, number_of}
-use Rattle.safety.proofs.ListLemmas.Membership.{In, In_cases, In_left, In_right, In_cond}
-
--- ---- some element passes
-
-pub list_any_some : {X : Type 0} (p : X → Bool) (xs : List X) → list_any p xs ≡ true → (x : X) × In x xs × (p x ≡ true)
-list_any_some p [] h = absurd (cc)
-list_any_some p (x ∷ xs) h =
-    elim (cases_Bool (p x)) [
-      | inl y ↦ (x, inl refl, y)
-      | inr n ↦ let r = list_any_some p xs (subst (λ b. (b || list_any p xs) ≡ true) n h) in (r.0, inr r.1, r.2)
-    ]
-
-pub list_any_none : {X : Type 0} (p : X → Bool) (xs : List X) (x : X) → list_any p xs ≡ false → In x xs → p x ≡ false
-list_any_none p [] x h i = absurd i
-list_any_none p (y ∷ ys) x h (inl e) = subst (λ z. p z ≡ false) e (or_parts (p y) (list_any p ys) h).0
-list_any_none p (y ∷ ys) x h (inr i) = list_any_none p ys x (or_parts (p y) (list_any p ys) h).1 i
-
-pub list_any_in : {X : Type 0} (p : X → Bool) (xs : List X) (x : X) → In x xs → p x ≡ true → list_any p xs ≡ true
-list_any_in p xs x i h =
-    elim (cases_Bool (list_any p xs)) [
-      | inl y ↦ y
-      | inr n ↦ absurd (let f = list_any_none p xs x n i in let e : false ≡ true = sym f ∙ h in cc)
-    ]
-
-pub list_any_not : {X : Type 0} (p : X → Bool) (xs : List X) → ((x : X) → In x xs → p x ≡ true → ⊥) → list_any p xs ≡ false
-list_any_not p xs h =
-    elim (cases_Bool (list_any p xs)) [
-      | inl y ↦ let g = list_any_some p xs y in absurd (h g.0 g.1 g.2)
-      | inr n ↦ n
-    ]
+use Rattle.lemmas.proofs.Membership.{In, In_cond}
+use Rattle.lemmas.proofs.SomePass.{list_any_some}
 
 -- ---- how many pass
 
@@ -101,56 +73,6 @@ number_parts p q (x ∷ xs) = parts _ _ _ (p x) (q x) (number_parts p q xs)
     parts a b c true true e = omega (arith, e)
     parts a b c true false e = omega (arith, e)
     parts a b c false z e = e
-
--- ---- lists without repeats
-
-abbrev pub NoRepeat : {X : Type 0} → List X → Type 0
-NoRepeat [] = Unit {0}
-NoRepeat (x ∷ xs) = (In x xs → ⊥) × NoRepeat xs
-
-split : {X : Type 0} (x : X) (ys : List X) → In x ys → (front : List X) × (back : List X) × (ys ≡ front ++ x ∷ back)
-split x [] h = absurd h
-split x (y ∷ ys) (inl e) = ([], ys, ap (λ z. z ∷ ys) e)
-split x (y ∷ ys) (inr h) = let r = split x ys h in (y ∷ r.0, r.1, ap (λ zs. y ∷ zs) r.2)
-
-without : {X : Type 0} (x z : X) (front back : List X) → (x ≡ z → ⊥) → In z (front ++ x ∷ back) → In z (front ++ back)
-without x z front back other h =
-    elim (In_cases z front (x ∷ back) h) [
-      | inl i ↦ In_left z front back i
-      | inr i ↦
-          elim i [
-            | inl e ↦ absurd (other e)
-            | inr j ↦ In_right z front back j
-          ]
-    ]
-
-pub no_longer : {X : Type 0} (xs ys : List X) → NoRepeat xs → ((x : X) → In x xs → In x ys) → length xs ≤ length ys
-no_longer [] ys n sub = omega arith
-no_longer {X} (x ∷ xs) ys n sub =
-    let s = split x ys (sub x (inl refl)) in
-    let rest = no_longer xs (s.0 ++ s.1) n.1 (λ z i. without x z s.0 s.1 (λ e. n.0 (subst (λ w. In w xs) (sym e) i)) (subst (λ ws. In z ws) s.2 (sub z (inr i)))) in
-    let a = ap length s.2 in
-    let b = length-append s.0 (x ∷ s.1) in
-    let c = length-append s.0 s.1 in
-    omega arith
-
-pub same_length : {X : Type 0} (xs ys : List X) → NoRepeat xs → NoRepeat ys → ((x : X) → In x xs → In x ys) → ((x : X) → In x ys → In x xs) → length xs ≡ length ys
-same_length xs ys n m sub sup = let a = no_longer xs ys n sub in let b = no_longer ys xs m sup in omega arith
-
-pub no_repeat_append : {X : Type 0} (xs ys : List X) → NoRepeat xs → NoRepeat ys → ((x : X) → In x xs → In x ys → ⊥) → NoRepeat (xs ++ ys)
-no_repeat_append [] ys n m apart = m
-no_repeat_append (x ∷ xs) ys n m apart = (
-  (λ h. elim (In_cases x xs ys h) [
-    | inl i ↦ n.0 i
-    | inr i ↦ apart x (inl refl) i
-  ]),
-  no_repeat_append xs ys n.1 m (λ z i j. apart z (inr i) j),
-)
-
-pub no_repeat_apart : {X : Type 0} (xs ys : List X) (x : X) → NoRepeat (xs ++ ys) → In x xs → In x ys → ⊥
-no_repeat_apart [] ys x n i j = i
-no_repeat_apart (z ∷ zs) ys x n (inl e) j = n.0 (In_right z zs ys (subst (λ w. In w ys) (sym e) j))
-no_repeat_apart (z ∷ zs) ys x n (inr i) j = no_repeat_apart zs ys x n.1 i j
 
 -- ---- the identifiers of the transitions that pass
 

@@ -10,7 +10,7 @@ use Rattle.units.specs.declared.block.Period.TheVariants.{First, Second}
 use Rattle.units.specs.declared.block.RawBlock.{RawBlock}
 use Rattle.units.specs.declared.block.Unit.{Unit as Serial}
 use Rattle.protocol.specs.Pieces.{Piece, piece, pieces, pieces_of, same_unit, up_from}
-use Rattle.safety.proofs.ListLemmas.Membership.{In, In_cases, In_left, In_right, In_map, map_In}
+use Rattle.lemmas.proofs.Membership.{In, In_cases, In_left, In_right, In_map, map_In}
 
 pub period_of_same : (p q : Period) → same_period p q ≡ true → p ≡ q
 period_of_same First First e = refl

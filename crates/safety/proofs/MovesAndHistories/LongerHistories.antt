@@ -1,4 +1,6 @@
--- Histories that go on with more inputs.
+-- Histories that get longer by more inputs of the journal.
+-- The entries of a longer journal stand in front of the older entries, and nothing that was sent or received before is lost.
+-- With one input more, a received message is that input or was received before.
 use Rattle.std.proofs.Common.{◌≡◌, List, [], ◌∷◌, ◌++◌, ◌⊎◌, inl, inr, refl, sym, subst, ◌∙◌, append_assoc}
 use Rattle.units.specs.declared.code.Node.{Node}
 use Rattle.status.specs.declared.moment.Moment.{Moment}
@@ -9,7 +11,7 @@ use Rattle.scheme.specs.declared.registries.Scheme.{Scheme}
 use Rattle.protocol.specs.History.{Transition, Entry, transitions_of, sends, messages_of}
 use Rattle.protocol.specs.Verdict.{verdict, extend, history_from, history, made}
 use Rattle.safety.proofs.MovesAndHistories.NewestTransitions.{Made, Got}
-use Rattle.safety.proofs.ListLemmas.Membership.{In, In_left}
+use Rattle.lemmas.proofs.Membership.{In, In_left}
 
 pub history_from_append : (scheme : Scheme) (n : Node) (es : List Entry) (xs ys : List Input) → history_from scheme n es (xs ++ ys) ≡ history_from scheme n (history_from scheme n es xs) ys
 history_from_append scheme n es [] ys = refl

@@ -1,4 +1,6 @@
--- Histories that verdicts made: what was received, and the newest transition of a transaction.
+-- Histories that verdicts made (`Made`), what they received (`Got`, `Heard`, `Offered`), and the newest transition of a transaction.
+-- What was received stays received when the history gets longer. The newest transition of a transaction is either among the
+-- transitions in front, or it is the newest one of the older part. Inductions over histories use these two facts.
 use Rattle.std.proofs.Common.{◌≡◌, List, [], ◌∷◌, ◌++◌, true, Option, Some, None, ◌⊎◌, inl, inr, refl, sym, ap, subst, ◌∙◌}
 use Rattle.std.specs.Prelude.{option_map}
 use Rattle.std.proofs.lemmas.Bool.{cond-true, cond-false, cases_Bool}
@@ -21,7 +23,8 @@ use Rattle.wire.specs.declared.message.ProposalStatus.{ProposalStatus}
 use Rattle.scheme.specs.declared.registries.Scheme.{Scheme}
 use Rattle.protocol.specs.History.{Transition, Entry, newest, stands}
 use Rattle.protocol.specs.Verdict.{verdict, made}
-use Rattle.safety.proofs.ListLemmas.Membership.{In, In_find, id_of_same, same_id_refl}
+use Rattle.lemmas.proofs.Membership.{In, In_find}
+use Rattle.safety.proofs.ListLemmas.TestsOfSameness.{id_of_same, same_id_refl}
 use Rattle.safety.proofs.MovesAndHistories.TableMoves.{RegistryMove, LogMove, registry_moves, log_moves}
 
 -- each entry's transitions are those of its input after the older ones

@@ -1,11 +1,13 @@
--- The tables as relations: which transition an input makes, and that each transition is one of them.
+-- The verdicts as two relations, `RegistryMove` and `LogMove`: each case of them is one way in which an input makes a transition.
+-- `registry_moves` and `log_moves` show that every transition that a verdict makes is one of these cases. They take the verdict apart in its
+-- own order: the causes of a refusal, what the transaction has so far, and the row of the table.
+-- All later inductions over histories go through these cases, and none of them unfolds a verdict again.
 use Rattle.std.proofs.Common.{◌≡◌, ℕ, List, [], ◌∷◌, Bool, true, false, not, cond, Option, Some, None, ◌⊎◌, inl, inr, refl, sym, ap, subst, ◌∙◌}
 use Rattle.std.specs.Prelude.{filter, ◌&&◌, nat_le, length, ◌+◌}
 use Rattle.std.specs.Ordering.{is_lt}
-use Rattle.std.proofs.lemmas.Bool.{and_right, or_parts, not-false, cond-true, cond-false, cases_Bool}
+use Rattle.std.proofs.lemmas.Bool.{or_parts, not-false, cond-true, cond-false, cases_Bool}
 use Rattle.units.specs.Code.{same_code}
 use Rattle.units.specs.declared.code.Code.{Code}
-use Rattle.units.specs.declared.code.Node.{Node}
 use Rattle.units.specs.declared.code.Node.TheVariants.{Itl, Registry}
 use Rattle.units.proofs.Same.{node_of_same}
 use Rattle.status.specs.Content.{Content}
@@ -45,17 +47,14 @@ use Rattle.protocol.specs.AtLog as log
 use Rattle.protocol.specs.AtLog.{ledger, is_proposed, is_no_registry, is_from_another, log_refusals, log_answer, log_message, newest_of_each, is_old, put_transition, by_id, cleaned, due, clean_up, same_bool, eligible_refusals, log_verdict}
 use Rattle.protocol.specs.Verdict.{made}
 use Rattle.safety.proofs.MovesAndHistories.TransitionForms.{moved, proposed, asking, arrived, settled_messages, bare, checked, acquirer_of, told_to, cancelled, forestalled}
-use Rattle.safety.proofs.ListLemmas.Membership.{In, In_cond, In_filter, In_flat_map, status_of_same, same_id_refl, id_of_same}
-use Rattle.safety.proofs.MovesAndHistories.TableRows.{Recorded, nothing_known, status_known, known_status, initiator_proposes, initiator_asks, initiator_asks_once, initiator_unasked, acquirer_unasked, initiator_notified, log_notified, acquirer_notified, log_asked, log_cleans, acquirer_offered, log_offered, unless_moves, settled_sends, passed_sends}
+use Rattle.lemmas.proofs.Membership.{In, In_cond, In_filter, In_flat_map}
+use Rattle.safety.proofs.ListLemmas.TestsOfSameness.{same_id_refl, id_of_same}
+use Rattle.safety.proofs.MovesAndHistories.TableRows.{nothing_known, status_known, initiator_proposes, initiator_asks, initiator_asks_once, initiator_unasked, acquirer_unasked, initiator_notified, log_notified, acquirer_notified, log_asked, log_cleans, acquirer_offered, log_offered, unless_moves, settled_sends, passed_sends}
 
 -- none of the causes stands
 abbrev pub NoneStands : Causes → Type 0
 NoneStands [] = Unit {0}
 NoneStands (c ∷ cs) = (c.0 ≡ false) × NoneStands cs
-
--- a proposal that the log passes on, and a notification of the log
-abbrev pub passed : Node → TransactionId → ProposalStatus → Content → Proposal
-passed to t status k = record { from = Itl; to = to; id = t; status = status; content = k }
 
 pub data RegistryMove (scheme : Scheme) (c : Code) (es : List Entry) : Input → Transition → Type 0 where
   proposes : (o : Order) (t : TransactionId) → NoneStands (propose_refusals scheme c (holding scheme c es) o) → id_at c (proposals es + 1) ≡ Some t

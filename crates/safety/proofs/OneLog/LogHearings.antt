@@ -1,8 +1,10 @@
--- What the log's history says of what it heard, and stands by what it sent.
-use Rattle.std.proofs.Common.{◌≡◌, ℕ, List, [], ◌∷◌, false, not, Option, Some, None, ◌⊎◌, inl, inr, refl, sym, ap, subst, ◌∙◌}
+-- What the log's history says of what it heard, and that the log stands by what it sent.
+-- A transfer that stands Accepted or Completed was accepted by its acquirer (`log_backed`).
+-- What the log told a registry is still its status, except that Accepted may have become Completed (`log_sent`). The proof looks at the move that
+-- sent the notification, and then at each later move of the same transaction. The content that the log passed on also stays (`log_offered`).
+use Rattle.std.proofs.Common.{◌≡◌, ℕ, List, [], ◌∷◌, false, Option, Some, None, ◌⊎◌, inl, inr, refl, sym, ap, subst, ◌∙◌}
 use Rattle.std.proofs.lemmas.Bool.{not-false}
 use Rattle.units.proofs.Same.{node_of_same}
-use Rattle.units.specs.Code.{same_node}
 use Rattle.units.specs.declared.code.Node.{Node}
 use Rattle.units.specs.declared.code.Node.TheVariants.{Itl, Registry}
 use Rattle.status.specs.Content.{Content}
@@ -21,9 +23,10 @@ use Rattle.scheme.specs.declared.registries.Scheme.{Scheme}
 use Rattle.protocol.specs.AtLog.{ledger, is_no_registry, is_not_acquirer, is_from_another}
 use Rattle.protocol.specs.Checks.{log_findings}
 use Rattle.protocol.specs.History.{Transition, Entry, transitions_of, newest, sends, messages_of}
-use Rattle.safety.proofs.MovesAndHistories.TransitionForms.{checked_status, checked_message, acquirer_of}
+use Rattle.safety.proofs.MovesAndHistories.TransitionForms.{checked_status, checked_message}
 use Rattle.safety.proofs.MovesAndHistories.NewestTransitions.{Made, Heard, heard_later, made_log, newest_id, newest_append, newest_in, one_notice}
-use Rattle.safety.proofs.ListLemmas.Membership.{In, In_cases, In_flat_map, one_some}
+use Rattle.lemmas.proofs.Membership.{In, In_cases, In_flat_map}
+use Rattle.lemmas.proofs.OneValue.{one_some}
 use Rattle.safety.proofs.MovesAndHistories.TableMoves.{LogMove, checks, passes, cancels, forestalls, Withdraws, cleans, requested}
 use Rattle.safety.proofs.MovesAndHistories.TableRows.{log_from}
 

@@ -1,11 +1,10 @@
 -- What the log records for one input: nothing, one transition, or cancellations alone. And induction over its transitions.
-use Rattle.std.proofs.Common.{◌≡◌, ℕ, List, [], ◌∷◌, ◌++◌, Bool, true, false, cond, Option, Some, None, ◌⊎◌, inl, inr, refl, sym, ap, subst, map}
+-- A clean-up may cancel many transfers at once, so that the induction over entries is not one over transitions. `each_log_move` makes it one: it
+-- asks for a step for one transition, and for a step for a cancellation in front of others of the same input.
+use Rattle.std.proofs.Common.{◌≡◌, ℕ, List, [], ◌∷◌, ◌++◌, Bool, true, false, cond, ◌⊎◌, inl, inr, refl, sym, ap, subst, map}
 use Rattle.std.specs.Prelude.{nat_le, length, filter, flat_map}
 use Rattle.units.specs.declared.code.Node.TheVariants.{Itl}
-use Rattle.status.specs.Content.{Content}
 use Rattle.status.specs.Rows.{log_row}
-use Rattle.status.specs.declared.id.TransactionId.{TransactionId}
-use Rattle.status.specs.declared.words.Known.TheVariants.{Stands}
 use Rattle.status.specs.declared.words.Row.{Row}
 use Rattle.status.specs.declared.words.Row.TheVariants.{Move, Repeat, Late, Refused}
 use Rattle.status.specs.declared.words.RowInput.TheVariants.{Notified, Request}
@@ -16,7 +15,6 @@ use Rattle.wire.specs.declared.input.Input.{Input}
 use Rattle.wire.specs.declared.input.Input.TheVariants.{Propose, Request as Ask, OpenAccount, CloseAccount, Ack, CleanUp, Eligible, Received}
 use Rattle.wire.specs.declared.message.Message.{Message}
 use Rattle.wire.specs.declared.message.Message.TheVariants as message
-use Rattle.wire.specs.declared.notice.Notice.{Notice}
 use Rattle.scheme.specs.declared.registries.Scheme.{Scheme}
 use Rattle.protocol.specs.AtLog.{log_refusals, log_answer, newest_of_each, is_old, by_id, cleaned, due, clean_up, same_bool, eligible_refusals, log_verdict}
 use Rattle.protocol.specs.Checks.{Causes, codes_of}
@@ -25,7 +23,7 @@ use Rattle.protocol.specs.History.{Transition, Entry, transitions_of, newest, is
 use Rattle.protocol.specs.Verdict.{verdict, made as made_of}
 use Rattle.safety.proofs.MovesAndHistories.NewestTransitions.{Made, made_log}
 use Rattle.safety.proofs.OneRegistry.UnitsCountedOnce.{Single, single_refuse, single_cond, none_enter, one_enters}
-use Rattle.safety.proofs.ListLemmas.Membership.{In, In_flat_map}
+use Rattle.lemmas.proofs.Membership.{In, In_flat_map}
 use Rattle.safety.proofs.MovesAndHistories.TableMoves.{LogMove, NoneStands, cleaned_made}
 
 -- no codes: no cause stands

@@ -1,4 +1,7 @@
 -- What the log sends: which proposals it passes on, and to whom its notifications go.
+-- Each part goes through the moves of `LogMove` and looks at the messages of the transition, and is then carried to the whole history.
+-- A notification goes to the initiator, or to the acquirer of the content that the log knows, and a transfer that was
+-- passed on is never Terminated. Nothing stands Proposed at the log.
 use Rattle.std.proofs.Common.{◌≡◌, ℕ, List, [], ◌∷◌, Bool, false, not, Option, Some, ◌⊎◌, inl, inr, refl, sym, ap, subst, ◌∙◌}
 use Rattle.std.specs.List.{list_any}
 use Rattle.std.proofs.lemmas.Bool.{or_parts}
@@ -25,7 +28,8 @@ use Rattle.safety.proofs.MovesAndHistories.TransitionForms.{checked_status, chec
 use Rattle.safety.proofs.OneRegistry.TransactionEnds.{proposer, went_on}
 use Rattle.safety.proofs.MovesAndHistories.NewestTransitions.{Made, Heard, heard_later, made_log, newest_id, newest_append, newest_in, one_notice, one_proposal}
 use Rattle.safety.proofs.OneLog.LogInputs.{none_stand}
-use Rattle.safety.proofs.ListLemmas.Membership.{In, In_cases, In_flat_map, one_some}
+use Rattle.lemmas.proofs.Membership.{In, In_cases, In_flat_map}
+use Rattle.lemmas.proofs.OneValue.{one_some}
 use Rattle.safety.proofs.MovesAndHistories.TableMoves.{LogMove, checks, passes, cancels, forestalls}
 use Rattle.safety.proofs.OneLog.LogHearings.{from_acquirer, log_pair, log_notice_move, log_keeps_content}
 use Rattle.safety.proofs.MovesAndHistories.TableRows.{log_from}

@@ -1,4 +1,8 @@
 -- The log by itself, whatever messages come: whose units the book says they are, and which transfers are under way.
+-- The invariant `InBook` is about one unit: a transfer of it that is under way was proposed by the unit's owner, at most one is under way, and for each
+-- registry the book's moves to it and from it make up whether the registry is the owner.
+-- A check without findings puts a transfer under way, and a completion moves the unit; all other moves leave the unit alone (`still`). That ended
+-- transfers stay as they are follows from the log's table.
 use Rattle.std.proofs.Common.{◌≡◌, ℕ, ◌+◌, List, [], ◌∷◌, ◌++◌, Bool, true, false, cond, Option, Some, None, ◌⊎◌, inl, inr, refl, sym, ap, subst, ◌∙◌, arith}
 use Rattle.std.specs.Prelude.{◌&&◌, ◌||◌, option_map, is_none}
 use Rattle.std.proofs.lemmas.Bool.{and_from, and_left, and_right, not-false, cond-true, cond-false, cases_Bool}
@@ -26,15 +30,18 @@ use Rattle.protocol.specs.Pieces.{Piece, pieces}
 use Rattle.protocol.specs.Registries.{allotted}
 use Rattle.protocol.specs.Verdict.{verdict, made as made_of, extend, history_from, history}
 use Rattle.safety.proofs.MovesAndHistories.TransitionForms.{checked, checked_status, told_to, moved}
-use Rattle.safety.proofs.ListLemmas.CountsInLists.{NoRepeat, picked, In_picked, count_no, count_yes, list_any_none, list_any_in}
+use Rattle.lemmas.proofs.NoRepeats.{NoRepeat}
+use Rattle.lemmas.proofs.SomePass.{list_any_none, list_any_in}
+use Rattle.safety.proofs.ListLemmas.CountsInLists.{picked, In_picked, count_no, count_yes}
 use Rattle.safety.proofs.MovesAndHistories.LongerHistories.{history_from_append, made_history}
 use Rattle.safety.proofs.MovesAndHistories.NewestTransitions.{Made, made_log, newest_id, newest_append, newest_stands}
 use Rattle.safety.proofs.OneRegistry.UnitsCountedOnce.{newest_cons}
 use Rattle.safety.proofs.OneLog.LogInputs.{AllCancelled, each_log_move, none_stand}
-use Rattle.safety.proofs.ListLemmas.Membership.{In, In_cases, id_of_same, same_id_refl}
+use Rattle.lemmas.proofs.Membership.{In, In_cases}
+use Rattle.safety.proofs.ListLemmas.TestsOfSameness.{id_of_same, same_id_refl}
 use Rattle.safety.proofs.MovesAndHistories.TableMoves.{LogMove, checks, passes, cancels, forestalls, log_moves}
 use Rattle.safety.proofs.OneRegistry.TransactionEnds.{proposer}
-use Rattle.safety.proofs.ListLemmas.Positions.{In_contains}
+use Rattle.lemmas.proofs.Positions.{In_contains}
 use Rattle.safety.proofs.MovesAndHistories.TableRows.{log_from}
 use Rattle.safety.proofs.ListLemmas.UnitsOfBlocks.{piece_of}
 

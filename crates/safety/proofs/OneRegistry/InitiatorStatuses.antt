@@ -1,4 +1,5 @@
 -- The statuses of a transfer at its initiator: it never stands Checked or Accepted there.
+-- The initiator's table has no row to these two statuses, and an induction over the moves of a registry carries this to the whole history.
 use Rattle.std.proofs.Common.{◌≡◌, List, true, inl, inr, sym, subst}
 use Rattle.units.specs.Code.{same_code}
 use Rattle.units.specs.declared.code.Code.{Code}
@@ -15,7 +16,8 @@ use Rattle.scheme.specs.declared.registries.Scheme.{Scheme}
 use Rattle.protocol.specs.History.{Transition, Entry, transitions_of}
 use Rattle.safety.proofs.OneRegistry.TransactionEnds.{each_move, own_about}
 use Rattle.safety.proofs.MovesAndHistories.NewestTransitions.{Made}
-use Rattle.safety.proofs.ListLemmas.Membership.{In, clash}
+use Rattle.lemmas.proofs.Membership.{In}
+use Rattle.lemmas.proofs.OneValue.{clash}
 use Rattle.safety.proofs.MovesAndHistories.TableMoves.{RegistryMove, proposes, asks, arrives, bares, settles, finishes}
 use Rattle.safety.proofs.MovesAndHistories.TableRows.{initiator_from}
 

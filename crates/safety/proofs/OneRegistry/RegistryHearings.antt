@@ -1,4 +1,7 @@
 -- What a registry's history says of what it heard, and of the Accepted that it sent.
+-- By induction over the transitions, the status at which a transfer stands names its cause: the notification from the log that brought it there
+-- (`told`, `told_own`), or the registry's own proposal. The causes are kept when the history gets longer.
+-- A registry that sent Accepted took part as acquirer, and no later transition of that transfer is Rejected (`accepted_sent`).
 use Rattle.std.proofs.Common.{◌≡◌, ℕ, ◌+◌, List, [], ◌∷◌, true, false, Option, Some, None, ◌⊎◌, inl, inr, refl, sym, ap, subst, ◌∙◌}
 use Rattle.units.proofs.Same.{code_of_same, same_code-refl}
 use Rattle.units.specs.Code.{same_code}
@@ -23,7 +26,8 @@ use Rattle.protocol.specs.Checks.{acquirer_findings}
 use Rattle.protocol.specs.History.{Transition, Entry, transitions_of, newest, sends, messages_of, proposals}
 use Rattle.safety.proofs.MovesAndHistories.TransitionForms.{arrived_status, arrived_notice, settled_messages}
 use Rattle.safety.proofs.MovesAndHistories.NewestTransitions.{Made, Heard, Offered, heard_later, offered_later, made_registry, newest_id, newest_append, newest_in, one_notice}
-use Rattle.safety.proofs.ListLemmas.Membership.{In, In_cases, In_flat_map, clash}
+use Rattle.lemmas.proofs.Membership.{In, In_cases, In_flat_map}
+use Rattle.lemmas.proofs.OneValue.{clash}
 use Rattle.safety.proofs.MovesAndHistories.TableMoves.{RegistryMove, proposes, asks, arrives, bares, settles, finishes}
 use Rattle.safety.proofs.MovesAndHistories.TableRows.{word_to, initiator_from, acquirer_from}
 

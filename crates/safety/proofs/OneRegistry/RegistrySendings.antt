@@ -1,4 +1,7 @@
 -- What a registry sends: what it offers, what it answers as acquirer, and that its own transfers completed.
+-- `Says` lists the kinds of message, each with what the history had recorded when it was sent. An induction over the moves shows
+-- that every message that was sent is of one of these kinds. From them it follows that who asked for a cancellation had
+-- proposed the transfer, and that a Rejected that was sent stands for good.
 use Rattle.std.proofs.Common.{◌≡◌, ℕ, ◌+◌, List, [], ◌∷◌, true, false, Some, ◌⊎◌, inl, inr, refl, sym, ap, subst, ◌∙◌}
 use Rattle.units.proofs.Same.{code_of_same}
 use Rattle.units.specs.Code.{same_code}
@@ -22,7 +25,8 @@ use Rattle.safety.proofs.MovesAndHistories.TransitionForms.{arrived_status, sett
 use Rattle.safety.proofs.OneRegistry.TransactionEnds.{single_same, own_code, newest_own}
 use Rattle.safety.proofs.MovesAndHistories.NewestTransitions.{Made, Offered, offered_later, made_registry, newest_id, newest_append, newest_in, one_notice, one_request}
 use Rattle.safety.proofs.OneRegistry.UnitsCountedOnce.{made_single}
-use Rattle.safety.proofs.ListLemmas.Membership.{In, In_cases, In_flat_map, clash}
+use Rattle.lemmas.proofs.Membership.{In, In_cases, In_flat_map}
+use Rattle.lemmas.proofs.OneValue.{clash}
 use Rattle.safety.proofs.MovesAndHistories.TableMoves.{RegistryMove, proposes, asks, arrives, bares, settles, finishes}
 use Rattle.safety.proofs.MovesAndHistories.TableRows.{acquirer_from}
 use Rattle.safety.proofs.OneRegistry.RegistryHearings.{settled_notice, arrived_notice_status}

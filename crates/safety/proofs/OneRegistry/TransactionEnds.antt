@@ -1,5 +1,9 @@
--- A completed transition is the last of its transaction, and contents are the same all along the way.
-use Rattle.std.proofs.Common.{◌≡◌, ℕ, ◌+◌, ◌≤◌, List, [], ◌∷◌, ◌++◌, Bool, true, false, not, Some, None, ◌⊎◌, inl, inr, refl, sym, ap, subst, ◌∙◌, arith}
+-- A completed transition is the last of its transaction, and the content of a transfer never changes.
+-- `each_move` is the induction that all parts use: what each single transition keeps, given the older ones, holds of the whole history.
+-- No move starts from Completed, so a second completion of one transaction is impossible (`ends_last`, `completed_is_last`).
+-- The last two parts say where a content comes from. An acquirer has it from the log's offer (`known`), and the log has it from the initiator's
+-- proposal (`proposer`), unless a request cancelled the transaction before its proposal came.
+use Rattle.std.proofs.Common.{◌≡◌, ℕ, ◌+◌, List, [], ◌∷◌, ◌++◌, Bool, true, false, not, Some, None, ◌⊎◌, inl, inr, refl, sym, ap, subst, ◌∙◌, arith}
 use Rattle.std.specs.Prelude.{◌&&◌}
 use Rattle.std.proofs.lemmas.Bool.{and_parts, and_from, and_left, or_parts, not-false, cond-true, cond-false, cases_Bool}
 use Rattle.units.proofs.Same.{code_of_same, same_code-refl, node_of_same}
@@ -7,7 +11,7 @@ use Rattle.units.specs.Code.{same_code, same_node}
 use Rattle.units.specs.declared.code.Code.{Code}
 use Rattle.units.specs.declared.code.Node.{Node}
 use Rattle.units.specs.declared.code.Node.TheVariants.{Itl, Registry}
-use Rattle.status.proofs.Ids.{id_at-code, id_at-number}
+use Rattle.status.proofs.Ids.{id_at-code}
 use Rattle.status.specs.Content.{Content}
 use Rattle.status.specs.Id.{same_id, id_at}
 use Rattle.status.specs.Rows.{log_row}
@@ -31,13 +35,16 @@ use Rattle.protocol.specs.Claims.{CompletedOnce}
 use Rattle.protocol.specs.History.{Transition, Entry, transitions_of, newest, number_of, sends, messages_of, proposals}
 use Rattle.protocol.specs.AtRegistry.{content_of}
 use Rattle.protocol.specs.AtLog.{is_no_registry, is_from_another}
-use Rattle.safety.proofs.MovesAndHistories.TransitionForms.{proposed, arrived_status, settled_messages, checked_status, moved}
-use Rattle.safety.proofs.ListLemmas.CountsInLists.{list_any_not, number_none, count_no, count_yes}
+use Rattle.safety.proofs.MovesAndHistories.TransitionForms.{arrived_status, settled_messages, checked_status}
+use Rattle.lemmas.proofs.SomePass.{list_any_not}
+use Rattle.safety.proofs.ListLemmas.CountsInLists.{number_none, count_no, count_yes}
 use Rattle.safety.proofs.MovesAndHistories.NewestTransitions.{Made, Got, Heard, Offered, heard_later, offered_later, made_registry, made_log, newest_append, newest_id, newest_in, one_notice, one_proposal}
 use Rattle.safety.proofs.OneRegistry.UnitsCountedOnce.{made_single, Single}
-use Rattle.safety.proofs.ListLemmas.Membership.{In, In_cases, In_flat_map, In_left, In_right, id_of_same, same_id_refl, status_of_same, one_some, clash}
+use Rattle.lemmas.proofs.Membership.{In, In_cases, In_flat_map, In_left, In_right}
+use Rattle.lemmas.proofs.OneValue.{one_some, clash}
+use Rattle.safety.proofs.ListLemmas.TestsOfSameness.{id_of_same, same_id_refl, status_of_same}
 use Rattle.safety.proofs.MovesAndHistories.TableMoves.{RegistryMove, proposes, asks, arrives, bares, settles, finishes, LogMove, checks, passes, cancels, forestalls}
-use Rattle.safety.proofs.ListLemmas.Positions.{In_contains}
+use Rattle.lemmas.proofs.Positions.{In_contains}
 use Rattle.safety.proofs.MovesAndHistories.TableRows.{initiator_from, acquirer_from, log_from}
 use Rattle.safety.proofs.OneRegistry.RegistryHearings.{arrived_notice_status}
 

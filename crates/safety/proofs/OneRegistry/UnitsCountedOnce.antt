@@ -1,4 +1,8 @@
--- One registry by itself, whatever it is given: a unit is counted there once or not at all.
+-- One registry by itself, whatever messages it is given: a unit is counted there once or not at all.
+-- The proof is an induction over the registry's transitions with the invariant `Local`: a unit is given away at most as often as it was there or
+-- came, it came at most once more than it went, and at most one transfer of it waits, which then has it there.
+-- The cases are the moves of `RegistryMove`, grouped by what they do to one unit: nothing, propose it, give it away, or take it in. The checks of a
+-- proposal refuse a second transfer of the unit, and an acquirer does not complete a transfer of a unit that it holds.
 use Rattle.std.proofs.Common.{◌≡◌, ℕ, ◌+◌, ◌≤◌, List, [], ◌∷◌, ◌++◌, Bool, true, false, not, cond, Option, Some, None, ◌⊎◌, inl, inr, refl, sym, ap, subst, ◌∙◌, arith}
 use Rattle.std.specs.Prelude.{◌&&◌, nat_le, length, option_map}
 use Rattle.std.proofs.lemmas.Bool.{and_parts, and_from, and_left, and_right, not-false, cond-true, cond-false, cases_Bool, eqb-true, eqb-false}
@@ -28,16 +32,19 @@ use Rattle.scheme.specs.declared.registries.Scheme.{Scheme}
 use Rattle.protocol.specs.Pieces.{Piece, pieces}
 use Rattle.protocol.specs.Registries.{allotted}
 use Rattle.protocol.specs.History.{Transition, Entry, transitions_of, newest, stands_at, is_status, number_of, has_serial, carries, gives, credits, is_with, at_start, holds, reserved, place, is_acknowledged, proposals}
-use Rattle.protocol.specs.Checks.{Causes, propose_refusals, acquirer_findings}
+use Rattle.protocol.specs.Checks.{Causes, propose_refusals}
 use Rattle.protocol.specs.Deciding.{Verdict, Enters, IsRepeat, IsRefused, refuse, enters, known, content_in, by_row, ack_refusals}
 use Rattle.protocol.specs.AtRegistry.{holding, is_place, content_of, offer, in_role, unless_held, holds_some, request_refusals, request_column, registry_refusals, registry_answer, open_refusals, close_refusals, registry_verdict}
 use Rattle.protocol.specs.Claims.{CountedOnce}
 use Rattle.protocol.specs.Verdict.{verdict, made as made_of}
 use Rattle.safety.proofs.MovesAndHistories.TransitionForms.{proposed, asking, arrived, arrived_status, settled_messages, bare, moved}
 use Rattle.safety.proofs.ListLemmas.CanonicalBlocks.{canonical_piece}
-use Rattle.safety.proofs.ListLemmas.CountsInLists.{list_any_none, list_any_in, count_no, count_yes}
+use Rattle.lemmas.proofs.SomePass.{list_any_none, list_any_in}
+use Rattle.safety.proofs.ListLemmas.CountsInLists.{count_no, count_yes}
 use Rattle.safety.proofs.MovesAndHistories.NewestTransitions.{Made, made_registry, newest_id}
-use Rattle.safety.proofs.ListLemmas.Membership.{In, id_of_same, same_id_refl, clash}
+use Rattle.lemmas.proofs.Membership.{In}
+use Rattle.lemmas.proofs.OneValue.{clash}
+use Rattle.safety.proofs.ListLemmas.TestsOfSameness.{id_of_same, same_id_refl}
 use Rattle.safety.proofs.MovesAndHistories.TableMoves.{RegistryMove, proposes, asks, arrives, bares, settles, finishes}
 use Rattle.safety.proofs.MovesAndHistories.TableRows.{word_to, initiator_from, acquirer_from}
 use Rattle.safety.proofs.ListLemmas.UnitsOfBlocks.{piece_of}

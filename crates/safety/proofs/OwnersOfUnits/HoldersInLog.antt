@@ -1,4 +1,7 @@
 -- A registry that holds a unit is its owner in the log's book.
+-- Each transfer that credited the unit to the registry is one by which the log's book brought it there, and each by which the log's book moved it
+-- away is one by which the registry gave it away. No list has repeats, so the first of each pair is no longer than the second.
+-- The log's counts (`in_book`) and the holder's count then leave no choice but that the book names the registry.
 use Rattle.std.proofs.Common.{◌≡◌, ℕ, ◌+◌, List, true, Some, inl, inr, sym, ap, subst, ◌∙◌, arith}
 use Rattle.std.specs.Prelude.{◌&&◌}
 use Rattle.std.proofs.lemmas.Bool.{cond-false, cases_Bool, and_from, eqb-true}
@@ -17,11 +20,13 @@ use Rattle.protocol.specs.Claims.{HolderOwns}
 use Rattle.protocol.specs.History.{Transition, Entry, transitions_of, newest, number_of, has_serial, carries, gives, credits, at_start, holds, book_owner}
 use Rattle.safety.proofs.AgreementOfNodes.CausalHistories.{Causal, heard_sent}
 use Rattle.safety.proofs.AgreementOfNodes.CompletionsAgree.{done_status, given, credited, is_given, completed_once, log_has, initiator_has, log_completed}
-use Rattle.safety.proofs.ListLemmas.CountsInLists.{no_longer, picked, length_picked, In_picked, picked_In}
+use Rattle.lemmas.proofs.NoRepeats.{no_longer}
+use Rattle.safety.proofs.ListLemmas.CountsInLists.{picked, length_picked, In_picked, picked_In}
 use Rattle.safety.proofs.OneRegistry.TransactionEnds.{ends_last, completed_sent, known, proposer}
 use Rattle.safety.proofs.MovesAndHistories.NewestTransitions.{newest_id}
 use Rattle.safety.proofs.OneLog.OwnersInLog.{in_book, brings, brings_to, owner_is, log_ends_last, log_picked_once}
-use Rattle.safety.proofs.ListLemmas.Membership.{In, one_some}
+use Rattle.lemmas.proofs.Membership.{In}
+use Rattle.lemmas.proofs.OneValue.{one_some}
 
 module _ (scheme : Scheme) (f : Node → List Entry) (causal : Causal scheme f) where
   module _ (s : Serial) (c : Code) where

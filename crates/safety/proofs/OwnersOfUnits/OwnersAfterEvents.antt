@@ -1,4 +1,7 @@
--- An owner moves by a completion alone, where one node's history went on.
+-- An owner moves by a completion alone, where one node's history got longer.
+-- The lemmas compare two families of histories, before and after: one node has new transitions in front, and all others are unchanged. Each owner
+-- before has an owner after, which is the same one or one that a new completion moved the unit to (`onward`). As an owner is unique, the
+-- owner after is that one. At the end, one event is shown to commit at one node at most, and so to relate two such families.
 use Rattle.std.proofs.Common.{◌≡◌, ◌+◌, ◌≤◌, List, [], ◌++◌, Bool, true, false, Option, Some, option_map, ◌⊎◌, inl, inr, refl, sym, ap, subst, ◌∙◌, arith}
 use Rattle.std.specs.List.{list_any}
 use Rattle.std.proofs.lemmas.Bool.{cases_Bool, eqb-true, eq-eqb}
@@ -27,12 +30,16 @@ use Rattle.safety.proofs.OneLog.LogHearings.{IsAgreed}
 use Rattle.safety.proofs.AgreementOfNodes.CausalHistories.{Causal, LogAgrees, completed_agrees, ended}
 use Rattle.safety.proofs.WorldLemmas.CommittingEvents.{step_commits}
 use Rattle.safety.proofs.AgreementOfNodes.CompletionsAgree.{done_status, given, is_credited, stood, stands_so, completed_once, transfer, initiator_has, initiator_completed}
-use Rattle.safety.proofs.ListLemmas.CountsInLists.{NoRepeat, list_any_some, number_none, number_append, number_one, picked, picked_In, picked_append, no_repeat_apart}
+use Rattle.lemmas.proofs.NoRepeats.{NoRepeat, no_repeat_apart}
+use Rattle.lemmas.proofs.SomePass.{list_any_some}
+use Rattle.safety.proofs.ListLemmas.CountsInLists.{number_none, number_append, number_one, picked, picked_In, picked_append}
 use Rattle.safety.proofs.OneRegistry.TransactionEnds.{ends_last, own_contents, proposer}
 use Rattle.safety.proofs.MovesAndHistories.LongerHistories.{history_from_append, transitions_from}
 use Rattle.safety.proofs.MovesAndHistories.NewestTransitions.{Offered, newest_id, newest_append, newest_stands}
 use Rattle.safety.proofs.OneRegistry.UnitsCountedOnce.{Waits, local_history}
-use Rattle.safety.proofs.ListLemmas.Membership.{In, In_left, In_right, status_of_same, codes_differ, other_code, one_some, clash}
+use Rattle.lemmas.proofs.Membership.{In, In_left, In_right}
+use Rattle.lemmas.proofs.OneValue.{one_some, clash}
+use Rattle.safety.proofs.ListLemmas.TestsOfSameness.{status_of_same, codes_differ, other_code}
 use Rattle.safety.proofs.OwnersOfUnits.UnitsWithOneOwner.{held_or_owed, one_owner}
 use Rattle.safety.proofs.OneRegistry.InitiatorStatuses.{IsOwnStatus, own_statuses}
 use Rattle.safety.proofs.WorldLemmas.SchemesKept.{step_scheme}

@@ -1,4 +1,6 @@
--- Sums over the registries of a scheme, whose codes differ; and that each allotted unit starts at one of them.
+-- Sums over the registries of a scheme, and that each allotted unit starts at exactly one of them.
+-- The codes of the registries rise, so no two are the same, and a sum over registries counts what belongs to one of them once. If at each
+-- registry what is had and what is gone make up what was there and what came, then the sums do so too (`over_balance`).
 use Rattle.std.proofs.Common.{◌≡◌, ℕ, zero, suc, ◌+◌, ◌≤◌, ◌<◌, List, [], ◌∷◌, Bool, true, false, cond, Option, Some, None, option_map, is_some, inl, inr, refl, sym, ap, subst, ◌∙◌, arith, length, length-append, flat_map, find}
 use Rattle.std.specs.Prelude.{◌==◌}
 use Rattle.std.specs.List.{AllByRecursion}
@@ -21,8 +23,9 @@ use Rattle.scheme.specs.declared.registries.Scheme.{Scheme}
 use Rattle.protocol.specs.Claims.{over}
 use Rattle.protocol.specs.History.{number_of, at_start, is_with}
 use Rattle.protocol.specs.Registries.{allotted, has_member}
-use Rattle.safety.proofs.ListLemmas.CountsInLists.{NoRepeat, no_repeat_append}
-use Rattle.safety.proofs.ListLemmas.Membership.{In, In_left, In_right, In_find, In_flat_map, other_code}
+use Rattle.lemmas.proofs.NoRepeats.{NoRepeat, no_repeat_append}
+use Rattle.lemmas.proofs.Membership.{In, In_left, In_right, In_find, In_flat_map}
+use Rattle.safety.proofs.ListLemmas.TestsOfSameness.{other_code}
 
 -- ---- sums
 

@@ -1,4 +1,7 @@
 -- A unit is held once or owed once, in histories whose received messages were all sent.
+-- At each registry, what it gave away and what it has make up what it started with and what it took in (`local_history`). The sum over all
+-- registries leaves one unit, provided that as many transfers were handed over as were taken in.
+-- The two lists of transfers have the same members by `CompletionsAgree` and no repeats, so they are equally long.
 use Rattle.std.proofs.Common.{◌≡◌, ℕ, ◌+◌, List, Bool, true, false, not, cond, Some, is_some, option_map, inl, inr, sym, ap, subst, ◌∙◌, arith, length, flat_map}
 use Rattle.std.specs.Prelude.{◌&&◌}
 use Rattle.std.proofs.lemmas.Bool.{cases_Bool, and_parts, and_from, not-false, eqb-true}
@@ -18,11 +21,14 @@ use Rattle.protocol.specs.History.{Transition, Entry, transitions_of, newest, st
 use Rattle.protocol.specs.Registries.{allotted, has_member}
 use Rattle.safety.proofs.AgreementOfNodes.CausalHistories.{Causal}
 use Rattle.safety.proofs.AgreementOfNodes.CompletionsAgree.{done_status, given, credited, is_given, is_credited, stood, completed_once, transfer, initiator_completed}
-use Rattle.safety.proofs.ListLemmas.CountsInLists.{NoRepeat, same_length, number_two, picked, length_picked, In_picked, picked_In, number_parts}
+use Rattle.lemmas.proofs.NoRepeats.{NoRepeat, same_length}
+use Rattle.safety.proofs.ListLemmas.CountsInLists.{number_two, picked, length_picked, In_picked, picked_In, number_parts}
 use Rattle.safety.proofs.OneRegistry.TransactionEnds.{ends_last, own_contents}
 use Rattle.safety.proofs.MovesAndHistories.NewestTransitions.{newest_id}
 use Rattle.safety.proofs.OneRegistry.UnitsCountedOnce.{local_history}
-use Rattle.safety.proofs.ListLemmas.Membership.{In, In_flat_map, codes_differ, other_code, one_some}
+use Rattle.lemmas.proofs.Membership.{In, In_flat_map}
+use Rattle.lemmas.proofs.OneValue.{one_some}
+use Rattle.safety.proofs.ListLemmas.TestsOfSameness.{codes_differ, other_code}
 use Rattle.safety.proofs.WorldLemmas.NodesWithStation.{Unplaced}
 use Rattle.safety.proofs.OwnersOfUnits.SumsOverRegistries.{over_parts, over_same, over_balance, over_start, start_member, one_above, one_or_none, some_member, codes_rise, In_flat, length_flat, no_repeat_flat}
 

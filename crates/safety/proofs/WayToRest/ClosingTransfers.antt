@@ -1,4 +1,8 @@
 -- From a quiet world with room an open transfer is brought to its end, message by message.
+-- The stages of a transfer are proved closable from the last one to the first: the acquirer completes, the log completes, the initiator hears the
+-- answer, the log hears the acquirer, the acquirer hears the proposal, the log hears the proposal.
+-- Each stage sends the message that its last transition has sent, reads the next status in the table, and uses the stage after it. `close_one`
+-- finds out at which stage a transfer stands, by its newest transitions at the three nodes.
 use Rattle.units.specs.declared.code.Node.{Node}
 use Rattle.safety.proofs.MovesAndHistories.TableRows.{word_to}
 use Rattle.safety.proofs.OneRegistry.InitiatorStatuses.{own_statuses, IsOwnStatus}
@@ -6,14 +10,12 @@ use Rattle.safety.proofs.OneRegistry.RegistrySendings.{rejected_sent}
 use Rattle.safety.proofs.OneLog.LogSendings.{refusal, passed_open}
 use Rattle.safety.proofs.AgreementOfNodes.InitiatorRecords.{initiated}
 use Rattle.std.proofs.Common.{◌≡◌, ℕ, List, [], ◌∷◌, true, Option, Some, None, ◌⊎◌, inl, inr, refl, sym, ap, subst, ◌∙◌, arith}
-use Rattle.std.specs.Prelude.{option_map}
 use Rattle.std.proofs.lemmas.Bool.{cases_Bool}
 use Rattle.units.proofs.Same.{same_code-refl, code_of_same}
 use Rattle.units.specs.Code.{same_code}
 use Rattle.units.specs.declared.code.Node.TheVariants.{Itl, Registry}
 use Rattle.status.specs.Content.{Content}
 use Rattle.status.specs.Rows.{initiator_row, log_row, acquirer_row}
-use Rattle.status.specs.Status.{same_status}
 use Rattle.status.specs.declared.id.TransactionId.{TransactionId}
 use Rattle.status.specs.declared.moment.Moment.{Moment}
 use Rattle.status.specs.declared.words.Known.TheVariants.{Stands}
@@ -28,9 +30,9 @@ use Rattle.scheme.specs.declared.registries.Scheme.{Scheme}
 use Rattle.protocol.specs.AtLog.{ledger}
 use Rattle.protocol.specs.AtRegistry.{holding}
 use Rattle.protocol.specs.Checks.{acquirer_findings, log_findings}
-use Rattle.protocol.specs.Claims.{committed_of, is_received, IsEnd, IsUnderWay, StandsAt}
+use Rattle.protocol.specs.Claims.{committed_of, IsEnd, IsUnderWay, StandsAt}
 use Rattle.protocol.specs.Effects.{notifies, proposes}
-use Rattle.protocol.specs.History.{Entry, Transition, is_status, newest, sends, transitions_of}
+use Rattle.protocol.specs.History.{Entry, Transition, newest, sends, transitions_of}
 use Rattle.protocol.specs.Registries.{has_member}
 use Rattle.protocol.specs.WayOut.{IsOpen}
 use Rattle.protocol.specs.World.{World, run}
@@ -39,11 +41,12 @@ use Rattle.safety.proofs.AgreementOfNodes.CausalHistories.{Causal, completed_agr
 use Rattle.safety.proofs.AgreementOfNodes.CompletionsAgree.{stands_so, log_has, initiator_has, offered_sent}
 use Rattle.safety.proofs.OneRegistry.TransactionEnds.{completed_sent, ends_last, known, own_contents, proposer, proposer_of}
 use Rattle.safety.proofs.MovesAndHistories.NewestTransitions.{newest_id, newest_stands, Offered, Heard}
-use Rattle.safety.proofs.ListLemmas.Membership.{In, one_some}
+use Rattle.lemmas.proofs.Membership.{In}
+use Rattle.lemmas.proofs.OneValue.{one_some}
 use Rattle.safety.proofs.OneLog.LogHearings.{IsAgreed, log_backed}
 use Rattle.safety.proofs.WayToRest.SendingMessages.{Calm, Went, send}
 use Rattle.safety.proofs.WayToRest.SentByTransitions.{SaysAtLog, Tells, transition_sends}
-use Rattle.safety.proofs.WayToRest.TransferStages.{Closes, Stage, acquirer_is, already, at_most, cau, closed_when, ended_not_open, foreign, id_at, log_content, log_tells, log_tells_acquirer, newest_next, other_tells, own_offer, own_tells, room_less, room_log, room_registry, stage_next, table_at, then_log, then_registry, told_by}
+use Rattle.safety.proofs.WayToRest.TransferStages.{Closes, Stage, already, at_most, cau, closed_when, ended_not_open, foreign, id_at, log_content, log_tells, log_tells_acquirer, newest_next, other_tells, own_offer, own_tells, room_less, room_log, room_registry, stage_next, table_at, then_log, then_registry, told_by}
 use Rattle.safety.proofs.WorldLemmas.StationsAfterPut.{other_way}
 use Rattle.safety.proofs.WayToRest.TakenMessages.{Last, Room, acquirer_takes, acquirer_takes_offer, causal, initiator_takes, log_takes_notice, log_takes_offer, unplaced}
 use Rattle.safety.proofs.OneRegistry.RegistryHearings.{Cause, IsTaken, accepted_sent, told, OwnCause, told_own}

@@ -1,4 +1,6 @@
 -- In a quiet world a message that was sent can be posted, delivered and committed.
+-- `send` joins these events into one step. Its result `Went` says by equations what the receiver recorded, and that every other node's history is
+-- the same, so that the next step starts from a quiet world of the same scheme again.
 use Rattle.std.proofs.Common.{◌≡◌, ℕ, suc, ◌+◌, ◌≤◌, List, [], ◌∷◌, ◌++◌, true, false, cond, Some, inl, inr, sym, ap, subst, ◌∙◌, arith, length}
 use Rattle.std.proofs.lemmas.Bool.{cond-true, cond-false, cases_Bool}
 use Rattle.units.proofs.Same.{node_of_same}
@@ -21,7 +23,8 @@ use Rattle.protocol.specs.World.{World, receiver, run, sender, station}
 use Rattle.protocol.specs.declared.event.WorldEvent.{WorldEvent}
 use Rattle.protocol.specs.declared.event.WorldEvent.TheVariants.{Commit, Deliver, Post}
 use Rattle.safety.proofs.MovesAndHistories.LongerHistories.{history_from_append}
-use Rattle.safety.proofs.ListLemmas.Membership.{In, same_id_refl}
+use Rattle.lemmas.proofs.Membership.{In}
+use Rattle.safety.proofs.ListLemmas.TestsOfSameness.{same_id_refl}
 use Rattle.safety.proofs.WorldLemmas.QuietWorlds.{Grown, Quiet, delivers, quiet_after}
 use Rattle.safety.proofs.WorldLemmas.SchemesKept.{run_scheme}
 

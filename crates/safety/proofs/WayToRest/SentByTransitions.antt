@@ -1,4 +1,6 @@
--- What a transition that stands so has sent.
+-- What a transition that stands at some status has sent.
+-- By the forms of transitions, each status at an initiator, an acquirer or the log comes with a notification of that status to the next node, and
+-- an initiator has sent the proposal. These are the messages that bring an open transfer to its end.
 use Rattle.std.proofs.Common.{◌≡◌, ℕ, ◌+◌, List, [], ◌∷◌, true, false, Option, Some, ◌⊎◌, inl, inr, refl, sym, ap, subst, ◌∙◌}
 use Rattle.std.specs.Prelude.{flat_map}
 use Rattle.units.specs.Code.{same_code}
@@ -23,7 +25,8 @@ use Rattle.safety.proofs.MovesAndHistories.TransitionForms.{arrived, arrived_sta
 use Rattle.safety.proofs.OneRegistry.TransactionEnds.{each_move, own_code, own_about}
 use Rattle.safety.proofs.MovesAndHistories.NewestTransitions.{Made, made_registry, made_log, newest_id}
 use Rattle.safety.proofs.OneRegistry.UnitsCountedOnce.{initiator_new}
-use Rattle.safety.proofs.ListLemmas.Membership.{In, In_cases, In_left, In_right, clash}
+use Rattle.lemmas.proofs.Membership.{In, In_cases, In_left, In_right}
+use Rattle.lemmas.proofs.OneValue.{clash}
 use Rattle.safety.proofs.MovesAndHistories.TableMoves.{RegistryMove, proposes, asks, arrives, bares, settles, finishes, LogMove, checks, passes, cancels, forestalls}
 use Rattle.safety.proofs.MovesAndHistories.TableRows.{log_from, acquirer_from}
 

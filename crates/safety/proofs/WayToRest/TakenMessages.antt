@@ -1,4 +1,6 @@
 -- In a quiet world with room, a message that moves a transfer is recorded with the transition of its table.
+-- A message that was sent is refused for want of room alone (`WelcomeMessages`), and there is room. So the verdict is the row of the table, and
+-- the lemmas say for each kind of message and node which transition that row makes.
 use Rattle.status.specs.declared.words.Row.{Row}
 use Rattle.safety.proofs.MovesAndHistories.NewestTransitions.{newest_id}
 use Rattle.safety.proofs.MovesAndHistories.TableRows.{known_status, unless_same}
@@ -38,7 +40,7 @@ use Rattle.protocol.specs.Verdict.{verdict}
 use Rattle.protocol.specs.World.{World, receiver, sender}
 use Rattle.safety.proofs.MovesAndHistories.TransitionForms.{arrived, settled_messages, checked, told_to, moved}
 use Rattle.safety.proofs.AgreementOfNodes.CausalHistories.{Causal}
-use Rattle.safety.proofs.ListLemmas.Membership.{In}
+use Rattle.lemmas.proofs.Membership.{In}
 use Rattle.safety.proofs.WorldLemmas.NodesWithStation.{committed_unplaced}
 use Rattle.safety.proofs.MovesAndHistories.RefusalCauses.{Welcome}
 use Rattle.safety.proofs.WayToRest.SendingMessages.{Calm}

@@ -1,4 +1,7 @@
 -- How far a transfer has come in a quiet world, what was sent of it so far, and steps after one another.
+-- `Closes` is the claim about one transfer: some events of transport bring it to its end with a bounded number of records, and leave all other
+-- transfers alone. `then_log` and `then_registry` put one record before such a claim. `Stage` collects what is known of the transfer at its initiator,
+-- and the lemmas on it say what the other two nodes know and have sent.
 use Rattle.std.proofs.lemmas.Bool.{cases_Bool}
 use Rattle.std.proofs.Common.{◌≡◌, ℕ, ◌+◌, ◌≤◌, List, [], true, false, Option, Some, inl, inr, refl, sym, ap, subst, ◌∙◌, arith, length, ◌⊎◌}
 use Rattle.units.proofs.Same.{same_code-refl, code_of_same}
@@ -20,7 +23,7 @@ use Rattle.wire.specs.declared.message.ProposalStatus.TheVariants as proposal
 use Rattle.wire.specs.declared.notice.Notice.{Notice}
 use Rattle.wire.specs.declared.notice.Notice.TheVariants as notice
 use Rattle.scheme.specs.declared.registries.Scheme.{Scheme}
-use Rattle.protocol.specs.Claims.{committed_of, is_received, IsEnd, IsUnderWay, StandsAt}
+use Rattle.protocol.specs.Claims.{committed_of, IsEnd, IsUnderWay, StandsAt}
 use Rattle.protocol.specs.Effects.{notifies, proposes}
 use Rattle.protocol.specs.History.{Entry, Transition, newest, sends, transitions_of}
 use Rattle.protocol.specs.Registries.{has_member}
@@ -30,7 +33,8 @@ use Rattle.safety.proofs.AgreementOfNodes.CausalHistories.{Causal}
 use Rattle.safety.proofs.AgreementOfNodes.CompletionsAgree.{offered_sent, log_has, initiator_has}
 use Rattle.safety.proofs.OneRegistry.TransactionEnds.{offered, proposer, known, proposer_of}
 use Rattle.safety.proofs.MovesAndHistories.NewestTransitions.{newest_id, newest_stands}
-use Rattle.safety.proofs.ListLemmas.Membership.{In, one_some}
+use Rattle.lemmas.proofs.Membership.{In}
+use Rattle.lemmas.proofs.OneValue.{one_some}
 use Rattle.safety.proofs.WayToRest.SendingMessages.{Calm, Went}
 use Rattle.safety.proofs.WayToRest.SentByTransitions.{SaysAtLog, SaysOther, SaysOwn, log_has_said, other_said, own_said, transition_sends, own_offered, cancelled_said}
 use Rattle.safety.proofs.WorldLemmas.StationsAfterPut.{other_way}

@@ -1,30 +1,29 @@
 -- From every world with room, events of transport lead to one at rest.
-use Rattle.safety.proofs.ListLemmas.Positions.{In_contains}
+-- First all nodes are made quiet (`WakingNodes`). Then the open transfers are closed one after another (`ClosingTransfers`), each with at most three
+-- records at a node and with no change to the others. At the end no transfer is open, so no unit is reserved or owed, and the owner of each unit
+-- is a registry that can spend it.
+use Rattle.lemmas.proofs.Positions.{In_contains}
 use Rattle.safety.proofs.OneRegistry.RegistryHearings.{IsTaken, accepted_sent}
 use Rattle.safety.proofs.OneLog.LogHearings.{log_backed}
 use Rattle.safety.proofs.OneRegistry.TransactionEnds.{proposer_of}
 use Rattle.safety.proofs.AgreementOfNodes.CausalHistories.{Causal, LogAgrees, completed_agrees, ended, heard_sent}
-use Rattle.std.proofs.Common.{◌≡◌, ◌+◌, ◌*◌, ◌≤◌, List, [], ◌∷◌, Bool, true, false, Option, Some, None, ◌⊎◌, inl, inr, refl, sym, ap, subst, ◌∙◌, arith, length, lit≤}
-use Rattle.std.specs.Prelude.{◌&&◌, ◌||◌, not, option_map, flat_map}
-use Rattle.std.proofs.lemmas.Bool.{cases_Bool, and_parts, and_from, not-true}
-use Rattle.units.proofs.Same.{code_of_same, same_code-refl}
+use Rattle.std.proofs.Common.{◌≡◌, ◌+◌, ◌*◌, ◌≤◌, List, [], ◌∷◌, true, false, Option, Some, None, inl, inr, refl, sym, ap, subst, ◌∙◌, arith, length, lit≤}
+use Rattle.std.specs.Prelude.{◌&&◌, not, option_map}
+use Rattle.std.proofs.lemmas.Bool.{cases_Bool, and_parts, and_from}
 use Rattle.units.specs.Code.{same_code}
 use Rattle.units.specs.declared.block.Unit.{Unit as Serial}
 use Rattle.units.specs.declared.code.Code.{Code}
 use Rattle.units.specs.declared.code.Node.{Node}
 use Rattle.units.specs.declared.code.Node.TheVariants.{Itl, Registry}
-use Rattle.status.specs.Content.{Content}
 use Rattle.status.specs.Id.{same_id}
-use Rattle.status.specs.Status.{same_status}
 use Rattle.status.specs.declared.id.TransactionId.{TransactionId}
 use Rattle.status.specs.declared.moment.Moment.{Moment}
 use Rattle.status.specs.declared.words.Status.{Status}
 use Rattle.status.specs.declared.words.Status.TheVariants.{Proposed, Completed, Accepted}
 use Rattle.wire.specs.declared.input.Input.{Input}
-use Rattle.scheme.specs.declared.members.Member.{Member}
 use Rattle.scheme.specs.declared.registries.Scheme.{Scheme}
 use Rattle.protocol.specs.Claims.{at_registry, committed_of, is_received, live_of, whole}
-use Rattle.protocol.specs.History.{Entry, Transition, carries, holds, is_status, newest, number_of, reserved, spendable, stands_at, transitions_of}
+use Rattle.protocol.specs.History.{Entry, Transition, carries, holds, is_status, newest, reserved, spendable, stands_at, transitions_of}
 use Rattle.protocol.specs.Owner.{At, Due, Owner, Owing, Owns}
 use Rattle.protocol.specs.Registries.{has_member}
 use Rattle.protocol.specs.Verdict.{extend, history_from}
@@ -32,20 +31,18 @@ use Rattle.protocol.specs.WayOut.{AtRest, IsOpen, WayOut}
 use Rattle.protocol.specs.World.{World, run, station}
 use Rattle.safety.proofs.WayToRest.ClosingTransfers.{close_one}
 use Rattle.safety.proofs.AgreementOfNodes.CompletionsAgree.{stood, initiator_has}
-use Rattle.safety.proofs.ListLemmas.CountsInLists.{length_picked, list_any_some, picked, picked_In}
-use Rattle.safety.proofs.MovesAndHistories.NewestTransitions.{newest_id}
-use Rattle.safety.proofs.ListLemmas.Membership.{In, id_of_same, same_id_refl, same_status_refl, status_of_same, one_some}
+use Rattle.lemmas.proofs.SomePass.{list_any_some}
+use Rattle.lemmas.proofs.Membership.{In}
+use Rattle.lemmas.proofs.OneValue.{one_some}
+use Rattle.safety.proofs.ListLemmas.TestsOfSameness.{id_of_same, same_id_refl}
 use Rattle.safety.proofs.OwnersOfUnits.UnitsWithOneOwner.{causal_one_owner}
-use Rattle.safety.proofs.WorldLemmas.NodesWithStation.{AllPlaced, live_unplaced}
+use Rattle.safety.proofs.WorldLemmas.NodesWithStation.{AllPlaced}
 use Rattle.safety.proofs.WorldLemmas.QuietWorlds.{Quiet, there}
 use Rattle.safety.proofs.WorldLemmas.SchemesKept.{run_scheme}
 use Rattle.safety.proofs.WayToRest.SendingMessages.{Calm}
 use Rattle.safety.proofs.WorldLemmas.SoundWorlds.{Sound, committed_causal}
-use Rattle.safety.proofs.WayToRest.TransferStages.{Closes, already}
-use Rattle.safety.proofs.OwnersOfUnits.SumsOverRegistries.{In_flat, length_flat, over_same, some_member}
 use Rattle.safety.proofs.WayToRest.TakenMessages.{Room}
 use Rattle.safety.proofs.WayToRest.WakingNodes.{Reaches, quieted, reaches_on}
-use Rattle.safety.proofs.WorldLemmas.NodesWithStation.{Unplaced}
 
 -- a transaction is open by its newest transitions
 open_same : (f g : Node → List Entry) (u : TransactionId) → ((n : Node) → newest (transitions_of (f n)) u ≡ newest (transitions_of (g n)) u) → IsOpen f u → IsOpen g u

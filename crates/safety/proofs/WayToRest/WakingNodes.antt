@@ -1,4 +1,6 @@
--- Every world leads to a quiet one: each stopped node starts, and each node commits all of its tail.
+-- Every world leads to a quiet one: each stopped node starts, and each node commits all of its journal.
+-- `Woken` says what events of transport do for one node, and the nodes are taken one after another. The journal of every node, committed and
+-- tail together, is the same before and after.
 use Rattle.std.proofs.Common.{◌≡◌, List, [], ◌∷◌, ◌++◌, true, false, cond, Option, Some, None, inl, inr, refl, sym, ap, subst, ◌∙◌, take, drop, length, map, arith}
 use Rattle.std.specs.Prelude.{nat_le}
 use Rattle.std.proofs.lemmas.Bool.{cases_Bool, cond-true, cond-false, le-leb}
@@ -14,7 +16,8 @@ use Rattle.protocol.specs.World.{World, Station, Turn, station, journal, put, re
 use Rattle.protocol.specs.declared.event.Outcome.TheVariants.{Done, NotPossible}
 use Rattle.protocol.specs.declared.event.WorldEvent.{WorldEvent}
 use Rattle.protocol.specs.declared.event.WorldEvent.TheVariants.{Take, Commit, Post, Deliver, Crash, Restart}
-use Rattle.safety.proofs.ListLemmas.Membership.{In, In_find, map_In, one_some}
+use Rattle.lemmas.proofs.Membership.{In, In_find, map_In}
+use Rattle.lemmas.proofs.OneValue.{one_some}
 use Rattle.safety.proofs.WorldLemmas.NodesWithStation.{AllPlaced, run_placed}
 use Rattle.safety.proofs.WorldLemmas.QuietWorlds.{Quiet, run_append}
 use Rattle.safety.proofs.WorldLemmas.SchemesKept.{run_scheme}

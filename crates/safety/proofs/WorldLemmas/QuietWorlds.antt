@@ -1,4 +1,6 @@
 -- Worlds where every node is idle, and how a node records one more input in them.
+-- A node that is idle runs and has committed its whole journal. One event makes it take an input that its verdict enters, and a commit
+-- makes it idle again. `Grown` says so by equations: the node's journal has one input more, and all other nodes are as they were.
 use Rattle.std.proofs.Common.{◌≡◌, ℕ, List, [], ◌∷◌, ◌++◌, Bool, true, false, Option, Some, None, inl, inr, refl, sym, ap, subst, ◌∙◌, length}
 use Rattle.std.specs.Prelude.{slice_get, option_and_then}
 use Rattle.std.proofs.lemmas.Bool.{cases_Bool, cond-true}
@@ -23,9 +25,10 @@ use Rattle.protocol.specs.declared.event.Outcome.TheVariants.{NotPossible}
 use Rattle.protocol.specs.declared.event.Posted.{Posted}
 use Rattle.protocol.specs.declared.event.WorldEvent.{WorldEvent}
 use Rattle.protocol.specs.declared.event.WorldEvent.TheVariants.{Take, Commit, Post, Deliver}
-use Rattle.safety.proofs.ListLemmas.Membership.{In, In_find, In_map, one_some}
+use Rattle.lemmas.proofs.Membership.{In, In_find, In_map}
+use Rattle.lemmas.proofs.OneValue.{one_some}
 use Rattle.safety.proofs.WorldLemmas.NodesWithStation.{AllPlaced, run_placed, opening_placed, some_there}
-use Rattle.safety.proofs.ListLemmas.Positions.{place_of, last_at}
+use Rattle.lemmas.proofs.Positions.{place_of, last_at}
 use Rattle.safety.proofs.WorldLemmas.SoundWorlds.{Sound, run_sound, opening_sound}
 use Rattle.safety.proofs.WorldLemmas.StationsAfterPut.{found_at_node, at_put, at_elsewhere}
 

@@ -1,5 +1,8 @@
--- The one invariant of the world: every message in the bag, and every message that a node received, is among what the
+-- The one invariant of worlds, `Sound`: every message in the bag, and every message that a node received, is among what the
 -- committed journal of its sender sends.
+-- Each event is a turn of at most one node, and `Keeps` says what such a turn leaves true: committed journals only get longer, so that what was
+-- sent stays sent, and a new input is an order or a message of the bag. The opening world has no journals. The families of
+-- histories of a sound world, live or committed, are therefore `Causal`.
 use Rattle.std.proofs.Common.{◌≡◌, ℕ, List, [], ◌∷◌, ◌++◌, Bool, true, false, cond, Option, Some, None, inl, inr, refl, sym, ap, subst, ◌∙◌, take, drop, map, length, append_assoc, take-append-drop}
 use Rattle.std.specs.Prelude.{nat_le, slice_get, option_and_then}
 use Rattle.std.proofs.lemmas.Bool.{cases_Bool}
@@ -26,8 +29,8 @@ use Rattle.protocol.specs.declared.event.WorldEvent.TheVariants.{Take, Commit, P
 use Rattle.safety.proofs.AgreementOfNodes.CausalHistories.{Causal}
 use Rattle.safety.proofs.MovesAndHistories.LongerHistories.{made_history, sends_append, got_append, got_more}
 use Rattle.safety.proofs.MovesAndHistories.NewestTransitions.{Got}
-use Rattle.safety.proofs.ListLemmas.Membership.{In, In_cases, In_slice_get}
-use Rattle.safety.proofs.ListLemmas.Positions.{left_empty}
+use Rattle.lemmas.proofs.Membership.{In, In_cases, In_slice_get}
+use Rattle.lemmas.proofs.Positions.{left_empty}
 use Rattle.safety.proofs.MovesAndHistories.MessageSenders.{sender_sends}
 use Rattle.safety.proofs.WorldLemmas.StationsAfterPut.{at, found_at_node, at_put, at_elsewhere}
 

@@ -6,7 +6,7 @@ use Rattle.units.proofs.Same.{node_of_same, same_node-refl}
 use Rattle.units.specs.Code.{same_node}
 use Rattle.units.specs.declared.code.Node.{Node}
 use Rattle.protocol.specs.World.{Station, put_station}
-use Rattle.safety.proofs.ListLemmas.Membership.{In_find}
+use Rattle.lemmas.proofs.Membership.{In_find}
 
 abbrev pub at : Node → List Station → Option Station
 at n xs = find (λ s. same_node s.node n) xs

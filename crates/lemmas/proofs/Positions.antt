@@ -2,7 +2,7 @@
 use Rattle.std.proofs.Common.{◌≡◌, ℕ, zero, suc, ◌<◌, List, [], ◌∷◌, ◌++◌, Some, inl, inr, refl, ap, subst, arith, length, take, drop, take-append-drop}
 use Rattle.std.specs.Prelude.{slice_get, get_or, Contains}
 use Rattle.std.proofs.lemmas.Option.{slice_get_within, get_or_from_slice_get}
-use Rattle.safety.proofs.ListLemmas.Membership.{In, In_left}
+use Rattle.lemmas.proofs.Membership.{In, In_left}
 
 In_get_or : {X : Type 0} (xs : List X) (k : ℕ) (d : X) → k < length xs → In (get_or xs k d) xs
 In_get_or [] k d h = absurd (omega arith)

@@ -1,0 +1,5 @@
+pub mod Membership
+pub mod OneValue
+pub mod Positions
+pub mod SomePass
+pub mod NoRepeats

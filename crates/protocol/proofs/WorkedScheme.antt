@@ -1,5 +1,6 @@
 -- A scheme of two registries as a value, and short names for the events that happen under it: NZ has a hundred units in
 -- its account 1, and JP has none.
+use Rattle.std.specs.List.{count_by}
 use Rattle.std.proofs.Common.{◌≡◌, ℕ, ◌+◌, ◌<◌, ◌≤◌, ◌^◌, true, Bool, List, [], ◌∷◌, map, Option, Some, refl, ap, arith, lit<, lit≤}
 use Rattle.std.specs.Prelude.{slice_get, filter, option_and_then, option_map}
 use Rattle.units.specs.Facts.{IsLetter, IsRange}
@@ -30,7 +31,7 @@ use Rattle.protocol.specs.declared.event.WorldEvent.{WorldEvent}
 use Rattle.protocol.specs.declared.event.WorldEvent.TheVariants.{Take, Commit, Post, Deliver, Crash, Restart}
 use Rattle.protocol.specs.Claims as claims
 use Rattle.protocol.specs.History as past
-use Rattle.protocol.specs.History.{Place, transitions_of, number_of}
+use Rattle.protocol.specs.History.{Place, transitions_of}
 use Rattle.protocol.specs.Pieces.{up_from}
 use Rattle.protocol.specs.World.{World, opening, run, station, sent}
 
@@ -266,10 +267,10 @@ abbrev numbers : List ℕ
 numbers = up_from 1 101
 
 abbrev pub held_units : World → Code → ℕ
-held_units w c = number_of (holds w c) numbers
+held_units w c = count_by (holds w c) numbers
 
 abbrev pub spendable_units : World → Code → ℕ
-spendable_units w c = number_of (spendable w c) numbers
+spendable_units w c = count_by (spendable w c) numbers
 
 abbrev pub owed_units : World → ℕ
 owed_units w = in_all numbers

@@ -1,4 +1,5 @@
 -- What is claimed of the histories of all nodes.
+use Rattle.std.specs.List.{count_by, sum_by}
 use Rattle.std.specs.Prelude.{◌≡◌, ◌≤◌, ◌⊎◌, ℕ, ◌+◌, ◌&&◌, not, cond, is_some, Bool, true, false, List, [], ◌∷◌, ◌++◌, Contains, Option, Some, None}
 use Rattle.std.specs.Option.{option_map_or}
 use Rattle.units.specs.declared.block.Unit.{Unit as Serial}
@@ -21,7 +22,7 @@ use Rattle.scheme.specs.declared.registries.Scheme.{Scheme}
 use Rattle.protocol.specs.declared.event.Outcome.TheVariants.{Refused}
 use Rattle.protocol.specs.declared.event.WorldEvent.TheVariants.{Deliver}
 use Rattle.protocol.specs.Deciding.{Enters}
-use Rattle.protocol.specs.History.{Entry, Transition, transitions_of, newest, stands, stands_at, sends, number_of, holds, spendable, gives, credits, at_start, book_owner, carries}
+use Rattle.protocol.specs.History.{Entry, Transition, transitions_of, newest, stands, stands_at, sends, holds, spendable, gives, credits, at_start, book_owner, carries}
 use Rattle.protocol.specs.Registries.{allotted}
 use Rattle.protocol.specs.Verdict.{history, verdict}
 use Rattle.protocol.specs.World.{World, Station, station, journal, step}
@@ -56,11 +57,6 @@ Agrees f = (t : TransactionId) (n m : Node) → StandsAt f n t Completed → (St
 
 -- ---- one place
 
--- a sum over the registries
-abbrev pub over : (Member → ℕ) → List Member → ℕ
-over g [] = 0
-over g (m ∷ ms) = g m + over g ms
-
 -- the transfer stands Completed at its acquirer
 abbrev pub is_received : (Node → List Entry) → TransactionId → Option Content → Bool
 is_received f t k = option_map_or (λ content. stands_at (at_registry f content.acquirer) t Completed) k false
@@ -71,10 +67,10 @@ owes f c s x = gives c s x && not (is_received f x.id x.content)
 
 -- how many registries hold the unit, and how many completed transfers owe it
 abbrev pub holders : Scheme → (Node → List Entry) → Serial → ℕ
-holders scheme f s = number_of (λ m. holds scheme m.code (at_registry f m.code) s) scheme.members
+holders scheme f s = count_by (λ m. holds scheme m.code (at_registry f m.code) s) scheme.members
 
 abbrev pub owed : Scheme → (Node → List Entry) → Serial → ℕ
-owed scheme f s = over (λ m. number_of (owes f m.code s) (at_registry f m.code)) scheme.members
+owed scheme f s = sum_by (λ m. count_by (owes f m.code s) (at_registry f m.code)) scheme.members
 
 -- an allotted unit is held once or owed by exactly one completed transfer; no other unit is held or owed
 abbrev pub OnePlace : Scheme → (Node → List Entry) → Type 0
@@ -93,11 +89,11 @@ HolderOwns scheme f = (s : Serial) (c : Code) → holds scheme c (at_registry f 
 -- a unit is counted there once or not at all
 abbrev pub CountedOnce : Scheme → Code → List Transition → Type 0
 CountedOnce scheme c xs =
-    (s : Serial) → (number_of (gives c s) xs ≤ at_start scheme c s + number_of (credits c s) xs) × (at_start scheme c s + number_of (credits c s) xs ≤ number_of (gives c s) xs + 1)
+    (s : Serial) → (count_by (gives c s) xs ≤ at_start scheme c s + count_by (credits c s) xs) × (at_start scheme c s + count_by (credits c s) xs ≤ count_by (gives c s) xs + 1)
 
 -- a transition to Completed is the newest of its transaction, and its only one
 abbrev pub CompletedOnce : List Transition → Type 0
-CompletedOnce xs = (x : Transition) → Contains xs x → x.new ≡ Completed → (newest xs x.id ≡ Some x) × (number_of (λ y. same_id y.id x.id && same_status y.new Completed) xs ≡ 1)
+CompletedOnce xs = (x : Transition) → Contains xs x → x.new ≡ Completed → (newest xs x.id ≡ Some x) × (count_by (λ y. same_id y.id x.id && same_status y.new Completed) xs ≡ 1)
 
 -- ---- of the log alone, whatever it is given
 

@@ -2,7 +2,7 @@
 -- A journal is the list of the inputs that a node recorded, the oldest first. A history is the list of these inputs with
 -- their transitions, the newest first.
 use Rattle.std.specs.Prelude.{ℕ, suc, ◌+◌, ◌==◌, ◌&&◌, ◌||◌, not, cond, Bool, true, false, List, [], ◌∷◌, ◌++◌, find, flat_map, map, unwrap_or, Option, Some, None, option_map, option_and_then, is_some}
-use Rattle.std.specs.List.{list_any}
+use Rattle.std.specs.List.{list_any, count_by}
 use Rattle.std.specs.Option.{option_map_or}
 use Rattle.units.specs.Code.{same_code}
 use Rattle.units.specs.Unit.{has_unit}
@@ -23,11 +23,6 @@ use Rattle.scheme.specs.declared.members.Holder.{Holder}
 use Rattle.scheme.specs.declared.registries.Scheme.{Scheme}
 use Rattle.units.specs.Unit.{have_unit}
 use Rattle.protocol.specs.Registries.{member, allotted}
-
--- how many of them pass the test
-abbrev pub number_of : {X : Type 0} → (X → Bool) → List X → ℕ
-number_of p [] = 0
-number_of p (x ∷ xs) = cond (p x) (suc (number_of p xs)) (number_of p xs)
 
 -- what a record does to a transaction: its status from then on, its content where that is known
 -- here, when that was (in seconds), and the messages that go out
@@ -86,7 +81,7 @@ is_proposal_order _ = false
 
 -- how many orders to transfer units are recorded
 abbrev pub proposals : List Entry → ℕ
-proposals es = number_of (λ e. is_proposal_order e.input) es
+proposals es = count_by (λ e. is_proposal_order e.input) es
 
 abbrev pub is_request_of : TransactionId → Input → Bool
 is_request_of t (Request u) = same_id u t
@@ -121,7 +116,7 @@ at_start scheme c s = cond (is_with c (allotted scheme s)) 1 0
 
 -- the unit is held: allotted here or credited, less given, it is there once
 abbrev pub holds : Scheme → Code → List Transition → Serial → Bool
-holds scheme c xs s = (at_start scheme c s + number_of (credits c s) xs) == (number_of (gives c s) xs + 1)
+holds scheme c xs s = (at_start scheme c s + count_by (credits c s) xs) == (count_by (gives c s) xs + 1)
 
 -- a transfer with the unit stands Proposed here as initiator
 abbrev pub reserved : Code → List Transition → Serial → Bool

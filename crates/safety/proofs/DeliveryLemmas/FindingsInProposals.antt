@@ -6,7 +6,7 @@
 use Rattle.units.specs.Unit.{have_unit}
 use Rattle.std.proofs.Common.{◌≡◌, ℕ, ◌+◌, List, [], ◌∷◌, Bool, true, false, not, Option, Some, None, ◌⊎◌, inl, inr, refl, sym, ap, subst, ◌∙◌, arith}
 use Rattle.std.specs.Prelude.{◌&&◌, ◌||◌, is_some, is_none, filter}
-use Rattle.std.specs.List.{list_any}
+use Rattle.std.specs.List.{list_any, count_by}
 use Rattle.std.proofs.lemmas.Bool.{cases_Bool, and_parts, or_cases, or_from, not_from_true, eq-eqb}
 use Rattle.units.proofs.Same.{code_of_same, same_code-refl}
 use Rattle.units.specs.Code.{same_code}
@@ -25,7 +25,7 @@ use Rattle.scheme.specs.declared.registries.Scheme.{Scheme}
 use Rattle.protocol.specs.AtLog.{ledger}
 use Rattle.protocol.specs.Checks.{Causes, codes_of, is_owner, is_of_another, log_findings}
 use Rattle.protocol.specs.Claims.{at_registry, is_received}
-use Rattle.protocol.specs.History.{Transition, Entry, transitions_of, newest, stands_at, sends, number_of, has_serial, carries, gives, credits, at_start, busy}
+use Rattle.protocol.specs.History.{Transition, Entry, transitions_of, newest, stands_at, sends, has_serial, carries, gives, credits, at_start, busy}
 use Rattle.protocol.specs.Owner.{At, Owns}
 use Rattle.protocol.specs.Pieces.{Piece, pieces}
 use Rattle.protocol.specs.Registries.{allotted, has_member}
@@ -117,7 +117,7 @@ module _ (scheme : Scheme) (f : Node → List Entry) (causal : Causal scheme f) 
       let k = l.kept t w in
       let h = l.high in (
         registry_known scheme f causal unplaced c t w.last w.is,
-        eq-eqb (at_start scheme c s + number_of (credits c s) (at_registry f c)) (number_of (gives c s) (at_registry f c) + 1) (omega arith),
+        eq-eqb (at_start scheme c s + count_by (credits c s) (at_registry f c)) (count_by (gives c s) (at_registry f c) + 1) (omega arith),
       )
 
   -- a proposal that was sent and that the log doesn't know waits

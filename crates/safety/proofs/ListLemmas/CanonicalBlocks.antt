@@ -3,7 +3,7 @@
 -- keep every tally. A list of pieces has no repeats exactly if every tally is at most one, so the canonical form has none if the blocks had none.
 use Rattle.std.proofs.Common.{◌≡◌, ℕ, zero, suc, ◌+◌, ◌-◌, ◌≤◌, List, [], ◌∷◌, ◌++◌, Bool, true, false, cond, inl, inr, refl, sym, ap, subst, ◌∙◌, arith, map, append_assoc}
 use Rattle.std.specs.Prelude.{◌||◌, ◌==◌, nat_lt}
-use Rattle.std.specs.List.{list_any}
+use Rattle.std.specs.List.{list_any, count_by}
 use Rattle.std.proofs.lemmas.Bool.{cases_Bool, and_parts, or_parts, eqb-true, ltb-false}
 use Rattle.units.proofs.Same.{code_of_same}
 use Rattle.units.specs.Code.{same_code}
@@ -12,7 +12,6 @@ use Rattle.units.specs.declared.block.RawBlock.{RawBlock}
 use Rattle.units.specs.declared.block.Unit.{Unit as Serial}
 use Rattle.status.proofs.Contents.{kind_of_same}
 use Rattle.protocol.specs.Checks.{is_out_of_range}
-use Rattle.protocol.specs.History.{number_of}
 use Rattle.units.specs.Canonical.{canonical, put_block, join_block, in_order, joined, comes_before, goes_on}
 use Rattle.units.specs.Unit.{have_unit}
 use Rattle.protocol.specs.Pieces.{Piece, piece, pieces, pieces_of, repeats, same_unit, up_from}
@@ -25,7 +24,7 @@ abbrev is_at : Serial → Piece → Bool
 is_at s p = same_unit p.unit s
 
 abbrev tally : Serial → List Piece → ℕ
-tally s ps = number_of (is_at s) ps
+tally s ps = count_by (is_at s) ps
 
 repeats_tally : (ps : List Piece) → repeats ps ≡ false → (s : Serial) → tally s ps ≤ 1
 repeats_tally [] h s = omega arith

@@ -3,6 +3,7 @@
 -- registry the book's moves to it and from it make up whether the registry is the owner.
 -- A check without findings puts a transfer under way, and a completion moves the unit; all other moves leave the unit alone (`still`). That ended
 -- transfers stay as they are follows from the log's table.
+use Rattle.std.specs.List.{count_by}
 use Rattle.std.proofs.Common.{◌≡◌, ℕ, ◌+◌, List, [], ◌∷◌, ◌++◌, Bool, true, false, cond, Option, Some, None, ◌⊎◌, inl, inr, refl, sym, ap, subst, ◌∙◌, arith}
 use Rattle.std.specs.Prelude.{◌&&◌, ◌||◌, option_map, is_none}
 use Rattle.std.proofs.lemmas.Bool.{and_from, and_left, and_right, not-false, cond-true, cond-false, cases_Bool}
@@ -25,7 +26,7 @@ use Rattle.protocol.specs.AtLog.{ledger}
 use Rattle.protocol.specs.Checks.{is_owner, is_of_another, log_causes, log_findings}
 use Rattle.protocol.specs.Claims.{IsEnd, IsUnderWay, EndsStay, UnderWayApart, OwnedByInitiator}
 use Rattle.protocol.specs.Effects.{notifies}
-use Rattle.protocol.specs.History.{Transition, Entry, transitions_of, newest, stands, stands_at, is_status, number_of, has_serial, carries, gives, at_start, is_with, book_owner, busy}
+use Rattle.protocol.specs.History.{Transition, Entry, transitions_of, newest, stands, stands_at, is_status, has_serial, carries, gives, at_start, is_with, book_owner, busy}
 use Rattle.protocol.specs.Pieces.{Piece, pieces}
 use Rattle.protocol.specs.Registries.{allotted}
 use Rattle.protocol.specs.Verdict.{verdict, made as made_of, extend, history_from, history}
@@ -69,13 +70,13 @@ brings c s x = same_status x.new Completed && (brings_to x.content c && carries 
 pub record InBook (scheme : Scheme) (s : Serial) (xs : List Transition) : Type 0 where
   pub owner : (t : TransactionId) → Busy s xs t → book_owner scheme xs s ≡ Some t.code
   pub one : (t u : TransactionId) → Busy s xs t → Busy s xs u → t ≡ u
-  pub counts : (c : Code) → at_start scheme c s + number_of (brings c s) xs ≡ number_of (gives c s) xs + cond (is_owner (book_owner scheme xs s) c) 1 0
+  pub counts : (c : Code) → at_start scheme c s + count_by (brings c s) xs ≡ count_by (gives c s) xs + cond (is_owner (book_owner scheme xs s) c) 1 0
 
 and_true : (b : Bool) → (b && true) ≡ b
 and_true true = refl
 and_true false = refl
 
-one_more : (p : Transition → Bool) (x : Transition) (xs : List Transition) (b : Bool) → p x ≡ b → number_of p (x ∷ xs) ≡ cond b 1 0 + number_of p xs
+one_more : (p : Transition → Bool) (x : Transition) (xs : List Transition) (b : Bool) → p x ≡ b → count_by p (x ∷ xs) ≡ cond b 1 0 + count_by p xs
 one_more p x xs true e = let u = count_yes p x xs e in omega arith
 one_more p x xs false e = let u = count_no p x xs e in omega arith
 
@@ -121,8 +122,8 @@ module _ (scheme : Scheme) (s : Serial) where
   book_same x xs n = cond-false (same_status x.new Completed && carries x s) (option_map (λ (k : Content). k.acquirer) x.content) (book_owner scheme xs s) n
 
   counts_same : (x : Transition) (xs : List Transition) (c : Code) → (same_status x.new Completed && carries x s) ≡ false
-      → at_start scheme c s + number_of (brings c s) xs ≡ number_of (gives c s) xs + cond (is_owner (book_owner scheme xs s) c) 1 0
-      → at_start scheme c s + number_of (brings c s) (x ∷ xs) ≡ number_of (gives c s) (x ∷ xs) + cond (is_owner (book_owner scheme (x ∷ xs) s) c) 1 0
+      → at_start scheme c s + count_by (brings c s) xs ≡ count_by (gives c s) xs + cond (is_owner (book_owner scheme xs s) c) 1 0
+      → at_start scheme c s + count_by (brings c s) (x ∷ xs) ≡ count_by (gives c s) (x ∷ xs) + cond (is_owner (book_owner scheme (x ∷ xs) s) c) 1 0
   counts_same x xs c n old =
       let i = count_no (brings c s) x xs (without_middle (same_status x.new Completed) (brings_to x.content c) (carries x s) n) in
       let o = count_no (gives c s) x xs (without_middle (same_status x.new Completed) (same_code x.id.code c) (carries x s) n) in
@@ -177,14 +178,14 @@ module _ (scheme : Scheme) (s : Serial) where
 
   -- the counts where the book moves the unit
   moved_counts : (xs : List Transition) (d : Code) (x : Transition) (k : Content) (c : Code) → x.new ≡ Completed → x.id.code ≡ d → x.content ≡ Some k → carries x s ≡ true → book_owner scheme xs s ≡ Some d
-      → book_owner scheme (x ∷ xs) s ≡ Some k.acquirer → at_start scheme c s + number_of (brings c s) xs ≡ number_of (gives c s) xs + cond (is_owner (book_owner scheme xs s) c) 1 0
-      → at_start scheme c s + number_of (brings c s) (x ∷ xs) ≡ number_of (gives c s) (x ∷ xs) + cond (is_owner (book_owner scheme (x ∷ xs) s) c) 1 0
+      → book_owner scheme (x ∷ xs) s ≡ Some k.acquirer → at_start scheme c s + count_by (brings c s) xs ≡ count_by (gives c s) xs + cond (is_owner (book_owner scheme xs s) c) 1 0
+      → at_start scheme c s + count_by (brings c s) (x ∷ xs) ≡ count_by (gives c s) (x ∷ xs) + cond (is_owner (book_owner scheme (x ∷ xs) s) c) 1 0
   moved_counts xs d x k c done same is has before after old =
       let done' : same_status x.new Completed ≡ true = subst (λ z. same_status z Completed ≡ true) (sym done) refl in
-      let i : number_of (brings c s) (x ∷ xs) ≡ cond (same_code k.acquirer c) 1 0 + number_of (brings c s) xs =
+      let i : count_by (brings c s) (x ∷ xs) ≡ cond (same_code k.acquirer c) 1 0 + count_by (brings c s) xs =
       one_more (brings c s) x xs (same_code k.acquirer c)
       (ap (λ z. z && (brings_to x.content c && carries x s)) done' ∙ ap (λ z. brings_to z c && carries x s) is ∙ ap (λ z. same_code k.acquirer c && z) has ∙ and_true (same_code k.acquirer c)) in
-      let o : number_of (gives c s) (x ∷ xs) ≡ cond (same_code d c) 1 0 + number_of (gives c s) xs =
+      let o : count_by (gives c s) (x ∷ xs) ≡ cond (same_code d c) 1 0 + count_by (gives c s) xs =
       one_more (gives c s) x xs (same_code d c)
       (ap (λ z. z && (same_code x.id.code c && carries x s)) done' ∙ ap (λ z. same_code z c && carries x s) same ∙ ap (λ z. same_code d c && z) has ∙ and_true (same_code d c)) in
       let u : cond {A = ℕ} (is_owner (book_owner scheme xs s) c) 1 0 ≡ cond (same_code d c) 1 0 = ap (λ (z : Option Code). cond {A = ℕ} (is_owner z c) 1 0) before in

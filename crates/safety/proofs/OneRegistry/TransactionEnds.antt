@@ -3,6 +3,7 @@
 -- No move starts from Completed, so a second completion of one transaction is impossible (`ends_last`, `completed_is_last`).
 -- The last two parts say where a content comes from. An acquirer has it from the log's offer (`known`), and the log has it from the initiator's
 -- proposal (`proposer`), unless a request cancelled the transaction before its proposal came.
+use Rattle.std.specs.List.{count_by}
 use Rattle.std.proofs.Common.{◌≡◌, ℕ, ◌+◌, List, [], ◌∷◌, ◌++◌, Bool, true, false, not, Some, None, ◌⊎◌, inl, inr, refl, sym, ap, subst, ◌∙◌, arith}
 use Rattle.std.specs.Prelude.{◌&&◌}
 use Rattle.std.proofs.lemmas.Bool.{and_parts, and_from, and_left, or_parts, not-false, cond-true, cond-false, cases_Bool}
@@ -32,7 +33,7 @@ use Rattle.wire.specs.declared.message.ProposalStatus.TheVariants as proposal
 use Rattle.scheme.specs.declared.registries.Scheme.{Scheme}
 use Rattle.protocol.specs.Registries.{has_member}
 use Rattle.protocol.specs.Claims.{CompletedOnce}
-use Rattle.protocol.specs.History.{Transition, Entry, transitions_of, newest, number_of, sends, messages_of, proposals}
+use Rattle.protocol.specs.History.{Transition, Entry, transitions_of, newest, sends, messages_of, proposals}
 use Rattle.protocol.specs.AtRegistry.{content_of}
 use Rattle.protocol.specs.AtLog.{is_no_registry, is_from_another}
 use Rattle.safety.proofs.MovesAndHistories.TransitionForms.{arrived_status, settled_messages, checked_status}
@@ -164,7 +165,7 @@ module _ (scheme : Scheme) (c : Code) where
   is_end_of t x = same_id x.id t && same_status x.new Completed
 
   abbrev EndsOnce : List Transition → Type 0
-  EndsOnce xs = (x : Transition) → In x xs → x.new ≡ Completed → number_of (is_end_of x.id) xs ≡ 1
+  EndsOnce xs = (x : Transition) → In x xs → x.new ≡ Completed → count_by (is_end_of x.id) xs ≡ 1
 
   one_end : (es : List Entry) → Made scheme (Registry c) es → EndsOnce (transitions_of es)
   one_end =

@@ -3,6 +3,7 @@
 -- came, it came at most once more than it went, and at most one transfer of it waits, which then has it there.
 -- The cases are the moves of `RegistryMove`, grouped by what they do to one unit: nothing, propose it, give it away, or take it in. The checks of a
 -- proposal refuse a second transfer of the unit, and an acquirer does not complete a transfer of a unit that it holds.
+use Rattle.std.specs.List.{count_by}
 use Rattle.std.proofs.Common.{◌≡◌, ℕ, ◌+◌, ◌≤◌, List, [], ◌∷◌, ◌++◌, Bool, true, false, not, cond, Option, Some, None, ◌⊎◌, inl, inr, refl, sym, ap, subst, ◌∙◌, arith}
 use Rattle.std.specs.Prelude.{◌&&◌, nat_le, length, option_map}
 use Rattle.std.proofs.lemmas.Bool.{and_parts, and_from, and_left, and_right, not-false, cond-true, cond-false, cases_Bool, eqb-true, eqb-false}
@@ -31,7 +32,7 @@ use Rattle.wire.specs.declared.message.Message.TheVariants as message
 use Rattle.scheme.specs.declared.registries.Scheme.{Scheme}
 use Rattle.protocol.specs.Pieces.{Piece, pieces}
 use Rattle.protocol.specs.Registries.{allotted}
-use Rattle.protocol.specs.History.{Transition, Entry, transitions_of, newest, stands_at, is_status, number_of, has_serial, carries, gives, credits, is_with, at_start, holds, reserved, place, is_acknowledged, proposals}
+use Rattle.protocol.specs.History.{Transition, Entry, transitions_of, newest, stands_at, is_status, has_serial, carries, gives, credits, is_with, at_start, holds, reserved, place, is_acknowledged, proposals}
 use Rattle.protocol.specs.Checks.{Causes, propose_refusals}
 use Rattle.protocol.specs.Deciding.{Verdict, Enters, IsRepeat, IsRefused, refuse, enters, known, content_in, by_row, ack_refusals}
 use Rattle.protocol.specs.AtRegistry.{holding, is_place, content_of, offer, in_role, unless_held, holds_some, request_refusals, request_column, registry_refusals, registry_answer, open_refusals, close_refusals, registry_verdict}
@@ -155,9 +156,9 @@ pub record Waits (c : Code) (s : Serial) (xs : List Transition) (t : Transaction
   pub has : carries last s ≡ true
 
 pub record Local (scheme : Scheme) (c : Code) (s : Serial) (xs : List Transition) : Type 0 where
-  pub low : number_of (gives c s) xs ≤ at_start scheme c s + number_of (credits c s) xs
-  pub high : at_start scheme c s + number_of (credits c s) xs ≤ number_of (gives c s) xs + 1
-  pub kept : (t : TransactionId) → Waits c s xs t → number_of (gives c s) xs + 1 ≤ at_start scheme c s + number_of (credits c s) xs
+  pub low : count_by (gives c s) xs ≤ at_start scheme c s + count_by (credits c s) xs
+  pub high : at_start scheme c s + count_by (credits c s) xs ≤ count_by (gives c s) xs + 1
+  pub kept : (t : TransactionId) → Waits c s xs t → count_by (gives c s) xs + 1 ≤ at_start scheme c s + count_by (credits c s) xs
   pub one : (t u : TransactionId) → Waits c s xs t → Waits c s xs u → t ≡ u
 
 start_once : (b : Bool) → cond b 1 0 + 0 ≤ 0 + 1
@@ -208,7 +209,7 @@ module _ (scheme : Scheme) (c : Code) (s : Serial) where
   come x xs given credited other free l =
       let o = count_no (gives c s) x xs given in
       let i = count_yes (credits c s) x xs credited in
-      let n = eqb-false (at_start scheme c s + number_of (credits c s) xs) (number_of (gives c s) xs + 1) free in
+      let n = eqb-false (at_start scheme c s + count_by (credits c s) xs) (count_by (gives c s) xs + 1) free in
       record {
         low = let a = l.low in omega arith;
         high = let a = l.high in omega arith;
@@ -239,7 +240,7 @@ module _ (scheme : Scheme) (c : Code) (s : Serial) where
         kept = λ t w. elim (newest_cons x xs t w.last w.is) [
           | inl e ↦
               let f = free (subst (λ (z : Transition). carries z s ≡ true) (sym e.0) w.has) in
-              let n = eqb-true (at_start scheme c s + number_of (credits c s) xs) (number_of (gives c s) xs + 1) f.0 in
+              let n = eqb-true (at_start scheme c s + count_by (credits c s) xs) (count_by (gives c s) xs + 1) f.0 in
               omega arith
           | inr e ↦ let a = l.kept t (record { last = w.last; is = e.0; new = w.new; own = w.own; has = w.has }) in omega arith
         ];

@@ -2,6 +2,7 @@
 -- Each transfer that credited the unit to the registry is one by which the log's book brought it there, and each by which the log's book moved it
 -- away is one by which the registry gave it away. No list has repeats, so the first of each pair is no longer than the second.
 -- The log's counts (`in_book`) and the holder's count then leave no choice but that the book names the registry.
+use Rattle.std.specs.List.{count_by}
 use Rattle.std.proofs.Common.{◌≡◌, ℕ, ◌+◌, List, true, Some, inl, inr, sym, ap, subst, ◌∙◌, arith}
 use Rattle.std.specs.Prelude.{◌&&◌}
 use Rattle.std.proofs.lemmas.Bool.{cond-false, cases_Bool, and_from, eqb-true}
@@ -17,7 +18,7 @@ use Rattle.status.specs.declared.words.Status.TheVariants.{Cancelled, Completed}
 use Rattle.scheme.specs.declared.registries.Scheme.{Scheme}
 use Rattle.protocol.specs.Checks.{is_owner}
 use Rattle.protocol.specs.Claims.{HolderOwns}
-use Rattle.protocol.specs.History.{Transition, Entry, transitions_of, newest, number_of, has_serial, carries, gives, credits, at_start, holds, book_owner}
+use Rattle.protocol.specs.History.{Transition, Entry, transitions_of, newest, has_serial, carries, gives, credits, at_start, holds, book_owner}
 use Rattle.safety.proofs.AgreementOfNodes.CausalHistories.{Causal, heard_sent}
 use Rattle.safety.proofs.AgreementOfNodes.CompletionsAgree.{done_status, given, credited, is_given, completed_once, log_has, initiator_has, log_completed}
 use Rattle.lemmas.proofs.NoRepeats.{no_longer}
@@ -86,7 +87,7 @@ module _ (scheme : Scheme) (f : Node → List Entry) (causal : Causal scheme f) 
         let k = length_picked (gives c s) (transitions_of (f Itl)) in
         let l = length_picked (gives c s) (transitions_of (f (Registry c))) in
         let m = (in_book scheme s (f Itl) (causal.made Itl)).counts c in
-        let n = eqb-true (at_start scheme c s + number_of (credits c s) (transitions_of (f (Registry c)))) (number_of (gives c s) (transitions_of (f (Registry c))) + 1) h in
+        let n = eqb-true (at_start scheme c s + count_by (credits c s) (transitions_of (f (Registry c)))) (count_by (gives c s) (transitions_of (f (Registry c))) + 1) h in
         elim (cases_Bool (is_owner (book_owner scheme (transitions_of (f Itl)) s) c)) [
           | inl y ↦ owner_is (book_owner scheme (transitions_of (f Itl)) s) c y
           | inr no_owner ↦ absurd (let z = cond-false {A = ℕ} (is_owner (book_owner scheme (transitions_of (f Itl)) s) c) 1 0 no_owner in omega arith)

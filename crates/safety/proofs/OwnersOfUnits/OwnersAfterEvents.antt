@@ -3,7 +3,7 @@
 -- before has an owner after, which is the same one or one that a new completion moved the unit to (`onward`). As an owner is unique, the
 -- owner after is that one. At the end, one event is shown to commit at one node at most, and so to relate two such families.
 use Rattle.std.proofs.Common.{◌≡◌, ◌+◌, ◌≤◌, List, [], ◌++◌, Bool, true, false, Option, Some, option_map, ◌⊎◌, inl, inr, refl, sym, ap, subst, ◌∙◌, arith}
-use Rattle.std.specs.List.{list_any}
+use Rattle.std.specs.List.{list_any, count_by}
 use Rattle.std.proofs.lemmas.Bool.{cases_Bool, eqb-true, eq-eqb}
 use Rattle.units.proofs.Same.{code_of_same, same_code-refl, node_of_same}
 use Rattle.units.specs.Code.{same_code, same_node}
@@ -20,7 +20,7 @@ use Rattle.wire.specs.declared.message.ProposalStatus.TheVariants as proposal
 use Rattle.wire.specs.declared.input.Input.{Input}
 use Rattle.scheme.specs.declared.registries.Scheme.{Scheme}
 use Rattle.protocol.specs.Claims.{StandsAt, at_registry, is_received, committed_part, committed_of}
-use Rattle.protocol.specs.History.{Transition, Entry, transitions_of, newest, stands_at, is_status, number_of, has_serial, carries, gives, credits, at_start, holds}
+use Rattle.protocol.specs.History.{Transition, Entry, transitions_of, newest, stands_at, is_status, has_serial, carries, gives, credits, at_start, holds}
 use Rattle.protocol.specs.Owner.{Owner, At, Due, Owing, Owns, Completes, Moves, sends_off, takes_in, OwnersMove}
 use Rattle.protocol.specs.Registries.{has_member}
 use Rattle.protocol.specs.Verdict.{history}
@@ -128,18 +128,18 @@ module _ (scheme : Scheme) (f g : Node → List Entry) (cf : Causal scheme f) (c
 
   -- where none is given away and one is there, it is held
   held_after : (s : Serial) (c : Code) → n ≡ Registry c → list_any (gives c s) front ≡ false
-      → number_of (gives c s) (at_registry f c) + 1 ≤ at_start scheme c s + (number_of (credits c s) (at_registry f c) + number_of (credits c s) front) → holds scheme c (at_registry g c) s ≡ true
+      → count_by (gives c s) (at_registry f c) + 1 ≤ at_start scheme c s + (count_by (credits c s) (at_registry f c) + count_by (credits c s) front) → holds scheme c (at_registry g c) s ≡ true
   held_after s c at none enough =
       let z = number_none (gives c s) front none in
       let o = number_append (gives c s) front (at_registry f c) in
       let i = number_append (credits c s) front (at_registry f c) in
-      let high = subst (λ xs. at_start scheme c s + number_of (credits c s) xs ≤ number_of (gives c s) xs + 1) (grown (Registry c) at) (local_history scheme c s (g (Registry c)) (cg.made (Registry c))).high in
+      let high = subst (λ xs. at_start scheme c s + count_by (credits c s) xs ≤ count_by (gives c s) xs + 1) (grown (Registry c) at) (local_history scheme c s (g (Registry c)) (cg.made (Registry c))).high in
       subst (λ xs. holds scheme c xs s ≡ true) (sym (grown (Registry c) at))
-      (eq-eqb (at_start scheme c s + number_of (credits c s) (front ++ at_registry f c)) (number_of (gives c s) (front ++ at_registry f c) + 1) (omega arith))
+      (eq-eqb (at_start scheme c s + count_by (credits c s) (front ++ at_registry f c)) (count_by (gives c s) (front ++ at_registry f c) + 1) (omega arith))
 
   held_still : (s : Serial) (c : Code) → n ≡ Registry c → list_any (gives c s) front ≡ false → holds scheme c (at_registry f c) s ≡ true → holds scheme c (at_registry g c) s ≡ true
   held_still s c at none held =
-      let a = eqb-true (at_start scheme c s + number_of (credits c s) (at_registry f c)) (number_of (gives c s) (at_registry f c) + 1) held in
+      let a = eqb-true (at_start scheme c s + count_by (credits c s) (at_registry f c)) (count_by (gives c s) (at_registry f c) + 1) held in
       held_after s c at none (omega arith)
 
   held_now : (s : Serial) (c : Code) (x : Transition) → n ≡ Registry c → In x front → credits c s x ≡ true → (holds scheme c (at_registry f c) s ≡ true → ⊥) → holds scheme c (at_registry g c) s ≡ true
@@ -153,7 +153,7 @@ module _ (scheme : Scheme) (f g : Node → List Entry) (cf : Causal scheme f) (c
         | inl some ↦
             let y = list_any_some (gives c s) front some in
             let kept = l.kept y.0.id (was_waiting s c y.0 at y.1 y.2) in
-            absurd (free (eq-eqb (at_start scheme c s + number_of (credits c s) (at_registry f c)) (number_of (gives c s) (at_registry f c) + 1) (omega arith)))
+            absurd (free (eq-eqb (at_start scheme c s + count_by (credits c s) (at_registry f c)) (count_by (gives c s) (at_registry f c) + 1) (omega arith)))
       ]
 
   -- ---- an owner before has an owner after that it stays at or moves to

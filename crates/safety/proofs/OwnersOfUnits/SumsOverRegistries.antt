@@ -3,8 +3,9 @@
 -- registry what is had and what is gone make up what was there and what came, then the sums do so too (`over_balance`).
 use Rattle.std.proofs.Common.{◌≡◌, ℕ, zero, suc, ◌+◌, ◌≤◌, ◌<◌, List, [], ◌∷◌, Bool, true, false, cond, Option, Some, None, option_map, is_some, inl, inr, refl, sym, ap, subst, ◌∙◌, arith, length, length-append, flat_map, find}
 use Rattle.std.specs.Prelude.{◌==◌}
-use Rattle.std.specs.List.{AllByRecursion}
+use Rattle.std.specs.List.{AllByRecursion, count_by, sum_by}
 use Rattle.std.specs.Option.{option_or}
+use Rattle.std.proofs.lemmas.List.Sums.{sum_by-cons}
 use Rattle.std.proofs.lemmas.Bool.{cond-true, cond-false, cases_Bool, eqb-true, eqb-false}
 use Rattle.units.proofs.Same.{code_of_same, same_code-refl}
 use Rattle.units.specs.Apart.{Pairwise}
@@ -20,8 +21,7 @@ use Rattle.scheme.specs.declared.members.Allotment.{Allotment}
 use Rattle.scheme.specs.declared.members.Holder.{Holder}
 use Rattle.scheme.specs.declared.members.Member.{Member}
 use Rattle.scheme.specs.declared.registries.Scheme.{Scheme}
-use Rattle.protocol.specs.Claims.{over}
-use Rattle.protocol.specs.History.{number_of, at_start, is_with}
+use Rattle.protocol.specs.History.{at_start, is_with}
 use Rattle.protocol.specs.Registries.{allotted, has_member}
 use Rattle.lemmas.proofs.NoRepeats.{NoRepeat, no_repeat_append}
 use Rattle.lemmas.proofs.Membership.{In, In_left, In_right, In_find, In_flat_map}
@@ -29,24 +29,27 @@ use Rattle.safety.proofs.ListLemmas.TestsOfSameness.{other_code}
 
 -- ---- sums
 
-pub over_parts : (g h k : Member → ℕ) → ((m : Member) → g m ≡ h m + k m) → (ms : List Member) → over g ms ≡ over h ms + over k ms
+pub over_parts : (g h k : Member → ℕ) → ((m : Member) → g m ≡ h m + k m) → (ms : List Member) → sum_by g ms ≡ sum_by h ms + sum_by k ms
 over_parts g h k e [] = refl
-over_parts g h k e (m ∷ ms) = let a = e m in let b = over_parts g h k e ms in omega arith
+over_parts g h k e (m ∷ ms) =
+    let a = e m in let b = over_parts g h k e ms in let x = sum_by-cons g m ms in let y = sum_by-cons h m ms in let z = sum_by-cons k m ms in omega arith
 
-pub over_same : (g h : Member → ℕ) → ((m : Member) → g m ≡ h m) → (ms : List Member) → over g ms ≡ over h ms
+pub over_same : (g h : Member → ℕ) → ((m : Member) → g m ≡ h m) → (ms : List Member) → sum_by g ms ≡ sum_by h ms
 over_same g h e [] = refl
-over_same g h e (m ∷ ms) = let a = e m in let b = over_same g h e ms in omega arith
+over_same g h e (m ∷ ms) = let a = e m in let b = over_same g h e ms in let x = sum_by-cons g m ms in let y = sum_by-cons h m ms in omega arith
 
 -- where at each registry what is had and what is gone make up what was there and what came, so do the sums
 pub over_balance : (p : Member → Bool) (gone there came : Member → ℕ) → ((m : Member) → cond (p m) 1 0 + gone m ≡ there m + came m) → (ms : List Member)
-    → number_of p ms + over gone ms ≡ over there ms + over came ms
+    → count_by p ms + sum_by gone ms ≡ sum_by there ms + sum_by came ms
 over_balance p gone there came e [] = refl
-over_balance p gone there came e (m ∷ ms) = go (p m) (e m) (over_balance p gone there came e ms)
-  where
-    go : (b : Bool) → cond b 1 0 + gone m ≡ there m + came m → number_of p ms + over gone ms ≡ over there ms + over came ms
-        → cond b (suc (number_of p ms)) (number_of p ms) + (gone m + over gone ms) ≡ (there m + over there ms) + (came m + over came ms)
-    go true x y = omega arith
-    go false x y = omega arith
+over_balance p gone there came e (m ∷ ms) =
+    let a = e m in
+    let b = over_balance p gone there came e ms in
+    let x = sum_by-cons (λ (z : Member). cond {A = ℕ} (p z) 1 0) m ms in
+    let y = sum_by-cons gone m ms in
+    let z = sum_by-cons there m ms in
+    let u = sum_by-cons came m ms in
+    omega arith
 
 -- a number that is one above another or the same
 pub one_above : (x y : ℕ) → y ≤ x → x ≤ y + 1 → cond (x == (y + 1)) 1 0 + y ≡ x
@@ -60,26 +63,26 @@ pub one_or_none : (b : Bool) → cond b 1 0 ≤ 1
 one_or_none true = omega arith
 one_or_none false = omega arith
 
-pub over_least : (g : Member → ℕ) (ms : List Member) (m : Member) (k : ℕ) → In m ms → k ≤ g m → k ≤ over g ms
+pub over_least : (g : Member → ℕ) (ms : List Member) (m : Member) (k : ℕ) → In m ms → k ≤ g m → k ≤ sum_by g ms
 over_least g [] m k i h = absurd i
-over_least g (n ∷ ms) m k (inl e) h = let a = subst (λ z. k ≤ g z) (sym e) h in omega arith
-over_least g (n ∷ ms) m k (inr i) h = let a = over_least g ms m k i h in omega arith
+over_least g (n ∷ ms) m k (inl e) h = let a = subst (λ z. k ≤ g z) (sym e) h in let x = sum_by-cons g n ms in omega arith
+over_least g (n ∷ ms) m k (inr i) h = let a = over_least g ms m k i h in let x = sum_by-cons g n ms in omega arith
 
-pub over_some : (g : Member → ℕ) (ms : List Member) → 1 ≤ over g ms → (m : Member) × In m ms × (1 ≤ g m)
+pub over_some : (g : Member → ℕ) (ms : List Member) → 1 ≤ sum_by g ms → (m : Member) × In m ms × (1 ≤ g m)
 over_some g [] h = absurd (omega arith)
 over_some g (m ∷ ms) h = go (g m) refl (λ k. over_some g ms k)
   where
-    go : (k : ℕ) → g m ≡ k → (1 ≤ over g ms → (n : Member) × In n ms × (1 ≤ g n)) → (n : Member) × In n (m ∷ ms) × (1 ≤ g n)
-    go zero e rest = let r = rest (omega arith) in (r.0, inr r.1, r.2)
+    go : (k : ℕ) → g m ≡ k → (1 ≤ sum_by g ms → (n : Member) × In n ms × (1 ≤ g n)) → (n : Member) × In n (m ∷ ms) × (1 ≤ g n)
+    go zero e rest = let x = sum_by-cons g m ms in let r = rest (omega arith) in (r.0, inr r.1, r.2)
     go (suc k) e rest = (m, inl refl, omega arith)
 
 -- two registries of other codes count twice
-pub over_two : (g : Member → ℕ) (ms : List Member) (m n : Member) → In m ms → In n ms → (m.code ≡ n.code → ⊥) → 1 ≤ g m → 1 ≤ g n → 2 ≤ over g ms
+pub over_two : (g : Member → ℕ) (ms : List Member) (m n : Member) → In m ms → In n ms → (m.code ≡ n.code → ⊥) → 1 ≤ g m → 1 ≤ g n → 2 ≤ sum_by g ms
 over_two g [] m n i j other a b = absurd i
 over_two g (k ∷ ks) m n (inl e) (inl d) other a b = absurd (other (ap (λ (z : Member). z.code) (sym e ∙ d)))
-over_two g (k ∷ ks) m n (inl e) (inr j) other a b = let x = subst (λ z. 1 ≤ g z) (sym e) a in let y = over_least g ks n 1 j b in omega arith
-over_two g (k ∷ ks) m n (inr i) (inl d) other a b = let x = subst (λ z. 1 ≤ g z) (sym d) b in let y = over_least g ks m 1 i a in omega arith
-over_two g (k ∷ ks) m n (inr i) (inr j) other a b = let x = over_two g ks m n i j other a b in omega arith
+over_two g (k ∷ ks) m n (inl e) (inr j) other a b = let x = subst (λ z. 1 ≤ g z) (sym e) a in let y = over_least g ks n 1 j b in let u = sum_by-cons g k ks in omega arith
+over_two g (k ∷ ks) m n (inr i) (inl d) other a b = let x = subst (λ z. 1 ≤ g z) (sym d) b in let y = over_least g ks m 1 i a in let u = sum_by-cons g k ks in omega arith
+over_two g (k ∷ ks) m n (inr i) (inr j) other a b = let x = over_two g ks m n i j other a b in let u = sum_by-cons g k ks in omega arith
 
 -- ---- the registries of a scheme
 
@@ -124,26 +127,29 @@ other_member m (k ∷ ks) rise n (inr i) e = other_member m ks rise.1 n i e
 -- ---- where a unit starts
 
 -- exactly one registry has a code that some registry has
-none_at : (c : Code) (ms : List Member) → ((m : Member) → In m ms → m.code ≡ c → ⊥) → over (λ m. cond (same_code c m.code) 1 0) ms ≡ 0
+none_at : (c : Code) (ms : List Member) → ((m : Member) → In m ms → m.code ≡ c → ⊥) → sum_by (λ m. cond (same_code c m.code) 1 0) ms ≡ 0
 none_at c [] other = refl
 none_at c (m ∷ ms) other =
     let a = cond-false {A = ℕ} (same_code c m.code) 1 0 (other_code c m.code (λ e. other m (inl refl) (sym e))) in
     let b = none_at c ms (λ n i. other n (inr i)) in
+    let u = sum_by-cons (λ (z : Member). cond {A = ℕ} (same_code c z.code) 1 0) m ms in
     omega arith
 
-one_at : (c : Code) (ms : List Member) → CodesRise ms → (m : Member) → In m ms → c ≡ m.code → over (λ m. cond (same_code c m.code) 1 0) ms ≡ 1
+one_at : (c : Code) (ms : List Member) → CodesRise ms → (m : Member) → In m ms → c ≡ m.code → sum_by (λ m. cond (same_code c m.code) 1 0) ms ≡ 1
 one_at c [] rise m h e = absurd h
 one_at c (n ∷ ms) rise m (inl i) e =
     let x : c ≡ n.code = e ∙ sym (ap (λ (z : Member). z.code) i) in
     let a = cond-true {A = ℕ} (same_code c n.code) 1 0 (subst (λ z. same_code c z ≡ true) x (same_code-refl c)) in
     let b = none_at c ms (λ k j d. other_member n ms rise.0 k j (sym x ∙ sym d)) in
+    let u = sum_by-cons (λ (z : Member). cond {A = ℕ} (same_code c z.code) 1 0) n ms in
     omega arith
 one_at c (n ∷ ms) rise m (inr i) e =
     let a = cond-false {A = ℕ} (same_code c n.code) 1 0 (other_code c n.code (λ d. other_member n ms rise.0 m i (sym d ∙ e))) in
     let b = one_at c ms rise.1 m i e in
+    let u = sum_by-cons (λ (z : Member). cond {A = ℕ} (same_code c z.code) 1 0) n ms in
     omega arith
 
-over_none : (ms : List Member) → over (λ m. 0) ms ≡ 0
+over_none : (ms : List Member) → sum_by (λ m. 0) ms ≡ 0
 over_none [] = refl
 over_none (m ∷ ms) = let b = over_none ms in omega arith
 
@@ -166,10 +172,10 @@ holder_member (m ∷ ms) s h e = go (start.allotted_in m.code m.allotted s) refl
     go (Some k) d f older = (m, inl refl, allotted_code m.code m.allotted s h (d ∙ f))
 
 -- an allotted unit starts at one registry, another unit at none
-pub over_start : (scheme : Scheme) (s : Serial) → over (λ m. at_start scheme m.code s) scheme.members ≡ cond (is_some (allotted scheme s)) 1 0
+pub over_start : (scheme : Scheme) (s : Serial) → sum_by (λ m. at_start scheme m.code s) scheme.members ≡ cond (is_some (allotted scheme s)) 1 0
 over_start scheme s = go (allotted scheme s) refl
   where
-    go : (o : Option Holder) → allotted scheme s ≡ o → over (λ m. cond (is_with m.code o) 1 0) scheme.members ≡ cond (is_some o) 1 0
+    go : (o : Option Holder) → allotted scheme s ≡ o → sum_by (λ m. cond (is_with m.code o) 1 0) scheme.members ≡ cond (is_some o) 1 0
     go None e = over_none scheme.members
     go (Some h) e = let m = holder_member scheme.members s h e in one_at h.registry scheme.members (codes_rise scheme) m.0 m.1 m.2
 
@@ -194,9 +200,9 @@ In_flat g [] m t i h = absurd i
 In_flat g (n ∷ ms) m t (inl e) h = In_left t (g n) (flat_map g ms) (subst (λ z. In t (g z)) (sym e) h)
 In_flat g (n ∷ ms) m t (inr i) h = In_right t (g n) (flat_map g ms) (In_flat g ms m t i h)
 
-pub length_flat : (g : Member → List TransactionId) (ms : List Member) → length (flat_map g ms) ≡ over (λ m. length (g m)) ms
+pub length_flat : (g : Member → List TransactionId) (ms : List Member) → length (flat_map g ms) ≡ sum_by (λ m. length (g m)) ms
 length_flat g [] = refl
-length_flat g (m ∷ ms) = let a = length-append (g m) (flat_map g ms) in let b = length_flat g ms in omega arith
+length_flat g (m ∷ ms) = let a = length-append (g m) (flat_map g ms) in let b = length_flat g ms in let u = sum_by-cons (λ z. length (g z)) m ms in omega arith
 
 -- no identifier is there twice, where none is there twice at one registry nor at two
 pub no_repeat_flat : (g : Member → List TransactionId) → ((m : Member) → NoRepeat (g m)) → ((m n : Member) (t : TransactionId) → In t (g m) → In t (g n) → m.code ≡ n.code) → (ms : List Member) → CodesRise ms

@@ -2,6 +2,7 @@
 -- At each registry, what it gave away and what it has make up what it started with and what it took in (`local_history`). The sum over all
 -- registries leaves one unit, provided that as many transfers were handed over as were taken in.
 -- The two lists of transfers have the same members by `CompletionsAgree` and no repeats, so they are equally long.
+use Rattle.std.specs.List.{count_by, sum_by}
 use Rattle.std.proofs.Common.{◌≡◌, ℕ, ◌+◌, List, Bool, true, false, not, cond, Some, is_some, option_map, inl, inr, sym, ap, subst, ◌∙◌, arith, length, flat_map}
 use Rattle.std.specs.Prelude.{◌&&◌}
 use Rattle.std.proofs.lemmas.Bool.{cases_Bool, and_parts, and_from, not-false, eqb-true}
@@ -16,8 +17,8 @@ use Rattle.status.specs.declared.id.TransactionId.{TransactionId}
 use Rattle.status.specs.declared.words.Status.TheVariants.{Completed}
 use Rattle.scheme.specs.declared.members.Member.{Member}
 use Rattle.scheme.specs.declared.registries.Scheme.{Scheme}
-use Rattle.protocol.specs.Claims.{at_registry, over, is_received, owes, holders, owed, OnePlace, SpentOnce}
-use Rattle.protocol.specs.History.{Transition, Entry, transitions_of, newest, stands_at, is_status, number_of, has_serial, gives, credits, at_start, holds, reserved}
+use Rattle.protocol.specs.Claims.{at_registry, is_received, owes, holders, owed, OnePlace, SpentOnce}
+use Rattle.protocol.specs.History.{Transition, Entry, transitions_of, newest, stands_at, is_status, has_serial, gives, credits, at_start, holds, reserved}
 use Rattle.protocol.specs.Registries.{allotted, has_member}
 use Rattle.safety.proofs.AgreementOfNodes.CausalHistories.{Causal}
 use Rattle.safety.proofs.AgreementOfNodes.CompletionsAgree.{done_status, given, credited, is_given, is_credited, stood, completed_once, transfer, initiator_completed}
@@ -127,16 +128,16 @@ module _ (scheme : Scheme) (f : Node → List Entry) (causal : Causal scheme f) 
   taken_once m = completed_once scheme m.code (credits m.code s) (λ x h. (credited m.code s x h).0) (f (Registry m.code)) (causal.made (Registry m.code))
 
   abbrev count_handed : Member → ℕ
-  count_handed m = number_of (hands_over m.code) (at_registry f m.code)
+  count_handed m = count_by (hands_over m.code) (at_registry f m.code)
 
   abbrev count_given : Member → ℕ
-  count_given m = number_of (gives m.code s) (at_registry f m.code)
+  count_given m = count_by (gives m.code s) (at_registry f m.code)
 
   abbrev count_taken : Member → ℕ
-  count_taken m = number_of (credits m.code s) (at_registry f m.code)
+  count_taken m = count_by (credits m.code s) (at_registry f m.code)
 
   -- so as much is handed over as is taken in
-  handed_as_taken : over count_handed scheme.members ≡ over count_taken scheme.members
+  handed_as_taken : sum_by count_handed scheme.members ≡ sum_by count_taken scheme.members
   handed_as_taken =
       let e =
       same_length (flat_map handed scheme.members) (flat_map taken scheme.members) (no_repeat_flat handed handed_once handed_apart scheme.members (codes_rise scheme))
@@ -154,7 +155,7 @@ module _ (scheme : Scheme) (f : Node → List Entry) (causal : Causal scheme f) 
       over_balance (λ m. holds scheme m.code (at_registry f m.code) s) count_given (λ m. at_start scheme m.code s) count_taken
       (λ m. one_above (at_start scheme m.code s + count_taken m) (count_given m) (local m).low (local m).high) scheme.members in
       let b =
-      over_parts count_given count_handed (λ m. number_of (owes f m.code s) (at_registry f m.code))
+      over_parts count_given count_handed (λ m. count_by (owes f m.code s) (at_registry f m.code))
       (λ m. number_parts (gives m.code s) (λ x. is_received f x.id x.content) (at_registry f m.code)) scheme.members in
       let c = handed_as_taken in
       let d = over_start scheme s in

@@ -2,6 +2,7 @@
 -- An owner is a registry that holds the unit, or a transfer that owes it. Each owner adds one to a sum over registries, and by
 -- `UnitsInOnePlace` the two sums together are one. Two owners would make the sum two, no owner would make it zero, and a unit that is
 -- not allotted has the sum zero and so no owner.
+use Rattle.std.specs.List.{count_by}
 use Rattle.std.proofs.Common.{◌≡◌, ℕ, zero, suc, ◌+◌, ◌≤◌, List, Bool, true, false, not, is_some, Some, inl, inr, refl, sym, ap, subst, ◌∙◌, arith}
 use Rattle.std.proofs.lemmas.Bool.{cases_Bool, cond-true, cond-false, and_parts, and_from, not-true, not-false}
 use Rattle.units.proofs.Same.{code_of_same, same_code-refl}
@@ -16,7 +17,7 @@ use Rattle.status.specs.declared.words.Status.TheVariants.{Completed}
 use Rattle.scheme.specs.declared.members.Member.{Member}
 use Rattle.scheme.specs.declared.registries.Scheme.{Scheme}
 use Rattle.protocol.specs.Claims.{StandsAt, at_registry, is_received, owes, holders, owed}
-use Rattle.protocol.specs.History.{Transition, Entry, newest, number_of, gives, holds}
+use Rattle.protocol.specs.History.{Transition, Entry, newest, gives, holds}
 use Rattle.protocol.specs.Owner.{Owner, At, Due, Owing, Owns, OneOwner}
 use Rattle.protocol.specs.Registries.{allotted, has_member}
 use Rattle.safety.proofs.OneLog.LogHearings.{IsAgreed}
@@ -40,7 +41,7 @@ module _ (scheme : Scheme) (f : Node → List Entry) (causal : Causal scheme f) 
   holds_at s m = holds scheme m.code (at_registry f m.code) s
 
   abbrev owed_by : Serial → Member → ℕ
-  owed_by s m = number_of (owes f m.code s) (at_registry f m.code)
+  owed_by s m = count_by (owes f m.code s) (at_registry f m.code)
 
   -- the transition by which a transfer owes the unit
   record Counted (s : Serial) (t : TransactionId) (x : Transition) : Type 0 where
@@ -77,7 +78,7 @@ module _ (scheme : Scheme) (f : Node → List Entry) (causal : Causal scheme f) 
   ower_counts s t o =
       let k = counted s t o in
       let m = some_member scheme t.code k.known in
-      (m.0, m.1, m.2, subst (λ z. 1 ≤ number_of (owes f z s) (at_registry f z)) (sym m.2) (number_one (owes f t.code s) (at_registry f t.code) o.last k.inside k.counts))
+      (m.0, m.1, m.2, subst (λ z. 1 ≤ count_by (owes f z s) (at_registry f z)) (sym m.2) (number_one (owes f t.code s) (at_registry f t.code) o.last k.inside k.counts))
 
   one_ower : (s : Serial) (t : TransactionId) → Owing f s t → 1 ≤ owed scheme f s
   one_ower s t o = let m = ower_counts s t o in over_least (owed_by s) scheme.members m.0 1 m.1 m.3
@@ -110,7 +111,7 @@ module _ (scheme : Scheme) (f : Node → List Entry) (causal : Causal scheme f) 
             let both =
             number_two (owes f t.code s) (at_registry f t.code) o.last p.last x.inside (subst (λ z. In p.last (at_registry f z)) (sym e) y.inside) x.counts
             (subst (λ z. owes f z s p.last ≡ true) (sym e) y.counts) (λ d. ids_differ t u other (sym x.id ∙ ap (λ (z : Transition). z.id) d ∙ y.id)) in
-            over_least (owed_by s) scheme.members m.0 2 m.1 (subst (λ z. 2 ≤ number_of (owes f z s) (at_registry f z)) (sym m.2) both)
+            over_least (owed_by s) scheme.members m.0 2 m.1 (subst (λ z. 2 ≤ count_by (owes f z s) (at_registry f z)) (sym m.2) both)
         | inr apart ↦ over_two (owed_by s) scheme.members m.0 n.0 m.1 n.1 (λ e. codes_differ t.code u.code apart (sym m.2 ∙ e ∙ n.2)) m.3 n.3
       ] in
       let top = one_at_most s in

@@ -1,8 +1,8 @@
--- The log by itself, whatever messages come: whose units the book says they are, and which transfers are under way.
--- The invariant `InBook` is about one unit: a transfer of it that is under way was proposed by the unit's owner, at most one is under way, and for each
--- registry the book's moves to it and from it make up whether the registry is the owner.
--- A check without findings puts a transfer under way, and a completion moves the unit; all other moves leave the unit alone (`still`). That ended
--- transfers stay as they are follows from the log's table.
+-- The log by itself, whatever messages come: whose units the book says they are, and which transfers are under
+-- way. The invariant `InBook` is about one unit: a transfer of it that is under way was proposed by the unit's
+-- owner, at most one is under way, and for each registry the book's moves to it and from it make up whether the
+-- registry is the owner. A check without findings puts a transfer under way, and a completion moves the unit; all
+-- other moves leave the unit alone (`still`). That ended transfers stay as they are follows from the log's table.
 use Rattle.std.proofs.Common.{◌≡◌, ℕ, ◌+◌, List, [], ◌∷◌, ◌++◌, Bool, true, false, cond, Option, Some, None, ◌⊎◌, inl, inr, refl, sym, ap, subst, ◌∙◌, arith}
 use Rattle.std.specs.Prelude.{◌&&◌, ◌||◌, option_map, is_none}
 use Rattle.std.proofs.lemmas.Bool.{and_from, and_left, and_right, not-false, cond-true, cond-false, cases_Bool}

@@ -1,8 +1,8 @@
--- A completed transition is the last of its transaction, and the content of a transfer never changes.
--- `each_move` is the induction that all parts use: what each single transition keeps, given the older ones, holds of the whole history.
--- No move starts from Completed, so a second completion of one transaction is impossible (`ends_last`, `completed_is_last`).
--- The last two parts say where a content comes from. An acquirer has it from the log's offer (`known`), and the log has it from the initiator's
--- proposal (`proposer`), unless a request cancelled the transaction before its proposal came.
+-- A completed transition is the last of its transaction, and the content of a transfer never changes. `each_move` is the
+-- induction that all parts use: what each single transition keeps, given the older ones, holds of the whole history. No
+-- move starts from Completed, so a second completion of one transaction is impossible (`ends_last`, `completed_is_last`).
+-- The last two parts say where a content comes from. An acquirer has it from the log's offer (`known`), and the log has
+-- it from the initiator's proposal (`proposer`), unless a request cancelled the transaction before its proposal came.
 use Rattle.std.proofs.Common.{◌≡◌, ℕ, ◌+◌, List, [], ◌∷◌, ◌++◌, Bool, true, false, not, Some, None, ◌⊎◌, inl, inr, refl, sym, ap, subst, ◌∙◌, arith}
 use Rattle.std.specs.Prelude.{◌&&◌}
 use Rattle.std.proofs.lemmas.Bool.{and_parts, and_from, and_left, or_parts, not-false, cond-true, cond-false, cases_Bool}

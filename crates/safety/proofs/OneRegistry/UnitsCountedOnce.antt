@@ -1,8 +1,8 @@
--- One registry by itself, whatever messages it is given: a unit is counted there once or not at all.
--- The proof is an induction over the registry's transitions with the invariant `Local`: a unit is given away at most as often as it was there or
--- came, it came at most once more than it went, and at most one transfer of it waits, which then has it there.
--- The cases are the moves of `RegistryMove`, grouped by what they do to one unit: nothing, propose it, give it away, or take it in. The checks of a
--- proposal refuse a second transfer of the unit, and an acquirer does not complete a transfer of a unit that it holds.
+-- One registry by itself, whatever messages it is given: a unit is counted there once or not at all. The proof is an induction
+-- over the registry's transitions with the invariant `Local`: a unit is given away at most as often as it was there or came,
+-- it came at most once more than it went, and at most one transfer of it waits, which then has it there. The cases are the
+-- moves of `RegistryMove`, grouped by what they do to one unit: nothing, propose it, give it away, or take it in. The checks
+-- of a proposal refuse a second transfer of the unit, and an acquirer does not complete a transfer of a unit that it holds.
 use Rattle.std.proofs.Common.{◌≡◌, ℕ, ◌+◌, ◌≤◌, List, [], ◌∷◌, ◌++◌, Bool, true, false, not, cond, Option, Some, None, ◌⊎◌, inl, inr, refl, sym, ap, subst, ◌∙◌, arith}
 use Rattle.std.specs.Prelude.{◌&&◌, nat_le, length, option_map}
 use Rattle.std.proofs.lemmas.Bool.{and_parts, and_from, and_left, and_right, not-false, cond-true, cond-false, cases_Bool, eqb-true, eqb-false}

@@ -1,7 +1,7 @@
--- A unit is held once or owed once, in histories whose received messages were all sent.
--- At each registry, what it gave away and what it has make up what it started with and what it took in (`local_history`). The sum over all
--- registries leaves one unit, provided that as many transfers were handed over as were taken in.
--- The two lists of transfers have the same members by `CompletionsAgree` and no repeats, so they are equally long.
+-- A unit is held once or owed once, in histories whose received messages were all sent. At each registry, what it
+-- gave away and what it has make up what it started with and what it took in (`local_history`). The sum over all
+-- registries leaves one unit, provided that as many transfers were handed over as were taken in. The two lists of
+-- transfers have the same members by `CompletionsAgree` and no repeats, so they are equally long.
 use Rattle.std.proofs.Common.{◌≡◌, ℕ, ◌+◌, List, Bool, true, false, not, cond, Some, is_some, option_map, inl, inr, sym, ap, subst, ◌∙◌, arith, length, flat_map}
 use Rattle.std.specs.Prelude.{◌&&◌}
 use Rattle.std.proofs.lemmas.Bool.{cases_Bool, and_parts, and_from, not-false, eqb-true}

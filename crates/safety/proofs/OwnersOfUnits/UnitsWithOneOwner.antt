@@ -1,7 +1,7 @@
--- A unit that is in one place has one owner.
--- An owner is a registry that holds the unit, or a transfer that owes it. Each owner adds one to a sum over registries, and by
--- `UnitsInOnePlace` the two sums together are one. Two owners would make the sum two, no owner would make it zero, and a unit that is
--- not allotted has the sum zero and so no owner.
+-- A unit that is in one place has one owner. An owner is a registry that holds the unit, or a transfer that owes
+-- it. Each owner adds one to a sum over registries, and by `UnitsInOnePlace` the two sums together are one. Two
+-- owners would make the sum two, no owner would make it zero, and a unit that is not allotted has the sum zero and
+-- so no owner.
 use Rattle.std.proofs.Common.{◌≡◌, ℕ, zero, suc, ◌+◌, ◌≤◌, List, Bool, true, false, not, is_some, Some, inl, inr, refl, sym, ap, subst, ◌∙◌, arith}
 use Rattle.std.proofs.lemmas.Bool.{cases_Bool, cond-true, cond-false, and_parts, and_from, not-true, not-false}
 use Rattle.units.proofs.Same.{code_of_same, same_code-refl}

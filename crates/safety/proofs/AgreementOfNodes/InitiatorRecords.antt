@@ -1,6 +1,6 @@
--- What the initiator of a transfer recorded, given that the log knows the transfer.
--- The log heard a proposal of the transfer, the proposal was sent, and who sends a proposal has recorded it with the same content for good.
--- So the initiator has a newest transition of the transfer, and its content is the one at the log.
+-- What the initiator of a transfer recorded, given that the log knows the transfer. The log heard a proposal of
+-- the transfer, the proposal was sent, and who sends a proposal has recorded it with the same content for good. So
+-- the initiator has a newest transition of the transfer, and its content is the one at the log.
 use Rattle.protocol.specs.Claims.{at_registry}
 use Rattle.std.proofs.Common.{◌≡◌, List, [], ◌∷◌, true, false, Some, inl, inr, refl, sym, ap, subst, ◌∙◌}
 use Rattle.units.proofs.Same.{same_code-refl}

@@ -1,8 +1,8 @@
--- The log finds nothing in a proposal that was sent, but that a registry is not eligible.
--- As long as the log does not know the proposal, its initiator has had no answer, and so the transfer still waits there and its units are held.
--- Each of the other six findings is then refuted: the acquirer is a registry of the scheme, the units are allotted, they are the initiator's in
--- the log's book (`HoldersInLog`), each is there once and of its kind (`KindsOfOffers`), and none is under way. A unit that is under way by another transfer would
--- have a second owner, or wait twice at one registry.
+-- The log finds nothing in a proposal that was sent, but that a registry is not eligible. As long as the log does not
+-- know the proposal, its initiator has had no answer, and so the transfer still waits there and its units are held. Each
+-- of the other six findings is then refuted: the acquirer is a registry of the scheme, the units are allotted, they are
+-- the initiator's in the log's book (`HoldersInLog`), each is there once and of its kind (`KindsOfOffers`), and none is
+-- under way. A unit that is under way by another transfer would have a second owner, or wait twice at one registry.
 use Rattle.units.specs.Unit.{have_unit}
 use Rattle.std.proofs.Common.{◌≡◌, ℕ, ◌+◌, List, [], ◌∷◌, Bool, true, false, not, Option, Some, None, ◌⊎◌, inl, inr, refl, sym, ap, subst, ◌∙◌, arith}
 use Rattle.std.specs.Prelude.{◌&&◌, ◌||◌, is_some, is_none, filter}

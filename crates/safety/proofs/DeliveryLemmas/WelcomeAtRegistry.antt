@@ -1,7 +1,8 @@
--- What the log sent, its addressee refuses only where its journal is full.
--- The log sends to the initiator or the acquirer of a content that it knows, so the causes about addresses are refuted by `LogSendings`.
--- For the table, the words of the log about one transfer are compared: an addressee that has come to an end was told so before, and the log does not
--- say two different ends. That a completed unit is not held by the acquirer follows from its one owner, which is the transfer that owes it.
+-- What the log sent, its addressee refuses only where its journal is full. The log sends to the initiator or the
+-- acquirer of a content that it knows, so the causes about addresses are refuted by `LogSendings`. For the table,
+-- the words of the log about one transfer are compared: an addressee that has come to an end was told so before,
+-- and the log does not say two different ends. That a completed unit is not held by the acquirer follows from its
+-- one owner, which is the transfer that owes it.
 use Rattle.std.proofs.Common.{◌≡◌, ℕ, List, [], true, false, not, Option, Some, None, ◌⊎◌, inl, inr, refl, sym, ap, subst, ◌∙◌}
 use Rattle.std.specs.Prelude.{◌&&◌, option_map}
 use Rattle.std.proofs.lemmas.Bool.{and_from, and_left, and_right, or_from, not_from_true, cases_Bool}

@@ -1,6 +1,7 @@
--- An order of records in which each is next in its turn is gone through by some list of events.
--- By induction over the order, the events so far lead to a quiet world with the journals so far. The next record is an order of its node, an
--- acknowledgement or a message that was sent, and for each of them there are events that make the node record it.
+-- An order of records in which each is next in its turn is gone through by some list of events. By induction over
+-- the order, the events so far lead to a quiet world with the journals so far. The next record is an order of its
+-- node, an acknowledgement or a message that was sent, and for each of them there are events that make the node
+-- record it.
 use Rattle.std.proofs.Common.{◌≡◌, ℕ, ◌<◌, List, [], ◌∷◌, ◌++◌, Bool, true, false, cond, Option, None, Some, inl, inr, refl, sym, ap, subst, ◌∙◌, length}
 use Rattle.std.specs.Prelude.{◌&&◌, ◌==◌, nat_le}
 use Rattle.std.proofs.lemmas.Bool.{cases_Bool, and_from, eq-eqb, leb-false}

@@ -1,6 +1,6 @@
--- A world that is stuck short of some journals shows that no events lead to them.
--- If some events led to the journals, then one record would be next after what the world has committed (`always_next`). The world is quiet, and all that
--- was sent is in its bag, so one event makes the node record it. A stuck world has no such event.
+-- A world that is stuck short of some journals shows that no events lead to them. If some events led to the
+-- journals, then one record would be next after what the world has committed (`always_next`). The world is quiet,
+-- and all that was sent is in its bag, so one event makes the node record it. A stuck world has no such event.
 use Rattle.std.proofs.Common.{◌≡◌, ℕ, ◌<◌, List, true, inl, inr, refl, ap, subst, ◌∙◌, length}
 use Rattle.std.specs.Prelude.{◌&&◌, ◌==◌}
 use Rattle.std.proofs.lemmas.Bool.{cond-true, and_from, eq-eqb}

@@ -1,7 +1,7 @@
--- Two journals that wait for one another, though each of their records is recorded and each message was sent.
--- A scheme of two registries and two short journals are written out, and their claims are computed. NZ first records a cancellation that the log
--- sends only after it has heard NZ's own proposal. So after the one record of JP neither the log nor NZ has a next record, and by
--- `always_next` no events lead to the journals.
+-- Two journals that wait for one another, though each of their records is recorded and each message was sent. A
+-- scheme of two registries and two short journals are written out, and their claims are computed. NZ first records
+-- a cancellation that the log sends only after it has heard NZ's own proposal. So after the one record of JP
+-- neither the log nor NZ has a next record, and by `always_next` no events lead to the journals.
 use Rattle.std.proofs.Common.{◌≡◌, ℕ, List, [], ◌∷◌, ◌++◌, Bool, true, false, cond, inl, inr, refl, sym, ap, subst, ◌∙◌, arith, lit<, lit≤}
 use Rattle.std.proofs.lemmas.Bool.{cond-false, cases_Bool, and_parts}
 use Rattle.units.proofs.Same.{code_of_same}

@@ -1,6 +1,7 @@
--- Putting blocks in order and joining neighbours keeps how often each unit stands in them.
--- `tally` counts a unit in a list of pieces. Each step of the canonical form, which puts a block in its place and joins two neighbours, is shown to
--- keep every tally. A list of pieces has no repeats exactly if every tally is at most one, so the canonical form has none if the blocks had none.
+-- Putting blocks in order and joining neighbours keeps how often each unit stands in them. `tally` counts a unit
+-- in a list of pieces. Each step of the canonical form, which puts a block in its place and joins two neighbours,
+-- is shown to keep every tally. A list of pieces has no repeats exactly if every tally is at most one, so the
+-- canonical form has none if the blocks had none.
 use Rattle.std.proofs.Common.{◌≡◌, ℕ, zero, suc, ◌+◌, ◌-◌, ◌≤◌, List, [], ◌∷◌, ◌++◌, Bool, true, false, cond, inl, inr, refl, sym, ap, subst, ◌∙◌, arith, map, append_assoc}
 use Rattle.std.specs.Prelude.{◌||◌, ◌==◌, nat_lt}
 use Rattle.std.specs.List.{list_any, count_by}

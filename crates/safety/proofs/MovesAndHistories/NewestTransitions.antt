@@ -1,6 +1,7 @@
--- Histories that verdicts made (`Made`), what they received (`Got`, `Heard`, `Offered`), and the newest transition of a transaction.
--- What was received stays received when the history gets longer. The newest transition of a transaction is either among the
--- transitions in front, or it is the newest one of the older part. Inductions over histories use these two facts.
+-- Histories that verdicts made (`Made`), what they received (`Got`, `Heard`, `Offered`), and the newest transition
+-- of a transaction. What was received stays received when the history gets longer. The newest transition of a
+-- transaction is either among the transitions in front, or it is the newest one of the older part. Inductions over
+-- histories use these two facts.
 use Rattle.std.proofs.Common.{◌≡◌, List, [], ◌∷◌, ◌++◌, true, Option, Some, None, ◌⊎◌, inl, inr, refl, sym, ap, subst, ◌∙◌}
 use Rattle.std.specs.Prelude.{option_map}
 use Rattle.std.proofs.lemmas.Bool.{cond-true, cond-false, cases_Bool}

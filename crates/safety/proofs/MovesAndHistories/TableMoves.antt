@@ -1,7 +1,8 @@
--- The verdicts as two relations, `RegistryMove` and `LogMove`: each case of them is one way in which an input makes a transition.
--- `registry_moves` and `log_moves` show that every transition that a verdict makes is one of these cases. They take the verdict apart in its
--- own order: the causes of a refusal, what the transaction has so far, and the row of the table.
--- All later inductions over histories go through these cases, and none of them unfolds a verdict again.
+-- The verdicts as two relations, `RegistryMove` and `LogMove`: each case of them is one way in which an input
+-- makes a transition. `registry_moves` and `log_moves` show that every transition that a verdict makes is one of
+-- these cases. They take the verdict apart in its own order: the causes of a refusal, what the transaction has so
+-- far, and the row of the table. All later inductions over histories go through these cases, and none of them
+-- unfolds a verdict again.
 use Rattle.std.proofs.Common.{◌≡◌, ℕ, List, [], ◌∷◌, Bool, true, false, not, cond, Option, Some, None, ◌⊎◌, inl, inr, refl, sym, ap, subst, ◌∙◌}
 use Rattle.std.specs.Prelude.{filter, ◌&&◌, nat_le, length, ◌+◌}
 use Rattle.std.specs.Ordering.{is_lt}

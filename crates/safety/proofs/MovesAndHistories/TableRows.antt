@@ -1,7 +1,7 @@
--- The rows of the status tables, read backwards: if a row moves, which status it started from, which word it answered and where it leads.
--- Each lemma goes through all statuses of one table, and `cc` refutes the cases that the table does not have.
--- The lemmas about `Known` also cover transactions that are unknown, or known without a content. The last section shows which
--- inputs always have a row, so that the table is no cause of a refusal.
+-- The rows of the status tables, read backwards: if a row moves, which status it started from, which word it
+-- answered and where it leads. Each lemma goes through all statuses of one table, and `cc` refutes the cases that
+-- the table does not have. The lemmas about `Known` also cover transactions that are unknown, or known without a
+-- content. The last section shows which inputs always have a row, so that the table is no cause of a refusal.
 use Rattle.std.proofs.Common.{◌≡◌, ◌⊎◌, ℕ, List, [], ◌∷◌, Bool, true, false, Option, Some, None, inl, inr, refl, sym, ap, subst}
 use Rattle.std.specs.Prelude.{◌&&◌}
 use Rattle.std.specs.Option.{option_map_or}

@@ -1,7 +1,7 @@
--- What the log sends: which proposals it passes on, and to whom its notifications go.
--- Each part goes through the moves of `LogMove` and looks at the messages of the transition, and is then carried to the whole history.
--- A notification goes to the initiator, or to the acquirer of the content that the log knows, and a transfer that was
--- passed on is never Terminated. Nothing stands Proposed at the log.
+-- What the log sends: which proposals it passes on, and to whom its notifications go. Each part goes through the
+-- moves of `LogMove` and looks at the messages of the transition, and is then carried to the whole history. A
+-- notification goes to the initiator, or to the acquirer of the content that the log knows, and a transfer that
+-- was passed on is never Terminated. Nothing stands Proposed at the log.
 use Rattle.std.proofs.Common.{◌≡◌, ℕ, List, [], ◌∷◌, Bool, false, not, Option, Some, ◌⊎◌, inl, inr, refl, sym, ap, subst, ◌∙◌}
 use Rattle.std.specs.List.{list_any}
 use Rattle.std.proofs.lemmas.Bool.{or_parts}

@@ -1,7 +1,8 @@
--- What a registry's history says of what it heard, and of the Accepted that it sent.
--- By induction over the transitions, the status at which a transfer stands names its cause: the notification from the log that brought it there
--- (`told`, `told_own`), or the registry's own proposal. The causes are kept when the history gets longer.
--- A registry that sent Accepted took part as acquirer, and no later transition of that transfer is Rejected (`accepted_sent`).
+-- What a registry's history says of what it heard, and of the Accepted that it sent. By induction over the
+-- transitions, the status at which a transfer stands names its cause: the notification from the log that brought
+-- it there (`told`, `told_own`), or the registry's own proposal. The causes are kept when the history gets longer.
+-- A registry that sent Accepted took part as acquirer, and no later transition of that transfer is Rejected
+-- (`accepted_sent`).
 use Rattle.std.proofs.Common.{◌≡◌, ℕ, ◌+◌, List, [], ◌∷◌, true, false, Option, Some, None, ◌⊎◌, inl, inr, refl, sym, ap, subst, ◌∙◌}
 use Rattle.units.proofs.Same.{code_of_same, same_code-refl}
 use Rattle.units.specs.Code.{same_code}

@@ -1,6 +1,6 @@
--- A registry that holds a unit is its owner in the log's book.
--- Each transfer that credited the unit to the registry is one by which the log's book brought it there, and each by which the log's book moved it
--- away is one by which the registry gave it away. No list has repeats, so the first of each pair is no longer than the second.
+-- A registry that holds a unit is its owner in the log's book. Each transfer that credited the unit to the
+-- registry is one by which the log's book brought it there, and each by which the log's book moved it away is one
+-- by which the registry gave it away. No list has repeats, so the first of each pair is no longer than the second.
 -- The log's counts (`in_book`) and the holder's count then leave no choice but that the book names the registry.
 use Rattle.std.specs.List.{count_by}
 use Rattle.std.proofs.Common.{◌≡◌, ℕ, ◌+◌, List, true, Some, inl, inr, sym, ap, subst, ◌∙◌, arith}

@@ -1,7 +1,8 @@
--- An owner moves by a completion alone, where one node's history got longer.
--- The lemmas compare two families of histories, before and after: one node has new transitions in front, and all others are unchanged. Each owner
--- before has an owner after, which is the same one or one that a new completion moved the unit to (`onward`). As an owner is unique, the
--- owner after is that one. At the end, one event is shown to commit at one node at most, and so to relate two such families.
+-- An owner moves by a completion alone, where one node's history got longer. The lemmas compare two families of
+-- histories, before and after: one node has new transitions in front, and all others are unchanged. Each owner
+-- before has an owner after, which is the same one or one that a new completion moved the unit to (`onward`). As
+-- an owner is unique, the owner after is that one. At the end, one event is shown to commit at one node at most,
+-- and so to relate two such families.
 use Rattle.std.proofs.Common.{◌≡◌, ◌+◌, ◌≤◌, List, [], ◌++◌, Bool, true, false, Option, Some, option_map, ◌⊎◌, inl, inr, refl, sym, ap, subst, ◌∙◌, arith}
 use Rattle.std.specs.List.{list_any, count_by}
 use Rattle.std.proofs.lemmas.Bool.{cases_Bool, eqb-true, eq-eqb}

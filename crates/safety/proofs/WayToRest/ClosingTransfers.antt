@@ -1,8 +1,8 @@
--- From a quiet world with room an open transfer is brought to its end, message by message.
--- The stages of a transfer are proved closable from the last one to the first: the acquirer completes, the log completes, the initiator hears the
--- answer, the log hears the acquirer, the acquirer hears the proposal, the log hears the proposal.
--- Each stage sends the message that its last transition has sent, reads the next status in the table, and uses the stage after it. `close_one`
--- finds out at which stage a transfer stands, by its newest transitions at the three nodes.
+-- From a quiet world with room an open transfer is brought to its end, message by message. The stages of a transfer
+-- are proved closable from the last one to the first: the acquirer completes, the log completes, the initiator
+-- hears the answer, the log hears the acquirer, the acquirer hears the proposal, the log hears the proposal. Each
+-- stage sends the message that its last transition has sent, reads the next status in the table, and uses the stage
+-- after it. `close_one` finds out at which stage a transfer stands, by its newest transitions at the three nodes.
 use Rattle.units.specs.declared.code.Node.{Node}
 use Rattle.safety.proofs.MovesAndHistories.TableRows.{word_to}
 use Rattle.safety.proofs.OneRegistry.InitiatorStatuses.{own_statuses, IsOwnStatus}

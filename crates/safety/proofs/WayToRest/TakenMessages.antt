@@ -1,6 +1,6 @@
--- In a quiet world with room, a message that moves a transfer is recorded with the transition of its table.
--- A message that was sent is refused for want of room alone (`WelcomeMessages`), and there is room. So the verdict is the row of the table, and
--- the lemmas say for each kind of message and node which transition that row makes.
+-- In a quiet world with room, a message that moves a transfer is recorded with the transition of its table. A
+-- message that was sent is refused for want of room alone (`WelcomeMessages`), and there is room. So the verdict
+-- is the row of the table, and the lemmas say for each kind of message and node which transition that row makes.
 use Rattle.status.specs.declared.words.Row.{Row}
 use Rattle.safety.proofs.MovesAndHistories.NewestTransitions.{newest_id}
 use Rattle.safety.proofs.MovesAndHistories.TableRows.{known_status, unless_same}

@@ -1,7 +1,8 @@
--- How far a transfer has come in a quiet world, what was sent of it so far, and steps after one another.
--- `Closes` is the claim about one transfer: some events of transport bring it to its end with a bounded number of records, and leave all other
--- transfers alone. `then_log` and `then_registry` put one record before such a claim. `Stage` collects what is known of the transfer at its initiator,
--- and the lemmas on it say what the other two nodes know and have sent.
+-- How far a transfer has come in a quiet world, what was sent of it so far, and steps after one another. `Closes`
+-- is the claim about one transfer: some events of transport bring it to its end with a bounded number of records,
+-- and leave all other transfers alone. `then_log` and `then_registry` put one record before such a claim. `Stage`
+-- collects what is known of the transfer at its initiator, and the lemmas on it say what the other two nodes know
+-- and have sent.
 use Rattle.std.proofs.lemmas.Bool.{cases_Bool}
 use Rattle.std.proofs.Common.{◌≡◌, ℕ, ◌+◌, ◌≤◌, List, [], true, false, Option, Some, inl, inr, refl, sym, ap, subst, ◌∙◌, arith, length, ◌⊎◌}
 use Rattle.units.proofs.Same.{same_code-refl, code_of_same}

@@ -1,7 +1,7 @@
--- From every world with room, events of transport lead to one at rest.
--- First all nodes are made quiet (`WakingNodes`). Then the open transfers are closed one after another (`ClosingTransfers`), each with at most three
--- records at a node and with no change to the others. At the end no transfer is open, so no unit is reserved or owed, and the owner of each unit
--- is a registry that can spend it.
+-- From every world with room, events of transport lead to one at rest. First all nodes are made quiet
+-- (`WakingNodes`). Then the open transfers are closed one after another (`ClosingTransfers`), each with at most
+-- three records at a node and with no change to the others. At the end no transfer is open, so no unit is reserved
+-- or owed, and the owner of each unit is a registry that can spend it.
 use Rattle.lemmas.proofs.Positions.{In_contains}
 use Rattle.safety.proofs.OneRegistry.RegistryHearings.{IsTaken, accepted_sent}
 use Rattle.safety.proofs.OneLog.LogHearings.{log_backed}

@@ -1,6 +1,6 @@
--- Every world leads to a quiet one: each stopped node starts, and each node commits all of its journal.
--- `Woken` says what events of transport do for one node, and the nodes are taken one after another. The journal of every node, committed and
--- tail together, is the same before and after.
+-- Every world leads to a quiet one: each stopped node starts, and each node commits all of its journal. `Woken`
+-- says what events of transport do for one node, and the nodes are taken one after another. The journal of every
+-- node, committed and tail together, is the same before and after.
 use Rattle.std.proofs.Common.{◌≡◌, List, [], ◌∷◌, ◌++◌, true, false, cond, Option, Some, None, inl, inr, refl, sym, ap, subst, ◌∙◌, take, drop, length, map, arith}
 use Rattle.std.specs.Prelude.{nat_le}
 use Rattle.std.proofs.lemmas.Bool.{cases_Bool, cond-true, cond-false, le-leb}

@@ -1,6 +1,7 @@
--- Worlds where every node is idle, and how a node records one more input in them.
--- A node that is idle runs and has committed its whole journal. One event makes it take an input that its verdict enters, and a commit
--- makes it idle again. `Grown` says so by equations: the node's journal has one input more, and all other nodes are as they were.
+-- Worlds where every node is idle, and how a node records one more input in them. A node that is idle runs and has
+-- committed its whole journal. One event makes it take an input that its verdict enters, and a commit makes it
+-- idle again. `Grown` says so by equations: the node's journal has one input more, and all other nodes are as they
+-- were.
 use Rattle.std.proofs.Common.{◌≡◌, ℕ, List, [], ◌∷◌, ◌++◌, Bool, true, false, Option, Some, None, inl, inr, refl, sym, ap, subst, ◌∙◌, length}
 use Rattle.std.specs.Prelude.{slice_get, option_and_then}
 use Rattle.std.proofs.lemmas.Bool.{cases_Bool, cond-true}

@@ -11,7 +11,7 @@ pub record Order : Type 0 where
   pub to_account : ℕ
   pub units : List RawBlock
 
--- numbers of at most 18 digits, whatever they are
+-- numbers of at most `most_digits` digits, whatever they are
 pub record IsOrder (o : Order) : Type 0 where
   pub account : o.account < too_long
   pub to_account : o.to_account < too_long

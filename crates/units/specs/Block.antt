@@ -34,7 +34,7 @@ pub record AreNumbers (text : List ℕ) (first last : ℕ) (kind : Kind) : Type 
   pub first_fits : first < too_long
   pub last_fits : last < too_long
 
--- the text writes the block, whose numbers have at most 18 digits
+-- the text writes the block, whose numbers have at most `most_digits` digits
 pub record IsRawText (text : List ℕ) (r : RawBlock) : Type 0 where
   pub spelled : text ≡ raw_text r
   pub first : r.first < too_long

@@ -13,7 +13,7 @@ pub fn cut(text: &str, at: char) -> Option<(&str, &str)>
     text.split_once(at)
 }
 
-/// The number that a text writes in decimal, with at most 18 digits and no leading zero.
+/// The number that a text writes in decimal, with at most `MOST_DIGITS` digits and no leading zero.
 pub fn number(text: &str) -> Option<u64>
     ensures some { IfSome result (λ n. IsNumberText text.now n) }
     ensures none { IfNone result ((n : ℕ) → IsNumberText text.now n → ⊥) }

@@ -1,4 +1,5 @@
-//! The limits that every crate keeps, each stated once. `specs/Limits.antt` has their twins for contracts.
+//! The limits that every crate keeps, each stated once. `specs/Limits.antt` has their twins for
+//! contracts.
 
 /// The greatest number of a unit. The first is 1.
 pub const LAST_UNIT: u64 = 999_999_999_999;

@@ -1,5 +1,5 @@
-//! The codes by which an input is refused, and those of what a check found. `specs/RefusalCodes.antt` has
-//! their twins for contracts.
+//! The codes by which an input is refused, and those of what a check found.
+//! `specs/RefusalCodes.antt` has their twins for contracts.
 
 /// The line is no message of the grammar.
 pub const NOT_A_MESSAGE: u16 = 41;

@@ -27,7 +27,8 @@ pub enum Input {
     CloseAccount(Number),
     /// The message that the node sent with that key was received.
     Ack(Number),
-    /// Transfers that were Checked `CLEAN_UP_AGE` or more before that moment are to be cancelled.
+    /// Transfers that were Checked `CLEAN_UP_AGE` seconds or more before that moment are to be
+    /// cancelled.
     CleanUp(Moment),
     /// Whether that registry may take part in transfers from here on.
     Eligible { registry: Code, may: bool },

@@ -2,6 +2,7 @@
 use Rattle.std.specs.Prelude.{◌≡◌, ◌⊎◌, ℕ, List, Some, None, IsTrue, IsSome}
 use Rattle.std.specs.FinMap as map
 use Rattle.std.specs.List.{IsAmong}
+use Rattle.units.specs.RefusalCodes.{account_not_open, unit_not_held, unit_reserved, unknown_account, already_so, holds_units}
 use Rattle.units.specs.Unit.{has_unit, covers}
 use Rattle.units.specs.declared.block.Block.{Block}
 use Rattle.units.specs.declared.block.Kind.{Kind}
@@ -55,18 +56,18 @@ pub record MayReserve (held : Held) (account : ℕ) (blocks : List Block) : Type
   pub held_so : AreHeld held account blocks
   pub free : AreFree held blocks
 
--- 104: account unknown or closed; 105: a unit that isn't held in that account with that kind; 106: a unit reserved
+-- the account isn't open; a unit isn't held in it with that kind; a unit is reserved
 abbrev pub IsReserveRefusal : Held → ℕ → List Block → ℕ → Type 0
 IsReserveRefusal held account blocks code =
-    ((code ≡ 104) × (IsOpen held account → ⊥))
-    ⊎ (((code ≡ 105) × IsOpen held account × IsLacking held account blocks)
-    ⊎ ((code ≡ 106) × IsOpen held account × AreHeld held account blocks × IsReserved held blocks))
+    ((code ≡ account_not_open) × (IsOpen held account → ⊥))
+    ⊎ (((code ≡ unit_not_held) × IsOpen held account × IsLacking held account blocks)
+    ⊎ ((code ≡ unit_reserved) × IsOpen held account × AreHeld held account blocks × IsReserved held blocks))
 
--- 110: account not in the scheme; 111: already so
+-- the registry has no such account; it is open already
 abbrev pub IsOpenRefusal : Held → ℕ → ℕ → Type 0
 IsOpenRefusal held account code =
-    ((code ≡ 110) × (map.get held.accounts account ≡ None))
-    ⊎ ((code ≡ 111) × (map.get held.accounts account ≡ Some Open))
+    ((code ≡ unknown_account) × (map.get held.accounts account ≡ None))
+    ⊎ ((code ≡ already_so) × (map.get held.accounts account ≡ Some Open))
 
 -- a unit in the account
 pub record HasUnits (held : Held) (account : ℕ) : Type 0 where
@@ -75,9 +76,9 @@ pub record HasUnits (held : Held) (account : ℕ) : Type 0 where
   pub is : map.get held.lots unit ≡ Some lot
   pub account_is : lot.account ≡ account
 
--- 110: account not in the scheme; 111: already so; 112: it holds units
+-- the registry has no such account; it is closed already; it holds units
 abbrev pub IsCloseRefusal : Held → ℕ → ℕ → Type 0
 IsCloseRefusal held account code =
-    ((code ≡ 110) × (map.get held.accounts account ≡ None))
-    ⊎ (((code ≡ 111) × (map.get held.accounts account ≡ Some Closed))
-    ⊎ ((code ≡ 112) × (map.get held.accounts account ≡ Some Open) × HasUnits held account))
+    ((code ≡ unknown_account) × (map.get held.accounts account ≡ None))
+    ⊎ (((code ≡ already_so) × (map.get held.accounts account ≡ Some Closed))
+    ⊎ ((code ≡ holds_units) × (map.get held.accounts account ≡ Some Open) × HasUnits held account))

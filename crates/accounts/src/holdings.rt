@@ -6,6 +6,7 @@ ghost use Rattle.std.specs.FinMap as map;
 ghost use Rattle.std.specs.List.{list_any};
 ghost use Rattle.units.specs.Apart.{AllApart};
 ghost use Rattle.units.specs.Intervals.{marks_that};
+ghost use Rattle.units.specs.RefusalCodes.{out_of_memory};
 ghost use Rattle.units.specs.Unit.{has_unit, covers};
 ghost use Rattle.units.specs.declared.block.Unit.{Unit as Serial};
 ghost use Rattle.accounts.specs.Holdings.{is_open, is_reserved_by, is_free_in, reserved, released, free_lot, kind_in};
@@ -20,6 +21,9 @@ use crate::lot::{Line, Lot, Standing};
 use status::TransactionId;
 use std::alloc::Global;
 use std::marker::Model;
+use units::refusal_code::{
+    ACCOUNT_NOT_OPEN, ALREADY_SO, HOLDS_UNITS, UNIT_RESERVED, UNKNOWN_ACCOUNT,
+};
 use units::{Block, NoMemory, Refusal, UnitMap};
 
 /// A registry's accounts and the units that they hold.
@@ -144,26 +148,31 @@ impl Holdings {
 
     /// Whether the account may reserve the blocks' units: it is open and has them all with their
     /// blocks' kinds, none of them reserved. Each check looks at all units before the next one
-    /// does. Refused with 104: the account is unknown or closed; 105: a unit isn't held in the
-    /// account with its block's kind; 106: a unit is reserved. Takes no memory.
+    /// does. Refused with `ACCOUNT_NOT_OPEN`: the account is unknown or closed; `UNIT_NOT_HELD`: a
+    /// unit isn't held in the account with its block's kind; `UNIT_RESERVED`: a unit is reserved.
+    /// Takes no memory.
     pub fn check(&self, account: u64, blocks: &[Block]) -> Result<(), Refusal>
         ensures ok { OnOk result (MayReserve self.now account blocks.now) }
         ensures err { IfErr result (λ r. IsReserveRefusal self.now account blocks.now r.code) }
     {
         if self.is_open(account) != Some(true) {
-            return Err(Refusal { code: 104 });
+            return Err(Refusal {
+                code: ACCOUNT_NOT_OPEN,
+            });
         }
         if !self.holds_each(account, blocks) {
-            return Err(Refusal { code: 105 });
+            return Err(Refusal::NOT_HELD);
         }
         if !self.is_each_free(blocks) {
-            return Err(Refusal { code: 106 });
+            return Err(Refusal {
+                code: UNIT_RESERVED,
+            });
         }
         Ok(())
     }
 
-    /// Reserves the blocks' units for the transaction. Refused as `check` refuses, or with 50: out
-    /// of memory. After a refusal nothing has changed.
+    /// Reserves the blocks' units for the transaction. Refused as `check` refuses, or with
+    /// `OUT_OF_MEMORY`. After a refusal nothing has changed.
     pub fn reserve(
         &mut self,
         account: u64,
@@ -172,7 +181,7 @@ impl Holdings {
     ) -> Result<(), Refusal>
         ensures may { OnOk result (MayReserve self.old account blocks.now) }
         ensures ok { OnOk result ((self.new.accounts ≡ self.old.accounts) × ((s : Serial) → map.get self.new.lots s ≡ (if covers blocks.now s then option_map (reserved id) (map.get self.old.lots s) else map.get self.old.lots s))) }
-        ensures refused { IfErr result (λ r. (r.code ≡ 50) ⊎ IsReserveRefusal self.old account blocks.now r.code) }
+        ensures refused { IfErr result (λ r. (r.code ≡ out_of_memory) ⊎ IsReserveRefusal self.old account blocks.now r.code) }
         ensures err { OnErr result (self.new ≡ self.old) }
     {
         self.check(account, blocks)?;
@@ -218,16 +227,18 @@ impl Holdings {
         Ok(())
     }
 
-    /// Opens a closed account. Refused with 110: the registry has no such account; 111: it is open
-    /// already. After a refusal nothing has changed. Takes no memory.
+    /// Opens a closed account. Refused with `UNKNOWN_ACCOUNT`: the registry has no such account;
+    /// `ALREADY_SO`: it is open already. After a refusal nothing has changed. Takes no memory.
     pub fn open_account(&mut self, account: u64) -> Result<(), Refusal>
         ensures ok { OnOk result ((map.get self.old.accounts account ≡ Some Closed) × (self.new.lots ≡ self.old.lots) × ((n : ℕ) → map.get self.new.accounts n ≡ (if n == account then Some Open else map.get self.old.accounts n))) }
         ensures refused { IfErr result (λ r. IsOpenRefusal self.old account r.code) }
         ensures err { OnErr result (self.new ≡ self.old) }
     {
         match self.standing(account) {
-            None => Err(Refusal { code: 110 }),
-            Some(Standing::Open) => Err(Refusal { code: 111 }),
+            None => Err(Refusal {
+                code: UNKNOWN_ACCOUNT,
+            }),
+            Some(Standing::Open) => Err(Refusal { code: ALREADY_SO }),
             Some(Standing::Closed) => {
                 self.set_standing(account, Standing::Open);
                 Ok(())
@@ -235,20 +246,22 @@ impl Holdings {
         }
     }
 
-    /// Closes an open account that holds nothing. Refused with 110: the registry has no such
-    /// account; 111: it is closed already; 112: it holds units. After a refusal nothing has
-    /// changed. Takes no memory.
+    /// Closes an open account that holds nothing. Refused with `UNKNOWN_ACCOUNT`: the registry has
+    /// no such account; `ALREADY_SO`: it is closed already; `HOLDS_UNITS`. After a refusal nothing
+    /// has changed. Takes no memory.
     pub fn close_account(&mut self, account: u64) -> Result<(), Refusal>
         ensures ok { OnOk result ((map.get self.old.accounts account ≡ Some Open) × (HasUnits self.old account → ⊥) × (self.new.lots ≡ self.old.lots) × ((n : ℕ) → map.get self.new.accounts n ≡ (if n == account then Some Closed else map.get self.old.accounts n))) }
         ensures refused { IfErr result (λ r. IsCloseRefusal self.old account r.code) }
         ensures err { OnErr result (self.new ≡ self.old) }
     {
         match self.standing(account) {
-            None => Err(Refusal { code: 110 }),
-            Some(Standing::Closed) => Err(Refusal { code: 111 }),
+            None => Err(Refusal {
+                code: UNKNOWN_ACCOUNT,
+            }),
+            Some(Standing::Closed) => Err(Refusal { code: ALREADY_SO }),
             Some(Standing::Open) => {
                 if self.lots.has_mark(|lot| lot.account == account) {
-                    return Err(Refusal { code: 112 });
+                    return Err(Refusal { code: HOLDS_UNITS });
                 }
                 self.set_standing(account, Standing::Closed);
                 Ok(())

@@ -3,6 +3,8 @@ use Rattle.std.specs.Prelude.{ℕ, ◌+◌, ◌&&◌, not, cond, nat_le, Bool, t
 use Rattle.std.specs.Option.{option_map_or}
 use Rattle.std.specs.Ordering.{is_lt}
 use Rattle.units.specs.Code.{same_node}
+use Rattle.units.specs.Limits.{clean_up_age}
+use Rattle.units.specs.RefusalCodes.{other_addressee, sender_not_allowed, wrong_party, other_content, no_row, unknown_transaction, unknown_registry}
 use Rattle.units.specs.declared.code.Code.{Code}
 use Rattle.units.specs.declared.code.Node.{Node}
 use Rattle.units.specs.declared.code.Node.TheVariants.{Itl, Registry}
@@ -60,22 +62,22 @@ is_from_another from t k _ = false
 
 abbrev pub log_refusals : Scheme → List Entry → Message → Causes
 log_refusals scheme es (message.Proposal p) =
-    (not (same_node p.to Itl), 42)
-    ∷ (is_no_registry scheme p.from, 43)
-    ∷ (not (same_node p.from (Registry p.id.code)), 44)
-    ∷ (has_other (newest (transitions_of es) p.id) p.content, 45)
-    ∷ (not (is_proposed p.status), 46)
+    (not (same_node p.to Itl), other_addressee)
+    ∷ (is_no_registry scheme p.from, sender_not_allowed)
+    ∷ (not (same_node p.from (Registry p.id.code)), wrong_party)
+    ∷ (has_other (newest (transitions_of es) p.id) p.content, other_content)
+    ∷ (not (is_proposed p.status), no_row)
     ∷ []
 log_refusals scheme es (message.Notification n) =
-    (not (same_node n.to Itl), 42)
-    ∷ (is_no_registry scheme n.from, 43)
-    ∷ (not (is_known (transitions_of es) n.id), 47)
-    ∷ (is_from_another n.from n.id (content_in (newest (transitions_of es) n.id)) (notice_status n.notice), 44)
+    (not (same_node n.to Itl), other_addressee)
+    ∷ (is_no_registry scheme n.from, sender_not_allowed)
+    ∷ (not (is_known (transitions_of es) n.id), unknown_transaction)
+    ∷ (is_from_another n.from n.id (content_in (newest (transitions_of es) n.id)) (notice_status n.notice), wrong_party)
     ∷ []
 log_refusals scheme es (message.Request r) =
-    (not (same_node r.to Itl), 42)
-    ∷ (is_no_registry scheme r.from, 43)
-    ∷ (not (same_node r.from (Registry r.id.code)), 44)
+    (not (same_node r.to Itl), other_addressee)
+    ∷ (is_no_registry scheme r.from, sender_not_allowed)
+    ∷ (not (same_node r.from (Registry r.id.code)), wrong_party)
     ∷ []
 
 -- by the log's table: the content is the one that is recorded from then on, and the codes are passed on or were found
@@ -103,9 +105,9 @@ abbrev pub newest_of_each : List Transition → List Transition
 newest_of_each [] = []
 newest_of_each (x ∷ xs) = x ∷ filter (λ y. not (same_id y.id x.id)) (newest_of_each xs)
 
--- a day or more before that moment
+-- so old at that moment, that clean-up is for it
 abbrev pub is_old : ℕ → Transition → Bool
-is_old moment x = nat_le (x.moment + 86_400) moment
+is_old moment x = nat_le (x.moment + clean_up_age) moment
 
 abbrev pub put_transition : Transition → List Transition → List Transition
 put_transition x [] = x ∷ []
@@ -133,17 +135,17 @@ same_bool true b = b
 same_bool false b = not b
 
 abbrev pub eligible_refusals : Scheme → Code → Causes
-eligible_refusals scheme c = (not (has_member scheme c), 114) ∷ []
+eligible_refusals scheme c = (not (has_member scheme c), unknown_registry) ∷ []
 
 -- ---- the verdict
 
--- inputs of a registry are refused by 46
+-- inputs of a registry are refused by `no_row`
 abbrev pub log_verdict : Scheme → List Entry → Input → Verdict
 log_verdict scheme es (CleanUp t) = clean_up scheme es (due (transitions_of es) t.seconds)
 log_verdict scheme es (Eligible c may) = refuse (eligible_refusals scheme c) (cond (same_bool (is_eligible scheme es c) may) IsRepeat (enters scheme es []))
 log_verdict scheme es (Ack n) = acknowledge scheme es n.value
 log_verdict scheme es (Received m t) = log_message scheme es t.seconds m
-log_verdict scheme es (Propose o) = IsRefused 46
-log_verdict scheme es (Request t) = IsRefused 46
-log_verdict scheme es (OpenAccount n) = IsRefused 46
-log_verdict scheme es (CloseAccount n) = IsRefused 46
+log_verdict scheme es (Propose o) = IsRefused no_row
+log_verdict scheme es (Request t) = IsRefused no_row
+log_verdict scheme es (OpenAccount n) = IsRefused no_row
+log_verdict scheme es (CloseAccount n) = IsRefused no_row

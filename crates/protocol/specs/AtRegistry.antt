@@ -3,6 +3,8 @@ use Rattle.std.specs.Prelude.{ℕ, ◌+◌, ◌==◌, ◌&&◌, ◌||◌, not, c
 use Rattle.std.specs.List.{list_any}
 use Rattle.std.specs.Option.{option_map_or}
 use Rattle.units.specs.Code.{same_code, same_node}
+use Rattle.units.specs.RefusalCodes.{other_addressee, sender_not_allowed, wrong_party, other_content, no_row, unknown_transaction}
+use Rattle.units.specs.RefusalCodes.{transactions_used_up, unknown_account, already_so, holds_units, transfer_accepted, not_proposed_here, no_longer_proposed}
 use Rattle.units.specs.declared.code.Code.{Code}
 use Rattle.units.specs.declared.code.Node.TheVariants.{Itl, Registry}
 use Rattle.units.specs.Unit.{same_kind}
@@ -54,7 +56,7 @@ content_of o = record { account = o.account; acquirer = o.to_registry; to_accoun
 
 -- under the registry's next number, where one is left
 abbrev pub offer : Scheme → Code → List Entry → Content → Option TransactionId → Verdict
-offer scheme c es k None = IsRefused 109
+offer scheme c es k None = IsRefused transactions_used_up
 offer scheme c es k (Some t) = by_row scheme es (moved t (Some k) 0 (initiator_sends c t (Some k) column.Propose)) (initiator_row (known (newest (transitions_of es) t)) column.Propose)
 
 abbrev pub propose : Scheme → Code → List Entry → Order → Verdict
@@ -86,8 +88,8 @@ in_role scheme c es t last moment input =
 
 abbrev pub request_refusals : Code → List Entry → TransactionId → Causes
 request_refusals c es t =
-    (not (same_code t.code c && is_known (transitions_of es) t), 115)
-    ∷ (not (stands_at (transitions_of es) t Proposed), 116)
+    (not (same_code t.code c && is_known (transitions_of es) t), not_proposed_here)
+    ∷ (not (stands_at (transitions_of es) t Proposed), no_longer_proposed)
     ∷ []
 
 -- the first one for its transaction, or another
@@ -105,18 +107,18 @@ is_checked proposal.Checked = true
 
 abbrev pub registry_refusals : Code → List Entry → Message → Causes
 registry_refusals c es (message.Proposal p) =
-    (not (same_node p.to (Registry c)), 42)
-    ∷ (not (same_node p.from Itl), 43)
-    ∷ (not (same_code p.content.acquirer c) || (same_code p.id.code c || repeats (pieces p.content.units)), 44)
-    ∷ (has_other (newest (transitions_of es) p.id) p.content, 45)
-    ∷ (not (is_checked p.status), 46)
+    (not (same_node p.to (Registry c)), other_addressee)
+    ∷ (not (same_node p.from Itl), sender_not_allowed)
+    ∷ (not (same_code p.content.acquirer c) || (same_code p.id.code c || repeats (pieces p.content.units)), wrong_party)
+    ∷ (has_other (newest (transitions_of es) p.id) p.content, other_content)
+    ∷ (not (is_checked p.status), no_row)
     ∷ []
 registry_refusals c es (message.Notification n) =
-    (not (same_node n.to (Registry c)), 42)
-    ∷ (not (same_node n.from Itl), 43)
-    ∷ (not (is_known (transitions_of es) n.id) && not (same_status (notice_status n.notice) Cancelled && not (same_code n.id.code c)), 47)
+    (not (same_node n.to (Registry c)), other_addressee)
+    ∷ (not (same_node n.from Itl), sender_not_allowed)
+    ∷ (not (is_known (transitions_of es) n.id) && not (same_status (notice_status n.notice) Cancelled && not (same_code n.id.code c)), unknown_transaction)
     ∷ []
-registry_refusals c es (message.Request r) = (not (same_node r.to (Registry c)), 42) ∷ (not (same_node r.from Itl), 43) ∷ []
+registry_refusals c es (message.Request r) = (not (same_node r.to (Registry c)), other_addressee) ∷ (not (same_node r.from Itl), sender_not_allowed) ∷ []
 
 abbrev pub registry_answer : Scheme → Code → List Entry → ℕ → Message → Verdict
 registry_answer scheme c es moment (message.Proposal p) = arrival scheme c es p.id (newest (transitions_of es) p.id) p.content moment (acquirer_findings scheme c (holding scheme c es) p.content)
@@ -129,7 +131,7 @@ registry_message scheme c es moment m = refuse (registry_refusals c es m) (regis
 -- ---- account orders
 
 abbrev pub open_refusals : Scheme → Code → List Entry → ℕ → Causes
-open_refusals scheme c es account = (not (has_account scheme c account), 110) ∷ (not (is_closed es account), 111) ∷ []
+open_refusals scheme c es account = (not (has_account scheme c account), unknown_account) ∷ (not (is_closed es account), already_so) ∷ []
 
 -- the units that were ever in play: those allotted, and those of transfers
 abbrev pub seen : Scheme → List Transition → List Piece
@@ -145,15 +147,15 @@ is_awaited c xs account = list_any (λ x. not (same_code x.id.code c) && (stands
 
 abbrev pub close_refusals : Scheme → Code → List Entry → ℕ → Causes
 close_refusals scheme c es account =
-    (not (has_account scheme c account), 110)
-    ∷ (is_closed es account, 111)
-    ∷ (is_used scheme c (transitions_of es) account, 112)
-    ∷ (is_awaited c (transitions_of es) account, 113)
+    (not (has_account scheme c account), unknown_account)
+    ∷ (is_closed es account, already_so)
+    ∷ (is_used scheme c (transitions_of es) account, holds_units)
+    ∷ (is_awaited c (transitions_of es) account, transfer_accepted)
     ∷ []
 
 -- ---- the verdict
 
--- inputs of the log are refused by 46
+-- inputs of the log are refused by `no_row`
 abbrev pub registry_verdict : Scheme → Code → List Entry → Input → Verdict
 registry_verdict scheme c es (Propose o) = propose scheme c es o
 registry_verdict scheme c es (Request t) = request scheme c es t
@@ -161,5 +163,5 @@ registry_verdict scheme c es (OpenAccount n) = refuse (open_refusals scheme c es
 registry_verdict scheme c es (CloseAccount n) = refuse (close_refusals scheme c es n.value) (enters scheme es [])
 registry_verdict scheme c es (Ack n) = acknowledge scheme es n.value
 registry_verdict scheme c es (Received m t) = registry_message scheme c es t.seconds m
-registry_verdict scheme c es (CleanUp t) = IsRefused 46
-registry_verdict scheme c es (Eligible d may) = IsRefused 46
+registry_verdict scheme c es (CleanUp t) = IsRefused no_row
+registry_verdict scheme c es (Eligible d may) = IsRefused no_row

@@ -4,6 +4,10 @@ use Rattle.std.specs.Prelude.{ℕ, ◌==◌, ◌&&◌, ◌&&◌, ◌||◌, not, 
 use Rattle.std.specs.List.{list_any}
 use Rattle.std.specs.Option.{option_map_or}
 use Rattle.units.specs.Code.{same_code}
+use Rattle.units.specs.Limits.{last_unit, last_account, most_blocks}
+use Rattle.units.specs.RefusalCodes.{wrong_block_count, block_out_of_range, blocks_overlap, account_not_open, unit_not_held, unit_reserved, no_such_acquirer, account_out_of_range}
+use Rattle.units.specs.RefusalCodes.{wrong_acquirer, unit_repeated, unit_not_allotted, other_owner, other_transfer, other_kind, initiator_not_eligible, acquirer_not_eligible}
+use Rattle.units.specs.RefusalCodes.{receiver_unknown, receiver_closed, unit_already_held, kind_not_taken}
 use Rattle.units.specs.Unit.{same_kind}
 use Rattle.units.specs.declared.block.Kind.{Kind}
 use Rattle.units.specs.declared.block.RawBlock.{RawBlock}
@@ -37,28 +41,28 @@ pub record Holding : Type 0 where
 
 -- a first number above the last, or one out of range
 abbrev pub is_out_of_range : RawBlock → Bool
-is_out_of_range b = nat_lt b.last b.first || ((b.first == 0) || nat_lt 999_999_999_999 b.last)
+is_out_of_range b = nat_lt b.last b.first || ((b.first == 0) || nat_lt last_unit b.last)
 
 -- why an order to transfer units is refused, while a number is left for it
 abbrev pub propose_refusals : Scheme → Code → Holding → Order → Causes
 propose_refusals scheme c known o =
-    ((length o.units == 0) || nat_lt 16 (length o.units), 101)
-    ∷ (list_any is_out_of_range o.units, 102)
-    ∷ (repeats (pieces o.units), 103)
-    ∷ (not (has_account scheme c o.account) || known.is_closed o.account, 104)
-    ∷ (list_any (λ p. not (known.has o.account p)) (pieces o.units), 105)
-    ∷ (list_any (λ p. known.is_reserved p.unit) (pieces o.units), 106)
-    ∷ (not (has_member scheme o.to_registry) || same_code o.to_registry c, 107)
-    ∷ ((o.to_account == 0) || nat_lt 999_999_999 o.to_account, 108)
+    ((length o.units == 0) || nat_lt most_blocks (length o.units), wrong_block_count)
+    ∷ (list_any is_out_of_range o.units, block_out_of_range)
+    ∷ (repeats (pieces o.units), blocks_overlap)
+    ∷ (not (has_account scheme c o.account) || known.is_closed o.account, account_not_open)
+    ∷ (list_any (λ p. not (known.has o.account p)) (pieces o.units), unit_not_held)
+    ∷ (list_any (λ p. known.is_reserved p.unit) (pieces o.units), unit_reserved)
+    ∷ (not (has_member scheme o.to_registry) || same_code o.to_registry c, no_such_acquirer)
+    ∷ ((o.to_account == 0) || nat_lt last_account o.to_account, account_out_of_range)
     ∷ []
 
 -- what the acquirer finds
 abbrev pub acquirer_causes : Scheme → Code → Holding → Content → Causes
 acquirer_causes scheme c known k =
-    (not (has_account scheme c k.to_account), 301)
-    ∷ (has_account scheme c k.to_account && known.is_closed k.to_account, 302)
-    ∷ (list_any (λ p. known.is_held p.unit) (pieces k.units), 303)
-    ∷ (list_any (λ p. not (takes_kind scheme c p.kind)) (pieces k.units), 304)
+    (not (has_account scheme c k.to_account), receiver_unknown)
+    ∷ (has_account scheme c k.to_account && known.is_closed k.to_account, receiver_closed)
+    ∷ (list_any (λ p. known.is_held p.unit) (pieces k.units), unit_already_held)
+    ∷ (list_any (λ p. not (takes_kind scheme c p.kind)) (pieces k.units), kind_not_taken)
     ∷ []
 
 abbrev pub acquirer_findings : Scheme → Code → Holding → Content → List ℕ
@@ -87,14 +91,14 @@ is_of_another holder owner c = is_some holder && not (is_owner owner c)
 -- what the log finds in a proposal of that initiator
 abbrev pub log_causes : Scheme → Ledger → Code → Content → Causes
 log_causes scheme known initiator k =
-    (not (has_member scheme k.acquirer) || same_code k.acquirer initiator, 201)
-    ∷ (repeats (pieces k.units), 202)
-    ∷ (list_any (λ p. is_none (allotted scheme p.unit)) (pieces k.units), 203)
-    ∷ (list_any (λ p. is_of_another (allotted scheme p.unit) (known.owner p.unit) initiator) (pieces k.units), 204)
-    ∷ (list_any (λ p. known.is_busy p.unit) (pieces k.units), 205)
-    ∷ (list_any (λ p. has_other_kind (allotted scheme p.unit) p.kind) (pieces k.units), 206)
-    ∷ (not (known.is_eligible initiator), 207)
-    ∷ (has_member scheme k.acquirer && not (known.is_eligible k.acquirer), 208)
+    (not (has_member scheme k.acquirer) || same_code k.acquirer initiator, wrong_acquirer)
+    ∷ (repeats (pieces k.units), unit_repeated)
+    ∷ (list_any (λ p. is_none (allotted scheme p.unit)) (pieces k.units), unit_not_allotted)
+    ∷ (list_any (λ p. is_of_another (allotted scheme p.unit) (known.owner p.unit) initiator) (pieces k.units), other_owner)
+    ∷ (list_any (λ p. known.is_busy p.unit) (pieces k.units), other_transfer)
+    ∷ (list_any (λ p. has_other_kind (allotted scheme p.unit) p.kind) (pieces k.units), other_kind)
+    ∷ (not (known.is_eligible initiator), initiator_not_eligible)
+    ∷ (has_member scheme k.acquirer && not (known.is_eligible k.acquirer), acquirer_not_eligible)
     ∷ []
 
 abbrev pub log_findings : Scheme → Ledger → Code → Content → List ℕ

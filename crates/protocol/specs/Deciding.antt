@@ -1,6 +1,7 @@
 -- What a verdict is, how the tables decide one, and what every node decides alike.
 use Rattle.std.specs.Prelude.{ℕ, not, cond, nat_le, Bool, false, List, [], ◌∷◌, length, Option, Some, None, option_and_then}
 use Rattle.std.specs.Option.{option_map_or}
+use Rattle.units.specs.RefusalCodes.{no_row, journal_full}
 use Rattle.status.specs.Content.{Content, same_content}
 use Rattle.status.specs.declared.id.TransactionId.{TransactionId}
 use Rattle.status.specs.declared.words.Known.{Known}
@@ -29,7 +30,7 @@ refuse (c ∷ cs) answer = cond c.0 (IsRefused c.1) (refuse cs answer)
 
 -- recorded, where the journal has room
 abbrev pub enters : Scheme → List Entry → List Transition → Verdict
-enters scheme es xs = cond (nat_le scheme.records (length es)) (IsRefused 49) (Enters xs)
+enters scheme es xs = cond (nat_le scheme.records (length es)) (IsRefused journal_full) (Enters xs)
 
 -- ---- by the tables
 
@@ -60,7 +61,7 @@ abbrev pub by_row : Scheme → List Entry → (Status → Transition) → Row �
 by_row scheme es to (Move new) = enters scheme es (to new ∷ [])
 by_row scheme es to Repeat = IsRepeat
 by_row scheme es to Late = IsLate
-by_row scheme es to Refused = IsRefused 46
+by_row scheme es to Refused = IsRefused no_row
 
 -- known with another content
 abbrev pub has_other : Option Transition → Content → Bool
@@ -69,7 +70,7 @@ has_other last k = option_map_or (λ content. not (same_content content k)) (con
 -- ---- acknowledgements
 
 abbrev pub ack_refusals : List Entry → ℕ → Causes
-ack_refusals es key = (nat_le (length (sends es)) key, 46) ∷ []
+ack_refusals es key = (nat_le (length (sends es)) key, no_row) ∷ []
 
 abbrev pub acknowledge : Scheme → List Entry → ℕ → Verdict
 acknowledge scheme es key = refuse (ack_refusals es key) (cond (is_acknowledged es key) IsRepeat (enters scheme es []))

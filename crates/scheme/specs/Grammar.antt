@@ -4,6 +4,7 @@ use Rattle.serde_json.specs.Data.{Data, unsigned, boolean, number, string}
 use Rattle.units.specs.Apart.{Pairwise}
 use Rattle.units.specs.Code.{code_text}
 use Rattle.units.specs.Block.{kind_text, IsRawText}
+use Rattle.units.specs.Limits.{last_account, most_records}
 use Rattle.units.specs.declared.block.Block.{Block}
 use Rattle.units.specs.declared.block.Kind.{Kind}
 use Rattle.fields.specs.Fields.{HasKeys, HasAt, HasList}
@@ -18,9 +19,9 @@ HasNoTwins xs = Pairwise (λ x y. x ≢ y) xs
 
 -- ---- values
 
--- an account's number, from 1 to 999,999,999
+-- an account's number, from 1 to `last_account`
 abbrev pub IsAccount : Data → ℕ → Type 0
-IsAccount d n = (d ≡ number (unsigned n)) × (1 ≤ n) × (n ≤ 999_999_999)
+IsAccount d n = (d ≡ number (unsigned n)) × (1 ≤ n) × (n ≤ last_account)
 
 -- the text of a kind
 abbrev pub IsKind : Data → Kind → Type 0
@@ -37,7 +38,7 @@ pub record IsAllotment (d : Data) (a : Allotment) : Type 0 where
   pub keys : HasKeys d 2
   pub account : HasAt d (codes "account") (number (unsigned a.account))
   pub from_one : 1 ≤ a.account
-  pub to_last : a.account ≤ 999_999_999
+  pub to_last : a.account ≤ last_account
   pub units : HasList IsBlock d (codes "units") a.units
 
 -- a registry; the kinds that it takes are different ones
@@ -50,10 +51,10 @@ pub record IsMember (d : Data) (m : Member) : Type 0 where
   pub kinds : HasList IsKind d (codes "kinds") m.kinds
   pub no_twins : HasNoTwins m.kinds
 
--- a number of records from 1 to 1,000,000, and registries in the order of the array
+-- a number of records from 1 to `most_records`, and registries in the order of the array
 pub record IsWritten (d : Data) (records : ℕ) (members : List Member) : Type 0 where
   pub keys : HasKeys d 2
   pub records_at : HasAt d (codes "records") (number (unsigned records))
   pub some_records : 1 ≤ records
-  pub few_records : records ≤ 1_000_000
+  pub few_records : records ≤ most_records
   pub registries : HasList IsMember d (codes "registries") members

@@ -3,6 +3,7 @@ use Rattle.std.specs.Prelude.{ℕ, ◌+◌, ◌*◌, ◌<◌, ◌≤◌, List, [
 use Rattle.std.specs.List.{AllByRecursion, list_any, find}
 use Rattle.units.specs.Apart.{Pairwise, AllApart}
 use Rattle.units.specs.Code.{same_code}
+use Rattle.units.specs.Limits.{least_registries, most_registries, most_accounts, most_allotted}
 use Rattle.units.specs.declared.block.Block.{Block}
 use Rattle.units.specs.declared.code.Code.{Code}
 use Rattle.scheme.specs.Grammar.{HasNoTwins}
@@ -32,16 +33,16 @@ has_account m number = list_any (λ n. n == number) m.accounts
 abbrev pub HasAccount : Member → ℕ → Type 0
 HasAccount m number = IsTrue (has_account m number)
 
--- at most 32 registries, 1,000 accounts in each, and 10,000 allotted blocks
+-- at most so many registries, accounts in each, and allotted blocks
 pub record AreFew (members : List Member) : Type 0 where
-  pub registries : length members ≤ 32
-  pub accounts : AllByRecursion (λ m. length m.accounts ≤ 1_000) members
-  pub blocks : length (all_blocks members) ≤ 10_000
+  pub registries : length members ≤ most_registries
+  pub accounts : AllByRecursion (λ m. length m.accounts ≤ most_accounts) members
+  pub blocks : length (all_blocks members) ≤ most_allotted
 
 -- the registries are free of the fault
 abbrev pub IsFreeOf : SchemeFault → List Member → Type 0
 IsFreeOf TooMany members = AreFew members
-IsFreeOf TooFew members = 2 ≤ length members
+IsFreeOf TooFew members = least_registries ≤ length members
 IsFreeOf CodeTwice members = HasNoTwins (map (λ m. m.code) members)
 IsFreeOf AccountTwice members = AllByRecursion (λ m. HasNoTwins m.accounts) members
 IsFreeOf UnknownAccount members = AllByRecursion (λ m. AllByRecursion (λ a. HasAccount m a.account) m.allotted) members

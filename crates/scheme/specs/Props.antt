@@ -4,6 +4,7 @@ use Rattle.std.specs.Coded.{×_prop, Unit-prop, le_prop}
 use Rattle.std.specs.List.{AllByRecursion, AllByRecursion-prop}
 use Rattle.std.proofs.Props.{props}
 use Rattle.units.specs.Apart.{Pairwise, AreApart}
+use Rattle.units.specs.Limits.{most_accounts}
 use Rattle.units.specs.declared.block.Block.{Block}
 use Rattle.scheme.specs.Grammar.{HasNoTwins}
 use Rattle.scheme.specs.Order.{AreFew, IsFreeOf, AreMembers, all_blocks, code_rank, HasAccount, faults_in_order}
@@ -31,7 +32,7 @@ account-prop m a = hlevel props
 few-prop : (members : List Member) → IsProp (AreFew members)
 few-prop members x y = λ i. record {
   registries = le_prop x.registries y.registries i;
-  accounts = AllByRecursion-prop (λ m. length m.accounts ≤ 1_000) (λ m. le_prop) members x.accounts y.accounts i;
+  accounts = AllByRecursion-prop (λ m. length m.accounts ≤ most_accounts) (λ m. le_prop) members x.accounts y.accounts i;
   blocks = le_prop x.blocks y.blocks i;
 }
 

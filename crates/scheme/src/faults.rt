@@ -3,6 +3,7 @@ ghost use Rattle.std.specs.Prelude.{◌≡◌, ◌↔◌, ◌++◌, ℕ, ◌<◌
 ghost use Rattle.std.specs.List.{AllByRecursion, list_any, AllAdjacentBelow};
 ghost use Rattle.std.specs.List.Sorted.{IsNonDecreasing};
 ghost use Rattle.units.specs.Apart.{Pairwise, AllApart};
+ghost use Rattle.units.specs.Limits.{most_accounts};
 ghost use Rattle.scheme.specs.Grammar.{HasNoTwins};
 ghost use Rattle.scheme.specs.Order.{AreFew, IsFreeOf, AreMembers, all_blocks, blocks_of, code_rank, faults_in_order};
 ghost use Rattle.scheme.specs.Faults.{IsFirst};
@@ -11,13 +12,8 @@ ghost use Rattle.scheme.specs.declared.members.SchemeFault.TheVariants.{AccountT
 
 use crate::members::{Allotment, Member, SchemeFault};
 use std::alloc::{AllocError, Global};
+use units::limits::{LEAST_REGISTRIES, MOST_ACCOUNTS, MOST_ALLOTTED, MOST_REGISTRIES};
 use units::{Block, Unit};
-
-const MOST_REGISTRIES: usize = 32;
-
-const MOST_ACCOUNTS: usize = 1_000;
-
-const MOST_BLOCKS: usize = 10_000;
 
 // Puts the blocks of all the allotments behind those that are there.
 fn push_units(all: &mut Vec<Block>, allotted: &[Allotment]) -> Result<(), AllocError>
@@ -42,7 +38,7 @@ fn allotted_blocks(alloc: Global, members: &[Member]) -> Result<Vec<Block>, Allo
 
 // Whether none of the registries has too many accounts.
 fn have_few_accounts(members: &[Member]) -> bool
-    ensures { IsTrue result ↔ AllByRecursion (λ m. length m.accounts ≤ 1_000) members.now }
+    ensures { IsTrue result ↔ AllByRecursion (λ m. length m.accounts ≤ most_accounts) members.now }
 {
     for member in members {
         if member.accounts.as_slice().len() > MOST_ACCOUNTS {
@@ -57,7 +53,7 @@ fn are_few(members: &[Member], blocks: usize) -> bool
     requires { blocks ≡ length (all_blocks members.now) }
     ensures { IsTrue result ↔ AreFew members.now }
 {
-    if members.len() > MOST_REGISTRIES || blocks > MOST_BLOCKS {
+    if members.len() > MOST_REGISTRIES || blocks > MOST_ALLOTTED {
         return false;
     }
     have_few_accounts(members)
@@ -181,7 +177,7 @@ pub fn first_fault(alloc: Global, members: &[Member]) -> Result<Option<SchemeFau
     if !are_few(members, blocks.len()) {
         return Ok(Some(SchemeFault::TooMany));
     }
-    if members.len() < 2 {
+    if members.len() < LEAST_REGISTRIES {
         return Ok(Some(SchemeFault::TooFew));
     }
     if !have_different_codes(members) {

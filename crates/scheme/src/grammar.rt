@@ -15,11 +15,8 @@ use crate::members::{Allotment, Member};
 use fields::{ReadFault, bool_at, has_keys, list_at, number_at, text_at};
 use serde_json::Value;
 use std::alloc::Global;
+use units::limits::{LAST_ACCOUNT, MOST_RECORDS};
 use units::{Block, Code, Items, Kind};
-
-const LAST_ACCOUNT: u64 = 999_999_999;
-
-const MOST_RECORDS: u64 = 1_000_000;
 
 // The number at the key, from 1 to `most`.
 fn count_at(value: &Value, key: &str, most: u64) -> Result<u64, ReadFault>

@@ -42,10 +42,11 @@ pub enum SchemeFault {
     /// It is JSON with a key or a value outside the grammar.
     #[error("shape")]
     Shape,
-    /// More than 32 registries, 1,000 accounts in one, or 10,000 allotted blocks.
+    /// More than `MOST_REGISTRIES` registries, `MOST_ACCOUNTS` accounts in one, or `MOST_ALLOTTED`
+    /// allotted blocks.
     #[error("too-many")]
     TooMany,
-    /// Fewer than two registries.
+    /// Fewer than `LEAST_REGISTRIES` registries.
     #[error("too-few")]
     TooFew,
     /// Two registries have one code.

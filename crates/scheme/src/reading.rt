@@ -33,7 +33,8 @@ impl Scheme {
     ///
     /// - `NotJson`: the text is no JSON in UTF-8.
     /// - `Shape`: its JSON value has a key or a value outside the grammar, or lacks one.
-    /// - `TooMany`: it has more than 32 registries, 1,000 accounts in one, or 10,000 blocks in all.
+    /// - `TooMany`: it has more than `MOST_REGISTRIES` registries, `MOST_ACCOUNTS` accounts
+    ///   in one, or `MOST_ALLOTTED` blocks in all.
     /// - `TooFew`: it has fewer than two registries.
     /// - `CodeTwice`: two registries have one code.
     /// - `AccountTwice`: an account stands twice in its registry.

@@ -2,6 +2,7 @@
 ghost use Rattle.std.specs.Prelude.{◌≡◌, ◌≤◌, IfOk};
 ghost use Rattle.std.specs.List.{find};
 ghost use Rattle.std.specs.Option.{option_copied};
+ghost use Rattle.units.specs.Limits.{most_records};
 ghost use Rattle.units.specs.Unit.{has_unit};
 ghost use Rattle.scheme.specs.Order.{AreMembers, member};
 ghost use Rattle.scheme.specs.Allotted.{allotted, allotted_in};
@@ -17,7 +18,7 @@ use units::{Block, Code, Items, NoMemory, Unit};
 pub struct Scheme {
     pub records: u64,
     pub members: Items<Member>,
-    pub ghost in_range: { (1 ≤ records) × (records ≤ 1_000_000) },
+    pub ghost in_range: { (1 ≤ records) × (records ≤ most_records) },
     pub ghost sound: { AreMembers members } by { AreMembers-prop members },
 }
 

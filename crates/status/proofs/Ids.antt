@@ -5,6 +5,7 @@ use Rattle.std.specs.Str.{IsCharBoundary}
 use Rattle.std.proofs.lemmas.Str.{IsCharBoundary-from_drop, IsUtf8-from_ascii}
 use Rattle.std.proofs.lemmas.Fmt.{IsAscii-decimal, decimal_injective}
 use Rattle.units.proofs.OneText.{code_text_same}
+use Rattle.units.specs.Limits.{last_transaction}
 use Rattle.units.specs.Text.{IsNumberText}
 use Rattle.status.specs.Facts.{IsTransactionNumber}
 use Rattle.units.specs.declared.code.Code.{Code}
@@ -41,7 +42,7 @@ abbrev id : (c : Code) (n : ℕ) → IsTransactionNumber n → TransactionId
 id c n h = record { code = c; number = n; in_range = h }
 
 in_test : (t : TransactionId) → is_number t.number ≡ true
-in_test t = let range = t.in_range in rw (le-leb 1 t.number range.0, le-leb t.number 999_999 range.1) refl
+in_test t = let range = t.in_range in rw (le-leb 1 t.number range.0, le-leb t.number last_transaction range.1) refl
 
 id_if-some : (t : TransactionId) (b : Bool) (e : is_number t.number ≡ b) → id_if t.code t.number b e ≡ Some t
 id_if-some t true e = ap (λ h. Some (id t.code t.number h)) (one_range t.number (number_from t.number e) t.in_range)

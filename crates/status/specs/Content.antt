@@ -4,6 +4,7 @@ use lib.Pointwise.{pointwise}
 use Rattle.std.specs.List.{AllByRecursion}
 use Rattle.units.specs.Code.{same_code}
 use Rattle.units.specs.Facts.{IsRange}
+use Rattle.units.specs.Limits.{most_blocks}
 use Rattle.units.specs.Unit.{same_raw}
 use Rattle.units.specs.declared.block.Block.{Block}
 use Rattle.units.specs.declared.block.RawBlock.{RawBlock}
@@ -18,12 +19,12 @@ pub record Content : Type 0 where
   pub to_account : ℕ
   pub units : List RawBlock
 
--- accounts in range, and 1 to 16 blocks whose numbers are in range
+-- accounts in range, and 1 to `most_blocks` blocks whose numbers are in range
 pub record IsContent (c : Content) : Type 0 where
   pub account : IsAccountNumber c.account
   pub to_account : IsAccountNumber c.to_account
   pub some_units : 1 ≤ length c.units
-  pub few_units : length c.units ≤ 16
+  pub few_units : length c.units ≤ most_blocks
   pub in_range : AllByRecursion (λ b. IsRange b.first b.last) c.units
 
 -- the blocks without the proofs that they carry

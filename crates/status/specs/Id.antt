@@ -4,6 +4,7 @@ use Rattle.std.proofs.Common.{sym, true≢false}
 use Rattle.std.proofs.lemmas.Bool.{leb-true}
 use Rattle.units.specs.declared.code.Code.{Code}
 use Rattle.units.specs.Code.{code_text, same_code}
+use Rattle.units.specs.Limits.{last_transaction}
 use Rattle.std.specs.declared.cmp.Ordering.{Ordering}
 use Rattle.status.specs.Facts.{IsTransactionNumber}
 use Rattle.status.specs.contracts.id.TransactionIdOrd.TheImpl.{cmp-value as id-order}
@@ -21,11 +22,11 @@ abbrev pub id_cmp : TransactionId → TransactionId → Ordering
 id_cmp = id-order.it
 
 abbrev pub is_number : ℕ → Bool
-is_number n = nat_le 1 n && nat_le n 999_999
+is_number n = nat_le 1 n && nat_le n last_transaction
 
 -- what the test of a number says
 pub number_from : (n : ℕ) → is_number n ≡ true → IsTransactionNumber n
-number_from n e = let h = both (nat_le 1 n) (nat_le n 999_999) e in (leb-true 1 n h.0, leb-true n 999_999 h.1)
+number_from n e = let h = both (nat_le 1 n) (nat_le n last_transaction) e in (leb-true 1 n h.0, leb-true n last_transaction h.1)
   where
     both : (a b : Bool) → (a && b) ≡ true → (a ≡ true) × (b ≡ true)
     both true b h = (refl, h)
@@ -35,6 +36,6 @@ abbrev pub id_if : Code → (n : ℕ) (b : Bool) → is_number n ≡ b → Optio
 id_if code n true e = Some (record { code = code; number = n; in_range = number_from n e })
 id_if code n false e = None
 
--- the identifier of that code and number, where the number is 1 to 999,999
+-- the identifier of that code and number, where the number is in range
 abbrev pub id_at : Code → ℕ → Option TransactionId
 id_at code n = id_if code n (is_number n) refl

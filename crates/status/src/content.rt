@@ -4,15 +4,12 @@ ghost use Rattle.status.specs.Facts.{IsAccountNumber};
 ghost use Rattle.status.specs.Content.{IsContent, raws, same_blocks, same_content};
 
 use std::marker::Model;
+use units::limits::{LAST_ACCOUNT, MOST_BLOCKS};
 use units::{Block, Code, Items, NoMemory};
 
-const LAST_ACCOUNT: u64 = 999_999_999;
-
-const MOST_BLOCKS: usize = 16;
-
 /// What a transfer is about, beside its identifier, whose code is the initiator: the account that
-/// the units leave, the acquirer and its account that they go to, and 1 to 16 blocks. Accounts are
-/// 1 to 999,999,999.
+/// the units leave, the acquirer and its account that they go to, and 1 to `MOST_BLOCKS` blocks.
+/// Accounts are 1 to `LAST_ACCOUNT`.
 #[derive(Debug, Drop)]
 pub struct Content {
     account: u64,
@@ -45,7 +42,7 @@ fn are_same_blocks(a: &[Block], b: &[Block]) -> bool
 
 impl Content {
     /// A content of these parts, or `None` where an account is out of range, or there is no block
-    /// or more than 16.
+    /// or more than `MOST_BLOCKS`.
     pub fn new(
         account: u64,
         acquirer: Code,
@@ -69,7 +66,7 @@ impl Content {
         }
     }
 
-    /// The initiator's account, which the units leave: 1 to 999,999,999.
+    /// The initiator's account, which the units leave: 1 to `LAST_ACCOUNT`.
     pub fn account(&self) -> u64
         ensures value { result ≡ self.now.account }
         ensures valid { IsContent self.now }
@@ -84,7 +81,7 @@ impl Content {
         self.acquirer
     }
 
-    /// The acquirer's account, which the units go to: 1 to 999,999,999.
+    /// The acquirer's account, which the units go to: 1 to `LAST_ACCOUNT`.
     pub fn to_account(&self) -> u64
         ensures value { result ≡ self.now.to_account }
         ensures valid { IsContent self.now }
@@ -92,7 +89,7 @@ impl Content {
         self.to_account
     }
 
-    /// The blocks, 1 to 16.
+    /// The blocks, 1 to `MOST_BLOCKS`.
     pub fn units(&self) -> &[Block]
         ensures value { raws result.now ≡ self.now.units }
         ensures valid { IsContent self.now }

@@ -4,10 +4,11 @@ ghost use Rattle.status.specs.Facts.{IsTransactionNumber};
 
 use std::alloc::Global;
 use std::fmt;
+use units::limits::LAST_TRANSACTION;
 use units::{Code, NoMemory, number};
 
 /// A transaction: the code of the registry that proposed it, and that registry's number for it,
-/// 1 to 999,999.
+/// 1 to `LAST_TRANSACTION`.
 #[derive(Clone, Copy, Debug, PartialEq, Eq, PartialOrd, Ord)]
 pub struct TransactionId {
     pub code: Code,
@@ -19,13 +20,13 @@ impl TransactionId {
     ghost use Rattle.status.specs.Id.{id_text, id_at};
     ghost use Rattle.status.specs.declared.id.TransactionId.{TransactionId};
 
-    /// The identifier of that code and number, where the number is 1 to 999,999.
+    /// The identifier of that code and number, where the number is in range.
     pub fn new(code: Code, number: u32) -> Option<TransactionId>
         ensures some { IfSome result (λ t. (t.code ≡ code) × (t.number ≡ number)) }
         ensures none { IfNone result (IsTransactionNumber number → ⊥) }
         ensures value { result ≡ id_at code number }
     {
-        if (1..=999_999).contains(&number) {
+        if (1..=LAST_TRANSACTION).contains(&number) {
             Some(TransactionId { code, number })
         } else {
             None
@@ -40,7 +41,7 @@ impl TransactionId {
         let (code, rest) = text.split_at_checked(2)?;
         let code = Code::read(code)?;
         let count = number(rest)?;
-        if count > 999_999 {
+        if count > LAST_TRANSACTION as u64 {
             return None;
         }
         TransactionId::new(code, count as u32)

@@ -1,11 +1,12 @@
 //! Whole seconds since the epoch, and the texts that name them.
 ghost use Rattle.std.specs.Prelude.{◌≡◌, ◌≤◌, IfOk, IfErr, IfSome, IfNone};
-ghost use Rattle.status.specs.Facts.{last_moment};
+ghost use Rattle.units.specs.Limits.{last_moment};
 
 use jiff::Timestamp;
 use thiserror::Error;
+use units::limits::LAST_MOMENT;
 
-/// A whole second from 1970-01-01T00:00:00Z (0) to 9998-12-31T23:59:59Z (253,370,764,799).
+/// A whole second from 1970-01-01T00:00:00Z (0) to 9998-12-31T23:59:59Z (`LAST_MOMENT`).
 #[derive(Clone, Copy, Debug, PartialEq, Eq, PartialOrd, Ord)]
 pub struct Moment {
     pub seconds: u64,
@@ -33,7 +34,7 @@ impl Moment {
         ensures some { IfSome result (λ m. m.seconds ≡ seconds) }
         ensures none { IfNone result (seconds ≤ last_moment → ⊥) }
     {
-        if seconds <= 253_370_764_799 {
+        if seconds <= LAST_MOMENT {
             Some(Moment { seconds })
         } else {
             None

@@ -1,16 +1,15 @@
 //! An order to transfer units.
-ghost use Rattle.std.specs.Prelude.{◌≡◌, ◌<◌, ◌^◌, ◌↔◌, IsTrue, IfOk, IfSome, IfNone};
+ghost use Rattle.std.specs.Prelude.{◌≡◌, ◌<◌, ◌↔◌, IsTrue, IfOk, IfSome, IfNone};
 ghost use Rattle.std.specs.List.{AllByRecursion};
+ghost use Rattle.units.specs.Limits.{too_long};
 ghost use Rattle.status.specs.Order.{IsOrder};
 
 use std::marker::Model;
+use units::limits::TOO_LONG;
 use units::{Code, Items, NoMemory, RawBlock};
 
-// 10^18, the first number of more than 18 digits
-const TOO_LONG: u64 = 1_000_000_000_000_000_000;
-
 /// An order to transfer units, as it was given: none of its parts is checked, except that its
-/// numbers have at most 18 digits.
+/// numbers have at most `MOST_DIGITS` digits.
 #[derive(Debug, Drop)]
 pub struct Order {
     account: u64,
@@ -30,7 +29,7 @@ impl Model for Order {
 }
 
 fn are_short(blocks: &[RawBlock]) -> bool
-    ensures { IsTrue result ↔ AllByRecursion (λ b. (b.first < 10 ^ 18) × (b.last < 10 ^ 18)) blocks.now }
+    ensures { IsTrue result ↔ AllByRecursion (λ b. (b.first < too_long) × (b.last < too_long)) blocks.now }
 {
     for block in blocks {
         if block.first >= TOO_LONG || block.last >= TOO_LONG {
@@ -41,7 +40,7 @@ fn are_short(blocks: &[RawBlock]) -> bool
 }
 
 impl Order {
-    /// An order of these parts, or `None` where a number has more than 18 digits.
+    /// An order of these parts, or `None` where a number has more than `MOST_DIGITS` digits.
     pub fn new(
         account: u64,
         to_registry: Code,

@@ -71,7 +71,7 @@ pub enum Row {
     Repeat,
     /// It comes too late to act on. Nothing moves.
     Late,
-    /// The tables have no such pair: refusal 46.
+    /// The tables have no such pair: refusal `NO_ROW`.
     Refused,
 }
 

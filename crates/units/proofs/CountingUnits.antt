@@ -9,7 +9,8 @@ use Rattle.std.specs.Ordering.{is_eq, is_lt}
 use Rattle.std.proofs.lemmas.Bool.{le-leb, le-ltb, and_from}
 use Rattle.std.proofs.lemmas.List.Sums.{sum_by-cons, sum_by_more, count_by-le-length}
 use Rattle.units.specs.Code.{same_code}
-use Rattle.units.specs.Facts.{IsRange, last_unit}
+use Rattle.units.specs.Facts.{IsRange}
+use Rattle.units.specs.Limits.{last_unit}
 use Rattle.units.specs.Intervals.{has, AreKept, numbered, Marks, put_units, size, marks_of}
 use Rattle.units.specs.Keys.{unit_cmp}
 use Rattle.units.specs.Unit.{same_period}

@@ -1,5 +1,5 @@
 -- A text writes one value at most.
-use Rattle.std.proofs.Common.{true, bytes_eq, codes, if◌then◌else◌, ◌≡◌, ℕ, ◌^◌, ◌<◌, List, refl, sym, ap, ◌∙◌, arith}
+use Rattle.std.proofs.Common.{bytes_eq, codes, if◌then◌else◌, ◌≡◌, ℕ, ◌^◌, ◌<◌, List, refl, sym, ap, ◌∙◌, arith}
 use Rattle.std.proofs.Math.Bridge.{le_prop}
 use mathlib.Core.HLevel.{is_prop→PathP}
 use Rattle.std.specs.Fmt.{decimal}

@@ -5,7 +5,7 @@ use Rattle.std.specs.declared.cmp.Ordering.TheVariants.{Less, Equal, Greater}
 use Rattle.std.specs.Ordering.{MatchOrdering, nat_cmp, ordering_then, is_lt}
 use Rattle.std.proofs.lemmas.Cmp.{ranked}
 use Rattle.std.proofs.lemmas.Bool.{true≢false}
-use Rattle.units.specs.Facts.{last_unit}
+use Rattle.units.specs.Limits.{last_unit}
 use Rattle.units.specs.Keys.{unit_cmp}
 use Rattle.units.specs.Unit.{period_index, same_period}
 use Rattle.units.specs.declared.block.Period.{Period}

@@ -1,6 +1,7 @@
 -- The texts of blocks.
-use Rattle.std.specs.Prelude.{◌≡◌, ℕ, ◌^◌, ◌<◌, List, ◌∷◌, ◌++◌, decimal, codes}
+use Rattle.std.specs.Prelude.{◌≡◌, ℕ, ◌<◌, List, ◌∷◌, ◌++◌, decimal, codes}
 use Rattle.units.specs.Code.{code_text}
+use Rattle.units.specs.Limits.{too_long}
 use Rattle.units.specs.declared.block.RawBlock.{RawBlock}
 use Rattle.units.specs.declared.block.Period.{Period}
 use Rattle.units.specs.declared.block.Period.TheVariants.{First, Second}
@@ -30,11 +31,11 @@ raw_text r = code_text r.origin ++ 58 ∷ (period_text r.period ++ 58 ∷ number
 -- the text writes the numbers and the kind of a block
 pub record AreNumbers (text : List ℕ) (first last : ℕ) (kind : Kind) : Type 0 where
   pub spelled : text ≡ numbers_text first last kind
-  pub first_fits : first < 10 ^ 18
-  pub last_fits : last < 10 ^ 18
+  pub first_fits : first < too_long
+  pub last_fits : last < too_long
 
--- the text writes the block, whose numbers have at most 18 digits
+-- the text writes the block, whose numbers have at most `most_digits` digits
 pub record IsRawText (text : List ℕ) (r : RawBlock) : Type 0 where
   pub spelled : text ≡ raw_text r
-  pub first : r.first < 10 ^ 18
-  pub last : r.last < 10 ^ 18
+  pub first : r.first < too_long
+  pub last : r.last < too_long

@@ -1,13 +1,10 @@
 -- The facts that small values carry.
 use Rattle.std.specs.Prelude.{ℕ, ◌≤◌}
+use Rattle.units.specs.Limits.{last_unit}
 
 -- a capital letter of ASCII, A to Z
 abbrev pub IsLetter : ℕ → Type 0
 IsLetter byte = (65 ≤ byte) × (byte ≤ 90)
-
--- the greatest number of a unit
-abbrev pub last_unit : ℕ
-last_unit = 999_999_999_999
 
 -- the numbers of a block: 1 or more, in order, none above the greatest
 abbrev pub IsRange : ℕ → ℕ → Type 0

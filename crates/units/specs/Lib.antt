@@ -1,3 +1,5 @@
+pub mod Limits
+pub mod RefusalCodes
 pub mod Facts
 pub mod Text
 pub mod Code

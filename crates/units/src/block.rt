@@ -5,6 +5,7 @@ ghost use Rattle.units.specs.Facts.{IsRange};
 ghost use Rattle.units.specs.Block.{AreNumbers};
 
 use crate::code::Code;
+use crate::limits::LAST_UNIT;
 use crate::memory::NoMemory;
 use crate::text::{cut, number};
 use std::alloc::Global;
@@ -205,7 +206,7 @@ impl Block {
         ensures shape { result ≡ Err BlockFault.Shape → ⊥ }
         ensures range { result ≡ Err BlockFault.Range → IsRange first last → ⊥ }
     {
-        if first >= 1 && first <= last && last <= 999_999_999_999 {
+        if first >= 1 && first <= last && last <= LAST_UNIT {
             let raw = RawBlock {
                 origin,
                 period,

@@ -5,6 +5,7 @@ ghost use Rattle.std.specs.FinMap as map;
 ghost use Rattle.units.specs.Canonical.{AreCanonical, canonical as canonical_form, interval_of};
 ghost use Rattle.units.specs.Facts.{IsRange};
 ghost use Rattle.units.specs.Intervals.{AreKept, mark_at};
+ghost use Rattle.units.specs.RefusalCodes.{out_of_memory, blocks_overlap, unit_not_held};
 ghost use Rattle.units.specs.Unit.{has_unit, covers};
 ghost use Rattle.units.specs.declared.block.Unit.{Unit as Serial};
 
@@ -61,13 +62,13 @@ impl BlockSet {
         }
     }
 
-    /// Adds the block's units. 103: one of them is there, of whatever kind; 50: want of memory.
+    /// Adds the block's units. `BLOCKS_OVERLAP`: one of them is there, of whatever kind; `OUT_OF_MEMORY`.
     /// After a refusal nothing has changed.
     pub fn add(&mut self, block: Block) -> Result<(), Refusal>
         ensures ok { OnOk result ((u : Serial) → map.get self.new u ≡ (if has_unit block.raw u then Some block.raw.kind else map.get self.old u)) }
         ensures fresh { OnOk result ((u : Serial) → IsTrue (has_unit block.raw u) → map.get self.old u ≡ None) }
-        ensures there { IfErr result (λ r. r.code ≡ 103 → (u : Serial) × IsTrue (has_unit block.raw u) × IsSome (map.get self.old u)) }
-        ensures refusals { IfErr result (λ r. (r.code ≡ 103) ⊎ (r.code ≡ 50)) }
+        ensures there { IfErr result (λ r. r.code ≡ blocks_overlap → (u : Serial) × IsTrue (has_unit block.raw u) × IsSome (map.get self.old u)) }
+        ensures refusals { IfErr result (λ r. (r.code ≡ blocks_overlap) ⊎ (r.code ≡ out_of_memory)) }
         ensures err { OnErr result (self.new ≡ self.old) }
     {
         if !self.kinds.has_none_of(&block) {
@@ -77,13 +78,13 @@ impl BlockSet {
         Ok(())
     }
 
-    /// Takes the block's units out. 105: one of them isn't there or is of another kind; 50: want of
-    /// memory, since what is left may be more blocks. After a refusal nothing has changed.
+    /// Takes the block's units out. `UNIT_NOT_HELD`: one of them isn't there or is of another kind; `OUT_OF_MEMORY`,
+    /// since what is left may be more blocks. After a refusal nothing has changed.
     pub fn take(&mut self, block: Block) -> Result<(), Refusal>
         ensures ok { OnOk result ((u : Serial) → map.get self.new u ≡ (if has_unit block.raw u then None else map.get self.old u)) }
         ensures held { OnOk result ((u : Serial) → IsTrue (has_unit block.raw u) → map.get self.old u ≡ Some block.raw.kind) }
-        ensures missing { IfErr result (λ r. r.code ≡ 105 → (u : Serial) × IsTrue (has_unit block.raw u) × (map.get self.old u ≢ Some block.raw.kind)) }
-        ensures refusals { IfErr result (λ r. (r.code ≡ 105) ⊎ (r.code ≡ 50)) }
+        ensures missing { IfErr result (λ r. r.code ≡ unit_not_held → (u : Serial) × IsTrue (has_unit block.raw u) × (map.get self.old u ≢ Some block.raw.kind)) }
+        ensures refusals { IfErr result (λ r. (r.code ≡ unit_not_held) ⊎ (r.code ≡ out_of_memory)) }
         ensures err { OnErr result (self.new ≡ self.old) }
     {
         let wanted = block.raw.kind;

@@ -8,10 +8,12 @@ mod code;
 mod counting;
 mod interval;
 mod items;
+pub mod limits;
 mod memory;
 mod ordering;
 mod overlap;
 mod refusal;
+pub mod refusal_code;
 #[cfg(test)]
 mod tests;
 mod text;

@@ -2,6 +2,8 @@
 ghost use Rattle.std.specs.Prelude.{◌≡◌, ℕ, ◌++◌, ◌∷◌, ◌<◌, IfSome, IfNone};
 ghost use Rattle.units.specs.Text.{IsNumberText, IsFreeOf};
 
+use crate::limits::MOST_DIGITS;
+
 /// What is before the first such ASCII character, and what is behind it.
 pub fn cut(text: &str, at: char) -> Option<(&str, &str)>
     requires { at < 128 }
@@ -11,12 +13,12 @@ pub fn cut(text: &str, at: char) -> Option<(&str, &str)>
     text.split_once(at)
 }
 
-/// The number that a text writes in decimal, with at most 18 digits and no leading zero.
+/// The number that a text writes in decimal, with at most `MOST_DIGITS` digits and no leading zero.
 pub fn number(text: &str) -> Option<u64>
     ensures some { IfSome result (λ n. IsNumberText text.now n) }
     ensures none { IfNone result ((n : ℕ) → IsNumberText text.now n → ⊥) }
 {
-    if text.len() > 18 || text.starts_with('+') {
+    if text.len() > MOST_DIGITS || text.starts_with('+') {
         return None;
     }
     if text.len() > 1 && text.starts_with('0') {

@@ -7,7 +7,7 @@ use Rattle.fields.specs.Fields.{HasAt}
 use Rattle.units.specs.Code.{code_text}
 use Rattle.units.specs.declared.code.Code.{Code}
 use Rattle.units.proofs.OneText.{code_text_same}
-use Rattle.status.specs.Facts.{last_moment}
+use Rattle.units.specs.Limits.{last_moment}
 use Rattle.status.specs.Order.{Order, IsOrder}
 use Rattle.status.specs.declared.id.TransactionId.{TransactionId}
 use Rattle.status.specs.declared.moment.Moment.{Moment}

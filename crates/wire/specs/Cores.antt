@@ -1,6 +1,7 @@
 -- What is asked of a node's core: it is the core of a journal, the list of recorded inputs, the oldest first.
 use Rattle.std.specs.Prelude.{◌≡◌, ◌⊎◌, ℕ, Bool, false, ◌==◌, List, [], ◌∷◌, ◌++◌, take, slice_get, Result, Ok, Err, Some}
 use Rattle.std.specs.List.{list_any}
+use Rattle.units.specs.RefusalCodes.{out_of_memory}
 use Rattle.units.specs.declared.refusal.Refusal.{Refusal}
 use Rattle.wire.specs.declared.input.Input.{Input}
 use Rattle.wire.specs.declared.input.Input.TheVariants.{Ack}
@@ -9,7 +10,7 @@ use Rattle.wire.specs.declared.node_core.Stepped.TheVariants.{Recorded, Repeat, 
 
 -- the answer is the one that is due, or tells want of memory
 abbrev pub MayAnswer : Result Stepped Refusal → Result Stepped Refusal → Type 0
-MayAnswer got due = (got ≡ due) ⊎ (got ≡ Err (record { code = 50 }))
+MayAnswer got due = (got ≡ due) ⊎ (got ≡ Err (record { code = out_of_memory }))
 
 -- the journal after an input was answered
 abbrev pub after : List Input → Input → Result Stepped Refusal → List Input

@@ -4,6 +4,7 @@ use Rattle.serde_json.specs.Data.{Data, string}
 use Rattle.serde_json.specs.Read.{read}
 use Rattle.serde_json.specs.Written.{compact_text}
 use Rattle.units.specs.Code.{code_text, node_text}
+use Rattle.units.specs.Limits.{longest_line}
 use Rattle.status.specs.Content.{IsContent}
 use Rattle.status.specs.Id.{id_text}
 use Rattle.status.specs.Status.{status_text}
@@ -56,9 +57,9 @@ IsSound (message.Request r) = Unit {0}
 abbrev pub IsMessage : Data → Message → Type 0
 IsMessage d m = HasExactly d (message_fields m) × IsSound m
 
--- the line writes the message: at most 8,192 bytes of JSON in UTF-8
+-- the line writes the message: at most `longest_line` bytes of JSON in UTF-8
 pub record IsLine (line : List ℕ) (m : Message) : Type 0 where
-  pub short : length line ≤ 8192
+  pub short : length line ≤ longest_line
   pub utf8 : IsUtf8 line
   pub value : Data
   pub reads : read line ≡ Some value

@@ -4,6 +4,7 @@ use Rattle.serde_json.specs.Data.{Data, string}
 use Rattle.fields.specs.Fields.{HasAt}
 use Rattle.units.specs.Block.{raw_text}
 use Rattle.units.specs.Code.{code_text}
+use Rattle.units.specs.Limits.{too_long}
 use Rattle.units.specs.declared.block.Block.{Block}
 use Rattle.units.specs.declared.block.RawBlock.{RawBlock}
 use Rattle.status.specs.Content.{Content, IsContent}
@@ -26,7 +27,7 @@ IsBlockItem d b = d ≡ string (raw_text b.raw)
 
 -- one that is the text of a block as ordered
 abbrev pub IsRawItem : Data → RawBlock → Type 0
-IsRawItem d r = (d ≡ string (raw_text r)) × (r.first < 10 ^ 18) × (r.last < 10 ^ 18)
+IsRawItem d r = (d ≡ string (raw_text r)) × (r.first < too_long) × (r.last < too_long)
 
 -- one that is a code
 abbrev pub IsCodeItem : Data → ℕ → Type 0

@@ -39,7 +39,7 @@ record_data i = object_of (record_fields (message_in i) i)
 abbrev pub record_text : Input → List ℕ
 record_text i = compact_text (record_data i)
 
--- the value writes the input; an order's numbers have at most 18 digits
+-- the value writes the input; an order's numbers have at most `most_digits` digits
 abbrev pub IsRecord : Data → Input → Type 0
 IsRecord d (Propose o) = HasExactly d (order_fields o) × IsOrder o
 IsRecord d (Received m t) = (message : Data) × HasExactly d (record_fields message (Received m t)) × IsMessage message m

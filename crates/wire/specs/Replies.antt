@@ -3,6 +3,7 @@ use Rattle.std.specs.Prelude.{◌≡◌, ℕ, ◌≤◌, List, [], ◌∷◌, le
 use Rattle.serde_json.specs.Data.{Data, string}
 use Rattle.serde_json.specs.Read.{read}
 use Rattle.serde_json.specs.Written.{compact_text}
+use Rattle.units.specs.Limits.{longest_line}
 use Rattle.wire.specs.Objects.{Field, HasExactly, object_of, whole}
 use Rattle.wire.specs.declared.reply.Reply.{Reply}
 use Rattle.wire.specs.declared.reply.Reply.TheVariants.{Received, Refused}
@@ -16,9 +17,9 @@ reply_fields (Refused code) = (codes "code", whole code.number) ∷ (codes "resu
 abbrev pub reply_text : Reply → List ℕ
 reply_text r = compact_text (object_of (reply_fields r))
 
--- the line writes the reply: at most 8,192 bytes of JSON in UTF-8
+-- the line writes the reply: at most `longest_line` bytes of JSON in UTF-8
 pub record IsReply (line : List ℕ) (r : Reply) : Type 0 where
-  pub short : length line ≤ 8192
+  pub short : length line ≤ longest_line
   pub utf8 : IsUtf8 line
   pub value : Data
   pub reads : read line ≡ Some value

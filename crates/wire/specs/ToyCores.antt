@@ -1,6 +1,7 @@
 -- A small core, for the tests: it records acknowledgements and nothing else.
 use Rattle.std.specs.Prelude.{◌≡◌, ℕ, Bool, true, false, ◌==◌, List, length, Result, Ok, Err}
 use Rattle.std.specs.List.{list_any}
+use Rattle.units.specs.RefusalCodes.{no_row}
 use Rattle.units.specs.declared.refusal.Refusal.{Refusal}
 use Rattle.wire.specs.Cores.{Replays, is_acknowledged}
 use Rattle.wire.specs.declared.input.Input.{Input}
@@ -14,7 +15,7 @@ is_ack _ = false
 
 abbrev pub answer_if : Bool → ℕ → Result Stepped Refusal
 answer_if true place = Ok (Recorded place)
-answer_if false place = Err (record { code = 101 })
+answer_if false place = Err (record { code = no_row })
 
 abbrev pub toy_verdict : List Input → Input → Result Stepped Refusal
 toy_verdict j i = answer_if (is_ack i) (length j)

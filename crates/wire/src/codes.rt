@@ -3,9 +3,13 @@ ghost use Rattle.std.specs.Prelude.{◌≡◌, ◌<◌, ◌↔◌, IsTrue, IfOk,
 ghost use Rattle.wire.specs.Codes.{Ascends, AreLogCodes, AreAcquirerCodes};
 
 use std::marker::Model;
+use units::refusal_code::{
+    ACQUIRER_NOT_ELIGIBLE, KIND_NOT_TAKEN, RECEIVER_UNKNOWN, WRONG_ACQUIRER,
+};
 use units::{Items, NoMemory};
 
-/// What the log found: one or more of 201 to 208, strictly ascending.
+/// What the log found: one or more codes from `WRONG_ACQUIRER` to `ACQUIRER_NOT_ELIGIBLE`, strictly
+/// ascending.
 #[derive(Debug, Drop)]
 pub struct LogCodes {
     held: Items<u16>,
@@ -22,7 +26,8 @@ impl Model for LogCodes {
     ghost invariant = { λ c. AreLogCodes c.held };
 }
 
-/// What the acquirer found: one or more of 301 to 304, strictly ascending.
+/// What the acquirer found: one or more codes from `RECEIVER_UNKNOWN` to `KIND_NOT_TAKEN`, strictly
+/// ascending.
 #[derive(Debug, Drop)]
 pub struct AcquirerCodes {
     held: Items<u16>,
@@ -55,12 +60,14 @@ fn ascends(codes: &[u16], first: u16, last: u16) -> bool
 }
 
 impl LogCodes {
-    /// These codes, or `None` where there is none, one is outside 201 to 208, or they don't ascend.
+    /// These codes, or `None` where there is none, one is outside that range, or they don't ascend.
     pub fn new(codes: Items<u16>) -> Option<LogCodes>
         ensures some { IfSome result (λ c. c ≡ codes) }
         ensures none { IfNone result (AreLogCodes codes → ⊥) }
     {
-        if codes.as_slice().len() >= 1 && ascends(codes.as_slice(), 201, 208) {
+        if codes.as_slice().len() >= 1
+            && ascends(codes.as_slice(), WRONG_ACQUIRER, ACQUIRER_NOT_ELIGIBLE)
+        {
             Some(LogCodes { held: codes })
         } else {
             None
@@ -86,12 +93,14 @@ impl LogCodes {
 }
 
 impl AcquirerCodes {
-    /// These codes, or `None` where there is none, one is outside 301 to 304, or they don't ascend.
+    /// These codes, or `None` where there is none, one is outside that range, or they don't ascend.
     pub fn new(codes: Items<u16>) -> Option<AcquirerCodes>
         ensures some { IfSome result (λ c. c ≡ codes) }
         ensures none { IfNone result (AreAcquirerCodes codes → ⊥) }
     {
-        if codes.as_slice().len() >= 1 && ascends(codes.as_slice(), 301, 304) {
+        if codes.as_slice().len() >= 1
+            && ascends(codes.as_slice(), RECEIVER_UNKNOWN, KIND_NOT_TAKEN)
+        {
             Some(AcquirerCodes { held: codes })
         } else {
             None

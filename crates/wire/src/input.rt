@@ -1,15 +1,17 @@
 //! What a node takes, and records in its journal.
-ghost use Rattle.std.specs.Prelude.{◌≡◌, ◌<◌, ◌^◌, IfOk, IfSome, IfNone};
+ghost use Rattle.std.specs.Prelude.{◌≡◌, ◌<◌, IfOk, IfSome, IfNone};
+ghost use Rattle.units.specs.Limits.{too_long};
 
 use crate::message::Message;
 use status::{Moment, Order, TransactionId};
+use units::limits::TOO_LONG;
 use units::{Code, NoMemory};
 
-/// A number of at most 18 digits.
+/// A number of at most `MOST_DIGITS` digits.
 #[derive(Clone, Copy, Debug, PartialEq, Eq, PartialOrd, Ord)]
 pub struct Number {
     pub value: u64,
-    pub ghost short: { value < 10 ^ 18 },
+    pub ghost short: { value < too_long },
 }
 
 /// What a node takes, and records in its journal.
@@ -25,7 +27,8 @@ pub enum Input {
     CloseAccount(Number),
     /// The message that the node sent with that key was received.
     Ack(Number),
-    /// Transfers that were Checked a day or more before that moment are to be cancelled.
+    /// Transfers that were Checked `CLEAN_UP_AGE` seconds or more before that moment are to be
+    /// cancelled.
     CleanUp(Moment),
     /// Whether that registry may take part in transfers from here on.
     Eligible { registry: Code, may: bool },
@@ -34,12 +37,12 @@ pub enum Input {
 }
 
 impl Number {
-    /// That number, where it has at most 18 digits.
+    /// That number, where it has at most `MOST_DIGITS` digits.
     pub fn new(value: u64) -> Option<Number>
         ensures some { IfSome result (λ n. n.value ≡ value) }
-        ensures none { IfNone result (value < 10 ^ 18 → ⊥) }
+        ensures none { IfNone result (value < too_long → ⊥) }
     {
-        if value < 1_000_000_000_000_000_000 {
+        if value < TOO_LONG {
             Some(Number { value })
         } else {
             None

@@ -2,6 +2,7 @@
 ghost use Rattle.std.specs.Prelude.{◌≡◌, ◌<◌, ◌^◌, ℕ, IfSome, IfNone, codes};
 ghost use Rattle.std.specs.List.{AllByRecursion};
 ghost use Rattle.serde_json.specs.View.{view, items_view};
+ghost use Rattle.units.specs.Limits.{too_long};
 ghost use Rattle.units.specs.declared.block.Block.{Block};
 ghost use Rattle.units.specs.declared.block.RawBlock.{RawBlock};
 ghost use Rattle.status.specs.Content.{raws};
@@ -94,9 +95,9 @@ pub fn blocks(alloc: Global, value: &Value) -> Result<Items<Block>, ReadFault>
     each_block(alloc, list.as_slice())
 }
 
-/// The blocks at the key `units`, whatever their numbers of at most 18 digits.
+/// The blocks at the key `units`, whatever their numbers of at most `MOST_DIGITS` digits.
 pub fn raw_blocks(alloc: Global, value: &Value) -> Result<Items<RawBlock>, ReadFault>
-    ensures { Finds (λ rs. HasAt (view value.now) (codes "units") (blocks rs) × AllByRecursion (λ b. (b.first < 10 ^ 18) × (b.last < 10 ^ 18)) rs) result }
+    ensures { Finds (λ rs. HasAt (view value.now) (codes "units") (blocks rs) × AllByRecursion (λ b. (b.first < too_long) × (b.last < too_long)) rs) result }
 {
     let Some(list) = list_at(value, "units") else {
         return Err(ReadFault::Shape);

@@ -44,7 +44,7 @@ pub trait NodeCore: Drop {
 
     /// Takes an input and answers the verdict: the input is recorded, or it is a repeat, or late, or
     /// it is refused for the reason that the number tells. In place of any of these may come refusal
-    /// 50, want of memory. Where the input isn't recorded, the core stays the core of that journal.
+    /// `OUT_OF_MEMORY`. Where the input isn't recorded, the core stays the core of that journal.
     fn step(&mut self, input: &Input) -> Result<Stepped, Refusal>
         ensures answer { (j : List Input) → is_core_of self.old j → MayAnswer result (verdict self.old j input.now) }
         ensures core { (j : List Input) → is_core_of self.old j → is_core_of self.new (after j input.now result) }

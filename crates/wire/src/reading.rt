@@ -3,6 +3,7 @@ ghost use Rattle.std.specs.Prelude.{◌≡◌, ◌⊎◌, List, [], ℕ, IfOk, I
 ghost use Rattle.serde_json.specs.View.{view};
 ghost use Rattle.fields.specs.Fields.{HasAt};
 ghost use Rattle.fields.specs.Found.{Finds};
+ghost use Rattle.units.specs.RefusalCodes.{not_a_message, out_of_memory};
 ghost use Rattle.status.specs.Content.{Content};
 ghost use Rattle.wire.specs.Messages.{IsMessage, IsLine};
 ghost use Rattle.wire.specs.Reading.{HasContent, Says, HasNotice, HasProposalStatus, IsProposal, IsNotification, IsRequest};
@@ -18,11 +19,13 @@ use fields::{ReadFault, has_keys, text_at};
 use serde_json::Value;
 use status::{Content, Status};
 use std::alloc::Global;
+use units::limits::LONGEST_LINE;
+use units::refusal_code::NOT_A_MESSAGE;
 use units::{Items, Refusal};
 
-const LONGEST_LINE: usize = 8_192;
-
-const NO_MESSAGE: Refusal = Refusal { code: 41 };
+const NO_MESSAGE: Refusal = Refusal {
+    code: NOT_A_MESSAGE,
+};
 
 // What a proposal carries.
 fn content(alloc: Global, value: &Value) -> Result<Content, ReadFault>
@@ -168,12 +171,13 @@ fn read_line(alloc: Global, line: &[u8]) -> Result<Message, ReadFault>
     }
 }
 
-/// The message that a line writes, in JSON (RFC 8259) without its newline. Refused by 41: the line
-/// has more than 8,192 bytes, is no JSON in UTF-8, or has a key or a value outside the grammar of
-/// messages, or lacks one. By 50: an allocation was refused, which says nothing of the line.
+/// The message that a line writes, in JSON (RFC 8259) without its newline. Refused by
+/// `NOT_A_MESSAGE`: the line has more than `LONGEST_LINE` bytes, is no JSON in UTF-8, or has a key or
+/// a value outside the grammar of messages, or lacks one. By `OUT_OF_MEMORY`: an allocation was
+/// refused, which says nothing of the line.
 pub fn decode(alloc: Global, line: &[u8]) -> Result<Message, Refusal>
     ensures ok { IfOk result (λ m. IsLine line.now m) }
-    ensures refused { IfErr result (λ e. (e.code ≡ 50) ⊎ ((e.code ≡ 41) × ((m : Message) → IsLine line.now m → ⊥))) }
+    ensures refused { IfErr result (λ e. (e.code ≡ out_of_memory) ⊎ ((e.code ≡ not_a_message) × ((m : Message) → IsLine line.now m → ⊥))) }
 {
     match read_line(alloc, line) {
         Ok(message) => Ok(message),
@@ -183,7 +187,7 @@ pub fn decode(alloc: Global, line: &[u8]) -> Result<Message, Refusal>
 }
 
 /// A line writes one message at most. So what `encode` writes of a message, `decode` reads as that
-/// message or refuses by 50.
+/// message or refuses by `OUT_OF_MEMORY`.
 pub fn one_message()
     ensures { (line : List ℕ) (m n : Message) → IsLine line m → IsLine line n → m ≡ n }
 {}

@@ -10,9 +10,8 @@ use fields::{has_keys, number_at, text_at};
 use serde_json::Value;
 use std::alloc::Global;
 use thiserror::Error;
-
-// The greatest number of bytes of a line.
-const LONGEST_LINE: usize = 8_192;
+use units::limits::LONGEST_LINE;
+use units::refusal_code::OUT_OF_MEMORY;
 
 /// What a node replies to a message.
 #[derive(Clone, Copy, Debug, PartialEq, Eq)]
@@ -47,7 +46,7 @@ fn reply_in(value: &Value) -> Option<Reply>
     if code == 0 && result == "received" {
         return Some(Reply::Received);
     }
-    if result != "refused" || code > 50 {
+    if result != "refused" || code > OUT_OF_MEMORY as u64 {
         return None;
     }
     let code = ReplyCode::new(code as u16)?;
@@ -73,9 +72,9 @@ impl Reply {
     /// The reply that a line without its newline writes, in whatever order of keys and with whatever
     /// blanks between.
     ///
-    /// - `NotReply`: it has more than 8,192 bytes, or is no JSON in UTF-8, or its JSON value is not an
-    ///   object of the two keys `code` and `result`, or these are not 0 and `received`, nor 41 to 50
-    ///   and `refused`.
+    /// - `NotReply`: it has more than `LONGEST_LINE` bytes, or is no JSON in UTF-8, or its JSON value
+    ///   is not an object of the two keys `code` and `result`, or these are not 0 and `received`, nor
+    ///   a `ReplyCode` and `refused`.
     /// - `NoMemory`: an allocation was refused, which says nothing of the line.
     pub fn read(alloc: Global, line: &[u8]) -> Result<Reply, ReplyFault>
         ensures ok { IfOk result (λ r. IsReply line.now r) }

@@ -1,20 +1,23 @@
 //! The numbers of refusals of a message.
 ghost use Rattle.std.specs.Prelude.{◌≡◌, ◌≤◌, IfSome, IfNone};
+ghost use Rattle.units.specs.RefusalCodes.{not_a_message, out_of_memory};
 
-/// Why a message was refused: 41 to 50.
+use units::refusal_code::{NOT_A_MESSAGE, OUT_OF_MEMORY};
+
+/// Why a message was refused: a code from `NOT_A_MESSAGE` to `OUT_OF_MEMORY`.
 #[derive(Clone, Copy, Debug, PartialEq, Eq)]
 pub struct ReplyCode {
     pub number: u16,
-    pub ghost in_range: { (41 ≤ number) × (number ≤ 50) },
+    pub ghost in_range: { (not_a_message ≤ number) × (number ≤ out_of_memory) },
 }
 
 impl ReplyCode {
-    /// That number, where it is 41 to 50.
+    /// That number, where it is in the range.
     pub fn new(number: u16) -> Option<ReplyCode>
         ensures some { IfSome result (λ c. c.number ≡ number) }
-        ensures none { IfNone result ((41 ≤ number) × (number ≤ 50) → ⊥) }
+        ensures none { IfNone result ((not_a_message ≤ number) × (number ≤ out_of_memory) → ⊥) }
     {
-        if (41..=50).contains(&number) {
+        if (NOT_A_MESSAGE..=OUT_OF_MEMORY).contains(&number) {
             Some(ReplyCode { number })
         } else {
             None

@@ -8,6 +8,7 @@ use crate::message::Message;
 use crate::node_core::{NodeCore, Stepped};
 use status::{Status, TransactionId};
 use std::test::Fail;
+use units::refusal_code::NO_ROW;
 use units::{NoMemory, Refusal};
 
 #[derive(Drop)]
@@ -29,7 +30,7 @@ impl NodeCore for Toy {
 
     fn step(&mut self, input: &Input) -> Result<Stepped, Refusal> {
         let Input::Ack(key) = input else {
-            return Err(Refusal { code: 101 });
+            return Err(Refusal { code: NO_ROW });
         };
         if self.keys.push(key.value).is_err() {
             return Err(Refusal::NO_MEMORY);

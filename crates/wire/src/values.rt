@@ -61,7 +61,7 @@ pub fn whole_at(value: &Value, key: &str) -> Result<u64, ReadFault>
     number_at(value, key).ok_or(ReadFault::Shape)
 }
 
-/// The number of at most 18 digits at that key.
+/// The number of at most `MOST_DIGITS` digits at that key.
 pub fn short_at(value: &Value, key: &str) -> Result<Number, ReadFault>
     ensures { Finds (λ n. HasAt (view value.now) key.now (whole n.value)) result }
 {

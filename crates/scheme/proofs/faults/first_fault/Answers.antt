@@ -8,7 +8,7 @@ returns-then-not-have_different_codes-clause-some c =
     inr (
       so c.are_few.result c.are_few.ensures c.if-not-are_few.false,
       inr (
-        c.if-members-lt2.false,
+        c.if-members-lt-LEAST_REGISTRIES.false,
         inl (
           refl,
           (λ free.
@@ -23,7 +23,7 @@ returns-then-not-branch-clause-some c =
     inr (
       so c.are_few.result c.are_few.ensures c.if-not-are_few.false,
       inr (
-        c.if-members-lt2.false,
+        c.if-members-lt-LEAST_REGISTRIES.false,
         inr (
           differ,
           inl (
@@ -41,7 +41,7 @@ returns-then-not-branch-2-clause-some c =
     inr (
       so c.are_few.result c.are_few.ensures c.if-not-are_few.false,
       inr (
-        c.if-members-lt2.false,
+        c.if-members-lt-LEAST_REGISTRIES.false,
         inr (
           differ,
           inr (
@@ -64,7 +64,7 @@ returns-then-not-are_apart-clause-some c =
     inr (
       so c.are_few.result c.are_few.ensures c.if-not-are_few.false,
       inr (
-        c.if-members-lt2.false,
+        c.if-members-lt-LEAST_REGISTRIES.false,
         inr (
           differ,
           inr (
@@ -90,4 +90,4 @@ returns-clause-none c =
     let blocks = c.as_mut_slice.ensures.value ∙ c.in_ok-blocks.ensures in
     let few = so c.are_few.result c.are_few.ensures c.if-not-are_few.false in
     let free = subst AllApart blocks (so c.are_apart.result c.are_apart.ensures c.if-not-are_apart.false) in
-    record { free = (few, (c.if-members-lt2.false, (codes_differ c.args.members.now rise, (apart, (known, (free, tt)))))); ordered = rise }
+    record { free = (few, (c.if-members-lt-LEAST_REGISTRIES.false, (codes_differ c.args.members.now rise, (apart, (known, (free, tt)))))); ordered = rise }

@@ -13,7 +13,7 @@ use Rattle.units.specs.declared.block.Unit.{Unit as Serial}
 use Rattle.units.specs.declared.block.Period.TheVariants.{First}
 use Rattle.units.specs.declared.block.Kind.{Kind}
 use Rattle.units.specs.declared.block.Kind.TheVariants.{Aau, Rmu, Eru, Cer, Tcer, Lcer}
-use Rattle.status.specs.Facts.{last_moment}
+use Rattle.units.specs.Limits.{last_moment}
 use Rattle.status.specs.Id.{number_from}
 use Rattle.status.specs.declared.id.TransactionId.{TransactionId}
 use Rattle.status.specs.declared.moment.Moment.{Moment}

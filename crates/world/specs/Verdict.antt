@@ -3,6 +3,7 @@
 use Rattle.std.specs.Prelude.{ℕ, ◌+◌, ◌==◌, ◌&&◌, not, cond, nat_le, Bool, List, [], ◌∷◌, find, length, Option, Some, None, option_map, option_and_then}
 use Rattle.std.specs.List.{list_any}
 use Rattle.units.specs.Code.{same_code}
+use Rattle.units.specs.RefusalCodes.{no_row, journal_full}
 use Rattle.units.specs.Unit.{same_raw}
 use Rattle.units.specs.declared.code.Code.{Code}
 use Rattle.units.specs.declared.code.Node.{Node}
@@ -54,7 +55,7 @@ transition n t new k = record { id = t; new = new; content = k; message = messag
 
 -- recorded, where the journal has room
 abbrev pub enters : Scheme → List Entry → Transition → Verdict
-enters scheme es x = cond (nat_le scheme.records (length es)) (Refused 49) (Enters x)
+enters scheme es x = cond (nat_le scheme.records (length es)) (Refused journal_full) (Enters x)
 
 -- ---- orders
 
@@ -82,14 +83,14 @@ content_of account to to_account block = record { account = account; acquirer = 
 
 abbrev pub offer : Scheme → Code → List Entry → Option TransactionId → Option Content → Verdict
 offer scheme c es (Some t) (Some k) = enters scheme es (transition (Registry c) t Proposed k)
-offer scheme c es _ _ = Refused 46
+offer scheme c es _ _ = Refused no_row
 
 abbrev pub propose : Scheme → Code → List Entry → ℕ → Code → ℕ → List RawBlock → Verdict
 propose scheme c es account to to_account (raw ∷ []) =
     cond (may_offer scheme c (transitions_of es) raw to to_account)
     (offer scheme c es (next_id c (transitions_of es)) (option_map (content_of account to to_account) (option_and_then (λ m. allotted_block m account raw) (member scheme.members c))))
-    (Refused 46)
-propose scheme c es account to to_account _ = Refused 46
+    (Refused no_row)
+propose scheme c es account to to_account _ = Refused no_row
 
 -- ---- messages
 
@@ -124,7 +125,7 @@ notice_input _ = None
 
 abbrev pub move : Scheme → Node → List Entry → TransactionId → Option Content → Option Status → Verdict
 move scheme n es t (Some k) (Some new) = enters scheme es (transition n t new k)
-move scheme n es t _ _ = Refused 46
+move scheme n es t _ _ = Refused no_row
 
 abbrev pub hear : Scheme → Node → List Entry → Message → Verdict
 hear scheme n es (Proposal from to t status k) =
@@ -136,7 +137,7 @@ hear scheme n es (Notification from to t status) =
 
 -- a registry takes propose orders, the log none
 abbrev pub order : Scheme → Node → List Entry → ℕ → Code → ℕ → List RawBlock → Verdict
-order scheme Itl es account to to_account units = Refused 46
+order scheme Itl es account to to_account units = Refused no_row
 order scheme (Registry c) es account to to_account units = propose scheme c es account to to_account units
 
 unfoldable pub verdict : Scheme → Node → List Entry → Input → Verdict

@@ -18,6 +18,8 @@ use scheme::{Allotment, Member, Scheme};
 use status::{Known, Role, Row, RowInput, Status, TransactionId, row};
 use std::alloc::Global;
 use std::collections::VecDeque;
+use units::limits::LAST_TRANSACTION;
+use units::refusal_code::{JOURNAL_FULL, NO_ROW};
 use units::{Block, Code, Items, NoMemory, Node, RawBlock};
 
 /// What a record does to its transaction: the new status, and the message that goes out.
@@ -171,7 +173,7 @@ fn enters(scheme: &Scheme, records: usize, transition: Transition) -> Verdict
     ensures { (es : List Entry) → length es ≡ records → result ≡ enters scheme.now es transition }
 {
     if scheme.records <= records as u64 {
-        Verdict::Refused(49)
+        Verdict::Refused(JOURNAL_FULL)
     } else {
         Verdict::Enters(transition)
     }
@@ -252,7 +254,7 @@ fn next_id(transitions: &VecDeque<Transition>, code: Code) -> Option<Transaction
     ensures { result ≡ next_id code transitions.now.items }
 {
     let proposed = proposal_count(transitions, code);
-    if proposed < 999_999 {
+    if proposed < LAST_TRANSACTION as usize {
         TransactionId::new(code, proposed as u32 + 1)
     } else {
         None
@@ -314,7 +316,7 @@ fn offer(
             let transition = made(Node::Registry(code), id, Status::Proposed, content)?;
             Ok(enters(scheme, records, transition))
         }
-        _ => Ok(Verdict::Refused(46)),
+        _ => Ok(Verdict::Refused(NO_ROW)),
     }
 }
 
@@ -333,10 +335,10 @@ fn propose(
         → IfOk result (λ v. v ≡ propose scheme.now code es account to to_account units.now) }
 {
     let [raw] = units else {
-        return Ok(Verdict::Refused(46));
+        return Ok(Verdict::Refused(NO_ROW));
     };
     if !may_offer(scheme, code, transitions, raw, to, to_account) {
-        return Ok(Verdict::Refused(46));
+        return Ok(Verdict::Refused(NO_ROW));
     }
     let id = next_id(transitions, code);
     let content = offered(alloc, scheme, code, account, raw, to, to_account)?;
@@ -411,7 +413,7 @@ fn moves(
             let transition = made(node, id, new, content.copy()?)?;
             Ok(enters(scheme, records, transition))
         }
-        _ => Ok(Verdict::Refused(46)),
+        _ => Ok(Verdict::Refused(NO_ROW)),
     }
 }
 
@@ -466,7 +468,7 @@ pub fn judge(
             to_account,
             units,
         } => match node {
-            Node::Itl => Ok(Verdict::Refused(46)),
+            Node::Itl => Ok(Verdict::Refused(NO_ROW)),
             Node::Registry(code) => propose(
                 alloc,
                 scheme,

@@ -105,7 +105,7 @@ abbrev pub newest_of_each : List Transition → List Transition
 newest_of_each [] = []
 newest_of_each (x ∷ xs) = x ∷ filter (λ y. not (same_id y.id x.id)) (newest_of_each xs)
 
--- so old at that moment, that clean-up is for it
+-- old enough at that moment to be cleaned up
 abbrev pub is_old : ℕ → Transition → Bool
 is_old moment x = nat_le (x.moment + clean_up_age) moment
 

@@ -33,7 +33,7 @@ has_account m number = list_any (λ n. n == number) m.accounts
 abbrev pub HasAccount : Member → ℕ → Type 0
 HasAccount m number = IsTrue (has_account m number)
 
--- at most so many registries, accounts in each, and allotted blocks
+-- no more registries, accounts in each, and allotted blocks than a scheme may have
 pub record AreFew (members : List Member) : Type 0 where
   pub registries : length members ≤ most_registries
   pub accounts : AllByRecursion (λ m. length m.accounts ≤ most_accounts) members

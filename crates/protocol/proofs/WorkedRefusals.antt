@@ -1,5 +1,5 @@
 -- What is refused or fails: orders, transfers, accounts, acknowledgements, and a full journal.
-use Rattle.std.proofs.Common.{◌≡◌, ℕ, true, false, List, [], ◌∷◌, ◌++◌, Some, None, refl, lit<}
+use Rattle.std.proofs.Common.{◌≡◌, true, false, List, [], ◌∷◌, ◌++◌, Some, None, refl, lit<}
 use Rattle.std.specs.Prelude.{◌+◌, ◌==◌, ◌&&◌, take}
 use Rattle.units.specs.declared.block.Kind.TheVariants.{Aau, Cer}
 use Rattle.units.specs.Unit.{same_kind}

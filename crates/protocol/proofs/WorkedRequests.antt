@@ -4,7 +4,7 @@ use Rattle.std.specs.Prelude.{take}
 use Rattle.units.specs.declared.code.Node.{Node}
 use Rattle.units.specs.declared.code.Node.TheVariants.{Itl}
 use Rattle.status.specs.declared.id.TransactionId.{TransactionId}
-use Rattle.status.specs.declared.words.Status.TheVariants.{Proposed, Accepted, Cancelled, Completed}
+use Rattle.status.specs.declared.words.Status.TheVariants.{Accepted, Cancelled, Completed}
 use Rattle.wire.specs.declared.input.Input.{Input}
 use Rattle.wire.specs.declared.input.Input.TheVariants as input
 use Rattle.wire.specs.declared.message.Message.{Message}

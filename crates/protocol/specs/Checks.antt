@@ -1,6 +1,6 @@
 -- Numbered checks and findings. Each is given what it has to know of holdings, accounts and owners, so
 -- that it may be asked of a history and of what a node keeps in memory alike.
-use Rattle.std.specs.Prelude.{ℕ, ◌==◌, ◌&&◌, ◌&&◌, ◌||◌, not, cond, nat_le, nat_lt, Bool, false, List, [], ◌∷◌, length, map, filter, Option, is_some, is_none}
+use Rattle.std.specs.Prelude.{ℕ, ◌==◌, ◌&&◌, ◌&&◌, ◌||◌, not, nat_lt, Bool, false, List, [], ◌∷◌, length, map, filter, Option, is_some, is_none}
 use Rattle.std.specs.List.{list_any}
 use Rattle.std.specs.Option.{option_map_or}
 use Rattle.units.specs.Code.{same_code}

@@ -1,6 +1,6 @@
 -- What is claimed of the histories of all nodes.
 use Rattle.std.specs.List.{count_by, sum_by}
-use Rattle.std.specs.Prelude.{◌≡◌, ◌≤◌, ◌⊎◌, ℕ, ◌+◌, ◌&&◌, not, cond, is_some, Bool, true, false, List, [], ◌∷◌, ◌++◌, Contains, Option, Some, None}
+use Rattle.std.specs.Prelude.{◌≡◌, ◌≤◌, ◌⊎◌, ℕ, ◌+◌, ◌&&◌, not, cond, is_some, Bool, true, false, List, [], ◌++◌, Contains, Option, Some}
 use Rattle.std.specs.Option.{option_map_or}
 use Rattle.units.specs.declared.block.Unit.{Unit as Serial}
 use Rattle.units.specs.declared.code.Code.{Code}
@@ -17,7 +17,6 @@ use Rattle.wire.specs.declared.input.Input.{Input}
 use Rattle.wire.specs.declared.message.Message.TheVariants as message
 use Rattle.wire.specs.declared.message.Notification.{Notification}
 use Rattle.wire.specs.declared.notice.Notice.TheVariants as notice
-use Rattle.scheme.specs.declared.members.Member.{Member}
 use Rattle.scheme.specs.declared.registries.Scheme.{Scheme}
 use Rattle.protocol.specs.declared.event.Outcome.TheVariants.{Refused}
 use Rattle.protocol.specs.declared.event.WorldEvent.TheVariants.{Deliver}

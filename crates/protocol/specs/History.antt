@@ -1,7 +1,7 @@
 -- What a journal says: the transitions of its inputs, and what is read off them.
 -- A journal is the list of the inputs that a node recorded, the oldest first. A history is the list of these inputs with
 -- their transitions, the newest first.
-use Rattle.std.specs.Prelude.{ℕ, suc, ◌+◌, ◌==◌, ◌&&◌, ◌||◌, not, cond, Bool, true, false, List, [], ◌∷◌, ◌++◌, find, flat_map, map, unwrap_or, Option, Some, None, option_map, option_and_then, is_some}
+use Rattle.std.specs.Prelude.{ℕ, ◌+◌, ◌==◌, ◌&&◌, ◌||◌, not, cond, Bool, true, false, List, [], ◌∷◌, ◌++◌, find, flat_map, map, unwrap_or, Option, Some, None, option_map, option_and_then, is_some}
 use Rattle.std.specs.List.{list_any, count_by}
 use Rattle.std.specs.Option.{option_map_or}
 use Rattle.units.specs.Code.{same_code}

@@ -1,5 +1,5 @@
 -- Journals that some list of events leads to, told by an order of their records.
-use Rattle.std.specs.Prelude.{◌≡◌, ℕ, cond, true, List, [], ◌∷◌, ◌++◌, Contains, Option, Some, None, slice_get}
+use Rattle.std.specs.Prelude.{◌≡◌, ℕ, cond, true, List, [], ◌∷◌, ◌++◌, Contains, Option, Some, slice_get}
 use Rattle.std.specs.Option.{option_map_or}
 use Rattle.units.specs.Code.{same_node}
 use Rattle.units.specs.declared.code.Node.{Node}

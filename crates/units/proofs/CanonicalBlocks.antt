@@ -1,5 +1,5 @@
 -- Blocks whose intervals are in order, with no neighbours to join, are their own canonical form.
-use Rattle.std.proofs.Common.{◌≡◌, ℕ, suc, ◌+◌, ◌<◌, ◌≤◌, List, [], ◌∷◌, Bool, true, false, inl, inr, refl, sym, ap, subst, ◌∙◌, arith, map, cond}
+use Rattle.std.proofs.Common.{◌≡◌, suc, List, [], ◌∷◌, true, false, inl, inr, refl, ap, ◌∙◌, arith, map}
 use Rattle.std.specs.Prelude.{◌==◌}
 use Rattle.std.specs.Ordering.{is_lt}
 use Rattle.std.proofs.lemmas.Bool.{and_parts, cases_Bool, cond-true, cond-false, eqb-true}

@@ -19,7 +19,7 @@ use Rattle.units.specs.declared.block.Kind.{Kind}
 use Rattle.units.specs.declared.block.Kind.TheVariants.{Aau, Rmu, Eru, Cer, Tcer, Lcer}
 use Rattle.units.proofs.Numbers.{decimal_free}
 use Rattle.units.proofs.Cuts.{cut_once}
-use Rattle.status.specs.Facts.{last_moment}
+use Rattle.units.specs.Limits.{last_moment}
 use Rattle.status.specs.Moment.{IsMomentText}
 use Rattle.status.specs.declared.moment.Moment.{Moment}
 use Rattle.world.specs.declared.event.WorldEvent.{WorldEvent}

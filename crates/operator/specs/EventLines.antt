@@ -1,9 +1,10 @@
 -- The lines of events: words with one space between them.
-use Rattle.std.specs.Prelude.{◌≡◌, ℕ, ◌^◌, ◌<◌, List, ◌∷◌, ◌++◌, decimal, codes}
+use Rattle.std.specs.Prelude.{◌≡◌, ℕ, ◌<◌, List, ◌∷◌, ◌++◌, decimal, codes}
 use Rattle.std.specs.List.{AllByRecursion, flat_map}
 use Rattle.std.specs.Str.{IsUtf8}
 use Rattle.units.specs.Code.{code_text, node_text}
 use Rattle.units.specs.Block.{raw_text}
+use Rattle.units.specs.Limits.{too_long}
 use Rattle.units.specs.declared.code.Code.{Code}
 use Rattle.units.specs.declared.code.Node.{Node}
 use Rattle.units.specs.declared.block.RawBlock.{RawBlock}
@@ -17,9 +18,9 @@ use Rattle.world.specs.declared.event.WorldEvent.TheVariants.{Take, Commit, Post
 abbrev pub blocks_text : List RawBlock → List ℕ
 blocks_text blocks = flat_map (λ b. 32 ∷ raw_text b) blocks
 
--- a block whose numbers have at most 18 digits
+-- a block whose numbers have at most `most_digits` digits
 abbrev pub IsShort : RawBlock → Type 0
-IsShort b = (b.first < 10 ^ 18) × (b.last < 10 ^ 18)
+IsShort b = (b.first < too_long) × (b.last < too_long)
 
 -- the words write the blocks, each behind a space
 pub record AreBlocks (words : List ℕ) (blocks : List RawBlock) : Type 0 where
@@ -29,26 +30,26 @@ pub record AreBlocks (words : List ℕ) (blocks : List RawBlock) : Type 0 where
 -- ACCOUNT RAWBLOCK ..
 pub record AreUnits (words : List ℕ) (account : ℕ) (units : List RawBlock) : Type 0 where
   pub spelled : words ≡ decimal account ++ blocks_text units
-  pub fits : account < 10 ^ 18
+  pub fits : account < too_long
   pub short : AllByRecursion IsShort units
 
 -- NODE ACCOUNT TO_REGISTRY TO_ACCOUNT RAWBLOCK ..
 pub record AreOrder (words : List ℕ) (node : Node) (account : ℕ) (to_registry : Code) (to_account : ℕ) (units : List RawBlock) : Type 0 where
   pub spelled : words ≡ node_text node ++ 32 ∷ (decimal account ++ 32 ∷ (code_text to_registry ++ 32 ∷ (decimal to_account ++ blocks_text units)))
-  pub account_fits : account < 10 ^ 18
-  pub to_account_fits : to_account < 10 ^ 18
+  pub account_fits : account < too_long
+  pub to_account_fits : to_account < too_long
   pub short : AllByRecursion IsShort units
 
 -- NODE NUMBER
 pub record AreNodeAndNumber (words : List ℕ) (node : Node) (n : ℕ) : Type 0 where
   pub spelled : words ≡ node_text node ++ 32 ∷ decimal n
-  pub fits : n < 10 ^ 18
+  pub fits : n < too_long
 
 -- INDEX MOMENT, the moment by any of its texts
 pub record AreDelivery (words : List ℕ) (message : ℕ) (moment : Moment) : Type 0 where
   pub moment_text : List ℕ
   pub spelled : words ≡ decimal message ++ 32 ∷ moment_text
-  pub fits : message < 10 ^ 18
+  pub fits : message < too_long
   pub utf8 : IsUtf8 words
   pub names : IsMomentText moment_text moment
 

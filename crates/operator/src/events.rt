@@ -1,6 +1,7 @@
 //! Event lines.
-ghost use Rattle.std.specs.Prelude.{◌≡◌, ◌∷◌, ◌++◌, ◌<◌, ◌^◌, ℕ, List, Err, IfOk, IfSome, IfNone, codes, decimal};
+ghost use Rattle.std.specs.Prelude.{◌≡◌, ◌∷◌, ◌++◌, ◌<◌, ℕ, List, Err, IfOk, IfSome, IfNone, codes, decimal};
 ghost use Rattle.units.specs.Code.{code_text, node_text};
+ghost use Rattle.units.specs.Limits.{too_long};
 ghost use Rattle.units.specs.declared.code.Code.{Code};
 ghost use Rattle.units.specs.declared.code.Node.{Node};
 ghost use Rattle.units.specs.declared.block.RawBlock.{RawBlock};
@@ -45,8 +46,8 @@ fn code_before(words: &str) -> Option<(Code, &str)>
 
 /// The number that the first word writes, and what is behind the space.
 fn number_before(words: &str) -> Option<(u64, &str)>
-    ensures some { IfSome result (λ p. (words.now ≡ decimal p.0 ++ 32 ∷ p.1.now) × (p.0 < 10 ^ 18)) }
-    ensures none { IfNone result ((n : ℕ) (rest : List ℕ) → words.now ≡ decimal n ++ 32 ∷ rest → n < 10 ^ 18 → ⊥) }
+    ensures some { IfSome result (λ p. (words.now ≡ decimal p.0 ++ 32 ∷ p.1.now) × (p.0 < too_long)) }
+    ensures none { IfNone result ((n : ℕ) (rest : List ℕ) → words.now ≡ decimal n ++ 32 ∷ rest → n < too_long → ⊥) }
 {
     let (text, rest) = cut(words, ' ')?;
     let n = number(text)?;
@@ -100,8 +101,8 @@ fn units(alloc: Global, words: &str) -> Result<(u64, Items<RawBlock>), LineFault
 
 /// What stands before the acquiring account of an order: the node, its account and the acquirer.
 fn order_head(words: &str) -> Option<(Node, u64, Code, &str)>
-    ensures some { IfSome result (λ p. (words.now ≡ node_text p.0 ++ 32 ∷ (decimal p.1 ++ 32 ∷ (code_text p.2 ++ 32 ∷ p.3.now))) × (p.1 < 10 ^ 18)) }
-    ensures none { IfNone result ((node : Node) (account : ℕ) (code : Code) (rest : List ℕ) → words.now ≡ node_text node ++ 32 ∷ (decimal account ++ 32 ∷ (code_text code ++ 32 ∷ rest)) → account < 10 ^ 18 → ⊥) }
+    ensures some { IfSome result (λ p. (words.now ≡ node_text p.0 ++ 32 ∷ (decimal p.1 ++ 32 ∷ (code_text p.2 ++ 32 ∷ p.3.now))) × (p.1 < too_long)) }
+    ensures none { IfNone result ((node : Node) (account : ℕ) (code : Code) (rest : List ℕ) → words.now ≡ node_text node ++ 32 ∷ (decimal account ++ 32 ∷ (code_text code ++ 32 ∷ rest)) → account < too_long → ⊥) }
 {
     let (node, words) = node_before(words)?;
     let (account, words) = number_before(words)?;

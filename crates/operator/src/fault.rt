@@ -15,9 +15,10 @@ pub enum Cause {
     NotJson,
     /// The scheme's line is JSON with a key or a value outside the grammar of schemes.
     Shape,
-    /// The scheme has more than 32 registries, 1,000 accounts in one, or 10,000 allotted blocks.
+    /// The scheme has more than `MOST_REGISTRIES` registries, `MOST_ACCOUNTS` accounts in one, or
+    /// `MOST_ALLOTTED` allotted blocks.
     TooMany,
-    /// The scheme has fewer than two registries.
+    /// The scheme has fewer than `LEAST_REGISTRIES` registries.
     TooFew,
     /// Two registries of the scheme have one code.
     CodeTwice,

@@ -23,7 +23,7 @@ moved x new moment messages = record { id = x.id; new = new; content = x.content
 abbrev pub proposed : Code → TransactionId → Content → Transition
 proposed c t k = record { id = t; new = Proposed; content = Some k; moment = 0; messages = proposes (Registry c) Itl t proposal.Proposed k ∷ [] }
 
--- its cancellation was asking for
+-- its cancellation was asked for
 abbrev pub asking : Code → Transition → Transition
 asking c x = moved x Proposed 0 (requests (Registry c) Itl x.id ∷ [])
 

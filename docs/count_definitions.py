@@ -1,0 +1,85 @@
+#!/usr/bin/env python3
+"""Counts the definitions of `protocol` and what a reader must believe for the headline.
+
+Prints, of the repository that this file stands in or of the folder that is given: the lines of definitions in
+crates/protocol/specs (no blank lines, comments and `use` lines), and, of all definitions in crates/*/specs that the
+headline's words cite, directly or through others, how many there are and how many lines they have; the names of limits
+and codes, which stand for a number alone, are counted apart. Types that the code declares are not counted.
+"""
+import glob
+import os
+import re
+import sys
+
+HEADLINE = ["OnePlace", "SpentOnce", "Agrees", "live_of", "committed_of", "opening", "run"]
+HEADLINE_FILES = ["protocol/Claims", "protocol/World"]
+NUMBER = re.compile(r"^[a-z_]+ = [\d_]+$")
+START = re.compile(r"^(?:abbrev |unfoldable )?(?:pub )(?:abbrev |unfoldable |data |record )?([^\s:({]+)")
+
+
+def parts(path):
+    """The imports of a specs file, and its definitions: name to lines of text."""
+    uses, found, name = {}, {}, None
+    for line in open(path, encoding="utf-8"):
+        text = line.rstrip("\n")
+        if text.startswith("use ") or text.startswith("pub use "):
+            whole = re.match(r"(?:pub )?use ([\w.-]+)\.\{(.*)\}", text)
+            if whole:
+                for item in whole.group(2).split(","):
+                    old, _, new = item.strip().partition(" as ")
+                    uses[(new or old).strip()] = (whole.group(1), old.strip())
+            else:
+                module = re.match(r"(?:pub )?use ([\w.-]+)(?: as ([\w-]+))?", text)
+                if module:
+                    uses[module.group(2) or module.group(1).split(".")[-1]] = (module.group(1), None)
+            continue
+        if not text.strip() or text.lstrip().startswith("--") or text.startswith("pub mod "):
+            continue
+        start = START.match(text) if not text.startswith(" ") else None
+        if text.startswith("abbrev ") and not start:
+            start = re.match(r"^abbrev ([^\s:({]+)", text)
+        if start and (text.startswith(("abbrev ", "unfoldable ")) or text.startswith(("pub data", "pub record")) or " : " in text):
+            name = start.group(1)
+            found[name] = []
+        if name:
+            found[name].append(text)
+    return uses, found
+
+
+def main():
+    top = sys.argv[1] if len(sys.argv) > 1 else os.path.join(os.path.dirname(os.path.abspath(__file__)), "..")
+    files = {}
+    for path in sorted(glob.glob(os.path.join(top, "crates/*/specs/*.antt"))):
+        crate = path.split(os.sep)[-3]
+        module = os.path.basename(path)[:-5]
+        files["%s/%s" % (crate, module)] = parts(path)
+    lines = sum(len(t) for key, (_, found) in files.items() if key.startswith("protocol/") for t in found.values())
+    print("lines of definitions in protocol:", lines)
+    todo = [(key, word) for key in HEADLINE_FILES for word in HEADLINE if word in files[key][1]]
+    seen = set()
+    while todo:
+        key, word = todo.pop()
+        if (key, word) in seen:
+            continue
+        seen.add((key, word))
+        uses, found = files[key]
+        for token in re.findall(r"[^\s(){};,=]+", "\n".join(found[word])):
+            for name in {token, token.split(".")[0]}:
+                if name in found:
+                    todo.append((key, name))
+                elif name in uses:
+                    module, old = uses[name]
+                    hit = re.match(r"Rattle\.(\w+)\.specs\.(\w+)$", module)
+                    if hit and "%s/%s" % hit.groups() in files:
+                        other = "%s/%s" % hit.groups()
+                        old = old if old else token.partition(".")[2]
+                        if old in files[other][1]:
+                            todo.append((other, old))
+    names = {(key, word) for key, word in seen if NUMBER.match(files[key][1][word][-1])}
+    count = sum(len(files[key][1][word]) for key, word in seen - names)
+    print("definitions that the headline's words cite: %d, of %d lines" % (len(seen - names), count))
+    print("names of limits and codes among them: %d" % len(names))
+
+
+if __name__ == "__main__":
+    main()

@@ -32,7 +32,7 @@ pub enum Role {
 pub enum Known {
     /// No record names it.
     Unknown,
-    /// A record without content: it was cancelled, here or by request, before its proposal came.
+    /// A record without content: it was cancelled before its proposal came.
     Bare,
     /// It stands so, with its content.
     Stands(Status),

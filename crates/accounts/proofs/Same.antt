@@ -3,29 +3,15 @@ use Rattle.std.proofs.Common.{◌≡◌, Bool, true, true≢false, ◌&&◌, eqb
 use Rattle.std.specs.Option.{option_eq}
 use Rattle.std.proofs.lemmas.Bool.{and_parts, and_from, eqb-true}
 use denote.Enum.Bare.{sameb, same_true, true_same}
-use Rattle.units.proofs.Same.{code_of_same, same_code-refl}
-use Rattle.units.specs.Code.{same_code}
 use Rattle.units.specs.contracts.block.Kind as kind
 use Rattle.units.specs.declared.block.Kind.{Kind}
-use Rattle.status.specs.Id.{same_id, id_at}
-use Rattle.status.proofs.Ids.{id_at-some}
+use Rattle.status.specs.Id.{same_id}
+use Rattle.status.proofs.Ids.{id_of_same, same_id-refl}
 use Rattle.status.specs.declared.id.TransactionId.{TransactionId}
 use Rattle.accounts.specs.declared.lot.Lot.{Lot}
 
 pub kind_of_same : (a b : Kind) → sameb kind.the_type a b ≡ true → a ≡ b
 kind_of_same a b e = same_true kind.the_type tt a b e
-
--- an identifier is its code and number
-pub id_of_same : (a b : TransactionId) → same_id a b ≡ true → a ≡ b
-id_of_same a b e =
-    let h = and_parts (same_code a.code b.code) (eqb a.number b.number) e in
-    let codes = code_of_same a.code b.code h.0 in
-    let numbers = eqb-true a.number b.number h.1 in
-    let one : Some a ≡ Some b = sym (id_at-some a) ∙ ap (λ c. id_at c a.number) codes ∙ ap (id_at b.code) numbers ∙ id_at-some b in
-    cc (one)
-
-pub same_id-refl : (a : TransactionId) → same_id a a ≡ true
-same_id-refl a = and_from (same_code a.code a.code) (eqb a.number a.number) (same_code-refl a.code) (eq-eqb a.number a.number refl)
 
 pub reserving_of_same : (a b : Option TransactionId) → option_eq same_id a b ≡ true → a ≡ b
 reserving_of_same None None e = refl

@@ -2,4 +2,5 @@ pub mod Membership
 pub mod OneValue
 pub mod Positions
 pub mod SomePass
+pub mod Comparisons
 pub mod NoRepeats

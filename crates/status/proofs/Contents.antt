@@ -7,7 +7,7 @@ use denote.Enum.Bare.{sameb, same_true, true_same}
 use Rattle.units.specs.contracts.block.Kind as kind
 use Rattle.units.specs.contracts.block.Period as period
 use Rattle.units.specs.contracts.block.BlockPartialEq.TheImpl.{eq-value}
-use Rattle.units.proofs.Same.{code_of_same, same_code-refl}
+use Rattle.units.proofs.Same.{code_of_same, kind_of_same, period_of_same, raw_of_same, same_code-refl, same_raw-refl}
 use Rattle.units.specs.Code.{same_code}
 use Rattle.std.proofs.lemmas.List.{length-map}
 use Rattle.units.specs.Facts.{IsRange}
@@ -17,59 +17,13 @@ use Rattle.units.specs.Unit.{same_raw, same_period, same_kind, period_index, kin
 use Rattle.units.specs.declared.block.Block.{Block}
 use Rattle.units.specs.declared.block.RawBlock.{RawBlock}
 use Rattle.units.specs.declared.block.Period.{Period}
-use Rattle.units.specs.declared.block.Period.TheVariants.{First, Second}
 use Rattle.units.specs.declared.block.Kind.{Kind}
-use Rattle.units.specs.declared.block.Kind.TheVariants.{Aau, Rmu, Eru, Cer, Tcer, Lcer}
 use Rattle.status.specs.Content.{Content, IsContent, raws, same_blocks, same_content}
 
 -- each block is in range
 pub in_range : (blocks : List Block) → AllByRecursion (λ b. IsRange b.first b.last) (raws blocks)
 in_range [] = tt
 in_range (b ∷ bs) = (b.in_range, in_range bs)
-
-period_of_same : (p q : Period) → same_period p q ≡ true → p ≡ q
-period_of_same First First e = refl
-period_of_same First Second e = absurd (true≢false (sym e))
-period_of_same Second First e = absurd (true≢false (sym e))
-period_of_same Second Second e = refl
-
-kind_at : ℕ → Kind
-kind_at zero = Aau
-kind_at (suc zero) = Rmu
-kind_at (suc (suc zero)) = Eru
-kind_at (suc (suc (suc zero))) = Cer
-kind_at (suc (suc (suc (suc zero)))) = Tcer
-kind_at (suc (suc (suc (suc (suc n))))) = Lcer
-
-kind_at-index : (k : Kind) → kind_at (kind_index k) ≡ k
-unfolding kind_at
-kind_at-index Aau = refl
-kind_at-index Rmu = refl
-kind_at-index Eru = refl
-kind_at-index Cer = refl
-kind_at-index Tcer = refl
-kind_at-index Lcer = refl
-
-pub kind_of_same : (k l : Kind) → same_kind k l ≡ true → k ≡ l
-kind_of_same k l e = sym (kind_at-index k) ∙ ap kind_at (eqb-true (kind_index k) (kind_index l) e) ∙ kind_at-index l
-
-raw_of_same : (a b : RawBlock) → same_raw a b ≡ true → a ≡ b
-raw_of_same a b e =
-    let h = and_parts (same_code a.origin b.origin) _ e in
-    let p = and_parts (same_period a.period b.period) _ h.1 in
-    let k = and_parts (same_kind a.kind b.kind) _ p.1 in
-    let n = and_parts (a.first == b.first) (a.last == b.last) k.1 in
-    let origins = code_of_same a.origin b.origin h.0 in
-    let periods = period_of_same a.period b.period p.0 in
-    let kinds = kind_of_same a.kind b.kind k.0 in
-    let firsts = eqb-true a.first b.first n.0 in
-    let lasts = eqb-true a.last b.last n.1 in
-    λ i. record { origin = origins i; period = periods i; kind = kinds i; first = firsts i; last = lasts i }
-
-same_raw-refl : (a : RawBlock) → same_raw a a ≡ true
-same_raw-refl a =
-    and_from (same_code a.origin a.origin) _ (same_code-refl a.origin) (and_from (same_period a.period a.period) _ (eq-eqb (period_index a.period) (period_index a.period) refl)
-    (and_from (same_kind a.kind a.kind) _ (eq-eqb (kind_index a.kind) (kind_index a.kind) refl) (and_from (a.first == a.first) (a.last == a.last) (eq-eqb a.first a.first refl) (eq-eqb a.last a.last refl))))
 
 blocks_of_same : (xs ys : List RawBlock) → same_blocks xs ys ≡ true → xs ≡ ys
 blocks_of_same [] [] e = refl

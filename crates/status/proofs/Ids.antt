@@ -5,13 +5,16 @@ use Rattle.std.specs.Str.{IsCharBoundary}
 use Rattle.std.proofs.lemmas.Str.{IsCharBoundary-from_drop, IsUtf8-from_ascii}
 use Rattle.std.proofs.lemmas.Fmt.{IsAscii-decimal, decimal_injective}
 use Rattle.units.proofs.OneText.{code_text_same}
+use Rattle.units.proofs.Same.{code_of_same, same_code-refl}
+use Rattle.units.specs.Code.{same_code}
 use Rattle.units.specs.Limits.{last_transaction}
 use Rattle.units.specs.Text.{IsNumberText}
 use Rattle.status.specs.Facts.{IsTransactionNumber}
 use Rattle.units.specs.declared.code.Code.{Code}
 use Rattle.std.specs.Coded.{×_prop, le_prop}
-use Rattle.std.proofs.lemmas.Bool.{le-leb}
-use Rattle.status.specs.Id.{id_text, is_number, number_from, id_if, id_at}
+use Rattle.std.specs.Prelude.{◌==◌}
+use Rattle.std.proofs.lemmas.Bool.{le-leb, and_parts, and_from, eq-eqb, eqb-true}
+use Rattle.status.specs.Id.{id_text, is_number, number_from, id_if, id_at, same_id}
 use Rattle.status.specs.declared.id.TransactionId.{TransactionId}
 
 -- behind the code of an identifier a text can be cut
@@ -82,3 +85,16 @@ id_at-number c n t h = id_if-number c n (is_number n) refl t h
 -- identifiers of different numbers differ
 pub id_at-apart : (c d : Code) (n m : ℕ) (t u : TransactionId) → id_at c n ≡ Some t → id_at d m ≡ Some u → (n ≡ m → ⊥) → t ≡ u → ⊥
 id_at-apart c d n m t u h i other same = other (sym (id_at-number c n t h) ∙ ap (λ (v : TransactionId). v.number) same ∙ id_at-number d m u i)
+
+-- ---- the test of sameness
+
+pub id_of_same : (a b : TransactionId) → same_id a b ≡ true → a ≡ b
+id_of_same a b e =
+    let h = and_parts (same_code a.code b.code) (a.number == b.number) e in
+    let codes = code_of_same a.code b.code h.0 in
+    let numbers = eqb-true a.number b.number h.1 in
+    let one : Some a ≡ Some b = sym (id_at-some a) ∙ ap (λ c. id_at c a.number) codes ∙ ap (id_at b.code) numbers ∙ id_at-some b in
+    cc (one)
+
+pub same_id-refl : (a : TransactionId) → same_id a a ≡ true
+same_id-refl a = and_from (same_code a.code a.code) (a.number == a.number) (same_code-refl a.code) (eq-eqb a.number a.number refl)

@@ -10,30 +10,12 @@ use Rattle.units.specs.Keys.{first_unit}
 use Rattle.units.specs.Unit.{same_kind, same_period}
 use Rattle.units.specs.declared.block.Block.{Block}
 use Rattle.units.specs.declared.block.Kind.{Kind}
-use Rattle.units.specs.declared.block.Kind.TheVariants.{Aau, Rmu, Eru, Cer, Tcer, Lcer}
-use Rattle.units.specs.declared.block.Period.{Period}
-use Rattle.units.specs.declared.block.Period.TheVariants.{First, Second}
 use Rattle.units.specs.declared.block.RawBlock.{RawBlock}
-use Rattle.units.proofs.OrderingUnits.{index_rises, less_from_index}
-use Rattle.units.proofs.Same.{code_of_same}
+use Rattle.units.proofs.Same.{code_of_same, kind_of_same, period_of_same}
+use Rattle.units.proofs.UnitOrder.{index_rises, less_from_index}
 
 abbrev raws_of : List Block → List RawBlock
 raws_of blocks = map (λ (b : Block). b.raw) blocks
-
-period_same : (p q : Period) → same_period p q ≡ true → p ≡ q
-period_same First First e = refl
-period_same First Second e = absurd (cc (e))
-period_same Second First e = absurd (cc (e))
-period_same Second Second e = refl
-
-kind_same : (a b : Kind) → same_kind a b ≡ true → a ≡ b
-kind_same Aau Aau e = refl
-kind_same Rmu Rmu e = refl
-kind_same Eru Eru e = refl
-kind_same Cer Cer e = refl
-kind_same Tcer Tcer e = refl
-kind_same Lcer Lcer e = refl
-kind_same _ _ e = absurd (cc (e))
 
 -- a block that ends before another begins comes before it
 comes-first : (b c : Block) → IsBefore (λ (k : Kind). 0) (interval_of b) (interval_of c) → comes_before b.raw c.raw ≡ true
@@ -56,9 +38,9 @@ not-joined b c h =
           (h
           (record {
             origin = code_of_same b.raw.origin c.raw.origin x.0;
-            period = period_same b.raw.period c.raw.period z.0;
+            period = period_of_same b.raw.period c.raw.period z.0;
             next = omega arith;
-            mark = kind_same b.raw.kind c.raw.kind v.0;
+            mark = kind_of_same b.raw.kind c.raw.kind v.0;
           }))
       | inr n ↦ n
     ]

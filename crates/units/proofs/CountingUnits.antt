@@ -17,8 +17,8 @@ use Rattle.units.specs.Unit.{same_period}
 use Rattle.units.specs.declared.block.Unit.{Unit as Serial}
 use Rattle.units.specs.declared.interval.Interval.{Interval}
 use Rattle.units.proofs.Marks.{get-put_units, get-marks_of}
-use Rattle.units.proofs.OrderingUnits.{index, index_rises, index_bound, same_period-refl}
-use Rattle.units.proofs.Same.{same_code-refl}
+use Rattle.units.proofs.UnitOrder.{index, index_rises, index_bound}
+use Rattle.units.proofs.Same.{same_code-refl, same_period-refl}
 use Rattle.units.proofs.UnitKeys.{units_total}
 
 module _ {K X : Type 0} (R : K → K → Ordering) where

@@ -2,7 +2,7 @@
 use Rattle.std.proofs.Common.{◌≡◌, ◌⊎◌, ℕ, ◌+◌, ◌-◌, ◌≤◌, List, [], ◌∷◌, ◌++◌, Bool, true, false, ◌&&◌, cond, eqb, leb, ltb, Option, Some, None, IsSome, refl, sym, ap, subst, ◌∙◌, arith, inl, inr}
 use Rattle.std.specs.List.{list_any}
 use Rattle.std.specs.Option.{option_or}
-use Rattle.std.proofs.lemmas.Bool.{and_parts, or_parts, false≢true, cases_Bool, cases_lt, both_ways, false_from_ne_true, leb-true, le-leb, ltb-true}
+use Rattle.std.proofs.lemmas.Bool.{and_parts, or_parts, false≢true, cases_Bool, cases_lt, both_ways, false_from_ne_true, eq-eqb, leb-true, le-leb, ltb-true}
 use Rattle.std.proofs.lemmas.Bool.Decides.{nat_tests}
 use Rattle.units.specs.Code.{same_code}
 use Rattle.units.specs.Cutting.{meets, below, above, parts, without, marked, assigned}
@@ -13,16 +13,8 @@ use Rattle.units.specs.declared.block.RawBlock.{RawBlock}
 use Rattle.units.specs.declared.block.Unit.{Unit as Serial}
 use Rattle.units.specs.declared.code.Code.{Code}
 use Rattle.units.specs.declared.block.Period.{Period}
-use Rattle.units.specs.declared.block.Period.TheVariants.{First, Second}
 use Rattle.units.specs.declared.interval.Interval.{Interval}
-use Rattle.units.proofs.Same.{codes_alike}
-
--- periods with one number are one
-period_of : (p q : Period) → period_index p ≡ period_index q → p ≡ q
-period_of First First e = refl
-period_of First Second e = absurd (omega arith)
-period_of Second First e = absurd (omega arith)
-period_of Second Second e = refl
+use Rattle.units.proofs.Same.{codes_alike, period_of_same}
 
 -- one line: origin and period
 abbrev line : Code → Period → Code → Period → Bool
@@ -207,7 +199,7 @@ module _ {M : Type 0} where
   mark_at-parts b i u p = elim (cases_Bool (meets b i)) [
     | inl yes' ↦
         let h = meets-true b i yes' in
-        rw yes' (parts_met b i u (codes_alike i.origin b.origin h.first h.second) (period_of i.period b.period h.period) (leb-true b.first i.last h.right) (leb-true i.first b.last h.left) p)
+        rw yes' (parts_met b i u (codes_alike i.origin b.origin h.first h.second) (period_of_same i.period b.period (eq-eqb _ _ h.period)) (leb-true b.first i.last h.right) (leb-true i.first b.last h.left) p)
     | inr no' ↦ rw no' (apart_mark (has_unit b u) (has i u) i.mark (λ s t. both_ways _ no' (has_meets b i u t s)))
   ]
 

@@ -9,7 +9,7 @@ pub mod Walking
 pub mod Marking
 pub mod BlockLists
 pub mod SharedUnits
-pub mod OrderingUnits
+pub mod UnitOrder
 pub mod CountingUnits
 pub mod OrderingJoins
 pub mod OrderingMoves

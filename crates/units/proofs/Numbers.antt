@@ -1,5 +1,5 @@
 -- Numbers and their digits.
-use Rattle.std.proofs.Common.{◌≡◌, ◌≢◌, ℕ, zero, suc, ◌^◌, ◌<◌, ◌≤◌, List, [], ◌∷◌, length, get_or, true, Bool, ◌&&◌, arith, refl, subst, sym, ap, ◌∙◌, lit<, Result, Ok, Err, IfSome, IfNone, false}
+use Rattle.std.proofs.Common.{◌≡◌, ◌≢◌, ℕ, zero, suc, ◌^◌, ◌<◌, ◌≤◌, List, [], ◌∷◌, length, get_or, true, arith, subst, sym, ap, ◌∙◌, lit<, Result, Ok, Err, IfSome, IfNone}
 use Rattle.std.specs.Fmt.{decimal}
 use Rattle.std.specs.Str.{all_ascii_digits}
 use Rattle.std.specs.Char.{is_ascii_digit}
@@ -7,14 +7,11 @@ use Rattle.std.specs.Str.Parse.{ParsesUnsigned, digits_value}
 use Rattle.std.specs.Result.{OkIff, result_ok}
 use Rattle.std.proofs.lemmas.Str.Parse.{IsNumeralModel, numerals_by_value, tells_all_ascii_digits, digits_value_short, parse_plain}
 use Rattle.std.proofs.lemmas.Fmt.{decimal-digits_value, digits_decimal, length-decimal-le, decimal_nonempty, first_decimal, decimal_digit, parse-decimal}
+use Rattle.std.proofs.lemmas.Bool.{and_parts}
 use Rattle.units.specs.Text.{IsNumberText, IsFreeOf}
 
 pub own : IsNumeralModel (λ ds. all_ascii_digits ds ≡ true) (digits_value 10)
 own = numerals_by_value _ tells_all_ascii_digits
-
-both_true : (a b : Bool) → (a && b) ≡ true → (a ≡ true) × (b ≡ true)
-both_true true b h = (refl, h)
-both_true false b h = cc
 
 -- what the digits of a number are like
 pub record IsNumeral (text : List ℕ) : Type 0 where
@@ -44,7 +41,7 @@ number_shape text n h = subst IsNumeral (sym h.0) (decimal_numeral n h.1)
 free_digits : (byte : ℕ) (ds : List ℕ) → (is_ascii_digit byte ≡ true → ⊥) → all_ascii_digits ds ≡ true → IsFreeOf byte ds
 free_digits byte [] never all = tt
 free_digits byte (d ∷ ds) never all =
-    let parts = both_true (is_ascii_digit d) (all_ascii_digits ds) all in
+    let parts = and_parts (is_ascii_digit d) (all_ascii_digits ds) all in
     (λ e. never (ap is_ascii_digit (sym e) ∙ parts.0), free_digits byte ds never parts.1)
 
 pub decimal_free : (byte n : ℕ) → (is_ascii_digit byte ≡ true → ⊥) → n < 10 ^ 18 → IsFreeOf byte (decimal n)
@@ -79,7 +76,7 @@ plus_no_number text plus n is = first_digit text (number_shape text n is) plus
     first_digit : (ds : List ℕ) → IsNumeral ds → get_or ds 0 0 ≡ 43 → ⊥
     first_digit [] numeral plus = let some = numeral.some in absurd (omega arith)
     first_digit (d ∷ ds) numeral plus =
-        let digit : is_ascii_digit d ≡ true = (both_true (is_ascii_digit d) (all_ascii_digits ds) numeral.digits).0 in
+        let digit : is_ascii_digit d ≡ true = (and_parts (is_ascii_digit d) (all_ascii_digits ds) numeral.digits).0 in
         let none : is_ascii_digit 43 ≡ true = ap is_ascii_digit (sym plus) ∙ digit in
         cc
 

@@ -9,19 +9,11 @@ use Rattle.units.specs.Following.{joined, IsOnto, is_next}
 use Rattle.units.specs.Intervals.{has, mark_at, AreKept, numbered}
 use Rattle.units.specs.Keys.{unit_cmp}
 use Rattle.units.specs.Unit.{same_period}
-use Rattle.units.specs.declared.block.Period.{Period}
-use Rattle.units.specs.declared.block.Period.TheVariants.{First, Second}
 use Rattle.units.specs.declared.block.Unit.{Unit as Serial}
 use Rattle.units.specs.declared.interval.Interval.{Interval}
-use Rattle.units.proofs.Same.{code_of_same}
+use Rattle.units.proofs.Same.{code_of_same, period_of_same}
 
 -- ---- what the tests say
-
-period_of_same : (p q : Period) → same_period p q ≡ true → p ≡ q
-period_of_same First First h = refl
-period_of_same First Second h = absurd (false≢true h)
-period_of_same Second First h = absurd (false≢true h)
-period_of_same Second Second h = refl
 
 module _ {M : Type 0} where
   pub next_means : (a b : Interval M) → is_next a b ≡ true → (a.origin ≡ b.origin) × (a.period ≡ b.period) × (a.last + 1 ≡ b.first)

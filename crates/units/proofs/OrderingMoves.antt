@@ -5,24 +5,22 @@ use Rattle.std.specs.declared.cmp.Ordering.TheVariants.{Less, Equal, Greater}
 use Rattle.std.specs.List.{count_by, AllByRecursion}
 use Rattle.std.specs.List.Sorted.{IsPermutation, IsSortedByKey}
 use Rattle.std.specs.Ordering.{nat_cmp, ordering_then, is_lt}
-use Rattle.std.proofs.lemmas.Bool.{true≢false, and_from, eq-eqb, le-leb, cases_Bool, cases_lt}
+use Rattle.std.proofs.lemmas.Bool.{true≢false, and_from, le-leb, cases_Bool, cases_lt}
 use Rattle.std.proofs.lemmas.Cmp.{ranked}
 use Rattle.std.proofs.lemmas.List.{drop_all, drop_more}
 use Rattle.std.proofs.lemmas.List.Elements.{All-from_recursion, recursion_from_All}
 use Rattle.std.proofs.lemmas.List.Sorted.{All-permutation, Contains-permutation, sum_by-IsPermutation}
 use Rattle.std.proofs.lemmas.List.Sums.{sum_by-cons, get_or-le-sum_by}
 use Rattle.units.specs.Canonical.{IsBefore}
-use Rattle.units.specs.Code.{same_code}
 use Rattle.units.specs.Facts.{IsRange}
 use Rattle.units.specs.Following.{IsOnto}
 use Rattle.units.specs.Intervals.{has, mark_at, AreKept, numbered}
 use Rattle.units.specs.Keys.{unit_cmp}
-use Rattle.units.specs.Unit.{same_period, period_index}
 use Rattle.units.specs.declared.block.Unit.{Unit as Serial}
 use Rattle.units.specs.declared.interval.Interval.{Interval}
 use Rattle.units.proofs.OrderingJoins.{AreOrdered, Joins, joins_more}
-use Rattle.units.proofs.OrderingUnits.{rank, index, index_keeps, less_from_index, periods, same_period-refl}
-use Rattle.units.proofs.Same.{same_code-refl}
+use Rattle.units.proofs.Same.{same_code-refl, same_period-refl}
+use Rattle.units.proofs.UnitOrder.{index, index_keeps, less_from_index, same_line}
 
 -- ---- in how many of the intervals a unit is
 
@@ -150,18 +148,6 @@ module _ {M : Type 0} where
       ]
 
 -- ---- sorted intervals
-
--- units of one number share their origin and period
-same_line : (a b : Serial) → rank a ≡ rank b → (same_code a.origin b.origin ≡ true) × (same_period a.period b.period ≡ true)
-same_line a b e =
-    let p = periods a.period in
-    let q = periods b.period in
-    let k = a.origin.letters in
-    let l = b.origin.letters in
-    let f : a.origin.first ≡ b.origin.first = omega arith in
-    let g : a.origin.second ≡ b.origin.second = omega arith in
-    let h : period_index a.period ≡ period_index b.period = omega arith in
-    (and_from _ _ (eq-eqb _ _ f) (eq-eqb _ _ g), eq-eqb _ _ h)
 
 module _ {M : Type 0} (group : M → ℕ) where
   -- what they are sorted by

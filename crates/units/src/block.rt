@@ -191,6 +191,7 @@ impl fmt::Display for RawBlock {
 
 impl Block {
     ghost use Rattle.units.specs.Block.{IsRawText, raw_text};
+    ghost use Rattle.units.specs.Keys.{first_unit};
     ghost use Rattle.units.specs.Unit.{has_unit};
     ghost use Rattle.units.specs.declared.block.RawBlock.{RawBlock};
 
@@ -248,6 +249,18 @@ impl Block {
             && self.raw.period == unit.period
             && self.raw.first <= unit.number
             && unit.number <= self.raw.last
+    }
+
+    /// Its first unit.
+    pub fn first_unit(&self) -> Unit
+        ensures { result ≡ first_unit self.now.raw }
+    {
+        let raw = self.raw;
+        Unit {
+            origin: raw.origin,
+            period: raw.period,
+            number: raw.first,
+        }
     }
 
     /// How many units it has.

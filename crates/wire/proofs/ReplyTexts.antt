@@ -1,5 +1,5 @@
 -- Replies and the objects that write them: the two parts of an object, one reply for each value, and the texts read back.
-use Rattle.std.proofs.Common.{◌≡◌, ℕ, ◌+◌, ◌/◌, ◌%◌, ◌≤◌, zero, suc, List, [], ◌∷◌, ◌++◌, length, decimal, Bool, true, false, true≢false, not, ◌&&◌, codes, Option, Some, None, option_and_then, refl, sym, ap, subst, ◌∙◌, arith}
+use Rattle.std.proofs.Common.{◌≡◌, ℕ, ◌+◌, ◌/◌, ◌%◌, ◌≤◌, zero, suc, List, [], ◌∷◌, ◌++◌, length, decimal, Bool, true, false, true≢false, not, codes, Option, Some, None, option_and_then, refl, sym, ap, subst, ◌∙◌, arith}
 use Rattle.std.specs.Coded.{×_prop, le_prop}
 use Rattle.std.proofs.lemmas.Slice.Eq.{bytes_eq-Decides}
 use Rattle.std.proofs.lemmas.Fmt.{decimal_step, decimal_digit}
@@ -8,7 +8,7 @@ use Rattle.std.specs.Prelude.{bytes_eq, nat_le, nat_lt}
 use Rattle.std.specs.Str.{IsAscii}
 use Rattle.std.specs.List.{list_all}
 use Rattle.std.specs.Fmt.{digits}
-use Rattle.std.proofs.lemmas.Bool.{leb-true, ltb-true}
+use Rattle.std.proofs.lemmas.Bool.{and_parts, leb-true, ltb-true}
 use Rattle.std.proofs.lemmas.Bool.Decides.{nat_tests}
 use Rattle.serde_json.specs.Data.{Data, unsigned, negative, float, null, boolean, number, string, array, object}
 use Rattle.serde_json.specs.Find.{get, as_str, as_number, as_u64}
@@ -122,14 +122,10 @@ text_refused c = ap around (sym (two_digits c.number c.in_range.0 c.in_range.1))
 
 -- ---- the texts read back
 
-both : (a b : Bool) → (a && b) ≡ true → (a ≡ true) × (b ≡ true)
-both true b e = (refl, e)
-both false b e = absurd (true≢false (sym e))
-
 ascii : (text : List ℕ) → list_all (λ b. nat_lt b 128) text ≡ true → IsAscii text
 ascii [] e i = omega arith
-ascii (b ∷ bs) e zero = ltb-true b 128 (both (nat_lt b 128) (list_all (λ c. nat_lt c 128) bs) e).0
-ascii (b ∷ bs) e (suc i) = ascii bs (both (nat_lt b 128) (list_all (λ c. nat_lt c 128) bs) e).1 i
+ascii (b ∷ bs) e zero = ltb-true b 128 (and_parts (nat_lt b 128) (list_all (λ c. nat_lt c 128) bs) e).0
+ascii (b ∷ bs) e (suc i) = ascii bs (and_parts (nat_lt b 128) (list_all (λ c. nat_lt c 128) bs) e).1 i
 
 -- a text of ASCII that is read as this object
 abbrev Reads : List ℕ → Data → Type 0

@@ -5,8 +5,6 @@ mod account;
 mod holdings;
 mod lines;
 mod lot;
-#[cfg(test)]
-mod tests;
 
 pub use holdings::Holdings;
 pub use lot::{Line, Lot, Standing};

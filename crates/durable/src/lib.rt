@@ -4,8 +4,6 @@
 mod backing;
 mod batch;
 mod fault;
-#[cfg(test)]
-mod file_tests;
 mod layout;
 mod link;
 mod memory_store;
@@ -16,8 +14,6 @@ mod reading;
 mod records;
 mod shown;
 mod sql_store;
-#[cfg(test)]
-mod tests;
 
 pub use fault::StoreFault;
 pub use memory_store::{Kept, MemoryStore};

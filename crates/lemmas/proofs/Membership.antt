@@ -1,6 +1,7 @@
 -- Membership in a list, by recursion over the list, and what it is in parts, images and choices of lists.
-use Rattle.std.proofs.Common.{◌≡◌, ℕ, zero, suc, List, [], ◌∷◌, ◌++◌, Bool, true, false, cond, Option, Some, ◌⊎◌, inl, inr, refl, ap, subst, map}
+use Rattle.std.proofs.Common.{◌≡◌, ℕ, zero, suc, List, [], ◌∷◌, ◌++◌, Bool, true, false, cond, Option, Some, ◌⊎◌, inl, inr, refl, sym, ap, subst, ◌∙◌, map}
 use Rattle.std.specs.Prelude.{filter, flat_map, find, slice_get}
+use Rattle.std.proofs.lemmas.Bool.{cases_Bool, cond-true, cond-false}
 
 abbrev pub In : {X : Type 0} → X → List X → Type 0
 In x [] = ⊥
@@ -70,3 +71,11 @@ In_filter p (y ∷ ys) x h =
           ]
       | inr i ↦ let r = In_filter p ys x i.1 in (inr r.0, r.1)
     ]
+
+pub filter_In : {X : Type 0} (p : X → Bool) (x : X) (xs : List X) → In x xs → p x ≡ true → In x (filter p xs)
+filter_In p x [] i h = absurd i
+filter_In p x (y ∷ ys) (inl e) h = subst (In x) (sym (cond-true (p y) (y ∷ filter p ys) (filter p ys) (ap p e ∙ h))) (inl e)
+filter_In p x (y ∷ ys) (inr i) h = elim (cases_Bool (p y)) [
+  | inl t ↦ subst (In x) (sym (cond-true (p y) (y ∷ filter p ys) (filter p ys) t)) (inr (filter_In p x ys i h))
+  | inr f ↦ subst (In x) (sym (cond-false (p y) (y ∷ filter p ys) (filter p ys) f)) (filter_In p x ys i h)
+]

@@ -6,12 +6,8 @@ mod fault;
 mod rehearsal;
 mod report;
 mod scheme_file;
-#[cfg(test)]
-mod show_tests;
 mod showing;
 mod streams;
-#[cfg(test)]
-mod tests;
 mod words;
 
 pub use fault::{Cause, OpFault, store_fault};

@@ -1,13 +1,14 @@
 -- What is claimed of the histories of all nodes.
 use Rattle.std.specs.List.{count_by, sum_by}
-use Rattle.std.specs.Prelude.{◌≡◌, ◌≤◌, ◌⊎◌, ℕ, ◌+◌, ◌&&◌, not, cond, is_some, Bool, true, false, List, [], ◌++◌, Contains, Option, Some}
+use Rattle.std.specs.Prelude.{◌≡◌, ◌≤◌, ◌⊎◌, ℕ, ◌+◌, ◌&&◌, not, cond, is_some, Bool, true, false, List, [], ◌++◌, Contains, Option, Some, None}
 use Rattle.std.specs.Option.{option_map_or}
+use Rattle.units.specs.RefusalCodes.{journal_full, initiator_not_eligible, acquirer_not_eligible}
 use Rattle.units.specs.declared.block.Unit.{Unit as Serial}
 use Rattle.units.specs.declared.code.Code.{Code}
 use Rattle.units.specs.declared.code.Node.{Node}
 use Rattle.units.specs.declared.code.Node.TheVariants.{Itl, Registry}
 use Rattle.status.specs.Content.{Content}
-use Rattle.status.specs.Id.{same_id}
+use Rattle.status.specs.Id.{same_id, id_at}
 use Rattle.status.specs.Status.{same_status}
 use Rattle.status.specs.declared.id.TransactionId.{TransactionId}
 use Rattle.status.specs.declared.moment.Moment.{Moment}
@@ -21,7 +22,7 @@ use Rattle.scheme.specs.declared.registries.Scheme.{Scheme}
 use Rattle.protocol.specs.declared.event.Outcome.TheVariants.{Refused}
 use Rattle.protocol.specs.declared.event.WorldEvent.TheVariants.{Deliver}
 use Rattle.protocol.specs.Deciding.{Enters}
-use Rattle.protocol.specs.History.{Entry, Transition, transitions_of, newest, stands, stands_at, sends, holds, spendable, gives, credits, at_start, book_owner, carries}
+use Rattle.protocol.specs.History.{Entry, Transition, transitions_of, newest, stands, stands_at, sends, holds, spendable, gives, credits, at_start, book_owner, carries, proposals}
 use Rattle.protocol.specs.Registries.{allotted}
 use Rattle.protocol.specs.Verdict.{history, verdict}
 use Rattle.protocol.specs.World.{World, Station, station, journal, step}
@@ -94,6 +95,10 @@ CountedOnce scheme c xs =
 abbrev pub CompletedOnce : List Transition → Type 0
 CompletedOnce xs = (x : Transition) → Contains xs x → x.new ≡ Completed → (newest xs x.id ≡ Some x) × (count_by (λ y. same_id y.id x.id && same_status y.new Completed) xs ≡ 1)
 
+-- the number that the registry's next proposal takes is no transaction's yet
+abbrev pub NextIsNew : Code → List Entry → Type 0
+NextIsNew c es = (t : TransactionId) → id_at c (proposals es + 1) ≡ Some t → newest (transitions_of es) t ≡ None
+
 -- ---- of the log alone, whatever it is given
 
 abbrev pub IsEnd : Status → Type 0
@@ -128,9 +133,9 @@ OwnedByInitiator scheme =
 
 -- no delivery is refused but where the journal is full
 abbrev pub DeliversWelcome : World → Type 0
-DeliversWelcome w = (index : ℕ) (moment : Moment) (code : ℕ) → (step w (Deliver index moment)).outcome ≡ Refused code → code ≡ 49
+DeliversWelcome w = (index : ℕ) (moment : Moment) (code : ℕ) → (step w (Deliver index moment)).outcome ≡ Refused code → code ≡ journal_full
 
 -- where the log tells a registry Terminated, the codes are those of eligibility
 abbrev pub TerminatesForEligibility : (Node → List Entry) → Type 0
 TerminatesForEligibility f =
-    (n : Notification) (found : List ℕ) (code : ℕ) → Contains (sends (f Itl)) (message.Notification n) → n.notice ≡ notice.Terminated found → Contains found code → (code ≡ 207) ⊎ (code ≡ 208)
+    (n : Notification) (found : List ℕ) (code : ℕ) → Contains (sends (f Itl)) (message.Notification n) → n.notice ≡ notice.Terminated found → Contains found code → (code ≡ initiator_not_eligible) ⊎ (code ≡ acquirer_not_eligible)

@@ -4,3 +4,4 @@ pub mod RegistryHearings
 pub mod TransactionEnds
 pub mod InitiatorStatuses
 pub mod RegistrySendings
+pub mod ProposalNumbers

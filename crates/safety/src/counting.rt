@@ -6,7 +6,7 @@ ghost use Rattle.wire.specs.declared.input.Input.{Input};
 ghost use Rattle.scheme.specs.declared.registries.Scheme.{Scheme};
 ghost use Rattle.protocol.specs.History.{transitions_of};
 ghost use Rattle.protocol.specs.Verdict.{history};
-ghost use Rattle.protocol.specs.Claims.{CompletedOnce, CountedOnce};
+ghost use Rattle.protocol.specs.Claims.{CompletedOnce, CountedOnce, NextIsNew};
 
 /// At one registry, whatever it is given, forged messages included, a unit is counted once or not at all.
 pub fn registry_counts_once()
@@ -17,4 +17,10 @@ pub fn registry_counts_once()
 /// transaction, and its only one: counts of these transitions are counts of transactions.
 pub fn completed_once()
     ensures { (scheme : Scheme) (c : Code) (journal : List Input) → CompletedOnce (transitions_of (history scheme (Registry c) journal)) }
+{}
+
+/// At one registry, whatever it is given, forged messages included, the number of the next proposal is no transaction's
+/// yet, so that the status table has a row for each propose order that has a number.
+pub fn numbers_are_new()
+    ensures { (scheme : Scheme) (c : Code) (journal : List Input) → NextIsNew c (history scheme (Registry c) journal) }
 {}

@@ -12,7 +12,7 @@ mod resolution;
 mod weaving;
 
 pub use agreement::nodes_agree;
-pub use counting::{completed_once, registry_counts_once};
+pub use counting::{completed_once, numbers_are_new, registry_counts_once};
 pub use deliveries::deliveries_are_welcome;
 pub use log::log_alone;
 pub use one_place::units_stand_in_one_place;

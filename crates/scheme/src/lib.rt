@@ -8,8 +8,6 @@ mod listed;
 mod members;
 mod reading;
 mod registries;
-#[cfg(test)]
-mod tests;
 
 pub use members::{Allotment, Holder, Member, SchemeFault};
 pub use reading::one_answer;

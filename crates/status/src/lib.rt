@@ -6,8 +6,6 @@ mod id;
 mod moment;
 mod order;
 mod tables;
-#[cfg(test)]
-mod tests;
 mod words;
 
 pub use content::Content;

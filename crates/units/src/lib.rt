@@ -14,8 +14,6 @@ mod ordering;
 mod overlap;
 mod refusal;
 pub mod refusal_code;
-#[cfg(test)]
-mod tests;
 mod text;
 mod unit_map;
 

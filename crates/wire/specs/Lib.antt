@@ -10,4 +10,3 @@ pub mod Reading
 pub mod Writing
 pub mod Replies
 pub mod Cores
-pub mod ToyCores

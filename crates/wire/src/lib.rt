@@ -4,28 +4,16 @@
 
 mod codes;
 mod input;
-#[cfg(test)]
-mod line_tests;
 mod lines;
 mod lists;
 mod members;
 mod message;
-#[cfg(test)]
-mod message_tests;
 mod node_core;
 mod notice;
 mod reading;
 mod reading_records;
-#[cfg(test)]
-mod record_tests;
 mod reply;
 mod reply_code;
-#[cfg(test)]
-mod reply_tests;
-#[cfg(test)]
-mod toy_core;
-#[cfg(test)]
-mod value_tests;
 mod values;
 mod writing;
 mod writing_records;

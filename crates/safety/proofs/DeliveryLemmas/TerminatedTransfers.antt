@@ -99,12 +99,12 @@ module _ (w : World) (sound : Sound w) (placed : AllPlaced w) where
       let committed = came (message.Proposal p) moment refl in
       let live = live_sends w p.from (message.Proposal p) committed in
       terminated_codes p found findings (subst (λ z. In (message.Proposal p) (sends (live_of w z))) from live) none n h
-  move_fair input x came (passes k moment q new old member right move) n (inl e) = λ found code said i.
+  move_fair input x came (passes k moment q held new old kept member right move) n (inl e) = λ found code said i.
       passed_on q.new (notice_status k.notice) new move (ap notice_status (ap (λ (z : Notification). z.notice) (one_notice _ n e) ∙ said))
-  move_fair input x came (passes k moment q new old member right move) n (inr h) = absurd h
-  move_fair input x came (cancels given moment t q why old was) n (inl e) = cancels_fair _ n refl e
-  move_fair input x came (cancels given moment t q why old was) n (inr (inl e)) = cancels_fair _ n refl e
-  move_fair input x came (cancels given moment t q why old was) n (inr (inr h)) = absurd h
+  move_fair input x came (passes k moment q held new old kept member right move) n (inr h) = absurd h
+  move_fair input x came (cancels given moment t q held why old kept was) n (inl e) = cancels_fair _ n refl e
+  move_fair input x came (cancels given moment t q held why old kept was) n (inr (inl e)) = cancels_fair _ n refl e
+  move_fair input x came (cancels given moment t q held why old kept was) n (inr (inr h)) = absurd h
   move_fair input x came (forestalls r moment from member none) n (inl e) = cancels_fair _ n refl e
   move_fair input x came (forestalls r moment from member none) n (inr h) = absurd h
 

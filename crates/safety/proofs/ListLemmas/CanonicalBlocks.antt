@@ -6,12 +6,11 @@ use Rattle.std.proofs.Common.{◌≡◌, ℕ, zero, suc, ◌+◌, ◌-◌, ◌�
 use Rattle.std.specs.Prelude.{◌||◌, ◌==◌, nat_lt}
 use Rattle.std.specs.List.{list_any, count_by}
 use Rattle.std.proofs.lemmas.Bool.{cases_Bool, and_parts, or_parts, eqb-true, ltb-false}
-use Rattle.units.proofs.Same.{code_of_same}
+use Rattle.units.proofs.Same.{code_of_same, kind_of_same, period_of_same}
 use Rattle.units.specs.Code.{same_code}
 use Rattle.units.specs.Unit.{same_period, same_kind}
 use Rattle.units.specs.declared.block.RawBlock.{RawBlock}
 use Rattle.units.specs.declared.block.Unit.{Unit as Serial}
-use Rattle.status.proofs.Contents.{kind_of_same}
 use Rattle.protocol.specs.Checks.{is_out_of_range}
 use Rattle.units.specs.Canonical.{canonical, put_block, join_block, in_order, joined, comes_before, goes_on}
 use Rattle.units.specs.Unit.{have_unit}
@@ -19,7 +18,7 @@ use Rattle.protocol.specs.Pieces.{Piece, piece, pieces, pieces_of, repeats, same
 use Rattle.lemmas.proofs.SomePass.{list_any_some, list_any_none, list_any_not}
 use Rattle.safety.proofs.ListLemmas.CountsInLists.{count_yes, count_no, number_none, number_append, number_one}
 use Rattle.lemmas.proofs.Membership.{In, In_cases, In_left, In_right}
-use Rattle.safety.proofs.ListLemmas.UnitsOfBlocks.{period_of_same, unit_of_same, same_unit_refl, piece_of}
+use Rattle.safety.proofs.ListLemmas.UnitsOfBlocks.{unit_of_same, same_unit_refl, piece_of}
 
 abbrev is_at : Serial → Piece → Bool
 is_at s p = same_unit p.unit s

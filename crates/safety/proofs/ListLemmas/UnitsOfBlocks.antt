@@ -2,7 +2,7 @@
 use Rattle.std.proofs.Common.{◌≡◌, ℕ, zero, suc, ◌+◌, ◌-◌, ◌<◌, ◌≤◌, List, [], ◌∷◌, Bool, true, false, inl, inr, refl, sym, ap, subst, arith}
 use Rattle.std.specs.Prelude.{◌||◌, ◌==◌, nat_le}
 use Rattle.std.proofs.lemmas.Bool.{cases_Bool, and_parts, and_from, eq-eqb, eqb-true, eqb-false, le-leb, leb-true}
-use Rattle.units.proofs.Same.{code_of_same, same_code-refl}
+use Rattle.units.proofs.Same.{code_of_same, period_of_same, same_code-refl, same_period-refl}
 use Rattle.units.specs.Code.{same_code}
 use Rattle.units.specs.Unit.{has_unit, same_period, period_index, have_unit}
 use Rattle.units.specs.declared.block.Period.{Period}
@@ -11,12 +11,6 @@ use Rattle.units.specs.declared.block.RawBlock.{RawBlock}
 use Rattle.units.specs.declared.block.Unit.{Unit as Serial}
 use Rattle.protocol.specs.Pieces.{Piece, piece, pieces, pieces_of, same_unit, up_from}
 use Rattle.lemmas.proofs.Membership.{In, In_cases, In_left, In_right, In_map, map_In}
-
-pub period_of_same : (p q : Period) → same_period p q ≡ true → p ≡ q
-period_of_same First First e = refl
-period_of_same First Second e = absurd (cc)
-period_of_same Second First e = absurd (cc)
-period_of_same Second Second e = refl
 
 pub unit_of_same : (a b : Serial) → same_unit a b ≡ true → a ≡ b
 unit_of_same a b e =
@@ -28,7 +22,7 @@ unit_of_same a b e =
     λ i. record { origin = o i; period = p i; number = n i }
 
 pub same_unit_refl : (s : Serial) → same_unit s s ≡ true
-same_unit_refl s = and_from (same_code s.origin s.origin) _ (same_code-refl s.origin) (and_from (same_period s.period s.period) (s.number == s.number) (eq-eqb (period_index s.period) (period_index s.period) refl) (eq-eqb s.number s.number refl))
+same_unit_refl s = and_from (same_code s.origin s.origin) _ (same_code-refl s.origin) (and_from (same_period s.period s.period) (s.number == s.number) (same_period-refl s.period) (eq-eqb s.number s.number refl))
 
 -- ---- the numbers of a block
 

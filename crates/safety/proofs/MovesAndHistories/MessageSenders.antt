@@ -45,11 +45,11 @@ sender_checked t k (c ∷ cs) = refl
 sender_log : (scheme : Scheme) (es : List Entry) (input : Input) (x : Transition) (m : Message) → LogMove scheme es input x → In m x.messages → sender m ≡ Itl
 sender_log scheme es input x m (checks p moment found f s is none member) (inl e) = ap sender (sym e) ∙ sender_checked p.id p.content found
 sender_log scheme es input x m (checks p moment found f s is none member) (inr h) = absurd h
-sender_log scheme es input x m (passes n moment q new old member right move) (inl e) = ap sender (sym e)
-sender_log scheme es input x m (passes n moment q new old member right move) (inr h) = absurd h
-sender_log scheme es input x m (cancels given moment t q why old was) (inl e) = ap sender (sym e)
-sender_log scheme es input x m (cancels given moment t q why old was) (inr (inl e)) = ap sender (sym e)
-sender_log scheme es input x m (cancels given moment t q why old was) (inr (inr h)) = absurd h
+sender_log scheme es input x m (passes n moment q held new old kept member right move) (inl e) = ap sender (sym e)
+sender_log scheme es input x m (passes n moment q held new old kept member right move) (inr h) = absurd h
+sender_log scheme es input x m (cancels given moment t q held why old kept was) (inl e) = ap sender (sym e)
+sender_log scheme es input x m (cancels given moment t q held why old kept was) (inr (inl e)) = ap sender (sym e)
+sender_log scheme es input x m (cancels given moment t q held why old kept was) (inr (inr h)) = absurd h
 sender_log scheme es input x m (forestalls r moment f member none) (inl e) = ap sender (sym e)
 sender_log scheme es input x m (forestalls r moment f member none) (inr h) = absurd h
 

@@ -8,6 +8,7 @@ use Rattle.std.proofs.lemmas.Bool.{cond-true, cond-false, cases_Bool}
 use Rattle.units.specs.declared.code.Code.{Code}
 use Rattle.units.specs.declared.code.Node.{Node}
 use Rattle.units.specs.declared.code.Node.TheVariants.{Itl, Registry}
+use Rattle.status.proofs.Ids.{id_of_same, same_id-refl}
 use Rattle.status.specs.Content.{Content}
 use Rattle.status.specs.Id.{same_id}
 use Rattle.status.specs.declared.id.TransactionId.{TransactionId}
@@ -25,7 +26,6 @@ use Rattle.scheme.specs.declared.registries.Scheme.{Scheme}
 use Rattle.protocol.specs.History.{Transition, Entry, newest, stands}
 use Rattle.protocol.specs.Verdict.{verdict, made}
 use Rattle.lemmas.proofs.Membership.{In, In_find}
-use Rattle.safety.proofs.ListLemmas.TestsOfSameness.{id_of_same, same_id_refl}
 use Rattle.safety.proofs.MovesAndHistories.TableMoves.{RegistryMove, LogMove, registry_moves, log_moves}
 
 -- each entry's transitions are those of its input after the older ones
@@ -100,7 +100,7 @@ pub newest_in : (xs rest : List Transition) (q : Transition) (t : TransactionId)
 newest_in [] rest q t h e = absurd h
 newest_in (p ∷ ps) rest q t (inl i) e =
     let j : p.id ≡ t = ap (λ (z : Transition). z.id) i ∙ e in
-    (p, inl refl, j, cond-true (same_id p.id t) (Some p) (newest (ps ++ rest) t) (subst (λ (z : TransactionId). same_id p.id z ≡ true) j (same_id_refl p.id)))
+    (p, inl refl, j, cond-true (same_id p.id t) (Some p) (newest (ps ++ rest) t) (subst (λ (z : TransactionId). same_id p.id z ≡ true) j (same_id-refl p.id)))
 newest_in (p ∷ ps) rest q t (inr i) e =
     elim (cases_Bool (same_id p.id t)) [
       | inl y ↦ (p, inl refl, id_of_same p.id t y, cond-true (same_id p.id t) (Some p) (newest (ps ++ rest) t) y)

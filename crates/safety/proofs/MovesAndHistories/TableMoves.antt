@@ -11,6 +11,7 @@ use Rattle.units.specs.Code.{same_code}
 use Rattle.units.specs.declared.code.Code.{Code}
 use Rattle.units.specs.declared.code.Node.TheVariants.{Itl, Registry}
 use Rattle.units.proofs.Same.{node_of_same}
+use Rattle.status.proofs.Ids.{same_id-refl, id_of_same}
 use Rattle.status.specs.Content.{Content}
 use Rattle.status.specs.Id.{same_id, id_at, id_cmp}
 use Rattle.status.specs.Order.{Order}
@@ -47,9 +48,8 @@ use Rattle.protocol.specs.AtRegistry.{holding, content_of, offer, arrival, in_ro
 use Rattle.protocol.specs.AtLog as log
 use Rattle.protocol.specs.AtLog.{ledger, is_proposed, is_no_registry, is_from_another, log_refusals, log_answer, log_message, newest_of_each, is_old, put_transition, by_id, cleaned, due, clean_up, same_bool, eligible_refusals, log_verdict}
 use Rattle.protocol.specs.Verdict.{made}
-use Rattle.safety.proofs.MovesAndHistories.TransitionForms.{moved, proposed, asking, arrived, settled_messages, bare, checked, acquirer_of, told_to, cancelled, forestalled}
+use Rattle.safety.proofs.MovesAndHistories.TransitionForms.{moved, proposed, asking, arrived, settled_messages, bare, checked, told_to, cancelled, forestalled}
 use Rattle.lemmas.proofs.Membership.{In, In_cond, In_filter, In_flat_map}
-use Rattle.safety.proofs.ListLemmas.TestsOfSameness.{same_id_refl, id_of_same}
 use Rattle.safety.proofs.MovesAndHistories.TableRows.{nothing_known, status_known, initiator_proposes, initiator_asks, initiator_asks_once, initiator_unasked, acquirer_unasked, initiator_notified, log_notified, acquirer_notified, log_asked, log_cleans, acquirer_offered, log_offered, unless_moves, settled_sends, passed_sends}
 
 -- none of the causes stands
@@ -82,11 +82,11 @@ pub data LogMove (scheme : Scheme) (es : List Entry) : Input → Transition → 
   checks : (p : Proposal) (moment : Moment) (found : List ℕ) → p.from ≡ Registry p.id.code → p.status ≡ proposal.Proposed → found ≡ log_findings scheme (ledger scheme es) p.id.code p.content
       → newest (transitions_of es) p.id ≡ None → is_no_registry scheme p.from ≡ false
       → LogMove scheme es (Received (message.Proposal p) moment) (checked p.id p.content moment.seconds found)
-  passes : (n : Notification) (moment : Moment) (x : Transition) (new : Status) → newest (transitions_of es) n.id ≡ Some x → is_no_registry scheme n.from ≡ false
+  passes : (n : Notification) (moment : Moment) (x : Transition) (k : Content) (new : Status) → newest (transitions_of es) n.id ≡ Some x → x.content ≡ Some k → is_no_registry scheme n.from ≡ false
       → is_from_another n.from n.id x.content (notice_status n.notice) ≡ false → log_row (Stands x.new) (Notified (notice_status n.notice)) ≡ Move new
-      → LogMove scheme es (Received (message.Notification n) moment) (moved x new moment.seconds (notifies Itl (told_to x new) x.id n.notice ∷ []))
-  cancels : (given : Input) (moment : Moment) (t : TransactionId) (x : Transition) → Withdraws given t moment → newest (transitions_of es) t ≡ Some x → x.new ≡ Checked
-      → LogMove scheme es given (cancelled moment.seconds x)
+      → LogMove scheme es (Received (message.Notification n) moment) (moved x new moment.seconds (notifies Itl (told_to x.id k new) x.id n.notice ∷ []))
+  cancels : (given : Input) (moment : Moment) (t : TransactionId) (x : Transition) (k : Content) → Withdraws given t moment → newest (transitions_of es) t ≡ Some x → x.content ≡ Some k
+      → x.new ≡ Checked → LogMove scheme es given (cancelled moment.seconds x k)
   forestalls : (r : Asking) (moment : Moment) → r.from ≡ Registry r.id.code → is_no_registry scheme r.from ≡ false → newest (transitions_of es) r.id ≡ None
       → LogMove scheme es (Received (message.Request r) moment) (forestalled r.id moment.seconds)
 
@@ -144,10 +144,10 @@ settled_transition c t x told new moment id row =
     same_moved t x.id x.content x.content moment _ _ new (sym id) refl (settled_sends c t x.content x.new told new row ∙ ap (λ z. settled_messages c z new) (sym id))
 
 pub passed_transition : (t : TransactionId) (x : Transition) (k : Content) (said : Notice) (new : Status) (moment : ℕ) → x.id ≡ t → x.content ≡ Some k → log_row (Stands x.new) (Notified (notice_status said)) ≡ Move new
-    → decide.moved t x.content moment (log_sends t x.content (notice_codes said) (Notified (notice_status said))) new ≡ moved x new moment (notifies Itl (told_to x new) x.id said ∷ [])
+    → decide.moved t x.content moment (log_sends t x.content (notice_codes said) (Notified (notice_status said))) new ≡ moved x new moment (notifies Itl (told_to x.id k new) x.id said ∷ [])
 passed_transition t x k said new moment id content row =
     same_moved t x.id x.content x.content moment _ _ new (sym id) refl
-    (ap (λ z. log_sends t z (notice_codes said) (Notified (notice_status said))) content ∙ ap (λ z. log_sends z (Some k) (notice_codes said) (Notified (notice_status said))) (sym id) ∙ passed_sends x k said new content row)
+    (ap (λ z. log_sends t z (notice_codes said) (Notified (notice_status said))) content ∙ ap (λ z. log_sends z (Some k) (notice_codes said) (Notified (notice_status said))) (sym id) ∙ passed_sends x k said new row)
 
 pub finished_transition : (t : TransactionId) (x : Transition) (new : Status) (moment : ℕ) → x.id ≡ t → decide.moved t x.content moment [] new ≡ moved x new moment []
 finished_transition t x new moment id = same_moved t x.id x.content x.content moment [] [] new (sym id) refl refl
@@ -311,7 +311,7 @@ module _ (scheme : Scheme) (c : Code) (es : List Entry) where
 -- the newest transition of an identifier that some transition has
 pub newest_some : (xs : List Transition) (x : Transition) → In x xs → (y : Transition) × (newest xs x.id ≡ Some y)
 newest_some [] x h = absurd h
-newest_some (p ∷ ps) x (inl e) = (p, cond-true (same_id p.id x.id) (Some p) (newest ps x.id) (subst (λ (z : Transition). same_id p.id z.id ≡ true) e (same_id_refl p.id)))
+newest_some (p ∷ ps) x (inl e) = (p, cond-true (same_id p.id x.id) (Some p) (newest ps x.id) (subst (λ (z : Transition). same_id p.id z.id ≡ true) e (same_id-refl p.id)))
 newest_some (p ∷ ps) x (inr i) =
     let rest = newest_some ps x i in
     elim (cases_Bool (same_id p.id x.id)) [
@@ -345,19 +345,17 @@ module _ (scheme : Scheme) (es : List Entry) where
       let row : log_row (Stands q.new) (Notified told) ≡ Move g.0 = ap (λ z. log_row z (Notified told)) (ap Stands r.new ∙ sym k.1) ∙ g.1 in
       let id : q.id ≡ n.id = of_newest (transitions_of es) n.id q (e ∙ r.is) in
       let content : q.content ≡ content_in last = sym (ap content_in r.is) in
-      let sent : notifies Itl (told_to q g.0) q.id n.notice ∷ [] ≡ ms =
-      sym (passed_sends q r.content n.notice g.0 r.known row) ∙ ap (λ z. log_sends z (Some r.content) (notice_codes n.notice) (Notified told)) id
+      let sent : notifies Itl (told_to q.id r.content g.0) q.id n.notice ∷ [] ≡ ms =
+      sym (passed_sends q r.content n.notice g.0 row) ∙ ap (λ z. log_sends z (Some r.content) (notice_codes n.notice) (Notified told)) id
       ∙ ap (λ z. log_sends n.id z (notice_codes n.notice) (Notified told)) (sym r.known ∙ content) in
       subst (λ y. LogMove scheme es (Received (message.Notification n) moment) y)
-      (same_moved q.id n.id q.content (content_in last) moment.seconds (notifies Itl (told_to q g.0) q.id n.notice ∷ []) ms g.0 id content sent ∙ g.2)
-      (passes n moment q g.0 (e ∙ r.is) b (subst (λ z. is_from_another n.from n.id z told ≡ false) (sym content) a) row)
+      (same_moved q.id n.id q.content (content_in last) moment.seconds (notifies Itl (told_to q.id r.content g.0) q.id n.notice ∷ []) ms g.0 id content sent ∙ g.2)
+      (passes n moment q r.content g.0 (e ∙ r.is) r.known b (subst (λ z. is_from_another n.from n.id z told ≡ false) (sym content) a) row)
 
   -- what goes out where the transaction is cancelled
-  cancelled_sends : (t : TransactionId) (q : Transition) (k : Content) (input : List Message) → q.id ≡ t → q.content ≡ Some k
-      → notifies Itl (Registry q.id.code) q.id notice.Cancelled ∷ notifies Itl (acquirer_of q.content) q.id notice.Cancelled ∷ [] ≡ log_sends t (Some k) [] column.Request
-  cancelled_sends t q k input id content =
-      ap (λ z. notifies Itl (Registry z.code) z notice.Cancelled ∷ notifies Itl (acquirer_of q.content) z notice.Cancelled ∷ []) id
-      ∙ ap (λ z. notifies Itl (Registry t.code) t notice.Cancelled ∷ notifies Itl (acquirer_of z) t notice.Cancelled ∷ []) content
+  cancelled_sends : (t : TransactionId) (q : Transition) (k : Content) → q.id ≡ t
+      → notifies Itl (Registry q.id.code) q.id notice.Cancelled ∷ notifies Itl (Registry k.acquirer) q.id notice.Cancelled ∷ [] ≡ log_sends t (Some k) [] column.Request
+  cancelled_sends t q k id = ap (λ z. notifies Itl (Registry z.code) z notice.Cancelled ∷ notifies Itl (Registry k.acquirer) z notice.Cancelled ∷ []) id
 
   log_request_made : (r : Asking) (moment : Moment) (last : Option Transition) (x : Transition) → r.from ≡ Registry r.id.code → newest (transitions_of es) r.id ≡ last → is_no_registry scheme r.from ≡ false
       → In x (made (log.told scheme es r.id last [] moment.seconds column.Request)) → LogMove scheme es (Received (message.Request r) moment) x
@@ -378,10 +376,10 @@ module _ (scheme : Scheme) (es : List Entry) where
             let q = s.last in
             let id : q.id ≡ r.id = of_newest (transitions_of es) r.id q (e ∙ s.is) in
             let content : q.content ≡ content_in last = sym (ap content_in s.is) in
-            let sent = cancelled_sends r.id q s.content [] id s.known ∙ ap (λ z. log_sends r.id z [] column.Request) (sym s.known ∙ content) in
+            let sent = cancelled_sends r.id q s.content id ∙ ap (λ z. log_sends r.id z [] column.Request) (sym s.known ∙ content) in
             subst (λ y. LogMove scheme es (Received (message.Request r) moment) y)
             (same_moved q.id r.id q.content (content_in last) moment.seconds _ ms Cancelled id content sent ∙ ap to (sym k.1) ∙ g.2)
-            (cancels (Received (message.Request r) moment) moment r.id q (requested r moment f) (e ∙ s.is) s.new)
+            (cancels (Received (message.Request r) moment) moment r.id q s.content (requested r moment f) (e ∙ s.is) s.known s.new)
       ]
 
   proposed_told : (s : ProposalStatus) → not (is_proposed s) ≡ false → s ≡ proposal.Proposed
@@ -429,11 +427,11 @@ module _ (scheme : Scheme) (es : List Entry) where
   -- the newest of each is the newest
   In_newest : (x : Transition) (xs : List Transition) → In x (newest_of_each xs) → newest xs x.id ≡ Some x
   In_newest x [] h = absurd h
-  In_newest x (p ∷ ps) (inl e) = subst (λ (z : Transition). newest (p ∷ ps) z.id ≡ Some z) e (cond-true (same_id p.id p.id) (Some p) (newest ps p.id) (same_id_refl p.id))
+  In_newest x (p ∷ ps) (inl e) = subst (λ (z : Transition). newest (p ∷ ps) z.id ≡ Some z) e (cond-true (same_id p.id p.id) (Some p) (newest ps p.id) (same_id-refl p.id))
   In_newest x (p ∷ ps) (inr h) =
       let i = In_filter (λ y. not (same_id y.id p.id)) (newest_of_each ps) x h in
       let other : same_id p.id x.id ≡ false = elim (cases_Bool (same_id p.id x.id)) [
-        | inl y ↦ absurd (let z : same_id x.id p.id ≡ true = subst (λ w. same_id w p.id ≡ true) (id_of_same p.id x.id y) (same_id_refl p.id) in let v : not true ≡ true = ap not (sym z) ∙ i.1 in cc (v))
+        | inl y ↦ absurd (let z : same_id x.id p.id ≡ true = subst (λ w. same_id w p.id ≡ true) (id_of_same p.id x.id y) (same_id-refl p.id) in let v : not true ≡ true = ap not (sym z) ∙ i.1 in cc (v))
         | inr n ↦ n
       ] in
       cond-false (same_id p.id x.id) (Some p) (newest ps x.id) other ∙ In_newest x ps i.0
@@ -449,7 +447,7 @@ module _ (scheme : Scheme) (es : List Entry) where
   moved_by_made to Refused x h = absurd h
 
   -- what a clean-up cancels is Checked
-  pub cleaned_made : (moment : ℕ) (q x : Transition) → In x (cleaned moment q) → (q.new ≡ Checked) × (cancelled moment q ≡ x)
+  pub cleaned_made : (moment : ℕ) (q x : Transition) → In x (cleaned moment q) → (k : Content) × (q.content ≡ Some k) × (q.new ≡ Checked) × (cancelled moment q k ≡ x)
   cleaned_made moment q x h =
       let ms = log_sends q.id q.content [] column.CleanUp in
       let to = decide.moved q.id q.content moment ms in
@@ -458,8 +456,8 @@ module _ (scheme : Scheme) (es : List Entry) where
       let r = status_known (Some q) Checked k.0 in
       let same : q ≡ r.last = let e = r.is in cc (e) in
       let content : q.content ≡ Some r.content = ap (λ (z : Transition). z.content) same ∙ r.known in
-      let sent = cancelled_sends q.id q r.content [] refl content ∙ ap (λ z. log_sends q.id z [] column.CleanUp) (sym content) in
-      (ap (λ (z : Transition). z.new) same ∙ r.new, same_moved q.id q.id q.content q.content moment _ ms Cancelled refl refl sent ∙ ap to (sym k.1) ∙ g.2)
+      let sent = cancelled_sends q.id q r.content refl ∙ ap (λ z. log_sends q.id z [] column.CleanUp) (sym content) in
+      (r.content, content, ap (λ (z : Transition). z.new) same ∙ r.new, same_moved q.id q.id q.content q.content moment _ ms Cancelled refl refl sent ∙ ap to (sym k.1) ∙ g.2)
 
   pub log_moves : (input : Input) (x : Transition) → In x (made (log_verdict scheme es input)) → LogMove scheme es input x
   log_moves (CleanUp moment) x h =
@@ -468,7 +466,7 @@ module _ (scheme : Scheme) (es : List Entry) where
       let g = In_flat_map (cleaned moment.seconds) x (by_id old) (clean_made (due all moment.seconds) x h) in
       let i = In_filter (is_old moment.seconds) (newest_of_each all) g.0 (In_by_id g.0 old g.1) in
       let m = cleaned_made moment.seconds g.0 x g.2 in
-      subst (λ q. LogMove scheme es (CleanUp moment) q) m.1 (cancels (CleanUp moment) moment g.0.id g.0 (cleans moment g.0.id) (In_newest g.0 all i.0) m.0)
+      subst (λ q. LogMove scheme es (CleanUp moment) q) m.3 (cancels (CleanUp moment) moment g.0.id g.0 m.0 (cleans moment g.0.id) (In_newest g.0 all i.0) m.1 m.2)
   log_moves (Eligible c may) x h =
       let g = refuse_made (eligible_refusals scheme c) (cond (same_bool (is_eligible scheme es c) may) IsRepeat (enters scheme es [])) x h in
       elim (choice_made (same_bool (is_eligible scheme es c) may) IsRepeat (enters scheme es []) x g.1) [

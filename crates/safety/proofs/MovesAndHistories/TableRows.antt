@@ -1,9 +1,9 @@
 -- The rows of the status tables, read backwards: if a row moves, which status it started from, which word it
 -- answered and where it leads. Each lemma goes through all statuses of one table, and `cc` refutes the cases that
--- the table does not have. The lemmas about `Known` also cover transactions that are unknown, or known without a
+-- the table does not have; of a column without a word, the rows that move are computed (`one_moves`). The lemmas about `Known` also cover transactions that are unknown, or known without a
 -- content. The last section shows which inputs always have a row, so that the table is no cause of a refusal.
-use Rattle.std.proofs.Common.{◌≡◌, ◌⊎◌, ℕ, List, [], ◌∷◌, Bool, true, false, Option, Some, None, inl, inr, refl, sym, ap, subst}
-use Rattle.std.specs.Prelude.{◌&&◌}
+use Rattle.std.proofs.Common.{◌≡◌, ◌⊎◌, ℕ, List, [], ◌∷◌, Bool, true, false, Option, Some, None, inl, inr, refl, sym, ap, subst, ◌∙◌}
+use Rattle.std.specs.Prelude.{◌&&◌, filter}
 use Rattle.std.specs.Option.{option_map_or}
 use Rattle.units.specs.declared.code.Code.{Code}
 use Rattle.units.specs.declared.code.Node.TheVariants.{Itl}
@@ -25,7 +25,8 @@ use Rattle.protocol.specs.AtRegistry.{unless_held}
 use Rattle.protocol.specs.Deciding.{known, content_in, offered}
 use Rattle.protocol.specs.Effects.{notifies, initiator_sends, log_sends}
 use Rattle.protocol.specs.History.{Transition}
-use Rattle.safety.proofs.MovesAndHistories.TransitionForms.{settled_messages, acquirer_of, told_to}
+use Rattle.lemmas.proofs.Membership.{In, filter_In}
+use Rattle.safety.proofs.MovesAndHistories.TransitionForms.{settled_messages, told_to}
 
 pub log_from : (a told new : Status) → log_row (Stands a) (Notified told) ≡ Move new
     → ((a ≡ Checked) × (new ≡ told) × ((told ≡ Accepted) ⊎ (told ≡ Rejected))) ⊎ ((a ≡ Accepted) × (new ≡ Completed) × (told ≡ Completed))
@@ -105,60 +106,63 @@ known_status x k e = ap (λ (o : Option Content). option_map_or (λ c. Stands x.
 
 -- ---- rows that move, whatever is known
 
+-- whatever can be known of a transaction
+every : List Known
+every = Unknown ∷ Bare ∷ Stands Proposed ∷ Stands Checked ∷ Stands Accepted ∷ Stands Rejected ∷ Stands Terminated ∷ Stands Cancelled ∷ Stands Completed ∷ []
+
+in_every : (k : Known) → In k every
+unfolding every
+in_every Unknown = inl refl
+in_every Bare = inr (inl refl)
+in_every (Stands Proposed) = inr (inr (inl refl))
+in_every (Stands Checked) = inr (inr (inr (inl refl)))
+in_every (Stands Accepted) = inr (inr (inr (inr (inl refl))))
+in_every (Stands Rejected) = inr (inr (inr (inr (inr (inl refl)))))
+in_every (Stands Terminated) = inr (inr (inr (inr (inr (inr (inl refl))))))
+in_every (Stands Cancelled) = inr (inr (inr (inr (inr (inr (inr (inl refl)))))))
+in_every (Stands Completed) = inr (inr (inr (inr (inr (inr (inr (inr (inl refl))))))))
+
+abbrev moves : Row → Bool
+moves (Move new) = true
+moves _ = false
+
+-- the rows of a column that move, by what is known
+abbrev Moving : (Known → Row) → List Known
+Moving row = filter (λ k. moves (row k)) every
+
+moving : (row : Known → Row) (k : Known) (new : Status) → row k ≡ Move new → In k (Moving row)
+moving row k new h = filter_In (λ o. moves (row o)) k every (in_every k) (ap moves h)
+
+-- a column with one row that moves
+one_moves : (row : Known → Row) (old : Known) (to : Status) → Moving row ≡ old ∷ [] → row old ≡ Move to → (k : Known) (new : Status) → row k ≡ Move new → (k ≡ old) × (new ≡ to)
+one_moves row old to only there k new h = elim (subst (In k) only (moving row k new h)) [
+  | inl e ↦ let m : Move to ≡ Move new = sym there ∙ ap row e ∙ h in (sym e, cc (m))
+  | inr none ↦ absurd none
+]
+
 pub initiator_proposes : (k : Known) (new : Status) → initiator_row k Propose ≡ Move new → (k ≡ Unknown) × (new ≡ Proposed)
-initiator_proposes Unknown new h = (refl, cc)
-initiator_proposes Bare new h = absurd (cc (h))
-initiator_proposes (Stands Proposed) new h = absurd (cc (h))
-initiator_proposes (Stands Checked) new h = absurd (cc (h))
-initiator_proposes (Stands Accepted) new h = absurd (cc (h))
-initiator_proposes (Stands Rejected) new h = absurd (cc (h))
-initiator_proposes (Stands Terminated) new h = absurd (cc (h))
-initiator_proposes (Stands Cancelled) new h = absurd (cc (h))
-initiator_proposes (Stands Completed) new h = absurd (cc (h))
+unfolding every
+initiator_proposes = one_moves (λ k. initiator_row k Propose) Unknown Proposed refl refl
 
 pub initiator_asks : (k : Known) (new : Status) → initiator_row k RequestOrder ≡ Move new → (k ≡ Stands Proposed) × (new ≡ Proposed)
-initiator_asks Unknown new h = absurd (cc (h))
-initiator_asks Bare new h = absurd (cc (h))
-initiator_asks (Stands Proposed) new h = (refl, cc)
-initiator_asks (Stands Checked) new h = absurd (cc (h))
-initiator_asks (Stands Accepted) new h = absurd (cc (h))
-initiator_asks (Stands Rejected) new h = absurd (cc (h))
-initiator_asks (Stands Terminated) new h = absurd (cc (h))
-initiator_asks (Stands Cancelled) new h = absurd (cc (h))
-initiator_asks (Stands Completed) new h = absurd (cc (h))
+unfolding every
+initiator_asks = one_moves (λ k. initiator_row k RequestOrder) (Stands Proposed) Proposed refl refl
+
+pub log_cleans : (k : Known) (new : Status) → log_row k CleanUp ≡ Move new → (k ≡ Stands Checked) × (new ≡ Cancelled)
+unfolding every
+log_cleans = one_moves (λ k. log_row k CleanUp) (Stands Checked) Cancelled refl refl
 
 pub initiator_asks_once : (k : Known) (new : Status) → initiator_row k RepeatedRequestOrder ≡ Move new → ⊥
-initiator_asks_once Unknown new h = cc (h)
-initiator_asks_once Bare new h = cc (h)
-initiator_asks_once (Stands Proposed) new h = cc (h)
-initiator_asks_once (Stands Checked) new h = cc (h)
-initiator_asks_once (Stands Accepted) new h = cc (h)
-initiator_asks_once (Stands Rejected) new h = cc (h)
-initiator_asks_once (Stands Terminated) new h = cc (h)
-initiator_asks_once (Stands Cancelled) new h = cc (h)
-initiator_asks_once (Stands Completed) new h = cc (h)
+unfolding every
+initiator_asks_once k new h = moving (λ o. initiator_row o RepeatedRequestOrder) k new h
 
 pub initiator_unasked : (k : Known) (new : Status) → initiator_row k Request ≡ Move new → ⊥
-initiator_unasked Unknown new h = cc (h)
-initiator_unasked Bare new h = cc (h)
-initiator_unasked (Stands Proposed) new h = cc (h)
-initiator_unasked (Stands Checked) new h = cc (h)
-initiator_unasked (Stands Accepted) new h = cc (h)
-initiator_unasked (Stands Rejected) new h = cc (h)
-initiator_unasked (Stands Terminated) new h = cc (h)
-initiator_unasked (Stands Cancelled) new h = cc (h)
-initiator_unasked (Stands Completed) new h = cc (h)
+unfolding every
+initiator_unasked k new h = moving (λ o. initiator_row o Request) k new h
 
 pub acquirer_unasked : (k : Known) (new : Status) → acquirer_row k Request ≡ Move new → ⊥
-acquirer_unasked Unknown new h = cc (h)
-acquirer_unasked Bare new h = cc (h)
-acquirer_unasked (Stands Proposed) new h = cc (h)
-acquirer_unasked (Stands Checked) new h = cc (h)
-acquirer_unasked (Stands Accepted) new h = cc (h)
-acquirer_unasked (Stands Rejected) new h = cc (h)
-acquirer_unasked (Stands Terminated) new h = cc (h)
-acquirer_unasked (Stands Cancelled) new h = cc (h)
-acquirer_unasked (Stands Completed) new h = cc (h)
+unfolding every
+acquirer_unasked k new h = moving (λ o. acquirer_row o Request) k new h
 
 pub initiator_notified : (k : Known) (told new : Status) → initiator_row k (Notified told) ≡ Move new → (a : Status) × (k ≡ Stands a)
 initiator_notified (Stands a) told new h = (a, refl)
@@ -221,17 +225,6 @@ log_asked (Stands Rejected) new h = absurd (cc (h))
 log_asked (Stands Terminated) new h = absurd (cc (h))
 log_asked (Stands Cancelled) new h = absurd (cc (h))
 log_asked (Stands Completed) new h = absurd (cc (h))
-
-pub log_cleans : (k : Known) (new : Status) → log_row k CleanUp ≡ Move new → (k ≡ Stands Checked) × (new ≡ Cancelled)
-log_cleans Unknown new h = absurd (cc (h))
-log_cleans Bare new h = absurd (cc (h))
-log_cleans (Stands Checked) new h = (refl, cc)
-log_cleans (Stands Proposed) new h = absurd (cc (h))
-log_cleans (Stands Accepted) new h = absurd (cc (h))
-log_cleans (Stands Rejected) new h = absurd (cc (h))
-log_cleans (Stands Terminated) new h = absurd (cc (h))
-log_cleans (Stands Cancelled) new h = absurd (cc (h))
-log_cleans (Stands Completed) new h = absurd (cc (h))
 
 -- a proposal of a transaction that is known moves nothing
 pub acquirer_offered : (x : Transition) (found : List ℕ) (new : Status) → acquirer_row (known (Some x)) (offered (content_in (Some x)) found) ≡ Move new → ⊥
@@ -314,24 +307,22 @@ settled_sends c t k a told new h = let m = initiator_from a told new h in subst 
         never Accepted Accepted h = cc (h)
         never _ _ h = cc (h)
 
-pub passed_sends : (x : Transition) (k : Content) (said : Notice) (new : Status) → x.content ≡ Some k → log_row (Stands x.new) (Notified (notice_status said)) ≡ Move new
-    → log_sends x.id (Some k) (notice_codes said) (Notified (notice_status said)) ≡ notifies Itl (told_to x new) x.id said ∷ []
-passed_sends x k said new e h = go said (log_from x.new (notice_status said) new h)
+pub passed_sends : (x : Transition) (k : Content) (said : Notice) (new : Status) → log_row (Stands x.new) (Notified (notice_status said)) ≡ Move new
+    → log_sends x.id (Some k) (notice_codes said) (Notified (notice_status said)) ≡ notifies Itl (told_to x.id k new) x.id said ∷ []
+passed_sends x k said new h = go said (log_from x.new (notice_status said) new h)
   where
     go : (said : Notice) → ((x.new ≡ Checked) × (new ≡ notice_status said) × ((notice_status said ≡ Accepted) ⊎ (notice_status said ≡ Rejected))) ⊎ ((x.new ≡ Accepted) × (new ≡ Completed) × (notice_status said ≡ Completed))
-        → log_sends x.id (Some k) (notice_codes said) (Notified (notice_status said)) ≡ notifies Itl (told_to x new) x.id said ∷ []
-    go notice.Accepted (inl m) = subst (λ s. log_sends x.id (Some k) [] (Notified Accepted) ≡ notifies Itl (told_to x s) x.id notice.Accepted ∷ []) (sym m.1) refl
+        → log_sends x.id (Some k) (notice_codes said) (Notified (notice_status said)) ≡ notifies Itl (told_to x.id k new) x.id said ∷ []
+    go notice.Accepted (inl m) = subst (λ s. log_sends x.id (Some k) [] (Notified Accepted) ≡ notifies Itl (told_to x.id k s) x.id notice.Accepted ∷ []) (sym m.1) refl
     go notice.Accepted (inr m) = absurd (let y = m.2 in cc (y))
-    go (notice.Rejected codes) (inl m) = subst (λ s. log_sends x.id (Some k) codes (Notified Rejected) ≡ notifies Itl (told_to x s) x.id (notice.Rejected codes) ∷ []) (sym m.1) refl
+    go (notice.Rejected codes) (inl m) = subst (λ s. log_sends x.id (Some k) codes (Notified Rejected) ≡ notifies Itl (told_to x.id k s) x.id (notice.Rejected codes) ∷ []) (sym m.1) refl
     go (notice.Rejected codes) (inr m) = absurd (let y = m.2 in cc (y))
     go (notice.Terminated codes) (inl m) = absurd (elim m.2 [ inl y ↦ cc (y) | inr y ↦ cc (y) ])
     go (notice.Terminated codes) (inr m) = absurd (let y = m.2 in cc (y))
     go notice.Cancelled (inl m) = absurd (elim m.2 [ inl y ↦ cc (y) | inr y ↦ cc (y) ])
     go notice.Cancelled (inr m) = absurd (let y = m.2 in cc (y))
     go notice.Completed (inl m) = absurd (elim m.2 [ inl y ↦ cc (y) | inr y ↦ cc (y) ])
-    go notice.Completed (inr m) =
-        subst (λ s. log_sends x.id (Some k) [] (Notified Completed) ≡ notifies Itl (told_to x s) x.id notice.Completed ∷ []) (sym m.1)
-        (subst (λ o. log_sends x.id (Some k) [] (Notified Completed) ≡ notifies Itl (acquirer_of o) x.id notice.Completed ∷ []) (sym e) refl)
+    go notice.Completed (inr m) = subst (λ s. log_sends x.id (Some k) [] (Notified Completed) ≡ notifies Itl (told_to x.id k s) x.id notice.Completed ∷ []) (sym m.1) refl
 
 pub unless_same : (held : Bool) (row : Row) → (row ≡ Move Completed → held ≡ false) → unless_held held row ≡ row
 unless_same false row h = refl

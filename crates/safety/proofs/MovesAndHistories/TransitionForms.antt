@@ -66,17 +66,13 @@ checked_message t k (c ∷ cs) = notifies Itl (Registry t.code) t (notice.Termin
 abbrev pub checked : TransactionId → Content → ℕ → List ℕ → Transition
 checked t k moment found = record { id = t; new = checked_status found; content = Some k; moment = moment; messages = checked_message t k found ∷ [] }
 
-abbrev pub acquirer_of : Option Content → Node
-acquirer_of None = Itl
-acquirer_of (Some k) = Registry k.acquirer
-
 -- to whom the log passes a notification on: Completed to the acquirer, all else to the initiator
-abbrev pub told_to : Transition → Status → Node
-told_to x Completed = acquirer_of x.content
-told_to x _ = Registry x.id.code
+abbrev pub told_to : TransactionId → Content → Status → Node
+told_to t k Completed = Registry k.acquirer
+told_to t k _ = Registry t.code
 
-abbrev pub cancelled : ℕ → Transition → Transition
-cancelled moment x = moved x Cancelled moment (notifies Itl (Registry x.id.code) x.id notice.Cancelled ∷ notifies Itl (acquirer_of x.content) x.id notice.Cancelled ∷ [])
+abbrev pub cancelled : ℕ → Transition → Content → Transition
+cancelled moment x k = moved x Cancelled moment (notifies Itl (Registry x.id.code) x.id notice.Cancelled ∷ notifies Itl (Registry k.acquirer) x.id notice.Cancelled ∷ [])
 
 -- cancelled at the log before its proposal came
 abbrev pub forestalled : TransactionId → ℕ → Transition

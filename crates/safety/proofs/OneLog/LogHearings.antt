@@ -56,9 +56,9 @@ module _ (scheme : Scheme) where
   backed_move : (es : List Entry) (e : Entry) (t : TransactionId) (input : Input) (x : Transition) → e.input ≡ input → LogMove scheme es input x → x.id ≡ t → IsAgreed x.new
       → ((q : Transition) → newest (transitions_of es) t ≡ Some q → IsAgreed q.new → Backed es t q) → Backed (e ∷ es) t x
   backed_move es e t input x i (checks p moment found f s is none member) same h older = absurd (checked_new found h)
-  backed_move es e t input x i (cancels given moment u q why old was) same h older = absurd h
+  backed_move es e t input x i (cancels given moment u q held why old kept was) same h older = absurd h
   backed_move es e t input x i (forestalls r moment f member none) same h older = absurd h
-  backed_move es e t input x i (passes n moment q new old member right move) same h older =
+  backed_move es e t input x i (passes n moment q held new old kept member right move) same h older =
       let about : n.id ≡ t = sym (newest_id (transitions_of es) n.id q old).1 ∙ same in
       elim (log_from q.new (notice_status n.notice) new move) [
         | inl m ↦
@@ -121,19 +121,19 @@ module _ (scheme : Scheme) where
       → (x.id ≡ n.id) × (x.new ≡ notice_status n.notice) × (notice_status n.notice ≡ Checked → ⊥)
   log_notice_move es input x n (checks p moment found f s is none member) h =
       let g = checked_notice p.id p.content found n h in (g.0, g.1, λ e. absurd (let y : Terminated ≡ Checked = sym g.2 ∙ e in cc (y)))
-  log_notice_move es input x n (passes m moment q new old member right move) (inr h) = absurd h
-  log_notice_move es input x n (passes m moment q new old member right move) (inl h) =
+  log_notice_move es input x n (passes m moment q held new old kept member right move) (inr h) = absurd h
+  log_notice_move es input x n (passes m moment q held new old kept member right move) (inl h) =
       let s = one_notice _ n h in
       let from = log_from q.new (notice_status m.notice) new move in
       let same : notice_status m.notice ≡ notice_status n.notice = ap (λ (z : Notification). notice_status z.notice) s in
       (ap (λ (z : Notification). z.id) s, new_told q.new (notice_status m.notice) new from ∙ same, λ e. told_new q.new new (notice_status m.notice) (new_told q.new (notice_status m.notice) new from) from (same ∙ e))
-  log_notice_move es input x n (cancels given moment t q why old was) (inl e) =
+  log_notice_move es input x n (cancels given moment t q held why old kept was) (inl e) =
       let s = one_notice _ n e in
       (ap (λ (z : Notification). z.id) s, ap (λ (z : Notification). notice_status z.notice) s, λ c. let y : Cancelled ≡ Checked = ap (λ (z : Notification). notice_status z.notice) s ∙ c in absurd (cc (y)))
-  log_notice_move es input x n (cancels given moment t q why old was) (inr (inl e)) =
+  log_notice_move es input x n (cancels given moment t q held why old kept was) (inr (inl e)) =
       let s = one_notice _ n e in
       (ap (λ (z : Notification). z.id) s, ap (λ (z : Notification). notice_status z.notice) s, λ c. let y : Cancelled ≡ Checked = ap (λ (z : Notification). notice_status z.notice) s ∙ c in absurd (cc (y)))
-  log_notice_move es input x n (cancels given moment t q why old was) (inr (inr h)) = absurd h
+  log_notice_move es input x n (cancels given moment t q held why old kept was) (inr (inr h)) = absurd h
   log_notice_move es input x n (forestalls r moment f member none) (inl e) =
       let s = one_notice _ n e in
       (ap (λ (z : Notification). z.id) s, ap (λ (z : Notification). notice_status z.notice) s, λ c. let y : Cancelled ≡ Checked = ap (λ (z : Notification). notice_status z.notice) s ∙ c in absurd (cc (y)))
@@ -161,11 +161,11 @@ module _ (scheme : Scheme) where
       let a : p ≡ p' = cc (e) in
       let b = ap (λ (z : Proposal). log_findings scheme (ledger scheme es) z.id.code z.content) a in
       (ap checked_status (is ∙ b ∙ sym is'), ap (λ (z : Proposal). Some z.content) a)
-  log_pair es i j x y e same (checks p moment found f s is none member) (passes n' moment' q' new' old' member' right' move') = absurd (cc (e))
-  log_pair es i j x y e same (checks p moment found f s is none member) (cancels given' moment' t' q' why' old' was') = no_proposal j t' moment' p moment why' (sym e)
+  log_pair es i j x y e same (checks p moment found f s is none member) (passes n' moment' q' held' new' old' kept' member' right' move') = absurd (cc (e))
+  log_pair es i j x y e same (checks p moment found f s is none member) (cancels given' moment' t' q' held' why' old' kept' was') = no_proposal j t' moment' p moment why' (sym e)
   log_pair es i j x y e same (checks p moment found f s is none member) (forestalls r' moment' f' member' none') = absurd (cc (e))
-  log_pair es i j x y e same (passes n moment q new old member right move) (checks p' moment' found' f' s' is' none' member') = absurd (cc (e))
-  log_pair es i j x y e same (passes n moment q new old member right move) (passes n' moment' q' new' old' member' right' move') =
+  log_pair es i j x y e same (passes n moment q held new old kept member right move) (checks p' moment' found' f' s' is' none' member') = absurd (cc (e))
+  log_pair es i j x y e same (passes n moment q held new old kept member right move) (passes n' moment' q' held' new' old' kept' member' right' move') =
       let a : n ≡ n' = cc (e) in
       let b : Some q ≡ Some q' = sym old ∙ ap (λ (z : Notification). newest (transitions_of es) z.id) a ∙ old' in
       let c : q ≡ q' = cc (b) in
@@ -173,16 +173,16 @@ module _ (scheme : Scheme) where
       let here = new_told q.new (notice_status n.notice) new (log_from q.new (notice_status n.notice) new move) in
       let there = new_told q'.new (notice_status n'.notice) new' (log_from q'.new (notice_status n'.notice) new' move') in
       (here ∙ told ∙ sym there, ap (λ (z : Transition). z.content) c)
-  log_pair es i j x y e same (passes n moment q new old member right move) (cancels given' moment' t' q' why' old' was') = no_notification j t' moment' n moment why' (sym e)
-  log_pair es i j x y e same (passes n moment q new old member right move) (forestalls r' moment' f' member' none') = absurd (cc (e))
-  log_pair es i j x y e same (cancels given moment t q why old was) (checks p' moment' found' f' s' is' none' member') = no_proposal i t moment p' moment' why e
-  log_pair es i j x y e same (cancels given moment t q why old was) (passes n' moment' q' new' old' member' right' move') = no_notification i t moment n' moment' why e
-  log_pair es i j x y e same (cancels given moment t q why old was) (forestalls r' moment' f' member' none') = known_and_new es t r'.id q (same_request i t moment r' moment' why e) old none'
+  log_pair es i j x y e same (passes n moment q held new old kept member right move) (cancels given' moment' t' q' held' why' old' kept' was') = no_notification j t' moment' n moment why' (sym e)
+  log_pair es i j x y e same (passes n moment q held new old kept member right move) (forestalls r' moment' f' member' none') = absurd (cc (e))
+  log_pair es i j x y e same (cancels given moment t q held why old kept was) (checks p' moment' found' f' s' is' none' member') = no_proposal i t moment p' moment' why e
+  log_pair es i j x y e same (cancels given moment t q held why old kept was) (passes n' moment' q' held' new' old' kept' member' right' move') = no_notification i t moment n' moment' why e
+  log_pair es i j x y e same (cancels given moment t q held why old kept was) (forestalls r' moment' f' member' none') = known_and_new es t r'.id q (same_request i t moment r' moment' why e) old none'
   log_pair es i j x y e same (forestalls r moment f member none) (checks p' moment' found' f' s' is' none' member') = absurd (cc (e))
-  log_pair es i j x y e same (forestalls r moment f member none) (passes n' moment' q' new' old' member' right' move') = absurd (cc (e))
-  log_pair es i j x y e same (forestalls r moment f member none) (cancels given' moment' t' q' why' old' was') = known_and_new es t' r.id q' (same_request j t' moment' r moment why' (sym e)) old' none
+  log_pair es i j x y e same (forestalls r moment f member none) (passes n' moment' q' held' new' old' kept' member' right' move') = absurd (cc (e))
+  log_pair es i j x y e same (forestalls r moment f member none) (cancels given' moment' t' q' held' why' old' kept' was') = known_and_new es t' r.id q' (same_request j t' moment' r moment why' (sym e)) old' none
   log_pair es i j x y e same (forestalls r moment f member none) (forestalls r' moment' f' member' none') = (refl, refl)
-  log_pair es i j x y e same (cancels given moment t q why old was) (cancels given' moment' t' q' why' old' was') =
+  log_pair es i j x y e same (cancels given moment t q held why old kept was) (cancels given' moment' t' q' held' why' old' kept' was') =
       let a : t ≡ t' = sym (newest_id (transitions_of es) t q old).1 ∙ same ∙ (newest_id (transitions_of es) t' q' old').1 in
       let b : Some q ≡ Some q' = sym old ∙ ap (newest (transitions_of es)) a ∙ old' in
       let c : q ≡ q' = cc (b) in
@@ -191,7 +191,7 @@ module _ (scheme : Scheme) where
   -- a later transition keeps it
   log_keeps : (es : List Entry) (input : Input) (x : Transition) (s : Status) → (s ≡ Checked → ⊥) → LogMove scheme es input x → IsPast s (newest (transitions_of es) x.id) → IsPast s (Some x)
   log_keeps es input x s not_checked (checks p moment found f t is none member) past = absurd (subst (IsPast s) none past)
-  log_keeps es input x s not_checked (passes n moment q new old member right move) past =
+  log_keeps es input x s not_checked (passes n moment q held new old kept member right move) past =
       let at_q : IsPast s (Some q) = subst (IsPast s) (subst (λ z. newest (transitions_of es) z ≡ Some q) (sym (newest_id (transitions_of es) n.id q old).1) old) past in
       elim (log_from q.new (notice_status n.notice) new move) [
         | inl m ↦
@@ -206,7 +206,7 @@ module _ (scheme : Scheme) where
             ]
       ]
   log_keeps es input x s not_checked (forestalls r moment f member none) past = absurd (subst (IsPast s) none past)
-  log_keeps es input x s not_checked (cancels given moment t q why old was) past =
+  log_keeps es input x s not_checked (cancels given moment t q held why old kept was) past =
       let at_q : IsPast s (Some q) = subst (IsPast s) (subst (λ z. newest (transitions_of es) z ≡ Some q) (sym (newest_id (transitions_of es) t q old).1) old) past in
       elim at_q [
         | inl e ↦ absurd (not_checked (sym e ∙ was))
@@ -253,23 +253,23 @@ module _ (scheme : Scheme) where
       offer [] (inr h) = absurd h
       offer (c ∷ cs) (inl e) = absurd (cc (e))
       offer (c ∷ cs) (inr h) = absurd h
-  log_offer_move es input x p (passes n moment q new old member right move) (inl e) = absurd (cc (e))
-  log_offer_move es input x p (passes n moment q new old member right move) (inr h) = absurd h
-  log_offer_move es input x p (cancels given moment t q why old was) (inl e) = absurd (cc (e))
-  log_offer_move es input x p (cancels given moment t q why old was) (inr (inl e)) = absurd (cc (e))
-  log_offer_move es input x p (cancels given moment t q why old was) (inr (inr h)) = absurd h
+  log_offer_move es input x p (passes n moment q held new old kept member right move) (inl e) = absurd (cc (e))
+  log_offer_move es input x p (passes n moment q held new old kept member right move) (inr h) = absurd h
+  log_offer_move es input x p (cancels given moment t q held why old kept was) (inl e) = absurd (cc (e))
+  log_offer_move es input x p (cancels given moment t q held why old kept was) (inr (inl e)) = absurd (cc (e))
+  log_offer_move es input x p (cancels given moment t q held why old kept was) (inr (inr h)) = absurd h
   log_offer_move es input x p (forestalls r moment f member none) (inl e) = absurd (cc (e))
   log_offer_move es input x p (forestalls r moment f member none) (inr h) = absurd h
 
   pub log_keeps_content : (es : List Entry) (input : Input) (x y : Transition) (k : Content) → LogMove scheme es input x → newest (transitions_of es) x.id ≡ Some y → y.content ≡ Some k → x.content ≡ Some k
   log_keeps_content es input x y k (checks p moment found f s is none member) h c = absurd (let e = sym none ∙ h in cc (e))
-  log_keeps_content es input x y k (passes n moment q new old member right move) h c =
+  log_keeps_content es input x y k (passes n moment q held new old kept member right move) h c =
       let a : newest (transitions_of es) q.id ≡ Some q = subst (λ z. newest (transitions_of es) z ≡ Some q) (sym (newest_id (transitions_of es) n.id q old).1) old in
       let e = sym a ∙ h in
       let b : q ≡ y = cc (e) in
       ap (λ (z : Transition). z.content) b ∙ c
   log_keeps_content es input x y k (forestalls r moment f member none) h c = absurd (let e = sym none ∙ h in cc (e))
-  log_keeps_content es input x y k (cancels given moment t q why old was) h c =
+  log_keeps_content es input x y k (cancels given moment t q held why old kept was) h c =
       let a : newest (transitions_of es) q.id ≡ Some q = subst (λ z. newest (transitions_of es) z ≡ Some q) (sym (newest_id (transitions_of es) t q old).1) old in
       let e = sym a ∙ h in
       let b : q ≡ y = cc (e) in

@@ -57,7 +57,7 @@ module _ (scheme : Scheme) (es : List Entry) where
   shape_answer (message.Request r) moment = shape_row _ (log_row (known (newest (transitions_of es) r.id)) Request)
 
   all_cleaned : (moment : ℕ) (qs : List Transition) → AllCancelled (flat_map (cleaned moment) qs)
-  all_cleaned moment qs x i = let g = In_flat_map (cleaned moment) x qs i in sym (ap (λ (z : Transition). z.new) (cleaned_made scheme es moment g.0 x g.2).1)
+  all_cleaned moment qs x i = let g = In_flat_map (cleaned moment) x qs i in sym (ap (λ (z : Transition). z.new) (cleaned_made scheme es moment g.0 x g.2).3)
 
   shape_clean : (xs : List Transition) → AllCancelled xs → AllCancelled (made_of (clean_up scheme es xs))
   shape_clean [] all x i = absurd i

@@ -24,7 +24,7 @@ use Rattle.protocol.specs.Checks.{has_other_kind, log_causes, log_findings}
 use Rattle.protocol.specs.History.{Transition, Entry, transitions_of, newest, sends, messages_of}
 use Rattle.protocol.specs.Pieces.{Piece, pieces, repeats}
 use Rattle.protocol.specs.Registries.{allotted, has_member}
-use Rattle.safety.proofs.MovesAndHistories.TransitionForms.{checked_status, checked_message, acquirer_of, told_to}
+use Rattle.safety.proofs.MovesAndHistories.TransitionForms.{checked_status, checked_message, told_to}
 use Rattle.safety.proofs.OneRegistry.TransactionEnds.{proposer, went_on}
 use Rattle.safety.proofs.MovesAndHistories.NewestTransitions.{Made, Heard, heard_later, made_log, newest_id, newest_append, newest_in, one_notice, one_proposal}
 use Rattle.safety.proofs.OneLog.LogInputs.{none_stand}
@@ -86,11 +86,11 @@ module _ (scheme : Scheme) where
       offer [] is (inr h) = absurd h
       offer (c ∷ cs) is (inl e) = absurd (cc (e))
       offer (c ∷ cs) is (inr h) = absurd h
-  passed_move es input x p (passes n moment q new old member right move) (inl e) = absurd (cc (e))
-  passed_move es input x p (passes n moment q new old member right move) (inr h) = absurd h
-  passed_move es input x p (cancels given moment t q why old was) (inl e) = absurd (cc (e))
-  passed_move es input x p (cancels given moment t q why old was) (inr (inl e)) = absurd (cc (e))
-  passed_move es input x p (cancels given moment t q why old was) (inr (inr h)) = absurd h
+  passed_move es input x p (passes n moment q held new old kept member right move) (inl e) = absurd (cc (e))
+  passed_move es input x p (passes n moment q held new old kept member right move) (inr h) = absurd h
+  passed_move es input x p (cancels given moment t q held why old kept was) (inl e) = absurd (cc (e))
+  passed_move es input x p (cancels given moment t q held why old kept was) (inr (inl e)) = absurd (cc (e))
+  passed_move es input x p (cancels given moment t q held why old kept was) (inr (inr h)) = absurd h
   passed_move es input x p (forestalls r moment f member none) (inl e) = absurd (cc (e))
   passed_move es input x p (forestalls r moment f member none) (inr h) = absurd h
 
@@ -107,7 +107,7 @@ module _ (scheme : Scheme) where
   -- what the log knows it doesn't terminate
   pub never_terminates : (es : List Entry) (input : Input) (x q : Transition) → LogMove scheme es input x → newest (transitions_of es) x.id ≡ Some q → x.new ≡ Terminated → ⊥
   never_terminates es input x q (checks p moment found f s is none member) h e = let z = sym none ∙ h in cc (z)
-  never_terminates es input x q (passes n moment p new old member right move) h e =
+  never_terminates es input x q (passes n moment p held new old kept member right move) h e =
       elim (log_from p.new (notice_status n.notice) new move) [
         | inl m ↦
             elim m.2 [
@@ -117,7 +117,7 @@ module _ (scheme : Scheme) where
         | inr m ↦ let y : Completed ≡ Terminated = sym m.1 ∙ e in cc (y)
       ]
   never_terminates es input x q (forestalls r moment f member none) h e = let y : Cancelled ≡ Terminated = e in cc (y)
-  never_terminates es input x q (cancels given moment t p why old was) h e = let y : Cancelled ≡ Terminated = e in cc (y)
+  never_terminates es input x q (cancels given moment t p held why old kept was) h e = let y : Cancelled ≡ Terminated = e in cc (y)
 
   -- a transfer that was passed on is not terminated
   pub passed_open : (es : List Entry) → Made scheme Itl es → (p : Proposal) → In (message.Proposal p) (sends es) → (x : Transition) × (newest (transitions_of es) p.id ≡ Some x) × (x.new ≡ Terminated → ⊥)
@@ -141,14 +141,14 @@ module _ (scheme : Scheme) where
 
   -- ---- notifications
 
-  passed_to : (q : Transition) (new : Status) (n : Notification) → q.id ≡ n.id → new ≡ notice_status n.notice → told_to q new ≡ n.to → (k : Content) → q.content ≡ Some k → ToInitiator n ⊎ ToAcquirer n q.content
-  passed_to q Completed n about said to k known = inr (record { said = inl (sym said); content = k; known = known; to = sym to ∙ ap acquirer_of known })
-  passed_to q Proposed n about said to k known = inl (record { said = λ e. let y : Proposed ≡ Completed = said ∙ e in cc (y); to = sym to ∙ ap (λ (z : TransactionId). Registry z.code) about })
-  passed_to q Checked n about said to k known = inl (record { said = λ e. let y : Checked ≡ Completed = said ∙ e in cc (y); to = sym to ∙ ap (λ (z : TransactionId). Registry z.code) about })
-  passed_to q Accepted n about said to k known = inl (record { said = λ e. let y : Accepted ≡ Completed = said ∙ e in cc (y); to = sym to ∙ ap (λ (z : TransactionId). Registry z.code) about })
-  passed_to q Rejected n about said to k known = inl (record { said = λ e. let y : Rejected ≡ Completed = said ∙ e in cc (y); to = sym to ∙ ap (λ (z : TransactionId). Registry z.code) about })
-  passed_to q Terminated n about said to k known = inl (record { said = λ e. let y : Terminated ≡ Completed = said ∙ e in cc (y); to = sym to ∙ ap (λ (z : TransactionId). Registry z.code) about })
-  passed_to q Cancelled n about said to k known = inl (record { said = λ e. let y : Cancelled ≡ Completed = said ∙ e in cc (y); to = sym to ∙ ap (λ (z : TransactionId). Registry z.code) about })
+  passed_to : (q : Transition) (new : Status) (n : Notification) → q.id ≡ n.id → new ≡ notice_status n.notice → (k : Content) → told_to q.id k new ≡ n.to → q.content ≡ Some k → ToInitiator n ⊎ ToAcquirer n q.content
+  passed_to q Completed n about said k to known = inr (record { said = inl (sym said); content = k; known = known; to = sym to })
+  passed_to q Proposed n about said k to known = inl (record { said = λ e. let y : Proposed ≡ Completed = said ∙ e in cc (y); to = sym to ∙ ap (λ (z : TransactionId). Registry z.code) about })
+  passed_to q Checked n about said k to known = inl (record { said = λ e. let y : Checked ≡ Completed = said ∙ e in cc (y); to = sym to ∙ ap (λ (z : TransactionId). Registry z.code) about })
+  passed_to q Accepted n about said k to known = inl (record { said = λ e. let y : Accepted ≡ Completed = said ∙ e in cc (y); to = sym to ∙ ap (λ (z : TransactionId). Registry z.code) about })
+  passed_to q Rejected n about said k to known = inl (record { said = λ e. let y : Rejected ≡ Completed = said ∙ e in cc (y); to = sym to ∙ ap (λ (z : TransactionId). Registry z.code) about })
+  passed_to q Terminated n about said k to known = inl (record { said = λ e. let y : Terminated ≡ Completed = said ∙ e in cc (y); to = sym to ∙ ap (λ (z : TransactionId). Registry z.code) about })
+  passed_to q Cancelled n about said k to known = inl (record { said = λ e. let y : Cancelled ≡ Completed = said ∙ e in cc (y); to = sym to ∙ ap (λ (z : TransactionId). Registry z.code) about })
 
   goes_move : (es : List Entry) (input : Input) (x : Transition) (n : Notification) → Made scheme Itl es → LogMove scheme es input x → In (message.Notification n) x.messages → ToInitiator n ⊎ ToAcquirer n x.content
   goes_move es input x n made (checks p moment found f s is none member) h = inl (go found h)
@@ -158,19 +158,17 @@ module _ (scheme : Scheme) where
       go [] (inr h) = absurd h
       go (c ∷ cs) (inl e) = let s = one_notice _ n e in subst ToInitiator s (record { said = λ d. let y : Terminated ≡ Completed = d in cc (y); to = refl })
       go (c ∷ cs) (inr h) = absurd h
-  goes_move es input x n made (passes m moment q new old member right move) (inl e) =
+  goes_move es input x n made (passes m moment q held new old kept member right move) (inl e) =
       let s = one_notice _ n e in
-      let g = log_notice_move scheme es input x n (passes m moment q new old member right move) (inl e) in
-      let p = proposer scheme es made m.id q old (λ c. went_on scheme q.new (notice_status m.notice) new move c) in
-      passed_to q new n g.0 g.1 (ap (λ (z : Notification). z.to) s) p.content p.is
-  goes_move es input x n made (passes m moment q new old member right move) (inr h) = absurd h
-  goes_move es input x n made (cancels given moment t q why old was) (inl e) =
+      let g = log_notice_move scheme es input x n (passes m moment q held new old kept member right move) (inl e) in
+      passed_to q new n g.0 g.1 held (ap (λ (z : Notification). z.to) s) kept
+  goes_move es input x n made (passes m moment q held new old kept member right move) (inr h) = absurd h
+  goes_move es input x n made (cancels given moment t q held why old kept was) (inl e) =
       let s = one_notice _ n e in inl (subst ToInitiator s (record { said = λ d. let y : Cancelled ≡ Completed = d in cc (y); to = refl }))
-  goes_move es input x n made (cancels given moment t q why old was) (inr (inl e)) =
+  goes_move es input x n made (cancels given moment t q held why old kept was) (inr (inl e)) =
       let s = one_notice _ n e in
-      let p = proposer scheme es made t q old (λ c. let y : Checked ≡ Cancelled = sym was ∙ c in cc (y)) in
-      inr (subst (λ z. ToAcquirer z q.content) s (record { said = inr refl; content = p.content; known = p.is; to = ap acquirer_of p.is }))
-  goes_move es input x n made (cancels given moment t q why old was) (inr (inr h)) = absurd h
+      inr (subst (λ z. ToAcquirer z q.content) s (record { said = inr refl; content = held; known = kept; to = refl }))
+  goes_move es input x n made (cancels given moment t q held why old kept was) (inr (inr h)) = absurd h
   goes_move es input x n made (forestalls r moment f member none) (inl e) =
       let s = one_notice _ n e in inl (subst ToInitiator s (record { said = λ d. let y : Cancelled ≡ Completed = d in cc (y); to = refl }))
   goes_move es input x n made (forestalls r moment f member none) (inr h) = absurd h
@@ -217,11 +215,11 @@ module _ (scheme : Scheme) where
       go [] (inr i) = i
       go (c ∷ cs) (inl e) = cc (e)
       go (c ∷ cs) (inr i) = i
-  request_move es input x r (passes n moment q new old member right move) (inl e) = cc (e)
-  request_move es input x r (passes n moment q new old member right move) (inr h) = h
-  request_move es input x r (cancels given moment t q why old was) (inl e) = cc (e)
-  request_move es input x r (cancels given moment t q why old was) (inr (inl e)) = cc (e)
-  request_move es input x r (cancels given moment t q why old was) (inr (inr h)) = h
+  request_move es input x r (passes n moment q held new old kept member right move) (inl e) = cc (e)
+  request_move es input x r (passes n moment q held new old kept member right move) (inr h) = h
+  request_move es input x r (cancels given moment t q held why old kept was) (inl e) = cc (e)
+  request_move es input x r (cancels given moment t q held why old kept was) (inr (inl e)) = cc (e)
+  request_move es input x r (cancels given moment t q held why old kept was) (inr (inr h)) = h
   request_move es input x r (forestalls q moment f member none) (inl e) = cc (e)
   request_move es input x r (forestalls q moment f member none) (inr h) = h
 
@@ -244,7 +242,7 @@ module _ (scheme : Scheme) where
 
   refusal_move : (es : List Entry) (e : Entry) (t : TransactionId) (input : Input) (x : Transition) → e.input ≡ input → LogMove scheme es input x → x.id ≡ t → x.new ≡ Rejected → Refusal (e ∷ es) t x
   refusal_move es e t input x i (checks p moment found f s is none member) same h = absurd (checked_rejects found h)
-  refusal_move es e t input x i (passes n moment q new old member right move) same h =
+  refusal_move es e t input x i (passes n moment q held new old kept member right move) same h =
       let about : n.id ≡ t = sym (newest_id (transitions_of es) n.id q old).1 ∙ same in
       elim (log_from q.new (notice_status n.notice) new move) [
         | inl m ↦
@@ -254,7 +252,7 @@ module _ (scheme : Scheme) where
         | inr m ↦ absurd (let y : Completed ≡ Rejected = sym m.1 ∙ h in cc (y))
       ]
   refusal_move es e t input x i (forestalls r moment f member none) same h = absurd (let y : Cancelled ≡ Rejected = h in cc (y))
-  refusal_move es e t input x i (cancels given moment u q why old was) same h = absurd (let y : Cancelled ≡ Rejected = h in cc (y))
+  refusal_move es e t input x i (cancels given moment u q held why old kept was) same h = absurd (let y : Cancelled ≡ Rejected = h in cc (y))
 
   pub refusal : (es : List Entry) → Made scheme Itl es → (t : TransactionId) (x : Transition) → newest (transitions_of es) t ≡ Some x → x.new ≡ Rejected → Refusal es t x
   refusal [] made t x h d = absurd (cc (h))
@@ -274,7 +272,7 @@ module _ (scheme : Scheme) where
 
   proposes_move : (es : List Entry) (input : Input) (x : Transition) → LogMove scheme es input x → x.new ≡ Proposed → ⊥
   proposes_move es input x (checks p moment found f s is none member) h = checked_proposes found h
-  proposes_move es input x (passes n moment q new old member right move) h =
+  proposes_move es input x (passes n moment q held new old kept member right move) h =
       elim (log_from q.new (notice_status n.notice) new move) [
         | inl m ↦
             elim m.2 [
@@ -284,7 +282,7 @@ module _ (scheme : Scheme) where
         | inr m ↦ let y : Completed ≡ Proposed = sym m.1 ∙ h in cc (y)
       ]
   proposes_move es input x (forestalls r moment f member none) h = let y : Cancelled ≡ Proposed = h in cc (y)
-  proposes_move es input x (cancels given moment t q why old was) h = let y : Cancelled ≡ Proposed = h in cc (y)
+  proposes_move es input x (cancels given moment t q held why old kept was) h = let y : Cancelled ≡ Proposed = h in cc (y)
 
   pub never_proposed : (es : List Entry) → Made scheme Itl es → (x : Transition) → In x (transitions_of es) → x.new ≡ Proposed → ⊥
   never_proposed [] made x i h = i

@@ -12,6 +12,7 @@ use Rattle.units.specs.Code.{same_code}
 use Rattle.units.specs.declared.block.Unit.{Unit as Serial}
 use Rattle.units.specs.declared.code.Code.{Code}
 use Rattle.units.specs.declared.code.Node.TheVariants.{Itl}
+use Rattle.status.proofs.Ids.{id_of_same, same_id-refl}
 use Rattle.status.specs.Content.{Content}
 use Rattle.status.specs.Id.{same_id}
 use Rattle.status.specs.Status.{same_status}
@@ -39,7 +40,6 @@ use Rattle.safety.proofs.MovesAndHistories.NewestTransitions.{Made, made_log, ne
 use Rattle.safety.proofs.OneRegistry.UnitsCountedOnce.{newest_cons}
 use Rattle.safety.proofs.OneLog.LogInputs.{AllCancelled, each_log_move, none_stand}
 use Rattle.lemmas.proofs.Membership.{In, In_cases}
-use Rattle.safety.proofs.ListLemmas.TestsOfSameness.{id_of_same, same_id_refl}
 use Rattle.safety.proofs.MovesAndHistories.TableMoves.{LogMove, checks, passes, cancels, forestalls, log_moves}
 use Rattle.safety.proofs.OneRegistry.TransactionEnds.{proposer}
 use Rattle.lemmas.proofs.Positions.{In_contains}
@@ -208,7 +208,7 @@ module _ (scheme : Scheme) (s : Serial) where
         owner = λ t b.
             let o = busy_older x (transitions_of es) t other b in
             let e = old.one q.id t b0 o.0 in
-            let y : same_id x.id t ≡ true = subst (λ z. same_id x.id z ≡ true) (same ∙ e) (same_id_refl x.id) in
+            let y : same_id x.id t ≡ true = subst (λ z. same_id x.id z ≡ true) (same ∙ e) (same_id-refl x.id) in
             let clash : true ≡ false = sym y ∙ o.1 in
             absurd (cc (clash));
         one = λ t u a b. old.one t u (busy_older x (transitions_of es) t other a).0 (busy_older x (transitions_of es) u other b).0;
@@ -261,11 +261,11 @@ module _ (scheme : Scheme) (s : Serial) where
 
   book_move : (es : List Entry) (input : Input) (x : Transition) → Made scheme Itl es → LogMove scheme es input x → InBook scheme s (transitions_of es) → InBook scheme s (x ∷ transitions_of es)
   book_move es input x made (checks p moment found f st is none member) old = checked_move es p.id p.content moment.seconds found is old
-  book_move es input x made (passes n moment q new was member right move) old =
-      passed_move es (notice_status n.notice) q (moved q new moment.seconds (notifies Itl (told_to q new) q.id n.notice ∷ [])) made
+  book_move es input x made (passes n moment q held new was kept member right move) old =
+      passed_move es (notice_status n.notice) q (moved q new moment.seconds (notifies Itl (told_to q.id held new) q.id n.notice ∷ [])) made
       (subst (λ z. newest (transitions_of es) z ≡ Some q) (sym (newest_id (transitions_of es) n.id q was).1) was) refl refl (log_from q.new (notice_status n.notice) new move) old
   book_move es input x made (forestalls r moment f member none) old = quiet x (transitions_of es) refl (λ h. h) old
-  book_move es input x made (cancels given moment t q why was stood) old = quiet x (transitions_of es) refl (λ h. h) old
+  book_move es input x made (cancels given moment t q held why was kept stood) old = quiet x (transitions_of es) refl (λ h. h) old
 
   pub in_book : (es : List Entry) → Made scheme Itl es → InBook scheme s (transitions_of es)
   in_book =
@@ -284,7 +284,7 @@ module _ (scheme : Scheme) where
   -- a transition of the log moves a transfer that is under way
   pub log_live : (es : List Entry) (input : Input) (x y : Transition) → LogMove scheme es input x → newest (transitions_of es) x.id ≡ Some y → IsBusy y.new
   log_live es input x y (checks p moment found f s is none member) h = let e = sym none ∙ h in absurd (cc (e))
-  log_live es input x y (passes n moment q new was member right move) h =
+  log_live es input x y (passes n moment q held new was kept member right move) h =
       let w : newest (transitions_of es) q.id ≡ Some q = subst (λ z. newest (transitions_of es) z ≡ Some q) (sym (newest_id (transitions_of es) n.id q was).1) was in
       let e = sym w ∙ h in
       let same : q ≡ y = cc (e) in
@@ -293,7 +293,7 @@ module _ (scheme : Scheme) where
         | inr m ↦ subst (λ (z : Transition). IsBusy z.new) same (subst IsBusy (sym m.0) tt)
       ]
   log_live es input x y (forestalls r moment f member none) h = let e = sym none ∙ h in absurd (cc (e))
-  log_live es input x y (cancels given moment t q why was stood) h =
+  log_live es input x y (cancels given moment t q held why was kept stood) h =
       let w : newest (transitions_of es) q.id ≡ Some q = subst (λ z. newest (transitions_of es) z ≡ Some q) (sym (newest_id (transitions_of es) t q was).1) was in
       let e = sym w ∙ h in
       let same : q ≡ y = cc (e) in
@@ -344,11 +344,11 @@ module _ (scheme : Scheme) where
   completed_owned : (es : List Entry) (input : Input) (x : Transition) → Made scheme Itl es → LogMove scheme es input x → x.new ≡ Completed → (s : Serial) → carries x s ≡ true
       → book_owner scheme (transitions_of es) s ≡ Some x.id.code
   completed_owned es input x made (checks p moment found f st is none member) done s has = absurd (not_completed found done)
-  completed_owned es input x made (passes n moment q new was member right move) done s has =
+  completed_owned es input x made (passes n moment q held new was kept member right move) done s has =
       let w : newest (transitions_of es) q.id ≡ Some q = subst (λ z. newest (transitions_of es) z ≡ Some q) (sym (newest_id (transitions_of es) n.id q was).1) was in
-      (in_book scheme s es made).owner q.id (record { last = q; is = w; new = log_live es input x q (passes n moment q new was member right move) w; has = has })
+      (in_book scheme s es made).owner q.id (record { last = q; is = w; new = log_live es input x q (passes n moment q held new was kept member right move) w; has = has })
   completed_owned es input x made (forestalls r moment f member none) done s has = absurd (let y : Cancelled ≡ Completed = done in cc (y))
-  completed_owned es input x made (cancels given moment t q why was stood) done s has = absurd (let y : Cancelled ≡ Completed = done in cc (y))
+  completed_owned es input x made (cancels given moment t q held why was kept stood) done s has = absurd (let y : Cancelled ≡ Completed = done in cc (y))
 
   pub owned_by_initiator : OwnedByInitiator scheme
   unfolding verdict
@@ -369,7 +369,7 @@ module _ (scheme : Scheme) where
   ends_more : (es : List Entry) (input : Input) (x : Transition) (front : List Transition) → LogMove scheme es input x → AllCancelled front → LogEnds (transitions_of es) → LogEnds (front ++ transitions_of es)
       → LogEnds (x ∷ front ++ transitions_of es)
   ends_more es input x front move all old new y (inl e) done =
-      subst (λ (z : Transition). newest (x ∷ front ++ transitions_of es) z.id ≡ Some z) e (cond-true (same_id x.id x.id) (Some x) (newest (front ++ transitions_of es) x.id) (same_id_refl x.id))
+      subst (λ (z : Transition). newest (x ∷ front ++ transitions_of es) z.id ≡ Some z) e (cond-true (same_id x.id x.id) (Some x) (newest (front ++ transitions_of es) x.id) (same_id-refl x.id))
   ends_more es input x front move all old new y (inr j) done =
       elim (cases_Bool (same_id x.id y.id)) [
         | inl same ↦

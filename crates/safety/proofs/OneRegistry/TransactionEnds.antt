@@ -12,7 +12,7 @@ use Rattle.units.specs.Code.{same_code, same_node}
 use Rattle.units.specs.declared.code.Code.{Code}
 use Rattle.units.specs.declared.code.Node.{Node}
 use Rattle.units.specs.declared.code.Node.TheVariants.{Itl, Registry}
-use Rattle.status.proofs.Ids.{id_at-code}
+use Rattle.status.proofs.Ids.{id_at-code, id_of_same, same_id-refl}
 use Rattle.status.specs.Content.{Content}
 use Rattle.status.specs.Id.{same_id, id_at}
 use Rattle.status.specs.Rows.{log_row}
@@ -43,7 +43,7 @@ use Rattle.safety.proofs.MovesAndHistories.NewestTransitions.{Made, Got, Heard, 
 use Rattle.safety.proofs.OneRegistry.UnitsCountedOnce.{made_single, Single}
 use Rattle.lemmas.proofs.Membership.{In, In_cases, In_flat_map, In_left, In_right}
 use Rattle.lemmas.proofs.OneValue.{one_some, clash}
-use Rattle.safety.proofs.ListLemmas.TestsOfSameness.{id_of_same, same_id_refl, status_of_same}
+use Rattle.safety.proofs.ListLemmas.TestsOfSameness.{status_of_same}
 use Rattle.safety.proofs.MovesAndHistories.TableMoves.{RegistryMove, proposes, asks, arrives, bares, settles, finishes, LogMove, checks, passes, cancels, forestalls}
 use Rattle.lemmas.proofs.Positions.{In_contains}
 use Rattle.safety.proofs.MovesAndHistories.TableRows.{initiator_from, acquirer_from, log_from}
@@ -148,7 +148,7 @@ module _ (scheme : Scheme) (c : Code) where
   ends_last =
       each_move EndsLast (λ x i done. absurd i)
       (λ es input x made move old y i done. elim i [
-        | inl e ↦ subst (λ (z : Transition). newest (x ∷ transitions_of es) z.id ≡ Some z) e (cond-true (same_id x.id x.id) (Some x) (newest (transitions_of es) x.id) (same_id_refl x.id))
+        | inl e ↦ subst (λ (z : Transition). newest (x ∷ transitions_of es) z.id ≡ Some z) e (cond-true (same_id x.id x.id) (Some x) (newest (transitions_of es) x.id) (same_id-refl x.id))
         | inr j ↦
             elim (cases_Bool (same_id x.id y.id)) [
               | inl t ↦ absurd (alive es input x y made move (subst (λ z. newest (transitions_of es) z ≡ Some y) (sym (id_of_same x.id y.id t)) (old y j done)) done)
@@ -174,7 +174,7 @@ module _ (scheme : Scheme) (c : Code) where
         | inl e ↦
             let done_here : x.new ≡ Completed = ap (λ (z : Transition). z.new) e ∙ done in
             let here : is_end_of y.id x ≡ true =
-            and_from (same_id x.id y.id) (same_status x.new Completed) (subst (λ (z : Transition). same_id x.id z.id ≡ true) e (same_id_refl x.id)) (subst (λ z. same_status z Completed ≡ true) (sym done_here) refl) in
+            and_from (same_id x.id y.id) (same_status x.new Completed) (subst (λ (z : Transition). same_id x.id z.id ≡ true) e (same_id-refl x.id)) (subst (λ z. same_status z Completed ≡ true) (sym done_here) refl) in
             let none =
             number_none (is_end_of y.id) (transitions_of es)
             (list_any_not (is_end_of y.id) (transitions_of es)
@@ -402,7 +402,7 @@ module _ (scheme : Scheme) where
         initiator_known = subst (λ (z : Node). is_no_registry scheme z ≡ false) from member;
         ended = λ h. absurd (checked_open found h);
       })
-  proposer_move es e t input x i (passes n moment q new was member right move) same old =
+  proposer_move es e t input x i (passes n moment q held new was kept member right move) same old =
       let about : n.id ≡ t = sym (newest_id (transitions_of es) n.id q was).1 ∙ same in
       elim (old q (subst (λ z. newest (transitions_of es) z ≡ Some q) about was)) [
         | inl b ↦ went_on q.new (notice_status n.notice) new move b.new
@@ -424,7 +424,7 @@ module _ (scheme : Scheme) where
           ];
         })
       ]
-  proposer_move es e t input x i (cancels given moment u q why was checked) same old =
+  proposer_move es e t input x i (cancels given moment u q held why was kept checked) same old =
       let about : u ≡ t = sym (newest_id (transitions_of es) u q was).1 ∙ same in
       elim (old q (subst (λ z. newest (transitions_of es) z ≡ Some q) about was)) [
         | inl b ↦ let y : Checked ≡ Cancelled = sym checked ∙ b.new in absurd (cc (y))

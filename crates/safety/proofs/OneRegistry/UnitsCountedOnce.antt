@@ -11,6 +11,7 @@ use Rattle.units.specs.Code.{same_code}
 use Rattle.units.specs.declared.block.Unit.{Unit as Serial}
 use Rattle.units.specs.declared.code.Code.{Code}
 use Rattle.units.specs.declared.code.Node.TheVariants.{Registry}
+use Rattle.status.proofs.Ids.{id_of_same, same_id-refl}
 use Rattle.status.specs.Content.{Content}
 use Rattle.status.specs.Id.{same_id, id_at}
 use Rattle.status.specs.Rows.{initiator_row, acquirer_row}
@@ -45,7 +46,6 @@ use Rattle.safety.proofs.ListLemmas.CountsInLists.{count_no, count_yes}
 use Rattle.safety.proofs.MovesAndHistories.NewestTransitions.{Made, made_registry, newest_id}
 use Rattle.lemmas.proofs.Membership.{In}
 use Rattle.lemmas.proofs.OneValue.{clash}
-use Rattle.safety.proofs.ListLemmas.TestsOfSameness.{id_of_same, same_id_refl}
 use Rattle.safety.proofs.MovesAndHistories.TableMoves.{RegistryMove, proposes, asks, arrives, bares, settles, finishes}
 use Rattle.safety.proofs.MovesAndHistories.TableRows.{word_to, initiator_from, acquirer_from}
 use Rattle.safety.proofs.ListLemmas.UnitsOfBlocks.{piece_of}
@@ -200,7 +200,7 @@ module _ (scheme : Scheme) (c : Code) (s : Serial) where
         kept = λ t w. absurd (
             let v = waits_older x xs t other w in
             let e = l.one x.id t was v.0 in
-            clash (same_id x.id t) (subst (λ z. same_id x.id z ≡ true) e (same_id_refl x.id)) v.1);
+            clash (same_id x.id t) (subst (λ z. same_id x.id z ≡ true) e (same_id-refl x.id)) v.1);
         one = λ t u w v. l.one t u (waits_older x xs t other w).0 (waits_older x xs u other v).0;
       }
 

@@ -11,6 +11,7 @@ use Rattle.units.specs.declared.block.Unit.{Unit as Serial}
 use Rattle.units.specs.declared.code.Code.{Code}
 use Rattle.units.specs.declared.code.Node.{Node}
 use Rattle.units.specs.declared.code.Node.TheVariants.{Itl, Registry}
+use Rattle.status.proofs.Ids.{id_of_same, same_id-refl}
 use Rattle.status.specs.Id.{same_id}
 use Rattle.status.specs.declared.id.TransactionId.{TransactionId}
 use Rattle.status.specs.declared.words.Status.TheVariants.{Completed}
@@ -27,12 +28,12 @@ use Rattle.safety.proofs.ListLemmas.CountsInLists.{number_one, number_some, numb
 use Rattle.safety.proofs.OneRegistry.TransactionEnds.{ends_last, proposer}
 use Rattle.safety.proofs.MovesAndHistories.NewestTransitions.{newest_id}
 use Rattle.lemmas.proofs.Membership.{In}
-use Rattle.safety.proofs.ListLemmas.TestsOfSameness.{codes_differ, id_of_same, same_id_refl}
+use Rattle.safety.proofs.ListLemmas.TestsOfSameness.{codes_differ}
 use Rattle.safety.proofs.OwnersOfUnits.UnitsInOnePlace.{causal_one_place}
 use Rattle.safety.proofs.OwnersOfUnits.SumsOverRegistries.{one_or_none, over_least, over_some, over_two, some_member, is_member}
 
 ids_differ : (t u : TransactionId) → same_id t u ≡ false → t ≡ u → ⊥
-ids_differ t u other e = let x : true ≡ false = sym (same_id_refl t) ∙ ap (same_id t) e ∙ other in cc (x)
+ids_differ t u other e = let x : true ≡ false = sym (same_id-refl t) ∙ ap (same_id t) e ∙ other in cc (x)
 
 module _ (scheme : Scheme) (f : Node → List Entry) (causal : Causal scheme f) where
   -- ---- an owner is counted

@@ -36,7 +36,7 @@ use Rattle.protocol.specs.History.{Entry, Transition, newest, sends, transitions
 use Rattle.protocol.specs.Registries.{has_member}
 use Rattle.protocol.specs.WayOut.{IsOpen}
 use Rattle.protocol.specs.World.{World, run}
-use Rattle.safety.proofs.MovesAndHistories.TransitionForms.{arrived, arrived_status, settled_messages, acquirer_of, checked, checked_status, told_to, moved}
+use Rattle.safety.proofs.MovesAndHistories.TransitionForms.{arrived, arrived_status, settled_messages, checked, checked_status, told_to, moved}
 use Rattle.safety.proofs.AgreementOfNodes.CausalHistories.{Causal, completed_agrees, ended, heard_sent, log_said}
 use Rattle.safety.proofs.AgreementOfNodes.CompletionsAgree.{stands_so, log_has, initiator_has, offered_sent}
 use Rattle.safety.proofs.OneRegistry.TransactionEnds.{completed_sent, ends_last, known, own_contents, proposer, proposer_of}
@@ -70,10 +70,12 @@ module _ (scheme : Scheme) (moment : Moment) (t : TransactionId) where
   acquirer_completes : (w : World) (x l p : Transition) (k : Content) → Stage scheme w t x k → Room scheme w 0 1 → x.new ≡ Completed → Last w Itl t l → l.new ≡ Completed
       → Last w (Registry k.acquirer) t p → p.new ≡ Accepted → Closes scheme w t 0 1
   acquirer_completes w x l p k s room done log log_done there accepted =
-      let says = log_tells scheme t w x k s l log Completed log_done in
+      let told = log_tells scheme t w x k s l log Completed log_done in
+      let says = told.2 in
       let content = log_content scheme t w x k s l log (λ e. let y : Completed ≡ Cancelled = sym log_done ∙ e in cc (y)) in
+      let named : told.0 ≡ k = one_some told.0 k (sym told.1 ∙ content) in
       let sent : In (notifies Itl (Registry k.acquirer) t says.0) (sends (committed_of w Itl)) =
-      told_by scheme t w x k s Itl l (Registry k.acquirer) says.0 log (subst (λ z. In (notifies Itl z l.id says.0) l.messages) (ap acquirer_of content) says.2) in
+      told_by scheme t w x k s Itl l (Registry k.acquirer) says.0 log (subst (λ (z : Content). In (notifies Itl (Registry z.acquirer) l.id says.0) l.messages) named says.2) in
       let v =
       acquirer_takes scheme moment w s.calm k.acquirer t says.0 p (acquirer_content w x p k s there (λ e. let y : Accepted ≡ Cancelled = sym accepted ∙ e in cc (y))).0 Completed (acquirer_content w x p k s there (λ e. let y : Accepted ≡ Cancelled = sym accepted ∙ e in cc (y))).1 sent there s.other (table_at acquirer_row p.new Accepted _ Completed accepted says.1)
       (let a = room.1 k.acquirer in omega arith) in
@@ -91,7 +93,7 @@ module _ (scheme : Scheme) (moment : Moment) (t : TransactionId) where
   log_completes w x l p k s room done log log_accepted there accepted =
       let says = own_tells scheme t w x k s Completed done in
       let sent = told_by scheme t w x k s (Registry t.code) x Itl says.0 s.is says.2 in
-      let y : Transition = moved l Completed moment.seconds (notifies Itl (told_to l Completed) l.id says.0 ∷ []) in
+      let y : Transition = moved l Completed moment.seconds (notifies Itl (told_to l.id k Completed) l.id says.0 ∷ []) in
       let v =
       log_takes_notice scheme moment w s.calm t.code t says.0 l k Completed (log_content scheme t w x k s l log (λ e. let y : Accepted ≡ Cancelled = sym log_accepted ∙ e in cc (y))) sent log (table_at log_row l.new Accepted _ Completed log_accepted says.1)
       (let a = room.0 in omega arith) in
@@ -303,7 +305,7 @@ module _ (scheme : Scheme) (moment : Moment) (t : TransactionId) where
       by : (st : Status) → log_row (Stands Checked) (Notified st) ≡ Move st → IsAnswer st → Tells p (Registry k.acquirer) Itl st → Closes scheme w t 2 2
       by st row answers says =
           let sent = told_by scheme t w x k s (Registry k.acquirer) p Itl says.0 there says.2 in
-          let y : Transition = moved l st moment.seconds (notifies Itl (told_to l st) l.id says.0 ∷ []) in
+          let y : Transition = moved l st moment.seconds (notifies Itl (told_to l.id k st) l.id says.0 ∷ []) in
           let v =
           log_takes_notice scheme moment w s.calm k.acquirer t says.0 l k st (log_content scheme t w x k s l log (λ e. let y : Checked ≡ Cancelled = sym log_checked ∙ e in cc (y))) sent log (table_at log_row l.new Checked _ st log_checked says.1 ∙ row)
           (let a = room.0 in omega arith) in

@@ -6,6 +6,7 @@ use Rattle.std.proofs.lemmas.Bool.{cond-true, cond-false, cases_Bool}
 use Rattle.units.proofs.Same.{node_of_same}
 use Rattle.units.specs.Code.{same_node}
 use Rattle.units.specs.declared.code.Node.{Node}
+use Rattle.status.proofs.Ids.{same_id-refl}
 use Rattle.status.specs.Id.{same_id}
 use Rattle.status.specs.declared.id.TransactionId.{TransactionId}
 use Rattle.status.specs.declared.moment.Moment.{Moment}
@@ -24,7 +25,6 @@ use Rattle.protocol.specs.declared.event.WorldEvent.{WorldEvent}
 use Rattle.protocol.specs.declared.event.WorldEvent.TheVariants.{Commit, Deliver, Post}
 use Rattle.safety.proofs.MovesAndHistories.LongerHistories.{history_from_append}
 use Rattle.lemmas.proofs.Membership.{In}
-use Rattle.safety.proofs.ListLemmas.TestsOfSameness.{same_id_refl}
 use Rattle.safety.proofs.WorldLemmas.QuietWorlds.{Grown, Quiet, delivers, quiet_after}
 use Rattle.safety.proofs.WorldLemmas.SchemesKept.{run_scheme}
 
@@ -80,7 +80,7 @@ send scheme w calm m moment t x node sent says id =
       calm = calm_after scheme w events calm (quiet_after w events n (Received m moment) calm.quiet d.1);
       now =
           ap (λ (es : List Entry). newest (transitions_of es) t) here
-          ∙ cond-true (same_id x.id t) (Some x) (newest (transitions_of (committed_of w n)) t) (subst (λ (z : TransactionId). same_id x.id z ≡ true) id (same_id_refl x.id));
+          ∙ cond-true (same_id x.id t) (Some x) (newest (transitions_of (committed_of w n)) t) (subst (λ (z : TransactionId). same_id x.id z ≡ true) id (same_id-refl x.id));
       others = λ z u other.
           elim (cases_Bool (same_node n z)) [
             | inl y ↦

@@ -21,12 +21,12 @@ use Rattle.scheme.specs.declared.registries.Scheme.{Scheme}
 use Rattle.protocol.specs.AtRegistry.{content_of}
 use Rattle.protocol.specs.Effects.{notifies, proposes as to_propose}
 use Rattle.protocol.specs.History.{Transition, Entry, transitions_of, sends, messages_of, proposals}
-use Rattle.safety.proofs.MovesAndHistories.TransitionForms.{arrived, arrived_status, settled_messages, acquirer_of, checked, checked_status, told_to, moved}
+use Rattle.safety.proofs.MovesAndHistories.TransitionForms.{arrived, arrived_status, settled_messages, checked, checked_status, told_to, moved}
 use Rattle.safety.proofs.OneRegistry.TransactionEnds.{each_move, own_code, own_about}
 use Rattle.safety.proofs.MovesAndHistories.NewestTransitions.{Made, made_registry, made_log, newest_id}
 use Rattle.safety.proofs.OneRegistry.UnitsCountedOnce.{initiator_new}
 use Rattle.lemmas.proofs.Membership.{In, In_cases, In_left, In_right}
-use Rattle.lemmas.proofs.OneValue.{clash}
+use Rattle.lemmas.proofs.OneValue.{clash, one_some}
 use Rattle.safety.proofs.MovesAndHistories.TableMoves.{RegistryMove, proposes, asks, arrives, bares, settles, finishes, LogMove, checks, passes, cancels, forestalls}
 use Rattle.safety.proofs.MovesAndHistories.TableRows.{log_from, acquirer_from}
 
@@ -66,7 +66,7 @@ SaysOther c x _ = Unit {0}
 abbrev pub SaysAtLog : Transition → Status → Type 0
 SaysAtLog x Proposed = ⊥
 SaysAtLog x Checked = (k : Content) × (x.content ≡ Some k) × In (to_propose Itl (Registry k.acquirer) x.id proposal.Checked k) x.messages
-SaysAtLog x Completed = Tells x Itl (acquirer_of x.content) Completed
+SaysAtLog x Completed = (k : Content) × (x.content ≡ Some k) × Tells x Itl (Registry k.acquirer) Completed
 SaysAtLog x s = Tells x Itl (Registry x.id.code) s
 
 module _ (scheme : Scheme) (c : Code) where
@@ -149,15 +149,15 @@ module _ (scheme : Scheme) (c : Code) where
 -- ---- at the log
 
 -- what it passes on is told as it was heard
-log_passed : (q : Transition) (moment : ℕ) (said : Notice) (new : Status) → notice_status said ≡ new → (new ≡ Accepted) ⊎ ((new ≡ Rejected) ⊎ (new ≡ Completed))
-    → SaysAtLog (moved q new moment (notifies Itl (told_to q new) q.id said ∷ [])) new
-log_passed q moment said Accepted same h = (said, same, inl refl)
-log_passed q moment said Rejected same h = (said, same, inl refl)
-log_passed q moment said Completed same h = (said, same, inl refl)
-log_passed q moment said Proposed same h = absurd (elim h [ inl e ↦ cc (e) | inr e ↦ elim e [ inl d ↦ cc (d) | inr d ↦ cc (d) ] ])
-log_passed q moment said Checked same h = absurd (elim h [ inl e ↦ cc (e) | inr e ↦ elim e [ inl d ↦ cc (d) | inr d ↦ cc (d) ] ])
-log_passed q moment said Terminated same h = absurd (elim h [ inl e ↦ cc (e) | inr e ↦ elim e [ inl d ↦ cc (d) | inr d ↦ cc (d) ] ])
-log_passed q moment said Cancelled same h = absurd (elim h [ inl e ↦ cc (e) | inr e ↦ elim e [ inl d ↦ cc (d) | inr d ↦ cc (d) ] ])
+log_passed : (q : Transition) (k : Content) (moment : ℕ) (said : Notice) (new : Status) → q.content ≡ Some k → notice_status said ≡ new → (new ≡ Accepted) ⊎ ((new ≡ Rejected) ⊎ (new ≡ Completed))
+    → SaysAtLog (moved q new moment (notifies Itl (told_to q.id k new) q.id said ∷ [])) new
+log_passed q k moment said Accepted content same h = (said, same, inl refl)
+log_passed q k moment said Rejected content same h = (said, same, inl refl)
+log_passed q k moment said Completed content same h = (k, content, (said, same, inl refl))
+log_passed q k moment said Proposed content same h = absurd (elim h [ inl e ↦ cc (e) | inr e ↦ elim e [ inl d ↦ cc (d) | inr d ↦ cc (d) ] ])
+log_passed q k moment said Checked content same h = absurd (elim h [ inl e ↦ cc (e) | inr e ↦ elim e [ inl d ↦ cc (d) | inr d ↦ cc (d) ] ])
+log_passed q k moment said Terminated content same h = absurd (elim h [ inl e ↦ cc (e) | inr e ↦ elim e [ inl d ↦ cc (d) | inr d ↦ cc (d) ] ])
+log_passed q k moment said Cancelled content same h = absurd (elim h [ inl e ↦ cc (e) | inr e ↦ elim e [ inl d ↦ cc (d) | inr d ↦ cc (d) ] ])
 
 log_says : (scheme : Scheme) (es : List Entry) (input : Input) (x : Transition) → LogMove scheme es input x → SaysAtLog x x.new
 log_says scheme es input x (checks p moment found f s is none member) = go found
@@ -165,12 +165,12 @@ log_says scheme es input x (checks p moment found f s is none member) = go found
     go : (found : List ℕ) → SaysAtLog (checked p.id p.content moment.seconds found) (checked_status found)
     go [] = (p.content, refl, inl refl)
     go (n ∷ ns) = (notice.Terminated (n ∷ ns), refl, inl refl)
-log_says scheme es input x (passes n moment q new old member right move) =
+log_says scheme es input x (passes n moment q held new old kept member right move) =
     elim (log_from q.new (notice_status n.notice) new move) [
-      | inl m ↦ log_passed q moment.seconds n.notice new (sym m.1) (elim m.2 [ inl a ↦ inl (m.1 ∙ a) | inr a ↦ inr (inl (m.1 ∙ a)) ])
-      | inr m ↦ log_passed q moment.seconds n.notice new (m.2 ∙ sym m.1) (inr (inr m.1))
+      | inl m ↦ log_passed q held moment.seconds n.notice new kept (sym m.1) (elim m.2 [ inl a ↦ inl (m.1 ∙ a) | inr a ↦ inr (inl (m.1 ∙ a)) ])
+      | inr m ↦ log_passed q held moment.seconds n.notice new kept (m.2 ∙ sym m.1) (inr (inr m.1))
     ]
-log_says scheme es input x (cancels given moment t q why old was) = (notice.Cancelled, refl, inl refl)
+log_says scheme es input x (cancels given moment t q held why old kept was) = (notice.Cancelled, refl, inl refl)
 log_says scheme es input x (forestalls r moment f member none) = (notice.Cancelled, refl, inl refl)
 
 pub log_has_said : (scheme : Scheme) (es : List Entry) → Made scheme Itl es → (x : Transition) → In x (transitions_of es) → SaysAtLog x x.new
@@ -190,7 +190,7 @@ cancelled_move scheme es input x (checks p moment found f s is none member) e k 
     go : (found : List ℕ) → checked_status found ≡ Cancelled → ⊥
     go [] e = cc (e)
     go (n ∷ ns) e = cc (e)
-cancelled_move scheme es input x (passes n moment q new old member right move) e k content =
+cancelled_move scheme es input x (passes n moment q held new old kept member right move) e k content =
     elim (log_from q.new (notice_status n.notice) new move) [
       | inl m ↦
           elim m.2 [
@@ -199,7 +199,8 @@ cancelled_move scheme es input x (passes n moment q new old member right move) e
           ]
       | inr m ↦ let y : Completed ≡ Cancelled = sym m.1 ∙ e in absurd (cc (y))
     ]
-cancelled_move scheme es input x (cancels given moment t q why old was) e k content = inr (inl (ap (λ (z : Option Content). notifies Itl (acquirer_of z) q.id notice.Cancelled) content))
+cancelled_move scheme es input x (cancels given moment t q held why old kept was) e k content =
+    inr (inl (ap (λ (z : Content). notifies Itl (Registry z.acquirer) q.id notice.Cancelled) (one_some held k (sym kept ∙ content))))
 cancelled_move scheme es input x (forestalls r moment f member none) e k content = absurd (cc (content))
 
 pub cancelled_said : (scheme : Scheme) (es : List Entry) → Made scheme Itl es → (x : Transition) → In x (transitions_of es) → x.new ≡ Cancelled → (k : Content) → x.content ≡ Some k

@@ -117,7 +117,7 @@ module _ (scheme : Scheme) (moment : Moment) (w : World) (calm : Calm scheme w) 
 
   pub log_takes_notice : (c : Code) (t : TransactionId) (said : Notice) (l : Transition) (k : Content) (new : Status) → l.content ≡ Some k → In (notifies (Registry c) Itl t said) (sends (committed_of w (Registry c))) → Last w Itl t l
       → log_row (Stands l.new) (Notified (notice_status said)) ≡ Move new → length (committed_of w Itl) + 1 ≤ scheme.records
-      → verdict scheme Itl (committed_of w Itl) (Received (notifies (Registry c) Itl t said) moment) ≡ Enters (moved l new moment.seconds (notifies Itl (told_to l new) l.id said ∷ []) ∷ [])
+      → verdict scheme Itl (committed_of w Itl) (Received (notifies (Registry c) Itl t said) moment) ≡ Enters (moved l new moment.seconds (notifies Itl (told_to l.id k new) l.id said ∷ []) ∷ [])
   unfolding verdict
   log_takes_notice c t said l k new content h is move room =
       let m : Message = notifies (Registry c) Itl t said in
@@ -127,7 +127,7 @@ module _ (scheme : Scheme) (moment : Moment) (w : World) (calm : Calm scheme w) 
       (ap (λ z. log_row z (Notified (notice_status said))) (known_status l k content) ∙ move)
       ∙ ap (λ x. enters scheme (committed_of w Itl) (x ∷ []))
       (passed_transition t l k said new moment.seconds (newest_id (transitions_of (committed_of w Itl)) t l is).1 content move)
-      ∙ enters_here scheme (committed_of w Itl) (moved l new moment.seconds (notifies Itl (told_to l new) l.id said ∷ []) ∷ []) room
+      ∙ enters_here scheme (committed_of w Itl) (moved l new moment.seconds (notifies Itl (told_to l.id k new) l.id said ∷ []) ∷ []) room
 
   -- ---- at a registry
 

@@ -15,6 +15,7 @@ use Rattle.units.specs.declared.block.Unit.{Unit as Serial}
 use Rattle.units.specs.declared.code.Code.{Code}
 use Rattle.units.specs.declared.code.Node.{Node}
 use Rattle.units.specs.declared.code.Node.TheVariants.{Itl, Registry}
+use Rattle.status.proofs.Ids.{id_of_same, same_id-refl}
 use Rattle.status.specs.Id.{same_id}
 use Rattle.status.specs.declared.id.TransactionId.{TransactionId}
 use Rattle.status.specs.declared.moment.Moment.{Moment}
@@ -34,7 +35,6 @@ use Rattle.safety.proofs.AgreementOfNodes.CompletionsAgree.{stood, initiator_has
 use Rattle.lemmas.proofs.SomePass.{list_any_some}
 use Rattle.lemmas.proofs.Membership.{In}
 use Rattle.lemmas.proofs.OneValue.{one_some}
-use Rattle.safety.proofs.ListLemmas.TestsOfSameness.{id_of_same, same_id_refl}
 use Rattle.safety.proofs.OwnersOfUnits.UnitsWithOneOwner.{causal_one_owner}
 use Rattle.safety.proofs.WorldLemmas.NodesWithStation.{AllPlaced}
 use Rattle.safety.proofs.WorldLemmas.QuietWorlds.{Quiet, there}
@@ -78,7 +78,7 @@ module _ (scheme : Scheme) where
                 open_same (committed_of a.world) (committed_of w) u (λ m. a.others m u other) x.0,
                 λ i.
                     elim i [
-                      | inl e ↦ let z : true ≡ false = sym (subst (λ v. same_id t v ≡ true) e (same_id_refl t)) ∙ other in cc (z)
+                      | inl e ↦ let z : true ≡ false = sym (subst (λ v. same_id t v ≡ true) e (same_id-refl t)) ∙ other in cc (z)
                       | inr j ↦ x.1 j
                     ],
               )

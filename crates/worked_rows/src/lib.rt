@@ -1,0 +1,12 @@
+//! Worked rows of sets of units, holdings, status tables and schemes: values from outside, each public function with
+//! enough memory, and what no clause says.
+#![tactic(auto)]
+
+#[cfg(test)]
+mod accounts_rows;
+#[cfg(test)]
+mod scheme_rows;
+#[cfg(test)]
+mod status_rows;
+#[cfg(test)]
+mod units_rows;

@@ -1,0 +1,222 @@
+use status::{
+    Content, Known, Moment, MomentFault, Order, Role, Row, RowInput, Status, TransactionId, row,
+};
+use std::alloc::Global;
+use std::test::Fail;
+use units::{Block, Code, Items, Kind, Period, RawBlock};
+
+const TOO_LONG: u64 = 1_000_000_000_000_000_000;
+
+fn code(text: &str) -> Result<Code, Fail> {
+    Ok(Code::read(text).ok_or("no code")?)
+}
+
+/// A content of an account, an acquirer, its account, and blocks.
+fn content(
+    alloc: Global,
+    account: u64,
+    acquirer: &str,
+    to_account: u64,
+    units: &[&str],
+) -> Result<Option<Content>, Fail> {
+    let acquirer = code(acquirer)?;
+    let mut blocks = Vec::new(alloc);
+    for text in units {
+        blocks.push(Block::read(text)?)?;
+    }
+    Ok(Content::new(account, acquirer, to_account, Items::from_vec(blocks)))
+}
+
+/// An order of one block of those numbers.
+fn order(
+    alloc: Global,
+    account: u64,
+    to_account: u64,
+    first: u64,
+    last: u64,
+) -> Result<Option<Order>, Fail> {
+    let block = RawBlock {
+        origin: code("NZ")?,
+        period: Period::Second,
+        kind: Kind::Rmu,
+        first,
+        last,
+    };
+    let units = Items::from_vec(Vec::from_slice(alloc, &[block])?);
+    Ok(Order::new(account, code("JP")?, to_account, units))
+}
+
+#[test]
+fn moment_texts(rt: HostRuntime) {
+    let read = Moment::read("2012-05-01T00:00:00Z");
+    assert_eq!(rt; read.ok().map(|m| m.seconds), Some(1_335_830_400));
+    assert_eq!(rt;
+        Moment::read("2012-05-01T00:00:00.5Z").err(),
+        Some(MomentFault::Text)
+    );
+    assert_eq!(rt; Moment::read("1970-01-01T00:00:00Z").ok(), Moment::new(0));
+    assert_eq!(rt;
+        Moment::read("9998-12-31T23:59:59Z").ok(),
+        Moment::new(253_370_764_799)
+    );
+}
+
+#[test]
+fn an_identifier_is_written_as_it_was_read(rt: HostRuntime) -> Result<(), Fail> {
+    let code = Code::new(b'N', b'Z').expect(&rt, "two letters");
+    let id = TransactionId::new(code, 999_999).expect(&rt, "the last number");
+    assert_eq!(rt; TransactionId::read("NZ999999"), Some(id));
+    let written = id.write(rt.alloc())?;
+    assert_eq!(rt; written.as_str(), "NZ999999");
+    Ok(())
+}
+
+#[test]
+fn each_role_answers_by_its_own_table(rt: HostRuntime) {
+    let accepted = RowInput::Notified(Status::Accepted);
+    for (role, old, to) in [
+        (Role::Initiator, Status::Proposed, Status::Completed),
+        (Role::Itl, Status::Checked, Status::Accepted),
+    ] {
+        assert_eq!(rt; row(role, Known::Stands(old), accepted), Row::Move(to));
+    }
+    let old = Known::Stands(Status::Accepted);
+    assert_eq!(rt; row(Role::Acquirer, old, accepted), Row::Refused);
+    assert_eq!(rt; Status::Terminated.name(), "Terminated");
+}
+
+#[test]
+fn orders_and_requests_for_cancellation(rt: HostRuntime) {
+    use RowInput::{CleanUp, RepeatedRequestOrder, Request, RequestOrder};
+    let proposed = Known::Stands(Status::Proposed);
+    for (old, order, to) in [
+        (proposed, RequestOrder, Row::Move(Status::Proposed)),
+        (proposed, RepeatedRequestOrder, Row::Repeat),
+        (Known::Unknown, RequestOrder, Row::Refused),
+    ] {
+        assert_eq!(rt; row(Role::Initiator, old, order), to);
+    }
+    let checked = Known::Stands(Status::Checked);
+    let completed = Known::Stands(Status::Completed);
+    for (old, input, to) in [
+        (Known::Unknown, Request, Row::Move(Status::Cancelled)),
+        (checked, Request, Row::Move(Status::Cancelled)),
+        (completed, Request, Row::Late),
+        (Known::Bare, Request, Row::Late),
+        (Known::Bare, RowInput::ProposalWithoutFinding, Row::Late),
+        (Known::Bare, CleanUp, Row::Refused),
+    ] {
+        assert_eq!(rt; row(Role::Itl, old, input), to);
+    }
+}
+
+#[test]
+fn the_name_of_each_status(rt: HostRuntime) {
+    for (text, status) in [
+        ("Proposed", Some(Status::Proposed)),
+        ("Checked", Some(Status::Checked)),
+        ("Accepted", Some(Status::Accepted)),
+        ("Rejected", Some(Status::Rejected)),
+        ("Terminated", Some(Status::Terminated)),
+        ("Cancelled", Some(Status::Cancelled)),
+        ("Completed", Some(Status::Completed)),
+        ("proposed", None),
+        ("Proposed ", None),
+        ("Canceled", None),
+        ("", None),
+    ] {
+        assert_eq!(rt; Status::read(text), status, "{text}");
+    }
+}
+
+#[test]
+fn the_limits_of_a_content(rt: HostRuntime) -> Result<(), Fail> {
+    let alloc = rt.alloc();
+    let texts = ["NZ:1:1-100:AAU"; 17];
+    for (account, to_account, count, is_content) in [
+        (1, 999_999_999, 1, true),
+        (999_999_999, 1, 16, true),
+        (0, 7, 1, false),
+        (1_000_000_000, 7, 1, false),
+        (1, 0, 1, false),
+        (1, 1_000_000_000, 1, false),
+        (1, 7, 0, false),
+        (1, 7, 17, false),
+    ] {
+        let made = content(alloc, account, "JP", to_account, &texts[..count])?;
+        assert_eq!(rt;
+            made.is_some(),
+            is_content,
+            "{account} {to_account} {count}"
+        );
+        if let Some(made) = made {
+            assert_eq!(rt; made.account(), account);
+            assert_eq!(rt; made.acquirer(), code("JP")?);
+            assert_eq!(rt; made.to_account(), to_account);
+            assert_eq!(rt; made.units().len(), count);
+        }
+    }
+    Ok(())
+}
+
+const BLOCKS: [&str; 2] = ["NZ:1:1-100:AAU", "CH:2:5-5:CER"];
+
+/// The parts of contents, and whether they are those of account 1, JP, account 7 and the two blocks.
+const CONTENTS: [(u64, &str, u64, &[&str], bool); 8] = [
+    (1, "JP", 7, &["NZ:1:1-100:AAU", "CH:2:5-5:CER"], true),
+    (2, "JP", 7, &["NZ:1:1-100:AAU", "CH:2:5-5:CER"], false),
+    (1, "NZ", 7, &["NZ:1:1-100:AAU", "CH:2:5-5:CER"], false),
+    (1, "JP", 8, &["NZ:1:1-100:AAU", "CH:2:5-5:CER"], false),
+    (1, "JP", 7, &["NZ:1:1-100:AAU", "CH:2:5-6:CER"], false),
+    (1, "JP", 7, &["CH:2:5-5:CER", "NZ:1:1-100:AAU"], false),
+    (1, "JP", 7, &["NZ:1:1-100:AAU"], false),
+    (
+        1,
+        "JP",
+        7,
+        &["NZ:1:1-100:AAU", "CH:2:5-5:CER", "CH:2:5-5:CER"],
+        false,
+    ),
+];
+
+#[test]
+fn contents_are_compared_in_each_part(rt: HostRuntime) -> Result<(), Fail> {
+    let alloc = rt.alloc();
+    let one = content(alloc, 1, "JP", 7, &BLOCKS)?.expect(&rt, "a content");
+    let copy = one.copy().expect(&rt, "memory");
+    assert!(rt; one.same(&copy) && copy.same(&one));
+    for (account, acquirer, to_account, units, is_same) in CONTENTS {
+        let made = content(alloc, account, acquirer, to_account, units)?;
+        let other = made.expect(&rt, "a content");
+        assert_eq!(rt; one.same(&other), is_same);
+        assert_eq!(rt; other.same(&one), is_same);
+    }
+    Ok(())
+}
+
+#[test]
+fn the_limits_of_an_order(rt: HostRuntime) -> Result<(), Fail> {
+    let alloc = rt.alloc();
+    for (account, to_account, first, last, is_order) in [
+        (TOO_LONG - 1, 0, 6, 5, true),
+        (0, TOO_LONG - 1, TOO_LONG - 1, TOO_LONG - 1, true),
+        (TOO_LONG, 0, 6, 5, false),
+        (0, TOO_LONG, 6, 5, false),
+        (0, 0, TOO_LONG, 5, false),
+        (0, 0, 6, TOO_LONG, false),
+    ] {
+        let made = order(alloc, account, to_account, first, last)?;
+        assert_eq!(rt; made.is_some(), is_order);
+        if let Some(made) = made {
+            let copy = made.copy().expect(&rt, "memory");
+            assert_eq!(rt; copy.account(), account);
+            assert_eq!(rt; copy.to_registry(), code("JP")?);
+            assert_eq!(rt; copy.to_account(), to_account);
+            assert_eq!(rt; copy.units().len(), 1);
+            for block in copy.units() {
+                assert_eq!(rt; (block.first, block.last), (first, last));
+            }
+        }
+    }
+    Ok(())
+}

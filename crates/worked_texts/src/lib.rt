@@ -1,0 +1,18 @@
+//! Worked rows of messages, records, lines, replies, the command line and `rehearse`: texts from outside, each public function
+//! with enough memory, and streams that fail midway.
+#![tactic(auto)]
+
+#[cfg(test)]
+mod line_rows;
+#[cfg(test)]
+mod message_rows;
+#[cfg(test)]
+mod record_rows;
+#[cfg(test)]
+mod rehearsal_rows;
+#[cfg(test)]
+mod reply_rows;
+#[cfg(test)]
+mod toy_core;
+#[cfg(test)]
+mod value_rows;

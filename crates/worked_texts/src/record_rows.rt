@@ -1,0 +1,135 @@
+use status::{Moment, Order, TransactionId};
+use std::alloc::Global;
+use std::test::Fail;
+use units::{Code, Items, RawBlock};
+use wire::{Input, Number, ReadFault, decode_input, encode_input};
+
+const RECORDS: [&str; 9] = [
+    r#"{"account":1,"input":"propose","to_account":7,"to_registry":"JP","units":["NZ:1:1-100:AAU"]}"#,
+    r#"{"input":"received","message":{"call":"AcceptNotification","codes":[],"from":"ITL","status":"Accepted","to":"NZ","transaction":"NZ1"},"moment":1335830400}"#,
+    r#"{"account":8,"input":"close"}"#,
+    r#"{"account":8,"input":"open"}"#,
+    r#"{"input":"ack","key":0}"#,
+    r#"{"input":"clean_up","moment":1335916800}"#,
+    r#"{"input":"eligible","may":false,"registry":"NZ"}"#,
+    r#"{"input":"request","transaction":"NZ1"}"#,
+    r#"{"input":"received","message":{"call":"RequestCancellation","from":"NZ","to":"ITL","transaction":"NZ1"},"moment":1335830400}"#,
+];
+
+/// Records of orders that no node acts on, and the last numbers of the others.
+const KEPT: [&str; 9] = [
+    r#"{"account":1,"input":"propose","to_account":7,"to_registry":"JP","units":[]}"#,
+    r#"{"account":1,"input":"propose","to_account":7,"to_registry":"JP","units":["NZ:1:1-1:AAU","NZ:1:1-1:AAU","NZ:1:1-1:AAU","NZ:1:1-1:AAU","NZ:1:1-1:AAU","NZ:1:1-1:AAU","NZ:1:1-1:AAU","NZ:1:1-1:AAU","NZ:1:1-1:AAU","NZ:1:1-1:AAU","NZ:1:1-1:AAU","NZ:1:1-1:AAU","NZ:1:1-1:AAU","NZ:1:1-1:AAU","NZ:1:1-1:AAU","NZ:1:1-1:AAU","NZ:1:1-1:AAU"]}"#,
+    r#"{"account":0,"input":"propose","to_account":7,"to_registry":"JP","units":["NZ:1:6-5:AAU"]}"#,
+    r#"{"account":999999999999999999,"input":"propose","to_account":0,"to_registry":"JP","units":["NZ:2:0-999999999999999999:lCER"]}"#,
+    r#"{"account":0,"input":"close"}"#,
+    r#"{"account":999999999999999999,"input":"open"}"#,
+    r#"{"input":"ack","key":999999999999999999}"#,
+    r#"{"input":"clean_up","moment":253370764799}"#,
+    r#"{"input":"eligible","may":true,"registry":"JP"}"#,
+];
+
+#[test]
+fn records_are_written_and_read_back(rt: HostRuntime) -> Result<(), Fail> {
+    let alloc = rt.alloc();
+    for text in RECORDS {
+        let input = decode_input(alloc, text.as_bytes()).expect(&rt, "a record");
+        let copy = input.copy().expect(&rt, "memory");
+        let line = encode_input(alloc, &copy).expect(&rt, "memory");
+        assert_eq!(rt; line.as_slice(), text.as_bytes());
+    }
+    Ok(())
+}
+
+fn order(alloc: Global) -> Result<Input, Fail> {
+    let block = RawBlock::read("NZ:1:1-100:AAU").ok_or("no block")?;
+    let units = Items::from_vec(Vec::from_slice(alloc, &[block])?);
+    let jp = Code::read("JP").ok_or("no code")?;
+    let order = Order::new(1, jp, 7, units).ok_or("no order")?;
+    Ok(Input::Propose(order))
+}
+
+#[test]
+fn inputs_built_from_parts(rt: HostRuntime) -> Result<(), Fail> {
+    let alloc = rt.alloc();
+    let eight = Number::new(8).expect(&rt, "one digit");
+    let key = Number::new(0).expect(&rt, "one digit");
+    let moment = Moment::new(1_335_916_800).expect(&rt, "in 2012");
+    let registry = Code::read("NZ").expect(&rt, "a code");
+    let id = TransactionId::read("NZ1").expect(&rt, "a transaction");
+    for (input, text) in [
+        (order(alloc)?, RECORDS[0]),
+        (Input::CloseAccount(eight), RECORDS[2]),
+        (Input::OpenAccount(eight), RECORDS[3]),
+        (Input::Ack(key), RECORDS[4]),
+        (Input::CleanUp(moment), RECORDS[5]),
+        (
+            Input::Eligible {
+                registry,
+                may: false,
+            },
+            RECORDS[6],
+        ),
+        (Input::Request(id), RECORDS[7]),
+    ] {
+        let line = encode_input(alloc, &input).expect(&rt, "memory");
+        assert_eq!(rt; line.as_slice(), text.as_bytes());
+    }
+    Ok(())
+}
+
+#[test]
+fn an_order_is_kept_as_it_was_given(rt: HostRuntime) -> Result<(), Fail> {
+    let alloc = rt.alloc();
+    for text in KEPT {
+        let input = decode_input(alloc, text.as_bytes()).expect(&rt, "a record");
+        let line = encode_input(alloc, &input).expect(&rt, "memory");
+        assert_eq!(rt; line.as_slice(), text.as_bytes());
+    }
+    Ok(())
+}
+
+const NO_RECORDS: [&str; 32] = [
+    "",
+    "[]",
+    "{}",
+    r#"{"account":8}"#,
+    r#"{"account":8,"input":"split"}"#,
+    r#"{"account":8,"input":"Open"}"#,
+    r#"{"account":8,"input":1}"#,
+    r#"{"account":8,"input":"open","x":1}"#,
+    r#"{"account":8,"input":"open"},"#,
+    r#"{"account":"8","input":"close"}"#,
+    r#"{"account":1000000000000000000,"input":"close"}"#,
+    r#"{"input":"ack"}"#,
+    r#"{"input":"ack","key":-1}"#,
+    r#"{"input":"ack","key":1.0}"#,
+    r#"{"input":"ack","key":1000000000000000000}"#,
+    r#"{"input":"ack","key":18446744073709551616}"#,
+    r#"{"input":"clean_up","moment":253370764800}"#,
+    r#"{"input":"clean_up","key":0}"#,
+    r#"{"input":"eligible","may":1,"registry":"NZ"}"#,
+    r#"{"input":"eligible","may":"true","registry":"NZ"}"#,
+    r#"{"input":"eligible","may":true,"registry":"ITL"}"#,
+    r#"{"input":"received","message":{"call":"AcceptNotification","codes":[],"from":"ITL","status":"Checked","to":"NZ","transaction":"NZ1"},"moment":1335830400}"#,
+    r#"{"input":"received","message":{"call":"AcceptNotification","codes":[],"from":"ITL","status":"Accepted","to":"NZ","transaction":"NZ1"},"moment":253370764800}"#,
+    r#"{"input":"received","message":{"call":"AcceptNotification","codes":[],"from":"ITL","status":"Accepted","to":"NZ","transaction":"NZ1"}}"#,
+    r#"{"input":"received","moment":1335830400}"#,
+    r#"{"input":"request"}"#,
+    r#"{"input":"request","transaction":"NZ0"}"#,
+    r#"{"input":"request","transaction":"NZ1","x":1}"#,
+    r#"{"account":1,"input":"propose","to_account":7,"to_registry":"JP","units":["NZ:3:1-5:AAU"]}"#,
+    r#"{"account":1,"input":"propose","to_account":7,"to_registry":"JP","units":["NZ:1:1-1000000000000000000:AAU"]}"#,
+    r#"{"account":1000000000000000000,"input":"propose","to_account":7,"to_registry":"JP","units":[]}"#,
+    r#"{"account":1,"input":"propose","to_account":7,"to_registry":"JP"}"#,
+];
+
+#[test]
+fn what_is_no_record(rt: HostRuntime) -> Result<(), Fail> {
+    let alloc = rt.alloc();
+    for text in NO_RECORDS {
+        let fault = decode_input(alloc, text.as_bytes()).err();
+        assert_eq!(rt; fault, Some(ReadFault::Shape), "{text}");
+    }
+    Ok(())
+}

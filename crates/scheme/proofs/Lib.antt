@@ -2,7 +2,7 @@ pub mod Pairs
 pub mod Moves
 pub mod Climbs
 pub mod Blocks
-pub mod Ranks
+pub mod BlocksInOrder
 pub mod Told
 pub mod Free
 pub mod Lists

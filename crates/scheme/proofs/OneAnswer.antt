@@ -13,7 +13,7 @@ use Rattle.fields.specs.declared.fault.ReadFault.{ReadFault}
 use Rattle.fields.specs.declared.fault.ReadFault.TheVariants as read_fault
 use Rattle.scheme.specs.Unread.{fault_from}
 use Rattle.scheme.specs.Grammar.{IsWritten}
-use Rattle.scheme.specs.Order.{IsFreeOf, AreMembers, code_rank, faults_in_order}
+use Rattle.scheme.specs.Order.{IsFreeOf, AreMembers, faults_in_order}
 use Rattle.scheme.specs.Props.{AreMembers-prop}
 use Rattle.scheme.specs.Faults.{IsFirst, Writes, IsNoJson, IsOutside, HasFault, IsFault}
 use Rattle.scheme.specs.Text.{IsSchemeText}
@@ -23,7 +23,7 @@ use Rattle.scheme.specs.declared.members.SchemeFault.{SchemeFault}
 use Rattle.scheme.specs.declared.members.SchemeFault.TheVariants.{NotJson, Shape, TooMany, TooFew, CodeTwice, AccountTwice, UnknownAccount, AllotmentOverlap, NoMemory}
 use Rattle.scheme.specs.declared.registries.Scheme.{Scheme}
 use Rattle.scheme.proofs.Pairs.{each_weaker}
-use Rattle.scheme.proofs.Climbs.{one_order}
+use Rattle.scheme.proofs.Told.{same_order}
 use Rattle.scheme.proofs.Unique.{records_one, members_one}
 use Rattle.scheme.proofs.Free.{free_moved, first_moved, not_first, one_first}
 
@@ -39,7 +39,7 @@ scheme_same s t e f = λ i. record {
 
 -- two lists in byte order that have the elements of one list
 pub same_members : (listed ms ns : List Member) → IsPermutation listed ms → IsPermutation listed ns → AreMembers ms → AreMembers ns → ms ≡ ns
-same_members listed ms ns p q a b = one_order (λ (m : Member). code_rank m.code) ms ns a.ordered b.ordered (there ms ns p q) (there ns ms q p)
+same_members listed ms ns p q a b = same_order ms ns a.ordered b.ordered (there ms ns p q) (there ns ms q p)
   where
     there : (xs ys : List Member) → IsPermutation listed xs → IsPermutation listed ys → (z : Member) → Contains xs z → Contains ys z
     there xs ys r s z has = Contains-permutation listed ys z s (Contains-permutation xs listed z (IsPermutation-sym listed xs r) has)

@@ -1,31 +1,35 @@
 -- What the tests for faults tell.
-use Rattle.std.proofs.Common.{◌≡◌, ◌≢◌, ◌==◌, inl, inr, ℕ, ◌+◌, ◌-◌, ◌<◌, ◌≤◌, Bool, true, false, true≢false, List, [], ◌∷◌, ◌++◌, length, get_or, take, map, refl, sym, ap, subst, ◌∙◌, arith, Result, Ok, Err, Ordering, nat_cmp}
+use Rattle.std.proofs.Common.{◌≡◌, ◌≢◌, ◌==◌, inl, inr, ℕ, ◌+◌, ◌-◌, ◌<◌, ◌≤◌, ◌⊎◌, Bool, true, false, true≢false, List, [], ◌∷◌, ◌++◌, length, get_or, take, map, refl, sym, ap, subst, ◌∙◌, arith, Result, Ok, Err, Ordering, nat_cmp}
 use Rattle.std.specs.Prelude.{IsPermutation, IsTrue}
-use Rattle.std.specs.List.{AllByRecursion, AllAdjacentBelow}
+use Rattle.std.specs.List.{AllByRecursion, AllAdjacentBelow, Contains}
 use Rattle.std.specs.List.Sorted.{IsNonDecreasing, IsBinarySearchResult, IsSortedByKey}
+use Rattle.std.specs.Ordering.{is_lt}
+use Rattle.std.specs.declared.cmp.Ordering.TheVariants.{Less}
 use Rattle.std.specs.Fn.{Called, ComputesKey}
 use Rattle.std.specs.Result.{is_err}
 use denote.Ref.{Bor}
 use denote.Param.Members.{Mut}
 use Rattle.std.proofs.lemmas.Fn.{always_returns_same}
-use Rattle.std.proofs.lemmas.Bool.{eqb-true, eq-eqb}
+use Rattle.std.proofs.lemmas.Bool.{eqb-true, eq-eqb, cases_lt}
 use Rattle.std.proofs.lemmas.List.{take_more, get_or_default, get_or-map, length-map}
 use Rattle.std.proofs.lemmas.List.Folds.{Any-from_list_any, list_any_at}
 use Rattle.std.proofs.lemmas.List.Sorted.{searched, list_any-IsPermutation, IsPermutation-sym, all_adjacent_more}
 use Rattle.units.specs.Apart.{Pairwise, AreApart, AllApart}
+use Rattle.units.specs.Code.{same_code}
+use Rattle.units.specs.Keys.{code_cmp, unit_cmp, first_unit}
 use Rattle.units.specs.Unit.{has_unit}
 use Rattle.units.specs.declared.block.Block.{Block}
 use Rattle.units.specs.declared.block.Unit.{Unit as Serial}
 use Rattle.units.specs.declared.code.Code.{Code}
-use Rattle.units.proofs.Same.{codes_alike}
+use Rattle.units.proofs.Same.{codes_alike, same_code-refl}
+use Rattle.units.proofs.UnitOrder.{code_rank, code_below, code_less, code_up}
 use Rattle.scheme.specs.Grammar.{HasNoTwins}
-use Rattle.scheme.specs.Order.{code_rank}
-use Rattle.scheme.specs.Reading.{AreSorted, IsKnown, first_of, from, to}
+use Rattle.scheme.specs.Reading.{AreSorted, IsKnown}
 use Rattle.scheme.specs.declared.members.Member.{Member}
 use Rattle.scheme.proofs.Pairs.{each_append, each_at, pair_at, pairwise_weaker}
 use Rattle.scheme.proofs.Moves.{pairs_moved}
-use Rattle.scheme.proofs.Climbs.{all_from_neighbours}
-use Rattle.scheme.proofs.Ranks.{lt_or_le, first_to_last, apart_behind, shared, behind}
+use Rattle.scheme.proofs.Climbs.{all_from_neighbours, one_order}
+use Rattle.scheme.proofs.BlocksInOrder.{EndsBefore, ends_transitive, apart_behind, shared, behind}
 
 -- ---- answers
 
@@ -56,7 +60,22 @@ pair_here R xs i x y some lt xis yis pairs =
     subst (λ z. R z y) (sym xis)
     (subst (λ z. R (get_or xs (i - 1) x) z) (sym (yis ∙ get_or_default xs i y x lt)) (pair_at R xs (i - 1) i x (omega arith) lt pairs))
 
+-- one element further, where R holds of the one before it and it
+pub neighbours_more : {X : Type 0} (R : X → X → Type 0) (xs : List X) (i : ℕ) (x y : X) → 1 ≤ i → i < length xs → x ≡ get_or xs (i - 1) x → y ≡ get_or xs i y → R x y → AllAdjacentBelow R xs i
+    → AllAdjacentBelow R xs (i + 1)
+neighbours_more R xs i x y some lt xis yis here before = all_adjacent_more xs R i (omega arith) before (λ d.
+    subst (λ z. R z (get_or xs i d)) (xis ∙ get_or_default xs (i - 1) x d (omega arith)) (subst (R x) (yis ∙ get_or_default xs i y d lt) here))
+
 -- ---- sorts
+
+-- what a sort leaves between an element and the one before it
+pub sorted_here : {X K : Type 0} (key : X → K) (cmp : K → K → Ordering) (xs : List X) (i : ℕ) (x y : X) → 1 ≤ i → i < length xs → x ≡ get_or xs (i - 1) x → y ≡ get_or xs i y → IsSortedByKey key cmp xs
+    → is_lt (cmp (key y) (key x)) ≡ false
+sorted_here key cmp xs i x y some lt xis yis sorted =
+    let e : (i - 1) + 1 ≡ i = omega arith in
+    subst (λ z. is_lt (cmp (key y) (key z)) ≡ false) (sym xis)
+    (subst (λ z. is_lt (cmp (key z) (key (get_or xs (i - 1) x))) ≡ false) (sym (yis ∙ get_or_default xs i y x lt))
+    (subst (λ n. is_lt (cmp (key (get_or xs n x)) (key (get_or xs (i - 1) x))) ≡ false) e (sorted (i - 1) x (omega arith) (omega arith))))
 
 pub sorted_by : {X K F : Type 0} (key : X → K) (cmp : K → K → Ordering) {g : Mut F (Bor X × Unit {0}) K} {f : F} (xs : List X) → ((n : X → K) → ComputesKey g n f → IsSortedByKey n cmp xs)
     → ((a : Bor X × Unit {0}) (r : K) (f' : F) → Called g f a r f' → (r ≡ key a.0.now) × (f' ≡ f)) → IsSortedByKey key cmp xs
@@ -66,7 +85,7 @@ sorted_by key cmp {g = g} {f = f} xs up h = up key (always_returns_same g (λ a 
 
 pub all_different : (xs : List ℕ) (i : ℕ) → length xs ≤ i → AllAdjacentBelow (λ x y. x < y) xs i → HasNoTwins xs
 all_different xs i le rise =
-    pairwise_weaker (λ x y. x < y) (λ x y. x ≢ y) (λ x y lt e. absurd (omega arith)) xs (all_from_neighbours (λ (x : ℕ). x) (λ (x : ℕ). x) (λ x. omega arith) xs (λ k d lt. rise k d (omega arith)))
+    pairwise_weaker (λ x y. x < y) (λ x y. x ≢ y) (λ x y lt e. absurd (omega arith)) xs (all_from_neighbours (λ x y. x < y) (λ x y z p q. omega arith) xs (λ k d lt. rise k d (omega arith)))
 
 pub not_different : (xs : List ℕ) (i : ℕ) → 1 ≤ i → i < length xs → get_or xs (i - 1) 0 ≡ get_or xs i 0 → HasNoTwins xs → ⊥
 not_different xs i some lt e apart = pair_at (λ x y. x ≢ y) xs (i - 1) i 0 (omega arith) lt apart e
@@ -93,60 +112,92 @@ not_found xs x (Err i) h up e known =
     let lt : k < length xs = any.2 in
     let here : any.1 ≡ x = eqb-true any.1 x any.4 in
     let at : get_or xs k 0 ≡ x = get_or_default xs k 0 any.1 lt ∙ any.3 ∙ here in
-    elim (lt_or_le k i) [
+    elim (cases_lt k i) [
       | inl less ↦ let b = s.1 k less in absurd (omega arith)
       | inr more ↦ let a = s.2 k more lt in absurd (omega arith)
     ]
 
 -- ---- codes
 
-pub same_rank : (a b : Code) → code_rank a ≡ code_rank b → a ≡ b
-same_rank a b e = let k = a.letters in let l = b.letters in codes_alike a b (omega arith) (omega arith)
+-- the code of a comes before that of b
+abbrev pub CodeBefore : Member → Member → Type 0
+CodeBefore a b = code_cmp a.code b.code ≡ Less
 
-pub all_rise : (ms : List Member) (i : ℕ) → length ms ≤ i → AllAdjacentBelow (λ a b. code_rank a.code < code_rank b.code) ms i → Pairwise (λ a b. code_rank a.code < code_rank b.code) ms
-all_rise ms i le rise = all_from_neighbours (λ (m : Member). code_rank m.code) (λ (m : Member). code_rank m.code) (λ m. omega arith) ms (λ k d lt. rise k d (omega arith))
+codes_transitive : (a b c : Member) → CodeBefore a b → CodeBefore b c → CodeBefore a c
+codes_transitive a b c p q =
+    let low = code_below a.code b.code p in
+    let high = code_below b.code c.code q in
+    code_less a.code c.code (omega arith)
 
-pub codes_differ : (ms : List Member) → Pairwise (λ a b. code_rank a.code < code_rank b.code) ms → HasNoTwins (map (λ m. m.code) ms)
+-- a code that comes before another isn't that one
+code_other : (a b : Code) → code_cmp a b ≡ Less → a ≡ b → ⊥
+code_other a b less e =
+    let lt = code_below a b less in
+    let same : code_rank a ≡ code_rank b = ap code_rank e in
+    absurd (omega arith)
+
+pub other_from_test : (a b : Code) → same_code a b ≡ false → a ≡ b → ⊥
+other_from_test a b no_test e = true≢false (sym (subst (λ c. same_code a c ≡ true) e (same_code-refl a)) ∙ no_test)
+
+-- what a sort leaves between two codes
+less_or_same : (a b : Code) → is_lt (code_cmp b a) ≡ false → (code_cmp a b ≡ Less) ⊎ (a ≡ b)
+less_or_same a b sorted = elim (cases_lt (code_rank a) (code_rank b)) [
+  | inl lower ↦ inl (code_less a b lower)
+  | inr level ↦
+      let up = code_up a b sorted in
+      let k = a.letters in
+      let l = b.letters in
+      inr (codes_alike a b (omega arith) (omega arith))
+]
+
+pub all_rise : (ms : List Member) (i : ℕ) → length ms ≤ i → AllAdjacentBelow CodeBefore ms i → Pairwise CodeBefore ms
+all_rise ms i le rise = all_from_neighbours CodeBefore codes_transitive ms (λ k d lt. rise k d (omega arith))
+
+-- members in byte order stand in the one order that there is
+pub same_order : (ms ns : List Member) → Pairwise CodeBefore ms → Pairwise CodeBefore ns → ((m : Member) → Contains ms m → Contains ns m) → ((m : Member) → Contains ns m → Contains ms m) → ms ≡ ns
+same_order = one_order CodeBefore codes_transitive (λ m less. code_other m.code m.code less refl)
+
+pub codes_differ : (ms : List Member) → Pairwise CodeBefore ms → HasNoTwins (map (λ m. m.code) ms)
 codes_differ [] p = tt
 codes_differ (m ∷ ms) p = (each_code ms p.0, codes_differ ms p.1)
   where
-    each_code : (ns : List Member) → AllByRecursion (λ n. code_rank m.code < code_rank n.code) ns → AllByRecursion (λ c. m.code ≢ c) (map (λ n. n.code) ns)
+    each_code : (ns : List Member) → AllByRecursion (CodeBefore m) ns → AllByRecursion (λ c. m.code ≢ c) (map (λ n. n.code) ns)
     each_code [] q = tt
-    each_code (n ∷ ns) q = ((λ e. let same : code_rank m.code ≡ code_rank n.code = ap code_rank e in let lt = q.0 in absurd (omega arith)), each_code ns q.1)
+    each_code (n ∷ ns) q = (code_other m.code n.code q.0, each_code ns q.1)
 
-pub codes_rise : (ms : List Member) → AreSorted ms → HasNoTwins (map (λ m. m.code) ms) → Pairwise (λ a b. code_rank a.code < code_rank b.code) ms
-codes_rise ms up apart = all_rise ms (length ms) (omega arith) (λ k d lt. elim (lt_or_le (code_rank (get_or ms k d).code) (code_rank (get_or ms (k + 1) d).code)) [
+pub codes_rise : (ms : List Member) → AreSorted ms → HasNoTwins (map (λ m. m.code) ms) → Pairwise CodeBefore ms
+codes_rise ms sorted apart = all_rise ms (length ms) (omega arith) (λ k d lt. elim (less_or_same (get_or ms k d).code (get_or ms (k + 1) d).code (sorted k d (omega arith) lt)) [
   | inl less ↦ less
-  | inr more ↦
-      let le = up k d lt in
-      let same : (get_or ms k d).code ≡ (get_or ms (k + 1) d).code = same_rank _ _ (omega arith) in
+  | inr same ↦
       let a = get_or-map (λ (m : Member). m.code) ms k d d.code (omega arith) in
       let b = get_or-map (λ (m : Member). m.code) ms (k + 1) d d.code lt in
       let within : k + 1 < length (map (λ (m : Member). m.code) ms) = omega (arith, length-map ms (λ (m : Member). m.code)) in
       absurd (pair_at (λ x y. x ≢ y) (map (λ (m : Member). m.code) ms) k (k + 1) d.code (omega arith) within apart (a ∙ same ∙ sym b))
 ])
 
+module _ (ms : List Member) (i : ℕ) (a b : Member) (some : 1 ≤ i) (lt : i < length ms) (ais : a ≡ get_or ms (i - 1) a) (bis : b ≡ get_or ms i b) where
+  pub not_risen : a.code ≡ b.code → Pairwise CodeBefore ms → ⊥
+  not_risen same rise = code_other a.code b.code (pair_here CodeBefore ms i a b some lt ais bis rise) same
+
+  pub codes_step : AreSorted ms → (a.code ≡ b.code → ⊥) → AllAdjacentBelow CodeBefore ms i → AllAdjacentBelow CodeBefore ms (i + 1)
+  codes_step sorted other rise = neighbours_more CodeBefore ms i a b some lt ais bis (elim (less_or_same a.code b.code (sorted_here (λ (m : Member). m.code) code_cmp ms i a b some lt ais bis sorted)) [
+    | inl less ↦ less
+    | inr same ↦ absurd (other same)
+  ]) rise
+
 -- ---- blocks
 
-abbrev Behind : Block → Block → Type 0
-Behind a b = to a < from b
-
-pub all_apart : (old bs : List Block) (i : ℕ) → IsPermutation old bs → length bs ≤ i → AllAdjacentBelow Behind bs i → AllApart old
+pub all_apart : (old bs : List Block) (i : ℕ) → IsPermutation old bs → length bs ≤ i → AllAdjacentBelow EndsBefore bs i → AllApart old
 all_apart old bs i s le rise =
     pairs_moved (λ a b. AreApart a.raw b.raw) (λ a b h u v w. h u w v) bs old (IsPermutation-sym old bs s)
-    (pairwise_weaker Behind (λ a b. AreApart a.raw b.raw) apart_behind bs (all_from_neighbours from to first_to_last bs (λ k d lt. rise k d (omega arith))))
+    (pairwise_weaker EndsBefore (λ a b. AreApart a.raw b.raw) apart_behind bs (all_from_neighbours EndsBefore ends_transitive bs (λ k d lt. rise k d (omega arith))))
 
-module _ (old bs : List Block) (i : ℕ) (a b : Block) (s : Serial) (moved : IsPermutation old bs) (some : 1 ≤ i) (lt : i < length bs) (ais : a ≡ get_or bs (i - 1) a) (bis : b ≡ get_or bs i b) (is : s ≡ first_of b) where
+module _ (old bs : List Block) (i : ℕ) (a b : Block) (s : Serial) (moved : IsPermutation old bs) (some : 1 ≤ i) (lt : i < length bs) (ais : a ≡ get_or bs (i - 1) a) (bis : b ≡ get_or bs i b) (is : s ≡ first_unit b.raw) where
   pub not_apart : has_unit a.raw s ≡ true → AllApart old → ⊥
   not_apart has apart =
       shared a b (subst (λ t. has_unit a.raw t ≡ true) is has)
       (pair_here (λ c d. AreApart c.raw d.raw) bs i a b some lt ais bis (pairs_moved (λ c d. AreApart c.raw d.raw) (λ c d h u v w. h u w v) old bs moved apart))
 
-  pub apart_step : AllAdjacentBelow (λ c d. from c ≤ from d) bs (length bs) → has_unit a.raw s ≡ false → AllAdjacentBelow Behind bs i → AllAdjacentBelow Behind bs (i + 1)
-  apart_step up has rise = all_adjacent_more bs Behind i (omega arith) rise (λ d.
-      let e : (i - 1) + 1 ≡ i = omega arith in
-      let level : from (get_or bs (i - 1) d) ≤ from (get_or bs i d) = subst (λ n. from (get_or bs (i - 1) d) ≤ from (get_or bs n d)) e (up (i - 1) d (omega arith)) in
-      let x : a ≡ get_or bs (i - 1) d = ais ∙ get_or_default bs (i - 1) a d (omega arith) in
-      let y : b ≡ get_or bs i d = bis ∙ get_or_default bs i b d lt in
-      subst (λ c. Behind c (get_or bs i d)) x (subst (λ c. Behind a c) y
-      (behind a b (subst (λ c. from a ≤ from c) (sym y) (subst (λ c. from c ≤ from (get_or bs i d)) (sym x) level)) (subst (λ t. has_unit a.raw t ≡ false) is has))))
+  pub apart_step : IsSortedByKey (λ c. first_unit c.raw) unit_cmp bs → has_unit a.raw s ≡ false → AllAdjacentBelow EndsBefore bs i → AllAdjacentBelow EndsBefore bs (i + 1)
+  apart_step sorted has rise = neighbours_more EndsBefore bs i a b some lt ais bis
+      (behind a b (sorted_here (λ (c : Block). first_unit c.raw) unit_cmp bs i a b some lt ais bis sorted) (subst (λ t. has_unit a.raw t ≡ false) is has)) rise

@@ -1,8 +1,10 @@
 -- What holds of the registries of every scheme.
-use Rattle.std.specs.Prelude.{ℕ, ◌+◌, ◌*◌, ◌<◌, ◌≤◌, List, [], ◌∷◌, ◌++◌, length, map, Bool, IsTrue, ◌==◌, Option}
+use Rattle.std.specs.Prelude.{◌≡◌, ℕ, ◌≤◌, List, [], ◌∷◌, ◌++◌, length, map, Bool, IsTrue, ◌==◌, Option}
+use Rattle.std.specs.declared.cmp.Ordering.TheVariants.{Less}
 use Rattle.std.specs.List.{AllByRecursion, list_any, find}
 use Rattle.units.specs.Apart.{Pairwise, AllApart}
 use Rattle.units.specs.Code.{same_code}
+use Rattle.units.specs.Keys.{code_cmp}
 use Rattle.units.specs.Limits.{least_registries, most_registries, most_accounts, most_allotted}
 use Rattle.units.specs.declared.block.Block.{Block}
 use Rattle.units.specs.declared.code.Code.{Code}
@@ -21,10 +23,6 @@ blocks_of (a ∷ allotted) = a.units ++ blocks_of allotted
 abbrev pub all_blocks : List Member → List Block
 all_blocks [] = []
 all_blocks (m ∷ members) = blocks_of m.allotted ++ all_blocks members
-
--- the two letters as one number, whose order is byte order
-abbrev pub code_rank : Code → ℕ
-code_rank c = 256 * c.first + c.second
 
 -- one of the registry's accounts has that number
 abbrev pub has_account : Member → ℕ → Bool
@@ -60,7 +58,7 @@ AreFree members = AllByRecursion (λ fault. IsFreeOf fault members) faults_in_or
 -- free of faults, and in byte order of their codes
 pub record AreMembers (members : List Member) : Type 0 where
   pub free : AreFree members
-  pub ordered : Pairwise (λ a b. code_rank a.code < code_rank b.code) members
+  pub ordered : Pairwise (λ a b. code_cmp a.code b.code ≡ Less) members
 
 -- the registry of that code
 abbrev pub member : List Member → Code → Option Member

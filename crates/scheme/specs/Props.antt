@@ -1,13 +1,16 @@
 -- What holds of the registries of a scheme has one proof, as a field of the scheme must.
-use Rattle.std.specs.Prelude.{◌≢◌, ◌<◌, ◌≤◌, List, [], ◌∷◌, length}
+use Rattle.std.specs.Prelude.{◌≡◌, ◌≢◌, ◌≤◌, List, [], ◌∷◌, length}
+use Rattle.std.specs.declared.cmp.Ordering.TheVariants.{Less}
 use Rattle.std.specs.Coded.{×_prop, Unit-prop, le_prop}
 use Rattle.std.specs.List.{AllByRecursion, AllByRecursion-prop}
+use Rattle.std.specs.Ordering.{Ordering-set}
 use Rattle.std.proofs.Props.{props}
 use Rattle.units.specs.Apart.{Pairwise, AreApart}
+use Rattle.units.specs.Keys.{code_cmp}
 use Rattle.units.specs.Limits.{most_accounts}
 use Rattle.units.specs.declared.block.Block.{Block}
 use Rattle.scheme.specs.Grammar.{HasNoTwins}
-use Rattle.scheme.specs.Order.{AreFew, IsFreeOf, AreMembers, all_blocks, code_rank, HasAccount, faults_in_order}
+use Rattle.scheme.specs.Order.{AreFew, IsFreeOf, AreMembers, all_blocks, HasAccount, faults_in_order}
 use Rattle.scheme.specs.declared.members.Allotment.{Allotment}
 use Rattle.scheme.specs.declared.members.Member.{Member}
 use Rattle.scheme.specs.declared.members.SchemeFault.{SchemeFault}
@@ -50,5 +53,5 @@ free-prop members NoMemory = Unit-prop
 pub AreMembers-prop : (members : List Member) → IsProp (AreMembers members)
 AreMembers-prop members x y = λ i. record {
   free = AllByRecursion-prop (λ fault. IsFreeOf fault members) (free-prop members) faults_in_order x.free y.free i;
-  ordered = Pairwise-prop (λ a b. code_rank a.code < code_rank b.code) (λ a b. le_prop) members x.ordered y.ordered i;
+  ordered = Pairwise-prop (λ a b. code_cmp a.code b.code ≡ Less) (λ a b. Ordering-set (code_cmp a.code b.code) Less) members x.ordered y.ordered i;
 }

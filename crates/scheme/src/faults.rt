@@ -1,19 +1,21 @@
 //! The faults of registries, in the order in which they are looked for.
-ghost use Rattle.std.specs.Prelude.{◌≡◌, ◌↔◌, ◌++◌, ℕ, ◌<◌, ◌≤◌, length, IfOk, IfSome, IfNone, OnOk, IsTrue, IsPermutation};
-ghost use Rattle.std.specs.List.{AllByRecursion, list_any, AllAdjacentBelow};
-ghost use Rattle.std.specs.List.Sorted.{IsNonDecreasing};
+ghost use Rattle.std.specs.Prelude.{◌≡◌, ◌↔◌, ◌++◌, ◌≤◌, length, IfOk, IfSome, IfNone, OnOk, IsTrue, IsPermutation};
+ghost use Rattle.std.specs.declared.cmp.Ordering.TheVariants.{Less};
+ghost use Rattle.std.specs.List.{AllByRecursion};
+ghost use Rattle.std.specs.List.Sorted.{IsNonDecreasing, IsSortedByKey};
 ghost use Rattle.units.specs.Apart.{Pairwise, AllApart};
+ghost use Rattle.units.specs.Keys.{code_cmp, unit_cmp, first_unit};
 ghost use Rattle.units.specs.Limits.{most_accounts};
 ghost use Rattle.scheme.specs.Grammar.{HasNoTwins};
-ghost use Rattle.scheme.specs.Order.{AreFew, IsFreeOf, AreMembers, all_blocks, blocks_of, code_rank, faults_in_order};
+ghost use Rattle.scheme.specs.Order.{AreFew, IsFreeOf, AreMembers, all_blocks, blocks_of, faults_in_order};
 ghost use Rattle.scheme.specs.Faults.{IsFirst};
-ghost use Rattle.scheme.specs.Reading.{AreSorted, IsKnown, first_of, from};
+ghost use Rattle.scheme.specs.Reading.{AreSorted, IsKnown};
 ghost use Rattle.scheme.specs.declared.members.SchemeFault.TheVariants.{AccountTwice, UnknownAccount};
 
 use crate::members::{Allotment, Member, SchemeFault};
 use std::alloc::{AllocError, Global};
+use units::Block;
 use units::limits::{LEAST_REGISTRIES, MOST_ACCOUNTS, MOST_ALLOTTED, MOST_REGISTRIES};
-use units::{Block, Unit};
 
 // Puts the blocks of all the allotments behind those that are there.
 fn push_units(all: &mut Vec<Block>, allotted: &[Allotment]) -> Result<(), AllocError>
@@ -62,7 +64,7 @@ fn are_few(members: &[Member], blocks: usize) -> bool
 // Whether the codes rise: of registries in order, two with one code are neighbours.
 fn have_different_codes(members: &[Member]) -> bool
     requires { AreSorted members.now }
-    ensures { IsTrue result ↔ Pairwise (λ a b. code_rank a.code < code_rank b.code) members.now }
+    ensures { IsTrue result ↔ Pairwise (λ a b. code_cmp a.code b.code ≡ Less) members.now }
 {
     for i in 1..members.len() {
         if members[i - 1].code == members[i].code {
@@ -134,23 +136,12 @@ fn have_known_accounts(alloc: Global, members: &[Member]) -> Result<bool, AllocE
     Ok(true)
 }
 
-// The first unit of a block.
-fn first_of(block: &Block) -> Unit
-    ensures { result ≡ first_of block.now }
-{
-    Unit {
-        origin: block.raw.origin,
-        period: block.raw.period,
-        number: block.raw.first,
-    }
-}
-
 // Puts the blocks in the order of their first units.
 fn sort(blocks: &mut [Block])
     ensures moved { IsPermutation blocks.old blocks.new }
-    ensures sorted { AllAdjacentBelow (λ a b. from a ≤ from b) blocks.new (length blocks.new) }
+    ensures sorted { IsSortedByKey (λ b. first_unit b.raw) unit_cmp blocks.new }
 {
-    blocks.sort_unstable_by_key(|block| first_of(block));
+    blocks.sort_unstable_by_key(|block| block.first_unit());
 }
 
 // Whether no unit is in two of the blocks. Puts them in the order of their first units: a block
@@ -160,7 +151,7 @@ fn are_apart(blocks: &mut [Block]) -> bool
 {
     sort(blocks);
     for i in 1..blocks.len() {
-        if blocks[i - 1].has(&first_of(&blocks[i])) {
+        if blocks[i - 1].has(&blocks[i].first_unit()) {
             return false;
         }
     }

@@ -1,16 +1,19 @@
 -- Lists of holdings in order: what goes in between, and what takes the place of another.
-use Rattle.std.proofs.Common.{◌≡◌, ℕ, zero, suc, ◌-◌, ◌<◌, ◌≤◌, ◌⊎◌, inl, inr, List, [], ◌∷◌, ◌++◌, length, get_or, set, take, drop, insert, Any, All, refl, ap, sym, ◌∙◌, subst, arith, Option, append_assoc}
+use Rattle.std.proofs.Common.{◌≡◌, ℕ, zero, suc, ◌-◌, ◌<◌, ◌≤◌, ◌⊎◌, inl, inr, true, List, [], ◌∷◌, ◌++◌, length, get_or, set, take, drop, insert, Any, All, refl, ap, sym, ◌∙◌, subst, arith, Option, append_assoc}
 use Rattle.std.proofs.lemmas.List.{take-append-drop, set_split}
 use Rattle.std.proofs.Math.Seq.{drop-cons, take-suc}
 use Rattle.std.specs.declared.cmp.Ordering.TheVariants.{Less}
-use Rattle.units.specs.Keys.{unit_cmp}
+use Rattle.std.proofs.lemmas.Bool.{cases_lt}
+use Rattle.units.specs.Canonical.{IsBefore, GoesOn}
+use Rattle.units.specs.Keys.{unit_cmp, unit_numbered, first_unit}
+use Rattle.units.specs.Unit.{has_unit}
 use Rattle.world.specs.declared.table.Holding.{Holding}
-use Rattle.world.specs.Holdings.{HasSo, IsBefore, GoesOn, AreInOrder, first_unit, last_unit}
+use Rattle.world.specs.Holdings.{HasSo, HeldAs, AreInOrder, held_as, interval_of}
 use Rattle.units.specs.declared.block.Kind.{Kind}
 use Rattle.units.specs.declared.block.Unit.{Unit as Serial}
 use Rattle.status.specs.declared.id.TransactionId.{TransactionId}
-use Rattle.world.specs.Stretches.{IsJoined, IsPlace, IsAdded, IsBelow, rank}
-use Rattle.world.proofs.UnitOrder.{Inside, inside, from_inside, lt_or_le, less_from_below}
+use Rattle.world.specs.Stretches.{IsJoined, IsPlace, IsAdded, ComesBefore}
+use Rattle.world.proofs.UnitsBetweenEnds.{numbers, has_with_numbers}
 
 -- ---- `Any` along a list
 
@@ -56,48 +59,67 @@ any_default (x ∷ xs) (suc k) a b h = any_default xs k a b (omega arith)
 
 -- ---- order
 
+-- the order and the joining of holdings, by their intervals
+abbrev Before : Holding → Holding → Type 0
+Before g h = IsBefore (λ (m : HeldAs). m.account) (interval_of g) (interval_of h)
+
+abbrev Continues : Holding → Holding → Type 0
+Continues g h = GoesOn (interval_of g) (interval_of h)
+
 -- the first of them, if any, stands in a higher account
 abbrev HeadAbove : ℕ → List Holding → Type 0
 HeadAbove account [] = Unit {0}
 HeadAbove account (y ∷ ys) = account < y.account
 
+-- holdings that go on where others end are held as those
+same_account : (g h : Holding) → Continues g h → g.account ≡ h.account
+same_account g h n = ap (λ (m : HeldAs). m.account) n.mark
+
+same_kind : (g h : Holding) → Continues g h → g.block.raw.kind ≡ h.block.raw.kind
+same_kind g h n = ap (λ (m : HeldAs). m.kind) n.mark
+
+same_mark : (g h : Holding) → Continues g h → g.mark ≡ h.mark
+same_mark g h n = ap (λ (m : HeldAs). m.mark) n.mark
+
 tail_in_order : (g : Holding) (ys : List Holding) → AreInOrder (g ∷ ys) → AreInOrder ys
 tail_in_order g [] o = tt
-tail_in_order g (y ∷ ys) o = o.1.1
+tail_in_order g (y ∷ ys) o = o.2
 
 in_front : (h : Holding) (ys : List Holding) → AreInOrder ys → HeadAbove h.account ys → AreInOrder (h ∷ ys)
 in_front h [] o above = tt
-in_front h (y ∷ ys) o above = (inl above, ((λ g. let e = g.account in omega arith), o))
+in_front h (y ∷ ys) o above = (inl above, (λ n. let e = same_account h y n in omega arith), o)
 
-behind : (xs : List Holding) (g h : Holding) (ys : List Holding) → AreInOrder (xs ++ g ∷ ys) → IsBefore g h → (GoesOn g h → ⊥) → HeadAbove h.account ys → AreInOrder (xs ++ g ∷ h ∷ ys)
-behind [] g h ys o before never above = (before, (never, in_front h ys (tail_in_order g ys o) above))
-behind (x ∷ []) g h ys o before never above = (o.0, (o.1.0, behind [] g h ys o.1.1 before never above))
-behind (x ∷ z ∷ xs) g h ys o before never above = (o.0, (o.1.0, behind (z ∷ xs) g h ys o.1.1 before never above))
+behind : (xs : List Holding) (g h : Holding) (ys : List Holding) → AreInOrder (xs ++ g ∷ ys) → Before g h → (Continues g h → ⊥) → HeadAbove h.account ys → AreInOrder (xs ++ g ∷ h ∷ ys)
+behind [] g h ys o before never above = (before, never, in_front h ys (tail_in_order g ys o) above)
+behind (x ∷ []) g h ys o before never above = (o.0, o.1, behind [] g h ys o.2 before never above)
+behind (x ∷ z ∷ xs) g h ys o before never above = (o.0, o.1, behind (z ∷ xs) g h ys o.2 before never above)
 
 -- the whole begins as its first part
-same_first : (g h w : Holding) → IsJoined g h w → first_unit g ≡ first_unit w
+same_first : (g h w : Holding) → IsJoined g h w → first_unit g.block.raw ≡ first_unit w.block.raw
 same_first g h w j = let o = j.origin in let p = j.period in let f = j.first in cc
 
-before_whole : (x g h w : Holding) → IsJoined g h w → IsBefore x g → IsBefore x w
+before_whole : (x g h w : Holding) → IsJoined g h w → Before x g → Before x w
 before_whole x g h w j b = elim b [
   | inl l ↦ inl (subst (λ a. x.account < a) (sym j.account) l)
-  | inr e ↦ inr (e.0 ∙ sym j.account, subst (λ s. unit_cmp (last_unit x) s ≡ Less) (same_first g h w j) e.1)
+  | inr e ↦ inr (e.0 ∙ sym j.account, subst (λ s. unit_cmp (unit_numbered x.block.raw x.block.raw.last) s ≡ Less) (same_first g h w j) e.1)
 ]
 
-goes_on_part : (x g h w : Holding) → IsJoined g h w → GoesOn x w → GoesOn x g
+-- the whole is held as its first part
+same_held : (g h w : Holding) → IsJoined g h w → held_as w ≡ held_as g
+same_held g h w j = λ i. record { account = j.account i; kind = j.kind i; mark = j.mark i }
+
+goes_on_part : (x g h w : Holding) → IsJoined g h w → Continues x w → Continues x g
 goes_on_part x g h w j n = record {
-  account = n.account ∙ j.account;
   origin = n.origin ∙ j.origin;
   period = n.period ∙ j.period;
-  kind = n.kind ∙ j.kind;
-  mark = n.mark ∙ j.mark;
   next = n.next ∙ j.first;
+  mark = n.mark ∙ same_held g h w j;
 }
 
 in_place : (xs : List Holding) (g h w : Holding) (ys : List Holding) → AreInOrder (xs ++ g ∷ ys) → IsJoined g h w → HeadAbove w.account ys → AreInOrder (xs ++ w ∷ ys)
 in_place [] g h w ys o j above = in_front w ys (tail_in_order g ys o) above
-in_place (x ∷ []) g h w ys o j above = (before_whole x g h w j o.0, ((λ n. o.1.0 (goes_on_part x g h w j n)), in_place [] g h w ys o.1.1 j above))
-in_place (x ∷ z ∷ xs) g h w ys o j above = (o.0, (o.1.0, in_place (z ∷ xs) g h w ys o.1.1 j above))
+in_place (x ∷ []) g h w ys o j above = (before_whole x g h w j o.0, (λ n. o.1 (goes_on_part x g h w j n)), in_place [] g h w ys o.2 j above)
+in_place (x ∷ z ∷ xs) g h w ys o j above = (o.0, o.1, in_place (z ∷ xs) g h w ys o.2 j above)
 
 -- ---- by index
 
@@ -112,17 +134,14 @@ split hs i d h = sym (take-append-drop i hs) ∙ ap (λ ys. take i hs ++ ys) (dr
 
 -- ---- one more holding
 
-abbrev Below : Holding → Holding → Type 0
-Below g h = IsBelow (last_unit g) (first_unit h)
-
-pub inserted : (hs : List Holding) (at : ℕ) (h : Holding) → AreInOrder hs → IsPlace hs h.account at → ((d : Holding) → 0 < at → IsBefore (get_or hs (at - 1) d) h × (GoesOn (get_or hs (at - 1) d) h → ⊥)) → AreInOrder (insert hs at h)
+pub inserted : (hs : List Holding) (at : ℕ) (h : Holding) → AreInOrder hs → IsPlace hs h.account at → ((d : Holding) → 0 < at → Before (get_or hs (at - 1) d) h × (Continues (get_or hs (at - 1) d) h → ⊥)) → AreInOrder (insert hs at h)
 inserted hs zero h o p f = in_front h hs o (head_above hs zero h.account p.above)
 inserted hs (suc j) h o p f =
     let l = p.within in
     let lt : j < length hs = omega arith in
     let one : suc j - 1 ≡ j = omega arith in
     let g = get_or hs j h in
-    let q = subst (λ n. IsBefore (get_or hs n h) h × (GoesOn (get_or hs n h) h → ⊥)) one (f h (omega arith)) in
+    let q = subst (λ n. Before (get_or hs n h) h × (Continues (get_or hs n h) h → ⊥)) one (f h (omega arith)) in
     let whole = subst AreInOrder (split hs j h lt) o in
     let done = behind (take j hs) g h (drop (suc j) hs) whole q.0 q.1 (head_above hs (suc j) h.account p.above) in
     subst AreInOrder (sym (ap (λ xs. xs ++ h ∷ drop (suc j) hs) (take-suc hs j h lt) ∙ append_assoc (take j hs) (g ∷ []) (h ∷ drop (suc j) hs))) done
@@ -135,7 +154,7 @@ replaced hs (suc i) h w o p lt j =
     let one : suc i - 1 ≡ i = omega arith in
     let k = subst (λ n. IsJoined (get_or hs n h) h w) one j in
     let whole = subst AreInOrder (split hs i h below) o in
-    let account : h.account ≡ w.account = sym k.goes_on.account ∙ sym k.account in
+    let account : h.account ≡ w.account = sym (same_account (get_or hs i h) h k.goes_on) ∙ sym k.account in
     let done = in_place (take i hs) (get_or hs i h) h w (drop (suc i) hs) whole k (subst (λ a. HeadAbove a (drop (suc i) hs)) account (head_above hs (suc i) h.account p.above)) in
     subst (λ n. AreInOrder (set hs n w)) (sym one) (subst AreInOrder (sym (set_split hs i w below)) done)
 
@@ -152,72 +171,61 @@ inserted_is_added hs at h o = record {
 
 -- ---- two holdings as one
 
-joined_line : (g h w : Holding) → IsJoined g h w → (rank (first_unit w) ≡ rank (first_unit g)) × (rank (first_unit w) ≡ rank (first_unit h))
-joined_line g h w j =
-    let o = j.origin in
-    let p = j.period in
-    let n = j.goes_on.origin in
-    let q = j.goes_on.period in
-    (cc, cc)
-
-joined_parts : (g h w : Holding) (s : Serial) → IsJoined g h w → Inside w.block.raw s → Inside g.block.raw s ⊎ Inside h.block.raw s
-joined_parts g h w s j i =
-    let l = joined_line g h w j in
-    let e = i.line in
-    let f = i.first in
-    let t = i.last in
-    let a = j.first in
-    let b = j.last in
-    let n = j.goes_on.next in
-    elim (lt_or_le g.block.raw.last s.number) [
-      | inl x ↦ inr (record { line = omega arith; first = omega arith; last = omega arith })
-      | inr x ↦ inl (record { line = omega arith; first = omega arith; last = omega arith })
+joined_parts : (g h w : Holding) (s : Serial) → IsJoined g h w → has_unit w.block.raw s ≡ true → (has_unit g.block.raw s ≡ true) ⊎ (has_unit h.block.raw s ≡ true)
+joined_parts g h w s j has =
+    let n = numbers w.block.raw s has in
+    let low = n.0 in
+    let high = n.1 in
+    let f = j.first in
+    let l = j.last in
+    let x = j.goes_on.next in
+    elim (cases_lt g.block.raw.last s.number) [
+      | inl b ↦ inr (has_with_numbers w.block.raw h.block.raw s (j.origin ∙ j.goes_on.origin) (j.period ∙ j.goes_on.period) has (omega arith) (omega arith))
+      | inr b ↦ inl (has_with_numbers w.block.raw g.block.raw s j.origin j.period has (omega arith) (omega arith))
     ]
 
-joined_first : (g h w : Holding) (s : Serial) → IsJoined g h w → Inside g.block.raw s → Inside w.block.raw s
-joined_first g h w s j i =
-    let l = joined_line g h w j in
+joined_first : (g h w : Holding) (s : Serial) → IsJoined g h w → has_unit g.block.raw s ≡ true → has_unit w.block.raw s ≡ true
+joined_first g h w s j has =
+    let n = numbers g.block.raw s has in
+    let low = n.0 in
+    let high = n.1 in
     let r = h.block.in_range in
-    let e = i.line in
-    let f = i.first in
-    let t = i.last in
-    let a = j.first in
-    let b = j.last in
-    let n = j.goes_on.next in
-    record { line = omega arith; first = omega arith; last = omega arith }
+    let f = j.first in
+    let l = j.last in
+    let x = j.goes_on.next in
+    has_with_numbers g.block.raw w.block.raw s (sym j.origin) (sym j.period) has (omega arith) (omega arith)
 
-joined_second : (g h w : Holding) (s : Serial) → IsJoined g h w → Inside h.block.raw s → Inside w.block.raw s
-joined_second g h w s j i =
-    let l = joined_line g h w j in
+joined_second : (g h w : Holding) (s : Serial) → IsJoined g h w → has_unit h.block.raw s ≡ true → has_unit w.block.raw s ≡ true
+joined_second g h w s j has =
+    let n = numbers h.block.raw s has in
+    let low = n.0 in
+    let high = n.1 in
     let r = g.block.in_range in
-    let e = i.line in
-    let f = i.first in
-    let t = i.last in
-    let a = j.first in
-    let b = j.last in
-    let n = j.goes_on.next in
-    record { line = omega arith; first = omega arith; last = omega arith }
+    let f = j.first in
+    let l = j.last in
+    let x = j.goes_on.next in
+    has_with_numbers h.block.raw w.block.raw s (sym j.goes_on.origin ∙ sym j.origin) (sym j.goes_on.period ∙ sym j.period) has (omega arith) (omega arith)
 
 module _ (g h w : Holding) (j : IsJoined g h w) (s : Serial) (account : ℕ) (kind : Kind) (mark : Option TransactionId) where
   parts : HasSo w s account kind mark → HasSo g s account kind mark ⊎ HasSo h s account kind mark
-  parts p = elim (joined_parts g h w s j (inside w.block.raw s p.has)) [
-    | inl i ↦ inl (record {
-      has = from_inside g.block.raw s i;
+  parts p = elim (joined_parts g h w s j p.has) [
+    | inl has ↦ inl (record {
+      has = has;
       account_is = sym j.account ∙ p.account_is;
       kind_is = sym j.kind ∙ p.kind_is;
       mark_is = sym j.mark ∙ p.mark_is;
     })
-    | inr i ↦ inr (record {
-      has = from_inside h.block.raw s i;
-      account_is = sym j.goes_on.account ∙ sym j.account ∙ p.account_is;
-      kind_is = sym j.goes_on.kind ∙ sym j.kind ∙ p.kind_is;
-      mark_is = sym j.goes_on.mark ∙ sym j.mark ∙ p.mark_is;
+    | inr has ↦ inr (record {
+      has = has;
+      account_is = sym (same_account g h j.goes_on) ∙ sym j.account ∙ p.account_is;
+      kind_is = sym (same_kind g h j.goes_on) ∙ sym j.kind ∙ p.kind_is;
+      mark_is = sym (same_mark g h j.goes_on) ∙ sym j.mark ∙ p.mark_is;
     })
   ]
 
   first_part : HasSo g s account kind mark → HasSo w s account kind mark
   first_part p = record {
-    has = from_inside w.block.raw s (joined_first g h w s j (inside g.block.raw s p.has));
+    has = joined_first g h w s j p.has;
     account_is = j.account ∙ p.account_is;
     kind_is = j.kind ∙ p.kind_is;
     mark_is = j.mark ∙ p.mark_is;
@@ -225,10 +233,10 @@ module _ (g h w : Holding) (j : IsJoined g h w) (s : Serial) (account : ℕ) (ki
 
   second_part : HasSo h s account kind mark → HasSo w s account kind mark
   second_part p = record {
-    has = from_inside w.block.raw s (joined_second g h w s j (inside h.block.raw s p.has));
-    account_is = j.account ∙ j.goes_on.account ∙ p.account_is;
-    kind_is = j.kind ∙ j.goes_on.kind ∙ p.kind_is;
-    mark_is = j.mark ∙ j.goes_on.mark ∙ p.mark_is;
+    has = joined_second g h w s j p.has;
+    account_is = j.account ∙ same_account g h j.goes_on ∙ p.account_is;
+    kind_is = j.kind ∙ same_kind g h j.goes_on ∙ p.kind_is;
+    mark_is = j.mark ∙ same_mark g h j.goes_on ∙ p.mark_is;
   }
 
 pub replaced_is_added : (hs : List Holding) (i : ℕ) (h w : Holding) → i < length hs → IsJoined (get_or hs i h) h w → AreInOrder (set hs i w) → IsAdded hs h (set hs i w)
@@ -257,10 +265,10 @@ replaced_is_added hs i h w lt j o =
           ];
     }
 
-pub before : (g h : Holding) → g.account ≤ h.account → IsBelow (last_unit g) (first_unit h) → IsBefore g h
-before g h le below = elim (lt_or_le g.account h.account) [
+before_from : (g h : Holding) → g.account ≤ h.account → ComesBefore (unit_numbered g.block.raw g.block.raw.last) (first_unit h.block.raw) → Before g h
+before_from g h le less = elim (cases_lt g.account h.account) [
   | inl lt ↦ inl lt
-  | inr ge ↦ inr (omega arith, less_from_below (last_unit g) (first_unit h) below)
+  | inr ge ↦ inr (omega arith, less)
 ]
 
 pub added_joined : (hs : List Holding) (at : ℕ) (h w g : Holding) → AreInOrder hs → IsPlace hs h.account at → 0 < at → g ≡ get_or hs (at - 1) g → IsJoined g h w → IsAdded hs h (set hs (at - 1) w)
@@ -269,8 +277,8 @@ added_joined hs at h w g o p lt is j =
     let k = subst (λ x. IsJoined x h w) (is ∙ any_default hs (at - 1) g h (omega arith)) j in
     replaced_is_added hs (at - 1) h w (omega arith) k (replaced hs at h w o p lt k)
 
-pub added_inserted : (hs : List Holding) (at : ℕ) (h : Holding) → AreInOrder hs → IsPlace hs h.account at → All (λ g. IsBelow (last_unit g) (first_unit h)) hs
-    → (0 < at → GoesOn (get_or hs (at - 1) h) h → ⊥) → IsAdded hs h (insert hs at h)
+pub added_inserted : (hs : List Holding) (at : ℕ) (h : Holding) → AreInOrder hs → IsPlace hs h.account at → All (λ g. ComesBefore (unit_numbered g.block.raw g.block.raw.last) (first_unit h.block.raw)) hs
+    → (0 < at → Continues (get_or hs (at - 1) h) h → ⊥) → IsAdded hs h (insert hs at h)
 added_inserted hs at h o p below never =
     let l = p.within in
-    inserted_is_added hs at h (inserted hs at h o p (λ d lt. (before (get_or hs (at - 1) d) h (p.up_to d lt) (below (at - 1) d (omega arith)), (λ n. never lt (subst (λ x. GoesOn x h) (any_default hs (at - 1) d h (omega arith)) n)))))
+    inserted_is_added hs at h (inserted hs at h o p (λ d lt. (before_from (get_or hs (at - 1) d) h (p.up_to d lt) (below (at - 1) d (omega arith)), (λ n. never lt (subst (λ x. Continues x h) (any_default hs (at - 1) d h (omega arith)) n)))))

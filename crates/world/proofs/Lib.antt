@@ -9,7 +9,7 @@ pub mod Opening
 pub mod Allotted
 pub mod Shown
 pub mod Dues
-pub mod UnitOrder
+pub mod UnitsBetweenEnds
 pub mod UnitReadings
 pub mod HoldingLists
 pub mod UnitWalk

@@ -1,10 +1,10 @@
 -- What a registry holds, as blocks in order.
-use Rattle.std.specs.Prelude.{◌≡◌, ℕ, suc, ◌<◌, ◌↔◌, ◌⊎◌, true, List, [], ◌∷◌, Any, Option, Some}
-use Rattle.std.specs.declared.cmp.Ordering.TheVariants.{Less}
-use Rattle.units.specs.Keys.{unit_cmp}
+use Rattle.std.specs.Prelude.{◌≡◌, ℕ, ◌↔◌, true, List, map, Any, Option, Some}
+use Rattle.units.specs.Canonical.{AreCanonical}
 use Rattle.units.specs.Unit.{has_unit}
 use Rattle.units.specs.declared.block.Unit.{Unit as Serial}
 use Rattle.units.specs.declared.block.Kind.{Kind}
+use Rattle.units.specs.declared.interval.Interval.{Interval}
 use Rattle.status.specs.declared.id.TransactionId.{TransactionId}
 use Rattle.scheme.specs.declared.members.Member.{Member}
 use Rattle.world.specs.declared.thin.rules.Transition.{Transition}
@@ -24,30 +24,23 @@ pub record HasSo (h : Holding) (s : Serial) (account : ℕ) (kind : Kind) (mark 
   pub kind_is : h.block.raw.kind ≡ kind
   pub mark_is : h.mark ≡ mark
 
-abbrev pub first_unit : Holding → Serial
-first_unit h = record { origin = h.block.raw.origin; period = h.block.raw.period; number = h.block.raw.first }
+-- how units are held: in an account, of a kind, and free or reserved by a transaction
+pub record HeldAs : Type 0 where
+  pub account : ℕ
+  pub kind : Kind
+  pub mark : Option TransactionId
 
-abbrev pub last_unit : Holding → Serial
-last_unit h = record { origin = h.block.raw.origin; period = h.block.raw.period; number = h.block.raw.last }
+-- how the units of a holding are held
+abbrev pub held_as : Holding → HeldAs
+held_as h = record { account = h.account; kind = h.block.raw.kind; mark = h.mark }
 
--- a holding stands before another: in a lower account, or in the same one with all its units lower
-abbrev pub IsBefore : Holding → Holding → Type 0
-IsBefore g h = (g.account < h.account) ⊎ ((g.account ≡ h.account) × (unit_cmp (last_unit g) (first_unit h) ≡ Less))
+-- a holding as an interval of units that are held so
+abbrev pub interval_of : Holding → Interval HeldAs
+interval_of h = record { origin = h.block.raw.origin; period = h.block.raw.period; first = h.block.raw.first; last = h.block.raw.last; mark = held_as h }
 
--- the second goes on where the first ends, and stands alike
-pub record GoesOn (g h : Holding) : Type 0 where
-  pub account : g.account ≡ h.account
-  pub origin : g.block.raw.origin ≡ h.block.raw.origin
-  pub period : g.block.raw.period ≡ h.block.raw.period
-  pub kind : g.block.raw.kind ≡ h.block.raw.kind
-  pub mark : g.mark ≡ h.mark
-  pub next : suc g.block.raw.last ≡ h.block.raw.first
-
--- each stands before the next one, and no two neighbours could be one
+-- by account and then in the order of units, neighbours that are held alike joined
 abbrev pub AreInOrder : List Holding → Type 0
-AreInOrder [] = Unit {0}
-AreInOrder (h ∷ []) = Unit {0}
-AreInOrder (g ∷ h ∷ hs) = IsBefore g h × ((GoesOn g h → ⊥) × AreInOrder (h ∷ hs))
+AreInOrder hs = AreCanonical (λ (m : HeldAs). m.account) (map interval_of hs)
 
 -- the holdings of a registry: in order, and a unit stands in one of them as it is held
 pub record AreHoldings (m : Member) (ts : List Transition) (hs : List Holding) : Type 0 where

@@ -1,9 +1,13 @@
--- How the holdings of a registry are found: by the units at which a block begins, or behind which one ends.
-use Rattle.std.specs.Prelude.{◌≡◌, ℕ, ◌+◌, ◌<◌, ◌≤◌, ◌⊎◌, ◌*◌, ◌-◌, true, length, slice_index_or, List, [], ◌∷◌, ◌++◌, Any, Contains, flat_map, Option}
+-- How the holdings of a registry are found: by the units at which a block begins, or that follow the last one of a block.
+use Rattle.std.specs.Prelude.{◌≡◌, ℕ, ◌+◌, ◌<◌, ◌≤◌, ◌⊎◌, ◌-◌, true, false, length, slice_index_or, List, [], ◌∷◌, ◌++◌, Any, Contains, flat_map, Option}
 use Rattle.std.specs.List.{AllByRecursion}
+use Rattle.std.specs.Ordering.{is_lt}
+use Rattle.std.specs.declared.cmp.Ordering.TheVariants.{Less}
+use Rattle.units.specs.Canonical.{GoesOn}
 use Rattle.units.specs.Facts.{IsRange}
 use Rattle.units.specs.Code.{same_code}
-use Rattle.units.specs.Unit.{period_index, same_period}
+use Rattle.units.specs.Keys.{unit_cmp, unit_numbered, first_unit}
+use Rattle.units.specs.Unit.{same_period}
 use Rattle.units.specs.declared.block.Block.{Block}
 use Rattle.units.specs.declared.block.Kind.{Kind}
 use Rattle.units.specs.declared.block.RawBlock.{RawBlock}
@@ -13,35 +17,26 @@ use Rattle.scheme.specs.declared.members.Allotment.{Allotment}
 use Rattle.scheme.specs.declared.members.Member.{Member}
 use Rattle.world.specs.declared.thin.rules.Transition.{Transition}
 use Rattle.world.specs.declared.table.Holding.{Holding}
-use Rattle.world.specs.Holdings.{IsHeldSo, HasSo, GoesOn, AreInOrder}
+use Rattle.world.specs.Holdings.{IsHeldSo, HasSo, AreInOrder, interval_of}
 
--- ---- the order of units, by numbers
+-- ---- the order of units
 
--- a number for the origin and the period, in their order
-abbrev pub rank : Serial → ℕ
-rank s = (s.origin.first * 256 + s.origin.second) * 4 + period_index s.period
+-- a comes before b
+abbrev pub ComesBefore : Serial → Serial → Type 0
+ComesBefore a b = unit_cmp a b ≡ Less
 
--- a stands before b
-pub record IsBelow (a b : Serial) : Type 0 where
-  pub line : rank a ≤ rank b
-  pub number : rank b ≤ rank a → a.number < b.number
-
--- a stands before b, or is b
-pub record IsUpTo (a b : Serial) : Type 0 where
-  pub line : rank a ≤ rank b
-  pub number : rank b ≤ rank a → a.number ≤ b.number
+-- a comes before b, or is b
+abbrev pub IsNotAfter : Serial → Serial → Type 0
+IsNotAfter a b = is_lt (unit_cmp b a) ≡ false
 
 -- ---- the ends of blocks
 
-abbrev pub first_of : Block → Serial
-first_of b = record { origin = b.raw.origin; period = b.raw.period; number = b.raw.first }
-
--- the unit behind its last one
-abbrev pub behind_of : Block → Serial
-behind_of b = record { origin = b.raw.origin; period = b.raw.period; number = b.raw.last + 1 }
+-- the unit that follows the last one of a block
+abbrev pub unit_after : RawBlock → Serial
+unit_after b = unit_numbered b (b.last + 1)
 
 abbrev pub ends_in : List Block → List Serial
-ends_in blocks = flat_map (λ b. first_of b ∷ behind_of b ∷ []) blocks
+ends_in blocks = flat_map (λ b. first_unit b.raw ∷ unit_after b.raw ∷ []) blocks
 
 -- the ends of all blocks that a registry ever knew
 abbrev pub allotted_ends : List Allotment → List Serial
@@ -60,13 +55,13 @@ pub record AllKnown (P : Block → Type 0) (m : Member) (ts : List Transition) :
 
 -- both ends of the block are among those
 pub record HasEnds (ends : List Serial) (b : Block) : Type 0 where
-  pub first : Contains ends (first_of b)
-  pub behind : Contains ends (behind_of b)
+  pub first : Contains ends (first_unit b.raw)
+  pub after : Contains ends (unit_after b.raw)
 
 -- no end of the block lies strictly between
 pub record IsWhole (from to : Serial) (b : Block) : Type 0 where
-  pub first : IsUpTo (first_of b) from ⊎ IsUpTo to (first_of b)
-  pub behind : IsUpTo (behind_of b) from ⊎ IsUpTo to (behind_of b)
+  pub first : IsNotAfter (first_unit b.raw) from ⊎ IsNotAfter to (first_unit b.raw)
+  pub after : IsNotAfter (unit_after b.raw) from ⊎ IsNotAfter to (unit_after b.raw)
 
 -- ---- holdings from one end to the next
 
@@ -76,7 +71,7 @@ pub record IsBetween (b : Block) (from to : Serial) (kind : Kind) : Type 0 where
   pub period : b.raw.period ≡ from.period
   pub kind_is : b.raw.kind ≡ kind
   pub first : b.raw.first ≡ from.number
-  pub behind : b.raw.last + 1 ≡ to.number
+  pub after : b.raw.last + 1 ≡ to.number
   pub same_origin : same_code from.origin to.origin ≡ true
   pub same_period : same_period from.period to.period ≡ true
 
@@ -85,20 +80,16 @@ pub record IsStretch (h : Holding) (from to : Serial) : Type 0 where
   pub origin : h.block.raw.origin ≡ from.origin
   pub period : h.block.raw.period ≡ from.period
   pub first : h.block.raw.first ≡ from.number
-  pub behind : h.block.raw.last + 1 ≡ to.number
-  pub line : rank from ≡ rank to
+  pub after : h.block.raw.last + 1 ≡ to.number
+  pub same_origin : same_code from.origin to.origin ≡ true
+  pub same_period : same_period from.period to.period ≡ true
 
--- the holdings of all units below a bound
+-- the holdings of all units that come before a bound
 pub record AreSoFar (m : Member) (ts : List Transition) (bound : Serial) (hs : List Holding) : Type 0 where
   pub in_order : AreInOrder hs
-  pub below : (s : Serial) (account : ℕ) (kind : Kind) (mark : Option TransactionId) → Any (λ h. HasSo h s account kind mark) hs → IsBelow s bound
+  pub before : (s : Serial) (account : ℕ) (kind : Kind) (mark : Option TransactionId) → Any (λ h. HasSo h s account kind mark) hs → ComesBefore s bound
   pub held : (s : Serial) (account : ℕ) (kind : Kind) (mark : Option TransactionId) → Any (λ h. HasSo h s account kind mark) hs → IsHeldSo m ts s account kind mark
-  pub all : (s : Serial) (account : ℕ) (kind : Kind) (mark : Option TransactionId) → IsBelow s bound → IsHeldSo m ts s account kind mark → Any (λ h. HasSo h s account kind mark) hs
-
-pub record StandAlike (g h : Holding) : Type 0 where
-  pub account : g.account ≡ h.account
-  pub mark : g.mark ≡ h.mark
-  pub kind : g.block.raw.kind ≡ h.block.raw.kind
+  pub all : (s : Serial) (account : ℕ) (kind : Kind) (mark : Option TransactionId) → ComesBefore s bound → IsHeldSo m ts s account kind mark → Any (λ h. HasSo h s account kind mark) hs
 
 pub record Follow (a b : RawBlock) : Type 0 where
   pub origin : a.origin ≡ b.origin
@@ -107,7 +98,7 @@ pub record Follow (a b : RawBlock) : Type 0 where
 
 -- both as one
 pub record IsJoined (g h whole : Holding) : Type 0 where
-  pub goes_on : GoesOn g h
+  pub goes_on : GoesOn (interval_of g) (interval_of h)
   pub account : whole.account ≡ g.account
   pub mark : whole.mark ≡ g.mark
   pub origin : whole.block.raw.origin ≡ g.block.raw.origin

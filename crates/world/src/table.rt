@@ -3,16 +3,17 @@
 ghost use Rattle.std.specs.Prelude.{◌≡◌, ℕ, ◌+◌, ◌-◌, ◌&&◌, ◌++◌, true, option_map, option_copied, find, Option, All, IfSome, IfNone, IfOk, OnOk};
 ghost use Rattle.std.specs.Bool.{OnTrue, OnFalse};
 ghost use Rattle.std.specs.List.Sorted.{IsSorted};
+ghost use Rattle.units.specs.Canonical.{GoesOn};
 ghost use Rattle.units.specs.Code.{same_code};
 ghost use Rattle.units.specs.Facts.{IsRange};
-ghost use Rattle.units.specs.Keys.{unit_cmp};
+ghost use Rattle.units.specs.Keys.{unit_cmp, unit_numbered, first_unit};
 ghost use Rattle.units.specs.Unit.{covers, same_period};
 ghost use Rattle.units.specs.declared.block.Kind.{Kind};
 ghost use Rattle.status.specs.declared.id.TransactionId.{TransactionId};
 ghost use Rattle.world.specs.History.{block_with, completes, gives, credits, lot_of, credited_place, number_of, holds, stands_at, reserver, place};
-ghost use Rattle.world.specs.Holdings.{IsHeldSo, GoesOn, AreInOrder, AreHoldings, first_unit, last_unit};
+ghost use Rattle.world.specs.Holdings.{IsHeldSo, AreInOrder, AreHoldings, held_as, interval_of};
 ghost use Rattle.world.specs.Readings.{lot, place_at};
-ghost use Rattle.world.specs.Stretches.{IsBelow, IsUpTo, ends_in, allotted_ends, moved_ends, AllKnown, HasEnds, IsWhole, IsBetween, IsStretch, IsNoStretch, AreSoFar, StandAlike, Follow, IsJoined, IsPlace, IsAdded};
+ghost use Rattle.world.specs.Stretches.{ComesBefore, IsNotAfter, ends_in, allotted_ends, moved_ends, AllKnown, HasEnds, IsWhole, IsBetween, IsStretch, IsNoStretch, AreSoFar, Follow, IsJoined, IsPlace, IsAdded};
 
 use crate::thin::{Transition, status_in};
 use scheme::{Allotment, Member};
@@ -211,24 +212,19 @@ fn place_of(member: &Member, transitions: &VecDeque<Transition>, unit: &Unit) ->
     })
 }
 
-/// Adds the first units of the blocks, and the units behind their last ones.
+/// Adds the first units of the blocks, and the units that follow their last ones.
 fn add_ends(ends: &mut Vec<Unit>, blocks: &[Block]) -> Result<(), NoMemory>
     ensures { OnOk result (ends.new.items ≡ ends.old.items ++ ends_in blocks.now) }
 {
     for block in blocks {
         let raw = block.raw;
-        let first = Unit {
-            origin: raw.origin,
-            period: raw.period,
-            number: raw.first,
-        };
-        let behind = Unit {
+        let after = Unit {
             origin: raw.origin,
             period: raw.period,
             number: raw.last + 1,
         };
-        ends.push(first)?;
-        ends.push(behind)?;
+        ends.push(block.first_unit())?;
+        ends.push(after)?;
     }
     Ok(())
 }
@@ -251,7 +247,7 @@ fn add_moved_ends(ends: &mut Vec<Unit>, transitions: &VecDeque<Transition>) -> R
     Ok(())
 }
 
-/// The first units of all blocks that a registry ever knew, and the units behind their last ones.
+/// The first units of all blocks that a registry ever knew, and the units that follow their last ones.
 /// Between two neighbours of these all units stand alike.
 fn ends_of(
     alloc: Global,
@@ -343,8 +339,8 @@ fn is_same_code(one: Code, other: Code) -> bool
 
 /// The units of both have the same account, kind and mark.
 fn stand_alike(one: &Holding, other: &Holding) -> bool
-    ensures yes { OnTrue result (StandAlike one.now other.now) }
-    ensures no { OnFalse result (StandAlike one.now other.now → ⊥) }
+    ensures yes { OnTrue result (held_as one.now ≡ held_as other.now) }
+    ensures no { OnFalse result (held_as one.now ≡ held_as other.now → ⊥) }
 {
     one.account == other.account
         && is_same_mark(one.mark, other.mark)
@@ -363,8 +359,8 @@ fn follow(one: &Block, other: &Block) -> bool
 
 /// The units of both follow one another and stand alike.
 fn is_next(one: &Holding, other: &Holding) -> bool
-    ensures yes { OnTrue result (GoesOn one.now other.now) }
-    ensures no { OnFalse result (GoesOn one.now other.now → ⊥) }
+    ensures yes { OnTrue result (GoesOn (interval_of one.now) (interval_of other.now)) }
+    ensures no { OnFalse result (GoesOn (interval_of one.now) (interval_of other.now) → ⊥) }
 {
     stand_alike(one, other) && follow(&one.block, &other.block)
 }
@@ -372,7 +368,7 @@ fn is_next(one: &Holding, other: &Holding) -> bool
 /// Both as one, where they follow one another and stand alike.
 fn joined(one: &Holding, other: &Holding) -> Option<Holding>
     ensures some { IfSome result (λ whole. IsJoined one.now other.now whole) }
-    ensures none { IfNone result (GoesOn one.now other.now → ⊥) }
+    ensures none { IfNone result (GoesOn (interval_of one.now) (interval_of other.now) → ⊥) }
 {
     if !is_next(one, other) {
         return None;
@@ -402,7 +398,7 @@ fn place_for(holdings: &[Holding], account: u64) -> usize
 /// Puts a holding behind the others of its account, as one with the last of them where they go on.
 fn add(holdings: &mut Vec<Holding>, holding: Holding) -> Result<(), NoMemory>
     requires in_order { AreInOrder holdings.old.items }
-    requires behind { All (λ g. IsBelow (last_unit g) (first_unit holding)) holdings.old.items }
+    requires behind { All (λ g. ComesBefore (unit_numbered g.block.raw g.block.raw.last) (first_unit holding.block.raw)) holdings.old.items }
     ensures { OnOk result (IsAdded holdings.old.items holding holdings.new.items) }
 {
     let at = place_for(holdings.as_slice(), holding.account);
@@ -416,7 +412,7 @@ fn add(holdings: &mut Vec<Holding>, holding: Holding) -> Result<(), NoMemory>
     Ok(())
 }
 
-/// From the holdings of all units below one end to those below the next.
+/// From the holdings of all units before one end to those of all units before the next.
 fn extend(
     holdings: &mut Vec<Holding>,
     member: &Member,
@@ -426,7 +422,7 @@ fn extend(
 ) -> Result<(), NoMemory>
     requires so_far { AreSoFar member.now transitions.now.items from.now holdings.old.items }
     requires whole { AllKnown (IsWhole from.now to.now) member.now transitions.now.items }
-    requires up { IsUpTo from.now to.now }
+    requires up { IsNotAfter from.now to.now }
     ensures { OnOk result (AreSoFar member.now transitions.now.items to.now holdings.new.items) }
 {
     match holding_between(member, transitions, from, to) {

@@ -1,9 +1,9 @@
 use Rattle.world.specs.Stretches.{AreSoFar, IsAdded}
-use Rattle.world.proofs.UnitWalk.{all_below, one_more, none_more, on_ok}
+use Rattle.world.proofs.UnitWalk.{all_before, one_more, none_more, on_ok}
 use Rattle.world.proofs.table.extend.Goals as goal
 
 pub add-requires-clause-behind : goal.add-requires-clause-behind
-add-requires-clause-behind c = all_below c.args.member.now c.args.transitions.now.items c.args.from.now c.args.to.now c.args.holdings.now.items c.in-Some.holding c.requires.so_far c.in-Some.ensures.some.0
+add-requires-clause-behind c = all_before c.args.member.now c.args.transitions.now.items c.args.from.now c.args.to.now c.args.holdings.now.items c.in-Some.holding c.requires.so_far c.in-Some.ensures.some.0
 
 pub returns-in-Some : goal.returns-in-Some
 returns-in-Some c =

@@ -20,7 +20,8 @@ use Rattle.wire.specs.declared.input.Input.TheVariants.{Propose, Request, OpenAc
 use Rattle.wire.specs.declared.input.Number.{Number}
 use Rattle.wire.specs.declared.message.Message.{Message}
 use Rattle.wire.proofs.OneMessage.{message_once, id_once}
-use Rattle.wire.proofs.Told.{at_once, whole_once, text_once, blocks_once}
+use Rattle.fields.proofs.OneAtKey.{at_once, whole_once, text_once}
+use Rattle.wire.proofs.Told.{blocks_once}
 
 -- ---- the word of an input
 
@@ -84,7 +85,7 @@ received_word d at (Received m t) is = ((m, t), is)
 number_same : (m n : Number) → m.value ≡ n.value → m ≡ n
 number_same m n e = λ i. record { value = e i; short = is_prop→PathP (λ j. e j < 10 ^ 18) (λ j. hlevel le_prop) m.short n.short i }
 
-moment_same : (t u : Moment) → t.seconds ≡ u.seconds → t ≡ u
+pub moment_same : (t u : Moment) → t.seconds ≡ u.seconds → t ≡ u
 moment_same t u e = λ i. record { seconds = e i; in_range = is_prop→PathP (λ j. e j ≤ last_moment) (λ j. hlevel le_prop) t.in_range u.in_range i }
 
 number_once : (d : Data) (key : List ℕ) (m n : Number) → HasAt d key (whole m.value) → HasAt d key (whole n.value) → m ≡ n

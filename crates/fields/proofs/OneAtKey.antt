@@ -1,7 +1,7 @@
 -- The value at a key of an object: that there is one, and which one it is where it is read as a text, a number or an array.
-use Rattle.std.proofs.Common.{◌≡◌, ℕ, List, Option, Some, None, sym, ap, ◌∙◌}
+use Rattle.std.proofs.Common.{◌≡◌, ℕ, List, Option, Some, sym, ap, ◌∙◌}
 use Rattle.std.specs.Prelude.{option_and_then}
-use Rattle.serde_json.specs.Data.{Data, unsigned, negative, float, null, boolean, number, string, array, object, Items}
+use Rattle.serde_json.specs.Data.{Data, unsigned, number, string, array, Items}
 use Rattle.serde_json.specs.Find.{get, as_str, as_number, as_u64, as_array}
 use Rattle.fields.specs.Fields.{HasAt, text_at, number_at}
 
@@ -25,36 +25,19 @@ pub array_at : (d : Data) (key : List ℕ) (items : Items) → Some items ≡ op
 array_at d key items e = own (get key d) e
   where
     own : (o : Option Data) → Some items ≡ option_and_then as_array o → o ≡ Some (array items)
-    own None e = absurd (cc)
-    own (Some null) e = absurd (cc)
-    own (Some (boolean b)) e = absurd (cc)
-    own (Some (number n)) e = absurd (cc)
-    own (Some (string s)) e = absurd (cc)
     own (Some (array ds)) e = cc (e)
-    own (Some (object ms)) e = absurd (cc)
+    own _ e = absurd (cc)
 
 pub string_at : (d : Data) (key s : List ℕ) → Some s ≡ text_at key d → HasAt d key (string s)
 string_at d key s e = own (get key d) e
   where
     own : (o : Option Data) → Some s ≡ option_and_then as_str o → o ≡ Some (string s)
-    own None e = absurd (cc)
-    own (Some null) e = absurd (cc)
-    own (Some (boolean b)) e = absurd (cc)
-    own (Some (number n)) e = absurd (cc)
     own (Some (string t)) e = cc (e)
-    own (Some (array ds)) e = absurd (cc)
-    own (Some (object ms)) e = absurd (cc)
+    own _ e = absurd (cc)
 
 pub whole_at : (d : Data) (key : List ℕ) (n : ℕ) → Some n ≡ number_at key d → HasAt d key (number (unsigned n))
 whole_at d key n e = own (get key d) e
   where
     own : (o : Option Data) → Some n ≡ option_and_then as_u64 (option_and_then as_number o) → o ≡ Some (number (unsigned n))
-    own None e = absurd (cc)
-    own (Some null) e = absurd (cc)
-    own (Some (boolean b)) e = absurd (cc)
     own (Some (number (unsigned m))) e = let same : m ≡ n = cc in ap (λ k. Some (number (unsigned k))) same
-    own (Some (number (negative z))) e = absurd (cc)
-    own (Some (number (float x))) e = absurd (cc)
-    own (Some (string t)) e = absurd (cc)
-    own (Some (array ds)) e = absurd (cc)
-    own (Some (object ms)) e = absurd (cc)
+    own _ e = absurd (cc)

@@ -1,2 +1,4 @@
 pub mod Lists
 pub mod Parts
+pub mod OneAtKey
+pub mod BlockTexts

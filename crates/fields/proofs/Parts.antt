@@ -1,9 +1,5 @@
 -- What one part of an object finds or lacks, seen from the whole.
-use Rattle.std.proofs.Common.{◌≡◌, ℕ, List, Option, Some, None, sym, subst, ◌∙◌, Result, Ok, Err}
-use Rattle.std.specs.Prelude.{option_and_then}
-use Rattle.serde_json.specs.Data.{Data, null, boolean, number, string, array, object, Items}
-use Rattle.serde_json.specs.Find.{get, as_array}
-use Rattle.fields.specs.Fields.{HasAt}
+use Rattle.std.proofs.Common.{◌≡◌, sym, subst, Result, Ok, Err}
 use Rattle.std.specs.Result.{IsErrAnd}
 use Rattle.fields.specs.Found.{Finds}
 use Rattle.fields.specs.declared.fault.ReadFault.{ReadFault}
@@ -24,19 +20,3 @@ pub finds_same : {X : Type 0} (P Q : X → Type 0) (r : Result X ReadFault) → 
 finds_same P Q (Ok x) to from f = to x f
 finds_same P Q (Err Shape) to from f = λ x q. f x (from x q)
 finds_same P Q (Err NoMemory) to from f = tt
-
--- the array at a key
-pub array_at : (d : Data) (key : List ℕ) (items : Items) → Some items ≡ option_and_then as_array (get key d) → HasAt d key (array items)
-array_at d key items e = own (get key d) e
-  where
-    own : (o : Option Data) → Some items ≡ option_and_then as_array o → o ≡ Some (array items)
-    own None e = absurd (cc)
-    own (Some null) e = absurd (cc)
-    own (Some (boolean b)) e = absurd (cc)
-    own (Some (number n)) e = absurd (cc)
-    own (Some (string s)) e = absurd (cc)
-    own (Some (array ds)) e = cc (e)
-    own (Some (object ms)) e = absurd (cc)
-
-pub array_once : (d : Data) (key : List ℕ) (items others : Items) → HasAt d key (array items) → HasAt d key (array others) → items ≡ others
-array_once d key items others p q = let e : Some (array items) ≡ Some (array others) = sym p ∙ q in cc (e)

@@ -4,3 +4,4 @@ pub mod Positions
 pub mod SomePass
 pub mod Comparisons
 pub mod NoRepeats
+pub mod Permutations

@@ -1,11 +1,11 @@
 -- What a list keeps in any other order of its elements.
 use Rattle.std.proofs.Common.{ℕ, zero, suc, ◌<◌, List, [], ◌∷◌, ◌++◌, length, get_or, sym, subst, arith, append_assoc}
 use Rattle.std.specs.Prelude.{IsPermutation}
-use Rattle.std.specs.List.{AllByRecursion, swap}
+use Rattle.std.specs.List.{swap}
 use Rattle.std.proofs.Math.ListN.{set}
 use Rattle.std.proofs.lemmas.List.Edits.{swap_is}
-use Rattle.std.proofs.lemmas.List.Elements.{All-from_recursion, recursion_from_All}
-use Rattle.std.proofs.lemmas.List.Sorted.{IsPermutation-keeps, All-permutation}
+use Rattle.std.proofs.lemmas.List.Sorted.{IsPermutation-keeps}
+pub use Rattle.lemmas.proofs.Permutations.{each_moved}
 use Rattle.units.specs.Apart.{Pairwise}
 use Rattle.scheme.proofs.Pairs.{neighbours_turn}
 
@@ -53,6 +53,3 @@ module _ {X : Type 0} (P : List X → Type 0) (turn : (xs : List X) (x y : X) (y
 
 pub pairs_moved : {X : Type 0} (R : X → X → Type 0) → ((x y : X) → R x y → R y x) → (xs ys : List X) → IsPermutation xs ys → Pairwise R xs → Pairwise R ys
 pairs_moved R turns xs ys s p = moved (Pairwise R) (neighbours_turn R turns) xs ys s p
-
-pub each_moved : {X : Type 0} (P : X → Type 0) (xs ys : List X) → IsPermutation xs ys → AllByRecursion P xs → AllByRecursion P ys
-each_moved P xs ys s p = recursion_from_All P ys (All-permutation P xs ys s (All-from_recursion P xs p))

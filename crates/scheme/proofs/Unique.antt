@@ -1,5 +1,5 @@
 -- A value writes one list of registries at most.
-use Rattle.std.proofs.Common.{true, rules, codes, ◌≡◌, ℕ, List, Some, refl, sym, ap, subst, ◌∙◌}
+use Rattle.std.proofs.Common.{true, rules, codes, ◌≡◌, ℕ, List, Some, sym, subst, ◌∙◌}
 use Rattle.units.specs.Facts.{IsRange}
 use Rattle.units.specs.Code.{code_text}
 use Rattle.units.specs.Block.{kind_text, IsRawText}
@@ -8,13 +8,15 @@ use Rattle.units.specs.declared.block.RawBlock.{RawBlock}
 use Rattle.units.specs.declared.block.Block.{Block}
 use Rattle.units.specs.declared.block.Kind.{Kind}
 use Rattle.units.proofs.OneText.{block_same, kind_same, code_text_same, raw_same}
-use Rattle.serde_json.specs.Data.{Data, unsigned, boolean, number, string, array}
+use Rattle.serde_json.specs.Data.{Data, unsigned, boolean, number, string}
 use Rattle.scheme.specs.Grammar.{IsAccount, IsKind, IsBlock, IsAllotment, IsMember, IsWritten}
 use Rattle.scheme.specs.declared.members.Allotment.{Allotment}
 use Rattle.scheme.specs.declared.members.Member.{Member}
 use Rattle.fields.specs.Fields.{HasAt, EachIs, HasList}
 use Rattle.fields.proofs.Lists.{each_one}
-use Rattle.std.specs.Prelude.{Result, Ok, Err, IfNone}
+use Rattle.fields.proofs.OneAtKey.{at_once, text_once, whole_once, array_once}
+use Rattle.fields.proofs.BlockTexts.{block_none as no_block_text}
+use Rattle.std.specs.Prelude.{Result, Err, IfNone}
 use Rattle.std.specs.Result.{result_ok}
 use Rattle.serde_json.specs.Find.{as_str}
 use Rattle.units.specs.declared.block.BlockFault.{BlockFault}
@@ -39,45 +41,27 @@ block_one d a b p q =
 
 pub block_none : (d : Data) (text : List ℕ) (r : Result Block BlockFault) → Some text ≡ as_str d → (r ≡ Err Shape → (w : RawBlock) → IsRawText text w → ⊥)
     → (r ≡ Err Range → (w : RawBlock) × IsRawText text w × (IsRange w.first w.last → ⊥)) → IfNone (result_ok r) ((b : Block) → IsBlock d b → ⊥)
-block_none d text (Ok b) e shape range = tt
-block_none d text (Err Shape) e shape range = λ b is.
-    let same : Some is.0 ≡ Some text = sym (e ∙ ap as_str is.1) in
-    let t : is.0 ≡ text = cc (same) in
-    shape refl b.raw (subst (λ s. IsRawText s b.raw) t is.2)
-block_none d text (Err Range) e shape range = λ b is.
-    let same : Some is.0 ≡ Some text = sym (e ∙ ap as_str is.1) in
-    let t : is.0 ≡ text = cc (same) in
-    let w = range refl in
-    w.2 (subst (λ r. IsRange r.first r.last) (raw_same text b.raw w.0 (subst (λ s. IsRawText s b.raw) t is.2) w.1) b.in_range)
+block_none d text r e shape range = no_block_text (IsBlock d) d text r (λ b is. is) e shape range
 
 -- ---- an object writes one value
 
-at_one : (d : Data) (key : List ℕ) (v w : Data) → HasAt d key v → HasAt d key w → v ≡ w
-at_one d key v w p q = let e : Some v ≡ Some w = sym p ∙ q in cc (e)
-
 pub list_one : {X : Type 0} (R : Data → X → Type 0) → ((d : Data) (x y : X) → R d x → R d y → x ≡ y) → (d : Data) (key : List ℕ) (xs ys : List X) → HasList R d key xs → HasList R d key ys → xs ≡ ys
 list_one R one d key xs ys p q =
-    let e : array q.0 ≡ array p.0 = at_one d key (array q.0) (array p.0) q.1 p.1 in
-    let items : q.0 ≡ p.0 = cc (e) in
-    each_one R one p.0 xs ys p.2 (subst (λ ds. EachIs R ds ys) items q.2)
+    each_one R one p.0 xs ys p.2 (subst (λ ds. EachIs R ds ys) (array_once d key q.0 p.0 q.1 p.1) q.2)
 
 pub allotment_one : (d : Data) (a b : Allotment) → IsAllotment d a → IsAllotment d b → a ≡ b
 allotment_one d a b p q =
-    let number_is : number (unsigned a.account) ≡ number (unsigned b.account) = at_one d (codes "account") _ _ p.account q.account in
-    let account : a.account ≡ b.account = cc (number_is) in
+    let account : a.account ≡ b.account = whole_once d (codes "account") a.account b.account p.account q.account in
     let units : a.units ≡ b.units = list_one IsBlock block_one d (codes "units") a.units b.units p.units q.units in
     λ i. record { account = account i; units = units i }
 
 pub code_one : (d : Data) (a b : Code) → HasAt d (codes "code") (string (code_text a)) → HasAt d (codes "code") (string (code_text b)) → a ≡ b
-code_one d a b p q =
-    let e : string (code_text a) ≡ string (code_text b) = at_one d (codes "code") _ _ p q in
-    let t : code_text a ≡ code_text b = cc (e) in
-    code_text_same a b t
+code_one d a b p q = code_text_same a b (text_once d (codes "code") (code_text a) (code_text b) p q)
 
 pub member_one : (d : Data) (m n : Member) → IsMember d m → IsMember d n → m ≡ n
 member_one d m n p q =
     let code : m.code ≡ n.code = code_one d m.code n.code p.code q.code in
-    let truth : boolean m.eligible ≡ boolean n.eligible = at_one d (codes "eligible") _ _ p.eligible q.eligible in
+    let truth : boolean m.eligible ≡ boolean n.eligible = at_once d (codes "eligible") _ _ p.eligible q.eligible in
     let eligible : m.eligible ≡ n.eligible = cc (truth) in
     let accounts : m.accounts ≡ n.accounts = list_one IsAccount account_one d (codes "accounts") m.accounts n.accounts p.accounts q.accounts in
     let allotted : m.allotted ≡ n.allotted = list_one IsAllotment allotment_one d (codes "allotted") m.allotted n.allotted p.allotted q.allotted in
@@ -86,7 +70,7 @@ member_one d m n p q =
 
 -- the number of records and the registries that a value writes
 pub records_one : (d : Data) (m n : ℕ) (ms ns : List Member) → IsWritten d m ms → IsWritten d n ns → m ≡ n
-records_one d m n ms ns p q = let e : number (unsigned m) ≡ number (unsigned n) = at_one d (codes "records") _ _ p.records_at q.records_at in cc (e)
+records_one d m n ms ns p q = whole_once d (codes "records") m n p.records_at q.records_at
 
 pub members_one : (d : Data) (m n : ℕ) (ms ns : List Member) → IsWritten d m ms → IsWritten d n ns → ms ≡ ns
 members_one d m n ms ns p q = list_one IsMember member_one d (codes "registries") ms ns p.registries q.registries

@@ -52,7 +52,7 @@ period_same a b e = sym (period_again a) ∙ ap period_told e ∙ period_again b
 pub code_text_same : (a b : Code) → code_text a ≡ code_text b → a ≡ b
 code_text_same a b e = codes_alike a b (cc) (cc)
 
-number_same : (m n : ℕ) → m < 10 ^ 18 → n < 10 ^ 18 → decimal m ≡ decimal n → m ≡ n
+pub number_same : (m n : ℕ) → m < 10 ^ 18 → n < 10 ^ 18 → decimal m ≡ decimal n → m ≡ n
 number_same m n h k e = let mm : m < 2 ^ 64 = omega arith in let nn : n < 2 ^ 64 = omega arith in decimal_injective m n mm nn e
 
 pub raw_same : (text : List ℕ) (a b : RawBlock) → IsRawText text a → IsRawText text b → a ≡ b

@@ -1,22 +1,19 @@
 -- The items of arrays, one by one and as lists.
-use Rattle.std.proofs.Common.{◌≡◌, ℕ, ◌<◌, ◌^◌, List, [], ◌∷◌, Some, sym, ap, subst, ◌∙◌, refl, arith, Result, Ok, Err}
-use Rattle.std.specs.Prelude.{IfNone, option_and_then, codes}
+use Rattle.std.proofs.Common.{◌≡◌, ℕ, ◌<◌, ◌^◌, List, [], ◌∷◌, Some, sym, subst, refl, arith, Result}
+use Rattle.std.specs.Prelude.{option_and_then, codes}
 use Rattle.std.specs.List.{AllByRecursion}
-use Rattle.std.specs.Result.{result_ok}
-use Rattle.serde_json.specs.Data.{Data, Items, item, no_items, string, array}
-use Rattle.serde_json.specs.Find.{get, as_str, as_array}
-use Rattle.units.proofs.OneText.{raw_same}
+use Rattle.serde_json.specs.Data.{Data, Items, item, no_items, array}
+use Rattle.serde_json.specs.Find.{get, as_array}
 use Rattle.units.specs.Block.{raw_text, IsRawText}
 use Rattle.units.specs.Facts.{IsRange}
 use Rattle.units.specs.declared.block.Block.{Block}
-use Rattle.units.specs.declared.block.BlockFault.{BlockFault}
-use Rattle.units.specs.declared.block.BlockFault.TheVariants.{Shape, Range}
 use Rattle.units.specs.declared.block.RawBlock.{RawBlock}
 use Rattle.status.specs.Content.{raws}
 use Rattle.fields.specs.Fields.{EachIs, HasAt}
 use Rattle.fields.specs.Found.{Finds}
 use Rattle.fields.specs.declared.fault.ReadFault.{ReadFault}
-use Rattle.fields.proofs.Parts.{finds_same, array_at, array_once}
+use Rattle.fields.proofs.Parts.{finds_same}
+use Rattle.fields.proofs.OneAtKey.{array_at, array_once}
 use Rattle.wire.specs.Objects.{whole_items, numbers, block_items, blocks}
 use Rattle.wire.specs.Reading.{IsBlockItem, IsRawItem, IsCodeItem}
 
@@ -25,20 +22,6 @@ use Rattle.wire.specs.Reading.{IsBlockItem, IsRawItem, IsCodeItem}
 -- the text of a block in range is that of a raw block
 pub own_text : (r : RawBlock) → IsRange r.first r.last → IsRawText (raw_text r) r
 own_text r range = record { spelled = refl; first = omega (arith, range.1, range.2); last = omega (arith, range.2) }
-
-item_text : (d : Data) (text t : List ℕ) → Some text ≡ as_str d → d ≡ string t → text ≡ t
-item_text d text t e is = let same : Some text ≡ Some t = e ∙ ap as_str is in cc (same)
-
-pub block_none : (d : Data) (text : List ℕ) (r : Result Block BlockFault) → Some text ≡ as_str d → (r ≡ Err Shape → (w : RawBlock) → IsRawText text w → ⊥)
-    → (r ≡ Err Range → (w : RawBlock) × IsRawText text w × (IsRange w.first w.last → ⊥)) → IfNone (result_ok r) ((b : Block) → IsBlockItem d b → ⊥)
-block_none d text (Ok b) e shape range = tt
-block_none d text (Err Shape) e shape range = λ b is.
-    let own : IsRawText text b.raw = subst (λ s. IsRawText s b.raw) (sym (item_text d text (raw_text b.raw) e is)) (own_text b.raw b.in_range) in
-    shape refl b.raw own
-block_none d text (Err Range) e shape range = λ b is.
-    let own : IsRawText text b.raw = subst (λ s. IsRawText s b.raw) (sym (item_text d text (raw_text b.raw) e is)) (own_text b.raw b.in_range) in
-    let w = range refl in
-    w.2 (subst (λ r. IsRange r.first r.last) (raw_same text b.raw w.0 own w.1) b.in_range)
 
 -- ---- items and lists
 

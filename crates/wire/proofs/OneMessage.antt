@@ -26,11 +26,12 @@ use Rattle.wire.specs.declared.message.ProposalStatus.TheVariants.{Proposed, Che
 use Rattle.wire.specs.declared.message.Request.{Request}
 use Rattle.wire.specs.declared.notice.Notice.{Notice}
 use Rattle.wire.specs.declared.notice.Notice.TheVariants.{Accepted, Rejected, Terminated, Cancelled, Completed}
-use Rattle.wire.proofs.Told.{text_once, whole_once, numbers_once, blocks_once, short_blocks}
+use Rattle.fields.proofs.OneAtKey.{text_once, whole_once}
+use Rattle.wire.proofs.Told.{numbers_once, blocks_once, short_blocks}
 
 -- ---- small values
 
-node_same : (a b : Node) → node_text a ≡ node_text b → a ≡ b
+pub node_same : (a b : Node) → node_text a ≡ node_text b → a ≡ b
 node_same Itl Itl e = refl
 node_same Itl (Registry c) e = absurd (cc)
 node_same (Registry c) Itl e = absurd (cc)

@@ -20,7 +20,8 @@ use Rattle.wire.specs.declared.input.Input.TheVariants.{Propose, Request, OpenAc
 use Rattle.wire.specs.declared.input.Number.{Number}
 use Rattle.wire.specs.declared.message.Message.{Message}
 use Rattle.wire.proofs.OneMessage.{message_once, id_once}
-use Rattle.wire.proofs.Told.{at_once, whole_once, text_once, blocks_once}
+use Rattle.fields.proofs.OneAtKey.{at_once, whole_once, text_once}
+use Rattle.wire.proofs.Told.{blocks_once}
 
 -- ---- the word of an input
 
@@ -58,33 +59,21 @@ IsEligibility d p = HasExactly d ((codes "input", string (codes "eligible")) ∷
 -- an input of that word is an eligibility order
 pub eligible_word : (d : Data) → HasAt d (codes "input") (string (codes "eligible")) → (i : Input) → IsRecord d i → (p : Code × Bool) × IsEligibility d p
 unfolding input_word
-eligible_word d at (Propose o) is = clash (word_is d (codes "eligible") (Propose o) at is) refl refl
-eligible_word d at (Request t) is = clash (word_is d (codes "eligible") (Request t) at is) refl refl
-eligible_word d at (OpenAccount n) is = clash (word_is d (codes "eligible") (OpenAccount n) at is) refl refl
-eligible_word d at (CloseAccount n) is = clash (word_is d (codes "eligible") (CloseAccount n) at is) refl refl
-eligible_word d at (Ack n) is = clash (word_is d (codes "eligible") (Ack n) at is) refl refl
-eligible_word d at (CleanUp t) is = clash (word_is d (codes "eligible") (CleanUp t) at is) refl refl
 eligible_word d at (Eligible c may) is = ((c, may), is)
-eligible_word d at (Received m t) is = clash (word_is d (codes "eligible") (Received m t) at is) refl refl
+eligible_word d at i is = clash (word_is d (codes "eligible") i at is) refl refl
 
 -- and of that one a message received
 pub received_word : (d : Data) → HasAt d (codes "input") (string (codes "received")) → (i : Input) → IsRecord d i → (p : Message × Moment) × IsReceived d p.0 p.1
 unfolding input_word
-received_word d at (Propose o) is = clash (word_is d (codes "received") (Propose o) at is) refl refl
-received_word d at (Request t) is = clash (word_is d (codes "received") (Request t) at is) refl refl
-received_word d at (OpenAccount n) is = clash (word_is d (codes "received") (OpenAccount n) at is) refl refl
-received_word d at (CloseAccount n) is = clash (word_is d (codes "received") (CloseAccount n) at is) refl refl
-received_word d at (Ack n) is = clash (word_is d (codes "received") (Ack n) at is) refl refl
-received_word d at (CleanUp t) is = clash (word_is d (codes "received") (CleanUp t) at is) refl refl
-received_word d at (Eligible c may) is = clash (word_is d (codes "received") (Eligible c may) at is) refl refl
 received_word d at (Received m t) is = ((m, t), is)
+received_word d at i is = clash (word_is d (codes "received") i at is) refl refl
 
 -- ---- one input
 
 number_same : (m n : Number) → m.value ≡ n.value → m ≡ n
 number_same m n e = λ i. record { value = e i; short = is_prop→PathP (λ j. e j < 10 ^ 18) (λ j. hlevel le_prop) m.short n.short i }
 
-moment_same : (t u : Moment) → t.seconds ≡ u.seconds → t ≡ u
+pub moment_same : (t u : Moment) → t.seconds ≡ u.seconds → t ≡ u
 moment_same t u e = λ i. record { seconds = e i; in_range = is_prop→PathP (λ j. e j ≤ last_moment) (λ j. hlevel le_prop) t.in_range u.in_range i }
 
 number_once : (d : Data) (key : List ℕ) (m n : Number) → HasAt d key (whole m.value) → HasAt d key (whole n.value) → m ≡ n
@@ -120,69 +109,14 @@ words d i j p q = word_is d (input_word i) j (word_at d i p) q
 pub input_once : (d : Data) (i j : Input) → IsRecord d i → IsRecord d j → i ≡ j
 unfolding input_word
 input_once d (Propose a) (Propose b) p q = ap (λ (x : Order). Propose x) (order_once d a b p q)
-input_once d (Propose a) (Request y) p q = clash (words d (Propose a) (Request y) p q) refl refl
-input_once d (Propose a) (OpenAccount n) p q = clash (words d (Propose a) (OpenAccount n) p q) refl refl
-input_once d (Propose a) (CloseAccount n) p q = clash (words d (Propose a) (CloseAccount n) p q) refl refl
-input_once d (Propose a) (Ack n) p q = clash (words d (Propose a) (Ack n) p q) refl refl
-input_once d (Propose a) (CleanUp u) p q = clash (words d (Propose a) (CleanUp u) p q) refl refl
-input_once d (Propose a) (Eligible k can) p q = clash (words d (Propose a) (Eligible k can) p q) refl refl
-input_once d (Propose a) (Received n u) p q = clash (words d (Propose a) (Received n u) p q) refl refl
-input_once d (Request x) (Propose b) p q = clash (words d (Request x) (Propose b) p q) refl refl
 input_once d (Request x) (Request y) p q = ap (λ (t : TransactionId). Request t) (id_once d (codes "transaction") x y p.1.1.0 q.1.1.0)
-input_once d (Request x) (OpenAccount n) p q = clash (words d (Request x) (OpenAccount n) p q) refl refl
-input_once d (Request x) (CloseAccount n) p q = clash (words d (Request x) (CloseAccount n) p q) refl refl
-input_once d (Request x) (Ack n) p q = clash (words d (Request x) (Ack n) p q) refl refl
-input_once d (Request x) (CleanUp u) p q = clash (words d (Request x) (CleanUp u) p q) refl refl
-input_once d (Request x) (Eligible k can) p q = clash (words d (Request x) (Eligible k can) p q) refl refl
-input_once d (Request x) (Received n u) p q = clash (words d (Request x) (Received n u) p q) refl refl
-input_once d (OpenAccount m) (Propose b) p q = clash (words d (OpenAccount m) (Propose b) p q) refl refl
-input_once d (OpenAccount m) (Request y) p q = clash (words d (OpenAccount m) (Request y) p q) refl refl
 input_once d (OpenAccount m) (OpenAccount n) p q = ap (λ (x : Number). OpenAccount x) (number_once d (codes "account") m n p.1.0 q.1.0)
-input_once d (OpenAccount m) (CloseAccount n) p q = clash (words d (OpenAccount m) (CloseAccount n) p q) refl refl
-input_once d (OpenAccount m) (Ack n) p q = clash (words d (OpenAccount m) (Ack n) p q) refl refl
-input_once d (OpenAccount m) (CleanUp u) p q = clash (words d (OpenAccount m) (CleanUp u) p q) refl refl
-input_once d (OpenAccount m) (Eligible k can) p q = clash (words d (OpenAccount m) (Eligible k can) p q) refl refl
-input_once d (OpenAccount m) (Received n u) p q = clash (words d (OpenAccount m) (Received n u) p q) refl refl
-input_once d (CloseAccount m) (Propose b) p q = clash (words d (CloseAccount m) (Propose b) p q) refl refl
-input_once d (CloseAccount m) (Request y) p q = clash (words d (CloseAccount m) (Request y) p q) refl refl
-input_once d (CloseAccount m) (OpenAccount n) p q = clash (words d (CloseAccount m) (OpenAccount n) p q) refl refl
 input_once d (CloseAccount m) (CloseAccount n) p q = ap (λ (x : Number). CloseAccount x) (number_once d (codes "account") m n p.1.0 q.1.0)
-input_once d (CloseAccount m) (Ack n) p q = clash (words d (CloseAccount m) (Ack n) p q) refl refl
-input_once d (CloseAccount m) (CleanUp u) p q = clash (words d (CloseAccount m) (CleanUp u) p q) refl refl
-input_once d (CloseAccount m) (Eligible k can) p q = clash (words d (CloseAccount m) (Eligible k can) p q) refl refl
-input_once d (CloseAccount m) (Received n u) p q = clash (words d (CloseAccount m) (Received n u) p q) refl refl
-input_once d (Ack m) (Propose b) p q = clash (words d (Ack m) (Propose b) p q) refl refl
-input_once d (Ack m) (Request y) p q = clash (words d (Ack m) (Request y) p q) refl refl
-input_once d (Ack m) (OpenAccount n) p q = clash (words d (Ack m) (OpenAccount n) p q) refl refl
-input_once d (Ack m) (CloseAccount n) p q = clash (words d (Ack m) (CloseAccount n) p q) refl refl
 input_once d (Ack m) (Ack n) p q = ap (λ (x : Number). Ack x) (number_once d (codes "key") m n p.1.1.0 q.1.1.0)
-input_once d (Ack m) (CleanUp u) p q = clash (words d (Ack m) (CleanUp u) p q) refl refl
-input_once d (Ack m) (Eligible k can) p q = clash (words d (Ack m) (Eligible k can) p q) refl refl
-input_once d (Ack m) (Received n u) p q = clash (words d (Ack m) (Received n u) p q) refl refl
-input_once d (CleanUp t) (Propose b) p q = clash (words d (CleanUp t) (Propose b) p q) refl refl
-input_once d (CleanUp t) (Request y) p q = clash (words d (CleanUp t) (Request y) p q) refl refl
-input_once d (CleanUp t) (OpenAccount n) p q = clash (words d (CleanUp t) (OpenAccount n) p q) refl refl
-input_once d (CleanUp t) (CloseAccount n) p q = clash (words d (CleanUp t) (CloseAccount n) p q) refl refl
-input_once d (CleanUp t) (Ack n) p q = clash (words d (CleanUp t) (Ack n) p q) refl refl
 input_once d (CleanUp t) (CleanUp u) p q = ap (λ (x : Moment). CleanUp x) (moment_once d (codes "moment") t u p.1.1.0 q.1.1.0)
-input_once d (CleanUp t) (Eligible k can) p q = clash (words d (CleanUp t) (Eligible k can) p q) refl refl
-input_once d (CleanUp t) (Received n u) p q = clash (words d (CleanUp t) (Received n u) p q) refl refl
-input_once d (Eligible c may) (Propose b) p q = clash (words d (Eligible c may) (Propose b) p q) refl refl
-input_once d (Eligible c may) (Request y) p q = clash (words d (Eligible c may) (Request y) p q) refl refl
-input_once d (Eligible c may) (OpenAccount n) p q = clash (words d (Eligible c may) (OpenAccount n) p q) refl refl
-input_once d (Eligible c may) (CloseAccount n) p q = clash (words d (Eligible c may) (CloseAccount n) p q) refl refl
-input_once d (Eligible c may) (Ack n) p q = clash (words d (Eligible c may) (Ack n) p q) refl refl
-input_once d (Eligible c may) (CleanUp u) p q = clash (words d (Eligible c may) (CleanUp u) p q) refl refl
 input_once d (Eligible c may) (Eligible k can) p q = let registries = code_once d (codes "registry") c k p.1.1.1.0 q.1.1.1.0 in let truths = at_once d (codes "may") (boolean may) (boolean can) p.1.1.0 q.1.1.0 in let answers : may ≡ can = cc (truths) in λ i. Eligible (registries i) (answers i)
-input_once d (Eligible c may) (Received n u) p q = clash (words d (Eligible c may) (Received n u) p q) refl refl
-input_once d (Received m t) (Propose b) p q = clash (words d (Received m t) (Propose b) p q) refl refl
-input_once d (Received m t) (Request y) p q = clash (words d (Received m t) (Request y) p q) refl refl
-input_once d (Received m t) (OpenAccount n) p q = clash (words d (Received m t) (OpenAccount n) p q) refl refl
-input_once d (Received m t) (CloseAccount n) p q = clash (words d (Received m t) (CloseAccount n) p q) refl refl
-input_once d (Received m t) (Ack n) p q = clash (words d (Received m t) (Ack n) p q) refl refl
-input_once d (Received m t) (CleanUp u) p q = clash (words d (Received m t) (CleanUp u) p q) refl refl
-input_once d (Received m t) (Eligible k can) p q = clash (words d (Received m t) (Eligible k can) p q) refl refl
 input_once d (Received m t) (Received n u) p q = received_once d m n t u p q
+input_once d i j p q = clash (words d i j p q) refl refl
 
 pub text_of_one : (text : List ℕ) (i j : Input) → IsRecordText text i → IsRecordText text j → i ≡ j
 text_of_one text i j p q =

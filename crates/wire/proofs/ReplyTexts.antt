@@ -1,5 +1,5 @@
 -- Replies and the objects that write them: the two parts of an object, one reply for each value, and the texts read back.
-use Rattle.std.proofs.Common.{◌≡◌, ℕ, ◌+◌, ◌/◌, ◌%◌, ◌≤◌, zero, suc, List, [], ◌∷◌, ◌++◌, length, decimal, Bool, true, false, true≢false, not, codes, Option, Some, None, option_and_then, refl, sym, ap, subst, ◌∙◌, arith}
+use Rattle.std.proofs.Common.{◌≡◌, ℕ, ◌+◌, ◌/◌, ◌%◌, ◌≤◌, zero, suc, List, [], ◌∷◌, ◌++◌, length, decimal, Bool, true, false, not, codes, Option, Some, refl, sym, ap, subst, ◌∙◌, arith}
 use Rattle.std.specs.Coded.{×_prop, le_prop}
 use Rattle.std.proofs.lemmas.Slice.Eq.{bytes_eq-Decides}
 use Rattle.std.proofs.lemmas.Fmt.{decimal_step, decimal_digit}
@@ -10,11 +10,11 @@ use Rattle.std.specs.List.{list_all}
 use Rattle.std.specs.Fmt.{digits}
 use Rattle.std.proofs.lemmas.Bool.{and_parts, leb-true, ltb-true}
 use Rattle.std.proofs.lemmas.Bool.Decides.{nat_tests}
-use Rattle.serde_json.specs.Data.{Data, unsigned, negative, float, null, boolean, number, string, array, object}
-use Rattle.serde_json.specs.Find.{get, as_str, as_number, as_u64}
+use Rattle.serde_json.specs.Data.{Data, string}
 use Rattle.serde_json.specs.Read.{read}
 use Rattle.serde_json.proofs.OnLiterals.{serde_json_on_literals}
 use Rattle.fields.specs.Fields.{HasKeys, HasAt, text_at, number_at}
+use Rattle.fields.proofs.OneAtKey.{whole_once, string_at, whole_at}
 use Rattle.wire.specs.Objects.{HasExactly, object_of, whole}
 use Rattle.wire.specs.Replies.{reply_fields, reply_text, IsReply}
 use Rattle.wire.specs.declared.reply.Reply.{Reply}
@@ -23,33 +23,13 @@ use Rattle.wire.specs.declared.reply_code.ReplyCode.{ReplyCode}
 
 -- ---- the parts of an object
 
-text_of : (o : Option Data) (s : List ℕ) → option_and_then as_str o ≡ Some s → o ≡ Some (string s)
-text_of None s e = absurd cc
-text_of (Some null) s e = absurd cc
-text_of (Some (boolean b)) s e = absurd cc
-text_of (Some (number n)) s e = absurd cc
-text_of (Some (string t)) s e = let same : t ≡ s = cc in ap (λ u. Some (string u)) same
-text_of (Some (array ds)) s e = absurd cc
-text_of (Some (object ms)) s e = absurd cc
-
-number_in : (o : Option Data) (n : ℕ) → option_and_then as_u64 (option_and_then as_number o) ≡ Some n → o ≡ Some (whole n)
-number_in None n e = absurd cc
-number_in (Some null) n e = absurd cc
-number_in (Some (boolean b)) n e = absurd cc
-number_in (Some (number (unsigned m))) n e = let same : m ≡ n = cc in ap (λ k. Some (whole k)) same
-number_in (Some (number (negative z))) n e = absurd cc
-number_in (Some (number (float x))) n e = absurd cc
-number_in (Some (string t)) n e = absurd cc
-number_in (Some (array ds)) n e = absurd cc
-number_in (Some (object ms)) n e = absurd cc
-
 pub is_received : (d : Data) (s : List ℕ) (n : ℕ) → HasKeys d 2 → number_at (codes "code") d ≡ Some n → text_at (codes "result") d ≡ Some s → n ≡ 0 → bytes_eq s (codes "received") ≡ true
     → HasExactly d (reply_fields Received)
 is_received d s n keys code result none same = (
   keys,
   (
-    subst (λ k. HasAt d (codes "code") (whole k)) none (number_in (get (codes "code") d) n code),
-    (subst (λ t. HasAt d (codes "result") (string t)) ((bytes_eq-Decides s (codes "received")).0 same) (text_of (get (codes "result") d) s result), tt),
+    subst (λ k. HasAt d (codes "code") (whole k)) none (whole_at d (codes "code") n (sym code)),
+    (subst (λ t. HasAt d (codes "result") (string t)) ((bytes_eq-Decides s (codes "received")).0 same) (string_at d (codes "result") s (sym result)), tt),
   ),
 )
 
@@ -62,8 +42,8 @@ pub is_refused : (d : Data) (s : List ℕ) (n : ℕ) (c : ReplyCode) → HasKeys
 is_refused d s n c keys code result told same = (
   keys,
   (
-    subst (λ k. HasAt d (codes "code") (whole k)) (sym told) (number_in (get (codes "code") d) n code),
-    (subst (λ t. HasAt d (codes "result") (string t)) ((bytes_eq-Decides s (codes "refused")).0 (not_other (bytes_eq s (codes "refused")) same)) (text_of (get (codes "result") d) s result), tt),
+    subst (λ k. HasAt d (codes "code") (whole k)) (sym told) (whole_at d (codes "code") n (sym code)),
+    (subst (λ t. HasAt d (codes "result") (string t)) ((bytes_eq-Decides s (codes "refused")).0 (not_other (bytes_eq s (codes "refused")) same)) (string_at d (codes "result") s (sym result)), tt),
   ),
 )
 
@@ -82,16 +62,13 @@ same_code m n e = subst (λ k. (g : (41 ≤ m) × (m ≤ 50)) (h : (41 ≤ k) ×
 pub codes_alike : (a b : ReplyCode) → a.number ≡ b.number → a ≡ b
 codes_alike a b e = same_code a.number b.number e a.in_range b.in_range
 
-same_whole : (o : Option Data) (m n : ℕ) → o ≡ Some (whole m) → o ≡ Some (whole n) → m ≡ n
-same_whole o m n p q = cc
-
 one_written : (d : Data) (r s : Reply) → HasExactly d (reply_fields r) → HasExactly d (reply_fields s) → r ≡ s
 one_written d Received Received p q = refl
 one_written d Received (Refused c) p q =
-    let e = same_whole (get (codes "code") d) 0 c.number p.1.0 q.1.0 in let range = c.in_range in absurd (omega arith)
+    let e = whole_once d (codes "code") 0 c.number p.1.0 q.1.0 in let range = c.in_range in absurd (omega arith)
 one_written d (Refused c) Received p q =
-    let e = same_whole (get (codes "code") d) c.number 0 p.1.0 q.1.0 in let range = c.in_range in absurd (omega arith)
-one_written d (Refused a) (Refused b) p q = ap (λ (c : ReplyCode). Refused c) (codes_alike a b (same_whole (get (codes "code") d) a.number b.number p.1.0 q.1.0))
+    let e = whole_once d (codes "code") c.number 0 p.1.0 q.1.0 in let range = c.in_range in absurd (omega arith)
+one_written d (Refused a) (Refused b) p q = ap (λ (c : ReplyCode). Refused c) (codes_alike a b (whole_once d (codes "code") a.number b.number p.1.0 q.1.0))
 
 same_value : (o : Option Data) (d e : Data) → o ≡ Some d → o ≡ Some e → d ≡ e
 same_value o d e p q = cc

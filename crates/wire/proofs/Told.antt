@@ -1,12 +1,12 @@
 -- What the parts of a message tell of it.
-use Rattle.std.proofs.Common.{◌≡◌, ℕ, ◌+◌, ◌<◌, ◌^◌, List, [], ◌∷◌, Option, Some, None, refl, sym, ap, subst, ◌∙◌, arith}
-use Rattle.std.specs.Prelude.{IfSome, IfNone, codes, option_and_then}
+use Rattle.std.proofs.Common.{◌≡◌, ℕ, ◌+◌, ◌<◌, ◌^◌, List, [], ◌∷◌, Option, Some, None, refl, sym, ap, subst, arith}
+use Rattle.std.specs.Prelude.{IfSome, IfNone, codes}
 use Rattle.std.specs.List.{AllByRecursion}
 use Rattle.std.specs.Option.{ok_or}
-use Rattle.serde_json.specs.Data.{Data, null, boolean, number, string, array, object}
-use Rattle.serde_json.specs.Find.{get, as_str}
+use Rattle.serde_json.specs.Data.{Data, string}
 use Rattle.fields.specs.Fields.{HasAt, text_at}
 use Rattle.fields.specs.Found.{Finds}
+use Rattle.fields.proofs.OneAtKey.{at_once, text_once, whole_once, string_at}
 use Rattle.fields.specs.declared.fault.ReadFault.TheVariants.{Shape}
 use Rattle.units.specs.Block.{raw_text, IsRawText}
 use Rattle.units.specs.Code.{code_text}
@@ -24,17 +24,6 @@ use Rattle.wire.specs.Reading.{HasContent, Says, HasNotice}
 use Rattle.wire.specs.declared.notice.Notice.{Notice}
 use Rattle.wire.specs.declared.notice.Notice.TheVariants.{Accepted, Rejected, Terminated, Cancelled, Completed}
 use Rattle.wire.proofs.Items.{AreShort}
-
--- ---- one value at a key
-
-pub at_once : (d : Data) (key : List ℕ) (v w : Data) → HasAt d key v → HasAt d key w → v ≡ w
-at_once d key v w p q = let e : Some v ≡ Some w = sym p ∙ q in cc (e)
-
-pub whole_once : (d : Data) (key : List ℕ) (m n : ℕ) → HasAt d key (whole m) → HasAt d key (whole n) → m ≡ n
-whole_once d key m n p q = let e = at_once d key (whole m) (whole n) p q in cc (e)
-
-pub text_once : (d : Data) (key s t : List ℕ) → HasAt d key (string s) → HasAt d key (string t) → s ≡ t
-text_once d key s t p q = let e = at_once d key (string s) (string t) p q in cc (e)
 
 -- ---- contents
 
@@ -114,18 +103,6 @@ items_same (m ∷ ms) (n ∷ ns) e = let here : m ≡ n = cc (e) in let rest : w
 
 pub numbers_once : (d : Data) (key : List ℕ) (ms ns : List ℕ) → HasAt d key (numbers ms) → HasAt d key (numbers ns) → ms ≡ ns
 numbers_once d key ms ns p q = let e = at_once d key (numbers ms) (numbers ns) p q in items_same ms ns (cc (e))
-
-string_at : (d : Data) (key s : List ℕ) → Some s ≡ text_at key d → HasAt d key (string s)
-string_at d key s e = own (get key d) e
-  where
-    own : (o : Option Data) → Some s ≡ option_and_then as_str o → o ≡ Some (string s)
-    own None e = absurd (cc)
-    own (Some null) e = absurd (cc)
-    own (Some (boolean b)) e = absurd (cc)
-    own (Some (number n)) e = absurd (cc)
-    own (Some (string t)) e = cc (e)
-    own (Some (array ds)) e = absurd (cc)
-    own (Some (object ms)) e = absurd (cc)
 
 pub notice_found : (d : Data) (text told : List ℕ) (o : Option Notice) → Some text ≡ text_at (codes "status") d → HasAt d (codes "codes") (numbers told) → IfSome o (λ n. Says text told n)
     → IfNone o ((n : Notice) → Says text told n → ⊥) → Finds (HasNotice d) (ok_or o Shape)

@@ -1,7 +1,7 @@
 -- A scheme of two registries as a value, and short names for the events that happen under it: NZ has a hundred units in
 -- its account 1, and JP has none.
 use Rattle.std.specs.List.{count_by}
-use Rattle.std.proofs.Common.{◌≡◌, ℕ, ◌+◌, ◌<◌, ◌≤◌, ◌^◌, true, Bool, List, [], ◌∷◌, map, Option, Some, refl, ap, arith, lit<, lit≤}
+use Rattle.std.proofs.Common.{◌≡◌, ℕ, ◌+◌, ◌<◌, ◌≤◌, ◌^◌, true, Bool, List, [], ◌∷◌, map, Option, Some, refl, ap, arith, lit≤}
 use Rattle.std.specs.Prelude.{slice_get, filter, option_and_then, option_map}
 use Rattle.units.specs.Facts.{IsLetter, IsRange}
 use Rattle.units.specs.declared.code.Code.{Code}
@@ -115,7 +115,7 @@ nz_accounts_differ e = omega arith
 pub sound : AreMembers members
 sound = record {
   free = (few, (lit≤ tt, (((codes_differ, tt), (tt, tt)), ((((jp_accounts_differ, tt), (tt, tt)), (((nz_accounts_differ, tt), (tt, tt)), tt)), ((tt, ((refl, tt), tt)), ((tt, tt), tt))))));
-  ordered = ((lit< tt, tt), (tt, tt));
+  ordered = ((refl, tt), (tt, tt));
 }
 
 abbrev pub scheme_of : (records : ℕ) → (1 ≤ records) × (records ≤ 1_000_000) → Scheme

@@ -103,7 +103,7 @@ nz_accounts_differ e = omega arith
 pub sound : AreMembers members
 sound = record {
   free = (few, (lit≤ tt, (((codes_differ, tt), (tt, tt)), ((((jp_accounts_differ, tt), (tt, tt)), (((nz_accounts_differ, tt), (tt, tt)), tt)), ((tt, ((refl, tt), tt)), ((tt, tt), tt))))));
-  ordered = ((lit< tt, tt), (tt, tt));
+  ordered = ((refl, tt), (tt, tt));
 }
 
 abbrev pub scheme : Scheme

@@ -8,16 +8,18 @@ use Rattle.std.specs.List.{AllByRecursion, count_by, sum_by}
 use Rattle.std.specs.Option.{option_or}
 use Rattle.std.proofs.lemmas.List.Sums.{sum_by-cons}
 use Rattle.std.proofs.lemmas.Bool.{cond-true, cond-false, cases_Bool, eqb-true, eqb-false}
+use Rattle.std.specs.declared.cmp.Ordering.TheVariants.{Less}
 use Rattle.units.proofs.Same.{code_of_same, same_code-refl}
+use Rattle.units.proofs.UnitOrder.{code_rank, code_below}
 use Rattle.units.specs.Apart.{Pairwise}
 use Rattle.units.specs.Code.{same_code}
+use Rattle.units.specs.Keys.{code_cmp}
 use Rattle.units.specs.Unit.{has_unit}
 use Rattle.units.specs.declared.block.Block.{Block}
 use Rattle.units.specs.declared.block.Unit.{Unit as Serial}
 use Rattle.units.specs.declared.code.Code.{Code}
 use Rattle.status.specs.declared.id.TransactionId.{TransactionId}
 use Rattle.scheme.specs.Allotted as start
-use Rattle.scheme.specs.Order.{code_rank}
 use Rattle.scheme.specs.declared.members.Allotment.{Allotment}
 use Rattle.scheme.specs.declared.members.Holder.{Holder}
 use Rattle.scheme.specs.declared.members.Member.{Member}
@@ -112,15 +114,15 @@ is_member scheme m i = go scheme.members i
 
 -- the codes rise, so they differ
 abbrev pub CodesRise : List Member → Type 0
-CodesRise ms = Pairwise (λ a b. code_rank a.code < code_rank b.code) ms
+CodesRise ms = Pairwise (λ a b. code_cmp a.code b.code ≡ Less) ms
 
 pub codes_rise : (scheme : Scheme) → CodesRise scheme.members
 codes_rise scheme = scheme.sound.ordered
 
-other_member : (m : Member) (ms : List Member) → AllByRecursion (λ n. code_rank m.code < code_rank n.code) ms → (n : Member) → In n ms → m.code ≡ n.code → ⊥
+other_member : (m : Member) (ms : List Member) → AllByRecursion (λ n. code_cmp m.code n.code ≡ Less) ms → (n : Member) → In n ms → m.code ≡ n.code → ⊥
 other_member m [] rise n i e = absurd i
 other_member m (k ∷ ks) rise n (inl d) e =
-    let lt = rise.0 in
+    let lt = code_below m.code k.code rise.0 in
     let same : code_rank m.code ≡ code_rank k.code = ap code_rank (e ∙ sym (ap (λ (z : Member). z.code) d)) in
     omega arith
 other_member m (k ∷ ks) rise n (inr i) e = other_member m ks rise.1 n i e

@@ -5,8 +5,6 @@ use Rattle.std.proofs.lemmas.Bool.{cases_Bool, and_parts, and_from, eq-eqb, eqb-
 use Rattle.units.proofs.Same.{code_of_same, period_of_same, same_code-refl, same_period-refl}
 use Rattle.units.specs.Code.{same_code}
 use Rattle.units.specs.Unit.{has_unit, same_period, period_index, have_unit}
-use Rattle.units.specs.declared.block.Period.{Period}
-use Rattle.units.specs.declared.block.Period.TheVariants.{First, Second}
 use Rattle.units.specs.declared.block.RawBlock.{RawBlock}
 use Rattle.units.specs.declared.block.Unit.{Unit as Serial}
 use Rattle.protocol.specs.Pieces.{Piece, piece, pieces, pieces_of, same_unit, up_from}

@@ -25,7 +25,6 @@ use Rattle.protocol.specs.History.{Transition, Entry, transitions_of, newest, se
 use Rattle.protocol.specs.Pieces.{Piece, pieces, repeats}
 use Rattle.protocol.specs.Registries.{allotted, has_member}
 use Rattle.safety.proofs.MovesAndHistories.TransitionForms.{checked_status, checked_message, told_to}
-use Rattle.safety.proofs.OneRegistry.TransactionEnds.{proposer, went_on}
 use Rattle.safety.proofs.MovesAndHistories.NewestTransitions.{Made, Heard, heard_later, made_log, newest_id, newest_append, newest_in, one_notice, one_proposal}
 use Rattle.safety.proofs.OneLog.LogInputs.{none_stand}
 use Rattle.lemmas.proofs.Membership.{In, In_cases, In_flat_map}

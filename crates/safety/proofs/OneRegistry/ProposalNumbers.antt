@@ -1,17 +1,15 @@
 -- The numbers of a registry's own transactions: none is above the number of its propose records, so that the next number is new.
 -- A transaction of the registry's own gets its first transition from a propose record, with the number of the records until then
 -- (`own_number`); each later one names a transaction that was there.
-use Rattle.std.proofs.Common.{◌≡◌, ℕ, ◌+◌, ◌≤◌, List, [], ◌∷◌, Bool, true, false, Option, Some, None, inl, inr, refl, sym, ap, subst, ◌∙◌, arith}
+use Rattle.std.proofs.Common.{◌≡◌, ℕ, ◌+◌, ◌≤◌, List, [], ◌∷◌, Bool, true, Option, Some, None, inl, inr, refl, sym, ap, subst, ◌∙◌, arith}
 use Rattle.std.proofs.lemmas.Bool.{cases_Bool}
 use Rattle.units.proofs.Same.{same_code-refl}
 use Rattle.units.specs.Code.{same_code}
 use Rattle.units.specs.declared.code.Code.{Code}
 use Rattle.units.specs.declared.code.Node.TheVariants.{Registry}
 use Rattle.status.proofs.Ids.{id_at-code, id_at-number}
-use Rattle.status.specs.Id.{id_at}
 use Rattle.status.specs.declared.id.TransactionId.{TransactionId}
 use Rattle.wire.specs.declared.input.Input.{Input}
-use Rattle.wire.specs.declared.input.Input.TheVariants.{Propose}
 use Rattle.scheme.specs.declared.registries.Scheme.{Scheme}
 use Rattle.protocol.specs.Claims.{NextIsNew}
 use Rattle.protocol.specs.History.{Transition, Entry, transitions_of, newest, proposals, is_proposal_order}

@@ -2,7 +2,7 @@
 -- the registries rise, so no two are the same, and a sum over registries counts what belongs to one of them once.
 -- If at each registry what is had and what is gone make up what was there and what came, then the sums do so too
 -- (`over_balance`).
-use Rattle.std.proofs.Common.{◌≡◌, ℕ, zero, suc, ◌+◌, ◌≤◌, ◌<◌, List, [], ◌∷◌, Bool, true, false, cond, Option, Some, None, option_map, is_some, inl, inr, refl, sym, ap, subst, ◌∙◌, arith, length, length-append, flat_map, find}
+use Rattle.std.proofs.Common.{◌≡◌, ℕ, zero, suc, ◌+◌, ◌≤◌, List, [], ◌∷◌, Bool, true, false, cond, Option, Some, None, option_map, is_some, inl, inr, refl, sym, ap, subst, ◌∙◌, arith, length, length-append, flat_map, find}
 use Rattle.std.specs.Prelude.{◌==◌}
 use Rattle.std.specs.List.{AllByRecursion, count_by, sum_by}
 use Rattle.std.specs.Option.{option_or}

@@ -1,5 +1,5 @@
 -- Lots that compare alike are one.
-use Rattle.std.proofs.Common.{◌≡◌, Bool, true, true≢false, ◌&&◌, eqb, Option, Some, None, refl, sym, ap, ◌∙◌, eq-eqb}
+use Rattle.std.proofs.Common.{◌≡◌, Bool, true, true≢false, ◌&&◌, eqb, Option, Some, None, refl, sym, ap, eq-eqb}
 use Rattle.std.specs.Option.{option_eq}
 use Rattle.std.proofs.lemmas.Bool.{and_parts, and_from, eqb-true}
 use denote.Enum.Bare.{sameb, same_true, true_same}

@@ -171,8 +171,8 @@ impl Holdings {
         Ok(())
     }
 
-    /// Reserves the blocks' units for the transaction. Refused as `check` refuses, or with
-    /// `OUT_OF_MEMORY`. After a refusal nothing has changed.
+    /// Reserves the blocks' units for the transaction. Fails as `check` fails, and with `OUT_OF_MEMORY` only where
+    /// `check` finds nothing. After a refusal nothing has changed.
     pub fn reserve(
         &mut self,
         account: u64,
@@ -181,7 +181,7 @@ impl Holdings {
     ) -> Result<(), Refusal>
         ensures may { OnOk result (MayReserve self.old account blocks.now) }
         ensures ok { OnOk result ((self.new.accounts ≡ self.old.accounts) × ((s : Serial) → map.get self.new.lots s ≡ (if covers blocks.now s then option_map (reserved id) (map.get self.old.lots s) else map.get self.old.lots s))) }
-        ensures refused { IfErr result (λ r. (r.code ≡ out_of_memory) ⊎ IsReserveRefusal self.old account blocks.now r.code) }
+        ensures refused { IfErr result (λ r. ((r.code ≡ out_of_memory) × MayReserve self.old account blocks.now) ⊎ IsReserveRefusal self.old account blocks.now r.code) }
         ensures err { OnErr result (self.new ≡ self.old) }
     {
         self.check(account, blocks)?;

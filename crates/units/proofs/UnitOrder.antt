@@ -75,7 +75,7 @@ pub record IsUpTo (a b : Serial) : Type 0 where
   pub number : rank b ≤ rank a → a.number ≤ b.number
 
 -- the derived order, in numbers
-order_at : (o p : Code) (x y : Period) (i j : ℕ)
+pub order_at : (o p : Code) (x y : Period) (i j : ℕ)
     → unit_cmp (record { origin = o; period = x; number = i }) (record { origin = p; period = y; number = j })
     ≡ ordering_then (ordering_then (nat_cmp o.first p.first) (nat_cmp o.second p.second)) (ordering_then (nat_cmp (period_index x) (period_index y)) (nat_cmp i j))
 order_at o p First First i j = refl

@@ -20,7 +20,7 @@ pub enum Period {
 }
 
 /// The kind of a unit, fixed by its allotment.
-#[derive(Clone, Copy, Debug, PartialEq, Eq, PartialOrd, Ord)]
+#[derive(Clone, Copy, Debug, PartialEq, Eq)]
 pub enum Kind {
     Aau,
     Rmu,

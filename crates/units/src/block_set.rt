@@ -62,12 +62,13 @@ impl BlockSet {
         }
     }
 
-    /// Adds the block's units. `BLOCKS_OVERLAP`: one of them is there, of whatever kind; `OUT_OF_MEMORY`.
-    /// After a refusal nothing has changed.
+    /// Adds the block's units. Fails with `BLOCKS_OVERLAP` where one of them is there, of whatever kind, and with
+    /// `OUT_OF_MEMORY` only where none is. After a refusal nothing has changed.
     pub fn add(&mut self, block: Block) -> Result<(), Refusal>
         ensures ok { OnOk result ((u : Serial) → map.get self.new u ≡ (if has_unit block.raw u then Some block.raw.kind else map.get self.old u)) }
         ensures fresh { OnOk result ((u : Serial) → IsTrue (has_unit block.raw u) → map.get self.old u ≡ None) }
         ensures there { IfErr result (λ r. r.code ≡ blocks_overlap → (u : Serial) × IsTrue (has_unit block.raw u) × IsSome (map.get self.old u)) }
+        ensures memory { IfErr result (λ r. r.code ≡ out_of_memory → (u : Serial) → IsTrue (has_unit block.raw u) → map.get self.old u ≡ None) }
         ensures refusals { IfErr result (λ r. (r.code ≡ blocks_overlap) ⊎ (r.code ≡ out_of_memory)) }
         ensures err { OnErr result (self.new ≡ self.old) }
     {
@@ -78,12 +79,14 @@ impl BlockSet {
         Ok(())
     }
 
-    /// Takes the block's units out. `UNIT_NOT_HELD`: one of them isn't there or is of another kind; `OUT_OF_MEMORY`,
-    /// since what is left may be more blocks. After a refusal nothing has changed.
+    /// Takes the block's units out. Fails with `UNIT_NOT_HELD` where one of them isn't there or is of another kind, and
+    /// with `OUT_OF_MEMORY`, since what is left may be more blocks, only where all are there. After a refusal nothing has
+    /// changed.
     pub fn take(&mut self, block: Block) -> Result<(), Refusal>
         ensures ok { OnOk result ((u : Serial) → map.get self.new u ≡ (if has_unit block.raw u then None else map.get self.old u)) }
         ensures held { OnOk result ((u : Serial) → IsTrue (has_unit block.raw u) → map.get self.old u ≡ Some block.raw.kind) }
         ensures missing { IfErr result (λ r. r.code ≡ unit_not_held → (u : Serial) × IsTrue (has_unit block.raw u) × (map.get self.old u ≢ Some block.raw.kind)) }
+        ensures memory { IfErr result (λ r. r.code ≡ out_of_memory → (u : Serial) → IsTrue (has_unit block.raw u) → map.get self.old u ≡ Some block.raw.kind) }
         ensures refusals { IfErr result (λ r. (r.code ≡ unit_not_held) ⊎ (r.code ≡ out_of_memory)) }
         ensures err { OnErr result (self.new ≡ self.old) }
     {

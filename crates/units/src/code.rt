@@ -13,7 +13,7 @@ pub struct Code {
 }
 
 /// A node of the network: the transaction log, or a registry by its code.
-#[derive(Clone, Copy, Debug, PartialEq, Eq, PartialOrd, Ord)]
+#[derive(Clone, Copy, Debug, PartialEq, Eq)]
 pub enum Node {
     Itl,
     Registry(Code),

@@ -23,6 +23,7 @@ pub use code::{Code, Node};
 pub use interval::{Interval, Mark};
 pub use items::Items;
 pub use memory::NoMemory;
+pub use ordering::order_of_units;
 pub use overlap::overlaps;
 pub use refusal::Refusal;
 pub use text::{cut, number};

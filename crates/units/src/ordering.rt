@@ -1,8 +1,11 @@
 //! Intervals in order, with neighbours joined.
+ghost use Rattle.std.specs.Ordering.{nat_cmp, ordering_then};
 ghost use Rattle.std.specs.Prelude.{◌≡◌, ◌↔◌, IsTrue, IfOk, OnOk};
 ghost use Rattle.units.specs.Canonical.{AreCanonical, GoesOn};
 ghost use Rattle.units.specs.Following.{IsOnto, is_next};
 ghost use Rattle.units.specs.Intervals.{AreKept, mark_at, numbered};
+ghost use Rattle.units.specs.Keys.{unit_cmp};
+ghost use Rattle.units.specs.Unit.{period_index};
 ghost use Rattle.units.specs.declared.block.Unit.{Unit as Serial};
 
 use crate::block::Unit;
@@ -70,3 +73,8 @@ pub(crate) fn in_order<M: Mark>(
     }
     Ok(joined)
 }
+
+/// Units are in order by the two letters of their origin, then by their period, then by their number: a law, with no code.
+pub fn order_of_units()
+    ensures { (a b : Serial) → unit_cmp a b ≡ ordering_then (ordering_then (nat_cmp a.origin.first b.origin.first) (nat_cmp a.origin.second b.origin.second)) (ordering_then (nat_cmp (period_index a.period) (period_index b.period)) (nat_cmp a.number b.number)) }
+{}

@@ -76,13 +76,8 @@ pub record IsBetween (b : Block) (from to : Serial) (kind : Kind) : Type 0 where
   pub same_period : same_period from.period to.period ≡ true
 
 -- the holding has the units from one to before the other
-pub record IsStretch (h : Holding) (from to : Serial) : Type 0 where
-  pub origin : h.block.raw.origin ≡ from.origin
-  pub period : h.block.raw.period ≡ from.period
-  pub first : h.block.raw.first ≡ from.number
-  pub after : h.block.raw.last + 1 ≡ to.number
-  pub same_origin : same_code from.origin to.origin ≡ true
-  pub same_period : same_period from.period to.period ≡ true
+abbrev pub IsStretch : Holding → Serial → Serial → Type 0
+IsStretch h from to = IsBetween h.block from to h.block.raw.kind
 
 -- the holdings of all units that come before a bound
 pub record AreSoFar (m : Member) (ts : List Transition) (bound : Serial) (hs : List Holding) : Type 0 where

@@ -25,6 +25,7 @@ use Rattle.scheme.specs.declared.registries.Scheme.{Scheme}
 use Rattle.scheme.proofs.Pairs.{each_weaker}
 use Rattle.scheme.proofs.Told.{same_order}
 use Rattle.scheme.proofs.Unique.{records_one, members_one}
+use Rattle.units.specs.Limits.{most_records}
 use Rattle.scheme.proofs.Free.{free_moved, first_moved, not_first, one_first}
 
 -- ---- one scheme
@@ -33,7 +34,7 @@ pub scheme_same : (s t : Scheme) → s.records ≡ t.records → s.members ≡ t
 scheme_same s t e f = λ i. record {
   records = e i;
   members = f i;
-  in_range = is_prop→PathP (λ j. (1 ≤ e j) × (e j ≤ 1_000_000)) (λ j. hlevel le_prop) s.in_range t.in_range i;
+  in_range = is_prop→PathP (λ j. (1 ≤ e j) × (e j ≤ most_records)) (λ j. hlevel le_prop) s.in_range t.in_range i;
   sound = is_prop→PathP (λ j. AreMembers (f j)) (λ j. AreMembers-prop (f j)) s.sound t.sound i;
 }
 

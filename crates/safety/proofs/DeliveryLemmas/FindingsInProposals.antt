@@ -10,6 +10,7 @@ use Rattle.std.specs.List.{list_any, count_by}
 use Rattle.std.proofs.lemmas.Bool.{cases_Bool, and_parts, or_cases, or_from, not_from_true, eq-eqb}
 use Rattle.units.proofs.Same.{code_of_same, same_code-refl}
 use Rattle.units.specs.Code.{same_code}
+use Rattle.units.specs.RefusalCodes.{wrong_acquirer, unit_repeated, unit_not_allotted, other_owner, other_transfer, other_kind, initiator_not_eligible, acquirer_not_eligible}
 use Rattle.units.specs.declared.block.Unit.{Unit as Serial}
 use Rattle.units.specs.declared.code.Code.{Code}
 use Rattle.units.specs.declared.code.Node.{Node}
@@ -64,20 +65,26 @@ code_cause (c ∷ cs) n h =
 not_this : {X : Type 0} (b : Bool) (n : ℕ) (c : Bool × ℕ) → (b, n) ≡ c → b ≡ false → c.0 ≡ true → X
 not_this b n c e none stands = clash b (ap (λ (z : Bool × ℕ). z.0) e ∙ stands) none
 
+-- what the log looks for, by whether each stands
+abbrev causes_of : Bool → Bool → Bool → Bool → Bool → Bool → Bool → Bool → List (Bool × ℕ)
+causes_of a b c d e g x y =
+    (a, wrong_acquirer) ∷ (b, unit_repeated) ∷ (c, unit_not_allotted) ∷ (d, other_owner) ∷ (e, other_transfer) ∷ (g, other_kind) ∷ (x, initiator_not_eligible)
+    ∷ (y, acquirer_not_eligible) ∷ []
+
 -- one of the last two, where the causes of the first six don't stand
 last_two : (a b c d e g x y : Bool) (n : ℕ) → a ≡ false → b ≡ false → c ≡ false → d ≡ false → e ≡ false → g ≡ false
-    → In n (codes_of ((a, 201) ∷ (b, 202) ∷ (c, 203) ∷ (d, 204) ∷ (e, 205) ∷ (g, 206) ∷ (x, 207) ∷ (y, 208) ∷ [])) → (n ≡ 207) ⊎ (n ≡ 208)
+    → In n (codes_of (causes_of a b c d e g x y)) → (n ≡ initiator_not_eligible) ⊎ (n ≡ acquirer_not_eligible)
 last_two a b c d e g x y n no_a no_b no_c no_d no_e no_g i =
-    let r = code_cause ((a, 201) ∷ (b, 202) ∷ (c, 203) ∷ (d, 204) ∷ (e, 205) ∷ (g, 206) ∷ (x, 207) ∷ (y, 208) ∷ []) n i in
+    let r = code_cause (causes_of a b c d e g x y) n i in
     pick r.0 r.1 r.2 r.3
   where
-    pick : (z : Bool × ℕ) → In z ((a, 201) ∷ (b, 202) ∷ (c, 203) ∷ (d, 204) ∷ (e, 205) ∷ (g, 206) ∷ (x, 207) ∷ (y, 208) ∷ []) → z.0 ≡ true → z.1 ≡ n → (n ≡ 207) ⊎ (n ≡ 208)
-    pick z (inl h) stands code = not_this a 201 z h no_a stands
-    pick z (inr (inl h)) stands code = not_this b 202 z h no_b stands
-    pick z (inr (inr (inl h))) stands code = not_this c 203 z h no_c stands
-    pick z (inr (inr (inr (inl h)))) stands code = not_this d 204 z h no_d stands
-    pick z (inr (inr (inr (inr (inl h))))) stands code = not_this e 205 z h no_e stands
-    pick z (inr (inr (inr (inr (inr (inl h)))))) stands code = not_this g 206 z h no_g stands
+    pick : (z : Bool × ℕ) → In z (causes_of a b c d e g x y) → z.0 ≡ true → z.1 ≡ n → (n ≡ initiator_not_eligible) ⊎ (n ≡ acquirer_not_eligible)
+    pick z (inl h) stands code = not_this a wrong_acquirer z h no_a stands
+    pick z (inr (inl h)) stands code = not_this b unit_repeated z h no_b stands
+    pick z (inr (inr (inl h))) stands code = not_this c unit_not_allotted z h no_c stands
+    pick z (inr (inr (inr (inl h)))) stands code = not_this d other_owner z h no_d stands
+    pick z (inr (inr (inr (inr (inl h))))) stands code = not_this e other_transfer z h no_e stands
+    pick z (inr (inr (inr (inr (inr (inl h)))))) stands code = not_this g other_kind z h no_g stands
     pick z (inr (inr (inr (inr (inr (inr (inl h))))))) stands code = inl (sym code ∙ sym (ap (λ (v : Bool × ℕ). v.1) h))
     pick z (inr (inr (inr (inr (inr (inr (inr (inl h)))))))) stands code = inr (sym code ∙ sym (ap (λ (v : Bool × ℕ). v.1) h))
     pick z (inr (inr (inr (inr (inr (inr (inr (inr h)))))))) stands code = absurd h
@@ -187,7 +194,7 @@ module _ (scheme : Scheme) (f : Node → List Entry) (causal : Causal scheme f) 
 
   -- what the log finds in a proposal that was sent and that it doesn't know
   pub only_eligibility : (c : Code) (p : Proposal) → In (message.Proposal p) (sends (f (Registry c))) → newest (transitions_of (f Itl)) p.id ≡ None
-      → (n : ℕ) → In n (log_findings scheme (ledger scheme (f Itl)) p.id.code p.content) → (n ≡ 207) ⊎ (n ≡ 208)
+      → (n : ℕ) → In n (log_findings scheme (ledger scheme (f Itl)) p.id.code p.content) → (n ≡ initiator_not_eligible) ⊎ (n ≡ acquirer_not_eligible)
   only_eligibility c p h none n i =
       let k = p.content in
       let log = transitions_of (f Itl) in

@@ -8,6 +8,7 @@ use Rattle.std.specs.Prelude.{nat_le, option_and_then, slice_get}
 use Rattle.std.proofs.lemmas.Bool.{cases_Bool}
 use Rattle.units.proofs.Same.{node_of_same}
 use Rattle.units.specs.Code.{same_node}
+use Rattle.units.specs.RefusalCodes.{initiator_not_eligible, acquirer_not_eligible}
 use Rattle.units.specs.declared.code.Node.{Node}
 use Rattle.units.specs.declared.code.Node.TheVariants.{Itl, Registry}
 use Rattle.status.specs.Rows.{log_row}
@@ -63,7 +64,7 @@ not_cancelled found e = cc (e)
 
 -- a notification of Terminated has codes of eligibility alone
 abbrev IsFair : Notification → Type 0
-IsFair n = (found : List ℕ) (code : ℕ) → n.notice ≡ notice.Terminated found → In code found → (code ≡ 207) ⊎ (code ≡ 208)
+IsFair n = (found : List ℕ) (code : ℕ) → n.notice ≡ notice.Terminated found → In code found → (code ≡ initiator_not_eligible) ⊎ (code ≡ acquirer_not_eligible)
 
 -- one that the log tells of a cancellation
 cancels_fair : (a n : Notification) → a.notice ≡ notice.Cancelled → message.Notification a ≡ message.Notification n → IsFair n

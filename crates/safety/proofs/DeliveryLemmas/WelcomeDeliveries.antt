@@ -1,6 +1,7 @@
 -- What comes of deliveries in worlds that events lead to.
 use Rattle.std.proofs.Common.{◌≡◌, ℕ, List, Bool, true, false, cond, Option, Some, None, refl, sym, ap, subst}
 use Rattle.std.specs.Prelude.{slice_get}
+use Rattle.units.specs.RefusalCodes.{journal_full}
 use Rattle.status.specs.declared.moment.Moment.{Moment}
 use Rattle.wire.specs.declared.input.Input.{Input}
 use Rattle.wire.specs.declared.input.Input.TheVariants.{Received}
@@ -36,7 +37,7 @@ module _ (w : World) (sound : Sound w) (unplaced : Unplaced w.scheme (live_of w)
   -- ---- what is refused
 
   delivered_here : (p : Posted) (moment : Moment) (code : ℕ) (s : Station) → In p.message (sends (live_of w (sender p.message))) → station w (receiver p.message) ≡ Some s
-      → (take_input w.scheme (Received p.message moment) s).outcome ≡ Refused code → code ≡ 49
+      → (take_input w.scheme (Received p.message moment) s).outcome ≡ Refused code → code ≡ journal_full
   delivered_here p moment code s h is outcome =
       let to = receiver p.message in
       let input = Received p.message moment in
@@ -46,11 +47,11 @@ module _ (w : World) (sound : Sound w) (unplaced : Unplaced w.scheme (live_of w)
       welcome w.scheme (live_of w) (live_causal w sound) unplaced (sender p.message) to p.message moment refl refl h code live
 
   delivered_to : (p : Posted) (moment : Moment) (code : ℕ) (o : Option Station) → In p.message (sends (live_of w (sender p.message))) → station w (receiver p.message) ≡ o
-      → (at_node w o (take_input w.scheme (Received p.message moment))).outcome ≡ Refused code → code ≡ 49
+      → (at_node w o (take_input w.scheme (Received p.message moment))).outcome ≡ Refused code → code ≡ journal_full
   delivered_to p moment code None h is outcome = absurd (cc (outcome))
   delivered_to p moment code (Some s) h is outcome = delivered_here p moment code s h is outcome
 
-  delivered : (index : ℕ) (moment : Moment) (code : ℕ) (o : Option Posted) → slice_get w.bag index ≡ o → (deliver w moment o).outcome ≡ Refused code → code ≡ 49
+  delivered : (index : ℕ) (moment : Moment) (code : ℕ) (o : Option Posted) → slice_get w.bag index ≡ o → (deliver w moment o).outcome ≡ Refused code → code ≡ journal_full
   delivered index moment code None e outcome = absurd (cc (outcome))
   delivered index moment code (Some p) e outcome = delivered_to p moment code (station w (receiver p.message)) (bag_sent index p e) refl outcome
 

@@ -8,6 +8,7 @@ use Rattle.std.proofs.lemmas.Bool.{cases_Bool, and_from, eq-eqb, leb-false}
 use Rattle.std.proofs.lemmas.List.{append-nil}
 use Rattle.units.proofs.Same.{node_of_same, same_node-refl}
 use Rattle.units.specs.Code.{same_node}
+use Rattle.units.specs.RefusalCodes.{no_row}
 use Rattle.units.specs.declared.code.Node.{Node}
 use Rattle.units.specs.declared.code.Node.TheVariants.{Itl, Registry}
 use Rattle.wire.specs.declared.input.Input.{Input}
@@ -37,7 +38,7 @@ use Rattle.safety.proofs.JournalWeaves.RecordOrders.{journals_here, journals_the
 pub ack_below : (scheme : Scheme) (es : List Entry) (key : ℕ) (xs : List Transition) → acknowledge scheme es key ≡ Enters xs → key < length (sends es)
 ack_below scheme es key xs says = leb-false (length (sends es)) key (not_refused (nat_le (length (sends es)) key) (cond (is_acknowledged es key) IsRepeat (enters scheme es [])) says)
   where
-    not_refused : (b : Bool) (v : Verdict) → cond b (IsRefused 46) v ≡ Enters xs → b ≡ false
+    not_refused : (b : Bool) (v : Verdict) → cond b (IsRefused no_row) v ≡ Enters xs → b ≡ false
     not_refused true v e = absurd (cc (e))
     not_refused false v e = refl
 

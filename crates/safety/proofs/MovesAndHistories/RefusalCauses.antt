@@ -7,6 +7,7 @@ use Rattle.std.specs.Prelude.{nat_le, length, is_some}
 use Rattle.std.proofs.lemmas.Bool.{cond-true, cond-false, not_from_true}
 use Rattle.units.proofs.Same.{same_node-refl}
 use Rattle.units.specs.Code.{same_node}
+use Rattle.units.specs.RefusalCodes.{journal_full}
 use Rattle.units.specs.declared.code.Node.{Node}
 use Rattle.status.proofs.Contents.{told}
 use Rattle.status.specs.Content.{Content}
@@ -17,9 +18,9 @@ use Rattle.protocol.specs.Deciding.{Verdict, Enters, IsRepeat, IsLate, IsRefused
 use Rattle.protocol.specs.History.{Transition, Entry, newest, is_known}
 use Rattle.safety.proofs.MovesAndHistories.TableMoves.{NoneStands}
 
--- an answer that is no refusal, or 49
+-- a verdict that is no refusal, or `journal_full`
 abbrev pub Welcome : Verdict → Type 0
-Welcome v = (code : ℕ) → v ≡ IsRefused code → code ≡ 49
+Welcome v = (code : ℕ) → v ≡ IsRefused code → code ≡ journal_full
 
 refused_code : (a b : ℕ) → IsRefused a ≡ IsRefused b → a ≡ b
 refused_code a b e = cc (e)
@@ -27,8 +28,8 @@ refused_code a b e = cc (e)
 pub welcome_enters : (scheme : Scheme) (es : List Entry) (xs : List Transition) → Welcome (enters scheme es xs)
 welcome_enters scheme es xs code h = go (nat_le scheme.records (length es)) h
   where
-    go : (b : Bool) → cond b (IsRefused 49) (Enters xs) ≡ IsRefused code → code ≡ 49
-    go true e = sym (refused_code 49 code e)
+    go : (b : Bool) → cond b (IsRefused journal_full) (Enters xs) ≡ IsRefused code → code ≡ journal_full
+    go true e = sym (refused_code journal_full code e)
     go false e = absurd (cc (e))
 
 pub welcome_repeat : Welcome IsRepeat

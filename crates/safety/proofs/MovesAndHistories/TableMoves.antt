@@ -8,6 +8,7 @@ use Rattle.std.specs.Prelude.{filter, ◌&&◌, nat_le, length, ◌+◌}
 use Rattle.std.specs.Ordering.{is_lt}
 use Rattle.std.proofs.lemmas.Bool.{or_parts, not-false, cond-true, cond-false, cases_Bool}
 use Rattle.units.specs.Code.{same_code}
+use Rattle.units.specs.RefusalCodes.{journal_full}
 use Rattle.units.specs.declared.code.Code.{Code}
 use Rattle.units.specs.declared.code.Node.TheVariants.{Itl, Registry}
 use Rattle.units.proofs.Same.{node_of_same}
@@ -101,7 +102,7 @@ refuse_made (c ∷ cs) v x h = go c.0 c.1 (refuse cs v) (refuse_made cs v x) h
 enters_made : (scheme : Scheme) (es : List Entry) (xs : List Transition) (x : Transition) → In x (made (enters scheme es xs)) → In x xs
 enters_made scheme es xs x h = go (nat_le scheme.records (length es)) h
   where
-    go : (b : Bool) → In x (made (cond b (IsRefused 49) (Enters xs))) → In x xs
+    go : (b : Bool) → In x (made (cond b (IsRefused journal_full) (Enters xs))) → In x xs
     go true h = absurd h
     go false h = h
 

@@ -4,6 +4,7 @@
 -- cancellation in front of others of the same input.
 use Rattle.std.proofs.Common.{◌≡◌, ℕ, List, [], ◌∷◌, ◌++◌, Bool, true, false, cond, ◌⊎◌, inl, inr, refl, sym, ap, subst, map}
 use Rattle.std.specs.Prelude.{nat_le, length, filter, flat_map}
+use Rattle.units.specs.RefusalCodes.{journal_full}
 use Rattle.units.specs.declared.code.Node.TheVariants.{Itl}
 use Rattle.status.specs.Rows.{log_row}
 use Rattle.status.specs.declared.words.Row.{Row}
@@ -63,7 +64,7 @@ module _ (scheme : Scheme) (es : List Entry) where
   shape_clean [] all x i = absurd i
   shape_clean (q ∷ qs) all x i = go (nat_le scheme.records (length es)) i
     where
-      go : (b : Bool) → In x (made_of (cond b (IsRefused 49) (Enters (q ∷ qs)))) → x.new ≡ Cancelled
+      go : (b : Bool) → In x (made_of (cond b (IsRefused journal_full) (Enters (q ∷ qs)))) → x.new ≡ Cancelled
       go true i = absurd i
       go false i = all x i
 

@@ -8,6 +8,7 @@ use Rattle.std.proofs.Common.{◌≡◌, ℕ, ◌+◌, ◌≤◌, List, [], ◌�
 use Rattle.std.specs.Prelude.{◌&&◌, nat_le, length, option_map}
 use Rattle.std.proofs.lemmas.Bool.{and_parts, and_from, and_left, and_right, not-false, cond-true, cond-false, cases_Bool, eqb-true, eqb-false}
 use Rattle.units.specs.Code.{same_code}
+use Rattle.units.specs.RefusalCodes.{journal_full}
 use Rattle.units.specs.declared.block.Unit.{Unit as Serial}
 use Rattle.units.specs.declared.code.Code.{Code}
 use Rattle.units.specs.declared.code.Node.TheVariants.{Registry}
@@ -77,10 +78,10 @@ single_cond true u v h i = h
 single_cond false u v h i = i
 
 pub none_enter : (scheme : Scheme) (es : List Entry) → Single (made_of (enters scheme es []))
-none_enter scheme es = single_cond (nat_le scheme.records (length es)) (IsRefused 49) (Enters []) (inl refl) (inl refl)
+none_enter scheme es = single_cond (nat_le scheme.records (length es)) (IsRefused journal_full) (Enters []) (inl refl) (inl refl)
 
 pub one_enters : (scheme : Scheme) (es : List Entry) (x : Transition) → Single (made_of (enters scheme es (x ∷ [])))
-one_enters scheme es x = single_cond (nat_le scheme.records (length es)) (IsRefused 49) (Enters (x ∷ [])) (inl refl) (inr (x, refl))
+one_enters scheme es x = single_cond (nat_le scheme.records (length es)) (IsRefused journal_full) (Enters (x ∷ [])) (inl refl) (inr (x, refl))
 
 module _ (scheme : Scheme) (c : Code) (es : List Entry) where
   single_row : (to : Status → Transition) (row : Row) → Single (made_of (by_row scheme es to row))

@@ -9,6 +9,7 @@ use Rattle.std.proofs.Common.{◌≡◌, ℕ, ◌+◌, ◌≤◌, List, [], ◌�
 use Rattle.std.specs.Prelude.{◌==◌, nat_le}
 use Rattle.std.proofs.lemmas.Bool.{cond-true, cond-false, cases_Bool, lt-leb, eqb-false}
 use Rattle.units.specs.Code.{same_code}
+use Rattle.units.specs.RefusalCodes.{no_row, journal_full}
 use Rattle.units.specs.declared.code.Code.{Code}
 use Rattle.units.specs.declared.code.Node.{Node}
 use Rattle.units.specs.declared.code.Node.TheVariants.{Itl, Registry}
@@ -48,21 +49,21 @@ use Rattle.safety.proofs.WorldLemmas.SoundWorlds.{committed_causal}
 use Rattle.safety.proofs.DeliveryLemmas.WelcomeMessages.{welcome}
 use Rattle.safety.proofs.WorldLemmas.NodesWithStation.{Unplaced}
 
-abbrev None49 : Causes → Type 0
-None49 [] = Unit {0}
-None49 (c ∷ cs) = ((c.1 == 49) ≡ false) × None49 cs
+abbrev NoneFull : Causes → Type 0
+NoneFull [] = Unit {0}
+NoneFull (c ∷ cs) = ((c.1 == journal_full) ≡ false) × NoneFull cs
 
 -- what is welcome, and refused for no want of room, isn't refused
-unrefused : (cs : Causes) (v : Verdict) → Welcome (refuse cs v) → None49 cs → refuse cs v ≡ v
+unrefused : (cs : Causes) (v : Verdict) → Welcome (refuse cs v) → NoneFull cs → refuse cs v ≡ v
 unrefused [] v w n = refl
 unrefused (c ∷ cs) v w n =
     elim (cases_Bool c.0) [
-      | inl y ↦ absurd (eqb-false c.1 49 n.0 (w c.1 (cond-true c.0 (IsRefused c.1) (refuse cs v) y)))
+      | inl y ↦ absurd (eqb-false c.1 journal_full n.0 (w c.1 (cond-true c.0 (IsRefused c.1) (refuse cs v) y)))
       | inr o ↦ let e = cond-false c.0 (IsRefused c.1) (refuse cs v) o in e ∙ unrefused cs v (subst Welcome e w) n.1
     ]
 
 enters_here : (scheme : Scheme) (es : List Entry) (xs : List Transition) → length es + 1 ≤ scheme.records → enters scheme es xs ≡ Enters xs
-enters_here scheme es xs room = cond-false (nat_le scheme.records (length es)) (IsRefused 49) (Enters xs) (lt-leb scheme.records (length es) (omega arith))
+enters_here scheme es xs room = cond-false (nat_le scheme.records (length es)) (IsRefused journal_full) (Enters xs) (lt-leb scheme.records (length es) (omega arith))
 
 -- a proposal of a transaction that is not known
 checked_here : (scheme : Scheme) (es : List Entry) (t : TransactionId) (k : Content) (moment : ℕ) (found : List ℕ) → length es + 1 ≤ scheme.records
@@ -79,9 +80,9 @@ arrived_here scheme c es t k moment (n ∷ ns) room = enters_here scheme es _ ro
 free_row : (scheme : Scheme) (es : List Entry) (to : Status → Transition) (held : Bool) (row : Row) → (row ≡ Refused → ⊥) → Welcome (by_row scheme es to (unless_held held row)) → unless_held held row ≡ row
 free_row scheme es to false row there w = refl
 free_row scheme es to true row there w = unless_same true row (λ e. absurd (
-    let v : Welcome (IsRefused 46) = subst (λ r. Welcome (by_row scheme es to (unless_held true r))) e w in
-    let z = v 46 refl in
-    eqb-false 46 49 refl z))
+    let v : Welcome (IsRefused no_row) = subst (λ r. Welcome (by_row scheme es to (unless_held true r))) e w in
+    let z = v no_row refl in
+    eqb-false no_row journal_full refl z))
 
 -- room at the log, and at each registry
 abbrev pub Room : Scheme → World → ℕ → ℕ → Type 0

@@ -9,8 +9,7 @@ use Rattle.std.specs.List.{sum_by, AllByRecursion, All}
 use Rattle.std.specs.List.Sorted.{IsPermutation, IsSorted}
 use Rattle.std.proofs.lemmas.Bool.{cases_lt, le-leb}
 use Rattle.std.proofs.lemmas.Int.{ints}
-use Rattle.std.proofs.lemmas.List.Elements.{All-from_recursion, recursion_from_All}
-use Rattle.std.proofs.lemmas.List.Sorted.{sum_by-IsPermutation, All-permutation}
+use Rattle.std.proofs.lemmas.List.Sorted.{sum_by-IsPermutation}
 use Rattle.sqlite_sql.specs.Ops.{binary, is_true}
 use Rattle.sqlite_sql.specs.declared.ops.CompareOp.TheVariants.{Ge, Le}
 use Rattle.sqlite_sql.specs.declared.ops.BinaryOp.TheVariants.{Compare}
@@ -26,16 +25,16 @@ use Rattle.sqlite.specs.Effect.{Database, Reads}
 use Rattle.durable.specs.Tables.{entry}
 use Rattle.durable.specs.Slots.{place_of, body_of, whole_number, AreEntries}
 use Rattle.durable.specs.Pages.{is_within, shown, rows_within}
-use Rattle.durable.proofs.InOrder.{Is, Rise, NeverFall, one-order}
+use Rattle.lemmas.proofs.Membership.{In}
+use Rattle.lemmas.proofs.Permutations.{each_moved}
+use Rattle.durable.proofs.Places.{before}
+use Rattle.durable.proofs.InOrder.{Rise, NeverFall, one-order}
 use Rattle.durable.proofs.PageTexts.{page_query, page_command}
 use Rattle.durable.proofs.Stretches.{not-le}
 
 -- the parameters of the query
 abbrev pub between : ℕ → ℕ → Row
 between first last = Int (pos first) ∷ Int (pos last) ∷ []
-
-cmp-less : (m n : ℕ) → m < n → value_cmp (Int (pos m)) (Int (pos n)) ≡ Less
-cmp-less m n low = value_cmp-Int (pos m) (pos n) ∙ sym (int_cmp_is (pos m) (pos n) Less (omega (arith, ints, low)))
 
 cmp-equal : (m n : ℕ) → m ≡ n → value_cmp (Int (pos m)) (Int (pos n)) ≡ Equal
 cmp-equal m n e = value_cmp-Int (pos m) (pos n) ∙ sym (int_cmp_is (pos m) (pos n) Equal (ap pos e))
@@ -48,7 +47,7 @@ cmp-greater m n low = value_cmp-Int (pos m) (pos n) ∙ sym (int_cmp_is (pos m) 
 is-ge : (q n : ℕ) → is_ge (value_cmp (Int (pos q)) (Int (pos n))) ≡ nat_le n q
 is-ge q n =
     elim (cases_lt q n) [
-      | inl low ↦ ap is_ge (cmp-less q n low) ∙ sym (not-le n q low)
+      | inl low ↦ ap is_ge (before q n low) ∙ sym (not-le n q low)
       | inr up ↦ elim (cases_lt n q) [
         | inl high ↦ ap is_ge (cmp-greater q n high) ∙ sym (le-leb n q (omega (arith, high)))
         | inr down ↦ ap is_ge (cmp-equal q n (omega (arith, up, down))) ∙ sym (le-leb n q (omega (arith, up)))
@@ -60,7 +59,7 @@ is-le q n =
     elim (cases_lt n q) [
       | inl high ↦ ap is_le (cmp-greater q n high) ∙ sym (not-le q n high)
       | inr up ↦ elim (cases_lt q n) [
-        | inl low ↦ ap is_le (cmp-less q n low) ∙ sym (le-leb q n (omega (arith, low)))
+        | inl low ↦ ap is_le (before q n low) ∙ sym (le-leb q n (omega (arith, low)))
         | inr down ↦ ap is_le (cmp-equal q n (omega (arith, up, down))) ∙ sym (le-leb q n (omega (arith, up)))
       ]
     ]
@@ -147,7 +146,7 @@ has-place first last from (row ∷ rows) h = go (is_within first last row) (has-
 
 not-less : (v w : Value) (m n : ℕ) → v ≡ Int (pos m) → w ≡ Int (pos n) → m < n → is_lt (ordering_then (value_cmp v w) Equal) ≡ false → ⊥
 not-less v w m n e f low h =
-    let less : value_cmp v w ≡ Less = subst₂ (λ a b. value_cmp a b ≡ Less) (sym e) (sym f) (cmp-less m n low) in
+    let less : value_cmp v w ≡ Less = subst₂ (λ a b. value_cmp a b ≡ Less) (sym e) (sym f) (before m n low) in
     let x : true ≡ false = subst (λ (o : Ordering). is_lt (ordering_then o Equal) ≡ false) less h in
     cc (x)
 
@@ -176,18 +175,14 @@ never-any (x ∷ xs) at up = never 0 x xs at up (omega arith)
 
 -- ---- the answer
 
-all-is : {X : Type 0} (P : X → Type 0) (xs : List X) → AllByRecursion P xs → (x : X) → Is x xs → P x
+all-is : {X : Type 0} (P : X → Type 0) (xs : List X) → AllByRecursion P xs → (x : X) → In x xs → P x
 all-is P [] h x i = absurd i
 all-is P (y ∷ ys) h x (inl e) = subst P e h.0
 all-is P (y ∷ ys) h x (inr i) = all-is P ys h.1 x i
 
-is-all : {X : Type 0} (P : X → Type 0) (xs : List X) → ((x : X) → Is x xs → P x) → AllByRecursion P xs
+is-all : {X : Type 0} (P : X → Type 0) (xs : List X) → ((x : X) → In x xs → P x) → AllByRecursion P xs
 is-all P [] h = tt
 is-all P (y ∷ ys) h = (h y (inl refl), is-all P ys (λ x i. h x (inr i)))
-
--- what is so of each element is so of each in another order
-moved-all : {X : Type 0} (P : X → Type 0) (xs ys : List X) → IsPermutation xs ys → AllByRecursion P xs → AllByRecursion P ys
-moved-all P xs ys moved h = recursion_from_All P ys (All-permutation P xs ys moved (All-from_recursion P xs h))
 
 shows : (rows : List Row) → map (λ (o : Output). o.1) (map out rows) ≡ map shown rows
 shows [] = refl
@@ -201,9 +196,9 @@ page-shows first last db rows entries h =
     let staged : a.staged ≡ map (env_of params) found = a.grouped ∙ filtered first last 0 (db.trees 1) entries in
     let kept : a.kept ≡ map out found = a.distinct ∙ ap (map (output page_query)) staged ∙ outputs first last found in
     let moved : IsPermutation (map out found) a.ordered = subst (λ xs. IsPermutation xs a.ordered) kept a.same in
-    let at : AllByRecursion HasPlace a.ordered = moved-all HasPlace (map out found) a.ordered moved (has-place first last 0 (db.trees 1) entries) in
-    let inside = moved-all (λ z. Is z (map out found)) (map out found) a.ordered moved (is-all (λ z. Is z (map out found)) (map out found) (λ z i. i)) in
+    let at : AllByRecursion HasPlace a.ordered = each_moved HasPlace (map out found) a.ordered moved (has-place first last 0 (db.trees 1) entries) in
+    let inside = each_moved (λ z. In z (map out found)) (map out found) a.ordered moved (is-all (λ z. In z (map out found)) (map out found) (λ z i. i)) in
     let order : a.ordered ≡ map out found =
     one-order key 0 0 (map out found) a.ordered (rise first last 0 (db.trees 1) entries) (never-any a.ordered at a.sorted)
-    (λ f. sum_by-IsPermutation f (map out found) a.ordered moved) (λ z i. all-is (λ x. Is x (map out found)) a.ordered inside z i) in
+    (λ f. sum_by-IsPermutation f (map out found) a.ordered moved) (λ z i. all-is (λ x. In x (map out found)) a.ordered inside z i) in
     a.shown ∙ ap (map (λ (o : Output). o.1)) order ∙ shows found

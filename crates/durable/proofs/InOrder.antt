@@ -1,13 +1,10 @@
 -- A list whose keys rise is the only ordered one with its elements.
-use Rattle.std.proofs.Common.{◌≡◌, ℕ, ◌+◌, ◌≤◌, ◌<◌, ◌⊎◌, inl, inr, cond, List, [], ◌∷◌, refl, sym, ap, subst, ◌∙◌, arith}
+use Rattle.std.proofs.Common.{◌≡◌, ℕ, ◌+◌, ◌≤◌, ◌<◌, inl, inr, cond, List, [], ◌∷◌, refl, sym, ap, subst, ◌∙◌, arith}
 use Rattle.std.specs.Prelude.{nat_lt, ◌==◌}
 use Rattle.std.specs.List.{sum_by}
 use Rattle.std.proofs.lemmas.Bool.{cond-true, cond-false, ltb-true, lt-ltb, eqb-true, eq-eqb, cases_Bool}
 use Rattle.std.proofs.lemmas.List.Sums.{sum_by-cons}
-
-abbrev pub Is : {X : Type 0} → X → List X → Type 0
-Is x [] = ⊥
-Is x (y ∷ ys) = (y ≡ x) ⊎ Is x ys
+use Rattle.lemmas.proofs.Membership.{In}
 
 -- each key is above the earlier ones, and none is below the number
 abbrev pub Rise : {X : Type 0} → (X → ℕ) → ℕ → List X → Type 0
@@ -19,22 +16,22 @@ abbrev pub NeverFall : {X : Type 0} → (X → ℕ) → ℕ → List X → Type 
 NeverFall key low [] = Unit {0}
 NeverFall key low (x ∷ xs) = (low ≤ key x) × NeverFall key (key x) xs
 
-no-sum : {X : Type 0} (f : X → ℕ) (xs : List X) → ((x : X) → Is x xs → f x ≡ 0) → sum_by f xs ≡ 0
+no-sum : {X : Type 0} (f : X → ℕ) (xs : List X) → ((x : X) → In x xs → f x ≡ 0) → sum_by f xs ≡ 0
 no-sum f [] each = refl
 no-sum f (x ∷ xs) each = let a = sum_by-cons f x xs in let b = each x (inl refl) in let c = no-sum f xs (λ z i. each z (inr i)) in omega arith
 
-some-sum : {X : Type 0} (f : X → ℕ) (xs : List X) (x : X) → Is x xs → f x ≡ 1 → 1 ≤ sum_by f xs
+some-sum : {X : Type 0} (f : X → ℕ) (xs : List X) (x : X) → In x xs → f x ≡ 1 → 1 ≤ sum_by f xs
 some-sum f [] x i one = absurd i
 some-sum f (y ∷ ys) x (inl e) one = let a = sum_by-cons f y ys in let b = ap f e ∙ one in omega (arith, a, b)
 some-sum f (y ∷ ys) x (inr i) one = let a = sum_by-cons f y ys in let b = some-sum f ys x i one in omega (arith, a, b)
 
 module _ {X : Type 0} (key : X → ℕ) where
-  rises : (low : ℕ) (xs : List X) (x : X) → Rise key low xs → Is x xs → low ≤ key x
+  rises : (low : ℕ) (xs : List X) (x : X) → Rise key low xs → In x xs → low ≤ key x
   rises low [] x h i = absurd i
   rises low (y ∷ ys) x h (inl e) = subst (λ z. low ≤ key z) e h.0
   rises low (y ∷ ys) x h (inr i) = let later = rises (key y + 1) ys x h.1 i in let here = h.0 in omega (arith, later, here)
 
-  never-falls : (low : ℕ) (xs : List X) (x : X) → NeverFall key low xs → Is x xs → low ≤ key x
+  never-falls : (low : ℕ) (xs : List X) (x : X) → NeverFall key low xs → In x xs → low ≤ key x
   never-falls low [] x h i = absurd i
   never-falls low (y ∷ ys) x h (inl e) = subst (λ z. low ≤ key z) e h.0
   never-falls low (y ∷ ys) x h (inr i) = let later = never-falls (key y) ys x h.1 i in let here = h.0 in omega (arith, later, here)
@@ -63,7 +60,7 @@ module _ {X : Type 0} (key : X → ℕ) where
     | inr n ↦ cond-false (nat_lt (key x) k) 1 0 n
   ]
 
-  first-same : (x y : X) (xs ys : List X) → Rise key (key x + 1) xs → NeverFall key (key y) ys → sum_by (is_below (key x + 1)) (y ∷ ys) ≡ sum_by (is_below (key x + 1)) (x ∷ xs) → Is y (x ∷ xs) → y ≡ x
+  first-same : (x y : X) (xs ys : List X) → Rise key (key x + 1) xs → NeverFall key (key y) ys → sum_by (is_below (key x + 1)) (y ∷ ys) ≡ sum_by (is_below (key x + 1)) (x ∷ xs) → In y (x ∷ xs) → y ≡ x
   first-same x y xs ys up never sums (inl e) = sym e
   first-same x y xs ys up never sums (inr i) =
       let high = rises (key x + 1) xs y up i in
@@ -71,11 +68,11 @@ module _ {X : Type 0} (key : X → ℕ) where
       let one = some-sum (is_below (key x + 1)) (x ∷ xs) x (inl refl) (below-one (key x + 1) x (omega arith)) in
       absurd (omega (arith, none, one, sums))
     where
-      go : (z : X) → Is z (y ∷ ys) → key x + 1 ≤ key y → key x + 1 ≤ key z
+      go : (z : X) → In z (y ∷ ys) → key x + 1 ≤ key y → key x + 1 ≤ key z
       go z (inl e) high = subst (λ q. key x + 1 ≤ key q) e high
       go z (inr j) high = let later = never-falls (key y) ys z never j in omega (arith, later, high)
 
-  pub one-order : (low from : ℕ) (xs ys : List X) → Rise key low xs → NeverFall key from ys → ((f : X → ℕ) → sum_by f ys ≡ sum_by f xs) → ((z : X) → Is z ys → Is z xs) → ys ≡ xs
+  pub one-order : (low from : ℕ) (xs ys : List X) → Rise key low xs → NeverFall key from ys → ((f : X → ℕ) → sum_by f ys ≡ sum_by f xs) → ((z : X) → In z ys → In z xs) → ys ≡ xs
   one-order low from [] [] up never sums each = refl
   one-order low from [] (y ∷ ys) up never sums each = absurd (each y (inl refl))
   one-order low from (x ∷ xs) [] up never sums each = let a = sums (λ _. 1) in let b = sum_by-cons (λ _. 1) x xs in absurd (omega (arith, a, b))
@@ -87,7 +84,7 @@ module _ {X : Type 0} (key : X → ℕ) where
       left : (f : X → ℕ) → y ≡ x → sum_by f ys ≡ sum_by f xs
       left f e = let a = sums f in let b = sum_by-cons f y ys in let c = sum_by-cons f x xs in let d = ap f e in omega (arith, a, b, c, d)
 
-      later : (z : X) → Is z ys → y ≡ x → Is z (x ∷ xs) → Is z xs
+      later : (z : X) → In z ys → y ≡ x → In z (x ∷ xs) → In z xs
       later z i e (inr j) = j
       later z i e (inl same) =
           let f = is_at (key x) in

@@ -12,7 +12,8 @@ use Rattle.sqlite.specs.Tree.{put_row}
 use Rattle.durable.specs.Tables.{entry}
 use Rattle.durable.specs.Slots.{place_of, body_of, missing, slots_from, AreEntries}
 
-before : (m n : ℕ) → m < n → value_cmp (Int (pos m)) (Int (pos n)) ≡ Less
+-- a place below another is less as a value
+pub before : (m n : ℕ) → m < n → value_cmp (Int (pos m)) (Int (pos n)) ≡ Less
 before m n lt = value_cmp-Int (pos m) (pos n) ∙ sym (int_cmp_is (pos m) (pos n) Less (omega (arith, ints)))
 
 pub length-missing : (n : ℕ) → length (missing n) ≡ n

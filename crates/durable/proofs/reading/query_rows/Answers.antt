@@ -10,8 +10,8 @@ use Rattle.durable.specs.Held.{IsReady}
 use Rattle.durable.specs.Pages.{rows_within}
 use Rattle.durable.proofs.Answering.{between}
 use Rattle.durable.proofs.PageTexts.{page_text}
-use Rattle.durable.proofs.Queries.{query-ok, query-crash, left-by-query, kept-by}
-use Rattle.durable.proofs.Steps.{was_clean}
+use Rattle.durable.proofs.Queries.{query-ok, query-crash}
+use Rattle.durable.proofs.Steps.{left_by_query, kept_by, was_clean}
 use Rattle.durable.proofs.reading.query_rows.Goals as goal
 
 abbrev old : (g : _) → goal.After-query_all g → State
@@ -27,7 +27,7 @@ Leaves first last a b (Err e) = IsUnchanged a b ⊎ IsRolledBack a b
 leaves : (first last : ℕ) (params : Row) (a b : State) (r : Result (Vec Answer Global) Error) → params ≡ between first last → IsReady a → IfOk r (λ rows. Shown page_text params a b rows.items) → IfErr r (FailsToQuery page_text params a b)
     → Leaves first last a b r
 leaves first last params a b (Ok rows) is ready ok err = query-ok a b first last rows.items ready (subst (λ p. Shown page_text p a b rows.items) is ok)
-leaves first last params a b (Err e) is ready ok err = left-by-query page_text params a b e err
+leaves first last params a b (Err e) is ready ok err = left_by_query page_text params a b e err
 
 moved : (first last : ℕ) (a b : State) (r : Result (Vec Answer Global) Error) → Leaves first last a b r → IsUnchanged a b ⊎ IsRolledBack a b
 moved first last a b (Ok rows) h = inl h.1
@@ -58,7 +58,7 @@ returns-clause-open g c clean = still-open c.args.first c.args.last (old g c) (n
 pub returns-clause-kept : goal.returns-clause-kept
 returns-clause-kept g c clean still =
     let early = was_clean (old g c) (new g c) _ c.query_all.ensures.survives clean in
-    kept-by (old g c) (new g c) (c.requires.ready early) (moved c.args.first c.args.last (old g c) (new g c) c.query_all.result (it g c clean)) still
+    kept_by (old g c) (new g c) (c.requires.ready early) (moved c.args.first c.args.last (old g c) (new g c) c.query_all.result (it g c clean)) still
 
 pub returns-clause-crash : goal.returns-clause-crash
 returns-clause-crash g c clean =

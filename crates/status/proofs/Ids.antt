@@ -82,10 +82,6 @@ id_if-number c n false e t h = absurd (cc (h))
 pub id_at-number : (c : Code) (n : ℕ) (t : TransactionId) → id_at c n ≡ Some t → t.number ≡ n
 id_at-number c n t h = id_if-number c n (is_number n) refl t h
 
--- identifiers of different numbers differ
-pub id_at-apart : (c d : Code) (n m : ℕ) (t u : TransactionId) → id_at c n ≡ Some t → id_at d m ≡ Some u → (n ≡ m → ⊥) → t ≡ u → ⊥
-id_at-apart c d n m t u h i other same = other (sym (id_at-number c n t h) ∙ ap (λ (v : TransactionId). v.number) same ∙ id_at-number d m u i)
-
 -- ---- the test of sameness
 
 pub id_of_same : (a b : TransactionId) → same_id a b ≡ true → a ≡ b

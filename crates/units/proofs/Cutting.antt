@@ -43,9 +43,6 @@ pub holds_from : (o q : Code) (p r : Period) (a b : Bool) → Holds o q p r a b 
 holds_from o q p r a b h = rw (h.left, h.right) (grind (arith, nat_tests, h.first, h.second, h.period))
 
 module _ {M : Type 0} where
-  pub has-true : (i : Interval M) (u : Serial) → has i u ≡ true → Holds i.origin u.origin i.period u.period (leb i.first u.number) (leb u.number i.last)
-  has-true i u e = holds i.origin u.origin i.period u.period (leb i.first u.number) (leb u.number i.last) e
-
   pub meets-true : (b : RawBlock) (i : Interval M) → meets b i ≡ true → Holds i.origin b.origin i.period b.period (leb i.first b.last) (leb b.first i.last)
   meets-true b i e = holds i.origin b.origin i.period b.period (leb i.first b.last) (leb b.first i.last) e
 

@@ -27,10 +27,6 @@ all_first true false f t x = refl
 all_first false p f t x = refl
 
 module _ {M : Type 0} where
-  -- maps that answer alike are one
-  pub same_marks : (m n : Marks M) → ((u : Serial) → get m u ≡ get n u) → m ≡ n
-  same_marks m n h = same_map units_total exact_units m n h
-
   -- an interval's first n units
   abbrev has_first : Interval M → ℕ → Serial → Bool
   has_first i n u = same_code i.origin u.origin && (same_period i.period u.period && (leb i.first u.number && ltb u.number (i.first + n)))

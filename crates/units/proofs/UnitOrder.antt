@@ -138,7 +138,7 @@ either a b = elim (unit_cmp a b) as (λ r. Says a b r → IsBelow a b ⊎ IsUpTo
   | Greater ↦ λ h. inr (record { line = h.line; number = λ e. let n = h.number e in omega arith })
 ] (says a b)
 
--- units of one rank share their origin and period, and the other way round
+-- units of one rank share their origin and period
 pub same_line : (a b : Serial) → rank a ≡ rank b → (same_code a.origin b.origin ≡ true) × (same_period a.period b.period ≡ true)
 same_line a b e =
     let p = periods a.period in
@@ -149,14 +149,6 @@ same_line a b e =
     let g : a.origin.second ≡ b.origin.second = omega arith in
     let h : period_index a.period ≡ period_index b.period = omega arith in
     (and_from _ _ (eq-eqb _ _ f) (eq-eqb _ _ g), eq-eqb _ _ h)
-
-pub rank_of_same : (a b : Serial) → same_code a.origin b.origin ≡ true → same_period a.period b.period ≡ true → rank a ≡ rank b
-rank_of_same a b c p =
-    let f = and_parts (a.origin.first == b.origin.first) (a.origin.second == b.origin.second) c in
-    let e = eqb-true a.origin.first b.origin.first f.0 in
-    let g = eqb-true a.origin.second b.origin.second f.1 in
-    let q = eqb-true (period_index a.period) (period_index b.period) p in
-    omega arith
 
 -- ---- units whose numbers are bounded
 

@@ -11,9 +11,6 @@ use Rattle.units.specs.declared.block.RawBlock.{RawBlock}
 use Rattle.status.specs.Content.{raws}
 use Rattle.wire.specs.Objects.{whole, whole_items, block_items}
 
-pub view-String : (s : String Global) → view (values.String s) ≡ string (string_bytes s)
-view-String s = search (rules, the_lemmas)
-
 -- the value of a block's text
 abbrev pub block_value : Block → Data
 block_value b = string (raw_text b.raw)
@@ -22,13 +19,6 @@ abbrev pub raw_value : RawBlock → Data
 raw_value b = string (raw_text b)
 
 module _ {X : Type 0} (f : X → Data) where
-  -- one more element is written
-  pub listed_more : (vs : List Value) (xs : List X) (i : ℕ) (v : Value) (x : X) → i < length xs → view v ≡ f (get_or xs i x) → map view vs ≡ map f (take i xs)
-      → map view (vs ++ v ∷ []) ≡ map f (take (i + 1) xs)
-  listed_more vs xs i v x lt seen so_far =
-      map_push view vs v ∙ ap (λ ds. ds ++ view v ∷ []) so_far ∙ ap (λ d. map f (take i xs) ++ d ∷ []) seen ∙ sym (map_push f (take i xs) (get_or xs i x))
-      ∙ ap (map f) (sym (take_more xs i x lt))
-
   pub listed_all : (vs : List Value) (xs : List X) (i : ℕ) → length xs ≤ i → map view vs ≡ map f (take i xs) → items_view vs ≡ items_of (map f xs)
   listed_all vs xs i le e = ap items_of (e ∙ ap (map f) (take_all i xs le))
 

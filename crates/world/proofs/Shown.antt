@@ -12,9 +12,3 @@ use Rattle.world.proofs.Turns.{journal-seen}
 
 pub live_kept : (w : World) (s : Kept) → IsKept w.scheme s → s.transitions.items ≡ live_in w (Some (seen s))
 live_kept w s kept = kept.made ∙ sym (ap (λ (l : List Input). transitions_of (history w.scheme s.node l)) (journal-seen s))
-
-pub live_there : (w : World) (n : Node) (s : Kept) → IsKept w.scheme s → station w n ≡ Some (seen s) → s.transitions.items ≡ live w n
-live_there w n s kept is = live_kept w s kept ∙ sym (ap (live_in w) is)
-
-pub live_nowhere : (w : World) (n : Node) → station w n ≡ None → live w n ≡ []
-live_nowhere w n is = ap (live_in w) is

@@ -189,7 +189,7 @@ impl Holdings {
         Ok(())
     }
 
-    /// Lets go what the transaction reserves. Takes no memory.
+    /// Frees the units that the transaction reserves. Takes no memory.
     pub fn release(&mut self, id: TransactionId)
         ensures accounts { self.new.accounts ≡ self.old.accounts }
         ensures lots { (s : Serial) → map.get self.new.lots s ≡ option_map (released id) (map.get self.old.lots s) }

@@ -4,7 +4,7 @@ use Rattle.serde_json.specs.Data.{Data, array, Items, no_items, item}
 use Rattle.serde_json.specs.Find.{get, as_object, as_str, as_number, as_u64}
 use Rattle.serde_json.specs.Events.{members_len}
 
--- an object of so many keys; a value holds each key once
+-- an object with that many keys; a value holds each key once
 abbrev pub HasKeys : Data → ℕ → Type 0
 HasKeys d count = option_map members_len (as_object d) ≡ Some count
 

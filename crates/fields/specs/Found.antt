@@ -1,4 +1,4 @@
--- What a reader answers: a value as described, or that there is none.
+-- What a reader returns: a value as described, or that there is none.
 use Rattle.std.specs.Prelude.{Result, Ok, Err}
 use Rattle.fields.specs.declared.fault.ReadFault.{ReadFault}
 use Rattle.fields.specs.declared.fault.ReadFault.TheVariants.{Shape, NoMemory}

@@ -6,7 +6,7 @@ ghost use Rattle.fields.specs.Fields.{HasKeys, text_at, number_at};
 
 use serde_json::Value;
 
-/// Whether it is an object of so many keys.
+/// Whether it is an object with `count` keys.
 pub fn has_keys(value: &Value, count: usize) -> bool
     ensures { IsTrue result ↔ HasKeys (view value.now) count }
 {

@@ -1,4 +1,4 @@
--- What the log answers to an input after a journal.
+-- What the log returns for an input after a journal.
 use Rattle.std.specs.Prelude.{ℕ, ◌+◌, not, cond, nat_le, Bool, true, false, List, [], ◌∷◌, filter, flat_map, Option, Some}
 use Rattle.std.specs.Option.{option_map_or}
 use Rattle.std.specs.Ordering.{is_lt}

@@ -23,7 +23,7 @@ pub data Verdict : Type 0 where
   IsLate : Verdict
   IsRefused : ℕ → Verdict
 
--- the first refusal whose cause stands, else the answer
+-- the first refusal whose cause holds, else the verdict that follows
 abbrev pub refuse : Causes → Verdict → Verdict
 refuse [] answer = answer
 refuse (c ∷ cs) answer = cond c.0 (IsRefused c.1) (refuse cs answer)

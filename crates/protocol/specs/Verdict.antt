@@ -1,4 +1,4 @@
--- What a node answers to an input after a journal, and the history that a journal makes.
+-- What a node returns for an input after a journal, and the history that a journal makes.
 use Rattle.std.specs.Prelude.{List, [], ◌∷◌}
 use Rattle.std.specs.List.{fold}
 use Rattle.units.specs.declared.code.Node.{Node}
@@ -14,7 +14,7 @@ unfoldable pub verdict : Scheme → Node → List Entry → Input → Verdict
 verdict scheme Itl es input = log_verdict scheme es input
 verdict scheme (Registry c) es input = registry_verdict scheme c es input
 
--- the transitions of an answer
+-- the transitions of a verdict
 abbrev pub made : Verdict → List Transition
 made (Enters xs) = xs
 made IsRepeat = []

@@ -30,7 +30,7 @@ pub record AtRest (w : World) : Type 0 where
   pub closed : (t : TransactionId) → IsOpen (committed_of w) t → ⊥
   pub free : (s : Serial) → is_some (allotted w.scheme s) ≡ true → (c : Code) × (has_member w.scheme c ≡ true) × (spendable w.scheme c (at_registry (committed_of w) c) s ≡ true)
 
--- each journal has room for so many more records
+-- each journal has room for that many more records
 abbrev pub HasRoom : World → ℕ → Type 0
 HasRoom w count = (n : Node) → length (whole (station w n)) + count ≤ w.scheme.records
 

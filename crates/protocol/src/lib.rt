@@ -1,4 +1,4 @@
-//! The protocol of transfers, as definitions: what nodes record, answer and send, and what a world of
+//! The protocol of transfers, as definitions: what nodes record, return and send, and what a world of
 //! nodes does at each event. Start at `specs/Pieces.antt`; docs/DEFINITIONS.md leads on.
 #![tactic(auto)]
 

@@ -32,7 +32,7 @@ IsOutside bytes = IsUtf8 bytes × (value : Data) × (read bytes ≡ Some value) 
 abbrev pub HasFault : List ℕ → SchemeFault → Type 0
 HasFault bytes fault = (records : ℕ) × (members : List Member) × Writes bytes records members × IsFirst faults_in_order members fault
 
--- why the text is no scheme; want of memory says nothing of it
+-- why the text is no scheme; out of memory says nothing of it
 abbrev pub IsFault : List ℕ → SchemeFault → Type 0
 IsFault bytes NotJson = IsNoJson bytes
 IsFault bytes Shape = IsOutside bytes

@@ -17,7 +17,7 @@ use std::alloc::{AllocError, Global};
 use units::Block;
 use units::limits::{LEAST_REGISTRIES, MOST_ACCOUNTS, MOST_ALLOTTED, MOST_REGISTRIES};
 
-// Puts the blocks of all the allotments behind those that are there.
+// Adds the blocks of all the allotments after those that are there.
 fn push_units(all: &mut Vec<Block>, allotted: &[Allotment]) -> Result<(), AllocError>
     ensures { OnOk result (all.new.items ≡ all.old.items ++ blocks_of allotted.now) }
 {
@@ -50,7 +50,7 @@ fn have_few_accounts(members: &[Member]) -> bool
     true
 }
 
-// Whether neither the registries nor their accounts nor their so many blocks are too many.
+// Whether neither the registries nor their accounts nor their blocks, `blocks` in number, are too many.
 fn are_few(members: &[Member], blocks: usize) -> bool
     requires { blocks ≡ length (all_blocks members.now) }
     ensures { IsTrue result ↔ AreFew members.now }

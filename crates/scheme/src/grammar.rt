@@ -1,4 +1,4 @@
-//! Reading registries from a JSON value. Every fault here is `Shape`, beside want of memory.
+//! Reading registries from a JSON value. Every fault here is `Shape` or out of memory.
 ghost use Rattle.std.specs.Prelude.{◌≡◌, ◌≤◌, ◌∷◌, ℕ, IfSome, IfNone, codes};
 ghost use Rattle.serde_json.specs.Data.{boolean, string};
 ghost use Rattle.serde_json.specs.View.{view, items_view};

@@ -56,7 +56,7 @@ impl Scheme {
     }
 }
 
-/// The answer to a text is one: a scheme or a fault, and no two faults but want of memory.
+/// A text has one result: a scheme or a fault, and no two faults but out of memory.
 pub fn one_answer()
     ensures no_fault { (bytes : List ℕ) (s : Scheme) (f : SchemeFault) → IsSchemeText bytes s → IsFault bytes f → f ≡ NoMemory }
     ensures one_fault { (bytes : List ℕ) (f g : SchemeFault) → IsFault bytes f → IsFault bytes g → (f ≡ NoMemory → ⊥) → (g ≡ NoMemory → ⊥) → f ≡ g }

@@ -112,7 +112,7 @@ fn scheme_time(clock: &impl Clock, alloc: Global, text: &[u8]) -> Result<Duratio
     Ok(start.elapsed(clock)?)
 }
 
-// Prints the two times of so many rounds. Of no rounds it tells only whether the text is a scheme.
+// Prints the two times of that many rounds. Of no rounds it tells only whether the text is a scheme.
 fn measure(
     rt: &(impl Clock + Print),
     alloc: Global,

@@ -19,7 +19,7 @@ pub enum MomentFault {
     /// It names no instant, one with a part of a second, or one out of range.
     #[error("no moment")]
     Text,
-    /// Never answered today, since reading an instant takes no memory.
+    /// Never returned today, since reading an instant takes no memory.
     #[error("out of memory")]
     NoMemory,
 }

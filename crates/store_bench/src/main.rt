@@ -171,7 +171,7 @@ fn append_time<S: NodeStore>(
     Ok(start.elapsed(clock)?)
 }
 
-// How long the store takes to load so many records, with the drop of the records.
+// How long the store takes to load its records, with the drop of the records.
 fn load_time<S: NodeStore>(
     clock: &impl Clock,
     store: &mut S,

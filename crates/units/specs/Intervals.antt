@@ -35,7 +35,7 @@ numbered i n = record { origin = i.origin; period = i.period; number = n }
 abbrev pub Marks : Type 0 → Type 0
 Marks M = FinMap unit_cmp M
 
--- the map with the interval's mark at so many units of it, from its first on
+-- the map with the interval's mark at that many units of it, from its first on
 unfoldable pub put_units : {M : Type 0} → Interval M → ℕ → Marks M → Marks M
 put_units i zero m = m
 put_units i (suc n) m = insert (put_units i n m) (numbered i (i.first + n)) i.mark

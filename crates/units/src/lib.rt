@@ -1,5 +1,5 @@
 //! Registry codes, nodes, units and blocks of units, their texts, and what every crate above shares:
-//! refusals, want of memory and lists.
+//! refusals, out of memory and lists.
 #![tactic(auto)]
 
 mod block;

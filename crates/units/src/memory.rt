@@ -1,9 +1,9 @@
-//! Want of memory.
+//! Out of memory.
 
 use std::alloc::{AllocError, AllocFailed};
 use thiserror::Error;
 
-/// An allocation was refused. A call that answers this has changed nothing, unless it says otherwise.
+/// An allocation was refused. A call that returns this has changed nothing, unless it says otherwise.
 #[derive(Clone, Copy, Debug, PartialEq, Eq, Error)]
 #[error("out of memory")]
 pub struct NoMemory;

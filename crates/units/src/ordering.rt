@@ -40,7 +40,7 @@ fn goes_on<M: Mark>(interval: &Interval<M>, next: &Interval<M>) -> bool
     is_next(interval, next) && interval.mark.is_same(&next.mark)
 }
 
-// Puts an interval behind the others, or lengthens their last one where it goes on there.
+// Adds an interval after the others, or lengthens their last one where it goes on there.
 fn push_joined<M: Mark>(
     intervals: &mut Vec<Interval<M>>,
     next: Interval<M>,

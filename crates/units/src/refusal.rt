@@ -12,7 +12,7 @@ pub struct Refusal {
 }
 
 impl Refusal {
-    /// Want of memory.
+    /// Out of memory.
     pub const NO_MEMORY: Refusal = Refusal {
         code: OUT_OF_MEMORY,
     };

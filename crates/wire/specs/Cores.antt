@@ -8,11 +8,11 @@ use Rattle.wire.specs.declared.input.Input.TheVariants.{Ack}
 use Rattle.wire.specs.declared.node_core.Stepped.{Stepped}
 use Rattle.wire.specs.declared.node_core.Stepped.TheVariants.{Recorded, Repeat, Late}
 
--- the answer is the one that is due, or tells want of memory
+-- the result is the one that is due, or out of memory
 abbrev pub MayAnswer : Result Stepped Refusal → Result Stepped Refusal → Type 0
 MayAnswer got due = (got ≡ due) ⊎ (got ≡ Err (record { code = out_of_memory }))
 
--- the journal after an input was answered
+-- the journal after an input was taken
 abbrev pub after : List Input → Input → Result Stepped Refusal → List Input
 after j i (Ok (Recorded place)) = j ++ i ∷ []
 after j i (Ok Repeat) = j

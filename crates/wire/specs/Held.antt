@@ -4,7 +4,7 @@ use Rattle.std.specs.Prelude.{ℕ, List, Bool}
 pub record Held : Type 0 where
   -- the greatest length of a line
   pub limit : ℕ
-  -- the bytes behind the last newline
+  -- the bytes after the last newline
   pub rest : List ℕ
   -- a line was over the limit
   pub closed : Bool

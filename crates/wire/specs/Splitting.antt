@@ -1,4 +1,4 @@
--- What a splitter keeps, and what it answers.
+-- What a splitter keeps, and what it returns.
 use Rattle.std.specs.Prelude.{◌≡◌, ℕ, List, ◌++◌, true, false, Result, Ok, Err}
 use Rattle.wire.specs.Lines.{Splits, IsOver}
 use Rattle.wire.specs.declared.lines.Line.{Line}
@@ -14,7 +14,7 @@ Faults old new piece (TooLong lines) = (old.closed ≡ false) × IsOver old.limi
 Faults old new piece Closed = (old.closed ≡ true) × (new ≡ old)
 Faults old new piece NoMemory = (old.closed ≡ false) × (new ≡ old)
 
--- what a call with a piece answers and leaves: of the bytes held before and the piece, the lines are
+-- what a call with a piece returns and leaves: of the bytes held before and the piece, the lines are
 -- handed out and the rest is held
 abbrev pub Feeds : Held → Held → List ℕ → Result (List Line) LineFault → Type 0
 Feeds old new piece (Ok lines) = (old.closed ≡ false) × Splits old.limit (old.rest ++ piece) lines new.rest × (new ≡ record old { rest = new.rest })

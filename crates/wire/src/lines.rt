@@ -55,7 +55,7 @@ enum Cut {
     Over(Items<Line>),
 }
 
-// The lines of `held` and `piece` behind it.
+// The lines of `held` followed by `piece`.
 fn cut_lines(alloc: Global, limit: usize, held: &[u8], piece: &[u8]) -> Result<Cut, AllocError>
     requires { IsWithin limit held.now }
     ensures { IfOk result (λ c. IsCut limit (held.now ++ piece.now) c) }
@@ -108,7 +108,7 @@ impl Splitter {
         }
     }
 
-    /// Takes the next piece of the stream, and answers the lines that end in it, in their order.
+    /// Takes the next piece of the stream, and returns the lines that end in it, in their order.
     /// What follows the last newline is kept for the next call.
     ///
     /// - `TooLong` where more than `limit` bytes follow one another without a newline. It has the
@@ -153,7 +153,7 @@ impl Splitter {
 #[error("the stream ends without a newline, or has a line that is longer than the limit")]
 pub struct Truncated;
 
-/// How a stream is cut into pieces doesn't matter: the lines of two pieces, one behind the other,
+/// How a stream is cut into pieces doesn't matter: the lines of two pieces, one after the other,
 /// are the lines of both as one piece. Bytes are lines and a rest in one way at most, or lines and
 /// one that is over the limit in one way at most, and never both. Does nothing.
 pub fn cuts()

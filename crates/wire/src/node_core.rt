@@ -17,7 +17,7 @@ pub enum Stepped {
 }
 
 /// A node's core, by what it means: it is the core of a journal, the list of recorded inputs, the
-/// oldest first. What it answers is a function of that journal alone.
+/// oldest first. What it returns is a function of that journal alone.
 pub trait NodeCore: Drop {
     ghost use Rattle.std.specs.Prelude.{◌≡◌, ℕ, List, [], ◌∷◌, ◌++◌, length, slice_get, option_copied, IfOk, Option, Result, Ok};
     ghost use Rattle.status.specs.declared.id.TransactionId.{TransactionId};
@@ -32,7 +32,7 @@ pub trait NodeCore: Drop {
     /// It is the core of that journal.
     ghost is_core_of: { Self → List Input → Type 0 };
 
-    /// What is answered to an input after that journal.
+    /// What is returned for an input after that journal.
     ghost verdict: { Self → List Input → Input → Result Stepped Refusal };
 
     /// The messages that the records of that journal send, in order. A message's key is its place
@@ -42,7 +42,7 @@ pub trait NodeCore: Drop {
     /// Where a transaction stands by that journal.
     ghost stands: { Self → List Input → TransactionId → Option Status };
 
-    /// Takes an input and answers the verdict: the input is recorded, or it is a repeat, or late, or
+    /// Takes an input and returns the verdict: the input is recorded, or it is a repeat, or late, or
     /// it is refused for the reason that the number tells. In place of any of these may come refusal
     /// `OUT_OF_MEMORY`. Where the input isn't recorded, the core stays the core of that journal.
     fn step(&mut self, input: &Input) -> Result<Stepped, Refusal>
@@ -84,7 +84,7 @@ pub trait NodeCore: Drop {
     /// Each record of the journal is recorded at its place after the records before it.
     ghost replays: { (c : Self) (j : List Input) → is_core_of c j → Replays (verdict c) j };
 
-    /// What is recorded stands behind the records before it.
+    /// What is recorded follows the records before it.
     ghost places: { (c : Self) (j : List Input) (i : Input) (p : ℕ) → is_core_of c j → verdict c j i ≡ Ok (Recorded p) → p ≡ length j };
 
     /// A record more takes no message back.

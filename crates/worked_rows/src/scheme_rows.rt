@@ -37,7 +37,7 @@ fn fault_beside_jp(
     fault(alloc, both.as_str())
 }
 
-/// The texts of so many numbers from 1 on, between `before` and `behind`.
+/// The texts of that many numbers from 1 on, between `before` and `behind`.
 fn repeated(alloc: Global, count: u64, before: &str, behind: &str) -> Result<String, Fail> {
     let mut text = String::new(alloc);
     for i in 1..=count {

@@ -28,7 +28,7 @@ fn options() -> Options {
     Options::new(7)
 }
 
-// Files that so many calls may be made of.
+// Files of which that many calls may be made.
 fn new_files(alloc: Global, log_calls: u64, db_calls: u64) -> Stored {
     Files {
         log: Fuse::new(Memory::new(alloc), log_calls),
@@ -224,7 +224,7 @@ fn a_place_that_is_missing_is_named(rt: HostRuntime) -> Result<(), Fail> {
 #[derive(Drop)]
 struct Run {
     files: Stored,
-    // records that were answered
+    // records that were returned
     answered: usize,
     // faults that were counted, and whether the store then waited
     faults: u64,

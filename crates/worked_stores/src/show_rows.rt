@@ -61,7 +61,7 @@ fn shows_no_records(rt: HostRuntime) -> Result<(), Fail> {
     Ok(())
 }
 
-/// Takes so many bytes, two at a time, and then fails.
+/// Takes that many bytes, two at a time, and then fails.
 #[derive(Drop)]
 struct Full {
     room: usize,
@@ -107,7 +107,7 @@ fn shows_no_store_that_waits(rt: HostRuntime) -> Result<(), Fail> {
     Ok(())
 }
 
-/// Gives so many zeros, and then fails.
+/// Gives that many zeros, and then fails.
 #[derive(Drop)]
 struct Broken {
     room: usize,
@@ -165,7 +165,7 @@ fn reads_a_file(rt: HostRuntime) -> Result<(), Fail> {
     Ok(())
 }
 
-/// The same of the scheme with spaces behind it, 1,048,576 bytes in all, and then that end.
+/// The same of the scheme with spaces after it, 1,048,576 bytes in all, and then that end.
 fn read_longest(alloc: Global, end: &str) -> Result<Result<u64, Cause>, Fail> {
     let mut text = String::from_str(alloc, SCHEME)?;
     for _ in SCHEME.len()..1_048_576 {

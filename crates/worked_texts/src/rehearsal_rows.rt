@@ -57,7 +57,7 @@ const ACCEPTED_OUTCOMES: &str = "1 recorded 0
 18 done
 ";
 
-/// What an input comes to: the answer, and what was written.
+/// What an input comes to: the result, and what was written.
 fn rehearsed(rt: &HostRuntime, input: &str) -> (Result<(), OpFault>, Vec<u8>) {
     let mut reader = input.as_bytes();
     let mut writer = Vec::new(rt.alloc());
@@ -213,7 +213,7 @@ fn reads_on_after_an_interruption_alone(rt: HostRuntime) {
     }
 }
 
-/// Takes so many bytes, two at a time, and then fails.
+/// Takes that many bytes, two at a time, and then fails.
 #[derive(Drop)]
 struct Full {
     room: usize,

@@ -108,7 +108,7 @@ pub record IsPlace (hs : List Holding) (account at : ℕ) : Type 0 where
   pub up_to : (d : Holding) → 0 < at → (slice_index_or hs (at - 1) d).account ≤ account
   pub above : (d : Holding) → at < length hs → account < (slice_index_or hs at d).account
 
--- a holding came to the others, behind all of them in its account, or as one with the last of these
+-- a holding came to the others, after all of them in its account, or as one with the last of these
 pub record IsAdded (hs : List Holding) (h : Holding) (after : List Holding) : Type 0 where
   pub in_order : AreInOrder after
   pub from_either : (s : Serial) (account : ℕ) (kind : Kind) (mark : Option TransactionId) → Any (λ x. HasSo x s account kind mark) after → HasSo h s account kind mark ⊎ Any (λ x. HasSo x s account kind mark) hs

@@ -1,4 +1,4 @@
--- What a node answers to an input after a journal, by the thin rules: a registry proposes one whole
+-- What a node returns for an input after a journal, by the thin rules: a registry proposes one whole
 -- allotted block, and the rows of the accepted path are all that is recorded.
 use Rattle.std.specs.Prelude.{ℕ, ◌+◌, ◌==◌, ◌&&◌, not, cond, nat_le, Bool, List, [], ◌∷◌, find, length, Option, Some, None, option_map, option_and_then}
 use Rattle.std.specs.List.{list_any}
@@ -144,7 +144,7 @@ unfoldable pub verdict : Scheme → Node → List Entry → Input → Verdict
 verdict scheme n es (Propose account to to_account units) = order scheme n es account to to_account units
 verdict scheme n es (Received message moment) = hear scheme n es message
 
--- the transitions of an answer
+-- the transitions of a verdict
 abbrev pub made : Verdict → List Transition
 made (Enters x) = x ∷ []
 made _ = []

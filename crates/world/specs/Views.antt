@@ -1,4 +1,4 @@
--- What a world shows: of every node the committed journal and the tail behind it.
+-- What a world shows: of every node the committed journal and the tail after it.
 use Rattle.std.specs.Prelude.{◌&&◌, not, cond, Bool, false, List, [], map, filter, flat_map, reverse, Option, Some, None, option_map, option_and_then}
 use Rattle.std.specs.List.{filter_map}
 use Rattle.units.specs.Code.{same_code}

@@ -19,7 +19,7 @@ use Rattle.world.specs.Messages.{receiver}
 use Rattle.world.specs.History.{sends}
 use Rattle.world.specs.Verdict.{verdict, history}
 
--- a node: its committed journal, the tail behind it, and whether it runs
+-- a node: its committed journal, the tail after it, and whether it runs
 pub record Station : Type 0 where
   pub node : Node
   pub committed : List Input
@@ -94,7 +94,7 @@ answered s input (IsRefused c) = rests s (Refused c)
 abbrev pub take_input : Scheme → Input → Station → Turn
 take_input scheme input s = running s (answered s input (verdict scheme s.node (history scheme s.node (journal s)) input))
 
--- the first `count` records of the tail are committed, where it has so many
+-- the first `count` records of the tail are committed, where it has that many
 abbrev pub commit : ℕ → Station → Turn
 commit count s = running s (cond (nat_le count (length s.tail))
     (record {

@@ -169,7 +169,7 @@ impl World {
         }
     }
 
-    /// Moves the world by an event, and answers what it came to. After `NoMemory` the world is as
+    /// Moves the world by an event, and returns what it came to. After `NoMemory` the world is as
     /// it was.
     pub fn apply(&mut self, alloc: Global, event: WorldEvent) -> Result<Outcome, NoMemory>
         ensures ok { IfOk result (λ o. record { world = self.new; outcome = o } ≡ step self.old event) }

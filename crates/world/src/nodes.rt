@@ -127,7 +127,7 @@ impl Station {
         }
     }
 
-    /// Commits the first `count` records of the tail, where it has so many.
+    /// Commits the first `count` records of the tail, where it has that many.
     pub fn commit(&mut self, count: u64) -> Outcome
         requires within { self.old.committed ≤ length self.old.journal.items }
         ensures kept { (scheme : Scheme) → IsKept scheme self.old → IsKept scheme self.new }

@@ -383,7 +383,7 @@ fn joined(one: &Holding, other: &Holding) -> Option<Holding>
     })
 }
 
-/// Behind all holdings of that account and the lower ones.
+/// The place after all holdings of that account and the lower ones.
 fn place_for(holdings: &[Holding], account: u64) -> usize
     ensures { IsPlace holdings.now account result }
 {
@@ -395,7 +395,7 @@ fn place_for(holdings: &[Holding], account: u64) -> usize
     holdings.len()
 }
 
-/// Puts a holding behind the others of its account, as one with the last of them where they go on.
+/// Adds a holding after the others of its account, as one with the last of them where they go on.
 fn add(holdings: &mut Vec<Holding>, holding: Holding) -> Result<(), NoMemory>
     requires in_order { AreInOrder holdings.old.items }
     requires behind { All (λ g. ComesBefore (unit_numbered g.block.raw g.block.raw.last) (first_unit holding.block.raw)) holdings.old.items }

@@ -46,7 +46,7 @@ fn order(alloc: Global, transfer: &Transfer) -> Result<Input, NoMemory> {
     })
 }
 
-/// An event behind the order: one record is committed, a message is posted or delivered.
+/// An event after the order: one record is committed, a message is posted or delivered.
 #[derive(Clone, Copy)]
 enum Turn {
     Commits(Node),
@@ -89,7 +89,7 @@ fn event(turn: Turn, moment: Moment) -> WorldEvent {
     }
 }
 
-/// The order and the first so many turns behind it.
+/// The order and that many turns after it.
 fn events(alloc: Global, transfer: &Transfer, count: usize) -> Result<Vec<WorldEvent>, NoMemory> {
     let mut events = Vec::new(alloc);
     events.push(WorldEvent::Take {
@@ -102,7 +102,7 @@ fn events(alloc: Global, transfer: &Transfer, count: usize) -> Result<Vec<WorldE
     Ok(events)
 }
 
-/// The world that the order and so many turns reach.
+/// The world that the order and that many turns reach.
 fn reached(alloc: Global, transfer: &Transfer, count: usize) -> Result<World, Fail> {
     let events = events(alloc, transfer, count)?;
     let scheme = Scheme::read(alloc, SCHEME.as_bytes())?;

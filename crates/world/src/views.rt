@@ -1,4 +1,4 @@
-//! What a world shows: of every node the committed journal and the tail behind it.
+//! What a world shows: of every node the committed journal and the tail after it.
 ghost use Rattle.std.specs.Prelude.{◌≡◌, ◌++◌, ◌&&◌, map, filter, slice_get, IfOk, IfSome, OnOk, option_map};
 ghost use Rattle.std.specs.Option.{option_copied, option_to_list};
 ghost use Rattle.units.specs.Code.{same_code};

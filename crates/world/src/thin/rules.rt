@@ -1,4 +1,4 @@
-//! What a node answers to an input, by the thin rules: a registry proposes one whole allotted block,
+//! What a node returns for an input, by the thin rules: a registry proposes one whole allotted block,
 //! and the rows of the accepted path are all that is recorded.
 
 ghost use Rattle.std.specs.Prelude.{◌≡◌, ◌==◌, ◌&&◌, ◌+◌, List, length, find, IfOk, option_map, option_and_then};
@@ -31,7 +31,7 @@ pub struct Transition {
     pub message: Option<Message>,
 }
 
-/// A node's answer to an input, before anything is recorded.
+/// A node's verdict on an input, before anything is recorded.
 #[derive(Debug, Drop)]
 pub enum Verdict {
     /// It is recorded, and does this.
@@ -449,7 +449,7 @@ fn hear(
 }
 
 #[tactic(auto, unfolding(crate::specs::Verdict::verdict))]
-/// What a node answers to an input after the records that made these transitions, the newest first.
+/// What a node returns for an input after the records that made these transitions, the newest first.
 pub fn judge(
     alloc: Global,
     scheme: &Scheme,

@@ -1,17 +1,12 @@
 -- The lines of records, with one record more.
-use Rattle.std.proofs.Common.{◌≡◌, ℕ, suc, ◌+◌, ◌<◌, List, [], ◌∷◌, ◌++◌, length, take, get_or, sym, ap, ◌∙◌, arith, append_assoc, append-nil}
+use Rattle.std.proofs.Common.{◌≡◌, ℕ, ◌+◌, ◌<◌, List, [], ◌∷◌, ◌++◌, length, take, get_or, refl, sym, ap, ◌∙◌, arith}
 use Rattle.std.proofs.lemmas.List.{length-take, take_more}
 use Rattle.wire.specs.declared.input.Input.{Input}
 use Rattle.operator.specs.Show.{record_line, record_lines}
+use Rattle.operator.proofs.NumberedLines.{lines_more}
 
 record_lines-snoc : (n : ℕ) (xs : List Input) (x : Input) → record_lines n (xs ++ x ∷ []) ≡ record_lines n xs ++ record_line (n + length xs) x
-record_lines-snoc n [] x = append-nil (record_line n x) ∙ ap (λ (k : ℕ). record_line k x) (let same : n ≡ n + 0 = omega arith in same)
-record_lines-snoc n (y ∷ xs) x =
-    let rest = record_lines-snoc (n + 1) xs x in
-    let same : n + 1 + length xs ≡ n + suc (length xs) = omega arith in
-    ap (λ (l : List ℕ). record_line n y ++ l) rest
-    ∙ sym (append_assoc (record_line n y) (record_lines (n + 1) xs) (record_line (n + 1 + length xs) x))
-    ∙ ap (λ (k : ℕ). (record_line n y ++ record_lines (n + 1) xs) ++ record_line k x) same
+record_lines-snoc n xs x = lines_more record_line record_lines (λ k. refl) (λ k y ys. refl) n xs x
 
 pub records_more : (now new : List ℕ) (xs : List Input) (i place : ℕ) (x : Input) → i < length xs → x ≡ get_or xs i x → place ≡ i
     → now ≡ record_lines 0 (take i xs) → new ≡ now ++ record_line place x → new ≡ record_lines 0 (take (i + 1) xs)

@@ -16,6 +16,7 @@ use Rattle.operator.specs.EventLines.{IsEventLine}
 use Rattle.operator.specs.Lines.{IsLine}
 use Rattle.operator.specs.Report.{outcome_line}
 use Rattle.operator.specs.Table.{outcome_lines}
+use Rattle.operator.proofs.NumberedLines.{lines_more}
 use Rattle.operator.specs.Rehearsal.{room_behind, AreEvents, IsEventFault, IsNextFault, IsLinesFault, IsEarlyFault}
 
 -- what the loop has done: the events so far, the world that they reach, their outcomes' lines, and
@@ -44,13 +45,7 @@ length-outcomes w [] = refl
 length-outcomes w (e ∷ es) = ap suc (length-outcomes (step w e).world es)
 
 outcome_lines-snoc : (n : ℕ) (os : List Outcome) (o : Outcome) → outcome_lines n (os ++ o ∷ []) ≡ outcome_lines n os ++ outcome_line (n + length os) o
-outcome_lines-snoc n [] o = append-nil (outcome_line n o) ∙ ap (λ (k : ℕ). outcome_line k o) (let same : n ≡ n + 0 = omega arith in same)
-outcome_lines-snoc n (x ∷ os) o =
-    let rest = outcome_lines-snoc (n + 1) os o in
-    let same : n + 1 + length os ≡ n + suc (length os) = omega arith in
-    ap (λ (l : List ℕ). outcome_line n x ++ l) rest
-    ∙ sym (append_assoc (outcome_line n x) (outcome_lines (n + 1) os) (outcome_line (n + 1 + length os) o))
-    ∙ ap (λ (k : ℕ). (outcome_line n x ++ outcome_lines (n + 1) os) ++ outcome_line k o) same
+outcome_lines-snoc n os o = lines_more outcome_line outcome_lines (λ k. refl) (λ k x xs. refl) n os o
 
 -- the lines of the outcomes of one more event
 lines-snoc : (w : World) (es : List WorldEvent) (e : WorldEvent) → outcome_lines 1 (outcomes w (es ++ e ∷ [])) ≡ outcome_lines 1 (outcomes w es) ++ outcome_line (length es + 1) (step (run w es) e).outcome

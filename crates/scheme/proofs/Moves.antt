@@ -5,7 +5,6 @@ use Rattle.std.specs.List.{swap}
 use Rattle.std.proofs.Math.ListN.{set}
 use Rattle.std.proofs.lemmas.List.Edits.{swap_is}
 use Rattle.std.proofs.lemmas.List.Sorted.{IsPermutation-keeps}
-pub use Rattle.lemmas.proofs.Permutations.{each_moved}
 use Rattle.units.specs.Apart.{Pairwise}
 use Rattle.scheme.proofs.Pairs.{neighbours_turn}
 

@@ -15,12 +15,6 @@ use Rattle.scheme.specs.declared.members.Member.{Member}
 use Rattle.fields.specs.Fields.{HasAt, EachIs, HasList}
 use Rattle.fields.proofs.Lists.{each_one}
 use Rattle.fields.proofs.OneAtKey.{at_once, text_once, whole_once, array_once}
-use Rattle.fields.proofs.BlockTexts.{block_none as no_block_text}
-use Rattle.std.specs.Prelude.{Result, Err, IfNone}
-use Rattle.std.specs.Result.{result_ok}
-use Rattle.serde_json.specs.Find.{as_str}
-use Rattle.units.specs.declared.block.BlockFault.{BlockFault}
-use Rattle.units.specs.declared.block.BlockFault.TheVariants.{Shape, Range}
 use Rattle.units.specs.contracts.block.KindPartialEq.TheImpl.{ghosts}
 use Rattle.units.specs.contracts.block.Kind.{the_type}
 use denote.Enum.Bare.{same_true, true_same}
@@ -38,10 +32,6 @@ block_one d a b p q =
     let e : string p.0 ≡ string q.0 = sym p.1 ∙ q.1 in
     let t : q.0 ≡ p.0 = cc (e) in
     block_same a b (raw_same p.0 a.raw b.raw p.2 (subst (λ s. IsRawText s b.raw) t q.2))
-
-pub block_none : (d : Data) (text : List ℕ) (r : Result Block BlockFault) → Some text ≡ as_str d → (r ≡ Err Shape → (w : RawBlock) → IsRawText text w → ⊥)
-    → (r ≡ Err Range → (w : RawBlock) × IsRawText text w × (IsRange w.first w.last → ⊥)) → IfNone (result_ok r) ((b : Block) → IsBlock d b → ⊥)
-block_none d text r e shape range = no_block_text (IsBlock d) d text r (λ b is. is) e shape range
 
 -- ---- an object writes one value
 

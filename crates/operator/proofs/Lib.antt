@@ -9,3 +9,4 @@ pub mod WorkedReport
 pub mod RecordLines
 pub mod ShowWords
 pub mod WorkedWords
+pub mod UsageFaults

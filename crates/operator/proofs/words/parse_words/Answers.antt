@@ -1,6 +1,6 @@
 use Rattle.std.proofs.Common.{◌≡◌, true, map, subst, sym}
 use Rattle.clap.specs.Takes.{takes}
-use Rattle.operator.proofs.UsageFaults.{has_kind, has_none, told}
+use Rattle.operator.proofs.UsageFaults.{has_kind, told}
 use Rattle.operator.proofs.words.parse_words.Goals as goal
 
 pub returns-clause-taken : goal.returns-clause-taken

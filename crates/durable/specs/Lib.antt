@@ -2,6 +2,7 @@ pub mod Tables
 pub mod Slots
 pub mod Held
 pub mod Faults
+pub mod FaultTexts
 pub mod Records
 pub mod Pages
 pub mod Bodies

@@ -4,34 +4,49 @@ ghost use Rattle.durable.specs.Faults.{is_device_fault};
 
 use sqlite::{Error as SqlError, ErrorCode};
 use std::alloc::AllocFailed;
-use thiserror::Error;
+use std::error::Error;
+use std::fmt;
 use units::NoMemory;
 
 /// A fault of a store. Its text is the word that the program shows.
-#[derive(Clone, Copy, Debug, PartialEq, Eq, Error)]
+#[derive(Clone, Copy, Debug, PartialEq, Eq)]
 pub enum StoreFault {
     /// The device, or the file on it, failed.
-    #[error("device")]
     Device,
     /// No room on the device, or a record too large for it.
-    #[error("full")]
     Full,
     /// The record at this place is missing or can't be read; at place 0, also: the file is no store.
-    #[error("damaged {0}")]
     Damaged(u64),
     /// The store is another node's.
-    #[error("wrong-node")]
     WrongNode,
     /// The store has another format.
-    #[error("wrong-version")]
     WrongVersion,
     /// A fault came before, and the store was not reopened since.
-    #[error("reopen")]
     Reopen,
-    /// Want of memory.
-    #[error("out of memory")]
+    /// Out of memory.
     NoMemory,
 }
+
+impl fmt::Display for StoreFault {
+    ghost use Rattle.std.specs.Prelude.{Some};
+    ghost use Rattle.durable.specs.FaultTexts.{fault_text};
+
+    ghost output = { λ fault. Some (fault_text fault) };
+
+    fn fmt<W: fmt::Write>(&self, f: &mut fmt::Formatter<W>) -> fmt::Result {
+        match *self {
+            StoreFault::Device => write!(f, "device"),
+            StoreFault::Full => write!(f, "full"),
+            StoreFault::Damaged(place) => write!(f, "damaged {place}"),
+            StoreFault::WrongNode => write!(f, "wrong-node"),
+            StoreFault::WrongVersion => write!(f, "wrong-version"),
+            StoreFault::Reopen => write!(f, "reopen"),
+            StoreFault::NoMemory => write!(f, "out of memory"),
+        }
+    }
+}
+
+impl Error for StoreFault {}
 
 impl<T: Drop> From<AllocFailed<T>> for StoreFault {
     ghost use Rattle.durable.specs.declared.fault.StoreFault.TheVariants.{NoMemory};

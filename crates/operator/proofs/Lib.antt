@@ -10,3 +10,4 @@ pub mod RecordLines
 pub mod ShowWords
 pub mod WorkedWords
 pub mod NumberedLines
+pub mod UsageFaults

@@ -1,8 +1,9 @@
--- The words that show a store, computed from the definitions alone.
+-- The words that show a store, and words that ask for help or are wrong, computed from the definitions alone.
 use Rattle.std.proofs.Common.{◌≡◌, ℕ, List, [], ◌∷◌, Option, Some, true, refl, codes, option_and_then}
+use Rattle.clap.specs.declared.error.kind.ErrorKind.TheVariants.{DisplayHelp, InvalidSubcommand, MissingRequiredArgument, MissingSubcommand, UnknownArgument}
 use Rattle.clap.specs.Words.{first_of, is_simple, subcommand_of, takes}
 use Rattle.clap.proofs.OnLiterals.{clap_on_literals}
-use Rattle.operator.specs.Words.{kyoto_link}
+use Rattle.operator.specs.Words.{faults_in, kyoto_link}
 
 abbrev words : List (List ℕ)
 words = codes "kyoto-link" ∷ codes "show" ∷ codes "s.json" ∷ codes "d" ∷ codes "NZ" ∷ []
@@ -30,3 +31,39 @@ second_value = refl
 pub third_value : value (codes "NODE") ≡ Some (codes "NZ")
 unfolding clap_on_literals
 third_value = refl
+
+pub no_fault : faults_in words ≡ []
+unfolding clap_on_literals
+no_fault = refl
+
+-- ---- words that ask for help
+
+pub help_flag : faults_in (codes "kyoto-link" ∷ codes "--help" ∷ []) ≡ DisplayHelp ∷ []
+unfolding clap_on_literals
+help_flag = refl
+
+pub short_help_flag : faults_in (codes "kyoto-link" ∷ codes "-h" ∷ []) ≡ DisplayHelp ∷ []
+unfolding clap_on_literals
+short_help_flag = refl
+
+-- ---- words that are wrong
+
+pub no_subcommand : faults_in (codes "kyoto-link" ∷ []) ≡ MissingSubcommand ∷ []
+unfolding clap_on_literals
+no_subcommand = refl
+
+pub unknown_subcommand : faults_in (codes "kyoto-link" ∷ codes "run" ∷ []) ≡ UnknownArgument ∷ InvalidSubcommand ∷ []
+unfolding clap_on_literals
+unknown_subcommand = refl
+
+pub unknown_flag : faults_in (codes "kyoto-link" ∷ codes "--all" ∷ []) ≡ UnknownArgument ∷ []
+unfolding clap_on_literals
+unknown_flag = refl
+
+pub no_node : faults_in (codes "kyoto-link" ∷ codes "show" ∷ codes "s.json" ∷ codes "d" ∷ []) ≡ MissingRequiredArgument ∷ []
+unfolding clap_on_literals
+no_node = refl
+
+pub word_too_many : faults_in (codes "kyoto-link" ∷ codes "show" ∷ codes "s.json" ∷ codes "d" ∷ codes "NZ" ∷ codes "JP" ∷ []) ≡ UnknownArgument ∷ []
+unfolding clap_on_literals
+word_too_many = refl

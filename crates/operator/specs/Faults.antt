@@ -1,6 +1,8 @@
 -- The words for what is wrong with a line, a store's faults, and the program's exit status.
-use Rattle.std.specs.Prelude.{ℕ, List, codes}
+use Rattle.std.specs.Prelude.{ℕ, List, ◌++◌, codes, decimal}
+use Rattle.units.specs.Code.{node_text}
 use Rattle.units.specs.declared.code.Node.{Node}
+use Rattle.durable.specs.FaultTexts.{fault_text}
 use Rattle.durable.specs.declared.fault.StoreFault.{StoreFault}
 use Rattle.durable.specs.declared.fault.StoreFault.TheVariants.{NoMemory as OutOfMemory}
 use Rattle.operator.specs.declared.fault.Cause.{Cause}
@@ -21,7 +23,15 @@ cause_text Order = codes "order"
 cause_text Truncated = codes "truncated"
 cause_text TooLong = codes "too-long"
 
--- want of memory is the command's own fault, and every other one the store's
+-- what is printed of a fault
+abbrev pub op_fault_text : OpFault → List ℕ
+op_fault_text (Input line cause) = codes "line " ++ decimal line ++ codes ": " ++ cause_text cause
+op_fault_text Read = codes "read failed"
+op_fault_text (Write count) = codes "write failed after " ++ decimal count ++ codes " bytes"
+op_fault_text (Store node fault) = codes "store " ++ node_text node ++ codes ": " ++ fault_text fault
+op_fault_text NoMemory = codes "out of memory"
+
+-- out of memory is the command's own fault, and every other one the store's
 abbrev pub of_store : Node → StoreFault → OpFault
 of_store node OutOfMemory = NoMemory
 of_store node fault = Store node fault

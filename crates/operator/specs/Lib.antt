@@ -1,3 +1,4 @@
+pub mod Calls
 pub mod EventLines
 pub mod Faults
 pub mod Lines

@@ -1,12 +1,16 @@
 -- What the words of a command line name, by the matches that clap gives of them.
-use Rattle.std.specs.Prelude.{◌≡◌, ℕ, List, [], ◌∷◌, Option, Some, true, false, codes, option_and_then, option_map, string_bytes}
-use Rattle.clap.specs.Words.{App, Rule, Shape, new_app, new_rule, with_subcommand, shape_of, subcommand_name_of, subcommand_rows_of, first_of, app_of}
+use Rattle.std.specs.Prelude.{◌≡◌, ◌≢◌, ℕ, List, [], ◌∷◌, Option, Some, true, false, codes, option_and_then, option_map, string_bytes}
+use Rattle.clap.specs.Words.{App, IsAmong, Kinds, Rule, Shape, fault_of, kind_of, new_app, new_rule, with_subcommand, shape_of, subcommand_name_of, subcommand_rows_of, first_of, app_of}
 use Rattle.clap.specs.declared.builder.command.Command.TheViews.{out-Command}
 use Rattle.clap.specs.Simple.{new_shape}
 use Rattle.clap.specs.declared.builder.command.Command.{Command}
+use Rattle.clap.specs.declared.error.Error.{Error}
+use Rattle.clap.specs.declared.error.kind.ErrorKind.TheVariants.{OutOfMemory, DisplayHelp}
 use Rattle.clap.specs.declared.parser.matches.ArgMatches.{ArgMatches}
 use Rattle.operator.specs.declared.words.Action.{Action}
 use Rattle.operator.specs.declared.words.Action.TheVariants.{Rehearse, Show}
+use Rattle.operator.specs.declared.words.UsageFault.{UsageFault}
+use Rattle.operator.specs.declared.words.UsageFault.TheVariants.{Usage, Help, NoMemory}
 
 -- the program, which demands a subcommand
 abbrev pub program : App
@@ -22,6 +26,22 @@ show_shape = record (new_shape (codes "show")) { rules = positional (codes "SCHE
 -- the program with its subcommands
 abbrev pub kyoto_link : App
 kyoto_link = with_subcommand (with_subcommand program (new_shape (codes "rehearse"))) show_shape
+
+-- the kinds of fault of which clap finds one in the words; none where it takes them
+abbrev pub faults_in : List (List ℕ) → Kinds
+faults_in words = fault_of kyoto_link words
+
+-- the fault is what the error of clap is to the program
+abbrev pub IsFaultOf : Error → UsageFault → Type 0
+IsFaultOf error NoMemory = kind_of error ≡ OutOfMemory
+IsFaultOf error (Help e) = (e ≡ error) × (kind_of error ≡ DisplayHelp)
+IsFaultOf error (Usage e) = (e ≡ error) × (kind_of error ≢ OutOfMemory) × (kind_of error ≢ DisplayHelp)
+
+-- help comes only of words that may ask for it, and wrong words have another fault
+abbrev pub IsUsageFault : List (List ℕ) → UsageFault → Type 0
+IsUsageFault words NoMemory = Unit {0}
+IsUsageFault words (Help e) = (kind_of e ≡ DisplayHelp) × IsAmong DisplayHelp (faults_in words)
+IsUsageFault words (Usage e) = (kind_of e ≢ OutOfMemory) × (kind_of e ≢ DisplayHelp) × IsAmong (kind_of e) (faults_in words)
 
 abbrev pub IsCommand : App → Command → Type 0
 IsCommand a c = (app_of c ≡ a) × ((out-Command c).has_globals ≡ false)

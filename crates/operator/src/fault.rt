@@ -4,8 +4,8 @@ ghost use Rattle.std.specs.Prelude.{◌≡◌};
 ghost use Rattle.operator.specs.Faults.{exit_status, of_store};
 
 use durable::StoreFault;
+use std::error::Error;
 use std::fmt;
-use thiserror::Error;
 use units::Node;
 
 /// What is wrong with a line of an input.
@@ -60,24 +60,38 @@ impl fmt::Display for Cause {
 }
 
 /// Why a command failed, and where.
-#[derive(Clone, Copy, Debug, PartialEq, Eq, Error)]
+#[derive(Clone, Copy, Debug, PartialEq, Eq)]
 pub enum OpFault {
     /// The first line of the input that has a fault, counted from 1, and its fault.
-    #[error("line {line}: {cause}")]
     Input { line: u64, cause: Cause },
     /// The input could not be read.
-    #[error("read failed")]
     Read,
     /// The output could not be written, but for that many of its first bytes.
-    #[error("write failed after {0} bytes")]
     Write(u64),
     /// The node's store has that fault. Want of memory is `NoMemory`: see `store_fault`.
-    #[error("store {node}: {fault}")]
     Store { node: Node, fault: StoreFault },
-    /// Memory was refused.
-    #[error("out of memory")]
+    /// Out of memory.
     NoMemory,
 }
+
+impl fmt::Display for OpFault {
+    ghost use Rattle.std.specs.Prelude.{Some};
+    ghost use Rattle.operator.specs.Faults.{op_fault_text};
+
+    ghost output = { λ fault. Some (op_fault_text fault) };
+
+    fn fmt<W: fmt::Write>(&self, f: &mut fmt::Formatter<W>) -> fmt::Result {
+        match *self {
+            OpFault::Input { line, cause } => write!(f, "line {line}: {cause}"),
+            OpFault::Read => write!(f, "read failed"),
+            OpFault::Write(count) => write!(f, "write failed after {count} bytes"),
+            OpFault::Store { node, fault } => write!(f, "store {node}: {fault}"),
+            OpFault::NoMemory => write!(f, "out of memory"),
+        }
+    }
+}
+
+impl Error for OpFault {}
 
 impl OpFault {
     /// The program's exit status.

@@ -1,6 +1,7 @@
 //! The program's commands: the words of its command line, `rehearse` and its report, and `show`.
 #![tactic(auto)]
 
+mod calls;
 mod events;
 mod fault;
 mod rehearsal;

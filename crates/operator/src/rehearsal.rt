@@ -158,12 +158,12 @@ pub fn rehearse<R: Read, W: Write>(
 {
     let input = match read_input(alloc, reader) {
         Ok(input) => input,
-        Err(ReadFault::Read) => return Err(OpFault::Read),
+        Err(ReadFault::Read(_)) => return Err(OpFault::Read),
         Err(ReadFault::NoMemory) => return Err(OpFault::NoMemory),
     };
     let text = report_of(alloc, input.as_slice())?;
     match write_text(writer, text.as_str().as_bytes()) {
         Ok(()) => Ok(()),
-        Err(count) => Err(OpFault::Write(count as u64)),
+        Err(fault) => Err(OpFault::Write(fault.written as u64)),
     }
 }

@@ -52,7 +52,7 @@ pub fn read_scheme<R: Read>(alloc: Global, reader: &mut R) -> Result<Scheme, OpF
 {
     let input = match read_input(alloc, reader) {
         Ok(input) => input,
-        Err(ReadFault::Read) => return Err(OpFault::Read),
+        Err(ReadFault::Read(_)) => return Err(OpFault::Read),
         Err(ReadFault::NoMemory) => return Err(OpFault::NoMemory),
     };
     let text = text_in(input.as_slice());

@@ -71,6 +71,6 @@ pub fn show<S: NodeStore, W: Write>(
     };
     match write_text(writer, text.as_slice()) {
         Ok(()) => Ok(()),
-        Err(count) => Err(OpFault::Write(count as u64)),
+        Err(fault) => Err(OpFault::Write(fault.written as u64)),
     }
 }

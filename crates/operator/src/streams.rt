@@ -1,8 +1,10 @@
 //! All of a reader, and all of a text to a writer.
 ghost use Rattle.std.specs.Prelude.{◌<◌, length, take, IfOk, IfErr, OnOk};
 ghost use Rattle.std.specs.Io.KnownBytes.{Appends};
+ghost use Rattle.operator.specs.Calls.{IsReadingFault, StopsWriting};
 ghost use Rattle.operator.specs.Streams.{Takes};
 
+use crate::calls::Calls;
 use std::alloc::Global;
 use std::io::{ErrorKind, Read, Write};
 
@@ -23,19 +25,36 @@ const MOST_INTERRUPTED: u64 = 20_000;
 /// Why a reader was not read to its end.
 #[derive(Clone, Copy, Debug, PartialEq, Eq)]
 pub enum ReadFault {
-    Read,
+    /// A read failed and was not interrupted, or the end didn't come in `MOST_READS` reads. It has the reads that there were.
+    Read(Calls),
+    /// Out of memory.
     NoMemory,
 }
 
-/// All that the reader gives, up to one byte more than an input may have.
+/// Why not all was written: a write failed and was not interrupted, or took no byte, or `MOST_INTERRUPTED` of them were
+/// interrupted.
+#[derive(Clone, Copy, Debug, PartialEq, Eq)]
+pub struct WriteFault {
+    /// How many of the first bytes were written.
+    pub written: usize,
+    /// The writes that there were.
+    pub calls: Calls,
+}
+
+/// All that the reader gives, up to one byte more than an input may have. An interrupted read is tried again.
+///
+/// `Read`: a read failed and was not interrupted, or the end didn't come in 16,777,217 reads; what was read is lost.
+/// `NoMemory`: out of memory; what was read is lost.
 pub fn read_input<R: Read>(alloc: Global, reader: &mut R) -> Result<Vec<u8>, ReadFault>
-    ensures { IfOk result (λ v. Takes (R.remaining reader.old) (R.remaining reader.new) v.items) }
+    ensures ok { IfOk result (λ v. Takes (R.remaining reader.old) (R.remaining reader.new) v.items) }
+    ensures err { IfErr result IsReadingFault }
 {
     let mut input = Vec::new(alloc);
     let mut piece = [0u8; PIECE];
-    for _ in 0..MOST_READS {
+    let mut calls = Calls::none();
+    while calls.count() < MOST_READS {
         let room = (LONGEST_INPUT + 1 - input.len()).min(PIECE);
-        match reader.read(&mut piece[..room]) {
+        match calls.read(reader, &mut piece[..room]) {
             Ok(0) => return Ok(input),
             Ok(n) => {
                 if input.extend_from_slice(&piece[..n]).is_err() {
@@ -47,33 +66,36 @@ pub fn read_input<R: Read>(alloc: Global, reader: &mut R) -> Result<Vec<u8>, Rea
             }
             Err(error) => {
                 if error.kind() != ErrorKind::Interrupted {
-                    return Err(ReadFault::Read);
+                    return Err(ReadFault::Read(calls));
                 }
             }
         }
     }
-    Err(ReadFault::Read)
+    Err(ReadFault::Read(calls))
 }
 
-/// Writes the bytes. An `Err` has how many of them were written.
-pub fn write_text<W: Write>(writer: &mut W, bytes: &[u8]) -> Result<(), usize>
+/// Writes the bytes. An interrupted write is tried again.
+///
+/// Fails where a write failed and was not interrupted, or took no byte, and at the 20,000th interrupted one. The error has
+/// how many of the first bytes were written; no others were.
+pub fn write_text<W: Write>(writer: &mut W, bytes: &[u8]) -> Result<(), WriteFault>
     ensures ok { OnOk result (Appends (W.contents writer.old) (W.contents writer.new) bytes.now) }
-    ensures err { IfErr result (λ n. Appends (W.contents writer.old) (W.contents writer.new) (take n bytes.now)) }
-    ensures short { IfErr result (λ n. n < length bytes.now) }
+    ensures err { IfErr result (λ f. Appends (W.contents writer.old) (W.contents writer.new) (take f.written bytes.now)) }
+    ensures short { IfErr result (λ f. f.written < length bytes.now) }
+    ensures stops { IfErr result (λ f. StopsWriting f.calls) }
 {
     let mut at = 0;
-    let mut interrupted = 0;
+    let mut calls = Calls::none();
     while at < bytes.len() {
-        match writer.write(&bytes[at..]) {
-            Ok(0) => return Err(at),
+        match calls.write(writer, &bytes[at..]) {
+            Ok(0) => return Err(WriteFault { written: at, calls }),
             Ok(n) => at += n,
             Err(error) => {
                 if error.kind() != ErrorKind::Interrupted {
-                    return Err(at);
+                    return Err(WriteFault { written: at, calls });
                 }
-                interrupted += 1;
-                if interrupted == MOST_INTERRUPTED {
-                    return Err(at);
+                if calls.interrupted() >= MOST_INTERRUPTED {
+                    return Err(WriteFault { written: at, calls });
                 }
             }
         }

@@ -1,12 +1,12 @@
 //! The command line.
-ghost use Rattle.std.specs.Prelude.{◌≡◌, true, false, Some, IfOk, IfErr, IfSome, codes, map, string_bytes};
+ghost use Rattle.std.specs.Prelude.{◌≡◌, [], true, false, Some, IfOk, IfErr, IfSome, codes, map, string_bytes};
 ghost use Rattle.clap.specs.Simple.{new_shape};
 ghost use Rattle.clap.specs.Takes.{takes};
 ghost use Rattle.clap.specs.Values.{kind_of};
 ghost use Rattle.clap.specs.Words.{HasMatchesOf, first_value, found_of, rule_of};
 ghost use Rattle.clap.specs.declared.error.kind.ErrorKind.TheVariants.{OutOfMemory};
 ghost use Rattle.clap.specs.declared.parser.matches.ArgMatches.{ArgMatches};
-ghost use Rattle.operator.specs.Words.{NamesAction, IsCommand, IsShow, IsSubcommand, kyoto_link, positional, show_shape};
+ghost use Rattle.operator.specs.Words.{NamesAction, IsCommand, IsFaultOf, IsShow, IsSubcommand, IsUsageFault, faults_in, kyoto_link, positional, show_shape};
 
 use clap::error::ErrorKind;
 use clap::{Arg, ArgMatches, Command, Error};
@@ -33,7 +33,7 @@ pub enum UsageFault {
     Usage(Error),
     /// The words ask for help.
     Help(Error),
-    /// Memory was refused.
+    /// Out of memory.
     NoMemory,
 }
 
@@ -117,8 +117,10 @@ fn action_of(alloc: Global, matches: &ArgMatches) -> Option<Action>
     None
 }
 
+/// What an error of `clap` is to the program.
 fn fault_of(error: Error) -> UsageFault
-    ensures { kind_of error ≡ OutOfMemory → result ≡ UsageFault.NoMemory }
+    ensures memory { kind_of error ≡ OutOfMemory → result ≡ UsageFault.NoMemory }
+    ensures kind { IsFaultOf error result }
 {
     match error.kind() {
         ErrorKind::OutOfMemory => UsageFault::NoMemory,
@@ -127,10 +129,14 @@ fn fault_of(error: Error) -> UsageFault
     }
 }
 
-/// The action that the words name, the first word being the program's own name. Where `clap` takes
-/// the words, the only fault is want of memory.
+/// The action that the words name, the first word being the program's own name.
+///
+/// `Help`: the words ask for help. `Usage`: the words are wrong. `NoMemory`: out of memory; where `clap` takes the words,
+/// this is the only fault.
 pub fn parse_words<S: AsStr>(alloc: Global, words: &[S]) -> Result<Action, UsageFault>
     ensures ok { IfOk result (λ a. (m : ArgMatches) × HasMatchesOf kyoto_link (map S.text words.now) m × NamesAction m a) }
+    ensures right { IfOk result (λ a. faults_in (map S.text words.now) ≡ []) }
+    ensures fault { IfErr result (IsUsageFault (map S.text words.now)) }
     ensures taken { takes kyoto_link (map S.text words.now) ≡ true → IfErr result (λ f. f ≡ UsageFault.NoMemory) }
 {
     let Ok(command) = command(alloc) else {

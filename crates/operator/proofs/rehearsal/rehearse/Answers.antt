@@ -17,7 +17,7 @@ returns-in-Ok-write_text-clause-ok g c =
     let text = string_bytes c.in_ok-text.text in
     let same : c.as_bytes.result.now ≡ text = c.as_bytes.ensures.value ∙ c.as_str.ensures.value in (
       text,
-      reported (g.R.Read.remaining c.args.reader.now) (g.R.Read.remaining c.read_input.new.reader) c.in-Ok.input.items c.as_slice.result.now text c.in-Ok.ensures c.as_slice.ensures.value c.in_ok-text.ensures.ok,
+      reported (g.R.Read.remaining c.args.reader.now) (g.R.Read.remaining c.read_input.new.reader) c.in-Ok.input.items c.as_slice.result.now text c.in-Ok.ensures.ok c.as_slice.ensures.value c.in_ok-text.ensures.ok,
       subst (Appends (g.W.Write.contents c.args.writer.now) (g.W.Write.contents c.write_text.new.writer)) same c.in-Ok-write_text.ensures.ok,
     )
 
@@ -26,7 +26,7 @@ returns-clause-err g c =
     let text = string_bytes c.in_ok-text.text in
     let same : c.as_bytes.result.now ≡ text = c.as_bytes.ensures.value ∙ c.as_str.ensures.value in (
       text,
-      reported (g.R.Read.remaining c.args.reader.now) (g.R.Read.remaining c.read_input.new.reader) c.in-Ok.input.items c.as_slice.result.now text c.in-Ok.ensures c.as_slice.ensures.value c.in_ok-text.ensures.ok,
-      subst (λ bytes. c.in-Err.count < length bytes) same c.in-Err.ensures.short,
-      subst (λ bytes. Appends (g.W.Write.contents c.args.writer.now) (g.W.Write.contents c.write_text.new.writer) (take c.in-Err.count bytes)) same c.in-Err.ensures.err,
+      reported (g.R.Read.remaining c.args.reader.now) (g.R.Read.remaining c.read_input.new.reader) c.in-Ok.input.items c.as_slice.result.now text c.in-Ok.ensures.ok c.as_slice.ensures.value c.in_ok-text.ensures.ok,
+      subst (λ bytes. c.in-Err.fault.written < length bytes) same c.in-Err.ensures.short,
+      subst (λ bytes. Appends (g.W.Write.contents c.args.writer.now) (g.W.Write.contents c.write_text.new.writer) (take c.in-Err.fault.written bytes)) same c.in-Err.ensures.err,
     )

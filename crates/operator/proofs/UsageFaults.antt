@@ -1,0 +1,33 @@
+-- Which fault words have, by the error that clap gives of them.
+use Rattle.std.proofs.Common.{◌≡◌, ◌∙◌, ℕ, List, [], true, refl, sym, ap, subst, inl, inr}
+use Rattle.clap.specs.Words.{App, HasKind, IsAmong, fault_of, is_simple_and_free, kind_of}
+use Rattle.clap.specs.declared.error.Error.{Error}
+use Rattle.clap.specs.declared.error.kind.ErrorKind.TheVariants.{OutOfMemory, DisplayHelp}
+use Rattle.clap.proofs.OnLiterals.{clap_on_literals}
+use Rattle.operator.specs.Words.{IsFaultOf, IsUsageFault, faults_in, kyoto_link}
+use Rattle.operator.specs.declared.words.UsageFault.{UsageFault}
+use Rattle.operator.specs.declared.words.UsageFault.TheVariants.{Usage, Help, NoMemory}
+
+is_free : is_simple_and_free kyoto_link ≡ true
+unfolding clap_on_literals
+is_free = refl
+
+-- what clap says of its own command is said of the program
+pub has_kind : (a : App) (words : List (List ℕ)) (error : Error) → a ≡ kyoto_link
+    → (is_simple_and_free a ≡ true → HasKind (fault_of a words) error) → HasKind (faults_in words) error
+has_kind a words error same told = subst (λ b. HasKind (fault_of b words) error) same (told (ap is_simple_and_free same ∙ is_free))
+
+pub has_none : (a : App) (words : List (List ℕ)) → a ≡ kyoto_link → (is_simple_and_free a ≡ true → fault_of a words ≡ []) → faults_in words ≡ []
+has_none a words same told = ap (λ b. fault_of b words) (sym same) ∙ told (ap is_simple_and_free same ∙ is_free)
+
+memory_is_not_help : OutOfMemory ≡ DisplayHelp → ⊥
+memory_is_not_help e = cc
+
+pub told : (words : List (List ℕ)) (error : Error) (fault : UsageFault) → HasKind (faults_in words) error → IsFaultOf error fault → IsUsageFault words fault
+told words error NoMemory has is = tt
+told words error (Help e) (inl memory) is = absurd (memory_is_not_help (sym memory ∙ is.1))
+told words error (Help e) (inr among) is = (ap kind_of is.0 ∙ is.1, subst (λ k. IsAmong k (faults_in words)) is.1 among)
+told words error (Usage e) (inl memory) is = absurd (is.1 memory)
+told words error (Usage e) (inr among) is =
+    let same = ap kind_of is.0 in
+    ((λ memory. is.1 (sym same ∙ memory)), (λ help. is.2 (sym same ∙ help)), subst (λ k. IsAmong k (faults_in words)) (sym same) among)

@@ -25,6 +25,8 @@ pub(crate) fn give_up<D: Disk + Drop>(conn: Connection<FileStore<D>>) -> Files<D
 /// corrupt where it can't be a database and where a read was found wrong; only the first is a fault of what is written.
 pub(crate) fn opening_fault(error: SqlError, before: Tally, now: Tally) -> StoreFault
     ensures named { (result ≡ StoreFault.Damaged 0) ⊎ ((result ≡ StoreFault.NoMemory) ⊎ IsTrue (is_device_fault result)) }
+    ensures no_database { error ≡ SqlError.SqliteFailure ErrorCode.NotADatabase → result ≡ StoreFault.Damaged 0 }
+    ensures corrupt { error ≡ SqlError.SqliteFailure ErrorCode.DatabaseCorrupt → now.caught ≡ before.caught → result ≡ StoreFault.Damaged 0 }
     ensures damaged { (p : ℕ) → result ≡ StoreFault.Damaged p
         → (error ≡ SqlError.SqliteFailure ErrorCode.NotADatabase) ⊎ ((error ≡ SqlError.SqliteFailure ErrorCode.DatabaseCorrupt) × (now.caught ≡ before.caught)) }
 {

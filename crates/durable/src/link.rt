@@ -7,12 +7,12 @@ ghost use Rattle.sqlite_wal.specs.Reads.{AreClean};
 ghost use Rattle.units.specs.Code.{node_text};
 ghost use Rattle.durable.specs.Backing.{IsFound, MayFind};
 ghost use Rattle.durable.specs.Connected as connected;
-ghost use Rattle.durable.specs.Faults.{is_device_fault, IsReadFault};
+ghost use Rattle.durable.specs.Faults.{is_device_fault, IsReadFault, count_after};
 ghost use Rattle.durable.specs.Held.{slots_in, node_in};
-ghost use Rattle.durable.specs.Kept.{IsHonest, MayHold, content, is_waiting, is_there};
-ghost use Rattle.durable.specs.Opening.{IsOpeningFault};
+ghost use Rattle.durable.specs.Kept.{IsHonest, MayHold, content, owner, is_waiting, is_there};
+ghost use Rattle.durable.specs.Opening.{IsOpeningFault, IsNew, IsFresh};
 ghost use Rattle.durable.specs.Records.{Places, AreRecords, IsDamagedAt, IsAllOrNone, written};
-ghost use Rattle.durable.specs.Refusals.{IsRefusal};
+ghost use Rattle.durable.specs.Refusals.{IsRefusal, IsUnharmed};
 ghost use Rattle.durable.specs.declared.fault.StoreFault.TheVariants.{Reopen, NoMemory, Damaged};
 
 use crate::backing::{give_up, open_again};
@@ -46,8 +46,7 @@ impl<D: Disk + Drop> Drop for Link<D> {
 
 /// How many calls of the device have failed, after this fault too.
 pub(crate) fn counted(faults: u64, fault: StoreFault) -> u64
-    ensures device { IsTrue (is_device_fault fault) → result ≢ faults }
-    ensures other { is_device_fault fault ≡ false → result ≡ faults }
+    ensures { result ≡ count_after faults fault }
 {
     match fault {
         StoreFault::Device | StoreFault::Full => faults.wrapping_add(1),
@@ -80,6 +79,7 @@ impl<D: Disk + Drop> Link<D> {
         ensures honest { IsHonest D.Disk self.new → IsHonest D.Disk self.old }
         ensures empty { is_waiting D.Disk self.old ≡ false → batch.now ≡ [] → (result ≡ Ok tt) × (self.new ≡ self.old) }
         ensures ok { IsHonest D.Disk self.new → OnOk result (content D.Disk self.new ≡ content D.Disk self.old ++ written batch.now) }
+        ensures owner { IsHonest D.Disk self.new → is_waiting D.Disk self.new ≡ false → owner D.Disk self.new ≡ owner D.Disk self.old }
         ensures refused { IsHonest D.Disk self.new → is_waiting D.Disk self.old ≡ false → IfErr result (λ e. is_device_fault e ≡ false → (next : Places) → MayHold D.Disk self.new next → next ≡ content D.Disk self.old) }
         ensures crash { IsHonest D.Disk self.new → is_waiting D.Disk self.old ≡ false → (next : Places) → MayHold D.Disk self.new next → IsAllOrNone (content D.Disk self.old) batch.now next }
         ensures durable { IsHonest D.Disk self.new → is_waiting D.Disk self.new ≡ false → (next : Places) → MayHold D.Disk self.new next → next ≡ content D.Disk self.new }
@@ -101,6 +101,7 @@ impl<D: Disk + Drop> Link<D> {
         ensures stops { is_waiting D.Disk self.old ≡ false → IfErr result (λ e. is_waiting D.Disk self.new ≡ is_device_fault e) }
         ensures runs { OnOk result (is_waiting D.Disk self.new ≡ false) }
         ensures kept { IsHonest D.Disk self.new → is_waiting D.Disk self.new ≡ false → content D.Disk self.new ≡ content D.Disk self.old }
+        ensures owner { IsHonest D.Disk self.new → is_waiting D.Disk self.new ≡ false → owner D.Disk self.new ≡ owner D.Disk self.old }
         ensures crash { IsHonest D.Disk self.new → is_waiting D.Disk self.old ≡ false → (next : Places) → MayHold D.Disk self.new next → next ≡ content D.Disk self.old }
     {
         match self {
@@ -120,6 +121,7 @@ impl<D: Disk + Drop> Link<D> {
         ensures stops { is_waiting D.Disk self.old ≡ false → IfErr result (λ e. is_waiting D.Disk self.new ≡ is_device_fault e) }
         ensures runs { OnOk result (is_waiting D.Disk self.new ≡ false) }
         ensures kept { IsHonest D.Disk self.new → is_waiting D.Disk self.new ≡ false → content D.Disk self.new ≡ content D.Disk self.old }
+        ensures owner { IsHonest D.Disk self.new → is_waiting D.Disk self.new ≡ false → owner D.Disk self.new ≡ owner D.Disk self.old }
         ensures crash { IsHonest D.Disk self.new → is_waiting D.Disk self.old ≡ false → (next : Places) → MayHold D.Disk self.new next → next ≡ content D.Disk self.old }
     {
         match self {
@@ -145,6 +147,7 @@ pub(crate) fn settled<D: Disk + Drop>(
     ensures named { IfErr result (λ e. e.0 ≢ Reopen) }
     ensures refused { IfErr result (λ e. AreClean D.Disk e.1.log e.1.db → HasCleanDisk (file_state conn)) }
     ensures fault { IfErr result (λ e. AreClean D.Disk e.1.log e.1.db → IsOpeningFault name.now (file_state conn).committed e.0) }
+    ensures left { IfErr result (λ e. (db : Trees) → MayFind D.Disk e.1 db → ∥ ((db ≡ (file_state conn).committed.trees) ⊎ (IsNew (file_state conn).committed × IsFresh name.now db)) ∥₁) }
 {
     match settle(&mut conn, name) {
         Ok(count) if count <= 1 << 63 => Ok(OpenStore::new(alloc, conn, count)),
@@ -166,6 +169,7 @@ pub(crate) fn linked<D: Disk + Drop>(
     ensures durable { IfOk result (λ k. connected.IsHonest over_files k → (next : Places) → connected.MayHold over_files k next → next ≡ connected.content over_files k) }
     ensures named { IfErr result (λ e. e.0 ≢ Reopen) }
     ensures fault { IfErr result (λ e. AreClean D.Disk e.1.log e.1.db → IsRefusal D.Disk files (node_text node) e.0) }
+    ensures unharmed { IfErr result (λ e. IsUnharmed D.Disk files (node_text node) e.0 e.1) }
 {
     let Ok(name) = format!(in alloc; "{node}") else {
         return Err((StoreFault::NoMemory, files));

@@ -191,6 +191,7 @@ enum Contents {
 /// What both tables have, or why they are no store of the node that asks.
 fn verdict(owner: Owner, least: Option<i64>) -> Result<Contents, StoreFault>
     ensures never { IfErr result (λ e. e ≢ StoreFault.Reopen) }
+    ensures judged { IfErr result (λ e. (e ≢ StoreFault.NoMemory) × (is_device_fault e ≡ false)) }
     ensures verdict { (node : List ℕ) (db : Database) → HasRows db → IsOwner node db owner → IsEnd false (db.trees 1) least → IsVerdict node db result }
 {
     if is_negative(least) {

@@ -8,7 +8,7 @@ ghost use Rattle.durable.specs.Faults.{is_device_fault};
 ghost use Rattle.durable.specs.Held.{slots_in};
 ghost use Rattle.durable.specs.Kept.{is_there};
 ghost use Rattle.durable.specs.Records.{Places};
-ghost use Rattle.durable.specs.Refusals.{IsRefusal};
+ghost use Rattle.durable.specs.Refusals.{IsRefusal, IsUnharmed};
 
 use crate::backing::opening_fault;
 use crate::fault::{StoreFault, fault_of};
@@ -59,6 +59,7 @@ impl<D: Disk + Drop> SqlStore<D> {
         ensures found { IfOk result (λ s. IsHonest D.Disk s → (db : Trees) × IsFound D.Disk files db × (content D.Disk s ≡ slots_in db)) }
         ensures durable { IfOk result (λ s. IsHonest D.Disk s → (next : Places) → MayHold D.Disk s next → next ≡ content D.Disk s) }
         ensures fault { IfErr result (λ e. AreClean D.Disk e.1.log e.1.db → IsRefusal D.Disk files (node_text node) e.0) }
+        ensures unharmed { IfErr result (λ e. IsUnharmed D.Disk files (node_text node) e.0 e.1) }
     {
         let store = linked(alloc, files, options, node)?;
         Ok(SqlStore {
@@ -147,7 +148,7 @@ impl SqlStore<File> {
 
 impl<D: Disk + Drop> NodeStore for SqlStore<D> {
     ghost use Rattle.std.specs.Prelude.{◌≡◌, ◌≢◌, false, OnOk, OnErr, IfErr, IsTrue};
-    ghost use Rattle.durable.specs.Faults.{is_device_fault};
+    ghost use Rattle.durable.specs.Faults.{count_after};
     ghost use Rattle.durable.specs.Records.{Places};
     ghost use Rattle.durable.specs.declared.fault.StoreFault.TheVariants.{Reopen};
     ghost use Rattle.units.specs.Code.{node_text};
@@ -162,6 +163,10 @@ impl<D: Disk + Drop> NodeStore for SqlStore<D> {
     ghost is_waiting = { λ s. is_waiting D.Disk s };
 
     ghost faults = { λ s. faults D.Disk s };
+
+    ghost whose = { λ s. node_of D.Disk s };
+
+    ghost is_own = { λ s. owner D.Disk s ≡ node_text (node_of D.Disk s) };
 
     fn append(&mut self, batch: &[Input]) -> Result<(), StoreFault> {
         match self.link.append(batch) {
@@ -198,11 +203,13 @@ impl<D: Disk + Drop> NodeStore for SqlStore<D> {
         ensures named { IfErr result (λ e. e ≢ Reopen) }
         ensures runs { OnOk result (is_waiting D.Disk self.new ≡ false) }
         ensures stops { OnErr result (IsTrue (is_waiting D.Disk self.new)) }
+        ensures honest { OnOk result (IsHonest D.Disk self.new → IsHonest D.Disk self.old) }
         ensures settles { IsHonest D.Disk self.new → OnOk result ∥ MayHold D.Disk self.old (content D.Disk self.new) ∥₁ }
         ensures durable { IsHonest D.Disk self.new → OnOk result ((next : Places) → MayHold D.Disk self.new next → next ≡ content D.Disk self.new) }
-        ensures cause { IfErr result (λ e. IsTrue (is_device_fault e) → faults D.Disk self.new ≢ faults D.Disk self.old) }
+        ensures cause { IfErr result (λ e. faults D.Disk self.new ≡ count_after (faults D.Disk self.old) e) }
+        ensures count { OnOk result (faults D.Disk self.new ≡ faults D.Disk self.old) }
         ensures node { node_of D.Disk self.new ≡ node_of D.Disk self.old }
-        ensures owner { IsHonest D.Disk self.new → OnOk result (owner D.Disk self.new ≡ node_text (node_of D.Disk self.old)) }
+        ensures owner { IsHonest D.Disk self.new → OnOk result (owner D.Disk self.new ≡ node_text (node_of D.Disk self.new)) }
         ensures fault { IsHonest D.Disk self.new → IfErr result (IsReopeningFault D.Disk self.old) }
     {
         let files = mem::replace(&mut self.link, Link::Absent).into_files();

@@ -1,3 +1,5 @@
+use Rattle.std.proofs.Common.{subst}
+use Rattle.durable.specs.Kept.{IsHonest}
 use Rattle.durable.proofs.Stores.{had-files, settled-again}
 use Rattle.durable.proofs.sql_store.SqlStoreNodeStore.reopen.Goals as goal
 
@@ -11,3 +13,7 @@ returns-in-Err-clause-fault g c clean = (
   had-files g.D.Disk c.args.self.now.link c.replace.result c.into_files-files.result c.replace.ensures.value c.into_files-files.ensures.left,
   c.in-Err.ensures.fault clean,
 )
+
+pub returns-in-Ok-clause-honest : goal.returns-in-Ok-clause-honest
+returns-in-Ok-clause-honest g c clean =
+    subst (λ link. IsHonest g.D.Disk link) c.replace.ensures.value (c.into_files-files.ensures.honest (c.in-Ok.ensures.found clean).1.honest)

@@ -4,12 +4,19 @@ use Rattle.sqlite.specs.declared.error.Error.{Error}
 use Rattle.sqlite.specs.declared.error.Error.TheVariants.{SqliteFailure}
 use Rattle.sqlite.specs.declared.error.ErrorCode.TheVariants as code
 use Rattle.durable.specs.declared.fault.StoreFault.{StoreFault}
-use Rattle.durable.specs.declared.fault.StoreFault.TheVariants.{Device, Full, Damaged, NoMemory}
+use Rattle.durable.specs.declared.fault.StoreFault.TheVariants.{Device, Full, Damaged, WrongNode, WrongVersion, NoMemory}
 
 abbrev pub is_device_fault : StoreFault → Bool
 is_device_fault Device = true
 is_device_fault Full = true
 is_device_fault _ = false
+
+-- the store was looked at, and is none of this node
+abbrev pub is_judgement : StoreFault → Bool
+is_judgement (Damaged place) = true
+is_judgement WrongNode = true
+is_judgement WrongVersion = true
+is_judgement _ = false
 
 -- a fault that reading answers of a store that runs
 abbrev pub IsReadFault : StoreFault → Type 0

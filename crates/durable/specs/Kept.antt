@@ -1,10 +1,11 @@
 -- A store in files, by its connection while it is open and by its files while it is shut.
 use Rattle.std.specs.Prelude.{◌≡◌, ℕ, Bool, true, false, List, []}
 use Rattle.sqlite.specs.Tree.{Trees}
-use Rattle.sqlite.specs.Files.{over_files}
+use Rattle.sqlite.specs.Files.{over_files, file_state}
 use Rattle.sqlite_disk.specs.declared.Disk.{Ghosts}
+use Rattle.sqlite_disk.specs.declared.Files.{Files}
 use Rattle.sqlite_wal.specs.Reads.{AreClean}
-use Rattle.durable.specs.Backing.{MayFind}
+use Rattle.durable.specs.Backing.{MayFind, Hold}
 use Rattle.durable.specs.Connected as connected
 use Rattle.durable.specs.Held.{slots_in}
 use Rattle.durable.specs.Records.{Places}
@@ -39,3 +40,9 @@ module _ {D : Type 0} (g : Ghosts D) where
   abbrev pub is_there : Link D g → Bool
   is_there Absent = false
   is_there _ = true
+
+  -- these files are the store's: its own where it is shut, and else files of what its connection may leave
+  abbrev pub AreFilesOf : Link D g → Files D → Type 0
+  AreFilesOf (Open k) files = Hold g files (file_state k.conn).may_leave
+  AreFilesOf (Shut its) files = files ≡ its
+  AreFilesOf Absent files = ⊥

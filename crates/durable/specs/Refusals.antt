@@ -1,13 +1,14 @@
--- Why files are not opened as a store of a node.
-use Rattle.std.specs.Prelude.{◌≡◌, ◌⊎◌, ℕ, List}
-use Rattle.sqlite.specs.Effect.{Database}
+-- Why files are not opened as a store of a node, and what they hold then.
+use Rattle.std.specs.Prelude.{◌≡◌, ◌⊎◌, ℕ, List, IsTrue}
+use Rattle.sqlite.specs.Effect.{Database, IsDatabase}
+use Rattle.sqlite.specs.Tree.{Trees}
 use Rattle.sqlite_disk.specs.declared.Disk.{Ghosts}
 use Rattle.sqlite_disk.specs.declared.Files.{Files}
-use Rattle.durable.specs.Backing.{IsFound, MayFind, IsNoDatabase}
-use Rattle.durable.specs.Opening.{IsOpeningFault, IsNew, IsFresh}
-use Rattle.sqlite.specs.Tree.{Trees}
+use Rattle.durable.specs.Backing.{IsFound, IsNoDatabase, Hold}
+use Rattle.durable.specs.Faults.{is_judgement}
+use Rattle.durable.specs.Opening.{IsOpeningFault}
 use Rattle.durable.specs.declared.fault.StoreFault.{StoreFault}
-use Rattle.durable.specs.declared.fault.StoreFault.TheVariants.{Device, Full, Damaged, NoMemory, WrongNode, WrongVersion}
+use Rattle.durable.specs.declared.fault.StoreFault.TheVariants.{Device, Full, Damaged, NoMemory}
 
 module _ {D : Type 0} (g : Ghosts D) where
   -- a fault of files that are not opened at all
@@ -20,10 +21,8 @@ module _ {D : Type 0} (g : Ghosts D) where
 
   -- the files are not opened, or the database that they hold is no store of that node
   abbrev pub IsRefusal : Files D → List ℕ → StoreFault → Type 0
-  IsRefusal files name fault = IsFileFault files fault ⊎ ((db : Database) × IsFound g files db.trees × IsOpeningFault name db fault)
+  IsRefusal files name fault = IsFileFault files fault ⊎ ((db : Database) × IsDatabase db × IsFound g files db.trees × IsOpeningFault name db fault)
 
--- what the files that a refusal gives back hold, where it is told that the store is another node's or of another format: what they held
-abbrev pub IsUnharmed : {D : Type 0} → Ghosts D → Files D → List ℕ → StoreFault → Files D → Type 0
-IsUnharmed g files name fault left =
-    (fault ≡ WrongNode) ⊎ (fault ≡ WrongVersion) → (next : Trees) → MayFind g left next
-    → (db : Database) × IsFound g files db.trees × ∥ ((next ≡ db.trees) ⊎ (IsNew db × IsFresh name next)) ∥₁
+  -- files that hold a database hold the same after a refusal of what they hold
+  abbrev pub IsUnharmed : Files D → StoreFault → Files D → Type 0
+  IsUnharmed files fault left = IsTrue (is_judgement fault) → ((fault ≡ Damaged 0) × IsNoDatabase g files) ⊎ ((db : Trees) × IsFound g files db × Hold g left (λ next. next ≡ db))

@@ -1,10 +1,11 @@
 //! How a connection over files is given up, and opened again.
 ghost use Rattle.std.specs.Prelude.{◌≡◌, ◌⊎◌, ℕ, false, IfOk, IfErr, IsTrue};
+ghost use Rattle.sqlite.specs.Effect.{IsDatabase};
 ghost use Rattle.sqlite.specs.Tree.{Trees};
 ghost use Rattle.sqlite.specs.State.{HasCleanDisk, Opens};
 ghost use Rattle.sqlite.specs.Files.{file_state};
 ghost use Rattle.sqlite_wal.specs.Reads.{AreClean};
-ghost use Rattle.durable.specs.Backing.{IsFound, MayFind};
+ghost use Rattle.durable.specs.Backing.{IsFound, MayFind, Hold};
 ghost use Rattle.durable.specs.Faults.{is_device_fault};
 ghost use Rattle.durable.specs.Refusals.{IsFileFault};
 
@@ -17,6 +18,7 @@ use std::alloc::Global;
 pub(crate) fn give_up<D: Disk + Drop>(conn: Connection<FileStore<D>>) -> Files<D>
     ensures honest { AreClean D.Disk result.log result.db → HasCleanDisk (file_state conn) }
     ensures left { (db : Trees) → MayFind D.Disk result db → ∥ (file_state conn).may_leave db ∥₁ }
+    ensures holds { Hold D.Disk result (file_state conn).may_leave }
 {
     conn.into_store().close()
 }
@@ -49,6 +51,7 @@ pub(crate) fn open_again<D: Disk + Drop>(
 ) -> Result<Connection<FileStore<D>>, (StoreFault, Files<D>)>
     ensures idle { IfOk result (λ conn. conn.in_transaction ≡ false) }
     ensures opened { IfOk result (λ conn. HasCleanDisk (file_state conn) → Opens (file_state conn)) }
+    ensures sound { IfOk result (λ conn. HasCleanDisk (file_state conn) → IsDatabase (file_state conn).committed) }
     ensures found { IfOk result (λ conn. HasCleanDisk (file_state conn) → IsFound D.Disk files (file_state conn).committed.trees) }
     ensures named { IfErr result (λ e. (e.0 ≡ StoreFault.Damaged 0) ⊎ ((e.0 ≡ StoreFault.NoMemory) ⊎ IsTrue (is_device_fault e.0))) }
     ensures fault { IfErr result (λ e. AreClean D.Disk e.1.log e.1.db → IsFileFault D.Disk files e.0) }

@@ -5,12 +5,12 @@ ghost use Rattle.sqlite.specs.State.{HasCleanDisk, Opens};
 ghost use Rattle.sqlite.specs.Tree.{Trees};
 ghost use Rattle.sqlite_wal.specs.Reads.{AreClean};
 ghost use Rattle.units.specs.Code.{node_text};
-ghost use Rattle.durable.specs.Backing.{IsFound, MayFind};
+ghost use Rattle.durable.specs.Backing.{IsFound, MayFind, Hold};
 ghost use Rattle.durable.specs.Connected as connected;
-ghost use Rattle.durable.specs.Faults.{is_device_fault, IsReadFault, count_after};
+ghost use Rattle.durable.specs.Faults.{is_device_fault, is_judgement, IsReadFault, count_after};
 ghost use Rattle.durable.specs.Held.{slots_in, node_in};
-ghost use Rattle.durable.specs.Kept.{IsHonest, MayHold, content, owner, is_waiting, is_there};
-ghost use Rattle.durable.specs.Opening.{IsOpeningFault, IsNew, IsFresh};
+ghost use Rattle.durable.specs.Kept.{IsHonest, MayHold, content, owner, is_waiting, is_there, AreFilesOf};
+ghost use Rattle.durable.specs.Opening.{IsOpeningFault};
 ghost use Rattle.durable.specs.Records.{Places, AreRecords, IsDamagedAt, IsAllOrNone, written};
 ghost use Rattle.durable.specs.Refusals.{IsRefusal, IsUnharmed};
 ghost use Rattle.durable.specs.declared.fault.StoreFault.TheVariants.{Reopen, NoMemory, Damaged};
@@ -61,6 +61,8 @@ impl<D: Disk + Drop> Link<D> {
         ensures honest { AreClean D.Disk result.log result.db → IsHonest D.Disk self }
         ensures left { (db : Trees) → MayFind D.Disk result db → ∥ MayHold D.Disk self (slots_in db) ∥₁ }
         ensures kept { is_waiting D.Disk self ≡ false → (db : Trees) → MayFind D.Disk result db → ∥ slots_in db ≡ content D.Disk self ∥₁ }
+        ensures files { AreFilesOf D.Disk self result }
+        ensures holds { is_waiting D.Disk self ≡ false → Hold D.Disk result (λ db. (slots_in db ≡ content D.Disk self) × (node_in db ≡ owner D.Disk self)) }
     {
         match self {
             Link::Open(store) => give_up(store.into_connection()),
@@ -147,7 +149,7 @@ pub(crate) fn settled<D: Disk + Drop>(
     ensures named { IfErr result (λ e. e.0 ≢ Reopen) }
     ensures refused { IfErr result (λ e. AreClean D.Disk e.1.log e.1.db → HasCleanDisk (file_state conn)) }
     ensures fault { IfErr result (λ e. AreClean D.Disk e.1.log e.1.db → IsOpeningFault name.now (file_state conn).committed e.0) }
-    ensures left { IfErr result (λ e. (db : Trees) → MayFind D.Disk e.1 db → ∥ ((db ≡ (file_state conn).committed.trees) ⊎ (IsNew (file_state conn).committed × IsFresh name.now db)) ∥₁) }
+    ensures unharmed { IfErr result (λ e. IsTrue (is_judgement e.0) → Hold D.Disk e.1 (λ next. next ≡ (file_state conn).committed.trees)) }
 {
     match settle(&mut conn, name) {
         Ok(count) if count <= 1 << 63 => Ok(OpenStore::new(alloc, conn, count)),
@@ -169,7 +171,7 @@ pub(crate) fn linked<D: Disk + Drop>(
     ensures durable { IfOk result (λ k. connected.IsHonest over_files k → (next : Places) → connected.MayHold over_files k next → next ≡ connected.content over_files k) }
     ensures named { IfErr result (λ e. e.0 ≢ Reopen) }
     ensures fault { IfErr result (λ e. AreClean D.Disk e.1.log e.1.db → IsRefusal D.Disk files (node_text node) e.0) }
-    ensures unharmed { IfErr result (λ e. IsUnharmed D.Disk files (node_text node) e.0 e.1) }
+    ensures unharmed { IfErr result (λ e. AreClean D.Disk e.1.log e.1.db → IsUnharmed D.Disk files e.0 e.1) }
 {
     let Ok(name) = format!(in alloc; "{node}") else {
         return Err((StoreFault::NoMemory, files));

@@ -4,6 +4,7 @@ ghost use Rattle.durable.specs.Connected.{IsHonest, content, MayHold, owner};
 ghost use Rattle.durable.specs.Bodies.{items};
 ghost use Rattle.durable.specs.Held.{followed_by, slots_in, IsReady};
 ghost use Rattle.sqlite.specs.State.{HasCleanDisk};
+ghost use Rattle.sqlite.specs.Tree.{Trees};
 ghost use Rattle.sqlite.specs.Held.{state};
 ghost use Rattle.durable.specs.Faults.{is_device_fault, IsReadFault};
 ghost use Rattle.durable.specs.Records.{Places, AreRecords, IsDamagedAt, IsAllOrNone, written};
@@ -88,6 +89,7 @@ impl<S: Alter> OpenStore<S> {
     /// The connection.
     pub(crate) fn into_connection(self) -> Connection<S>
         ensures connection { result ≡ self.conn }
+        ensures settled { IsHonest S.Store self → self.is_waiting ≡ false → (db : Trees) → (state S.Store self.conn).may_leave db → db ≡ (state S.Store self.conn).committed.trees }
         ensures durable { IsHonest S.Store self → self.is_waiting ≡ false → (next : Places) → MayHold S.Store self next → next ≡ content S.Store self }
     {
         let OpenStore {

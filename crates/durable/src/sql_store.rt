@@ -3,9 +3,9 @@ ghost use Rattle.std.specs.Prelude.{◌≡◌, ◌≢◌, ◌⊎◌, false, IfOk
 ghost use Rattle.sqlite.specs.Tree.{Trees};
 ghost use Rattle.sqlite_wal.specs.Reads.{AreClean};
 ghost use Rattle.units.specs.Code.{node_text};
-ghost use Rattle.durable.specs.Backing.{IsFound, MayFind};
+ghost use Rattle.durable.specs.Backing.{IsFound, MayFind, Hold};
 ghost use Rattle.durable.specs.Faults.{is_device_fault};
-ghost use Rattle.durable.specs.Held.{slots_in};
+ghost use Rattle.durable.specs.Held.{slots_in, node_in};
 ghost use Rattle.durable.specs.Kept.{is_there};
 ghost use Rattle.durable.specs.Records.{Places};
 ghost use Rattle.durable.specs.Refusals.{IsRefusal, IsUnharmed};
@@ -40,7 +40,7 @@ pub struct SqlStore<D: Disk + Drop> {
 }
 
 impl<D: Disk + Drop> SqlStore<D> {
-    ghost use Rattle.durable.specs.Stores.{IsHonest, MayHold, content, is_waiting, owner, node_of, faults};
+    ghost use Rattle.durable.specs.Stores.{IsHonest, MayHold, content, is_waiting, owner, node_of, faults, HadFiles};
 
     /// Opens the database file and its log, and makes them a store of the node where they are new. An error gives the files back.
     ///
@@ -59,7 +59,7 @@ impl<D: Disk + Drop> SqlStore<D> {
         ensures found { IfOk result (λ s. IsHonest D.Disk s → (db : Trees) × IsFound D.Disk files db × (content D.Disk s ≡ slots_in db)) }
         ensures durable { IfOk result (λ s. IsHonest D.Disk s → (next : Places) → MayHold D.Disk s next → next ≡ content D.Disk s) }
         ensures fault { IfErr result (λ e. AreClean D.Disk e.1.log e.1.db → IsRefusal D.Disk files (node_text node) e.0) }
-        ensures unharmed { IfErr result (λ e. IsUnharmed D.Disk files (node_text node) e.0 e.1) }
+        ensures unharmed { IfErr result (λ e. AreClean D.Disk e.1.log e.1.db → IsUnharmed D.Disk files e.0 e.1) }
     {
         let store = linked(alloc, files, options, node)?;
         Ok(SqlStore {
@@ -84,6 +84,8 @@ impl<D: Disk + Drop> SqlStore<D> {
         ensures honest { AreClean D.Disk result.log result.db → IsHonest D.Disk self }
         ensures left { (db : Trees) → MayFind D.Disk result db → ∥ MayHold D.Disk self (slots_in db) ∥₁ }
         ensures kept { is_waiting D.Disk self ≡ false → (db : Trees) → MayFind D.Disk result db → ∥ slots_in db ≡ content D.Disk self ∥₁ }
+        ensures holds { is_waiting D.Disk self ≡ false → Hold D.Disk result (λ db. (slots_in db ≡ content D.Disk self) × (node_in db ≡ owner D.Disk self)) }
+        ensures files { HadFiles D.Disk self result }
     {
         let SqlStore {
             link,

@@ -1,10 +1,8 @@
-use Rattle.std.proofs.Math.Logic.{∥∥₁_map}
+use Rattle.durable.proofs.Sparing.{spared}
+use Rattle.sqlite.specs.Files.{file_state}
 use Rattle.durable.proofs.link.settled.Goals as goal
 
-pub returns-in-Ok-2-clause-left : goal.returns-in-Ok-2-clause-left
-returns-in-Ok-2-clause-left g c = λ db found.
-    ∥∥₁_map (c.give_up.ensures.left db found) (λ left. c.settle.ensures.crash (c.give_up.ensures.honest found.honest) db left)
-
-pub returns-in-Err-clause-left : goal.returns-in-Err-clause-left
-returns-in-Err-clause-left g c = λ db found.
-    ∥∥₁_map (c.give_up-in-Err.ensures.left db found) (λ left. c.settle.ensures.crash (c.give_up-in-Err.ensures.honest found.honest) db left)
+pub returns-in-Err-clause-unharmed : goal.returns-in-Err-clause-unharmed
+returns-in-Err-clause-unharmed g c =
+    let gone = c.give_up-in-Err.ensures in
+    spared g.D.Disk c.give_up-in-Err.result c.args.name.now (file_state c.args.conn).committed _ c.in-Err.fault gone.holds (λ honest. c.in-Err.ensures.fault (gone.honest honest)) (λ honest. c.settle.ensures.crash (gone.honest honest))

@@ -147,6 +147,7 @@ pub(crate) fn settled<D: Disk + Drop>(
     ensures same { IfOk result (λ k. connected.IsHonest over_files k → connected.content over_files k ≡ slots_in (file_state conn).committed.trees) }
     ensures durable { IfOk result (λ k. connected.IsHonest over_files k → (next : Places) → connected.MayHold over_files k next → next ≡ connected.content over_files k) }
     ensures named { IfErr result (λ e. e.0 ≢ Reopen) }
+    ensures places { IfErr result (λ e. (p : ℕ) → e.0 ≡ Damaged p → p ≡ 0) }
     ensures refused { IfErr result (λ e. AreClean D.Disk e.1.log e.1.db → HasCleanDisk (file_state conn)) }
     ensures fault { IfErr result (λ e. AreClean D.Disk e.1.log e.1.db → IsOpeningFault name.now (file_state conn).committed e.0) }
     ensures unharmed { IfErr result (λ e. IsTrue (is_judgement e.0) → Hold D.Disk e.1 (λ next. next ≡ (file_state conn).committed.trees)) }
@@ -170,6 +171,7 @@ pub(crate) fn linked<D: Disk + Drop>(
     ensures found { IfOk result (λ k. connected.IsHonest over_files k → (db : Trees) × IsFound D.Disk files db × (connected.content over_files k ≡ slots_in db)) }
     ensures durable { IfOk result (λ k. connected.IsHonest over_files k → (next : Places) → connected.MayHold over_files k next → next ≡ connected.content over_files k) }
     ensures named { IfErr result (λ e. e.0 ≢ Reopen) }
+    ensures places { IfErr result (λ e. (p : ℕ) → e.0 ≡ Damaged p → p ≡ 0) }
     ensures fault { IfErr result (λ e. AreClean D.Disk e.1.log e.1.db → IsRefusal D.Disk files (node_text node) e.0) }
     ensures unharmed { IfErr result (λ e. AreClean D.Disk e.1.log e.1.db → IsUnharmed D.Disk files e.0 e.1) }
 {

@@ -1,10 +1,10 @@
 //! A store in a file of SQLite and its log.
-ghost use Rattle.std.specs.Prelude.{◌≡◌, ◌≢◌, ◌⊎◌, false, IfOk, IfErr, IsTrue};
+ghost use Rattle.std.specs.Prelude.{◌≡◌, ◌≢◌, ◌⊎◌, ℕ, false, None, IfOk, IfErr, IsTrue};
 ghost use Rattle.sqlite.specs.Tree.{Trees};
 ghost use Rattle.sqlite_wal.specs.Reads.{AreClean};
 ghost use Rattle.units.specs.Code.{node_text};
 ghost use Rattle.durable.specs.Backing.{IsFound, MayFind, Hold};
-ghost use Rattle.durable.specs.Faults.{is_device_fault};
+ghost use Rattle.durable.specs.Faults.{is_device_fault, told};
 ghost use Rattle.durable.specs.Held.{slots_in, node_in};
 ghost use Rattle.durable.specs.Kept.{is_there};
 ghost use Rattle.durable.specs.Records.{Places};
@@ -14,7 +14,7 @@ use crate::backing::opening_fault;
 use crate::fault::{StoreFault, fault_of};
 use crate::link::{Link, counted, linked, settled};
 use crate::node_store::NodeStore;
-use sqlite::{Connection, Error as SqlError, File, Leftover, Options, Unknown};
+use sqlite::{Connection, Error as SqlError, ErrorCode, File, Leftover, Options, Unknown};
 use sqlite_disk::{Disk, Files, Tally};
 use std::alloc::Global;
 use std::hash::{BuildHasher, RandomState};
@@ -58,6 +58,7 @@ impl<D: Disk + Drop> SqlStore<D> {
         ensures owner { IfOk result (λ s. IsHonest D.Disk s → owner D.Disk s ≡ node_text node) }
         ensures found { IfOk result (λ s. IsHonest D.Disk s → (db : Trees) × IsFound D.Disk files db × (content D.Disk s ≡ slots_in db)) }
         ensures durable { IfOk result (λ s. IsHonest D.Disk s → (next : Places) → MayHold D.Disk s next → next ≡ content D.Disk s) }
+        ensures places { IfErr result (λ e. (p : ℕ) → e.0 ≡ StoreFault.Damaged p → p ≡ 0) }
         ensures fault { IfErr result (λ e. AreClean D.Disk e.1.log e.1.db → IsRefusal D.Disk files (node_text node) e.0) }
         ensures unharmed { IfErr result (λ e. AreClean D.Disk e.1.log e.1.db → IsUnharmed D.Disk files e.0 e.1) }
     {
@@ -100,6 +101,9 @@ impl<D: Disk + Drop> SqlStore<D> {
 
 // Why a connection to the files at a path could not be made, by what is left of them, where they were opened at all.
 fn path_fault(error: SqlError, left: Option<Leftover<File>>) -> StoreFault
+    ensures unopened { left ≡ None → result ≡ told error }
+    ensures no_database { left ≢ None → error ≡ SqlError.SqliteFailure ErrorCode.NotADatabase → result ≡ StoreFault.Damaged 0 }
+    ensures other { error ≢ SqlError.SqliteFailure ErrorCode.NotADatabase → error ≢ SqlError.SqliteFailure ErrorCode.DatabaseCorrupt → result ≡ told error }
     ensures named { (result ≡ StoreFault.Damaged 0) ⊎ ((result ≡ StoreFault.NoMemory) ⊎ IsTrue (is_device_fault result)) }
 {
     match left {
@@ -122,6 +126,7 @@ impl SqlStore<File> {
         ensures owner { IfOk result (λ s. IsHonest _ s → owner _ s ≡ node_text node) }
         ensures durable { IfOk result (λ s. IsHonest _ s → (next : Places) → MayHold _ s next → next ≡ content _ s) }
         ensures named { IfErr result (λ e. e ≢ StoreFault.Reopen) }
+        ensures places { IfErr result (λ e. (p : ℕ) → e ≡ StoreFault.Damaged p → p ≡ 0) }
     {
         let alloc = rt.alloc();
         let Ok(name) = format!(in alloc; "{node}") else {
@@ -149,10 +154,10 @@ impl SqlStore<File> {
 }
 
 impl<D: Disk + Drop> NodeStore for SqlStore<D> {
-    ghost use Rattle.std.specs.Prelude.{◌≡◌, ◌≢◌, false, OnOk, OnErr, IfErr, IsTrue};
+    ghost use Rattle.std.specs.Prelude.{◌≡◌, ◌≢◌, ℕ, false, OnOk, OnErr, IfErr, IsTrue};
     ghost use Rattle.durable.specs.Faults.{count_after};
     ghost use Rattle.durable.specs.Records.{Places};
-    ghost use Rattle.durable.specs.declared.fault.StoreFault.TheVariants.{Reopen};
+    ghost use Rattle.durable.specs.declared.fault.StoreFault.TheVariants.{Reopen, Damaged};
     ghost use Rattle.units.specs.Code.{node_text};
     ghost use Rattle.durable.specs.Stores.{IsHonest, MayHold, content, is_waiting, faults, node_of, owner, IsReopeningFault};
 
@@ -203,6 +208,7 @@ impl<D: Disk + Drop> NodeStore for SqlStore<D> {
     /// `Damaged(0)`, `WrongVersion`, `WrongNode` as of an opening. After a sync that failed the same files can't be used again, and every reopening answers `Device`.
     fn reopen(&mut self) -> Result<(), StoreFault>
         ensures named { IfErr result (λ e. e ≢ Reopen) }
+        ensures places { IfErr result (λ e. (p : ℕ) → e ≡ Damaged p → p ≡ 0) }
         ensures runs { OnOk result (is_waiting D.Disk self.new ≡ false) }
         ensures stops { OnErr result (IsTrue (is_waiting D.Disk self.new)) }
         ensures honest { OnOk result (IsHonest D.Disk self.new → IsHonest D.Disk self.old) }

@@ -16,6 +16,7 @@ pub mod Answering
 pub mod Queries
 pub mod Reopening
 pub mod Refusing
+pub mod Sparing
 pub mod Stores
 pub mod Fronts
 pub mod PlacesRead

@@ -16,7 +16,7 @@ use Rattle.sqlite.specs.Held.{AreDatabases}
 use Rattle.sqlite.specs.Files.{image_of}
 use Rattle.sqlite_trees.proofs.Doubt.{no_doubt}
 use Rattle.sqlite.proofs.Theorems.{opens_again}
-use Rattle.durable.specs.Backing.{IsFound, MayFind}
+use Rattle.durable.specs.Backing.{IsFound, MayFind, Hold}
 
 -- what a crash may leave of the files may be left of the store
 may-leave : {D : Type 0} {g : Ghosts D} (it : Pool D g) (image : Image) → AreClean g (files it).0 (files it).1 → outcomes g (files it).0 (files it).1 image → (state it).may_leave image
@@ -31,13 +31,17 @@ is-clean it honest = honest
 pub honest-before : {D : Type 0} {g : Ghosts D} (it : FileStore D g) (left : Files D) → (left.log, left.db) ≡ store_files it → AreClean g left.log left.db → IsClean (view it)
 honest-before {D} {g} it left same honest = no_doubt (store_state it).is_clean (is-clean it.pool (subst (λ (p : D × D). AreClean g p.0 p.1) same honest))
 
+-- each image that a crash may leave of files that were given up holds a database that the store allows
+pub holds-again : {D : Type 0} {g : Ghosts D} (it : FileStore D g) (left : Files D) → (left.log, left.db) ≡ store_files it → (IsClean (view it) → IsTrue (view it).is_numbered)
+    → (IsClean (view it) → AreDatabases (recovers it)) → Hold g left (recovers it)
+holds-again {D} {g} it left same numbered sound honest image there =
+    let clean = honest-before it left same honest in
+    opens_again it (numbered clean) (sound clean) image (may-leave it.pool image (subst (λ (p : D × D). AreClean g p.0 p.1) same honest) (subst (λ (p : D × D). outcomes g p.0 p.1 image) same there))
+
 pub found-again : {D : Type 0} {g : Ghosts D} (it : FileStore D g) (left : Files D) → (left.log, left.db) ≡ store_files it → (IsClean (view it) → IsTrue (view it).is_numbered)
     → (IsClean (view it) → AreDatabases (recovers it)) → (db : Trees) → MayFind g left db → ∥ recovers it db ∥₁
 found-again {D} {g} it left same numbered sound db found =
-    let honest = subst (λ (p : D × D). AreClean g p.0 p.1) same found.honest in
-    let there = may-leave it.pool found.image honest (subst (λ (p : D × D). outcomes g p.0 p.1 found.image) same found.left) in
-    let clean = honest-before it left same found.honest in
-    ∥∥₁_map (opens_again it (numbered clean) (sound clean) found.image there) (λ known. subst (recovers it) (sym (found.held.holds known.0 known.2)) known.1)
+    ∥∥₁_map (holds-again it left same numbered sound found.honest found.image found.left) (λ known. subst (recovers it) (sym (found.held.holds known.0 known.2)) known.1)
 
 -- what files hold now is one of the things that an opening may find
 pub now-found : {D : Type 0} {g : Ghosts D} (files : Files D) → ((file : D) → g.may_leave file (g.seen file)) → (db : Trees) → IsFound g files db → MayFind g files db

@@ -28,3 +28,7 @@ pub record MayFind {D : Type 0} (g : Ghosts D) (files : Files D) (db : Trees) : 
 -- the files hold no database that SQLite opens, and are not new either
 abbrev pub IsNoDatabase : {D : Type 0} → Ghosts D → Files D → Type 0
 IsNoDatabase g files = (((db : Trees) × HoldsDatabase (image_of g files) db) ⊎ IsNothing (image_of g files)) → ⊥
+
+-- whatever the files show now, or after a crash, it is a database with such trees
+abbrev pub Hold : {D : Type 0} → Ghosts D → Files D → (Trees → Type 0) → Type 0
+Hold g files Wanted = AreClean g files.log files.db → (image : Image) → outcomes g files.log files.db image → ∥ ((db : Trees) × Wanted db × HoldsDatabase image db) ∥₁

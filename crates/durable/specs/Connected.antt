@@ -1,11 +1,11 @@
 -- A store over an open connection, by what it keeps.
-use Rattle.std.specs.Prelude.{◌≡◌, ◌≤◌, ◌^◌, ℕ, Bool, false, length, refl}
+use Rattle.std.specs.Prelude.{◌≡◌, ◌≤◌, ◌^◌, ℕ, Bool, false, List, length, refl}
 use Rattle.std.specs.Coded.{Coded, code_by, coded×, coded_ℕ, coded_bool}
 use Rattle.sqlite.specs.Store.{Ghosts}
 use Rattle.sqlite.specs.Tree.{Trees}
 use Rattle.sqlite.specs.State.{HasCleanDisk}
 use Rattle.sqlite.specs.Held.{Held, held_code, state}
-use Rattle.durable.specs.Held.{IsReady, slots_in}
+use Rattle.durable.specs.Held.{IsReady, slots_in, node_in}
 use Rattle.durable.specs.Records.{Places}
 use Rattle.durable.specs.declared.open_store.Standing.{Standing}
 use Rattle.durable.specs.declared.open_store.Standing.TheVariants.{Runs, Waits}
@@ -32,6 +32,10 @@ module _ {S : Type 0} (g : Ghosts S) where
 
   abbrev pub content : Connected S → Places
   content k = slots_in (state g k.conn).committed.trees
+
+  -- whose the last commit is
+  abbrev pub owner : Connected S → List ℕ
+  owner k = node_in (state g k.conn).committed.trees
 
   -- what a crash may leave
   abbrev pub MayHold : Connected S → Places → Type 0

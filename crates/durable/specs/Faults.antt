@@ -1,12 +1,22 @@
 -- Which faults are those of the device or of size.
-use Rattle.std.specs.Prelude.{Bool, true, false}
+use Rattle.std.specs.Prelude.{ℕ, ◌+◌, ◌%◌, ◌^◌, Bool, true, false}
+use Rattle.sqlite.specs.declared.error.Error.{Error}
+use Rattle.sqlite.specs.declared.error.Error.TheVariants.{SqliteFailure}
+use Rattle.sqlite.specs.declared.error.ErrorCode.TheVariants as code
 use Rattle.durable.specs.declared.fault.StoreFault.{StoreFault}
-use Rattle.durable.specs.declared.fault.StoreFault.TheVariants.{Device, Full, Damaged, NoMemory}
+use Rattle.durable.specs.declared.fault.StoreFault.TheVariants.{Device, Full, Damaged, WrongNode, WrongVersion, NoMemory}
 
 abbrev pub is_device_fault : StoreFault → Bool
 is_device_fault Device = true
 is_device_fault Full = true
 is_device_fault _ = false
+
+-- the store was looked at, and is none of this node
+abbrev pub is_judgement : StoreFault → Bool
+is_judgement (Damaged place) = true
+is_judgement WrongNode = true
+is_judgement WrongVersion = true
+is_judgement _ = false
 
 -- a fault that reading answers of a store that runs
 abbrev pub IsReadFault : StoreFault → Type 0
@@ -15,3 +25,16 @@ IsReadFault Full = Unit {0}
 IsReadFault (Damaged place) = Unit {0}
 IsReadFault NoMemory = Unit {0}
 IsReadFault _ = ⊥
+
+-- what an error of a statement tells
+abbrev pub told : Error → StoreFault
+told (SqliteFailure code.OutOfMemory) = NoMemory
+told (SqliteFailure code.DiskFull) = Full
+told (SqliteFailure code.TooBig) = Full
+told _ = Device
+
+-- the count of failed calls of the device, this fault included; 0 follows the greatest number
+abbrev pub count_after : ℕ → StoreFault → ℕ
+count_after n Device = (n + 1) % 2 ^ 64
+count_after n Full = (n + 1) % 2 ^ 64
+count_after n _ = n

@@ -3,10 +3,11 @@ use Rattle.std.specs.Prelude.{◌≡◌, ℕ, Bool, true, false, List, []}
 use Rattle.sqlite.specs.Tree.{Trees}
 use Rattle.sqlite.specs.Files.{over_files, file_state}
 use Rattle.sqlite_disk.specs.declared.Disk.{Ghosts}
+use Rattle.sqlite_disk.specs.declared.Files.{Files}
 use Rattle.sqlite_wal.specs.Reads.{AreClean}
-use Rattle.durable.specs.Backing.{MayFind}
+use Rattle.durable.specs.Backing.{MayFind, Hold}
 use Rattle.durable.specs.Connected as connected
-use Rattle.durable.specs.Held.{slots_in, node_in}
+use Rattle.durable.specs.Held.{slots_in}
 use Rattle.durable.specs.Records.{Places}
 use Rattle.durable.specs.declared.link.Link.{Link}
 use Rattle.durable.specs.declared.link.Link.TheVariants.{Open, Shut, Absent}
@@ -33,9 +34,15 @@ module _ {D : Type 0} (g : Ghosts D) where
 
   -- whose the last commit is
   abbrev pub owner : Link D g → List ℕ
-  owner (Open k) = node_in (file_state k.conn).committed.trees
+  owner (Open k) = connected.owner over_files k
   owner _ = []
 
   abbrev pub is_there : Link D g → Bool
   is_there Absent = false
   is_there _ = true
+
+  -- these files are the store's: its own where it is shut, and else files of what its connection may leave
+  abbrev pub AreFilesOf : Link D g → Files D → Type 0
+  AreFilesOf (Open k) files = Hold g files (file_state k.conn).may_leave
+  AreFilesOf (Shut its) files = files ≡ its
+  AreFilesOf Absent files = ⊥

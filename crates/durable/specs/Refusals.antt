@@ -1,9 +1,11 @@
--- Why files are not opened as a store of a node.
-use Rattle.std.specs.Prelude.{◌≡◌, ◌⊎◌, ℕ, List}
-use Rattle.sqlite.specs.Effect.{Database}
+-- Why files are not opened as a store of a node, and what they hold then.
+use Rattle.std.specs.Prelude.{◌≡◌, ◌⊎◌, ℕ, List, IsTrue}
+use Rattle.sqlite.specs.Effect.{Database, IsDatabase}
+use Rattle.sqlite.specs.Tree.{Trees}
 use Rattle.sqlite_disk.specs.declared.Disk.{Ghosts}
 use Rattle.sqlite_disk.specs.declared.Files.{Files}
-use Rattle.durable.specs.Backing.{IsFound, IsNoDatabase}
+use Rattle.durable.specs.Backing.{IsFound, IsNoDatabase, Hold}
+use Rattle.durable.specs.Faults.{is_judgement}
 use Rattle.durable.specs.Opening.{IsOpeningFault}
 use Rattle.durable.specs.declared.fault.StoreFault.{StoreFault}
 use Rattle.durable.specs.declared.fault.StoreFault.TheVariants.{Device, Full, Damaged, NoMemory}
@@ -19,4 +21,8 @@ module _ {D : Type 0} (g : Ghosts D) where
 
   -- the files are not opened, or the database that they hold is no store of that node
   abbrev pub IsRefusal : Files D → List ℕ → StoreFault → Type 0
-  IsRefusal files name fault = IsFileFault files fault ⊎ ((db : Database) × IsFound g files db.trees × IsOpeningFault name db fault)
+  IsRefusal files name fault = IsFileFault files fault ⊎ ((db : Database) × IsDatabase db × IsFound g files db.trees × IsOpeningFault name db fault)
+
+  -- files that hold a database hold the same after a refusal of what they hold
+  abbrev pub IsUnharmed : Files D → StoreFault → Files D → Type 0
+  IsUnharmed files fault left = IsTrue (is_judgement fault) → ((fault ≡ Damaged 0) × IsNoDatabase g files) ⊎ ((db : Trees) × IsFound g files db × Hold g left (λ next. next ≡ db))

@@ -40,9 +40,9 @@ module _ {D : Type 0} (g : Ghosts D) where
   abbrev pub faults : SqlStore D g → ℕ
   faults s = s.faults
 
-  -- these files are the store's: what an opening of them finds, the store may have held
+  -- these files are the store's, and what an opening of them finds, the store may have held
   abbrev pub HadFiles : SqlStore D g → Files D → Type 0
-  HadFiles s files = (db : Trees) → MayFind g files db → ∥ MayHold s (slots_in db) ∥₁
+  HadFiles s files = kept.AreFilesOf g s.link files × ((db : Trees) → MayFind g files db → ∥ MayHold s (slots_in db) ∥₁)
 
   -- why an opening of its files for its node was refused
   abbrev pub IsReopeningFault : SqlStore D g → StoreFault → Type 0

@@ -1,11 +1,12 @@
 //! How a connection over files is given up, and opened again.
-ghost use Rattle.std.specs.Prelude.{◌≡◌, ◌⊎◌, ℕ, false, IfOk, IfErr, IsTrue};
+ghost use Rattle.std.specs.Prelude.{◌≡◌, ◌≢◌, ◌⊎◌, ℕ, false, IfOk, IfErr, IsTrue};
+ghost use Rattle.sqlite.specs.Effect.{IsDatabase};
 ghost use Rattle.sqlite.specs.Tree.{Trees};
 ghost use Rattle.sqlite.specs.State.{HasCleanDisk, Opens};
 ghost use Rattle.sqlite.specs.Files.{file_state};
 ghost use Rattle.sqlite_wal.specs.Reads.{AreClean};
-ghost use Rattle.durable.specs.Backing.{IsFound, MayFind};
-ghost use Rattle.durable.specs.Faults.{is_device_fault};
+ghost use Rattle.durable.specs.Backing.{IsFound, MayFind, Hold};
+ghost use Rattle.durable.specs.Faults.{is_device_fault, told};
 ghost use Rattle.durable.specs.Refusals.{IsFileFault};
 
 use crate::fault::{StoreFault, fault_of};
@@ -17,6 +18,7 @@ use std::alloc::Global;
 pub(crate) fn give_up<D: Disk + Drop>(conn: Connection<FileStore<D>>) -> Files<D>
     ensures honest { AreClean D.Disk result.log result.db → HasCleanDisk (file_state conn) }
     ensures left { (db : Trees) → MayFind D.Disk result db → ∥ (file_state conn).may_leave db ∥₁ }
+    ensures holds { Hold D.Disk result (file_state conn).may_leave }
 {
     conn.into_store().close()
 }
@@ -25,6 +27,10 @@ pub(crate) fn give_up<D: Disk + Drop>(conn: Connection<FileStore<D>>) -> Files<D
 /// corrupt where it can't be a database and where a read was found wrong; only the first is a fault of what is written.
 pub(crate) fn opening_fault(error: SqlError, before: Tally, now: Tally) -> StoreFault
     ensures named { (result ≡ StoreFault.Damaged 0) ⊎ ((result ≡ StoreFault.NoMemory) ⊎ IsTrue (is_device_fault result)) }
+    ensures no_database { error ≡ SqlError.SqliteFailure ErrorCode.NotADatabase → result ≡ StoreFault.Damaged 0 }
+    ensures corrupt { error ≡ SqlError.SqliteFailure ErrorCode.DatabaseCorrupt → now.caught ≡ before.caught → result ≡ StoreFault.Damaged 0 }
+    ensures caught { error ≢ SqlError.SqliteFailure ErrorCode.NotADatabase → now.caught ≢ before.caught → result ≡ told error }
+    ensures other { error ≢ SqlError.SqliteFailure ErrorCode.NotADatabase → error ≢ SqlError.SqliteFailure ErrorCode.DatabaseCorrupt → result ≡ told error }
     ensures damaged { (p : ℕ) → result ≡ StoreFault.Damaged p
         → (error ≡ SqlError.SqliteFailure ErrorCode.NotADatabase) ⊎ ((error ≡ SqlError.SqliteFailure ErrorCode.DatabaseCorrupt) × (now.caught ≡ before.caught)) }
 {
@@ -47,6 +53,7 @@ pub(crate) fn open_again<D: Disk + Drop>(
 ) -> Result<Connection<FileStore<D>>, (StoreFault, Files<D>)>
     ensures idle { IfOk result (λ conn. conn.in_transaction ≡ false) }
     ensures opened { IfOk result (λ conn. HasCleanDisk (file_state conn) → Opens (file_state conn)) }
+    ensures sound { IfOk result (λ conn. HasCleanDisk (file_state conn) → IsDatabase (file_state conn).committed) }
     ensures found { IfOk result (λ conn. HasCleanDisk (file_state conn) → IsFound D.Disk files (file_state conn).committed.trees) }
     ensures named { IfErr result (λ e. (e.0 ≡ StoreFault.Damaged 0) ⊎ ((e.0 ≡ StoreFault.NoMemory) ⊎ IsTrue (is_device_fault e.0))) }
     ensures fault { IfErr result (λ e. AreClean D.Disk e.1.log e.1.db → IsFileFault D.Disk files e.0) }

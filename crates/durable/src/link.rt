@@ -5,14 +5,14 @@ ghost use Rattle.sqlite.specs.State.{HasCleanDisk, Opens};
 ghost use Rattle.sqlite.specs.Tree.{Trees};
 ghost use Rattle.sqlite_wal.specs.Reads.{AreClean};
 ghost use Rattle.units.specs.Code.{node_text};
-ghost use Rattle.durable.specs.Backing.{IsFound, MayFind};
+ghost use Rattle.durable.specs.Backing.{IsFound, MayFind, Hold};
 ghost use Rattle.durable.specs.Connected as connected;
-ghost use Rattle.durable.specs.Faults.{is_device_fault, IsReadFault};
+ghost use Rattle.durable.specs.Faults.{is_device_fault, is_judgement, IsReadFault, count_after};
 ghost use Rattle.durable.specs.Held.{slots_in, node_in};
-ghost use Rattle.durable.specs.Kept.{IsHonest, MayHold, content, is_waiting, is_there};
+ghost use Rattle.durable.specs.Kept.{IsHonest, MayHold, content, owner, is_waiting, is_there, AreFilesOf};
 ghost use Rattle.durable.specs.Opening.{IsOpeningFault};
 ghost use Rattle.durable.specs.Records.{Places, AreRecords, IsDamagedAt, IsAllOrNone, written};
-ghost use Rattle.durable.specs.Refusals.{IsRefusal};
+ghost use Rattle.durable.specs.Refusals.{IsRefusal, IsUnharmed};
 ghost use Rattle.durable.specs.declared.fault.StoreFault.TheVariants.{Reopen, NoMemory, Damaged};
 
 use crate::backing::{give_up, open_again};
@@ -46,8 +46,7 @@ impl<D: Disk + Drop> Drop for Link<D> {
 
 /// How many calls of the device have failed, after this fault too.
 pub(crate) fn counted(faults: u64, fault: StoreFault) -> u64
-    ensures device { IsTrue (is_device_fault fault) → result ≢ faults }
-    ensures other { is_device_fault fault ≡ false → result ≡ faults }
+    ensures { result ≡ count_after faults fault }
 {
     match fault {
         StoreFault::Device | StoreFault::Full => faults.wrapping_add(1),
@@ -62,6 +61,8 @@ impl<D: Disk + Drop> Link<D> {
         ensures honest { AreClean D.Disk result.log result.db → IsHonest D.Disk self }
         ensures left { (db : Trees) → MayFind D.Disk result db → ∥ MayHold D.Disk self (slots_in db) ∥₁ }
         ensures kept { is_waiting D.Disk self ≡ false → (db : Trees) → MayFind D.Disk result db → ∥ slots_in db ≡ content D.Disk self ∥₁ }
+        ensures files { AreFilesOf D.Disk self result }
+        ensures holds { is_waiting D.Disk self ≡ false → Hold D.Disk result (λ db. (slots_in db ≡ content D.Disk self) × (node_in db ≡ owner D.Disk self)) }
     {
         match self {
             Link::Open(store) => give_up(store.into_connection()),
@@ -80,6 +81,7 @@ impl<D: Disk + Drop> Link<D> {
         ensures honest { IsHonest D.Disk self.new → IsHonest D.Disk self.old }
         ensures empty { is_waiting D.Disk self.old ≡ false → batch.now ≡ [] → (result ≡ Ok tt) × (self.new ≡ self.old) }
         ensures ok { IsHonest D.Disk self.new → OnOk result (content D.Disk self.new ≡ content D.Disk self.old ++ written batch.now) }
+        ensures owner { IsHonest D.Disk self.new → is_waiting D.Disk self.new ≡ false → owner D.Disk self.new ≡ owner D.Disk self.old }
         ensures refused { IsHonest D.Disk self.new → is_waiting D.Disk self.old ≡ false → IfErr result (λ e. is_device_fault e ≡ false → (next : Places) → MayHold D.Disk self.new next → next ≡ content D.Disk self.old) }
         ensures crash { IsHonest D.Disk self.new → is_waiting D.Disk self.old ≡ false → (next : Places) → MayHold D.Disk self.new next → IsAllOrNone (content D.Disk self.old) batch.now next }
         ensures durable { IsHonest D.Disk self.new → is_waiting D.Disk self.new ≡ false → (next : Places) → MayHold D.Disk self.new next → next ≡ content D.Disk self.new }
@@ -101,6 +103,7 @@ impl<D: Disk + Drop> Link<D> {
         ensures stops { is_waiting D.Disk self.old ≡ false → IfErr result (λ e. is_waiting D.Disk self.new ≡ is_device_fault e) }
         ensures runs { OnOk result (is_waiting D.Disk self.new ≡ false) }
         ensures kept { IsHonest D.Disk self.new → is_waiting D.Disk self.new ≡ false → content D.Disk self.new ≡ content D.Disk self.old }
+        ensures owner { IsHonest D.Disk self.new → is_waiting D.Disk self.new ≡ false → owner D.Disk self.new ≡ owner D.Disk self.old }
         ensures crash { IsHonest D.Disk self.new → is_waiting D.Disk self.old ≡ false → (next : Places) → MayHold D.Disk self.new next → next ≡ content D.Disk self.old }
     {
         match self {
@@ -120,6 +123,7 @@ impl<D: Disk + Drop> Link<D> {
         ensures stops { is_waiting D.Disk self.old ≡ false → IfErr result (λ e. is_waiting D.Disk self.new ≡ is_device_fault e) }
         ensures runs { OnOk result (is_waiting D.Disk self.new ≡ false) }
         ensures kept { IsHonest D.Disk self.new → is_waiting D.Disk self.new ≡ false → content D.Disk self.new ≡ content D.Disk self.old }
+        ensures owner { IsHonest D.Disk self.new → is_waiting D.Disk self.new ≡ false → owner D.Disk self.new ≡ owner D.Disk self.old }
         ensures crash { IsHonest D.Disk self.new → is_waiting D.Disk self.old ≡ false → (next : Places) → MayHold D.Disk self.new next → next ≡ content D.Disk self.old }
     {
         match self {
@@ -143,8 +147,10 @@ pub(crate) fn settled<D: Disk + Drop>(
     ensures same { IfOk result (λ k. connected.IsHonest over_files k → connected.content over_files k ≡ slots_in (file_state conn).committed.trees) }
     ensures durable { IfOk result (λ k. connected.IsHonest over_files k → (next : Places) → connected.MayHold over_files k next → next ≡ connected.content over_files k) }
     ensures named { IfErr result (λ e. e.0 ≢ Reopen) }
+    ensures places { IfErr result (λ e. (p : ℕ) → e.0 ≡ Damaged p → p ≡ 0) }
     ensures refused { IfErr result (λ e. AreClean D.Disk e.1.log e.1.db → HasCleanDisk (file_state conn)) }
     ensures fault { IfErr result (λ e. AreClean D.Disk e.1.log e.1.db → IsOpeningFault name.now (file_state conn).committed e.0) }
+    ensures unharmed { IfErr result (λ e. IsTrue (is_judgement e.0) → Hold D.Disk e.1 (λ next. next ≡ (file_state conn).committed.trees)) }
 {
     match settle(&mut conn, name) {
         Ok(count) if count <= 1 << 63 => Ok(OpenStore::new(alloc, conn, count)),
@@ -165,7 +171,9 @@ pub(crate) fn linked<D: Disk + Drop>(
     ensures found { IfOk result (λ k. connected.IsHonest over_files k → (db : Trees) × IsFound D.Disk files db × (connected.content over_files k ≡ slots_in db)) }
     ensures durable { IfOk result (λ k. connected.IsHonest over_files k → (next : Places) → connected.MayHold over_files k next → next ≡ connected.content over_files k) }
     ensures named { IfErr result (λ e. e.0 ≢ Reopen) }
+    ensures places { IfErr result (λ e. (p : ℕ) → e.0 ≡ Damaged p → p ≡ 0) }
     ensures fault { IfErr result (λ e. AreClean D.Disk e.1.log e.1.db → IsRefusal D.Disk files (node_text node) e.0) }
+    ensures unharmed { IfErr result (λ e. AreClean D.Disk e.1.log e.1.db → IsUnharmed D.Disk files e.0 e.1) }
 {
     let Ok(name) = format!(in alloc; "{node}") else {
         return Err((StoreFault::NoMemory, files));

@@ -165,6 +165,10 @@ impl NodeStore for MemoryStore {
 
     ghost faults = { λ m. m.faults };
 
+    ghost whose = { λ m. m.node };
+
+    ghost is_own = { λ _. Unit {0} };
+
     /// `Device` comes where the fuse burns, and nowhere else, and `Full` never.
     fn append(&mut self, batch: &[Input]) -> Result<(), StoreFault>
         ensures reopen { IsTrue self.old.is_waiting → (result ≡ Err Reopen) × (self.new ≡ self.old) }

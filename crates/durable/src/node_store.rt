@@ -1,6 +1,7 @@
 //! What is asked of a node's store.
 ghost use Rattle.std.specs.Prelude.{◌≡◌, ◌≢◌, ◌++◌, ◌⊎◌, ◌+◌, ◌-◌, ◌<◌, ◌≤◌, ℕ, Bool, [], false, Ok, Err, IfOk, IfErr, OnOk, OnErr, IsTrue, take, drop};
-ghost use Rattle.durable.specs.Faults.{is_device_fault, IsReadFault};
+ghost use Rattle.durable.specs.Faults.{is_device_fault, IsReadFault, count_after};
+ghost use Rattle.units.specs.declared.code.Node.{Node};
 ghost use Rattle.durable.specs.Records.{Places, AreRecords, IsDamagedAt, IsAllOrNone, written};
 ghost use Rattle.durable.specs.declared.fault.StoreFault.TheVariants.{Reopen, NoMemory, Damaged};
 
@@ -27,6 +28,12 @@ pub trait NodeStore {
     /// What `fault_count` answers.
     ghost faults: { Self → ℕ };
 
+    /// Whose records they are.
+    ghost whose: { Self → Node };
+
+    /// What it keeps names that node as its owner.
+    ghost is_own: { Self → Type 0 };
+
     /// Appends the whole batch, or nothing of it. An empty batch changes nothing.
     ///
     /// `Device`, `Full`: the device failed or has no room; what is there, a reopening settles. `NoMemory`: the content is as
@@ -42,7 +49,10 @@ pub trait NodeStore {
         ensures refused { is_honest self.new → is_waiting self.old ≡ false → IfErr result (λ e. is_device_fault e ≡ false → (next : Places) → may_hold self.new next → next ≡ content self.old) }
         ensures crash { is_honest self.new → is_waiting self.old ≡ false → (next : Places) → may_hold self.new next → IsAllOrNone (content self.old) batch.now next }
         ensures durable { is_honest self.new → is_waiting self.new ≡ false → (next : Places) → may_hold self.new next → next ≡ content self.new }
-        ensures cause { IfErr result (λ e. IsTrue (is_device_fault e) → faults self.new ≢ faults self.old) };
+        ensures cause { IfErr result (λ e. faults self.new ≡ count_after (faults self.old) e) }
+        ensures count { OnOk result (faults self.new ≡ faults self.old) }
+        ensures whose { whose self.new ≡ whose self.old }
+        ensures own { is_honest self.new → is_waiting self.new ≡ false → is_own self.old → is_own self.new };
 
     /// All records in their order. `Damaged(p)`: place p is the least that is missing while a later one is there, or whose
     /// text is no record's. `NoMemory` and `Damaged` change nothing.
@@ -56,7 +66,10 @@ pub trait NodeStore {
         ensures runs { OnOk result (is_waiting self.new ≡ false) }
         ensures kept { is_honest self.new → is_waiting self.new ≡ false → content self.new ≡ content self.old }
         ensures crash { is_honest self.new → is_waiting self.old ≡ false → (next : Places) → may_hold self.new next → next ≡ content self.old }
-        ensures cause { IfErr result (λ e. IsTrue (is_device_fault e) → faults self.new ≢ faults self.old) };
+        ensures cause { IfErr result (λ e. faults self.new ≡ count_after (faults self.old) e) }
+        ensures count { OnOk result (faults self.new ≡ faults self.old) }
+        ensures whose { whose self.new ≡ whose self.old }
+        ensures own { is_honest self.new → is_waiting self.new ≡ false → is_own self.old → is_own self.new };
 
     /// The records from place `from` on, at most `max`. Faults as of `load`, of the places that it looks at alone.
     fn load_page(&mut self, from: u64, max: u64) -> Result<Vec<Input>, StoreFault>
@@ -71,7 +84,10 @@ pub trait NodeStore {
         ensures runs { OnOk result (is_waiting self.new ≡ false) }
         ensures kept { is_honest self.new → is_waiting self.new ≡ false → content self.new ≡ content self.old }
         ensures crash { is_honest self.new → is_waiting self.old ≡ false → (next : Places) → may_hold self.new next → next ≡ content self.old }
-        ensures cause { IfErr result (λ e. IsTrue (is_device_fault e) → faults self.new ≢ faults self.old) };
+        ensures cause { IfErr result (λ e. faults self.new ≡ count_after (faults self.old) e) }
+        ensures count { OnOk result (faults self.new ≡ faults self.old) }
+        ensures whose { whose self.new ≡ whose self.old }
+        ensures own { is_honest self.new → is_waiting self.new ≡ false → is_own self.old → is_own self.new };
 
     /// Opens the store again, whether or not a fault waits. After Ok the content is one that it could hold before, and after a fault a reopening
     /// still waits.
@@ -79,9 +95,13 @@ pub trait NodeStore {
         ensures named { IfErr result (λ e. e ≢ Reopen) }
         ensures runs { OnOk result (is_waiting self.new ≡ false) }
         ensures stops { OnErr result (IsTrue (is_waiting self.new)) }
+        ensures honest { OnOk result (is_honest self.new → is_honest self.old) }
         ensures settles { is_honest self.new → OnOk result ∥ may_hold self.old (content self.new) ∥₁ }
         ensures durable { is_honest self.new → OnOk result ((next : Places) → may_hold self.new next → next ≡ content self.new) }
-        ensures cause { IfErr result (λ e. IsTrue (is_device_fault e) → faults self.new ≢ faults self.old) };
+        ensures cause { IfErr result (λ e. faults self.new ≡ count_after (faults self.old) e) }
+        ensures count { OnOk result (faults self.new ≡ faults self.old) }
+        ensures whose { whose self.new ≡ whose self.old }
+        ensures own { is_honest self.new → OnOk result (is_own self.new) };
 
     /// How many calls of the device have failed; 0 follows the greatest number.
     fn fault_count(&self) -> u64

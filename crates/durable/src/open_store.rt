@@ -1,9 +1,10 @@
 //! A store over an open connection.
-ghost use Rattle.std.specs.Prelude.{◌≡◌, ◌≢◌, ◌++◌, ◌⊎◌, ◌+◌, ◌-◌, ◌<◌, ◌≤◌, ◌^◌, ℕ, [], false, Ok, Err, IfOk, IfErr, IfSome, OnOk, OnErr, IsTrue, true, map, take, drop, length};
-ghost use Rattle.durable.specs.Connected.{IsHonest, content, MayHold};
+ghost use Rattle.std.specs.Prelude.{◌≡◌, ◌≢◌, ◌++◌, ◌⊎◌, ◌+◌, ◌-◌, ◌<◌, ◌≤◌, ◌^◌, ℕ, [], false, Ok, Err, IfOk, IfErr, IfSome, IfNone, OnOk, OnErr, IsTrue, true, map, take, drop, length};
+ghost use Rattle.durable.specs.Connected.{IsHonest, content, MayHold, owner};
 ghost use Rattle.durable.specs.Bodies.{items};
 ghost use Rattle.durable.specs.Held.{followed_by, slots_in, IsReady};
 ghost use Rattle.sqlite.specs.State.{HasCleanDisk};
+ghost use Rattle.sqlite.specs.Tree.{Trees};
 ghost use Rattle.sqlite.specs.Held.{state};
 ghost use Rattle.durable.specs.Faults.{is_device_fault, IsReadFault};
 ghost use Rattle.durable.specs.Records.{Places, AreRecords, IsDamagedAt, IsAllOrNone, written};
@@ -61,6 +62,7 @@ impl<S: Alter + Drop> Drop for OpenStore<S> {
 fn total(count: u64, more: usize) -> Option<u64>
     ensures sum { IfSome result (λ total. total ≡ count + more) }
     ensures fits { IfSome result (λ total. total < 2 ^ 62) }
+    ensures none { IfNone result (count + more < 2 ^ 62 → ⊥) }
 {
     let total = count.checked_add(more as u64)?;
     if total < 1 << 62 { Some(total) } else { None }
@@ -87,6 +89,7 @@ impl<S: Alter> OpenStore<S> {
     /// The connection.
     pub(crate) fn into_connection(self) -> Connection<S>
         ensures connection { result ≡ self.conn }
+        ensures settled { IsHonest S.Store self → self.is_waiting ≡ false → (db : Trees) → (state S.Store self.conn).may_leave db → db ≡ (state S.Store self.conn).committed.trees }
         ensures durable { IsHonest S.Store self → self.is_waiting ≡ false → (next : Places) → MayHold S.Store self next → next ≡ content S.Store self }
     {
         let OpenStore {
@@ -106,6 +109,7 @@ impl<S: Alter> OpenStore<S> {
         ensures runs { OnOk result (self.new.is_waiting ≡ false) }
         ensures honest { IsHonest S.Store self.new → IsHonest S.Store self.old }
         ensures ok { IsHonest S.Store self.new → OnOk result (content S.Store self.new ≡ followed_by (content S.Store self.old) (map items texts.now)) }
+        ensures owner { IsHonest S.Store self.new → OnOk result (owner S.Store self.new ≡ owner S.Store self.old) }
         ensures refused { IsHonest S.Store self.new → IfErr result (λ e. is_device_fault e ≡ false → (next : Places) → MayHold S.Store self.new next → next ≡ content S.Store self.old) }
         ensures crash { IsHonest S.Store self.new → (next : Places) → MayHold S.Store self.new next
             → (next ≡ content S.Store self.old) ⊎ (next ≡ followed_by (content S.Store self.old) (map items texts.now)) }
@@ -136,6 +140,7 @@ impl<S: Alter> OpenStore<S> {
         ensures honest { IsHonest S.Store self.new → IsHonest S.Store self.old }
         ensures empty { self.old.is_waiting ≡ false → batch.now ≡ [] → (result ≡ Ok tt) × (self.new ≡ self.old) }
         ensures ok { IsHonest S.Store self.new → OnOk result (content S.Store self.new ≡ content S.Store self.old ++ written batch.now) }
+        ensures owner { IsHonest S.Store self.new → self.new.is_waiting ≡ false → owner S.Store self.new ≡ owner S.Store self.old }
         ensures refused { IsHonest S.Store self.new → self.old.is_waiting ≡ false → IfErr result (λ e. is_device_fault e ≡ false → (next : Places) → MayHold S.Store self.new next → next ≡ content S.Store self.old) }
         ensures crash { IsHonest S.Store self.new → self.old.is_waiting ≡ false → (next : Places) → MayHold S.Store self.new next → IsAllOrNone (content S.Store self.old) batch.now next }
         ensures durable { IsHonest S.Store self.new → self.new.is_waiting ≡ false → (next : Places) → MayHold S.Store self.new next → next ≡ content S.Store self.new }
@@ -166,6 +171,7 @@ impl<S: Alter> OpenStore<S> {
         ensures runs { OnOk result (self.new.is_waiting ≡ false) }
         ensures count { self.new.count ≡ self.old.count }
         ensures kept { IsHonest S.Store self.new → self.new.is_waiting ≡ false → content S.Store self.new ≡ content S.Store self.old }
+        ensures owner { IsHonest S.Store self.new → self.new.is_waiting ≡ false → owner S.Store self.new ≡ owner S.Store self.old }
         ensures crash { IsHonest S.Store self.new → (next : Places) → MayHold S.Store self.new next → next ≡ content S.Store self.old }
     {
         let rows = match rows_of(&mut self.conn, first, until - 1) {
@@ -197,6 +203,7 @@ impl<S: Alter> OpenStore<S> {
         ensures stops { self.old.is_waiting ≡ false → IfErr result (λ e. self.new.is_waiting ≡ is_device_fault e) }
         ensures runs { OnOk result (self.new.is_waiting ≡ false) }
         ensures kept { IsHonest S.Store self.new → self.new.is_waiting ≡ false → content S.Store self.new ≡ content S.Store self.old }
+        ensures owner { IsHonest S.Store self.new → self.new.is_waiting ≡ false → owner S.Store self.new ≡ owner S.Store self.old }
         ensures crash { IsHonest S.Store self.new → self.old.is_waiting ≡ false → (next : Places) → MayHold S.Store self.new next → next ≡ content S.Store self.old }
     {
         if self.standing == Standing::Waits {
@@ -219,6 +226,7 @@ impl<S: Alter> OpenStore<S> {
         ensures stops { self.old.is_waiting ≡ false → IfErr result (λ e. self.new.is_waiting ≡ is_device_fault e) }
         ensures runs { OnOk result (self.new.is_waiting ≡ false) }
         ensures kept { IsHonest S.Store self.new → self.new.is_waiting ≡ false → content S.Store self.new ≡ content S.Store self.old }
+        ensures owner { IsHonest S.Store self.new → self.new.is_waiting ≡ false → owner S.Store self.new ≡ owner S.Store self.old }
         ensures crash { IsHonest S.Store self.new → self.old.is_waiting ≡ false → (next : Places) → MayHold S.Store self.new next → next ≡ content S.Store self.old }
     {
         self.load_page(0, self.count)

@@ -191,6 +191,8 @@ enum Contents {
 /// What both tables have, or why they are no store of the node that asks.
 fn verdict(owner: Owner, least: Option<i64>) -> Result<Contents, StoreFault>
     ensures never { IfErr result (λ e. e ≢ StoreFault.Reopen) }
+    ensures places { IfErr result (λ e. (p : ℕ) → e ≡ StoreFault.Damaged p → p ≡ 0) }
+    ensures judged { IfErr result (λ e. (e ≢ StoreFault.NoMemory) × (is_device_fault e ≡ false)) }
     ensures verdict { (node : List ℕ) (db : Database) → HasRows db → IsOwner node db owner → IsEnd false (db.trees 1) least → IsVerdict node db result }
 {
     if is_negative(least) {
@@ -212,6 +214,7 @@ fn examine<S: Alter>(conn: &mut Connection<S>, node: &str) -> Result<Contents, S
     ensures clean { HasCleanDisk (state S.Store conn.new) → HasCleanDisk (state S.Store conn.old) }
     ensures same { HasCleanDisk (state S.Store conn.new) → OnOk result (IsUnchanged (state S.Store conn.old) (state S.Store conn.new)) }
     ensures never { IfErr result (λ e. e ≢ StoreFault.Reopen) }
+    ensures places { IfErr result (λ e. (p : ℕ) → e ≡ StoreFault.Damaged p → p ≡ 0) }
     ensures found { HasCleanDisk (state S.Store conn.new) → IsVerdict node.now (state S.Store conn.old).committed result }
     ensures crash { HasCleanDisk (state S.Store conn.new) → (db : Trees) → (state S.Store conn.new).may_leave db → db ≡ (state S.Store conn.old).committed.trees }
 {
@@ -251,6 +254,7 @@ fn start<S: Alter>(conn: &mut Connection<S>, node: &str) -> Result<u64, StoreFau
     ensures idle { conn.new.in_transaction ≡ false }
     ensures clean { HasCleanDisk (state S.Store conn.new) → HasCleanDisk (state S.Store conn.old) }
     ensures never { IfErr result (λ e. e ≢ StoreFault.Reopen) }
+    ensures places { IfErr result (λ e. (p : ℕ) → e ≡ StoreFault.Damaged p → p ≡ 0) }
     ensures settled { HasCleanDisk (state S.Store conn.new) → Settles node.now (state S.Store conn.old).committed (state S.Store conn.new) result }
 {
     match make(conn, node) {
@@ -266,6 +270,7 @@ fn adopt<S: Alter>(conn: &mut Connection<S>, node: &str) -> Result<u64, StoreFau
     ensures idle { conn.new.in_transaction ≡ false }
     ensures clean { HasCleanDisk (state S.Store conn.new) → HasCleanDisk (state S.Store conn.old) }
     ensures never { IfErr result (λ e. e ≢ StoreFault.Reopen) }
+    ensures places { IfErr result (λ e. (p : ℕ) → e ≡ StoreFault.Damaged p → p ≡ 0) }
     ensures settled { HasCleanDisk (state S.Store conn.new) → Settles node.now (state S.Store conn.old).committed (state S.Store conn.new) result }
 {
     match own(conn, node) {
@@ -281,6 +286,7 @@ fn resume<S: Alter>(conn: &mut Connection<S>, node: &str) -> Result<u64, StoreFa
     ensures idle { conn.new.in_transaction ≡ false }
     ensures clean { HasCleanDisk (state S.Store conn.new) → HasCleanDisk (state S.Store conn.old) }
     ensures never { IfErr result (λ e. e ≢ StoreFault.Reopen) }
+    ensures places { IfErr result (λ e. (p : ℕ) → e ≡ StoreFault.Damaged p → p ≡ 0) }
     ensures settled { HasCleanDisk (state S.Store conn.new) → Settles node.now (state S.Store conn.old).committed (state S.Store conn.new) result }
 {
     match examine(conn, node)? {
@@ -299,6 +305,7 @@ pub(crate) fn settle<S: Alter>(conn: &mut Connection<S>, node: &str) -> Result<u
     ensures idle { conn.new.in_transaction ≡ false }
     ensures clean { HasCleanDisk (state S.Store conn.new) → HasCleanDisk (state S.Store conn.old) }
     ensures never { IfErr result (λ e. e ≢ StoreFault.Reopen) }
+    ensures places { IfErr result (λ e. (p : ℕ) → e ≡ StoreFault.Damaged p → p ≡ 0) }
     ensures ready { HasCleanDisk (state S.Store conn.new) → OnOk result (IsReady (state S.Store conn.new) × (node_in (state S.Store conn.new).committed.trees ≡ node.now)) }
     ensures count { HasCleanDisk (state S.Store conn.new) → IfOk result (λ count. count ≡ length (slots_in (state S.Store conn.new).committed.trees)) }
     ensures found { HasCleanDisk (state S.Store conn.new) → OnOk result ((IsNew (state S.Store conn.old).committed × (slots_in (state S.Store conn.new).committed.trees ≡ []))

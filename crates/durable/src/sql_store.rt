@@ -1,20 +1,20 @@
 //! A store in a file of SQLite and its log.
-ghost use Rattle.std.specs.Prelude.{◌≡◌, ◌≢◌, ◌⊎◌, false, IfOk, IfErr, IsTrue};
+ghost use Rattle.std.specs.Prelude.{◌≡◌, ◌≢◌, ◌⊎◌, ℕ, false, None, IfOk, IfErr, IsTrue};
 ghost use Rattle.sqlite.specs.Tree.{Trees};
 ghost use Rattle.sqlite_wal.specs.Reads.{AreClean};
 ghost use Rattle.units.specs.Code.{node_text};
-ghost use Rattle.durable.specs.Backing.{IsFound, MayFind};
-ghost use Rattle.durable.specs.Faults.{is_device_fault};
-ghost use Rattle.durable.specs.Held.{slots_in};
+ghost use Rattle.durable.specs.Backing.{IsFound, MayFind, Hold};
+ghost use Rattle.durable.specs.Faults.{is_device_fault, told};
+ghost use Rattle.durable.specs.Held.{slots_in, node_in};
 ghost use Rattle.durable.specs.Kept.{is_there};
 ghost use Rattle.durable.specs.Records.{Places};
-ghost use Rattle.durable.specs.Refusals.{IsRefusal};
+ghost use Rattle.durable.specs.Refusals.{IsRefusal, IsUnharmed};
 
 use crate::backing::opening_fault;
 use crate::fault::{StoreFault, fault_of};
 use crate::link::{Link, counted, linked, settled};
 use crate::node_store::NodeStore;
-use sqlite::{Connection, Error as SqlError, File, Leftover, Options, Unknown};
+use sqlite::{Connection, Error as SqlError, ErrorCode, File, Leftover, Options, Unknown};
 use sqlite_disk::{Disk, Files, Tally};
 use std::alloc::Global;
 use std::hash::{BuildHasher, RandomState};
@@ -40,7 +40,7 @@ pub struct SqlStore<D: Disk + Drop> {
 }
 
 impl<D: Disk + Drop> SqlStore<D> {
-    ghost use Rattle.durable.specs.Stores.{IsHonest, MayHold, content, is_waiting, owner, node_of, faults};
+    ghost use Rattle.durable.specs.Stores.{IsHonest, MayHold, content, is_waiting, owner, node_of, faults, HadFiles};
 
     /// Opens the database file and its log, and makes them a store of the node where they are new. An error gives the files back.
     ///
@@ -58,7 +58,9 @@ impl<D: Disk + Drop> SqlStore<D> {
         ensures owner { IfOk result (λ s. IsHonest D.Disk s → owner D.Disk s ≡ node_text node) }
         ensures found { IfOk result (λ s. IsHonest D.Disk s → (db : Trees) × IsFound D.Disk files db × (content D.Disk s ≡ slots_in db)) }
         ensures durable { IfOk result (λ s. IsHonest D.Disk s → (next : Places) → MayHold D.Disk s next → next ≡ content D.Disk s) }
+        ensures places { IfErr result (λ e. (p : ℕ) → e.0 ≡ StoreFault.Damaged p → p ≡ 0) }
         ensures fault { IfErr result (λ e. AreClean D.Disk e.1.log e.1.db → IsRefusal D.Disk files (node_text node) e.0) }
+        ensures unharmed { IfErr result (λ e. AreClean D.Disk e.1.log e.1.db → IsUnharmed D.Disk files e.0 e.1) }
     {
         let store = linked(alloc, files, options, node)?;
         Ok(SqlStore {
@@ -83,6 +85,8 @@ impl<D: Disk + Drop> SqlStore<D> {
         ensures honest { AreClean D.Disk result.log result.db → IsHonest D.Disk self }
         ensures left { (db : Trees) → MayFind D.Disk result db → ∥ MayHold D.Disk self (slots_in db) ∥₁ }
         ensures kept { is_waiting D.Disk self ≡ false → (db : Trees) → MayFind D.Disk result db → ∥ slots_in db ≡ content D.Disk self ∥₁ }
+        ensures holds { is_waiting D.Disk self ≡ false → Hold D.Disk result (λ db. (slots_in db ≡ content D.Disk self) × (node_in db ≡ owner D.Disk self)) }
+        ensures files { HadFiles D.Disk self result }
     {
         let SqlStore {
             link,
@@ -97,6 +101,9 @@ impl<D: Disk + Drop> SqlStore<D> {
 
 // Why a connection to the files at a path could not be made, by what is left of them, where they were opened at all.
 fn path_fault(error: SqlError, left: Option<Leftover<File>>) -> StoreFault
+    ensures unopened { left ≡ None → result ≡ told error }
+    ensures no_database { left ≢ None → error ≡ SqlError.SqliteFailure ErrorCode.NotADatabase → result ≡ StoreFault.Damaged 0 }
+    ensures other { error ≢ SqlError.SqliteFailure ErrorCode.NotADatabase → error ≢ SqlError.SqliteFailure ErrorCode.DatabaseCorrupt → result ≡ told error }
     ensures named { (result ≡ StoreFault.Damaged 0) ⊎ ((result ≡ StoreFault.NoMemory) ⊎ IsTrue (is_device_fault result)) }
 {
     match left {
@@ -119,6 +126,7 @@ impl SqlStore<File> {
         ensures owner { IfOk result (λ s. IsHonest _ s → owner _ s ≡ node_text node) }
         ensures durable { IfOk result (λ s. IsHonest _ s → (next : Places) → MayHold _ s next → next ≡ content _ s) }
         ensures named { IfErr result (λ e. e ≢ StoreFault.Reopen) }
+        ensures places { IfErr result (λ e. (p : ℕ) → e ≡ StoreFault.Damaged p → p ≡ 0) }
     {
         let alloc = rt.alloc();
         let Ok(name) = format!(in alloc; "{node}") else {
@@ -146,10 +154,10 @@ impl SqlStore<File> {
 }
 
 impl<D: Disk + Drop> NodeStore for SqlStore<D> {
-    ghost use Rattle.std.specs.Prelude.{◌≡◌, ◌≢◌, false, OnOk, OnErr, IfErr, IsTrue};
-    ghost use Rattle.durable.specs.Faults.{is_device_fault};
+    ghost use Rattle.std.specs.Prelude.{◌≡◌, ◌≢◌, ℕ, false, OnOk, OnErr, IfErr, IsTrue};
+    ghost use Rattle.durable.specs.Faults.{count_after};
     ghost use Rattle.durable.specs.Records.{Places};
-    ghost use Rattle.durable.specs.declared.fault.StoreFault.TheVariants.{Reopen};
+    ghost use Rattle.durable.specs.declared.fault.StoreFault.TheVariants.{Reopen, Damaged};
     ghost use Rattle.units.specs.Code.{node_text};
     ghost use Rattle.durable.specs.Stores.{IsHonest, MayHold, content, is_waiting, faults, node_of, owner, IsReopeningFault};
 
@@ -162,6 +170,10 @@ impl<D: Disk + Drop> NodeStore for SqlStore<D> {
     ghost is_waiting = { λ s. is_waiting D.Disk s };
 
     ghost faults = { λ s. faults D.Disk s };
+
+    ghost whose = { λ s. node_of D.Disk s };
+
+    ghost is_own = { λ s. owner D.Disk s ≡ node_text (node_of D.Disk s) };
 
     fn append(&mut self, batch: &[Input]) -> Result<(), StoreFault> {
         match self.link.append(batch) {
@@ -196,13 +208,16 @@ impl<D: Disk + Drop> NodeStore for SqlStore<D> {
     /// `Damaged(0)`, `WrongVersion`, `WrongNode` as of an opening. After a sync that failed the same files can't be used again, and every reopening answers `Device`.
     fn reopen(&mut self) -> Result<(), StoreFault>
         ensures named { IfErr result (λ e. e ≢ Reopen) }
+        ensures places { IfErr result (λ e. (p : ℕ) → e ≡ Damaged p → p ≡ 0) }
         ensures runs { OnOk result (is_waiting D.Disk self.new ≡ false) }
         ensures stops { OnErr result (IsTrue (is_waiting D.Disk self.new)) }
+        ensures honest { OnOk result (IsHonest D.Disk self.new → IsHonest D.Disk self.old) }
         ensures settles { IsHonest D.Disk self.new → OnOk result ∥ MayHold D.Disk self.old (content D.Disk self.new) ∥₁ }
         ensures durable { IsHonest D.Disk self.new → OnOk result ((next : Places) → MayHold D.Disk self.new next → next ≡ content D.Disk self.new) }
-        ensures cause { IfErr result (λ e. IsTrue (is_device_fault e) → faults D.Disk self.new ≢ faults D.Disk self.old) }
+        ensures cause { IfErr result (λ e. faults D.Disk self.new ≡ count_after (faults D.Disk self.old) e) }
+        ensures count { OnOk result (faults D.Disk self.new ≡ faults D.Disk self.old) }
         ensures node { node_of D.Disk self.new ≡ node_of D.Disk self.old }
-        ensures owner { IsHonest D.Disk self.new → OnOk result (owner D.Disk self.new ≡ node_text (node_of D.Disk self.old)) }
+        ensures owner { IsHonest D.Disk self.new → OnOk result (owner D.Disk self.new ≡ node_text (node_of D.Disk self.new)) }
         ensures fault { IsHonest D.Disk self.new → IfErr result (IsReopeningFault D.Disk self.old) }
     {
         let files = mem::replace(&mut self.link, Link::Absent).into_files();

@@ -4,6 +4,9 @@ use Rattle.durable.proofs.backing.open_again.Goals as goal
 pub returns-in-Ok-clause-opened : goal.returns-in-Ok-clause-opened
 returns-in-Ok-clause-opened g c = λ clean. (c.in-Ok.ensures.opened clean).0
 
+pub returns-in-Ok-clause-sound : goal.returns-in-Ok-clause-sound
+returns-in-Ok-clause-sound g c = λ clean. let o = c.in-Ok.ensures.opened clean in (o.1 o.0.is_open).1
+
 pub returns-in-Ok-clause-found : goal.returns-in-Ok-clause-found
 returns-in-Ok-clause-found g c = λ clean. let f = c.in-Ok.ensures.found clean in record { honest = f.honest; held = record { holds = f.holds; reads = f.reads } }
 

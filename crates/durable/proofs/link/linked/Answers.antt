@@ -1,14 +1,16 @@
-use Rattle.std.proofs.Common.{◌≡◌, Result, Ok, Err, IfOk, IfErr, List, ℕ, inr, subst, rules}
+use Rattle.std.proofs.Common.{◌≡◌, Result, Ok, Err, IfOk, IfErr, IsTrue, List, ℕ, inr, sym, subst, rules}
 use Rattle.sqlite.specs.Files.{over_files, file_state}
 use Rattle.sqlite.specs.State.{HasCleanDisk}
 use Rattle.sqlite.specs.Tree.{Trees}
 use Rattle.sqlite_wal.specs.Reads.{AreClean}
 use Rattle.units.specs.Code.{node_text}
-use Rattle.durable.specs.Backing.{IsFound}
+use Rattle.durable.specs.Backing.{IsFound, Hold}
 use Rattle.durable.specs.Connected as connected
 use Rattle.durable.specs.Held.{slots_in, node_in}
 use Rattle.durable.specs.Opening.{IsOpeningFault}
-use Rattle.durable.specs.Refusals.{IsRefusal}
+use Rattle.durable.specs.Refusals.{IsRefusal, IsUnharmed}
+use Rattle.durable.specs.Faults.{is_judgement}
+use Rattle.durable.proofs.Sparing.{not-looked-at}
 use Rattle.durable.proofs.link.linked.Goals as goal
 
 both : {A B : Type 0} (P Q R : A → Type 0) (r : Result A B) → ((k : A) → P k → Q k → R k) → IfOk r P → IfOk r Q → IfOk r R
@@ -36,5 +38,20 @@ pub returns-clause-fault : goal.returns-clause-fault
 returns-clause-fault g c =
     both-err (λ e. AreClean g.D.Disk e.1.log e.1.db → HasCleanDisk (file_state c.in_ok-conn.conn)) (λ e. AreClean g.D.Disk e.1.log e.1.db → IsOpeningFault c.deref.result.now (file_state c.in_ok-conn.conn).committed e.0)
     (λ e. AreClean g.D.Disk e.1.log e.1.db → IsRefusal g.D.Disk c.args.files (node_text c.args.node) e.0) c.settled.result
-    (λ e refused fault clean. inr ((file_state c.in_ok-conn.conn).committed, c.in_ok-conn.ensures.found (refused clean), subst (λ n. IsOpeningFault n (file_state c.in_ok-conn.conn).committed e.0) (name-is g c) (fault clean)))
+    (λ e refused fault clean. let early = refused clean in
+    inr ((file_state c.in_ok-conn.conn).committed, c.in_ok-conn.ensures.sound early, c.in_ok-conn.ensures.found early, subst (λ n. IsOpeningFault n (file_state c.in_ok-conn.conn).committed e.0) (name-is g c) (fault clean)))
     c.settled.ensures.refused c.settled.ensures.fault
+
+pub returns-clause-unharmed : goal.returns-clause-unharmed
+returns-clause-unharmed g c =
+    both-err (λ e. AreClean g.D.Disk e.1.log e.1.db → HasCleanDisk (file_state c.in_ok-conn.conn))
+    (λ e. IsTrue (is_judgement e.0) → Hold g.D.Disk e.1 (λ next. next ≡ (file_state c.in_ok-conn.conn).committed.trees))
+    (λ e. AreClean g.D.Disk e.1.log e.1.db → IsUnharmed g.D.Disk c.args.files e.0 e.1) c.settled.result
+    (λ e refused held honest judged. inr ((file_state c.in_ok-conn.conn).committed.trees, c.in_ok-conn.ensures.found (refused honest), held judged))
+    c.settled.ensures.refused c.settled.ensures.unharmed
+
+pub returns-in_err-conn-clause-unharmed : goal.returns-in_err-conn-clause-unharmed
+returns-in_err-conn-clause-unharmed g c =
+    let same : c.from_residual.result ≡ Err c.in_err-conn.field-0.0 = search rules in
+    let e = c.in_err-conn.field-0.0 in
+    subst (λ r. IfErr r (λ e. AreClean g.D.Disk e.1.log e.1.db → IsUnharmed g.D.Disk c.args.files e.0 e.1)) (sym same) (λ honest. not-looked-at g.D.Disk c.args.files e.1 e.0 (c.in_err-conn.ensures.fault honest))

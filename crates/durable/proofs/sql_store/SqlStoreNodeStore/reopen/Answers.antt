@@ -1,3 +1,5 @@
+use Rattle.std.proofs.Common.{subst}
+use Rattle.durable.specs.Kept.{IsHonest, AreFilesOf}
 use Rattle.durable.proofs.Stores.{had-files, settled-again}
 use Rattle.durable.proofs.sql_store.SqlStoreNodeStore.reopen.Goals as goal
 
@@ -8,6 +10,13 @@ returns-in-Ok-clause-settles g c clean =
 pub returns-in-Err-clause-fault : goal.returns-in-Err-clause-fault
 returns-in-Err-clause-fault g c clean = (
   c.into_files-files.result,
-  had-files g.D.Disk c.args.self.now.link c.replace.result c.into_files-files.result c.replace.ensures.value c.into_files-files.ensures.left,
+  (
+    subst (λ link. AreFilesOf g.D.Disk link c.into_files-files.result) c.replace.ensures.value c.into_files-files.ensures.files,
+    had-files g.D.Disk c.args.self.now.link c.replace.result c.into_files-files.result c.replace.ensures.value c.into_files-files.ensures.left,
+  ),
   c.in-Err.ensures.fault clean,
 )
+
+pub returns-in-Ok-clause-honest : goal.returns-in-Ok-clause-honest
+returns-in-Ok-clause-honest g c clean =
+    subst (λ link. IsHonest g.D.Disk link) c.replace.ensures.value (c.into_files-files.ensures.honest (c.in-Ok.ensures.found clean).1.honest)

@@ -3,6 +3,7 @@ pub mod Slots
 pub mod Held
 pub mod Faults
 pub mod Records
+pub mod Rooms
 pub mod Pages
 pub mod Bodies
 pub mod Backing

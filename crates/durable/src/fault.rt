@@ -28,7 +28,7 @@ pub enum StoreFault {
     /// A fault came before, and the store was not reopened since.
     #[error("reopen")]
     Reopen,
-    /// Want of memory.
+    /// Memory ran out.
     #[error("out of memory")]
     NoMemory,
 }
@@ -53,7 +53,7 @@ impl From<NoMemory> for StoreFault {
     }
 }
 
-/// What an error of a statement tells: want of memory, no room, or a fault of the device.
+/// What an error of a statement tells: out of memory, no room, or a fault of the device.
 pub(crate) fn fault_of(error: SqlError) -> StoreFault
     ensures told { result ≡ told error }
     ensures named { (result ≡ StoreFault.NoMemory) ⊎ IsTrue (is_device_fault result) }

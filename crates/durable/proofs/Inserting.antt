@@ -1,7 +1,7 @@
 -- What an INSERT of the next record does to a store.
 use Rattle.std.proofs.Common.{◌≡◌, ◌⊎◌, inl, inr, ℕ, pos, List, [], ◌∷◌, ◌++◌, length, slice_index_or, Bool, true, false, cond, None, Option, Ok, Err, Result, refl, sym, ap, subst, ◌∙◌, arith}
 use Rattle.sqlite.specs.declared.types.Value.{Value}
-use Rattle.sqlite.specs.declared.types.Value.TheVariants.{Null, Int, Text}
+use Rattle.sqlite.specs.declared.types.Value.TheVariants.{Null, Int}
 use Rattle.sqlite.specs.Order.{Row, column, bytes}
 use Rattle.sqlite.specs.Tree.{Trees, put_row}
 use Rattle.sqlite.specs.Ops.{unary}
@@ -14,20 +14,13 @@ use Rattle.sqlite.specs.Rowids.TheVariants.{Chosen}
 use Rattle.sqlite.specs.Does.{Tally, Does}
 use Rattle.sqlite.specs.Rows.{Written}
 use Rattle.sqlite.specs.Effect.{Database}
-use Rattle.sqlite.specs.declared.run.Mode.{Mode}
-use Rattle.sqlite_schema.specs.declared.schema.Keys.TheVariants.{Enforced}
 use Rattle.sqlite.proofs.Callers.{one_step}
 use Rattle.durable.specs.Tables.{entries_table, store_schema, about, entry}
+pub use Rattle.durable.specs.Rooms.{enforced, given}
 use Rattle.durable.specs.Slots.{slots_from, AreEntries}
 use Rattle.durable.specs.Held.{slots_in, node_in, IsStore, HasMore}
 use Rattle.durable.proofs.Places.{put-last}
 use Rattle.durable.proofs.Texts.{insert_terms}
-
-abbrev pub enforced : Mode
-enforced = record { keys = Enforced; in_doubt = false; may_wait = false }
-
-abbrev pub given : ℕ → List ℕ → Row
-given place body = Int (pos place) ∷ Text body ∷ []
 
 either : (b : Bool) (x : Value) → cond b x x ≡ x
 either true x = refl

@@ -15,6 +15,7 @@ pub mod Stretches
 pub mod Answering
 pub mod Queries
 pub mod Reopening
+pub mod NoRoom
 pub mod Refusing
 pub mod Sparing
 pub mod Stores

@@ -45,10 +45,14 @@ pub spared : {D : Type 0} (g : Ghosts D) (left : Files D) (name : List ℕ) (bef
     → (AreClean g left.log left.db → (db : Trees) → may_leave db → (db ≡ before.trees) ⊎ (IsNew before × IsFresh name db))
     → IsTrue (is_judgement fault) → Hold g left (λ next. next ≡ before.trees)
 spared {D} g left name before may_leave fault holds cause crash judged honest image there =
-    ∥∥₁_map (holds honest image there) (λ held. (held.0, elim (crash honest held.0 held.1) [
-      | inl same ↦ same
-      | inr made ↦ absurd (not-judged name before fault (cause honest) made.0 judged)
-    ], held.2))
+    ∥∥₁_map (holds honest image there) (λ held. (
+      held.0,
+      elim (crash honest held.0 held.1) [
+        | inl same ↦ same
+        | inr made ↦ absurd (not-judged name before fault (cause honest) made.0 judged)
+      ],
+      held.2,
+    ))
 
 -- files that were not opened were not judged, but where they hold no database
 pub not-looked-at : {D : Type 0} (g : Ghosts D) (files left : Files D) (fault : StoreFault) → IsFileFault g files fault → IsUnharmed g files fault left

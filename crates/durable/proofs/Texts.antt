@@ -8,6 +8,7 @@ use Rattle.sqlite.specs.Command.TheVariants.{Insert}
 use Rattle.sqlite.specs.Listing.{understood}
 use Rattle.sqlite_tied.specs.Compute.{everything}
 use Rattle.sqlite.proofs.Callers.{IsPlain, command_of}
+pub use Rattle.durable.specs.Rooms.{insert_text}
 use Rattle.durable.specs.Tables.{about_table, entries_table, store_schema}
 
 abbrev pub about_text : List ℕ
@@ -15,9 +16,6 @@ about_text = codes "CREATE TABLE IF NOT EXISTS about (id INTEGER PRIMARY KEY CHE
 
 abbrev pub entries_text : List ℕ
 entries_text = codes "CREATE TABLE IF NOT EXISTS entries (place INTEGER PRIMARY KEY, body TEXT NOT NULL) STRICT"
-
-abbrev pub insert_text : List ℕ
-insert_text = codes "INSERT INTO entries (place, body) VALUES (?1, ?2)"
 
 abbrev pub insert_terms : List Term
 insert_terms = col 0 0 ∷ lit Null ∷ col 0 1 ∷ []

@@ -37,6 +37,10 @@ module _ {S : Type 0} (g : Ghosts S) where
   abbrev pub owner : Connected S → List ℕ
   owner k = node_in (state g k.conn).committed.trees
 
+  -- how many calls of its disk have failed
+  abbrev pub disk_faults : Connected S → ℕ
+  disk_faults k = (state g k.conn).faults
+
   -- what a crash may leave
   abbrev pub MayHold : Connected S → Places → Type 0
   MayHold k next = (db : Trees) × (state g k.conn).may_leave db × (slots_in db ≡ next)

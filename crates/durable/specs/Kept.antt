@@ -37,6 +37,11 @@ module _ {D : Type 0} (g : Ghosts D) where
   owner (Open k) = connected.owner over_files k
   owner _ = []
 
+  -- how many calls of its disk have failed, as its connection counts them
+  abbrev pub disk_faults : Link D g → ℕ
+  disk_faults (Open k) = connected.disk_faults over_files k
+  disk_faults _ = 0
+
   abbrev pub is_there : Link D g → Bool
   is_there Absent = false
   is_there _ = true

@@ -33,6 +33,10 @@ module _ {D : Type 0} (g : Ghosts D) where
   abbrev pub owner : SqlStore D g → List ℕ
   owner s = kept.owner g s.link
 
+  -- how many calls of its files have failed, as its connection counts them
+  abbrev pub disk_faults : SqlStore D g → ℕ
+  disk_faults s = kept.disk_faults g s.link
+
   -- for which node it was opened
   abbrev pub node_of : SqlStore D g → Node
   node_of s = s.node

@@ -1,10 +1,12 @@
 //! Appending: a whole batch of bodies in one transaction.
-ghost use Rattle.std.specs.Prelude.{◌≡◌, ◌∷◌, [], ◌⊎◌, length, OnOk, OnErr, IfErr, IsTrue, false, ◌+◌, ◌^◌, ◌<◌, map, Err};
+ghost use Rattle.std.specs.Prelude.{◌≡◌, ◌∷◌, [], ◌⊎◌, length, OnOk, OnErr, IfErr, IsTrue, false, ◌+◌, ◌^◌, ◌<◌, map, Some, Err};
+ghost use Rattle.sqlite_disk.specs.Disk.{MoreFaults};
 ghost use Rattle.sqlite.specs.State.{HasCleanDisk, IsUnchanged, KeepsCommit, Survives};
 ghost use Rattle.sqlite.specs.Held.{state};
 ghost use Rattle.sqlite.specs.Tree.{Trees};
-ghost use Rattle.durable.specs.Faults.{is_device_fault};
+ghost use Rattle.durable.specs.Faults.{is_device_fault, told};
 ghost use Rattle.durable.specs.Bodies.{items};
+ghost use Rattle.durable.specs.Rooms.{IsRefused, HasNoRoom};
 ghost use Rattle.durable.specs.Held.{slots_in, IsReady, IsInside, HasMore, HasAllOrNone};
 
 use crate::fault::{StoreFault, fault_of};
@@ -21,6 +23,7 @@ fn put<S: Alter>(tx: &mut Transaction<'_, S>, place: u64, body: &[u8]) -> Result
     ensures more { HasCleanDisk (state S.Store tx.new.conn.now) → OnOk result (HasMore (state S.Store tx.old.conn.now).now.trees (body.now ∷ []) (state S.Store tx.new.conn.now).now.trees) }
     ensures kept { HasCleanDisk (state S.Store tx.new.conn.now) → KeepsCommit (state S.Store tx.old.conn.now) (state S.Store tx.new.conn.now) }
     ensures survives { Survives (state S.Store tx.old.conn.now) (state S.Store tx.new.conn.now) (λ _. ⊥) }
+    ensures full { HasCleanDisk (state S.Store tx.new.conn.now) → IfErr result (λ e. told e ≡ StoreFault.Full → MoreFaults (state S.Store tx.old.conn.now).faults (state S.Store tx.new.conn.now).faults ⊎ IsRefused body.now) }
 {
     tx.execute(
         "INSERT INTO entries (place, body) VALUES (?1, ?2)",
@@ -43,6 +46,8 @@ fn put_all<S: Alter>(
     ensures more { HasCleanDisk (state S.Store tx.new.conn.now) → OnOk result (HasMore (state S.Store tx.old.conn.now).now.trees (map items batch.now) (state S.Store tx.new.conn.now).now.trees) }
     ensures kept { HasCleanDisk (state S.Store tx.new.conn.now) → KeepsCommit (state S.Store tx.old.conn.now) (state S.Store tx.new.conn.now) }
     ensures survives { Survives (state S.Store tx.old.conn.now) (state S.Store tx.new.conn.now) (λ _. ⊥) }
+    ensures full { HasCleanDisk (state S.Store tx.new.conn.now) → IfErr result (λ e. told e ≡ StoreFault.Full
+        → HasNoRoom (state S.Store tx.old.conn.now).faults (state S.Store tx.new.conn.now).faults (map (λ body. Some body) (map items batch.now))) }
 {
     let mut at = place;
     for body in batch {
@@ -70,6 +75,8 @@ fn append_all<S: Alter>(
         → OnErr result (IsReady (state S.Store conn.new) × ((state S.Store conn.new).committed ≡ (state S.Store conn.old).committed)) }
     ensures crash { HasCleanDisk (state S.Store conn.new) → (db : Trees) → (state S.Store conn.new).may_leave db
         → HasAllOrNone (state S.Store conn.old).committed.trees (map items batch.now) db }
+    ensures full { HasCleanDisk (state S.Store conn.new) → IfErr result (λ e. told e ≡ StoreFault.Full
+        → HasNoRoom (state S.Store conn.old).faults (state S.Store conn.new).faults (map (λ body. Some body) (map items batch.now))) }
 {
     let mut tx = conn.transaction();
     put_all(&mut tx, place, batch)?;
@@ -107,6 +114,8 @@ pub(crate) fn append<S: Alter>(
         → IsReady (state S.Store conn.new) × ((state S.Store conn.new).committed ≡ (state S.Store conn.old).committed) }
     ensures crash { HasCleanDisk (state S.Store conn.new) → (db : Trees) → (state S.Store conn.new).may_leave db
         → HasAllOrNone (state S.Store conn.old).committed.trees (map items batch.now) db }
+    ensures full { HasCleanDisk (state S.Store conn.new) → result ≡ Err StoreFault.Full
+        → HasNoRoom (state S.Store conn.old).faults (state S.Store conn.new).faults (map (λ body. Some body) (map items batch.now)) }
 {
     let fault = match append_all(conn, place, batch) {
         Ok(()) => return Ok(()),

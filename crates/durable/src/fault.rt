@@ -68,7 +68,7 @@ impl From<NoMemory> for StoreFault {
     }
 }
 
-/// What an error of a statement tells: want of memory, no room, or a fault of the device.
+/// What an error of a statement tells: out of memory, no room, or a fault of the device.
 pub(crate) fn fault_of(error: SqlError) -> StoreFault
     ensures told { result ≡ told error }
     ensures named { (result ≡ StoreFault.NoMemory) ⊎ IsTrue (is_device_fault result) }

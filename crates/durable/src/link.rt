@@ -9,11 +9,12 @@ ghost use Rattle.durable.specs.Backing.{IsFound, MayFind, Hold};
 ghost use Rattle.durable.specs.Connected as connected;
 ghost use Rattle.durable.specs.Faults.{is_device_fault, is_judgement, IsReadFault, count_after};
 ghost use Rattle.durable.specs.Held.{slots_in, node_in};
-ghost use Rattle.durable.specs.Kept.{IsHonest, MayHold, content, owner, is_waiting, is_there, AreFilesOf};
+ghost use Rattle.durable.specs.Kept.{IsHonest, MayHold, content, owner, disk_faults, is_waiting, is_there, AreFilesOf};
 ghost use Rattle.durable.specs.Opening.{IsOpeningFault};
 ghost use Rattle.durable.specs.Records.{Places, AreRecords, IsDamagedAt, IsAllOrNone, written};
 ghost use Rattle.durable.specs.Refusals.{IsRefusal, IsUnharmed};
-ghost use Rattle.durable.specs.declared.fault.StoreFault.TheVariants.{Reopen, NoMemory, Damaged};
+ghost use Rattle.durable.specs.declared.fault.StoreFault.TheVariants.{Reopen, NoMemory, Damaged, Full};
+ghost use Rattle.durable.specs.Rooms.{LacksRoom};
 
 use crate::backing::{give_up, open_again};
 use crate::fault::StoreFault;
@@ -84,6 +85,7 @@ impl<D: Disk + Drop> Link<D> {
         ensures owner { IsHonest D.Disk self.new → is_waiting D.Disk self.new ≡ false → owner D.Disk self.new ≡ owner D.Disk self.old }
         ensures refused { IsHonest D.Disk self.new → is_waiting D.Disk self.old ≡ false → IfErr result (λ e. is_device_fault e ≡ false → (next : Places) → MayHold D.Disk self.new next → next ≡ content D.Disk self.old) }
         ensures crash { IsHonest D.Disk self.new → is_waiting D.Disk self.old ≡ false → (next : Places) → MayHold D.Disk self.new next → IsAllOrNone (content D.Disk self.old) batch.now next }
+        ensures full { IsHonest D.Disk self.new → result ≡ Err Full → LacksRoom (content D.Disk self.old) batch.now (disk_faults D.Disk self.old) (disk_faults D.Disk self.new) }
         ensures durable { IsHonest D.Disk self.new → is_waiting D.Disk self.new ≡ false → (next : Places) → MayHold D.Disk self.new next → next ≡ content D.Disk self.new }
     {
         match self {
@@ -159,7 +161,7 @@ pub(crate) fn settled<D: Disk + Drop>(
     }
 }
 
-/// Opens the files as a store of the node. An error gives them back.
+/// Opens the files as a store of the node. An error gives them back, and files that were found to be no store of the node hold what they held.
 pub(crate) fn linked<D: Disk + Drop>(
     alloc: Global,
     files: Files<D>,

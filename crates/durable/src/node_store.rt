@@ -10,7 +10,7 @@ use wire::Input;
 
 /// A node's records, which only grow, and which a crash leaves as they were before an append or after it.
 ///
-/// After a fault of `append`, or one of `load` and `load_page` that is `Device` or `Full`, every call answers `Reopen`
+/// After a fault of `append`, or one of `load` and `load_page` that is `Device` or `Full`, every call returns `Reopen`
 /// until `reopen` succeeds, which settles what is there.
 pub trait NodeStore {
     /// Nobody else wrote the store, and the device returned what was written. That may end at any call.
@@ -25,7 +25,7 @@ pub trait NodeStore {
     /// A fault waits for a reopening.
     ghost is_waiting: { Self → Bool };
 
-    /// What `fault_count` answers.
+    /// What `fault_count` returns.
     ghost faults: { Self → ℕ };
 
     /// Whose records they are.
@@ -36,8 +36,9 @@ pub trait NodeStore {
 
     /// Appends the whole batch, or nothing of it. An empty batch changes nothing.
     ///
-    /// `Device`, `Full`: the device failed or has no room; what is there, a reopening settles. `NoMemory`: the content is as
-    /// it was. `Reopen`: a fault waits.
+    /// Fails with `Device` or `Full` where the device failed or has no room: the batch is there as a whole or not at all, and
+    /// a reopening settles which. Fails with `NoMemory` where memory ran out: the content is as it was. After each of these a
+    /// reopening is due. Fails with `Reopen`, and changes nothing, where one was due before.
     fn append(&mut self, batch: &[Input]) -> Result<(), StoreFault>
         ensures reopen { IsTrue (is_waiting self.old) → (result ≡ Err Reopen) × (self.new ≡ self.old) }
         ensures named { is_waiting self.old ≡ false → IfErr result (λ e. (e ≡ NoMemory) ⊎ IsTrue (is_device_fault e)) }
@@ -54,8 +55,12 @@ pub trait NodeStore {
         ensures whose { whose self.new ≡ whose self.old }
         ensures own { is_honest self.new → is_waiting self.new ≡ false → is_own self.old → is_own self.new };
 
-    /// All records in their order. `Damaged(p)`: place p is the least that is missing while a later one is there, or whose
-    /// text is no record's. `NoMemory` and `Damaged` change nothing.
+    /// All records in their order.
+    ///
+    /// Fails with `Damaged(p)` where place p is the least that is missing while a later one is there, or whose text is no
+    /// record's, and with `NoMemory` where memory ran out: the store goes on as it was. Fails with `Device` or `Full` where the
+    /// device failed: a reopening is due, and finds the same content. Fails with `Reopen`, and changes nothing, where one was
+    /// due before.
     fn load(&mut self) -> Result<Vec<Input>, StoreFault>
         ensures reopen { IsTrue (is_waiting self.old) → (result ≡ Err Reopen) × (self.new ≡ self.old) }
         ensures honest { is_honest self.new → is_honest self.old }
@@ -71,7 +76,7 @@ pub trait NodeStore {
         ensures whose { whose self.new ≡ whose self.old }
         ensures own { is_honest self.new → is_waiting self.new ≡ false → is_own self.old → is_own self.new };
 
-    /// The records from place `from` on, at most `max`. Faults as of `load`, of the places that it looks at alone.
+    /// The records from place `from` on, at most `max`. Fails as `load` does, for the places that it looks at alone.
     fn load_page(&mut self, from: u64, max: u64) -> Result<Vec<Input>, StoreFault>
         requires some { 1 ≤ max }
         requires few { max ≤ 256 }
@@ -89,8 +94,8 @@ pub trait NodeStore {
         ensures whose { whose self.new ≡ whose self.old }
         ensures own { is_honest self.new → is_waiting self.new ≡ false → is_own self.old → is_own self.new };
 
-    /// Opens the store again, whether or not a fault waits. After Ok the content is one that it could hold before, and after a fault a reopening
-    /// still waits.
+    /// Opens the store again, whether or not a fault waits. After `Ok` the content is one that it could hold before. After an
+    /// error, which is never `Reopen`, a reopening is still due.
     fn reopen(&mut self) -> Result<(), StoreFault>
         ensures named { IfErr result (λ e. e ≢ Reopen) }
         ensures runs { OnOk result (is_waiting self.new ≡ false) }

@@ -1,6 +1,6 @@
 //! A store over an open connection.
-ghost use Rattle.std.specs.Prelude.{◌≡◌, ◌≢◌, ◌++◌, ◌⊎◌, ◌+◌, ◌-◌, ◌<◌, ◌≤◌, ◌^◌, ℕ, [], false, Ok, Err, IfOk, IfErr, IfSome, IfNone, OnOk, OnErr, IsTrue, true, map, take, drop, length};
-ghost use Rattle.durable.specs.Connected.{IsHonest, content, MayHold, owner};
+ghost use Rattle.std.specs.Prelude.{◌≡◌, ◌≢◌, ◌++◌, ◌⊎◌, ◌+◌, ◌-◌, ◌<◌, ◌≤◌, ◌^◌, ℕ, [], false, Ok, Err, Some, IfOk, IfErr, IfSome, IfNone, OnOk, OnErr, IsTrue, true, map, take, drop, length};
+ghost use Rattle.durable.specs.Connected.{IsHonest, content, MayHold, owner, disk_faults};
 ghost use Rattle.durable.specs.Bodies.{items};
 ghost use Rattle.durable.specs.Held.{followed_by, slots_in, IsReady};
 ghost use Rattle.sqlite.specs.State.{HasCleanDisk};
@@ -8,7 +8,8 @@ ghost use Rattle.sqlite.specs.Tree.{Trees};
 ghost use Rattle.sqlite.specs.Held.{state};
 ghost use Rattle.durable.specs.Faults.{is_device_fault, IsReadFault};
 ghost use Rattle.durable.specs.Records.{Places, AreRecords, IsDamagedAt, IsAllOrNone, written};
-ghost use Rattle.durable.specs.declared.fault.StoreFault.TheVariants.{Reopen, NoMemory, Damaged};
+ghost use Rattle.durable.specs.declared.fault.StoreFault.TheVariants.{Reopen, NoMemory, Damaged, Full};
+ghost use Rattle.durable.specs.Rooms.{HasNoRoom, LacksRoom};
 
 use crate::batch;
 use crate::fault::StoreFault;
@@ -26,7 +27,7 @@ enum Standing {
     Waits,
 }
 
-/// A store over an open connection. After a fault every call answers `Reopen`.
+/// A store over an open connection. After a fault every call returns `Reopen`.
 pub(crate) struct OpenStore<S: Alter> {
     conn: Connection<S>,
     count: u64,
@@ -113,6 +114,8 @@ impl<S: Alter> OpenStore<S> {
         ensures refused { IsHonest S.Store self.new → IfErr result (λ e. is_device_fault e ≡ false → (next : Places) → MayHold S.Store self.new next → next ≡ content S.Store self.old) }
         ensures crash { IsHonest S.Store self.new → (next : Places) → MayHold S.Store self.new next
             → (next ≡ content S.Store self.old) ⊎ (next ≡ followed_by (content S.Store self.old) (map items texts.now)) }
+        ensures full { IsHonest S.Store self.new → result ≡ Err Full
+            → (self.old.count + length texts.now < 2 ^ 62 → ⊥) ⊎ HasNoRoom (disk_faults S.Store self.old) (disk_faults S.Store self.new) (map (λ body. Some body) (map items texts.now)) }
         ensures durable { IsHonest S.Store self.new → self.new.is_waiting ≡ false → (next : Places) → MayHold S.Store self.new next → next ≡ content S.Store self.new }
     {
         let Some(total) = total(self.count, texts.len()) else {
@@ -143,6 +146,7 @@ impl<S: Alter> OpenStore<S> {
         ensures owner { IsHonest S.Store self.new → self.new.is_waiting ≡ false → owner S.Store self.new ≡ owner S.Store self.old }
         ensures refused { IsHonest S.Store self.new → self.old.is_waiting ≡ false → IfErr result (λ e. is_device_fault e ≡ false → (next : Places) → MayHold S.Store self.new next → next ≡ content S.Store self.old) }
         ensures crash { IsHonest S.Store self.new → self.old.is_waiting ≡ false → (next : Places) → MayHold S.Store self.new next → IsAllOrNone (content S.Store self.old) batch.now next }
+        ensures full { IsHonest S.Store self.new → result ≡ Err Full → LacksRoom (content S.Store self.old) batch.now (disk_faults S.Store self.old) (disk_faults S.Store self.new) }
         ensures durable { IsHonest S.Store self.new → self.new.is_waiting ≡ false → (next : Places) → MayHold S.Store self.new next → next ≡ content S.Store self.new }
     {
         if self.standing == Standing::Waits {

@@ -39,7 +39,7 @@ fn query_rows<S: Alter>(
     )
 }
 
-/// As `query_rows`. Want of memory leaves the connection as it was; after `Device` and `Full` it may be shut.
+/// As `query_rows`. `NoMemory` leaves the connection as it was; after `Device` and `Full` it may be shut.
 pub(crate) fn rows_of<S: Alter>(
     conn: &mut Connection<S>,
     first: u64,
@@ -67,26 +67,27 @@ pub(crate) fn rows_of<S: Alter>(
     Err(fault)
 }
 
-/// The body of a row, where the row is at that place: `None` where it is at another.
+/// The body of a row, where the row is at that place: `None` where it is at another. Fails with `Device` where the row has no
+/// place or no body, which takes no memory to tell.
 fn body_at(row: &Row, place: u64) -> Result<Option<&[u8]>, StoreFault>
     ensures ok { IfOk result (λ body. option_copied body ≡ cond (place_of row.now == place) (Some (bytes (column row.now 1))) None) }
-    ensures named { IfErr result (λ e. (e ≡ StoreFault.NoMemory) ⊎ IsTrue (is_device_fault e)) }
+    ensures named { IfErr result (λ e. e ≡ StoreFault.Device) }
 {
     let found: u64 = match row.get(0) {
         Ok(found) => found,
-        Err(error) => return Err(fault_of(error)),
+        Err(_) => return Err(StoreFault::Device),
     };
     if found != place {
         return Ok(None);
     }
     match row.get_ref(1) {
         Ok(ValueRef::Text(body)) => Ok(Some(body)),
-        Ok(_) => Err(StoreFault::Device),
-        Err(error) => Err(fault_of(error)),
+        _ => Err(StoreFault::Device),
     }
 }
 
-/// The bodies of the rows, up to the first row that isn't at the place that is next.
+/// The bodies of the rows, up to the first row that isn't at the place that is next. Fails with `Device` where a row has no
+/// place or no body, and with `NoMemory` where there is no room for the bodies.
 pub(crate) fn bodies<'a>(
     alloc: Global,
     rows: &'a [Row],
@@ -94,7 +95,7 @@ pub(crate) fn bodies<'a>(
 ) -> Result<Vec<&'a [u8]>, StoreFault>
     requires first { first < 2 ^ 63 }
     ensures ok { IfOk result (λ all. map (λ body. body.now) all.items ≡ bodies_from first rows.now) }
-    ensures named { IfErr result (λ e. (e ≡ StoreFault.NoMemory) ⊎ IsTrue (is_device_fault e)) }
+    ensures named { IfErr result (λ e. (e ≡ StoreFault.NoMemory) ⊎ (e ≡ StoreFault.Device)) }
 {
     let mut bodies = Vec::new(alloc);
     for (at, row) in rows.iter().enumerate() {

@@ -44,8 +44,9 @@ impl<D: Disk + Drop> SqlStore<D> {
 
     /// Opens the database file and its log, and makes them a store of the node where they are new. An error gives the files back.
     ///
-    /// Faults in this order: `Damaged(0)` where the file is no store, `WrongVersion`, `WrongNode`. `Device`, `Full` and `NoMemory` may come at any call of
-    /// the database.
+    /// Fails with the first that is so of `Damaged(0)`, where the files hold no store, `WrongVersion` and `WrongNode`; the database that
+    /// they hold stays as it was. Fails with `Device`, `Full` or `NoMemory` at any call of the database, and with `Device` where the files
+    /// can't be used since a sync failed.
     pub fn open_files(
         alloc: Global,
         files: Files<D>,
@@ -79,8 +80,8 @@ impl<D: Disk + Drop> SqlStore<D> {
         self.node
     }
 
-    /// Closes the store, and gives both files back with no call of the device, so that no fault can come. An opening of them
-    /// finds the content as it was, or settles it where a fault waits for a reopening.
+    /// Closes the store, and gives both files back with no call of the device, so that it can't fail. They hold the content and
+    /// the owner as they were, now and after a crash. Where a fault waits for a reopening, an opening of them settles the content.
     pub fn close_files(self) -> Files<D>
         ensures honest { AreClean D.Disk result.log result.db → IsHonest D.Disk self }
         ensures left { (db : Trees) → MayFind D.Disk result db → ∥ MayHold D.Disk self (slots_in db) ∥₁ }
@@ -117,8 +118,8 @@ impl SqlStore<File> {
 
     /// Opens the file at the path, with its log beside it, and makes it a store of the node where there is none.
     ///
-    /// Faults as of `open_files`, and `Device` where the file can't be opened or another handle has it open. No clause ties
-    /// the answer to what stands at the path.
+    /// Fails as `open_files` does, and with `Device` where the file can't be opened or another handle has it open. No clause ties
+    /// the result to what stands at the path.
     pub fn open_path(rt: &HostRuntime, path: &str, node: Node) -> Result<SqlStore<File>, StoreFault>
         ensures runs { IfOk result (λ s. is_waiting _ s ≡ false) }
         ensures node { IfOk result (λ s. node_of _ s ≡ node) }
@@ -154,12 +155,13 @@ impl SqlStore<File> {
 }
 
 impl<D: Disk + Drop> NodeStore for SqlStore<D> {
-    ghost use Rattle.std.specs.Prelude.{◌≡◌, ◌≢◌, ℕ, false, OnOk, OnErr, IfErr, IsTrue};
-    ghost use Rattle.durable.specs.Faults.{count_after};
-    ghost use Rattle.durable.specs.Records.{Places};
-    ghost use Rattle.durable.specs.declared.fault.StoreFault.TheVariants.{Reopen, Damaged};
+    ghost use Rattle.std.specs.Prelude.{◌≡◌, ◌≢◌, ◌⊎◌, ◌++◌, ℕ, [], false, Ok, Err, OnOk, OnErr, IfErr, IsTrue};
+    ghost use Rattle.durable.specs.Faults.{is_device_fault, count_after};
+    ghost use Rattle.durable.specs.Records.{Places, IsAllOrNone, written};
+    ghost use Rattle.durable.specs.Rooms.{LacksRoom};
+    ghost use Rattle.durable.specs.declared.fault.StoreFault.TheVariants.{Reopen, NoMemory, Damaged, Full};
     ghost use Rattle.units.specs.Code.{node_text};
-    ghost use Rattle.durable.specs.Stores.{IsHonest, MayHold, content, is_waiting, faults, node_of, owner, IsReopeningFault};
+    ghost use Rattle.durable.specs.Stores.{IsHonest, MayHold, content, is_waiting, faults, disk_faults, node_of, owner, IsReopeningFault};
 
     ghost is_honest = { λ s. IsHonest D.Disk s };
 
@@ -175,7 +177,24 @@ impl<D: Disk + Drop> NodeStore for SqlStore<D> {
 
     ghost is_own = { λ s. owner D.Disk s ≡ node_text (node_of D.Disk s) };
 
-    fn append(&mut self, batch: &[Input]) -> Result<(), StoreFault> {
+    /// `Full`: a call of the files failed, or the count of the places with the batch is not below 2^62, or SQLite itself refuses one of the records.
+    fn append(&mut self, batch: &[Input]) -> Result<(), StoreFault>
+        ensures reopen { IsTrue (is_waiting D.Disk self.old) → (result ≡ Err Reopen) × (self.new ≡ self.old) }
+        ensures named { is_waiting D.Disk self.old ≡ false → IfErr result (λ e. (e ≡ NoMemory) ⊎ IsTrue (is_device_fault e)) }
+        ensures stops { OnErr result (IsTrue (is_waiting D.Disk self.new)) }
+        ensures runs { OnOk result (is_waiting D.Disk self.new ≡ false) }
+        ensures honest { IsHonest D.Disk self.new → IsHonest D.Disk self.old }
+        ensures empty { is_waiting D.Disk self.old ≡ false → batch.now ≡ [] → (result ≡ Ok tt) × (self.new ≡ self.old) }
+        ensures ok { IsHonest D.Disk self.new → OnOk result (content D.Disk self.new ≡ content D.Disk self.old ++ written batch.now) }
+        ensures refused { IsHonest D.Disk self.new → is_waiting D.Disk self.old ≡ false → IfErr result (λ e. is_device_fault e ≡ false → (next : Places) → MayHold D.Disk self.new next → next ≡ content D.Disk self.old) }
+        ensures crash { IsHonest D.Disk self.new → is_waiting D.Disk self.old ≡ false → (next : Places) → MayHold D.Disk self.new next → IsAllOrNone (content D.Disk self.old) batch.now next }
+        ensures durable { IsHonest D.Disk self.new → is_waiting D.Disk self.new ≡ false → (next : Places) → MayHold D.Disk self.new next → next ≡ content D.Disk self.new }
+        ensures cause { IfErr result (λ e. faults D.Disk self.new ≡ count_after (faults D.Disk self.old) e) }
+        ensures count { OnOk result (faults D.Disk self.new ≡ faults D.Disk self.old) }
+        ensures node { node_of D.Disk self.new ≡ node_of D.Disk self.old }
+        ensures owner { IsHonest D.Disk self.new → is_waiting D.Disk self.new ≡ false → owner D.Disk self.new ≡ owner D.Disk self.old }
+        ensures full { IsHonest D.Disk self.new → result ≡ Err Full → LacksRoom (content D.Disk self.old) batch.now (disk_faults D.Disk self.old) (disk_faults D.Disk self.new) }
+    {
         match self.link.append(batch) {
             Ok(()) => Ok(()),
             Err(fault) => {
@@ -205,7 +224,8 @@ impl<D: Disk + Drop> NodeStore for SqlStore<D> {
         }
     }
 
-    /// `Damaged(0)`, `WrongVersion`, `WrongNode` as of an opening. After a sync that failed the same files can't be used again, and every reopening answers `Device`.
+    /// Fails with `Damaged(0)`, `WrongVersion` and `WrongNode` as `open_files` does. After a sync that failed the same files can't be used again, and every
+    /// reopening fails with `Device`.
     fn reopen(&mut self) -> Result<(), StoreFault>
         ensures named { IfErr result (λ e. e ≢ Reopen) }
         ensures places { IfErr result (λ e. (p : ℕ) → e ≡ Damaged p → p ≡ 0) }

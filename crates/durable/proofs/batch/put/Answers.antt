@@ -1,10 +1,15 @@
-use Rattle.std.proofs.Common.{Ok, pos, ap, ◌∙◌, [], ◌∷◌, arith}
+use Rattle.std.proofs.Common.{◌≡◌, ◌⊎◌, Ok, Err, IfErr, pos, sym, subst, ap, ◌∙◌, [], ◌∷◌, rules, arith}
 use Rattle.std.proofs.lemmas.Int.{ints}
 use Rattle.sqlite.specs.State.{HasCleanDisk, State}
 use Rattle.sqlite.specs.Held.{state}
 use Rattle.sqlite.specs.declared.types.Value.TheVariants.{Int, Text}
 use Rattle.durable.specs.Held.{IsInside, HasMore}
 use Rattle.durable.proofs.Steps.{put_ok, was_clean, inside_keeps}
+use Rattle.sqlite_disk.specs.Disk.{MoreFaults}
+use Rattle.durable.specs.Faults.{told}
+use Rattle.durable.specs.Rooms.{IsRefused}
+use Rattle.durable.specs.declared.fault.StoreFault.TheVariants.{Full}
+use Rattle.durable.proofs.NoRoom.{put-full}
 use Rattle.durable.proofs.batch.put.Goals as goal
 
 abbrev old : (g : _) → goal.In_ok-execute g → State
@@ -32,3 +37,15 @@ returns-clause-kept g c clean =
     let early = was_clean (old g c) (new g c) _ c.execute.ensures.survives clean in
     let inside = c.requires.inside early in
     inside_keeps _ _ (old g c) (new g c) (Ok c.in_ok-execute.field-0) (c.in_ok-execute.ensures.runs clean inside.inside)
+
+pub returns-in_err-execute-clause-full : goal.returns-in_err-execute-clause-full
+returns-in_err-execute-clause-full g c clean =
+    let was = state g.S.Store c.args.tx.now.conn.now in
+    let is = state g.S.Store c.execute.new.self.conn.now in
+    let early = was_clean was is _ c.execute.ensures.survives clean in
+    let ready = c.requires.inside early in
+    let same : c.from_residual.result ≡ Err c.in_err-execute.field-0.0 = search rules in
+    subst (λ r. IfErr r (λ e. told e ≡ Full → MoreFaults was.faults is.faults ⊎ IsRefused c.args.body.now)) (sym same)
+    (put-full was is _ c.args.body.now c.in_err-execute.field-0.0
+    (ap (λ z. Int z ∷ Text c.args.body.now ∷ []) (grind (arith, ints, c.requires.small) ∙ ap pos (c.requires.place early)))
+    ready (c.in_err-execute.ensures.runs clean ready.inside))

@@ -1,4 +1,4 @@
-use Rattle.std.proofs.Common.{◌∷◌, [], ◌++◌, ◌∙◌, map, take, subst, sym, ap, arith}
+use Rattle.std.proofs.Common.{◌≡◌, inl, inr, ◌∷◌, [], ◌++◌, ◌∙◌, Err, IfErr, map, take, subst, sym, ap, rules, arith}
 use Rattle.std.proofs.lemmas.List.{map_more}
 use Rattle.sqlite.specs.Held.{state}
 use Rattle.sqlite.proofs.StateLemmas.{survives_then}
@@ -6,6 +6,10 @@ use Rattle.sqlite.proofs.InsideLemmas.{keeps_then}
 use Rattle.durable.specs.Bodies.{items}
 use Rattle.durable.specs.Held.{HasMore}
 use Rattle.durable.proofs.Steps.{was_clean, more_then}
+use Rattle.durable.specs.Faults.{told}
+use Rattle.durable.specs.Rooms.{HasNoRoom, IsRefused}
+use Rattle.durable.specs.declared.fault.StoreFault.TheVariants.{Full}
+use Rattle.durable.proofs.NoRoom.{bodies_of, refused-at}
 use Rattle.durable.proofs.batch.put_all.Goals as goal
 
 pub loop-body-preserved : goal.loop-body-preserved
@@ -26,3 +30,15 @@ loop-body-preserved g c =
           let same = ap (λ x. bodies ++ x ∷ []) (v.value ∙ ap items i) ∙ sym (map_more items c.args.batch.now c.loop-body.body-index c.body-item.result (omega arith)) in
           (e.inside clean, subst (λ xs. HasMore old.now.trees xs new.now.trees) same (more_then old.now.trees mid.now.trees new.now.trees bodies (c.deref.result.now ∷ []) before (e.more clean)));
     }
+
+pub returns-in_err-put-clause-full : goal.returns-in_err-put-clause-full
+returns-in_err-put-clause-full g c clean =
+    let old = state g.S.Store c.args.tx.now.conn.now in
+    let mid = state g.S.Store c.loop-body.tx.conn.now in
+    let new = state g.S.Store c.put.new.tx.conn.now in
+    let up = c.loop-body.invariant.survives.counts in
+    let same : c.from_residual.result ≡ Err c.in_err-put.field-0.0 = search rules in
+    subst (λ r. IfErr r (λ e. told e ≡ Full → HasNoRoom old.faults new.faults (bodies_of c.args.batch.now))) (sym same) (λ full. elim (c.in_err-put.ensures.full clean full) [
+      | inl more ↦ inl (omega (arith, up, more))
+      | inr refused ↦ inr (refused-at c.args.batch.now c.loop-body.body-index c.body-item.result (omega arith) (subst IsRefused (c.deref.ensures.value ∙ ap items c.body-item.is) refused))
+    ])

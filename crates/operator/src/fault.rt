@@ -68,7 +68,7 @@ pub enum OpFault {
     Read,
     /// The output could not be written, but for that many of its first bytes.
     Write(u64),
-    /// The node's store has that fault. Want of memory is `NoMemory`: see `store_fault`.
+    /// The node's store has that fault. Out of memory is `NoMemory`: see `store_fault`.
     Store { node: Node, fault: StoreFault },
     /// Out of memory.
     NoMemory,
@@ -106,7 +106,7 @@ impl OpFault {
     }
 }
 
-/// What a fault of the node's store is to a command: `NoMemory` for want of memory, else `Store`.
+/// What a fault of the node's store is to a command: `NoMemory` for out of memory, else `Store`.
 pub fn store_fault(node: Node, fault: StoreFault) -> OpFault
     ensures { result ≡ of_store node fault }
 {

@@ -245,6 +245,43 @@ fn tells_how_much_was_written(rt: HostRuntime) {
     );
 }
 
+/// Takes one byte at every third write. The other writes are interrupted.
+#[derive(Drop)]
+struct Halting {
+    interrupted: u8,
+    taken: usize,
+}
+
+impl Write for Halting {
+    fn write(&mut self, bytes: &[u8]) -> io::Result<usize> {
+        if self.interrupted < 2 {
+            self.interrupted += 1;
+            return Err(ErrorKind::Interrupted.into());
+        }
+        self.interrupted = 0;
+        let taken = bytes.len().min(1);
+        self.taken = self.taken.saturating_add(taken);
+        Ok(taken)
+    }
+
+    fn flush(&mut self) -> io::Result<()> {
+        Ok(())
+    }
+}
+
+#[test]
+fn writes_on_after_interruptions(rt: HostRuntime) {
+    let input = text_of(rt.alloc(), &[SCHEME, "\n", ACCEPTED]).expect(&rt, "memory for a test");
+    let (_, whole) = rehearsed(&rt, input.as_str());
+    let mut reader = input.as_str().as_bytes();
+    let mut writer = Halting {
+        interrupted: 0,
+        taken: 0,
+    };
+    assert_eq!(rt; rehearse(rt.alloc(), &mut reader, &mut writer), Ok(()));
+    assert_eq!(rt; writer.taken, whole.len());
+}
+
 #[test]
 fn fault_lines(rt: HostRuntime) {
     let input = OpFault::Input {

@@ -81,7 +81,7 @@ impl<D: Disk + Drop> SqlStore<D> {
     }
 
     /// Closes the store, and gives both files back with no call of the device, so that it can't fail. They hold the content and
-    /// the owner as they were, now and after a crash. Where a fault waits for a reopening, an opening of them settles the content.
+    /// the owner as they were, now and after a crash. If the store had to be reopened first, opening these files decides the content.
     pub fn close_files(self) -> Files<D>
         ensures honest { AreClean D.Disk result.log result.db → IsHonest D.Disk self }
         ensures left { (db : Trees) → MayFind D.Disk result db → ∥ MayHold D.Disk self (slots_in db) ∥₁ }

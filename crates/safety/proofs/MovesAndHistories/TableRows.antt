@@ -1,7 +1,8 @@
 -- The rows of the status tables, read backwards: if a row moves, which status it started from, which word it
--- answered and where it leads. Each lemma goes through all statuses of one table, and `cc` refutes the cases that
--- the table does not have; of a column without a word, the rows that move are computed (`one_moves`). The lemmas about `Known` also cover transactions that are unknown, or known without a
--- content. The last section shows which inputs always have a row, so that the table is no cause of a refusal.
+-- told and where it leads. Each lemma goes through all statuses of one table, and `cc` refutes the cases that
+-- the table does not have; of a column without a word, the rows that move are computed (`one_moves`). The lemmas
+-- about `Known` also cover transactions that are unknown, or known without a content. The last section shows which
+-- inputs always have a row, so that the table is no cause of a refusal.
 use Rattle.std.proofs.Common.{◌≡◌, ◌⊎◌, ℕ, List, [], ◌∷◌, Bool, true, false, Option, Some, None, inl, inr, refl, sym, ap, subst, ◌∙◌}
 use Rattle.std.specs.Prelude.{◌&&◌, filter}
 use Rattle.std.specs.Option.{option_map_or}
@@ -15,7 +16,8 @@ use Rattle.status.specs.declared.words.Known.{Known}
 use Rattle.status.specs.declared.words.Known.TheVariants.{Unknown, Bare, Stands}
 use Rattle.status.specs.declared.words.Row.{Row}
 use Rattle.status.specs.declared.words.Row.TheVariants.{Move, Repeat, Late, Refused}
-use Rattle.status.specs.declared.words.RowInput.TheVariants.{Propose, Notified, CleanUp, RequestOrder, RepeatedRequestOrder, Request}
+use Rattle.status.specs.declared.words.RowInput.{RowInput}
+use Rattle.status.specs.declared.words.RowInput.TheVariants.{Propose, EqualProposal, Notified, CleanUp, RequestOrder, RepeatedRequestOrder, Request}
 use Rattle.status.specs.declared.words.Status.{Status}
 use Rattle.status.specs.declared.words.Status.TheVariants.{Proposed, Checked, Accepted, Rejected, Terminated, Cancelled, Completed}
 use Rattle.wire.specs.Notices.{notice_status, notice_codes}
@@ -226,35 +228,63 @@ log_asked (Stands Terminated) new h = absurd (cc (h))
 log_asked (Stands Cancelled) new h = absurd (cc (h))
 log_asked (Stands Completed) new h = absurd (cc (h))
 
--- a proposal of a transaction that is known moves nothing
-pub acquirer_offered : (x : Transition) (found : List ℕ) (new : Status) → acquirer_row (known (Some x)) (offered (content_in (Some x)) found) ≡ Move new → ⊥
-acquirer_offered x found new h = go x.content x.new found new h
-  where
-    go : (k : Option Content) (s : Status) (found : List ℕ) (new : Status) → acquirer_row (option_map_or (λ c. Stands s) k Bare) (offered k found) ≡ Move new → ⊥
-    go None s [] new h = cc (h)
-    go None s (c ∷ cs) new h = cc (h)
-    go (Some k) Proposed found new h = cc (h)
-    go (Some k) Checked found new h = cc (h)
-    go (Some k) Accepted found new h = cc (h)
-    go (Some k) Rejected found new h = cc (h)
-    go (Some k) Terminated found new h = cc (h)
-    go (Some k) Cancelled found new h = cc (h)
-    go (Some k) Completed found new h = cc (h)
+-- ---- a proposal of a transaction that is known
 
--- a proposal of a transaction that is known moves nothing
+acquirer_equal : (s : Status) → acquirer_row (Stands s) EqualProposal ≡ Repeat
+acquirer_equal Proposed = refl
+acquirer_equal Checked = refl
+acquirer_equal Accepted = refl
+acquirer_equal Rejected = refl
+acquirer_equal Terminated = refl
+acquirer_equal Cancelled = refl
+acquirer_equal Completed = refl
+
+log_equal : (s : Status) → log_row (Stands s) EqualProposal ≡ Repeat
+log_equal Proposed = refl
+log_equal Checked = refl
+log_equal Accepted = refl
+log_equal Rejected = refl
+log_equal Terminated = refl
+log_equal Cancelled = refl
+log_equal Completed = refl
+
+acquirer_bare : (found : List ℕ) → acquirer_row Bare (offered None found) ≡ Late
+acquirer_bare [] = refl
+acquirer_bare (c ∷ cs) = refl
+
+log_bare : (found : List ℕ) → log_row Bare (offered None found) ≡ Late
+log_bare [] = refl
+log_bare (c ∷ cs) = refl
+
+-- it is a repeat, or late where the record has no content, by the table of the acquirer and by that of the log
+module _ (row : Known → RowInput → Row) (equal : (s : Status) → row (Stands s) EqualProposal ≡ Repeat) (bare : (found : List ℕ) → row Bare (offered None found) ≡ Late) where
+  abbrev OfferRow : Transition → List ℕ → Row
+  OfferRow x found = row (known (Some x)) (offered (content_in (Some x)) found)
+
+  known_offer : (x : Transition) (found : List ℕ) → (OfferRow x found ≡ Repeat) ⊎ (OfferRow x found ≡ Late)
+  known_offer x found = go x.content
+    where
+      go : (k : Option Content) → (row (option_map_or (λ c. Stands x.new) k Bare) (offered k found) ≡ Repeat) ⊎ (row (option_map_or (λ c. Stands x.new) k Bare) (offered k found) ≡ Late)
+      go None = inr (bare found)
+      go (Some k) = inl (equal x.new)
+
+  moves_nothing : (x : Transition) (found : List ℕ) (new : Status) → OfferRow x found ≡ Move new → ⊥
+  moves_nothing x found new h = elim (known_offer x found) [
+    | inl e ↦ let y : Repeat ≡ Move new = sym e ∙ h in cc (y)
+    | inr e ↦ let y : Late ≡ Move new = sym e ∙ h in cc (y)
+  ]
+
+  has_row : (x : Transition) (found : List ℕ) → OfferRow x found ≡ Refused → ⊥
+  has_row x found h = elim (known_offer x found) [
+    | inl e ↦ let y : Repeat ≡ Refused = sym e ∙ h in cc (y)
+    | inr e ↦ let y : Late ≡ Refused = sym e ∙ h in cc (y)
+  ]
+
+pub acquirer_offered : (x : Transition) (found : List ℕ) (new : Status) → acquirer_row (known (Some x)) (offered (content_in (Some x)) found) ≡ Move new → ⊥
+acquirer_offered = moves_nothing acquirer_row acquirer_equal acquirer_bare
+
 pub log_offered : (x : Transition) (found : List ℕ) (new : Status) → log_row (known (Some x)) (offered (content_in (Some x)) found) ≡ Move new → ⊥
-log_offered x found new h = go x.content x.new found new h
-  where
-    go : (k : Option Content) (s : Status) (found : List ℕ) (new : Status) → log_row (option_map_or (λ c. Stands s) k Bare) (offered k found) ≡ Move new → ⊥
-    go None s [] new h = cc (h)
-    go None s (c ∷ cs) new h = cc (h)
-    go (Some k) Proposed found new h = cc (h)
-    go (Some k) Checked found new h = cc (h)
-    go (Some k) Accepted found new h = cc (h)
-    go (Some k) Rejected found new h = cc (h)
-    go (Some k) Terminated found new h = cc (h)
-    go (Some k) Cancelled found new h = cc (h)
-    go (Some k) Completed found new h = cc (h)
+log_offered = moves_nothing log_row log_equal log_bare
 
 -- ---- the acquirer takes no unit in that it holds
 
@@ -342,34 +372,12 @@ unless_same true Refused h = refl
 pub acquirer_offer_row : (o : Option Transition) (found : List ℕ) → acquirer_row (known o) (offered (content_in o) found) ≡ Refused → ⊥
 acquirer_offer_row None [] h = cc (h)
 acquirer_offer_row None (c ∷ cs) h = cc (h)
-acquirer_offer_row (Some x) found h = go x.content x.new found h
-  where
-    go : (k : Option Content) (s : Status) (found : List ℕ) → acquirer_row (option_map_or (λ c. Stands s) k Bare) (offered k found) ≡ Refused → ⊥
-    go None s [] h = cc (h)
-    go None s (c ∷ cs) h = cc (h)
-    go (Some k) Proposed found h = cc (h)
-    go (Some k) Checked found h = cc (h)
-    go (Some k) Accepted found h = cc (h)
-    go (Some k) Rejected found h = cc (h)
-    go (Some k) Terminated found h = cc (h)
-    go (Some k) Cancelled found h = cc (h)
-    go (Some k) Completed found h = cc (h)
+acquirer_offer_row (Some x) found h = has_row acquirer_row acquirer_equal acquirer_bare x found h
 
 pub log_offer_row : (o : Option Transition) (found : List ℕ) → log_row (known o) (offered (content_in o) found) ≡ Refused → ⊥
 log_offer_row None [] h = cc (h)
 log_offer_row None (c ∷ cs) h = cc (h)
-log_offer_row (Some x) found h = go x.content x.new found h
-  where
-    go : (k : Option Content) (s : Status) (found : List ℕ) → log_row (option_map_or (λ c. Stands s) k Bare) (offered k found) ≡ Refused → ⊥
-    go None s [] h = cc (h)
-    go None s (c ∷ cs) h = cc (h)
-    go (Some k) Proposed found h = cc (h)
-    go (Some k) Checked found h = cc (h)
-    go (Some k) Accepted found h = cc (h)
-    go (Some k) Rejected found h = cc (h)
-    go (Some k) Terminated found h = cc (h)
-    go (Some k) Cancelled found h = cc (h)
-    go (Some k) Completed found h = cc (h)
+log_offer_row (Some x) found h = has_row log_row log_equal log_bare x found h
 
 -- nothing stands Proposed at the log, so a request has a row
 pub log_request_row : (k : Known) → (k ≡ Stands Proposed → ⊥) → log_row k Request ≡ Refused → ⊥

@@ -1,4 +1,4 @@
-//! Worked rows of messages, records, lines, replies, the command line and `rehearse`: texts from outside, each public function
+//! Worked rows of messages, records, lines, replies, the command line, `rehearse` and `show`: texts from outside, each public function
 //! with enough memory, and streams that fail midway.
 #![tactic(auto)]
 
@@ -12,6 +12,10 @@ mod record_rows;
 mod rehearsal_rows;
 #[cfg(test)]
 mod reply_rows;
+#[cfg(test)]
+mod show_rows;
+#[cfg(test)]
+mod streams;
 #[cfg(test)]
 mod toy_core;
 #[cfg(test)]

@@ -1,3 +1,4 @@
+use crate::streams::Full;
 use durable::StoreFault;
 use operator::{Action, Cause, OpFault, UsageFault, parse_words, rehearse, store_fault};
 use std::alloc::{AllocError, Global};
@@ -210,27 +211,6 @@ fn reads_on_after_an_interruption_alone(rt: HostRuntime) {
         let mut writer = Vec::new(rt.alloc());
         assert_eq!(rt; rehearse(rt.alloc(), &mut reader, &mut writer), Err(fault));
         assert!(rt; writer.is_empty());
-    }
-}
-
-/// Takes that many bytes, two at a time, and then fails.
-#[derive(Drop)]
-struct Full {
-    room: usize,
-}
-
-impl Write for Full {
-    fn write(&mut self, bytes: &[u8]) -> io::Result<usize> {
-        if self.room == 0 {
-            return Err(ErrorKind::Other.into());
-        }
-        let taken = bytes.len().min(self.room).min(2);
-        self.room -= taken;
-        Ok(taken)
-    }
-
-    fn flush(&mut self) -> io::Result<()> {
-        Ok(())
     }
 }
 

@@ -20,9 +20,12 @@ use Rattle.world.specs.Kept.{outgoing}
 
 -- ---- one more input
 
-pub history-snoc : (scheme : Scheme) (n : Node) (es : List Entry) (xs : List Input) (i : Input) → history_from scheme n es (xs ++ i ∷ []) ≡ extend scheme n (history_from scheme n es xs) i
-history-snoc scheme n es [] i = refl
-history-snoc scheme n es (x ∷ xs) i = history-snoc scheme n (extend scheme n es x) xs i
+history-append : (scheme : Scheme) (n : Node) (es : List Entry) (xs ys : List Input) → history_from scheme n es (xs ++ ys) ≡ history_from scheme n (history_from scheme n es xs) ys
+history-append scheme n es [] ys = refl
+history-append scheme n es (x ∷ xs) ys = history-append scheme n (extend scheme n es x) xs ys
+
+history-snoc : (scheme : Scheme) (n : Node) (es : List Entry) (xs : List Input) (i : Input) → history_from scheme n es (xs ++ i ∷ []) ≡ extend scheme n (history_from scheme n es xs) i
+history-snoc scheme n es xs i = history-append scheme n es xs (i ∷ [])
 
 length_from : (scheme : Scheme) (n : Node) (es : List Entry) (xs : List Input) → length (history_from scheme n es xs) ≡ length es + length xs
 length_from scheme n es [] = omega arith
@@ -143,10 +146,6 @@ later scheme n c es (x ∷ xs) h =
       behind = more.behind ∙ append_assoc (outgoing es) (map (numbered (length es)) ms) more.rest;
       all = from-append c (map (numbered (length es)) ms) more.rest (from-map c (length es) ms h) more.all;
     }
-
-history-append : (scheme : Scheme) (n : Node) (es : List Entry) (xs ys : List Input) → history_from scheme n es (xs ++ ys) ≡ history_from scheme n (history_from scheme n es xs) ys
-history-append scheme n es [] ys = refl
-history-append scheme n es (x ∷ xs) ys = history-append scheme n (extend scheme n es x) xs ys
 
 -- the message with that key of the first c records
 pub sent_by_first : (scheme : Scheme) (n : Node) (xs : List Input) (c key : ℕ) → c ≤ length xs → slice_get (sends (history scheme n (take c xs))) key ≡ look c (slice_get (outgoing (history scheme n xs)) key)

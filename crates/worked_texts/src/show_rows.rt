@@ -1,8 +1,9 @@
+use crate::streams::Full;
 use durable::{Kept, MemoryStore, NodeStore, StoreFault};
 use operator::{Cause, OpFault, node_of, read_scheme, show};
 use scheme::Scheme;
 use std::alloc::Global;
-use std::io::{self, ErrorKind, Read, Write};
+use std::io::{self, ErrorKind, Read};
 use std::test::Fail;
 use units::{Code, Node};
 use wire::{Input, decode_input};
@@ -59,27 +60,6 @@ fn shows_no_records(rt: HostRuntime) -> Result<(), Fail> {
     );
     assert_eq!(rt; writer.as_slice(), b"end\n".as_slice());
     Ok(())
-}
-
-/// Takes that many bytes, two at a time, and then fails.
-#[derive(Drop)]
-struct Full {
-    room: usize,
-}
-
-impl Write for Full {
-    fn write(&mut self, bytes: &[u8]) -> io::Result<usize> {
-        if self.room == 0 {
-            return Err(ErrorKind::Other.into());
-        }
-        let taken = bytes.len().min(self.room).min(2);
-        self.room -= taken;
-        Ok(taken)
-    }
-
-    fn flush(&mut self) -> io::Result<()> {
-        Ok(())
-    }
 }
 
 #[test]

@@ -1,0 +1,23 @@
+//! Writers that fail midway.
+use std::io::{self, ErrorKind, Write};
+
+/// Takes that many bytes, two at a time, and then fails.
+#[derive(Drop)]
+pub struct Full {
+    pub room: usize,
+}
+
+impl Write for Full {
+    fn write(&mut self, bytes: &[u8]) -> io::Result<usize> {
+        if self.room == 0 {
+            return Err(ErrorKind::Other.into());
+        }
+        let taken = bytes.len().min(self.room).min(2);
+        self.room -= taken;
+        Ok(taken)
+    }
+
+    fn flush(&mut self) -> io::Result<()> {
+        Ok(())
+    }
+}

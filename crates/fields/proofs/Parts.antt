@@ -1,7 +1,8 @@
 -- What one part of an object finds or lacks, seen from the whole.
-use Rattle.std.proofs.Common.{◌≡◌, sym, subst, Result, Ok, Err}
+use Rattle.std.proofs.Common.{◌≡◌, sym, subst, Option, Some, None, Result, Ok, Err}
+use Rattle.std.specs.Option.{ok_or}
 use Rattle.std.specs.Result.{IsErrAnd}
-use Rattle.fields.specs.Found.{Finds}
+use Rattle.fields.specs.Found.{Finds, Reads}
 use Rattle.fields.specs.declared.fault.ReadFault.{ReadFault}
 use Rattle.fields.specs.declared.fault.ReadFault.TheVariants.{Shape, NoMemory}
 
@@ -20,3 +21,19 @@ pub finds_same : {X : Type 0} (P Q : X → Type 0) (r : Result X ReadFault) → 
 finds_same P Q (Ok x) to from f = to x f
 finds_same P Q (Err Shape) to from f = λ x q. f x (from x q)
 finds_same P Q (Err NoMemory) to from f = tt
+
+-- the whole is not there where the part isn't
+pub reads_none_too : {X Y : Type 0} (P : X → Type 0) (Q : Y → Type 0) (r : Option Y) → r ≡ None → ((y : Y) → Q y → (x : X) × P x) → Reads {X = X} P None → Reads Q r
+reads_none_too P Q (Some y) none part f = absurd (cc (none))
+reads_none_too P Q None none part f = λ y q. let p = part y q in f p.0 p.1
+
+-- what was read is as described
+pub read_so : {X : Type 0} (P : X → Type 0) (o : Option X) (x : X) → Ok x ≡ ok_or o Shape → Reads P o → P x
+read_so P (Some y) x e is = let same : y ≡ x = cc (e) in subst P same is
+read_so P None x e is = absurd (cc (e))
+
+-- the whole is lacking where a part was not read
+pub not_read_too : {X Y : Type 0} (P : X → Type 0) (Q : Y → Type 0) (o : Option X) (e : ReadFault) (r : Result Y ReadFault) → Err e ≡ ok_or o Shape → IsErrAnd r (λ f. f ≡ e)
+    → ((y : Y) → Q y → (x : X) × P x) → Reads P o → Finds Q r
+not_read_too P Q (Some x) e r is same part f = absurd (cc (is))
+not_read_too P Q None e r is same part f = let shape : e ≡ Shape = cc (is) in lacks_too P Q e r same part (subst (λ g. Finds {X = _} P (Err g)) (sym shape) f)

@@ -1,5 +1,5 @@
 -- What a reader returns: a value as described, or that there is none.
-use Rattle.std.specs.Prelude.{Result, Ok, Err}
+use Rattle.std.specs.Prelude.{Option, Some, None, Result, Ok, Err}
 use Rattle.fields.specs.declared.fault.ReadFault.{ReadFault}
 use Rattle.fields.specs.declared.fault.ReadFault.TheVariants.{Shape, NoMemory}
 
@@ -8,3 +8,8 @@ abbrev pub Finds : {X : Type 0} → (X → Type 0) → Result X ReadFault → Ty
 Finds P (Ok x) = P x
 Finds {X} P (Err Shape) = (x : X) → P x → ⊥
 Finds P (Err NoMemory) = Unit {0}
+
+-- a value as described, or None where there is none
+abbrev pub Reads : {X : Type 0} → (X → Type 0) → Option X → Type 0
+Reads P (Some x) = P x
+Reads {X} P None = (x : X) → P x → ⊥

@@ -1,10 +1,8 @@
 -- A value writes one list of registries at most.
-use Rattle.std.proofs.Common.{true, rules, codes, ◌≡◌, ℕ, List, Some, sym, subst, ◌∙◌}
-use Rattle.units.specs.Facts.{IsRange}
+use Rattle.std.proofs.Common.{true, rules, codes, ◌≡◌, ℕ, List, sym, subst, ◌∙◌}
 use Rattle.units.specs.Code.{code_text}
 use Rattle.units.specs.Block.{kind_text, IsRawText}
 use Rattle.units.specs.declared.code.Code.{Code}
-use Rattle.units.specs.declared.block.RawBlock.{RawBlock}
 use Rattle.units.specs.declared.block.Block.{Block}
 use Rattle.units.specs.declared.block.Kind.{Kind}
 use Rattle.units.proofs.OneText.{block_same, kind_same, code_text_same, raw_same}

@@ -1,4 +1,4 @@
-//! Reading registries from a JSON value. Every fault here is `Shape` or out of memory.
+//! Reading registries from a JSON value.
 ghost use Rattle.std.specs.Prelude.{◌≡◌, ◌≤◌, ◌∷◌, ℕ, IfSome, IfNone, codes};
 ghost use Rattle.serde_json.specs.Data.{boolean, string};
 ghost use Rattle.serde_json.specs.View.{view, items_view};
@@ -6,7 +6,7 @@ ghost use Rattle.units.specs.Code.{code_text};
 ghost use Rattle.units.specs.declared.block.Block.{Block};
 ghost use Rattle.units.specs.declared.block.Kind.{Kind};
 ghost use Rattle.fields.specs.Fields.{HasAt, EachIs, HasList};
-ghost use Rattle.fields.specs.Found.{Finds};
+ghost use Rattle.fields.specs.Found.{Finds, Reads};
 ghost use Rattle.scheme.specs.Grammar.{HasNoTwins, IsAccount, IsKind, IsBlock, IsAllotment, IsMember, IsWritten};
 ghost use Rattle.scheme.specs.Reading.{IsCount, AreKinds};
 
@@ -19,34 +19,30 @@ use units::limits::{LAST_ACCOUNT, MOST_RECORDS};
 use units::{Block, Code, Items, Kind};
 
 // The number at the key, from 1 to `most`.
-fn count_at(value: &Value, key: &str, most: u64) -> Result<u64, ReadFault>
-    ensures { Finds (IsCount key.now most (view value.now)) result }
+fn count_at(value: &Value, key: &str, most: u64) -> Option<u64>
+    ensures { Reads (IsCount key.now most (view value.now)) result }
 {
-    let Some(number) = number_at(value, key) else {
-        return Err(ReadFault::Shape);
-    };
+    let number = number_at(value, key)?;
     if (1..=most).contains(&number) {
-        Ok(number)
+        Some(number)
     } else {
-        Err(ReadFault::Shape)
+        None
     }
 }
 
 // The registry's code.
-fn code(value: &Value) -> Result<Code, ReadFault>
-    ensures { Finds (λ c. HasAt (view value.now) (codes "code") (string (code_text c))) result }
+fn code(value: &Value) -> Option<Code>
+    ensures { Reads (λ c. HasAt (view value.now) (codes "code") (string (code_text c))) result }
 {
-    let Some(text) = text_at(value, "code") else {
-        return Err(ReadFault::Shape);
-    };
-    Code::read(text).ok_or(ReadFault::Shape)
+    let text = text_at(value, "code")?;
+    Code::read(text)
 }
 
 // Whether the registry may take part in transfers.
-fn eligible(value: &Value) -> Result<bool, ReadFault>
-    ensures { Finds (λ b. HasAt (view value.now) (codes "eligible") (boolean b)) result }
+fn eligible(value: &Value) -> Option<bool>
+    ensures { Reads (λ b. HasAt (view value.now) (codes "eligible") (boolean b)) result }
 {
-    bool_at(value, "eligible").ok_or(ReadFault::Shape)
+    bool_at(value, "eligible")
 }
 
 // The account of that number.
@@ -162,7 +158,7 @@ fn allotment(alloc: Global, value: &Value) -> Result<Allotment, ReadFault>
     if !has_keys(value, 2) {
         return Err(ReadFault::Shape);
     }
-    let account = count_at(value, "account", LAST_ACCOUNT)?;
+    let account = count_at(value, "account", LAST_ACCOUNT).ok_or(ReadFault::Shape)?;
     let units = units(alloc, value)?;
     Ok(Allotment { account, units })
 }
@@ -196,8 +192,8 @@ fn member(alloc: Global, value: &Value) -> Result<Member, ReadFault>
     if !has_keys(value, 5) {
         return Err(ReadFault::Shape);
     }
-    let code = code(value)?;
-    let eligible = eligible(value)?;
+    let code = code(value).ok_or(ReadFault::Shape)?;
+    let eligible = eligible(value).ok_or(ReadFault::Shape)?;
     let accounts = accounts(alloc, value)?;
     let allotted = allotted(alloc, value)?;
     let kinds = kinds(alloc, value)?;
@@ -239,7 +235,7 @@ pub fn written(alloc: Global, value: &Value) -> Result<(u64, Listed), ReadFault>
     if !has_keys(value, 2) {
         return Err(ReadFault::Shape);
     }
-    let records = count_at(value, "records", MOST_RECORDS)?;
+    let records = count_at(value, "records", MOST_RECORDS).ok_or(ReadFault::Shape)?;
     let members = members(alloc, value)?;
     Ok((records, members))
 }

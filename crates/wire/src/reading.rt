@@ -2,7 +2,7 @@
 ghost use Rattle.std.specs.Prelude.{◌≡◌, ◌⊎◌, List, [], ℕ, IfOk, IfErr, IfSome, IfNone};
 ghost use Rattle.serde_json.specs.View.{view};
 ghost use Rattle.fields.specs.Fields.{HasAt};
-ghost use Rattle.fields.specs.Found.{Finds};
+ghost use Rattle.fields.specs.Found.{Finds, Reads};
 ghost use Rattle.units.specs.RefusalCodes.{not_a_message, out_of_memory};
 ghost use Rattle.status.specs.Content.{Content};
 ghost use Rattle.wire.specs.Messages.{IsMessage, IsLine};
@@ -31,24 +31,24 @@ const NO_MESSAGE: Refusal = Refusal {
 fn content(alloc: Global, value: &Value) -> Result<Content, ReadFault>
     ensures { Finds (HasContent (view value.now)) result }
 {
-    let account = whole_at(value, "account")?;
-    let to_account = whole_at(value, "to_account")?;
-    let acquirer = code_at(value, "to_registry")?;
+    let account = whole_at(value, "account").ok_or(ReadFault::Shape)?;
+    let to_account = whole_at(value, "to_account").ok_or(ReadFault::Shape)?;
+    let acquirer = code_at(value, "to_registry").ok_or(ReadFault::Shape)?;
     let units = blocks(alloc, value)?;
     Content::new(account, acquirer, to_account, units).ok_or(ReadFault::Shape)
 }
 
 // The status of a proposal.
-fn proposal_status(value: &Value) -> Result<ProposalStatus, ReadFault>
-    ensures { Finds (HasProposalStatus (view value.now)) result }
+fn proposal_status(value: &Value) -> Option<ProposalStatus>
+    ensures { Reads (HasProposalStatus (view value.now)) result }
 {
     if has_text(value, "status", "Proposed") {
-        return Ok(ProposalStatus::Proposed);
+        return Some(ProposalStatus::Proposed);
     }
     if has_text(value, "status", "Checked") {
-        return Ok(ProposalStatus::Checked);
+        return Some(ProposalStatus::Checked);
     }
-    Err(ReadFault::Shape)
+    None
 }
 
 // The notice, which has no codes.
@@ -97,10 +97,10 @@ fn proposal(alloc: Global, value: &Value) -> Result<Proposal, ReadFault>
     if !has_keys(value, 9) || !has_text(value, "call", "AcceptProposal") {
         return Err(ReadFault::Shape);
     }
-    let from = node_at(value, "from")?;
-    let to = node_at(value, "to")?;
-    let id = id_at(value, "transaction")?;
-    let status = proposal_status(value)?;
+    let from = node_at(value, "from").ok_or(ReadFault::Shape)?;
+    let to = node_at(value, "to").ok_or(ReadFault::Shape)?;
+    let id = id_at(value, "transaction").ok_or(ReadFault::Shape)?;
+    let status = proposal_status(value).ok_or(ReadFault::Shape)?;
     let content = content(alloc, value)?;
     Ok(Proposal {
         from,
@@ -117,9 +117,9 @@ fn notification(alloc: Global, value: &Value) -> Result<Notification, ReadFault>
     if !has_keys(value, 6) || !has_text(value, "call", "AcceptNotification") {
         return Err(ReadFault::Shape);
     }
-    let from = node_at(value, "from")?;
-    let to = node_at(value, "to")?;
-    let id = id_at(value, "transaction")?;
+    let from = node_at(value, "from").ok_or(ReadFault::Shape)?;
+    let to = node_at(value, "to").ok_or(ReadFault::Shape)?;
+    let id = id_at(value, "transaction").ok_or(ReadFault::Shape)?;
     let notice = notice(alloc, value)?;
     Ok(Notification {
         from,
@@ -129,16 +129,16 @@ fn notification(alloc: Global, value: &Value) -> Result<Notification, ReadFault>
     })
 }
 
-fn request(value: &Value) -> Result<Request, ReadFault>
-    ensures { Finds (IsRequest (view value.now)) result }
+fn request(value: &Value) -> Option<Request>
+    ensures { Reads (IsRequest (view value.now)) result }
 {
     if !has_keys(value, 4) || !has_text(value, "call", "RequestCancellation") {
-        return Err(ReadFault::Shape);
+        return None;
     }
     let from = node_at(value, "from")?;
     let to = node_at(value, "to")?;
     let id = id_at(value, "transaction")?;
-    Ok(Request { from, to, id })
+    Some(Request { from, to, id })
 }
 
 /// The message that the value writes.
@@ -149,7 +149,7 @@ pub fn message(alloc: Global, value: &Value) -> Result<Message, ReadFault>
         let proposal = proposal(alloc, value)?;
         Ok(Message::Proposal(proposal))
     } else if has_text(value, "call", "RequestCancellation") {
-        let request = request(value)?;
+        let request = request(value).ok_or(ReadFault::Shape)?;
         Ok(Message::Request(request))
     } else {
         let notification = notification(alloc, value)?;

@@ -6,7 +6,7 @@ ghost use Rattle.units.specs.Code.{code_text};
 ghost use Rattle.status.specs.Id.{id_text};
 ghost use Rattle.status.specs.Order.{IsOrder};
 ghost use Rattle.fields.specs.Fields.{HasAt};
-ghost use Rattle.fields.specs.Found.{Finds};
+ghost use Rattle.fields.specs.Found.{Finds, Reads};
 ghost use Rattle.wire.specs.Messages.{IsMessage};
 ghost use Rattle.wire.specs.Objects.{HasExactly, whole};
 ghost use Rattle.wire.specs.Records.{order_fields, IsRecord, IsRecordText};
@@ -31,65 +31,63 @@ fn order(alloc: Global, value: &Value) -> Result<Order, ReadFault>
     if !has_keys(value, 5) || !has_text(value, "input", "propose") {
         return Err(ReadFault::Shape);
     }
-    let account = whole_at(value, "account")?;
-    let to_account = whole_at(value, "to_account")?;
-    let to_registry = code_at(value, "to_registry")?;
+    let account = whole_at(value, "account").ok_or(ReadFault::Shape)?;
+    let to_account = whole_at(value, "to_account").ok_or(ReadFault::Shape)?;
+    let to_registry = code_at(value, "to_registry").ok_or(ReadFault::Shape)?;
     let units = raw_blocks(alloc, value)?;
     Order::new(account, to_registry, to_account, units).ok_or(ReadFault::Shape)
 }
 
 // The transaction of an order to ask for cancellation.
-fn request_order(value: &Value) -> Result<TransactionId, ReadFault>
-    ensures { Finds (λ t. HasExactly (view value.now) ((codes "input", string (codes "request")) ∷ (codes "transaction", string (id_text t)) ∷ [])) result }
+fn request_order(value: &Value) -> Option<TransactionId>
+    ensures { Reads (λ t. HasExactly (view value.now) ((codes "input", string (codes "request")) ∷ (codes "transaction", string (id_text t)) ∷ [])) result }
 {
     if !has_keys(value, 2) || !has_text(value, "input", "request") {
-        return Err(ReadFault::Shape);
+        return None;
     }
     id_at(value, "transaction")
 }
 
 // The account of an order of that word.
-fn account_order(value: &Value, word: &str) -> Result<Number, ReadFault>
-    ensures { Finds (IsAccountOrder (view value.now) word.now) result }
+fn account_order(value: &Value, word: &str) -> Option<Number>
+    ensures { Reads (IsAccountOrder (view value.now) word.now) result }
 {
     if !has_keys(value, 2) || !has_text(value, "input", word) {
-        return Err(ReadFault::Shape);
+        return None;
     }
     short_at(value, "account")
 }
 
 // The key of an acknowledgement.
-fn acknowledgement(value: &Value) -> Result<Number, ReadFault>
-    ensures { Finds (λ n. HasExactly (view value.now) ((codes "input", string (codes "ack")) ∷ (codes "key", whole n.value) ∷ [])) result }
+fn acknowledgement(value: &Value) -> Option<Number>
+    ensures { Reads (λ n. HasExactly (view value.now) ((codes "input", string (codes "ack")) ∷ (codes "key", whole n.value) ∷ [])) result }
 {
     if !has_keys(value, 2) || !has_text(value, "input", "ack") {
-        return Err(ReadFault::Shape);
+        return None;
     }
     short_at(value, "key")
 }
 
 // The moment of a clean-up.
-fn clean_up(value: &Value) -> Result<Moment, ReadFault>
-    ensures { Finds (λ t. HasExactly (view value.now) ((codes "input", string (codes "clean_up")) ∷ (codes "moment", whole t.seconds) ∷ [])) result }
+fn clean_up(value: &Value) -> Option<Moment>
+    ensures { Reads (λ t. HasExactly (view value.now) ((codes "input", string (codes "clean_up")) ∷ (codes "moment", whole t.seconds) ∷ [])) result }
 {
     if !has_keys(value, 2) || !has_text(value, "input", "clean_up") {
-        return Err(ReadFault::Shape);
+        return None;
     }
     moment_at(value, "moment")
 }
 
 // The registry of an eligibility order, and whether it may take part.
-fn eligibility(value: &Value) -> Result<(Code, bool), ReadFault>
-    ensures { Finds (λ p. HasExactly (view value.now) ((codes "input", string (codes "eligible")) ∷ (codes "may", boolean p.1) ∷ (codes "registry", string (code_text p.0)) ∷ [])) result }
+fn eligibility(value: &Value) -> Option<(Code, bool)>
+    ensures { Reads (λ p. HasExactly (view value.now) ((codes "input", string (codes "eligible")) ∷ (codes "may", boolean p.1) ∷ (codes "registry", string (code_text p.0)) ∷ [])) result }
 {
     if !has_keys(value, 3) || !has_text(value, "input", "eligible") {
-        return Err(ReadFault::Shape);
+        return None;
     }
     let registry = code_at(value, "registry")?;
-    let Some(may) = bool_at(value, "may") else {
-        return Err(ReadFault::Shape);
-    };
-    Ok((registry, may))
+    let may = bool_at(value, "may")?;
+    Some((registry, may))
 }
 
 // The message at the key `message`.
@@ -109,37 +107,37 @@ fn received(alloc: Global, value: &Value) -> Result<(Message, Moment), ReadFault
     if !has_keys(value, 3) || !has_text(value, "input", "received") {
         return Err(ReadFault::Shape);
     }
-    let moment = moment_at(value, "moment")?;
+    let moment = moment_at(value, "moment").ok_or(ReadFault::Shape)?;
     let message = message_at(alloc, value)?;
     Ok((message, moment))
 }
 
 // An input that is no order to transfer units and no message.
-fn small_input(value: &Value) -> Result<Input, ReadFault>
+fn small_input(value: &Value) -> Option<Input>
     requires propose { HasAt (view value.now) (codes "input") (string (codes "propose")) → ⊥ }
     requires received { HasAt (view value.now) (codes "input") (string (codes "received")) → ⊥ }
-    ensures { Finds (IsRecord (view value.now)) result }
+    ensures { Reads (IsRecord (view value.now)) result }
 {
     if has_text(value, "input", "open") {
-        return Ok(Input::OpenAccount(account_order(value, "open")?));
+        return Some(Input::OpenAccount(account_order(value, "open")?));
     }
     if has_text(value, "input", "close") {
-        return Ok(Input::CloseAccount(account_order(value, "close")?));
+        return Some(Input::CloseAccount(account_order(value, "close")?));
     }
     if has_text(value, "input", "ack") {
-        return Ok(Input::Ack(acknowledgement(value)?));
+        return Some(Input::Ack(acknowledgement(value)?));
     }
     if has_text(value, "input", "clean_up") {
-        return Ok(Input::CleanUp(clean_up(value)?));
+        return Some(Input::CleanUp(clean_up(value)?));
     }
     if has_text(value, "input", "eligible") {
         let (registry, may) = eligibility(value)?;
-        return Ok(Input::Eligible { registry, may });
+        return Some(Input::Eligible { registry, may });
     }
     if has_text(value, "input", "request") {
-        return Ok(Input::Request(request_order(value)?));
+        return Some(Input::Request(request_order(value)?));
     }
-    Err(ReadFault::Shape)
+    None
 }
 
 // The input that the value writes.
@@ -154,7 +152,7 @@ fn input(alloc: Global, value: &Value) -> Result<Input, ReadFault>
         let (message, moment) = received(alloc, value)?;
         return Ok(Input::Received { message, moment });
     }
-    small_input(value)
+    small_input(value).ok_or(ReadFault::Shape)
 }
 
 /// The input that a record's text writes, in JSON (RFC 8259). `Shape`: the text is no JSON in UTF-8,

@@ -1,11 +1,14 @@
-use Rattle.std.proofs.Common.{List, codes}
+use Rattle.std.proofs.Common.{ℕ, List, codes}
 use Rattle.serde_json.specs.View.{view}
 use Rattle.fields.specs.Fields.{HasAt}
-use Rattle.fields.proofs.Parts.{lacks_too}
+use Rattle.fields.proofs.Parts.{lacks_too, read_so}
+use Rattle.serde_json.specs.Data.{string}
+use Rattle.units.specs.Code.{code_text}
 use Rattle.units.specs.declared.block.Block.{Block}
+use Rattle.units.specs.declared.code.Code.{Code}
 use Rattle.status.specs.Content.{raws}
 use Rattle.status.proofs.Contents.{in_range}
-use Rattle.wire.specs.Objects.{blocks}
+use Rattle.wire.specs.Objects.{blocks, whole}
 use Rattle.wire.specs.Reading.{HasContent}
 use Rattle.wire.proofs.Told.{own_blocks, content_found}
 use Rattle.wire.proofs.reading.content.Goals as goal
@@ -18,6 +21,10 @@ returns-in_err-units c =
 
 pub returns : goal.returns
 returns c =
-    rw c.ok_or.ensures.value
-    (content_found (view c.args.value.now) c.in_ok-account.account c.in_ok-to_account.to_account c.in_ok-acquirer.acquirer (raws c.in_ok-units.units) c.new.result c.in_ok-account.ensures c.in_ok-to_account.ensures
-    c.in_ok-acquirer.ensures c.in_ok-units.ensures (in_range c.in_ok-units.units) c.new.ensures.some c.new.ensures.valid c.new.ensures.none)
+    let d = view c.args.value.now in
+    let account = read_so (λ (n : ℕ). HasAt d (codes "account") (whole n)) c.whole_at.result c.in_ok-account.account c.in_ok-account.ensures.value c.whole_at.ensures in
+    let to_account = read_so (λ (n : ℕ). HasAt d (codes "to_account") (whole n)) c.whole_at-2.result c.in_ok-to_account.to_account c.in_ok-to_account.ensures.value c.whole_at-2.ensures in
+    let acquirer = read_so (λ (n : Code). HasAt d (codes "to_registry") (string (code_text n))) c.code_at.result c.in_ok-acquirer.acquirer c.in_ok-acquirer.ensures.value c.code_at.ensures in
+    rw c.ok_or-4.ensures.value
+    (content_found d c.in_ok-account.account c.in_ok-to_account.to_account c.in_ok-acquirer.acquirer (raws c.in_ok-units.units) c.new.result account to_account acquirer
+    c.in_ok-units.ensures (in_range c.in_ok-units.units) c.new.ensures.some c.new.ensures.valid c.new.ensures.none)

@@ -19,6 +19,8 @@ pub mod NoRoom
 pub mod Refusing
 pub mod Sparing
 pub mod Stores
+pub mod Linked
+pub mod Promises
 pub mod Fronts
 pub mod PlacesRead
 pub mod Opened

@@ -1,5 +1,5 @@
 -- Which faults are those of the device or of size.
-use Rattle.std.specs.Prelude.{ℕ, ◌+◌, ◌%◌, ◌^◌, Bool, true, false}
+use Rattle.std.specs.Prelude.{ℕ, ◌+◌, ◌%◌, ◌^◌, Bool, true, false, Result, Ok, Err}
 use Rattle.sqlite.specs.declared.error.Error.{Error}
 use Rattle.sqlite.specs.declared.error.Error.TheVariants.{SqliteFailure}
 use Rattle.sqlite.specs.declared.error.ErrorCode.TheVariants as code
@@ -38,3 +38,8 @@ abbrev pub count_after : ℕ → StoreFault → ℕ
 count_after n Device = (n + 1) % 2 ^ 64
 count_after n Full = (n + 1) % 2 ^ 64
 count_after n _ = n
+
+-- the count after a call, which may have failed
+abbrev pub faults_after : {X : Type 0} → ℕ → Result X StoreFault → ℕ
+faults_after n (Ok x) = n
+faults_after n (Err fault) = count_after n fault

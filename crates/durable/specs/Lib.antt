@@ -4,6 +4,7 @@ pub mod Held
 pub mod Faults
 pub mod FaultTexts
 pub mod Records
+pub mod Calls
 pub mod Rooms
 pub mod Pages
 pub mod Bodies

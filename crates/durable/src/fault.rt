@@ -1,6 +1,6 @@
 //! Why a store can't do what it was asked.
-ghost use Rattle.std.specs.Prelude.{◌≡◌, ◌⊎◌, IsTrue};
-ghost use Rattle.durable.specs.Faults.{is_device_fault, told};
+ghost use Rattle.std.specs.Prelude.{◌≡◌};
+ghost use Rattle.durable.specs.Faults.{told};
 
 use sqlite::{Error as SqlError, ErrorCode};
 use std::alloc::AllocFailed;
@@ -71,7 +71,6 @@ impl From<NoMemory> for StoreFault {
 /// What an error of a statement tells: out of memory, no room, or a fault of the device.
 pub(crate) fn fault_of(error: SqlError) -> StoreFault
     ensures told { result ≡ told error }
-    ensures named { (result ≡ StoreFault.NoMemory) ⊎ IsTrue (is_device_fault result) }
 {
     match error {
         SqlError::SqliteFailure(ErrorCode::OutOfMemory) => StoreFault::NoMemory,

@@ -4,6 +4,7 @@
 mod backing;
 mod batch;
 mod fault;
+mod laws;
 mod layout;
 mod link;
 mod memory_store;
@@ -16,6 +17,7 @@ mod shown;
 mod sql_store;
 
 pub use fault::StoreFault;
+pub use laws::{append_is_whole, closed_files_open_as_they_were, running_store_holds_its_content};
 pub use memory_store::{Kept, MemoryStore};
 pub use node_store::NodeStore;
 pub use sql_store::SqlStore;

@@ -1,17 +1,18 @@
 //! A store in files: by its connection while it is open, and by its files while it is shut.
-ghost use Rattle.std.specs.Prelude.{◌≡◌, ◌≢◌, ◌⊎◌, ◌++◌, ◌≤◌, ◌-◌, ℕ, take, drop, [], false, Ok, Err, IfOk, IfErr, OnOk, OnErr, IsTrue};
+ghost use Rattle.std.specs.Prelude.{◌≡◌, ◌≢◌, ◌-◌, ℕ, take, drop, false, Ok, Err, IfOk, IfErr, IsTrue};
 ghost use Rattle.sqlite.specs.Files.{over_files, file_state};
 ghost use Rattle.sqlite.specs.State.{HasCleanDisk, Opens};
 ghost use Rattle.sqlite.specs.Tree.{Trees};
 ghost use Rattle.sqlite_wal.specs.Reads.{AreClean};
 ghost use Rattle.units.specs.Code.{node_text};
+ghost use Rattle.durable.specs.Calls.{Appends, Loads};
 ghost use Rattle.durable.specs.Backing.{IsFound, MayFind, Hold};
 ghost use Rattle.durable.specs.Connected as connected;
-ghost use Rattle.durable.specs.Faults.{is_device_fault, is_judgement, IsReadFault, count_after};
+ghost use Rattle.durable.specs.Faults.{is_judgement, count_after};
 ghost use Rattle.durable.specs.Held.{slots_in, node_in};
 ghost use Rattle.durable.specs.Kept.{IsHonest, MayHold, content, owner, disk_faults, is_waiting, is_there, AreFilesOf};
 ghost use Rattle.durable.specs.Opening.{IsOpeningFault};
-ghost use Rattle.durable.specs.Records.{Places, AreRecords, IsDamagedAt, IsAllOrNone, written};
+ghost use Rattle.durable.specs.Records.{Places, written};
 ghost use Rattle.durable.specs.Refusals.{IsRefusal, IsUnharmed};
 ghost use Rattle.durable.specs.declared.fault.StoreFault.TheVariants.{Reopen, NoMemory, Damaged, Full};
 ghost use Rattle.durable.specs.Rooms.{LacksRoom};
@@ -74,19 +75,10 @@ impl<D: Disk + Drop> Link<D> {
 
     /// Appends the whole batch, or nothing of it.
     pub(crate) fn append(&mut self, batch: &[Input]) -> Result<(), StoreFault>
+        ensures appends { Appends (IsHonest D.Disk) (content D.Disk) (MayHold D.Disk) (is_waiting D.Disk) self.old self.new batch.now result }
         ensures there { is_there D.Disk self.new ≡ is_there D.Disk self.old }
-        ensures reopen { IsTrue (is_waiting D.Disk self.old) → (result ≡ Err Reopen) × (self.new ≡ self.old) }
-        ensures named { is_waiting D.Disk self.old ≡ false → IfErr result (λ e. (e ≡ NoMemory) ⊎ IsTrue (is_device_fault e)) }
-        ensures stops { OnErr result (IsTrue (is_waiting D.Disk self.new)) }
-        ensures runs { OnOk result (is_waiting D.Disk self.new ≡ false) }
-        ensures honest { IsHonest D.Disk self.new → IsHonest D.Disk self.old }
-        ensures empty { is_waiting D.Disk self.old ≡ false → batch.now ≡ [] → (result ≡ Ok tt) × (self.new ≡ self.old) }
-        ensures ok { IsHonest D.Disk self.new → OnOk result (content D.Disk self.new ≡ content D.Disk self.old ++ written batch.now) }
         ensures owner { IsHonest D.Disk self.new → is_waiting D.Disk self.new ≡ false → owner D.Disk self.new ≡ owner D.Disk self.old }
-        ensures refused { IsHonest D.Disk self.new → is_waiting D.Disk self.old ≡ false → IfErr result (λ e. is_device_fault e ≡ false → (next : Places) → MayHold D.Disk self.new next → next ≡ content D.Disk self.old) }
-        ensures crash { IsHonest D.Disk self.new → is_waiting D.Disk self.old ≡ false → (next : Places) → MayHold D.Disk self.new next → IsAllOrNone (content D.Disk self.old) batch.now next }
         ensures full { IsHonest D.Disk self.new → result ≡ Err Full → LacksRoom (content D.Disk self.old) batch.now (disk_faults D.Disk self.old) (disk_faults D.Disk self.new) }
-        ensures durable { IsHonest D.Disk self.new → is_waiting D.Disk self.new ≡ false → (next : Places) → MayHold D.Disk self.new next → next ≡ content D.Disk self.new }
     {
         match self {
             Link::Open(store) => store.append(batch),
@@ -96,17 +88,9 @@ impl<D: Disk + Drop> Link<D> {
 
     /// The records from place `from` on, at most `max`.
     pub(crate) fn load_page(&mut self, from: u64, max: u64) -> Result<Vec<Input>, StoreFault>
+        ensures loads { Loads (IsHonest D.Disk) (content D.Disk) (MayHold D.Disk) (is_waiting D.Disk) self.old self.new from (take max (drop from (content D.Disk self.old))) result }
         ensures there { is_there D.Disk self.new ≡ is_there D.Disk self.old }
-        ensures reopen { IsTrue (is_waiting D.Disk self.old) → (result ≡ Err Reopen) × (self.new ≡ self.old) }
-        ensures honest { IsHonest D.Disk self.new → IsHonest D.Disk self.old }
-        ensures ok { IsHonest D.Disk self.new → IfOk result (λ inputs. AreRecords (take max (drop from (content D.Disk self.old))) inputs.items) }
-        ensures damaged { IsHonest D.Disk self.new → IfErr result (λ e. (p : ℕ) → e ≡ Damaged p → (from ≤ p) × IsDamagedAt (p - from) (take max (drop from (content D.Disk self.old)))) }
-        ensures named { is_waiting D.Disk self.old ≡ false → IfErr result IsReadFault }
-        ensures stops { is_waiting D.Disk self.old ≡ false → IfErr result (λ e. is_waiting D.Disk self.new ≡ is_device_fault e) }
-        ensures runs { OnOk result (is_waiting D.Disk self.new ≡ false) }
-        ensures kept { IsHonest D.Disk self.new → is_waiting D.Disk self.new ≡ false → content D.Disk self.new ≡ content D.Disk self.old }
         ensures owner { IsHonest D.Disk self.new → is_waiting D.Disk self.new ≡ false → owner D.Disk self.new ≡ owner D.Disk self.old }
-        ensures crash { IsHonest D.Disk self.new → is_waiting D.Disk self.old ≡ false → (next : Places) → MayHold D.Disk self.new next → next ≡ content D.Disk self.old }
     {
         match self {
             Link::Open(store) => store.load_page(from, max),
@@ -116,17 +100,9 @@ impl<D: Disk + Drop> Link<D> {
 
     /// All records in their order.
     pub(crate) fn load(&mut self) -> Result<Vec<Input>, StoreFault>
+        ensures loads { Loads (IsHonest D.Disk) (content D.Disk) (MayHold D.Disk) (is_waiting D.Disk) self.old self.new 0 (content D.Disk self.old) result }
         ensures there { is_there D.Disk self.new ≡ is_there D.Disk self.old }
-        ensures reopen { IsTrue (is_waiting D.Disk self.old) → (result ≡ Err Reopen) × (self.new ≡ self.old) }
-        ensures honest { IsHonest D.Disk self.new → IsHonest D.Disk self.old }
-        ensures ok { IsHonest D.Disk self.new → IfOk result (λ inputs. AreRecords (content D.Disk self.old) inputs.items) }
-        ensures damaged { IsHonest D.Disk self.new → IfErr result (λ e. (p : ℕ) → e ≡ Damaged p → IsDamagedAt p (content D.Disk self.old)) }
-        ensures named { is_waiting D.Disk self.old ≡ false → IfErr result IsReadFault }
-        ensures stops { is_waiting D.Disk self.old ≡ false → IfErr result (λ e. is_waiting D.Disk self.new ≡ is_device_fault e) }
-        ensures runs { OnOk result (is_waiting D.Disk self.new ≡ false) }
-        ensures kept { IsHonest D.Disk self.new → is_waiting D.Disk self.new ≡ false → content D.Disk self.new ≡ content D.Disk self.old }
         ensures owner { IsHonest D.Disk self.new → is_waiting D.Disk self.new ≡ false → owner D.Disk self.new ≡ owner D.Disk self.old }
-        ensures crash { IsHonest D.Disk self.new → is_waiting D.Disk self.old ≡ false → (next : Places) → MayHold D.Disk self.new next → next ≡ content D.Disk self.old }
     {
         match self {
             Link::Open(store) => store.load(),

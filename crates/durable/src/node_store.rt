@@ -1,9 +1,9 @@
 //! What is asked of a node's store.
-ghost use Rattle.std.specs.Prelude.{◌≡◌, ◌≢◌, ◌++◌, ◌⊎◌, ◌+◌, ◌-◌, ◌<◌, ◌≤◌, ℕ, Bool, [], false, Ok, Err, IfOk, IfErr, OnOk, OnErr, IsTrue, take, drop};
-ghost use Rattle.durable.specs.Faults.{is_device_fault, IsReadFault, count_after};
+ghost use Rattle.std.specs.Prelude.{◌≡◌, ◌≤◌, ℕ, Bool, false, OnOk, take, drop};
+ghost use Rattle.durable.specs.Calls.{Appends, Loads, Reopens};
+ghost use Rattle.durable.specs.Faults.{faults_after};
 ghost use Rattle.units.specs.declared.code.Node.{Node};
-ghost use Rattle.durable.specs.Records.{Places, AreRecords, IsDamagedAt, IsAllOrNone, written};
-ghost use Rattle.durable.specs.declared.fault.StoreFault.TheVariants.{Reopen, NoMemory, Damaged};
+ghost use Rattle.durable.specs.Records.{Places};
 
 use crate::fault::StoreFault;
 use wire::Input;
@@ -40,18 +40,8 @@ pub trait NodeStore {
     /// a reopening settles which. Fails with `NoMemory` where memory ran out: the content is as it was. After each of these a
     /// reopening is due. Fails with `Reopen`, and changes nothing, where one was due before.
     fn append(&mut self, batch: &[Input]) -> Result<(), StoreFault>
-        ensures reopen { IsTrue (is_waiting self.old) → (result ≡ Err Reopen) × (self.new ≡ self.old) }
-        ensures named { is_waiting self.old ≡ false → IfErr result (λ e. (e ≡ NoMemory) ⊎ IsTrue (is_device_fault e)) }
-        ensures stops { OnErr result (IsTrue (is_waiting self.new)) }
-        ensures runs { OnOk result (is_waiting self.new ≡ false) }
-        ensures honest { is_honest self.new → is_honest self.old }
-        ensures empty { is_waiting self.old ≡ false → batch.now ≡ [] → (result ≡ Ok tt) × (self.new ≡ self.old) }
-        ensures ok { is_honest self.new → OnOk result (content self.new ≡ content self.old ++ written batch.now) }
-        ensures refused { is_honest self.new → is_waiting self.old ≡ false → IfErr result (λ e. is_device_fault e ≡ false → (next : Places) → may_hold self.new next → next ≡ content self.old) }
-        ensures crash { is_honest self.new → is_waiting self.old ≡ false → (next : Places) → may_hold self.new next → IsAllOrNone (content self.old) batch.now next }
-        ensures durable { is_honest self.new → is_waiting self.new ≡ false → (next : Places) → may_hold self.new next → next ≡ content self.new }
-        ensures cause { IfErr result (λ e. faults self.new ≡ count_after (faults self.old) e) }
-        ensures count { OnOk result (faults self.new ≡ faults self.old) }
+        ensures appends { Appends is_honest content may_hold is_waiting self.old self.new batch.now result }
+        ensures count { faults self.new ≡ faults_after (faults self.old) result }
         ensures whose { whose self.new ≡ whose self.old }
         ensures own { is_honest self.new → is_waiting self.new ≡ false → is_own self.old → is_own self.new };
 
@@ -62,17 +52,8 @@ pub trait NodeStore {
     /// device failed: a reopening is due, and finds the same content. Fails with `Reopen`, and changes nothing, where one was
     /// due before.
     fn load(&mut self) -> Result<Vec<Input>, StoreFault>
-        ensures reopen { IsTrue (is_waiting self.old) → (result ≡ Err Reopen) × (self.new ≡ self.old) }
-        ensures honest { is_honest self.new → is_honest self.old }
-        ensures ok { is_honest self.new → IfOk result (λ inputs. AreRecords (content self.old) inputs.items) }
-        ensures damaged { is_honest self.new → IfErr result (λ e. (p : ℕ) → e ≡ Damaged p → IsDamagedAt p (content self.old)) }
-        ensures named { is_waiting self.old ≡ false → IfErr result IsReadFault }
-        ensures stops { is_waiting self.old ≡ false → IfErr result (λ e. is_waiting self.new ≡ is_device_fault e) }
-        ensures runs { OnOk result (is_waiting self.new ≡ false) }
-        ensures kept { is_honest self.new → is_waiting self.new ≡ false → content self.new ≡ content self.old }
-        ensures crash { is_honest self.new → is_waiting self.old ≡ false → (next : Places) → may_hold self.new next → next ≡ content self.old }
-        ensures cause { IfErr result (λ e. faults self.new ≡ count_after (faults self.old) e) }
-        ensures count { OnOk result (faults self.new ≡ faults self.old) }
+        ensures loads { Loads is_honest content may_hold is_waiting self.old self.new 0 (content self.old) result }
+        ensures count { faults self.new ≡ faults_after (faults self.old) result }
         ensures whose { whose self.new ≡ whose self.old }
         ensures own { is_honest self.new → is_waiting self.new ≡ false → is_own self.old → is_own self.new };
 
@@ -80,31 +61,16 @@ pub trait NodeStore {
     fn load_page(&mut self, from: u64, max: u64) -> Result<Vec<Input>, StoreFault>
         requires some { 1 ≤ max }
         requires few { max ≤ 256 }
-        ensures reopen { IsTrue (is_waiting self.old) → (result ≡ Err Reopen) × (self.new ≡ self.old) }
-        ensures honest { is_honest self.new → is_honest self.old }
-        ensures ok { is_honest self.new → IfOk result (λ inputs. AreRecords (take max (drop from (content self.old))) inputs.items) }
-        ensures damaged { is_honest self.new → IfErr result (λ e. (p : ℕ) → e ≡ Damaged p → (from ≤ p) × IsDamagedAt (p - from) (take max (drop from (content self.old)))) }
-        ensures named { is_waiting self.old ≡ false → IfErr result IsReadFault }
-        ensures stops { is_waiting self.old ≡ false → IfErr result (λ e. is_waiting self.new ≡ is_device_fault e) }
-        ensures runs { OnOk result (is_waiting self.new ≡ false) }
-        ensures kept { is_honest self.new → is_waiting self.new ≡ false → content self.new ≡ content self.old }
-        ensures crash { is_honest self.new → is_waiting self.old ≡ false → (next : Places) → may_hold self.new next → next ≡ content self.old }
-        ensures cause { IfErr result (λ e. faults self.new ≡ count_after (faults self.old) e) }
-        ensures count { OnOk result (faults self.new ≡ faults self.old) }
+        ensures loads { Loads is_honest content may_hold is_waiting self.old self.new from (take max (drop from (content self.old))) result }
+        ensures count { faults self.new ≡ faults_after (faults self.old) result }
         ensures whose { whose self.new ≡ whose self.old }
         ensures own { is_honest self.new → is_waiting self.new ≡ false → is_own self.old → is_own self.new };
 
     /// Opens the store again, whether or not a fault waits. After `Ok` the content is one that it could hold before. After an
     /// error, which is never `Reopen`, a reopening is still due.
     fn reopen(&mut self) -> Result<(), StoreFault>
-        ensures named { IfErr result (λ e. e ≢ Reopen) }
-        ensures runs { OnOk result (is_waiting self.new ≡ false) }
-        ensures stops { OnErr result (IsTrue (is_waiting self.new)) }
-        ensures honest { OnOk result (is_honest self.new → is_honest self.old) }
-        ensures settles { is_honest self.new → OnOk result ∥ may_hold self.old (content self.new) ∥₁ }
-        ensures durable { is_honest self.new → OnOk result ((next : Places) → may_hold self.new next → next ≡ content self.new) }
-        ensures cause { IfErr result (λ e. faults self.new ≡ count_after (faults self.old) e) }
-        ensures count { OnOk result (faults self.new ≡ faults self.old) }
+        ensures reopens { Reopens is_honest content may_hold is_waiting self.old self.new result }
+        ensures count { faults self.new ≡ faults_after (faults self.old) result }
         ensures whose { whose self.new ≡ whose self.old }
         ensures own { is_honest self.new → OnOk result (is_own self.new) };
 

@@ -1,13 +1,14 @@
 //! A store over an open connection.
-ghost use Rattle.std.specs.Prelude.{◌≡◌, ◌≢◌, ◌++◌, ◌⊎◌, ◌+◌, ◌-◌, ◌<◌, ◌≤◌, ◌^◌, ℕ, [], false, Ok, Err, Some, IfOk, IfErr, IfSome, IfNone, OnOk, OnErr, IsTrue, true, map, take, drop, length};
+ghost use Rattle.std.specs.Prelude.{◌≡◌, ◌⊎◌, ◌+◌, ◌-◌, ◌<◌, ◌≤◌, ◌^◌, ℕ, false, Ok, Err, Some, IfOk, IfErr, IfSome, IfNone, OnOk, OnErr, IsTrue, map, take, drop, length};
 ghost use Rattle.durable.specs.Connected.{IsHonest, content, MayHold, owner, disk_faults};
+ghost use Rattle.durable.specs.Calls.{Appends, Loads};
 ghost use Rattle.durable.specs.Bodies.{items};
 ghost use Rattle.durable.specs.Held.{followed_by, slots_in, IsReady};
 ghost use Rattle.sqlite.specs.State.{HasCleanDisk};
 ghost use Rattle.sqlite.specs.Tree.{Trees};
 ghost use Rattle.sqlite.specs.Held.{state};
 ghost use Rattle.durable.specs.Faults.{is_device_fault, IsReadFault};
-ghost use Rattle.durable.specs.Records.{Places, AreRecords, IsDamagedAt, IsAllOrNone, written};
+ghost use Rattle.durable.specs.Records.{Places, AreRecords, IsDamagedAt, written};
 ghost use Rattle.durable.specs.declared.fault.StoreFault.TheVariants.{Reopen, NoMemory, Damaged, Full};
 ghost use Rattle.durable.specs.Rooms.{HasNoRoom, LacksRoom};
 
@@ -136,18 +137,9 @@ impl<S: Alter> OpenStore<S> {
 
     /// Appends the whole batch, or nothing of it.
     pub(crate) fn append(&mut self, batch: &[Input]) -> Result<(), StoreFault>
-        ensures reopen { IsTrue self.old.is_waiting → (result ≡ Err Reopen) × (self.new ≡ self.old) }
-        ensures named { self.old.is_waiting ≡ false → IfErr result (λ e. (e ≡ NoMemory) ⊎ IsTrue (is_device_fault e)) }
-        ensures stops { OnErr result (IsTrue self.new.is_waiting) }
-        ensures runs { OnOk result (self.new.is_waiting ≡ false) }
-        ensures honest { IsHonest S.Store self.new → IsHonest S.Store self.old }
-        ensures empty { self.old.is_waiting ≡ false → batch.now ≡ [] → (result ≡ Ok tt) × (self.new ≡ self.old) }
-        ensures ok { IsHonest S.Store self.new → OnOk result (content S.Store self.new ≡ content S.Store self.old ++ written batch.now) }
+        ensures appends { Appends (IsHonest S.Store) (content S.Store) (MayHold S.Store) (λ k. k.is_waiting) self.old self.new batch.now result }
         ensures owner { IsHonest S.Store self.new → self.new.is_waiting ≡ false → owner S.Store self.new ≡ owner S.Store self.old }
-        ensures refused { IsHonest S.Store self.new → self.old.is_waiting ≡ false → IfErr result (λ e. is_device_fault e ≡ false → (next : Places) → MayHold S.Store self.new next → next ≡ content S.Store self.old) }
-        ensures crash { IsHonest S.Store self.new → self.old.is_waiting ≡ false → (next : Places) → MayHold S.Store self.new next → IsAllOrNone (content S.Store self.old) batch.now next }
         ensures full { IsHonest S.Store self.new → result ≡ Err Full → LacksRoom (content S.Store self.old) batch.now (disk_faults S.Store self.old) (disk_faults S.Store self.new) }
-        ensures durable { IsHonest S.Store self.new → self.new.is_waiting ≡ false → (next : Places) → MayHold S.Store self.new next → next ≡ content S.Store self.new }
     {
         if self.standing == Standing::Waits {
             return Err(StoreFault::Reopen);
@@ -199,16 +191,8 @@ impl<S: Alter> OpenStore<S> {
 
     /// The records from place `from` on, at most `max`.
     pub(crate) fn load_page(&mut self, from: u64, max: u64) -> Result<Vec<Input>, StoreFault>
-        ensures reopen { IsTrue self.old.is_waiting → (result ≡ Err Reopen) × (self.new ≡ self.old) }
-        ensures honest { IsHonest S.Store self.new → IsHonest S.Store self.old }
-        ensures ok { IsHonest S.Store self.new → IfOk result (λ inputs. AreRecords (take max (drop from (content S.Store self.old))) inputs.items) }
-        ensures damaged { IsHonest S.Store self.new → IfErr result (λ e. (p : ℕ) → e ≡ Damaged p → (from ≤ p) × IsDamagedAt (p - from) (take max (drop from (content S.Store self.old)))) }
-        ensures named { self.old.is_waiting ≡ false → IfErr result IsReadFault }
-        ensures stops { self.old.is_waiting ≡ false → IfErr result (λ e. self.new.is_waiting ≡ is_device_fault e) }
-        ensures runs { OnOk result (self.new.is_waiting ≡ false) }
-        ensures kept { IsHonest S.Store self.new → self.new.is_waiting ≡ false → content S.Store self.new ≡ content S.Store self.old }
+        ensures loads { Loads (IsHonest S.Store) (content S.Store) (MayHold S.Store) (λ k. k.is_waiting) self.old self.new from (take max (drop from (content S.Store self.old))) result }
         ensures owner { IsHonest S.Store self.new → self.new.is_waiting ≡ false → owner S.Store self.new ≡ owner S.Store self.old }
-        ensures crash { IsHonest S.Store self.new → self.old.is_waiting ≡ false → (next : Places) → MayHold S.Store self.new next → next ≡ content S.Store self.old }
     {
         if self.standing == Standing::Waits {
             return Err(StoreFault::Reopen);
@@ -222,16 +206,8 @@ impl<S: Alter> OpenStore<S> {
 
     /// All records in their order.
     pub(crate) fn load(&mut self) -> Result<Vec<Input>, StoreFault>
-        ensures reopen { IsTrue self.old.is_waiting → (result ≡ Err Reopen) × (self.new ≡ self.old) }
-        ensures honest { IsHonest S.Store self.new → IsHonest S.Store self.old }
-        ensures ok { IsHonest S.Store self.new → IfOk result (λ inputs. AreRecords (content S.Store self.old) inputs.items) }
-        ensures damaged { IsHonest S.Store self.new → IfErr result (λ e. (p : ℕ) → e ≡ Damaged p → IsDamagedAt p (content S.Store self.old)) }
-        ensures named { self.old.is_waiting ≡ false → IfErr result IsReadFault }
-        ensures stops { self.old.is_waiting ≡ false → IfErr result (λ e. self.new.is_waiting ≡ is_device_fault e) }
-        ensures runs { OnOk result (self.new.is_waiting ≡ false) }
-        ensures kept { IsHonest S.Store self.new → self.new.is_waiting ≡ false → content S.Store self.new ≡ content S.Store self.old }
+        ensures loads { Loads (IsHonest S.Store) (content S.Store) (MayHold S.Store) (λ k. k.is_waiting) self.old self.new 0 (content S.Store self.old) result }
         ensures owner { IsHonest S.Store self.new → self.new.is_waiting ≡ false → owner S.Store self.new ≡ owner S.Store self.old }
-        ensures crash { IsHonest S.Store self.new → self.old.is_waiting ≡ false → (next : Places) → MayHold S.Store self.new next → next ≡ content S.Store self.old }
     {
         self.load_page(0, self.count)
     }

@@ -155,9 +155,10 @@ impl SqlStore<File> {
 }
 
 impl<D: Disk + Drop> NodeStore for SqlStore<D> {
-    ghost use Rattle.std.specs.Prelude.{◌≡◌, ◌≢◌, ◌⊎◌, ◌++◌, ℕ, [], false, Ok, Err, OnOk, OnErr, IfErr, IsTrue};
-    ghost use Rattle.durable.specs.Faults.{is_device_fault, count_after};
-    ghost use Rattle.durable.specs.Records.{Places, IsAllOrNone, written};
+    ghost use Rattle.std.specs.Prelude.{◌≡◌, ◌≢◌, ◌⊎◌, ℕ, false, Ok, Err, OnOk, IfErr, IsTrue};
+    ghost use Rattle.durable.specs.Calls.{Appends, Reopens};
+    ghost use Rattle.durable.specs.Faults.{faults_after};
+    ghost use Rattle.durable.specs.Records.{Places};
     ghost use Rattle.durable.specs.Rooms.{LacksRoom};
     ghost use Rattle.durable.specs.declared.fault.StoreFault.TheVariants.{Reopen, NoMemory, Damaged, Full};
     ghost use Rattle.units.specs.Code.{node_text};
@@ -179,18 +180,8 @@ impl<D: Disk + Drop> NodeStore for SqlStore<D> {
 
     /// `Full`: a call of the files failed, or the count of the places with the batch is not below 2^62, or SQLite itself refuses one of the records.
     fn append(&mut self, batch: &[Input]) -> Result<(), StoreFault>
-        ensures reopen { IsTrue (is_waiting D.Disk self.old) → (result ≡ Err Reopen) × (self.new ≡ self.old) }
-        ensures named { is_waiting D.Disk self.old ≡ false → IfErr result (λ e. (e ≡ NoMemory) ⊎ IsTrue (is_device_fault e)) }
-        ensures stops { OnErr result (IsTrue (is_waiting D.Disk self.new)) }
-        ensures runs { OnOk result (is_waiting D.Disk self.new ≡ false) }
-        ensures honest { IsHonest D.Disk self.new → IsHonest D.Disk self.old }
-        ensures empty { is_waiting D.Disk self.old ≡ false → batch.now ≡ [] → (result ≡ Ok tt) × (self.new ≡ self.old) }
-        ensures ok { IsHonest D.Disk self.new → OnOk result (content D.Disk self.new ≡ content D.Disk self.old ++ written batch.now) }
-        ensures refused { IsHonest D.Disk self.new → is_waiting D.Disk self.old ≡ false → IfErr result (λ e. is_device_fault e ≡ false → (next : Places) → MayHold D.Disk self.new next → next ≡ content D.Disk self.old) }
-        ensures crash { IsHonest D.Disk self.new → is_waiting D.Disk self.old ≡ false → (next : Places) → MayHold D.Disk self.new next → IsAllOrNone (content D.Disk self.old) batch.now next }
-        ensures durable { IsHonest D.Disk self.new → is_waiting D.Disk self.new ≡ false → (next : Places) → MayHold D.Disk self.new next → next ≡ content D.Disk self.new }
-        ensures cause { IfErr result (λ e. faults D.Disk self.new ≡ count_after (faults D.Disk self.old) e) }
-        ensures count { OnOk result (faults D.Disk self.new ≡ faults D.Disk self.old) }
+        ensures appends { Appends (IsHonest D.Disk) (content D.Disk) (MayHold D.Disk) (is_waiting D.Disk) self.old self.new batch.now result }
+        ensures count { faults D.Disk self.new ≡ faults_after (faults D.Disk self.old) result }
         ensures node { node_of D.Disk self.new ≡ node_of D.Disk self.old }
         ensures owner { IsHonest D.Disk self.new → is_waiting D.Disk self.new ≡ false → owner D.Disk self.new ≡ owner D.Disk self.old }
         ensures full { IsHonest D.Disk self.new → result ≡ Err Full → LacksRoom (content D.Disk self.old) batch.now (disk_faults D.Disk self.old) (disk_faults D.Disk self.new) }
@@ -227,15 +218,9 @@ impl<D: Disk + Drop> NodeStore for SqlStore<D> {
     /// Fails with `Damaged(0)`, `WrongVersion` and `WrongNode` as `open_files` does. After a sync that failed the same files can't be used again, and every
     /// reopening fails with `Device`.
     fn reopen(&mut self) -> Result<(), StoreFault>
-        ensures named { IfErr result (λ e. e ≢ Reopen) }
+        ensures reopens { Reopens (IsHonest D.Disk) (content D.Disk) (MayHold D.Disk) (is_waiting D.Disk) self.old self.new result }
+        ensures count { faults D.Disk self.new ≡ faults_after (faults D.Disk self.old) result }
         ensures places { IfErr result (λ e. (p : ℕ) → e ≡ Damaged p → p ≡ 0) }
-        ensures runs { OnOk result (is_waiting D.Disk self.new ≡ false) }
-        ensures stops { OnErr result (IsTrue (is_waiting D.Disk self.new)) }
-        ensures honest { OnOk result (IsHonest D.Disk self.new → IsHonest D.Disk self.old) }
-        ensures settles { IsHonest D.Disk self.new → OnOk result ∥ MayHold D.Disk self.old (content D.Disk self.new) ∥₁ }
-        ensures durable { IsHonest D.Disk self.new → OnOk result ((next : Places) → MayHold D.Disk self.new next → next ≡ content D.Disk self.new) }
-        ensures cause { IfErr result (λ e. faults D.Disk self.new ≡ count_after (faults D.Disk self.old) e) }
-        ensures count { OnOk result (faults D.Disk self.new ≡ faults D.Disk self.old) }
         ensures node { node_of D.Disk self.new ≡ node_of D.Disk self.old }
         ensures owner { IsHonest D.Disk self.new → OnOk result (owner D.Disk self.new ≡ node_text (node_of D.Disk self.new)) }
         ensures fault { IsHonest D.Disk self.new → IfErr result (IsReopeningFault D.Disk self.old) }

@@ -12,15 +12,26 @@ use Rattle.durable.specs.Rooms.{HasNoRoom}
 use Rattle.durable.proofs.NoRoom.{bodies_of}
 use Rattle.durable.proofs.open_store.OpenStore.append.Goals as goal
 
-pub returns-clause-crash : goal.returns-clause-crash
-returns-clause-crash g c = λ clean runs next held.
-    let old = content g.S.Store c.args.self.now in
-    let same : followed_by old (map items c.deref.result.now) ≡ old ++ written c.args.batch.now =
-    ap (λ ts. followed_by old (map items ts)) c.deref.ensures.value ∙ ap (λ (z : Places). old ++ z) c.in-Ok.ensures.texts in
-    elim (c.put.ensures.crash clean next held) [
-      | inl is ↦ inl is
-      | inr is ↦ inr (is ∙ same)
-    ]
+pub returns-clause-appends : goal.returns-clause-appends
+returns-clause-appends g c = record {
+  reopen = search rules;
+  named = λ runs. c.put.ensures.named;
+  stops = c.put.ensures.stops;
+  runs = c.put.ensures.runs;
+  honest = c.put.ensures.honest;
+  empty = search rules;
+  ok = search rules;
+  refused = λ clean runs. c.put.ensures.refused clean;
+  crash = λ clean runs next held.
+      let old = content g.S.Store c.args.self.now in
+      let same : followed_by old (map items c.deref.result.now) ≡ old ++ written c.args.batch.now =
+      ap (λ ts. followed_by old (map items ts)) c.deref.ensures.value ∙ ap (λ (z : Places). old ++ z) c.in-Ok.ensures.texts in
+      elim (c.put.ensures.crash clean next held) [
+        | inl is ↦ inl is
+        | inr is ↦ inr (is ∙ same)
+      ];
+  settled = c.put.ensures.durable;
+}
 
 pub returns-clause-full : goal.returns-clause-full
 returns-clause-full g c = λ clean full.

@@ -1,0 +1,48 @@
+-- What the open store of a link returns and leaves is what the link does.
+use Rattle.std.proofs.Common.{◌≡◌, ℕ, List, Result, Vec, Global, sym, subst, ap}
+use Rattle.sqlite.specs.Files.{over_files}
+use Rattle.sqlite_disk.specs.declared.Disk.{Ghosts}
+use Rattle.sqlite_store.specs.declared.store.FileStore.{FileStore}
+use Rattle.wire.specs.declared.input.Input.{Input}
+use Rattle.durable.specs.Calls.{Appends, Loads}
+use Rattle.durable.specs.Connected.{Connected}
+use Rattle.durable.specs.Connected as connected
+use Rattle.durable.specs.Kept.{IsHonest, MayHold, content, is_waiting}
+use Rattle.durable.specs.Records.{Places}
+use Rattle.durable.specs.declared.fault.StoreFault.{StoreFault}
+use Rattle.durable.specs.declared.link.Link.{Link}
+use Rattle.durable.specs.declared.link.Link.TheVariants.{Open}
+
+module _ {D : Type 0} (g : Ghosts D) (link : Link D g) (old new : Connected (FileStore D g)) (is : link ≡ Open old) where
+  pub linked_appends : (batch : List Input) (r : Result Unit StoreFault) → Appends (connected.IsHonest over_files) (connected.content over_files) (connected.MayHold over_files) (λ k. k.is_waiting) old new batch r
+      → Appends (IsHonest g) (content g) (MayHold g) (is_waiting g) link (Open new) batch r
+  linked_appends batch r h =
+      subst (λ (l : Link D g). Appends (IsHonest g) (content g) (MayHold g) (is_waiting g) l (Open new) batch r) (sym is) (record {
+        reopen = λ w. let x = h.reopen w in (x.0, ap Open x.1);
+        named = h.named;
+        stops = h.stops;
+        runs = h.runs;
+        honest = h.honest;
+        empty = λ w e. let x = h.empty w e in (x.0, ap Open x.1);
+        ok = h.ok;
+        refused = h.refused;
+        crash = h.crash;
+        settled = h.settled;
+      })
+
+  -- of places that are part of the content
+  pub linked_loads : (first : ℕ) (part : Places → Places) (r : Result (Vec Input Global) StoreFault)
+      → Loads (connected.IsHonest over_files) (connected.content over_files) (connected.MayHold over_files) (λ k. k.is_waiting) old new first (part (connected.content over_files old)) r
+      → Loads (IsHonest g) (content g) (MayHold g) (is_waiting g) link (Open new) first (part (content g link)) r
+  linked_loads first part r h =
+      subst (λ (l : Link D g). Loads (IsHonest g) (content g) (MayHold g) (is_waiting g) l (Open new) first (part (content g l)) r) (sym is) (record {
+        reopen = λ w. let x = h.reopen w in (x.0, ap Open x.1);
+        honest = h.honest;
+        ok = h.ok;
+        damaged = h.damaged;
+        named = h.named;
+        stops = h.stops;
+        runs = h.runs;
+        kept = h.kept;
+        crash = h.crash;
+      })

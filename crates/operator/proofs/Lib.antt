@@ -11,3 +11,4 @@ pub mod ShowWords
 pub mod WorkedWords
 pub mod NumberedLines
 pub mod UsageFaults
+pub mod ShowFaults

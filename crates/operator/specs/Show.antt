@@ -10,7 +10,7 @@ use Rattle.durable.specs.declared.fault.StoreFault.TheVariants.{Damaged, NoMemor
 use Rattle.operator.specs.declared.fault.OpFault.{OpFault}
 use Rattle.operator.specs.declared.fault.OpFault.TheVariants as op_fault
 
--- a record behind its place
+-- a record after its place
 abbrev pub record_line : ℕ → Input → List ℕ
 record_line place input = decimal place ++ codes " " ++ record_text input ++ codes "\n"
 
@@ -23,7 +23,7 @@ record_lines place (input ∷ inputs) = record_line place input ++ record_lines 
 abbrev pub shown : List Input → List ℕ
 shown inputs = record_lines 0 inputs ++ codes "end\n"
 
--- the fault is that of the node's store, and not want of memory. Where the store is honest, a place that is told as damaged is
+-- the fault is that of the node's store, and not that memory ran out. Where the store is honest, a place that is told as damaged is
 pub record IsToldFault (node told : Node) (fault : StoreFault) (honest : Type 0) (places : Places) : Type 0 where
   pub whose : told ≡ node
   pub named : fault ≢ OutOfMemory

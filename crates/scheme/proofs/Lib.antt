@@ -9,3 +9,4 @@ pub mod Lists
 pub mod Unique
 pub mod OneAnswer
 pub mod Holders
+pub mod HoldersAlike

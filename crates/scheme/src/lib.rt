@@ -1,6 +1,7 @@
 //! The scheme: the registries, their accounts, and what each account has at the start.
 #![tactic(auto)]
 
+mod allotments;
 mod copies;
 mod faults;
 mod grammar;

@@ -4,7 +4,7 @@ ghost use Rattle.std.specs.Prelude.{◌≡◌};
 use fields::ReadFault;
 use std::alloc::{AllocError, AllocFailed};
 use thiserror::Error;
-use units::{Block, Code, Items, Kind};
+use units::{Block, Code, Items, Kind, Mark};
 
 /// The blocks that an account has at the start.
 #[derive(Debug, Drop)]
@@ -31,6 +31,18 @@ pub struct Holder {
     pub registry: Code,
     pub account: u64,
     pub kind: Kind,
+}
+
+impl Mark for Holder {
+    ghost group = { λ _. 0 };
+
+    fn group(&self) -> u64 {
+        0
+    }
+
+    fn is_same(&self, other: &Holder) -> bool {
+        self == other
+    }
 }
 
 /// Why a text is no scheme: the first of these faults, in this order.

@@ -1,5 +1,5 @@
 -- The parts of a content: blocks with and without their proofs, and when two contents are the same.
-use Rattle.std.proofs.Common.{◌≡◌, ◌≤◌, ◌↔◌, IsTrue, arith, length, ℕ, zero, suc, List, [], ◌∷◌, Bool, true, false, true≢false, ◌==◌, refl, sym, ap, subst, ◌∙◌, eq-eqb}
+use Rattle.std.proofs.Common.{◌≡◌, ◌≤◌, ◌↔◌, IsTrue, arith, length, ℕ, List, [], ◌∷◌, Bool, true, false, true≢false, ◌==◌, refl, sym, ap, subst, ◌∙◌, eq-eqb}
 use lib.Pointwise.{pointwise}
 use Rattle.std.specs.List.{AllByRecursion}
 use Rattle.std.proofs.lemmas.Bool.{and_parts, and_from, eqb-true}
@@ -25,7 +25,7 @@ pub in_range : (blocks : List Block) → AllByRecursion (λ b. IsRange b.first b
 in_range [] = tt
 in_range (b ∷ bs) = (b.in_range, in_range bs)
 
-blocks_of_same : (xs ys : List RawBlock) → same_blocks xs ys ≡ true → xs ≡ ys
+pub blocks_of_same : (xs ys : List RawBlock) → same_blocks xs ys ≡ true → xs ≡ ys
 blocks_of_same [] [] e = refl
 blocks_of_same [] (y ∷ ys) e = absurd (true≢false (sym e))
 blocks_of_same (x ∷ xs) [] e = absurd (true≢false (sym e))
@@ -35,7 +35,7 @@ blocks_of_same (x ∷ xs) (y ∷ ys) e =
     let rest = blocks_of_same xs ys h.1 in
     cc (here, rest)
 
-same_blocks-refl : (xs : List RawBlock) → same_blocks xs xs ≡ true
+pub same_blocks-refl : (xs : List RawBlock) → same_blocks xs xs ≡ true
 same_blocks-refl [] = refl
 same_blocks-refl (x ∷ xs) = and_from (same_raw x x) (same_blocks xs xs) (same_raw-refl x) (same_blocks-refl xs)
 
@@ -64,11 +64,11 @@ same_bool true y f g = sym (f refl)
 same_bool false true f g = g refl
 same_bool false false f g = refl
 
-kinds : (k l : Kind) → sameb kind.the_type k l ≡ same_kind k l
+pub kinds : (k l : Kind) → sameb kind.the_type k l ≡ same_kind k l
 kinds k l =
     same_bool _ _ (λ e. eq-eqb (kind_index k) (kind_index l) (ap kind_index (same_true kind.the_type tt k l e))) (λ e. true_same kind.the_type k l (kind_of_same k l e))
 
-periods : (p q : Period) → sameb period.the_type p q ≡ same_period p q
+pub periods : (p q : Period) → sameb period.the_type p q ≡ same_period p q
 periods p q =
     same_bool _ _ (λ e. eq-eqb (period_index p) (period_index q) (ap period_index (same_true period.the_type tt p q e))) (λ e. true_same period.the_type p q (period_of_same p q e))
 

@@ -2,7 +2,8 @@
 ghost use Rattle.std.specs.Prelude.{◌≡◌, ◌<◌, ◌↔◌, IsTrue, IfOk, IfSome, IfNone};
 ghost use Rattle.std.specs.List.{AllByRecursion};
 ghost use Rattle.units.specs.Limits.{too_long};
-ghost use Rattle.status.specs.Order.{IsOrder};
+ghost use Rattle.status.specs.Content.{same_blocks};
+ghost use Rattle.status.specs.Order.{IsOrder, same_order};
 
 use std::marker::Model;
 use units::limits::TOO_LONG;
@@ -37,6 +38,12 @@ fn are_short(blocks: &[RawBlock]) -> bool
         }
     }
     true
+}
+
+fn are_same_blocks(a: &[RawBlock], b: &[RawBlock]) -> bool
+    ensures { result ≡ same_blocks a.now b.now }
+{
+    a == b
 }
 
 impl Order {
@@ -92,6 +99,17 @@ impl Order {
         ensures valid { IsOrder self.now }
     {
         self.units.as_slice()
+    }
+
+    /// Whether both are the same, blocks compared as lists. Takes no memory.
+    pub fn same(&self, other: &Order) -> bool
+        ensures value { result ≡ same_order self.now other.now }
+        ensures meaning { IsTrue result ↔ self.now ≡ other.now }
+    {
+        self.account == other.account
+            && self.to_registry == other.to_registry
+            && self.to_account == other.to_account
+            && are_same_blocks(self.units.as_slice(), other.units.as_slice())
     }
 
     /// An equal order, or `NoMemory`.

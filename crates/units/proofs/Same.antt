@@ -1,10 +1,11 @@
 -- What the tests of sameness say.
-use Rattle.std.proofs.Common.{◌≡◌, ℕ, zero, suc, true, true≢false, ◌==◌, refl, sym, ap, subst, ◌∙◌, eq-eqb}
+use Rattle.std.proofs.Common.{◌≡◌, ◌↔◌, IsTrue, ℕ, zero, suc, true, true≢false, ◌==◌, refl, sym, ap, subst, ◌∙◌, eq-eqb}
 use Rattle.std.specs.Coded.{×_prop, le_prop}
 use Rattle.std.proofs.lemmas.Bool.{and_parts, and_from, eqb-true}
 use Rattle.units.specs.Facts.{IsLetter}
 use Rattle.units.specs.Code.{same_code, same_node}
 use Rattle.units.specs.Unit.{same_period, same_kind, same_raw, period_index, kind_index}
+use Rattle.units.specs.contracts.code.NodePartialEq.TheImpl.{eq-value as node-eq}
 use Rattle.units.specs.declared.block.Kind.{Kind}
 use Rattle.units.specs.declared.block.Kind.TheVariants.{Aau, Rmu, Eru, Cer, Tcer, Lcer}
 use Rattle.units.specs.declared.block.Period.{Period}
@@ -94,3 +95,13 @@ pub same_raw-refl : (a : RawBlock) → same_raw a a ≡ true
 same_raw-refl a =
     and_from (same_code a.origin a.origin) _ (same_code-refl a.origin) (and_from (same_period a.period a.period) _ (eq-eqb (period_index a.period) (period_index a.period) refl)
     (and_from (same_kind a.kind a.kind) _ (eq-eqb (kind_index a.kind) (kind_index a.kind) refl) (and_from (a.first == a.first) (a.last == a.last) (eq-eqb a.first a.first refl) (eq-eqb a.last a.last refl))))
+
+-- the derived test of two nodes
+node_test : (m n : Node) → node-eq.it m n ≡ same_node m n
+node_test Itl Itl = refl
+node_test Itl (Registry b) = refl
+node_test (Registry a) Itl = refl
+node_test (Registry a) (Registry b) = refl
+
+pub node_told : (m n : Node) → IsTrue (node-eq.it m n) ↔ (m ≡ n)
+node_told m n = (λ e. node_of_same m n (sym (node_test m n) ∙ e), λ e. node_test m n ∙ subst (λ o. same_node m o ≡ true) e (same_node-refl m))

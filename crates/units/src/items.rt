@@ -34,6 +34,13 @@ impl<T> Items<T> {
         Items { held }
     }
 
+    /// The elements as a `Vec`. Takes no memory.
+    pub fn into_vec(self) -> Vec<T>
+        ensures { result.items ≡ self }
+    {
+        self.held
+    }
+
     /// The elements in their order.
     pub fn as_slice(&self) -> &[T]
         ensures { result.now ≡ self.now }

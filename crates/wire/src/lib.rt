@@ -14,6 +14,7 @@ mod reading;
 mod reading_records;
 mod reply;
 mod reply_code;
+mod same;
 mod values;
 mod writing;
 mod writing_records;

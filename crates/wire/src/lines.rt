@@ -31,6 +31,13 @@ impl Line {
     {
         self.bytes.as_slice()
     }
+
+    /// The bytes of the line as a `Vec`. Takes no memory.
+    pub fn into_vec(self) -> Vec<u8>
+        ensures { result.items ≡ self }
+    {
+        self.bytes
+    }
 }
 
 /// Why a splitter didn't take a piece.

@@ -10,3 +10,4 @@ pub mod Unique
 pub mod OneAnswer
 pub mod Holders
 pub mod HoldersAlike
+pub mod Searching

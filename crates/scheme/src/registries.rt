@@ -1,5 +1,5 @@
 //! The scheme.
-ghost use Rattle.std.specs.Prelude.{◌≡◌, ◌≤◌, IfOk};
+ghost use Rattle.std.specs.Prelude.{◌≡◌, ◌≤◌, None, slice_get, IfOk, IfSome, IfNone};
 ghost use Rattle.std.specs.List.{find};
 ghost use Rattle.std.specs.Option.{option_copied};
 ghost use Rattle.units.specs.Limits.{most_records};
@@ -20,6 +20,17 @@ pub struct Scheme {
     pub members: Items<Member>,
     pub ghost in_range: { (1 ≤ records) × (records ≤ most_records) },
     pub ghost sound: { AreMembers members } by { AreMembers-prop members },
+}
+
+// Where the registry of that code stands.
+fn place_of(members: &[Member], code: Code) -> Option<usize>
+    requires { AreMembers members.now }
+    ensures some { IfSome result (λ i. member members.now code ≡ slice_get members.now i) }
+    ensures none { IfNone result (member members.now code ≡ None) }
+{
+    members
+        .binary_search_by_key(&code, |member| member.code)
+        .ok()
 }
 
 // The block of the allotment that has the unit.
@@ -74,7 +85,9 @@ impl Scheme {
     pub fn member(&self, code: Code) -> Option<&Member>
         ensures { option_copied result ≡ member self.now.members code }
     {
-        self.members.as_slice().iter().find(|m| m.code == code)
+        let members = self.members.as_slice();
+        let place = place_of(members, code)?;
+        members.get(place)
     }
 
     /// Who holds the unit at the start.

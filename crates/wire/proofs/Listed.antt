@@ -1,10 +1,9 @@
 -- Writing the elements of a list one after the other, as a loop does.
-use Rattle.std.proofs.Common.{◌≡◌, ℕ, ◌+◌, ◌<◌, ◌≤◌, List, [], ◌∷◌, ◌++◌, length, get_or, take, map, String, Global, string_bytes, refl, sym, ap, ◌∙◌, rules}
-use Rattle.std.proofs.lemmas.List.{take_more, take_all, map_push}
+use Rattle.std.proofs.Common.{◌≡◌, ℕ, ◌≤◌, List, [], ◌∷◌, length, take, map, refl, ap, ◌∙◌}
+use Rattle.std.proofs.lemmas.List.{take_all}
 use Rattle.serde_json.specs.Data.{Data, string, item}
 use Rattle.serde_json.specs.View.{view, items_of, items_view}
-use Rattle.serde_json.specs.declared.value.Value.{Value, the_lemmas}
-use Rattle.serde_json.specs.declared.value.Value as values
+use Rattle.serde_json.specs.declared.value.Value.{Value}
 use Rattle.units.specs.Block.{raw_text}
 use Rattle.units.specs.declared.block.Block.{Block}
 use Rattle.units.specs.declared.block.RawBlock.{RawBlock}

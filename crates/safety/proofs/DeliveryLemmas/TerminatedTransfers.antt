@@ -41,7 +41,8 @@ use Rattle.protocol.specs.declared.event.WorldEvent.{WorldEvent}
 use Rattle.protocol.specs.declared.event.WorldEvent.TheVariants.{Take, Commit, Post, Deliver, Crash, Restart}
 use Rattle.safety.proofs.DeliveryLemmas.FindingsInProposals.{only_eligibility}
 use Rattle.safety.proofs.MovesAndHistories.TransitionForms.{checked_message}
-use Rattle.safety.proofs.MovesAndHistories.LongerHistories.{history_from_append, sends_append}
+use Rattle.protocol.proofs.Histories.{history_from_append}
+use Rattle.safety.proofs.MovesAndHistories.LongerHistories.{sends_append}
 use Rattle.safety.proofs.MovesAndHistories.NewestTransitions.{one_notice}
 use Rattle.lemmas.proofs.Membership.{In, In_cases, In_flat_map, In_slice_get}
 use Rattle.safety.proofs.MovesAndHistories.TableMoves.{LogMove, checks, passes, cancels, forestalls, log_moves}

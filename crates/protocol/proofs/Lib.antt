@@ -1,3 +1,6 @@
+pub mod Histories
+pub mod Replaying
+pub mod RefusedBy
 pub mod WorkedScheme
 pub mod WorkedRows
 pub mod WorkedCleanUps

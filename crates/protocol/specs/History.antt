@@ -1,7 +1,7 @@
 -- What a journal says: the transitions of its inputs, and what is read off them.
 -- A journal is the list of the inputs that a node recorded, the oldest first. A history is the list of these inputs with
 -- their transitions, the newest first.
-use Rattle.std.specs.Prelude.{ℕ, ◌+◌, ◌==◌, ◌&&◌, ◌||◌, not, cond, Bool, true, false, List, [], ◌∷◌, ◌++◌, find, flat_map, map, unwrap_or, Option, Some, None, option_map, option_and_then, is_some}
+use Rattle.std.specs.Prelude.{ℕ, ◌+◌, ◌==◌, ◌&&◌, ◌||◌, not, cond, Bool, true, false, List, [], ◌∷◌, ◌++◌, find, flat_map, unwrap_or, Option, Some, None, option_map, option_and_then, is_some}
 use Rattle.std.specs.List.{list_any, count_by}
 use Rattle.std.specs.Option.{option_map_or}
 use Rattle.units.specs.Code.{same_code}
@@ -15,9 +15,8 @@ use Rattle.status.specs.Status.{same_status}
 use Rattle.status.specs.declared.id.TransactionId.{TransactionId}
 use Rattle.status.specs.declared.words.Status.{Status}
 use Rattle.status.specs.declared.words.Status.TheVariants.{Proposed, Checked, Accepted, Completed}
-use Rattle.wire.specs.Cores as cores
 use Rattle.wire.specs.declared.input.Input.{Input}
-use Rattle.wire.specs.declared.input.Input.TheVariants.{Propose, Request, OpenAccount, CloseAccount, Eligible}
+use Rattle.wire.specs.declared.input.Input.TheVariants.{Propose, Request, OpenAccount, CloseAccount, Ack, Eligible}
 use Rattle.wire.specs.declared.message.Message.{Message}
 use Rattle.scheme.specs.declared.members.Holder.{Holder}
 use Rattle.scheme.specs.declared.registries.Scheme.{Scheme}
@@ -70,8 +69,13 @@ abbrev pub sends : List Entry → List Message
 sends [] = []
 sends (e ∷ es) = sends es ++ messages_of e.transitions
 
+-- the input acknowledges the message with that key
+abbrev pub acknowledges : ℕ → Input → Bool
+acknowledges key (Ack n) = n.value == key
+acknowledges key _ = false
+
 abbrev pub is_acknowledged : List Entry → ℕ → Bool
-is_acknowledged es key = cores.is_acknowledged (map (λ e. e.input) es) key
+is_acknowledged es key = list_any (λ e. acknowledges key e.input) es
 
 -- ---- what a registry ordered
 

@@ -7,6 +7,9 @@ pub mod Deciding
 pub mod AtRegistry
 pub mod AtLog
 pub mod Verdict
+pub mod Cores
+pub mod Unacknowledged
+pub mod Refusing
 pub mod World
 pub mod Claims
 pub mod Owner

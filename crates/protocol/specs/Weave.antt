@@ -15,7 +15,8 @@ use Rattle.protocol.specs.Deciding.{Enters}
 use Rattle.protocol.specs.History.{Transition, sends}
 use Rattle.protocol.specs.Registries.{is_node}
 use Rattle.protocol.specs.Verdict.{verdict, history}
-use Rattle.protocol.specs.World.{World, Station, station, receiver, sender, opening, step, run}
+use Rattle.wire.specs.Parties.{receiver, sender}
+use Rattle.protocol.specs.World.{World, Station, station, opening, step, run}
 use Rattle.protocol.specs.Claims.{committed_part, committed_of}
 use Rattle.protocol.specs.WayOut.{IsIdle}
 

@@ -8,7 +8,7 @@ use Rattle.status.specs.declared.moment.Moment.{Moment}
 use Rattle.wire.specs.declared.input.Input.{Input}
 use Rattle.wire.specs.declared.input.Input.TheVariants.{Propose, Request, OpenAccount, CloseAccount, Ack, CleanUp, Eligible, Received}
 use Rattle.wire.specs.declared.message.Message.{Message}
-use Rattle.wire.specs.declared.message.Message.TheVariants as message
+use Rattle.wire.specs.Parties.{receiver}
 use Rattle.scheme.specs.declared.registries.Scheme.{Scheme}
 use Rattle.protocol.specs.declared.event.Outcome.{Outcome}
 use Rattle.protocol.specs.declared.event.Outcome.TheVariants.{Recorded, Repeat, Late, Refused, Done, NotPossible}
@@ -153,16 +153,6 @@ posted w n key (Some m) = record {
   world = record w { bag = w.bag ++ record { node = n; key = key; message = m } ∷ [] };
   outcome = Done;
 }
-
-abbrev pub sender : Message → Node
-sender (message.Proposal p) = p.from
-sender (message.Notification n) = n.from
-sender (message.Request r) = r.from
-
-abbrev pub receiver : Message → Node
-receiver (message.Proposal p) = p.to
-receiver (message.Notification n) = n.to
-receiver (message.Request r) = r.to
 
 -- a message of the bag comes to its addressee
 abbrev pub deliver : World → Moment → Option Posted → Stepped

@@ -8,4 +8,3 @@ pub mod Listed
 pub mod Printed
 pub mod PrintedRecords
 pub mod ReplyTexts
-pub mod Replaying

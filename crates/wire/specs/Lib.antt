@@ -4,9 +4,9 @@ pub mod Splitting
 pub mod Codes
 pub mod Notices
 pub mod Objects
+pub mod Parties
 pub mod Messages
 pub mod Records
 pub mod Reading
 pub mod Writing
 pub mod Replies
-pub mod Cores

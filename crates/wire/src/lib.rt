@@ -1,5 +1,4 @@
-//! What nodes say to one another and what their journals keep, as text; and what is asked of a
-//! node's core.
+//! What nodes say to one another and what their journals keep, as text.
 #![tactic(auto)]
 
 mod codes;
@@ -8,7 +7,6 @@ mod lines;
 mod lists;
 mod members;
 mod message;
-mod node_core;
 mod notice;
 mod reading;
 mod reading_records;
@@ -24,7 +22,6 @@ pub use fields::ReadFault;
 pub use input::{Input, Number};
 pub use lines::{Line, LineFault, Splitter, Truncated, cuts};
 pub use message::{Message, Notification, Proposal, ProposalStatus, Request};
-pub use node_core::{NodeCore, Stepped};
 pub use notice::Notice;
 pub use reading::{decode, one_message};
 pub use reading_records::{decode_input, one_input};

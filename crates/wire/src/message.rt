@@ -1,6 +1,7 @@
 //! Messages between registries and the log.
 ghost use Rattle.std.specs.Prelude.{◌≡◌, IfOk};
 ghost use Rattle.wire.specs.Notices.{notice_status, notice_codes, proposal_status, IsNotice};
+ghost use Rattle.wire.specs.Parties as parties;
 
 use crate::notice::Notice;
 use status::{Content, Status, TransactionId};
@@ -131,6 +132,39 @@ impl Notification {
 }
 
 impl Message {
+    /// The node that it is from.
+    pub fn sender(&self) -> Node
+        ensures { result ≡ parties.sender self.now }
+    {
+        match self {
+            Message::Proposal(proposal) => proposal.from,
+            Message::Notification(notification) => notification.from,
+            Message::Request(request) => request.from,
+        }
+    }
+
+    /// The node that it is addressed to.
+    pub fn receiver(&self) -> Node
+        ensures { result ≡ parties.receiver self.now }
+    {
+        match self {
+            Message::Proposal(proposal) => proposal.to,
+            Message::Notification(notification) => notification.to,
+            Message::Request(request) => request.to,
+        }
+    }
+
+    /// The transaction that it is about.
+    pub fn transaction(&self) -> TransactionId
+        ensures { result ≡ parties.transaction self.now }
+    {
+        match self {
+            Message::Proposal(proposal) => proposal.id,
+            Message::Notification(notification) => notification.id,
+            Message::Request(request) => request.id,
+        }
+    }
+
     /// An equal message, or `NoMemory`.
     pub fn copy(&self) -> Result<Message, NoMemory>
         ensures { IfOk result (λ m. m ≡ self.now) }

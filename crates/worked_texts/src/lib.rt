@@ -17,6 +17,4 @@ mod show_rows;
 #[cfg(test)]
 mod streams;
 #[cfg(test)]
-mod toy_core;
-#[cfg(test)]
 mod value_rows;

@@ -18,7 +18,7 @@ use Rattle.wire.specs.declared.message.Message.TheVariants as message
 use Rattle.scheme.specs.declared.registries.Scheme.{Scheme}
 use Rattle.protocol.specs.Claims.{Agrees, StandsAt}
 use Rattle.protocol.specs.History.{Transition, Entry, transitions_of, newest, sends}
-use Rattle.protocol.specs.World.{sender}
+use Rattle.wire.specs.Parties.{sender}
 use Rattle.safety.proofs.MovesAndHistories.NewestTransitions.{Made, Got, Heard, newest_stands}
 use Rattle.lemmas.proofs.Membership.{In}
 use Rattle.lemmas.proofs.OneValue.{one_some}

@@ -33,14 +33,16 @@ use Rattle.protocol.specs.Claims.{TerminatesForEligibility, committed_of, live_o
 use Rattle.protocol.specs.Deciding.{Verdict, Enters, IsRepeat, IsLate, IsRefused}
 use Rattle.protocol.specs.History.{Transition, Entry, transitions_of, newest, sends, messages_of}
 use Rattle.protocol.specs.Verdict.{verdict, history, made}
-use Rattle.protocol.specs.World.{World, Station, Turn, station, journal, put, stays, opening, rests, answered, take_input, commit, crash, restart, sent, at_node, is_order, posted, sender, receiver, deliver, step, run}
+use Rattle.wire.specs.Parties.{sender, receiver}
+use Rattle.protocol.specs.World.{World, Station, Turn, station, journal, put, stays, opening, rests, answered, take_input, commit, crash, restart, sent, at_node, is_order, posted, deliver, step, run}
 use Rattle.protocol.specs.declared.event.Outcome.TheVariants.{NotPossible}
 use Rattle.protocol.specs.declared.event.Posted.{Posted}
 use Rattle.protocol.specs.declared.event.WorldEvent.{WorldEvent}
 use Rattle.protocol.specs.declared.event.WorldEvent.TheVariants.{Take, Commit, Post, Deliver, Crash, Restart}
 use Rattle.safety.proofs.DeliveryLemmas.FindingsInProposals.{only_eligibility}
 use Rattle.safety.proofs.MovesAndHistories.TransitionForms.{checked_message}
-use Rattle.safety.proofs.MovesAndHistories.LongerHistories.{history_from_append, sends_append}
+use Rattle.protocol.proofs.Histories.{history_from_append}
+use Rattle.safety.proofs.MovesAndHistories.LongerHistories.{sends_append}
 use Rattle.safety.proofs.MovesAndHistories.NewestTransitions.{one_notice}
 use Rattle.lemmas.proofs.Membership.{In, In_cases, In_flat_map, In_slice_get}
 use Rattle.safety.proofs.MovesAndHistories.TableMoves.{LogMove, checks, passes, cancels, forestalls, log_moves}

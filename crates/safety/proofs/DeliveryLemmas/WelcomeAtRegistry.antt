@@ -43,7 +43,7 @@ use Rattle.protocol.specs.History.{Transition, Entry, transitions_of, newest, is
 use Rattle.protocol.specs.Owner.{Owing}
 use Rattle.protocol.specs.Pieces.{Piece, pieces, repeats}
 use Rattle.protocol.specs.Registries.{has_member}
-use Rattle.protocol.specs.World.{receiver}
+use Rattle.wire.specs.Parties.{receiver}
 use Rattle.safety.proofs.AgreementOfNodes.InitiatorRecords.{begun, initiated}
 use Rattle.safety.proofs.AgreementOfNodes.CausalHistories.{Causal, heard_sent, log_said, past_transition}
 use Rattle.safety.proofs.AgreementOfNodes.CompletionsAgree.{log_has}

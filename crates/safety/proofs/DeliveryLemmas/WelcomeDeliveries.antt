@@ -10,7 +10,8 @@ use Rattle.protocol.specs.Claims.{DeliversWelcome, live_of, whole}
 use Rattle.protocol.specs.Deciding.{Verdict, Enters, IsRepeat, IsLate, IsRefused}
 use Rattle.protocol.specs.History.{sends}
 use Rattle.protocol.specs.Verdict.{verdict, history}
-use Rattle.protocol.specs.World.{World, Station, station, journal, rests, answered, take_input, at_node, opening, run, deliver, step, sender, receiver}
+use Rattle.wire.specs.Parties.{sender, receiver}
+use Rattle.protocol.specs.World.{World, Station, station, journal, rests, answered, take_input, at_node, opening, run, deliver, step}
 use Rattle.protocol.specs.declared.event.Outcome.TheVariants.{NotPossible, Refused}
 use Rattle.protocol.specs.declared.event.Posted.{Posted}
 use Rattle.protocol.specs.declared.event.WorldEvent.{WorldEvent}

@@ -10,7 +10,7 @@ use Rattle.wire.specs.declared.message.Message.TheVariants as message
 use Rattle.scheme.specs.declared.registries.Scheme.{Scheme}
 use Rattle.protocol.specs.History.{Entry, sends}
 use Rattle.protocol.specs.Verdict.{verdict}
-use Rattle.protocol.specs.World.{sender, receiver}
+use Rattle.wire.specs.Parties.{sender, receiver}
 use Rattle.safety.proofs.AgreementOfNodes.CausalHistories.{Causal}
 use Rattle.safety.proofs.OneLog.LogSendings.{goes, no_request}
 use Rattle.safety.proofs.OneRegistry.RegistrySendings.{Says, offers, answers, completes, says, asks_log}

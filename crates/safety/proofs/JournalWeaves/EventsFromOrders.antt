@@ -21,7 +21,8 @@ use Rattle.protocol.specs.History.{Transition, Entry, sends, is_acknowledged}
 use Rattle.protocol.specs.Registries.{is_node}
 use Rattle.protocol.specs.Verdict.{verdict, history}
 use Rattle.protocol.specs.Weave.{Projects, Placed, journals_of, WasSent, IsNext, InTurn, uncommitted}
-use Rattle.protocol.specs.World.{World, Station, opening, run, station, sender, receiver, is_order, was_posted}
+use Rattle.wire.specs.Parties.{sender, receiver}
+use Rattle.protocol.specs.World.{World, Station, opening, run, station, is_order, was_posted}
 use Rattle.protocol.specs.declared.event.Posted.{Posted}
 use Rattle.protocol.specs.declared.event.WorldEvent.{WorldEvent}
 use Rattle.protocol.specs.declared.event.WorldEvent.TheVariants.{Take, Commit, Post, Deliver}

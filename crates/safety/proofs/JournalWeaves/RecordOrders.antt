@@ -15,7 +15,7 @@ use Rattle.protocol.specs.Deciding.{Enters}
 use Rattle.protocol.specs.History.{sends}
 use Rattle.protocol.specs.Verdict.{verdict, history}
 use Rattle.protocol.specs.Weave.{Placed, journals_of, WasSent, InTurn, ArePrefixes, HasNext}
-use Rattle.protocol.specs.World.{sender}
+use Rattle.wire.specs.Parties.{sender}
 use Rattle.safety.proofs.MovesAndHistories.LongerHistories.{sends_append}
 use Rattle.lemmas.proofs.Membership.{In}
 use Rattle.lemmas.proofs.Positions.{In_contains, contains_in, left_empty}

@@ -16,7 +16,8 @@ use Rattle.protocol.specs.History.{Transition, sends}
 use Rattle.protocol.specs.Registries.{is_node}
 use Rattle.protocol.specs.Verdict.{verdict, history}
 use Rattle.protocol.specs.Weave.{WasSent, IsQuiet, Gives, StuckIsFinal}
-use Rattle.protocol.specs.World.{World, Turn, Stepped, station, stays, take_input, at_node, is_order, was_posted, sender, deliver, step}
+use Rattle.wire.specs.Parties.{sender}
+use Rattle.protocol.specs.World.{World, Turn, Stepped, station, stays, take_input, at_node, is_order, was_posted, deliver, step}
 use Rattle.protocol.specs.declared.event.Outcome.TheVariants.{Recorded, NotPossible}
 use Rattle.protocol.specs.declared.event.Posted.{Posted}
 use Rattle.protocol.specs.declared.event.WorldEvent.{WorldEvent}

@@ -2,7 +2,6 @@
 -- The entries of a longer journal stand in front of the older entries, and nothing that was sent or received before is lost.
 -- With one input more, a received message is that input or was received before.
 use Rattle.std.proofs.Common.{◌≡◌, List, [], ◌∷◌, ◌++◌, ◌⊎◌, inl, inr, refl, sym, subst, ◌∙◌, append_assoc}
-use Rattle.std.proofs.lemmas.List.Sums.{fold-append}
 use Rattle.units.specs.declared.code.Node.{Node}
 use Rattle.status.specs.declared.moment.Moment.{Moment}
 use Rattle.wire.specs.declared.input.Input.{Input}
@@ -11,11 +10,9 @@ use Rattle.wire.specs.declared.message.Message.{Message}
 use Rattle.scheme.specs.declared.registries.Scheme.{Scheme}
 use Rattle.protocol.specs.History.{Transition, Entry, transitions_of, sends, messages_of}
 use Rattle.protocol.specs.Verdict.{verdict, extend, history_from, history, made}
+use Rattle.protocol.proofs.Histories.{history_from_append}
 use Rattle.safety.proofs.MovesAndHistories.NewestTransitions.{Made, Got}
 use Rattle.lemmas.proofs.Membership.{In, In_left}
-
-pub history_from_append : (scheme : Scheme) (n : Node) (es : List Entry) (xs ys : List Input) → history_from scheme n es (xs ++ ys) ≡ history_from scheme n (history_from scheme n es xs) ys
-history_from_append scheme n es xs ys = fold-append (extend scheme n) es xs ys
 
 made_from : (scheme : Scheme) (n : Node) (es : List Entry) (xs : List Input) → Made scheme n es → Made scheme n (history_from scheme n es xs)
 made_from scheme n es [] made = made

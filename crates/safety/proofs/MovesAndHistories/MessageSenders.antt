@@ -11,7 +11,7 @@ use Rattle.wire.specs.declared.input.Input.{Input}
 use Rattle.wire.specs.declared.message.Message.{Message}
 use Rattle.scheme.specs.declared.registries.Scheme.{Scheme}
 use Rattle.protocol.specs.History.{Transition, Entry, sends, messages_of}
-use Rattle.protocol.specs.World.{sender}
+use Rattle.wire.specs.Parties.{sender}
 use Rattle.safety.proofs.MovesAndHistories.TransitionForms.{settled_messages, checked_message}
 use Rattle.safety.proofs.MovesAndHistories.NewestTransitions.{Made, made_registry, made_log}
 use Rattle.lemmas.proofs.Membership.{In, In_cases, In_flat_map}

@@ -35,7 +35,8 @@ use Rattle.safety.proofs.MovesAndHistories.TransitionForms.{checked, checked_sta
 use Rattle.lemmas.proofs.NoRepeats.{NoRepeat}
 use Rattle.lemmas.proofs.SomePass.{list_any_none, list_any_in}
 use Rattle.safety.proofs.ListLemmas.CountsInLists.{picked, In_picked, count_no, count_yes}
-use Rattle.safety.proofs.MovesAndHistories.LongerHistories.{history_from_append, made_history}
+use Rattle.protocol.proofs.Histories.{history_from_append}
+use Rattle.safety.proofs.MovesAndHistories.LongerHistories.{made_history}
 use Rattle.safety.proofs.MovesAndHistories.NewestTransitions.{Made, made_log, newest_id, newest_append, newest_stands}
 use Rattle.safety.proofs.OneRegistry.UnitsCountedOnce.{newest_cons}
 use Rattle.safety.proofs.OneLog.LogInputs.{AllCancelled, each_log_move, none_stand}

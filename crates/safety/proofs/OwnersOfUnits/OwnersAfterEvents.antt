@@ -35,7 +35,8 @@ use Rattle.lemmas.proofs.NoRepeats.{NoRepeat, no_repeat_apart}
 use Rattle.lemmas.proofs.SomePass.{list_any_some}
 use Rattle.safety.proofs.ListLemmas.CountsInLists.{number_none, number_append, number_one, picked, picked_In, picked_append}
 use Rattle.safety.proofs.OneRegistry.TransactionEnds.{ends_last, own_contents, proposer}
-use Rattle.safety.proofs.MovesAndHistories.LongerHistories.{history_from_append, transitions_from}
+use Rattle.protocol.proofs.Histories.{history_from_append}
+use Rattle.safety.proofs.MovesAndHistories.LongerHistories.{transitions_from}
 use Rattle.safety.proofs.MovesAndHistories.NewestTransitions.{Offered, newest_id, newest_append, newest_stands}
 use Rattle.safety.proofs.OneRegistry.UnitsCountedOnce.{Waits, local_history}
 use Rattle.lemmas.proofs.Membership.{In, In_left, In_right}

@@ -20,10 +20,11 @@ use Rattle.protocol.specs.History.{Entry, Transition, newest, sends, transitions
 use Rattle.protocol.specs.Registries.{is_node}
 use Rattle.protocol.specs.Verdict.{history, made, verdict}
 use Rattle.protocol.specs.WayOut.{OnlyTransport}
-use Rattle.protocol.specs.World.{World, receiver, run, sender, station}
+use Rattle.wire.specs.Parties.{receiver, sender}
+use Rattle.protocol.specs.World.{World, run, station}
 use Rattle.protocol.specs.declared.event.WorldEvent.{WorldEvent}
 use Rattle.protocol.specs.declared.event.WorldEvent.TheVariants.{Commit, Deliver, Post}
-use Rattle.safety.proofs.MovesAndHistories.LongerHistories.{history_from_append}
+use Rattle.protocol.proofs.Histories.{history_from_append}
 use Rattle.lemmas.proofs.Membership.{In}
 use Rattle.safety.proofs.WorldLemmas.QuietWorlds.{Grown, Quiet, delivers, quiet_after}
 use Rattle.safety.proofs.WorldLemmas.SchemesKept.{run_scheme}

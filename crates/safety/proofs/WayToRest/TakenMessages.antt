@@ -38,7 +38,8 @@ use Rattle.protocol.specs.Effects.{notifies, proposes, initiator_sends, log_send
 use Rattle.protocol.specs.History.{Entry, Transition, newest, sends, transitions_of}
 use Rattle.protocol.specs.Registries.{is_node}
 use Rattle.protocol.specs.Verdict.{verdict}
-use Rattle.protocol.specs.World.{World, receiver, sender}
+use Rattle.wire.specs.Parties.{receiver, sender}
+use Rattle.protocol.specs.World.{World}
 use Rattle.safety.proofs.MovesAndHistories.TransitionForms.{arrived, settled_messages, checked, told_to, moved}
 use Rattle.safety.proofs.AgreementOfNodes.CausalHistories.{Causal}
 use Rattle.lemmas.proofs.Membership.{In}

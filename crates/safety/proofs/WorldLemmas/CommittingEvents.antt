@@ -11,7 +11,8 @@ use Rattle.scheme.specs.declared.registries.Scheme.{Scheme}
 use Rattle.protocol.specs.Claims.{committed_part}
 use Rattle.protocol.specs.Deciding.{Verdict, Enters, IsRepeat, IsLate, IsRefused}
 use Rattle.protocol.specs.Verdict.{verdict, history}
-use Rattle.protocol.specs.World.{World, Station, Turn, Stepped, station, journal, put, stays, rests, answered, take_input, commit, crash, restart, sent, at_node, is_order, posted, receiver, deliver, step}
+use Rattle.wire.specs.Parties.{receiver}
+use Rattle.protocol.specs.World.{World, Station, Turn, Stepped, station, journal, put, stays, rests, answered, take_input, commit, crash, restart, sent, at_node, is_order, posted, deliver, step}
 use Rattle.protocol.specs.declared.event.Outcome.TheVariants.{NotPossible}
 use Rattle.protocol.specs.declared.event.Posted.{Posted}
 use Rattle.protocol.specs.declared.event.WorldEvent.{WorldEvent}

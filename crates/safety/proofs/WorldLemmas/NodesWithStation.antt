@@ -19,7 +19,8 @@ use Rattle.protocol.specs.Deciding.{Verdict, Enters, IsRepeat, IsLate, IsRefused
 use Rattle.protocol.specs.History.{Entry}
 use Rattle.protocol.specs.Registries.{is_node}
 use Rattle.protocol.specs.Verdict.{verdict, history}
-use Rattle.protocol.specs.World.{World, Station, Turn, Stepped, station, journal, put, stays, opening, opening_station, rests, answered, take_input, commit, crash, restart, sent, at_node, is_order, posted, receiver, deliver, step, run}
+use Rattle.wire.specs.Parties.{receiver}
+use Rattle.protocol.specs.World.{World, Station, Turn, Stepped, station, journal, put, stays, opening, opening_station, rests, answered, take_input, commit, crash, restart, sent, at_node, is_order, posted, deliver, step, run}
 use Rattle.protocol.specs.declared.event.Outcome.TheVariants.{NotPossible}
 use Rattle.protocol.specs.declared.event.Posted.{Posted}
 use Rattle.protocol.specs.declared.event.WorldEvent.{WorldEvent}

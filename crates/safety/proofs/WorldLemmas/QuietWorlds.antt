@@ -21,7 +21,8 @@ use Rattle.protocol.specs.Deciding.{Enters}
 use Rattle.protocol.specs.History.{Transition, sends}
 use Rattle.protocol.specs.Registries.{is_node}
 use Rattle.protocol.specs.Verdict.{verdict, history}
-use Rattle.protocol.specs.World.{World, Station, Turn, Stepped, opening, opening_station, station, journal, put, stays, rests, answered, take_input, commit, sent, at_node, is_order, posted, sender, receiver, deliver, step, run}
+use Rattle.wire.specs.Parties.{sender, receiver}
+use Rattle.protocol.specs.World.{World, Station, Turn, Stepped, opening, opening_station, station, journal, put, stays, rests, answered, take_input, commit, sent, at_node, is_order, posted, deliver, step, run}
 use Rattle.protocol.specs.declared.event.Outcome.TheVariants.{NotPossible}
 use Rattle.protocol.specs.declared.event.Posted.{Posted}
 use Rattle.protocol.specs.declared.event.WorldEvent.{WorldEvent}

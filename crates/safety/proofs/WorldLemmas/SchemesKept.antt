@@ -9,7 +9,8 @@ use Rattle.protocol.specs.declared.event.Outcome.TheVariants.{NotPossible}
 use Rattle.protocol.specs.declared.event.Posted.{Posted}
 use Rattle.protocol.specs.declared.event.WorldEvent.{WorldEvent}
 use Rattle.protocol.specs.declared.event.WorldEvent.TheVariants.{Take, Commit, Post, Deliver, Crash, Restart}
-use Rattle.protocol.specs.World.{World, Station, Turn, Stepped, station, stays, take_input, commit, crash, restart, sent, at_node, is_order, posted, receiver, deliver, step, run}
+use Rattle.wire.specs.Parties.{receiver}
+use Rattle.protocol.specs.World.{World, Station, Turn, Stepped, station, stays, take_input, commit, crash, restart, sent, at_node, is_order, posted, deliver, step, run}
 
 at_node_scheme : (w : World) (o : Option Station) (f : Station → Turn) → (at_node w o f).world.scheme ≡ w.scheme
 at_node_scheme w None f = refl

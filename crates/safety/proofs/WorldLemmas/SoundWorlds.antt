@@ -21,7 +21,8 @@ use Rattle.protocol.specs.Claims.{committed_of, live_of, committed_part, whole}
 use Rattle.protocol.specs.Deciding.{Verdict, Enters, IsRepeat, IsLate, IsRefused}
 use Rattle.protocol.specs.History.{sends}
 use Rattle.protocol.specs.Verdict.{verdict, history}
-use Rattle.protocol.specs.World.{World, Station, Turn, station, journal, put, stays, opening, opening_station, rests, answered, take_input, commit, crash, restart, sent, at_node, is_order, posted, sender, receiver, deliver, step, run}
+use Rattle.wire.specs.Parties.{sender, receiver}
+use Rattle.protocol.specs.World.{World, Station, Turn, station, journal, put, stays, opening, opening_station, rests, answered, take_input, commit, crash, restart, sent, at_node, is_order, posted, deliver, step, run}
 use Rattle.protocol.specs.declared.event.Outcome.TheVariants.{Done, NotPossible}
 use Rattle.protocol.specs.declared.event.Posted.{Posted}
 use Rattle.protocol.specs.declared.event.WorldEvent.{WorldEvent}

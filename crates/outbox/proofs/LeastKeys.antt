@@ -1,0 +1,102 @@
+-- The least key of a message that isn't acknowledged, by the first place of a range.
+use Rattle.std.proofs.Common.{◌≡◌, ℕ, ◌≤◌, Bool, true, false, List, [], ◌∷◌, length, Option, Some, None, refl, sym, ap, subst, ◌∙◌, arith}
+use Rattle.std.specs.BTreeSet.{BTreeSet, contains, IsKeyRangeOf}
+use Rattle.std.specs.Ordering.{is_gt}
+use Rattle.std.specs.declared.ops.Bound.TheVariants.{Included, Unbounded}
+use Rattle.std.proofs.lemmas.Bool.{true≢false}
+use Rattle.units.specs.declared.code.Code.{Code}
+use Rattle.units.specs.declared.code.Node.{Node}
+use Rattle.units.specs.declared.code.Node.TheVariants.{Itl, Registry}
+use Rattle.wire.specs.declared.message.Message.{Message}
+use Rattle.protocol.specs.Unacknowledged.{IsLeastFrom, awaits}
+use Rattle.outbox.specs.Places.{peer_of, place_cmp, place_of}
+use Rattle.outbox.specs.declared.place.Place.{Place}
+use Rattle.outbox.specs.Kept.{AreCounts, IsKept, sent_in}
+use Rattle.outbox.specs.Sending.{Sent, messages, is_acknowledged}
+use Rattle.outbox.specs.declared.record.Record.{Record}
+use Rattle.outbox.proofs.KeptTables.{at_place, not_true}
+use Rattle.outbox.proofs.Sendings.{all_messages}
+use Rattle.units.proofs.Same.{code_of_same, same_code-refl}
+use Rattle.units.specs.Code.{same_code}
+use Rattle.std.specs.Option.{option_eq}
+use Rattle.outbox.proofs.PlacesOfMessages.{between_places, key_below, keys_go_up, places_go_up}
+
+-- the places from the first key of a node on
+abbrev IsRange : Node → ℕ → BTreeSet Place → List Place → Type 0
+IsRange n from ps r = IsKeyRangeOf place_cmp (Included (place_of n from)) Unbounded ps r
+
+peer_is : (n : Node) (key : ℕ) → peer_of (place_of n key).registry ≡ n
+peer_is Itl key = refl
+peer_is (Registry c) key = refl
+
+key_is : (n : Node) (key : ℕ) → (place_of n key).key ≡ key
+key_is Itl key = refl
+key_is (Registry c) key = refl
+
+module _ (ps : BTreeSet Place) (ms : List Message) (acked : ℕ → Bool) (n : Node) (from : ℕ) (kept : (q : Place) → contains place_cmp ps q ≡ awaits ms acked (peer_of q.registry) q.key) where
+  pub least_none : (r : List Place) → IsRange n from ps r → r ≡ [] → IsLeastFrom (awaits ms acked n) from None
+  least_none r range nothing = λ k h. sym (at_place ps ms acked n k kept) ∙ range.5 nothing (place_of n k) (places_go_up n from k h, tt)
+
+  -- a message from the first key on has a place that isn't below the first one
+  above : (first : Place) (rest : List Place) (k : ℕ) → IsRange n from ps (first ∷ rest) → from ≤ k → awaits ms acked n k ≡ true → is_gt (place_cmp first (place_of n k)) ≡ false
+  above first rest k range h waits = range.2 (place_of n k) (places_go_up n from k h, tt) (at_place ps ms acked n k kept ∙ waits)
+
+  pub least_other : (first : Place) (rest : List Place) → IsRange n from ps (first ∷ rest) → (first.registry ≡ (place_of n from).registry → ⊥) → IsLeastFrom (awaits ms acked n) from None
+  least_other first rest range other = λ k h. not_true (awaits ms acked n k) (λ waits. other (between_places n first from k range.1.0.0 (above first rest k range h waits)))
+
+  pub least_some : (first : Place) (rest : List Place) → IsRange n from ps (first ∷ rest) → first.registry ≡ (place_of n from).registry → IsLeastFrom (awaits ms acked n) from (Some first.key)
+  least_some first rest range same = (
+    keys_go_up n first from same range.1.0.0,
+    subst (λ (m : Node). awaits ms acked m first.key ≡ true) (ap peer_of same ∙ peer_is n from) (sym (kept first) ∙ range.1.1),
+    λ k h below. not_true (awaits ms acked n k) (λ waits. let up : first.key ≤ k = key_below n first from k same (above first rest k range h waits) in omega arith),
+  )
+
+-- by what each record did
+pub seen : (rs : List Record) (ms : List Message) (S : List Sent) (n : Node) (from : ℕ) (o : Option ℕ) → sent_in 0 rs ms ≡ S → AreCounts 0 rs (length ms)
+    → IsLeastFrom (awaits ms (is_acknowledged (sent_in 0 rs ms)) n) from o → IsLeastFrom (awaits (messages S) (is_acknowledged S) n) from o
+seen rs ms S n from o view counted least =
+    subst (λ (l : List Sent). IsLeastFrom (awaits (messages l) (is_acknowledged l) n) from o) view
+    (subst (λ (l : List Message). IsLeastFrom (awaits l (is_acknowledged (sent_in 0 rs ms)) n) from o) (sym (all_messages rs ms counted)) least)
+
+-- what the comparison of two places' registries tells
+pub same_registry : (r s : Option Code) → option_eq same_code r s ≡ true → r ≡ s
+same_registry None None e = refl
+same_registry None (Some d) e = absurd (true≢false (sym e))
+same_registry (Some c) None e = absurd (true≢false (sym e))
+same_registry (Some c) (Some d) e = ap Some (code_of_same c d e)
+
+pub other_registry : (r s : Option Code) → option_eq same_code r s ≡ false → r ≡ s → ⊥
+other_registry None s e same = true≢false (subst (λ (x : Option Code). option_eq same_code None x ≡ false) (sym same) e)
+other_registry (Some c) s e same = true≢false (sym (same_code-refl c) ∙ subst (λ (x : Option Code). option_eq same_code (Some c) x ≡ false) (sym same) e)
+
+-- ---- what a range from a place shows
+
+-- the least key, by what the records did
+abbrev pub Least : List Sent → Node → ℕ → Option ℕ → Type 0
+Least S n from o = IsLeastFrom (awaits (messages S) (is_acknowledged S) n) from o
+
+-- the outbox keeps these tables, and this is the range of its places from the place of the first key on
+pub record Ranges (rs : List Record) (ms : List Message) (ps : BTreeSet Place) (S : List Sent) (n : Node) (from : ℕ) (p : Place) (r : List Place) : Type 0 where
+  pub view : sent_in 0 rs ms ≡ S
+  pub kept : IsKept (sent_in 0 rs ms) rs ms ps
+  pub start : p ≡ place_of n from
+  pub range : IsKeyRangeOf place_cmp (Included p) Unbounded ps r
+
+module _ (rs : List Record) (ms : List Message) (ps : BTreeSet Place) (S : List Sent) (n : Node) (from : ℕ) (p : Place) (r : List Place) (h : Ranges rs ms ps S n from p r) where
+  from_place : IsRange n from ps r
+  from_place = subst (λ (q : Place). IsKeyRangeOf place_cmp (Included q) Unbounded ps r) h.start h.range
+
+  pub shown_none : r ≡ [] → Least S n from None
+  shown_none nothing = seen rs ms S n from None h.view h.kept.counted (least_none ps ms (is_acknowledged (sent_in 0 rs ms)) n from h.kept.awaited r from_place nothing)
+
+  pub shown_some : (found : Place) (rest : List Place) → r ≡ found ∷ rest → option_eq same_code found.registry p.registry ≡ true → Least S n from (Some found.key)
+  shown_some found rest first same =
+      seen rs ms S n from (Some found.key) h.view h.kept.counted
+      (least_some ps ms (is_acknowledged (sent_in 0 rs ms)) n from h.kept.awaited found rest (subst (IsRange n from ps) first from_place)
+      (same_registry found.registry p.registry same ∙ ap (λ (q : Place). q.registry) h.start))
+
+  pub shown_other : (found : Place) (rest : List Place) → r ≡ found ∷ rest → option_eq same_code found.registry p.registry ≡ false → Least S n from None
+  shown_other found rest first other =
+      seen rs ms S n from None h.view h.kept.counted
+      (least_other ps ms (is_acknowledged (sent_in 0 rs ms)) n from h.kept.awaited found rest (subst (IsRange n from ps) first from_place)
+      (λ same. other_registry found.registry p.registry other (same ∙ sym (ap (λ (q : Place). q.registry) h.start))))

@@ -1,0 +1,4 @@
+pub mod Sendings
+pub mod PlacesOfMessages
+pub mod KeptTables
+pub mod LeastKeys

@@ -1,0 +1,4 @@
+pub mod Sending
+pub mod Places
+pub mod Kept
+pub mod Totals

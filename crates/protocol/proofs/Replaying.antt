@@ -1,0 +1,107 @@
+-- Journals whose records are each recorded at their place, with one record more; and those that are not.
+use Rattle.std.specs.Prelude.{◌==◌, false, ◌≡◌, ◌⊎◌, ℕ, ◌<◌, ◌≤◌, List, [], ◌∷◌, ◌++◌, length, take, slice_get, Result, Ok, Err, Some, refl}
+use Rattle.std.proofs.Common.{sym, ap, arith, suc, zero, inl, inr, subst, ◌∙◌, drop, get_or, append_assoc, take-append-drop}
+use Rattle.std.proofs.Math.Seq.{take-append_seam, take-suc}
+use Rattle.std.proofs.lemmas.List.{take-append-le}
+use Rattle.std.proofs.lemmas.Bool.{true≢false, eq-eqb}
+use Rattle.std.proofs.lemmas.Option.{slice_get_within}
+use Rattle.units.specs.RefusalCodes.{out_of_memory}
+use Rattle.units.specs.declared.code.Node.{Node}
+use Rattle.units.specs.declared.refusal.Refusal.{Refusal}
+use Rattle.wire.specs.declared.input.Input.{Input}
+use Rattle.scheme.specs.declared.registries.Scheme.{Scheme}
+use Rattle.protocol.specs.Cores.{HasFault, IsDueOrNoMemory, IsNotRecordedAt, Replays, answer}
+use Rattle.protocol.specs.declared.node_core.Stepped.{Stepped}
+use Rattle.protocol.specs.declared.node_core.Stepped.TheVariants.{Recorded, Repeat, Late}
+use Rattle.protocol.specs.declared.replay_fault.ReplayFault.{ReplayFault}
+use Rattle.protocol.specs.declared.replay_fault.ReplayFault.TheVariants.{NotRecorded, NoMemory}
+
+-- an element of a list with one more at its end
+pub slice_get-snoc : {X : Type 0} (xs : List X) (y : X) (k : ℕ) (x : X) → slice_get (xs ++ y ∷ []) k ≡ Some x → (slice_get xs k ≡ Some x) ⊎ ((k ≡ length xs) × (y ≡ x))
+slice_get-snoc [] y zero x e = inr (refl, cc)
+slice_get-snoc [] y (suc k) x e = absurd cc
+slice_get-snoc (a ∷ xs) y zero x e = inl e
+slice_get-snoc (a ∷ xs) y (suc k) x e = elim (slice_get-snoc xs y k x e) [ inl h ↦ inl h | inr h ↦ inr (ap suc h.0, h.1) ]
+
+pub slice_get_append_left : {X : Type 0} (xs ys : List X) (k : ℕ) (x : X) → slice_get xs k ≡ Some x → slice_get (xs ++ ys) k ≡ Some x
+slice_get_append_left [] ys k x e = absurd cc
+slice_get_append_left (a ∷ xs) ys zero x e = e
+slice_get_append_left (a ∷ xs) ys (suc k) x e = slice_get_append_left xs ys k x e
+
+-- the element right behind a list
+pub slice_get_seam : {X : Type 0} (xs : List X) (y : X) (ys : List X) → slice_get (xs ++ y ∷ ys) (length xs) ≡ Some y
+slice_get_seam [] y ys = refl
+slice_get_seam (x ∷ xs) y ys = slice_get_seam xs y ys
+
+-- one record more, recorded at its place
+pub replays_snoc : (scheme : Scheme) (n : Node) (j : List Input) (i : Input) → Replays scheme n j → answer scheme n j i ≡ Ok (Recorded (length j)) → Replays scheme n (j ++ i ∷ [])
+replays_snoc scheme n j i h e k x at =
+    elim (slice_get-snoc j i k x at) [
+      | inl here ↦ let below : k < length j = slice_get_within j k x here in let short : k ≤ length j = omega arith in rw take-append-le (h k x here)
+      | inr last ↦
+          let P : ℕ → Type 0 = λ m. answer scheme n (take m (j ++ i ∷ [])) x ≡ Ok (Recorded m) in
+          let whole : take (length j) (j ++ i ∷ []) ≡ j = take-append_seam j (i ∷ []) in
+          subst P (sym last.0) (rw (whole, ← last.1) e)
+    ]
+
+-- the record after the first ones isn't recorded at its place
+pub not_recorded_next : (scheme : Scheme) (n : Node) (j : List Input) (i : Input) (rest : List Input) → (answer scheme n j i ≡ Ok (Recorded (length j)) → ⊥) → IsNotRecordedAt scheme n (j ++ i ∷ rest) (length j)
+not_recorded_next scheme n j i rest refuses =
+    let whole : take (length j) (j ++ i ∷ rest) ≡ j = take-append_seam j (i ∷ rest) in
+    (i, slice_get_seam j i rest, λ e. refuses (rw whole at e))
+
+-- a journal that replays has no such record
+pub replays_apart : (scheme : Scheme) (n : Node) (j : List Input) (k : ℕ) → Replays scheme n j → IsNotRecordedAt scheme n j k → ⊥
+replays_apart scheme n j k h bad = bad.2 (h k bad.0 bad.1)
+
+-- a result that says that the input isn't recorded, and isn't out of memory
+abbrev pub IsRefusal : Result Stepped Refusal → Type 0
+IsRefusal (Ok (Recorded place)) = ⊥
+IsRefusal (Ok Repeat) = Unit {0}
+IsRefusal (Ok Late) = Unit {0}
+IsRefusal (Err refusal) = refusal.code ≡ out_of_memory → ⊥
+
+not_recorded : (due : Result Stepped Refusal) (k : ℕ) → IsRefusal due → due ≡ Ok (Recorded k) → ⊥
+not_recorded (Ok (Recorded place)) k h e = h
+not_recorded (Ok Repeat) k h e = absurd (cc (e))
+not_recorded (Ok Late) k h e = absurd (cc (e))
+not_recorded (Err refusal) k h e = absurd (cc (e))
+
+is_due : (result due : Result Stepped Refusal) → IsRefusal result → IsDueOrNoMemory result due → result ≡ due
+is_due result due h (inl e) = e
+is_due result due h (inr e) = absurd (subst IsRefusal e h refl)
+
+-- what is refused isn't recorded at its place
+pub refused_at : (scheme : Scheme) (n : Node) (j : List Input) (i : Input) (k : ℕ) (result : Result Stepped Refusal) → IsDueOrNoMemory result (answer scheme n j i) → IsRefusal result → k ≡ length j
+    → IsNotRecordedAt scheme n (j ++ i ∷ []) k
+refused_at scheme n j i k result due refusal place =
+    subst (IsNotRecordedAt scheme n (j ++ i ∷ [])) (sym place)
+    (not_recorded_next scheme n j i [] (not_recorded (answer scheme n j i) (length j) (subst IsRefusal (is_due result (answer scheme n j i) refusal due) refusal)))
+
+-- a record that isn't recorded among the first ones isn't recorded in the whole
+pub not_recorded_more : (scheme : Scheme) (n : Node) (j rest : List Input) (k : ℕ) → IsNotRecordedAt scheme n j k → IsNotRecordedAt scheme n (j ++ rest) k
+not_recorded_more scheme n j rest k bad =
+    let below : k < length j = slice_get_within j k bad.0 bad.1 in
+    let short : k ≤ length j = omega arith in
+    (bad.0, slice_get_append_left j rest k bad.0 bad.1, λ e. bad.2 (rw take-append-le at e))
+
+-- so a fault of the first ones is one of the whole
+pub fault_more : (scheme : Scheme) (n : Node) (j rest : List Input) (fault : ReplayFault) → HasFault scheme n j fault → HasFault scheme n (j ++ rest) fault
+fault_more scheme n j rest (NotRecorded k) bad = not_recorded_more scheme n j rest k bad
+fault_more scheme n j rest NoMemory bad = tt
+
+-- a fault at the next of some inputs is one of the journal with all of them
+pub fault_at_next : (scheme s : Scheme) (n m : Node) (old j inputs : List Input) (k : ℕ) (i : Input) (fault : ReplayFault) → s ≡ scheme → m ≡ n → j ≡ old ++ take k inputs → k < length inputs → i ≡ get_or inputs k i
+    → HasFault s m (j ++ i ∷ []) fault → HasFault scheme n (old ++ inputs) fault
+fault_at_next scheme s n m old j inputs k i fault schemes nodes taken below item bad =
+    let front : j ++ i ∷ [] ≡ old ++ take (suc k) inputs =
+    ap (λ (l : List Input). l ++ i ∷ []) taken ∙ append_assoc old (take k inputs) (i ∷ []) ∙ ap (λ (x : Input). old ++ (take k inputs ++ x ∷ [])) item ∙ ap (λ (l : List Input). old ++ l) (sym (take-suc inputs k i below)) in
+    let whole : (j ++ i ∷ []) ++ drop (suc k) inputs ≡ old ++ inputs =
+    ap (λ (l : List Input). l ++ drop (suc k) inputs) front ∙ append_assoc old (take (suc k) inputs) (drop (suc k) inputs) ∙ ap (λ (l : List Input). old ++ l) (take-append-drop (suc k) inputs) in
+    subst (λ (x : Scheme). HasFault x n (old ++ inputs) fault) schemes
+    (subst (λ (x : Node). HasFault s x (old ++ inputs) fault) nodes
+    (subst (λ (l : List Input). HasFault s m l fault) whole (fault_more s m (j ++ i ∷ []) (drop (suc k) inputs) fault bad)))
+
+-- a code that differs from out of memory
+pub refused_otherwise : (code : ℕ) → (code == out_of_memory) ≡ false → code ≡ out_of_memory → ⊥
+refused_otherwise code e same = true≢false (sym (eq-eqb code out_of_memory same) ∙ e)

@@ -1,0 +1,57 @@
+-- What a node's core returns for an input, and the journals that a core has.
+use Rattle.std.specs.Prelude.{◌≡◌, ◌⊎◌, ℕ, List, [], ◌∷◌, ◌++◌, length, take, slice_get, Result, Ok, Err, Some}
+use Rattle.units.specs.RefusalCodes.{out_of_memory}
+use Rattle.units.specs.declared.code.Node.{Node}
+use Rattle.units.specs.declared.refusal.Refusal.{Refusal}
+use Rattle.wire.specs.declared.input.Input.{Input}
+use Rattle.scheme.specs.declared.registries.Scheme.{Scheme}
+use Rattle.protocol.specs.declared.node_core.Stepped.{Stepped}
+use Rattle.protocol.specs.declared.node_core.Stepped.TheVariants.{Recorded, Repeat, Late}
+use Rattle.protocol.specs.declared.replay_fault.ReplayFault.{ReplayFault}
+use Rattle.protocol.specs.declared.replay_fault.ReplayFault.TheVariants.{NotRecorded, NoMemory}
+use Rattle.protocol.specs.Deciding.{Verdict, Enters, IsRepeat, IsLate, IsRefused}
+use Rattle.protocol.specs.Verdict.{verdict, history}
+
+-- ---- one input
+
+-- a verdict as a result, where that many records stand before the input
+abbrev pub answer_of : ℕ → Verdict → Result Stepped Refusal
+answer_of place (Enters xs) = Ok (Recorded place)
+answer_of place IsRepeat = Ok Repeat
+answer_of place IsLate = Ok Late
+answer_of place (IsRefused code) = Err (record { code = code })
+
+-- what is due for an input after a journal
+abbrev pub answer : Scheme → Node → List Input → Input → Result Stepped Refusal
+answer scheme n journal input = answer_of (length journal) (verdict scheme n (history scheme n journal) input)
+
+-- the result is the one that is due, or out of memory in its place
+abbrev pub IsDueOrNoMemory : Result Stepped Refusal → Result Stepped Refusal → Type 0
+IsDueOrNoMemory result due = (result ≡ due) ⊎ (result ≡ Err (record { code = out_of_memory }))
+
+-- the journal after that result for an input
+abbrev pub after : List Input → Input → Result Stepped Refusal → List Input
+after journal input (Ok (Recorded place)) = journal ++ input ∷ []
+after journal input (Ok Repeat) = journal
+after journal input (Ok Late) = journal
+after journal input (Err refusal) = journal
+
+-- ---- whole journals
+
+-- each record of the journal is recorded at its place after the records before it
+abbrev pub Replays : Scheme → Node → List Input → Type 0
+Replays scheme n journal = (k : ℕ) (input : Input) → slice_get journal k ≡ Some input → answer scheme n (take k journal) input ≡ Ok (Recorded k)
+
+-- the record at that place of the journal isn't recorded there after the records before it
+abbrev pub IsNotRecordedAt : Scheme → Node → List Input → ℕ → Type 0
+IsNotRecordedAt scheme n journal k = (input : Input) × (slice_get journal k ≡ Some input) × (answer scheme n (take k journal) input ≡ Ok (Recorded k) → ⊥)
+
+-- the journal has the fault; of memory nothing can be said
+abbrev pub HasFault : Scheme → Node → List Input → ReplayFault → Type 0
+HasFault scheme n journal (NotRecorded k) = IsNotRecordedAt scheme n journal k
+HasFault scheme n journal NoMemory = Unit {0}
+
+-- the fault is told of that place, where it tells one
+abbrev pub IsAt : ℕ → ReplayFault → Type 0
+IsAt place (NotRecorded k) = k ≡ place
+IsAt place NoMemory = Unit {0}

@@ -1,6 +1,6 @@
 -- Journals whose records are each recorded at their place, with one record more; and those that are not.
-use Rattle.std.specs.Prelude.{◌==◌, false, ◌≡◌, ◌⊎◌, ℕ, ◌<◌, ◌≤◌, List, [], ◌∷◌, ◌++◌, length, take, slice_get, Result, Ok, Err, Some, refl}
-use Rattle.std.proofs.Common.{sym, ap, arith, suc, zero, inl, inr, subst, ◌∙◌, drop, get_or, append_assoc, take-append-drop}
+use Rattle.std.specs.Prelude.{◌==◌, false, ◌≡◌, ◌⊎◌, ℕ, ◌+◌, ◌<◌, ◌≤◌, List, [], ◌∷◌, ◌++◌, length, take, slice_get, Result, Ok, Err, Some, refl}
+use Rattle.std.proofs.Common.{sym, ap, arith, suc, zero, inl, inr, subst, ◌∙◌, drop, get_or, append_assoc, append-nil, length-append, zero-add, take-append-drop}
 use Rattle.std.proofs.Math.Seq.{take-append_seam, take-suc}
 use Rattle.std.proofs.lemmas.List.{take-append-le}
 use Rattle.std.proofs.lemmas.Bool.{true≢false, eq-eqb}
@@ -10,7 +10,10 @@ use Rattle.units.specs.declared.code.Node.{Node}
 use Rattle.units.specs.declared.refusal.Refusal.{Refusal}
 use Rattle.wire.specs.declared.input.Input.{Input}
 use Rattle.scheme.specs.declared.registries.Scheme.{Scheme}
-use Rattle.protocol.specs.Cores.{HasFault, IsDueOrNoMemory, IsNotRecordedAt, Replays, answer}
+use Rattle.protocol.specs.Deciding.{Enters}
+use Rattle.protocol.specs.History.{Transition}
+use Rattle.protocol.specs.Verdict.{verdict, history}
+use Rattle.protocol.specs.Cores.{answer_of, HasFault, IsDueOrNoMemory, IsNotRecordedAt, Replays, answer}
 use Rattle.protocol.specs.declared.node_core.Stepped.{Stepped}
 use Rattle.protocol.specs.declared.node_core.Stepped.TheVariants.{Recorded, Repeat, Late}
 use Rattle.protocol.specs.declared.replay_fault.ReplayFault.{ReplayFault}
@@ -105,3 +108,22 @@ fault_at_next scheme s n m old j inputs k i fault schemes nodes taken below item
 -- a code that differs from out of memory
 pub refused_otherwise : (code : ℕ) → (code == out_of_memory) ≡ false → code ≡ out_of_memory → ⊥
 refused_otherwise code e same = true≢false (sym (eq-eqb code out_of_memory same) ∙ e)
+
+-- ---- journals whose verdicts are known one by one
+
+-- each of these inputs is recorded after the past and those before it
+abbrev pub AllRecorded : Scheme → Node → List Input → List Input → Type 0
+AllRecorded scheme n past [] = Unit {0}
+AllRecorded scheme n past (i ∷ is) = ((xs : List Transition) × (verdict scheme n (history scheme n past) i ≡ Enters xs)) × AllRecorded scheme n (past ++ i ∷ []) is
+
+recorded_at : (scheme : Scheme) (n : Node) (past is : List Input) (k : ℕ) (i : Input) → AllRecorded scheme n past is → slice_get is k ≡ Some i → answer scheme n (past ++ take k is) i ≡ Ok (Recorded (length past + k))
+recorded_at scheme n past [] k i h e = absurd cc
+recorded_at scheme n past (x ∷ is) zero i h e =
+    let same : x ≡ i = cc (e) in
+    ap (λ (l : List Input). answer scheme n l i) (append-nil past) ∙ ap (answer scheme n past) (sym same) ∙ ap (answer_of (length past)) h.0.1 ∙ ap (λ (m : ℕ). Ok (Recorded m)) (omega arith)
+recorded_at scheme n past (x ∷ is) (suc k) i h e =
+    let count : length (past ++ x ∷ []) ≡ length past + 1 = length-append past (x ∷ []) in
+    ap (λ (l : List Input). answer scheme n l i) (sym (append_assoc past (x ∷ []) (take k is))) ∙ recorded_at scheme n (past ++ x ∷ []) is k i h.1 e ∙ ap (λ (m : ℕ). Ok (Recorded m)) (omega arith)
+
+pub replays_from : (scheme : Scheme) (n : Node) (journal : List Input) → AllRecorded scheme n [] journal → Replays scheme n journal
+replays_from scheme n journal h k i e = recorded_at scheme n [] journal k i h e ∙ ap (λ (m : ℕ). Ok (Recorded m)) (zero-add k)

@@ -13,7 +13,7 @@ use Rattle.scheme.specs.declared.registries.Scheme.{Scheme}
 use Rattle.protocol.specs.Deciding.{Enters}
 use Rattle.protocol.specs.History.{Transition}
 use Rattle.protocol.specs.Verdict.{verdict, history}
-use Rattle.protocol.specs.Cores.{answer_of, HasFault, IsDueOrNoMemory, IsNotRecordedAt, Replays, answer}
+use Rattle.protocol.specs.Cores.{answer_of, HasFault, IsDueOrNoMemory, IsFirstNotRecorded, Replays, answer}
 use Rattle.protocol.specs.declared.node_core.Stepped.{Stepped}
 use Rattle.protocol.specs.declared.node_core.Stepped.TheVariants.{Recorded, Repeat, Late}
 use Rattle.protocol.specs.declared.replay_fault.ReplayFault.{ReplayFault}
@@ -48,14 +48,14 @@ replays_snoc scheme n j i h e k x at =
     ]
 
 -- the record after the first ones isn't recorded at its place
-pub not_recorded_next : (scheme : Scheme) (n : Node) (j : List Input) (i : Input) (rest : List Input) → (answer scheme n j i ≡ Ok (Recorded (length j)) → ⊥) → IsNotRecordedAt scheme n (j ++ i ∷ rest) (length j)
-not_recorded_next scheme n j i rest refuses =
+pub not_recorded_next : (scheme : Scheme) (n : Node) (j : List Input) (i : Input) (rest : List Input) → Replays scheme n j → (answer scheme n j i ≡ Ok (Recorded (length j)) → ⊥) → IsFirstNotRecorded scheme n (j ++ i ∷ rest) (length j)
+not_recorded_next scheme n j i rest h refuses =
     let whole : take (length j) (j ++ i ∷ rest) ≡ j = take-append_seam j (i ∷ rest) in
-    (i, slice_get_seam j i rest, λ e. refuses (rw whole at e))
+    record { input = i; is = slice_get_seam j i rest; refused = λ e. refuses (rw whole at e); before = subst (Replays scheme n) (sym whole) h }
 
 -- a journal that replays has no such record
-pub replays_apart : (scheme : Scheme) (n : Node) (j : List Input) (k : ℕ) → Replays scheme n j → IsNotRecordedAt scheme n j k → ⊥
-replays_apart scheme n j k h bad = bad.2 (h k bad.0 bad.1)
+pub replays_apart : (scheme : Scheme) (n : Node) (j : List Input) (k : ℕ) → Replays scheme n j → IsFirstNotRecorded scheme n j k → ⊥
+replays_apart scheme n j k h bad = bad.refused (h k bad.input bad.is)
 
 -- a result that says that the input isn't recorded, and isn't out of memory
 abbrev pub IsRefusal : Result Stepped Refusal → Type 0
@@ -75,18 +75,19 @@ is_due result due h (inl e) = e
 is_due result due h (inr e) = absurd (subst IsRefusal e h refl)
 
 -- what is refused isn't recorded at its place
-pub refused_at : (scheme : Scheme) (n : Node) (j : List Input) (i : Input) (k : ℕ) (result : Result Stepped Refusal) → IsDueOrNoMemory result (answer scheme n j i) → IsRefusal result → k ≡ length j
-    → IsNotRecordedAt scheme n (j ++ i ∷ []) k
-refused_at scheme n j i k result due refusal place =
-    subst (IsNotRecordedAt scheme n (j ++ i ∷ [])) (sym place)
-    (not_recorded_next scheme n j i [] (not_recorded (answer scheme n j i) (length j) (subst IsRefusal (is_due result (answer scheme n j i) refusal due) refusal)))
+pub refused_at : (scheme : Scheme) (n : Node) (j : List Input) (i : Input) (k : ℕ) (result : Result Stepped Refusal) → Replays scheme n j → IsDueOrNoMemory result (answer scheme n j i) → IsRefusal result → k ≡ length j
+    → IsFirstNotRecorded scheme n (j ++ i ∷ []) k
+refused_at scheme n j i k result h due refusal place =
+    subst (IsFirstNotRecorded scheme n (j ++ i ∷ [])) (sym place)
+    (not_recorded_next scheme n j i [] h (not_recorded (answer scheme n j i) (length j) (subst IsRefusal (is_due result (answer scheme n j i) refusal due) refusal)))
 
 -- a record that isn't recorded among the first ones isn't recorded in the whole
-pub not_recorded_more : (scheme : Scheme) (n : Node) (j rest : List Input) (k : ℕ) → IsNotRecordedAt scheme n j k → IsNotRecordedAt scheme n (j ++ rest) k
+pub not_recorded_more : (scheme : Scheme) (n : Node) (j rest : List Input) (k : ℕ) → IsFirstNotRecorded scheme n j k → IsFirstNotRecorded scheme n (j ++ rest) k
 not_recorded_more scheme n j rest k bad =
-    let below : k < length j = slice_get_within j k bad.0 bad.1 in
+    let below : k < length j = slice_get_within j k bad.input bad.is in
     let short : k ≤ length j = omega arith in
-    (bad.0, slice_get_append_left j rest k bad.0 bad.1, λ e. bad.2 (rw take-append-le at e))
+    let front : take k (j ++ rest) ≡ take k j = take-append-le k j rest short in
+    record { input = bad.input; is = slice_get_append_left j rest k bad.input bad.is; refused = λ e. bad.refused (rw front at e); before = subst (Replays scheme n) (sym front) bad.before }
 
 -- so a fault of the first ones is one of the whole
 pub fault_more : (scheme : Scheme) (n : Node) (j rest : List Input) (fault : ReplayFault) → HasFault scheme n j fault → HasFault scheme n (j ++ rest) fault

@@ -30,7 +30,7 @@ or_false : (b : Bool) → (b || false) ≡ b
 or_false true = refl
 or_false false = refl
 
-acknowledged_more : (S : List Sent) (x : Sent) (key : ℕ) → is_acknowledged (S ++ x ∷ []) key ≡ (is_acknowledged S key || acknowledges key x)
+pub acknowledged_more : (S : List Sent) (x : Sent) (key : ℕ) → is_acknowledged (S ++ x ∷ []) key ≡ (is_acknowledged S key || acknowledges key x)
 acknowledged_more S x key = list_any-append (acknowledges key) S (x ∷ []) ∙ ap (λ (b : Bool). is_acknowledged S key || b) (or_false (acknowledges key x))
 
 acknowledged_sends : (S : List Sent) (ms : List Message) (key : ℕ) → is_acknowledged (S ++ Sends ms ∷ []) key ≡ is_acknowledged S key

@@ -2,3 +2,4 @@ pub mod Sendings
 pub mod PlacesOfMessages
 pub mod KeptTables
 pub mod LeastKeys
+pub mod OutgoingRecords

@@ -2,3 +2,4 @@ pub mod Sending
 pub mod Places
 pub mod Kept
 pub mod Totals
+pub mod Outgoing

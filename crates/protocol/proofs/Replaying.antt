@@ -1,6 +1,6 @@
 -- Journals whose records are each recorded at their place, with one record more; and those that are not.
-use Rattle.std.specs.Prelude.{◌==◌, false, ◌≡◌, ◌⊎◌, ℕ, ◌<◌, ◌≤◌, List, [], ◌∷◌, ◌++◌, length, take, slice_get, Result, Ok, Err, Some, refl}
-use Rattle.std.proofs.Common.{sym, ap, arith, suc, zero, inl, inr, subst, ◌∙◌, drop, get_or, append_assoc, take-append-drop}
+use Rattle.std.specs.Prelude.{◌==◌, false, ◌≡◌, ◌⊎◌, ℕ, ◌+◌, ◌<◌, ◌≤◌, List, [], ◌∷◌, ◌++◌, length, take, slice_get, Result, Ok, Err, Some, refl}
+use Rattle.std.proofs.Common.{sym, ap, arith, suc, zero, inl, inr, subst, ◌∙◌, drop, get_or, append_assoc, append-nil, length-append, zero-add, take-append-drop}
 use Rattle.std.proofs.Math.Seq.{take-append_seam, take-suc}
 use Rattle.std.proofs.lemmas.List.{take-append-le}
 use Rattle.std.proofs.lemmas.Bool.{true≢false, eq-eqb}
@@ -10,7 +10,10 @@ use Rattle.units.specs.declared.code.Node.{Node}
 use Rattle.units.specs.declared.refusal.Refusal.{Refusal}
 use Rattle.wire.specs.declared.input.Input.{Input}
 use Rattle.scheme.specs.declared.registries.Scheme.{Scheme}
-use Rattle.protocol.specs.Cores.{HasFault, IsDueOrNoMemory, IsNotRecordedAt, Replays, answer}
+use Rattle.protocol.specs.Deciding.{Enters}
+use Rattle.protocol.specs.History.{Transition}
+use Rattle.protocol.specs.Verdict.{verdict, history}
+use Rattle.protocol.specs.Cores.{answer_of, HasFault, IsDueOrNoMemory, IsFirstNotRecorded, Replays, answer}
 use Rattle.protocol.specs.declared.node_core.Stepped.{Stepped}
 use Rattle.protocol.specs.declared.node_core.Stepped.TheVariants.{Recorded, Repeat, Late}
 use Rattle.protocol.specs.declared.replay_fault.ReplayFault.{ReplayFault}
@@ -45,14 +48,14 @@ replays_snoc scheme n j i h e k x at =
     ]
 
 -- the record after the first ones isn't recorded at its place
-pub not_recorded_next : (scheme : Scheme) (n : Node) (j : List Input) (i : Input) (rest : List Input) → (answer scheme n j i ≡ Ok (Recorded (length j)) → ⊥) → IsNotRecordedAt scheme n (j ++ i ∷ rest) (length j)
-not_recorded_next scheme n j i rest refuses =
+pub not_recorded_next : (scheme : Scheme) (n : Node) (j : List Input) (i : Input) (rest : List Input) → Replays scheme n j → (answer scheme n j i ≡ Ok (Recorded (length j)) → ⊥) → IsFirstNotRecorded scheme n (j ++ i ∷ rest) (length j)
+not_recorded_next scheme n j i rest h refuses =
     let whole : take (length j) (j ++ i ∷ rest) ≡ j = take-append_seam j (i ∷ rest) in
-    (i, slice_get_seam j i rest, λ e. refuses (rw whole at e))
+    record { input = i; is = slice_get_seam j i rest; refused = λ e. refuses (rw whole at e); before = subst (Replays scheme n) (sym whole) h }
 
 -- a journal that replays has no such record
-pub replays_apart : (scheme : Scheme) (n : Node) (j : List Input) (k : ℕ) → Replays scheme n j → IsNotRecordedAt scheme n j k → ⊥
-replays_apart scheme n j k h bad = bad.2 (h k bad.0 bad.1)
+pub replays_apart : (scheme : Scheme) (n : Node) (j : List Input) (k : ℕ) → Replays scheme n j → IsFirstNotRecorded scheme n j k → ⊥
+replays_apart scheme n j k h bad = bad.refused (h k bad.input bad.is)
 
 -- a result that says that the input isn't recorded, and isn't out of memory
 abbrev pub IsRefusal : Result Stepped Refusal → Type 0
@@ -72,18 +75,19 @@ is_due result due h (inl e) = e
 is_due result due h (inr e) = absurd (subst IsRefusal e h refl)
 
 -- what is refused isn't recorded at its place
-pub refused_at : (scheme : Scheme) (n : Node) (j : List Input) (i : Input) (k : ℕ) (result : Result Stepped Refusal) → IsDueOrNoMemory result (answer scheme n j i) → IsRefusal result → k ≡ length j
-    → IsNotRecordedAt scheme n (j ++ i ∷ []) k
-refused_at scheme n j i k result due refusal place =
-    subst (IsNotRecordedAt scheme n (j ++ i ∷ [])) (sym place)
-    (not_recorded_next scheme n j i [] (not_recorded (answer scheme n j i) (length j) (subst IsRefusal (is_due result (answer scheme n j i) refusal due) refusal)))
+pub refused_at : (scheme : Scheme) (n : Node) (j : List Input) (i : Input) (k : ℕ) (result : Result Stepped Refusal) → Replays scheme n j → IsDueOrNoMemory result (answer scheme n j i) → IsRefusal result → k ≡ length j
+    → IsFirstNotRecorded scheme n (j ++ i ∷ []) k
+refused_at scheme n j i k result h due refusal place =
+    subst (IsFirstNotRecorded scheme n (j ++ i ∷ [])) (sym place)
+    (not_recorded_next scheme n j i [] h (not_recorded (answer scheme n j i) (length j) (subst IsRefusal (is_due result (answer scheme n j i) refusal due) refusal)))
 
 -- a record that isn't recorded among the first ones isn't recorded in the whole
-pub not_recorded_more : (scheme : Scheme) (n : Node) (j rest : List Input) (k : ℕ) → IsNotRecordedAt scheme n j k → IsNotRecordedAt scheme n (j ++ rest) k
+pub not_recorded_more : (scheme : Scheme) (n : Node) (j rest : List Input) (k : ℕ) → IsFirstNotRecorded scheme n j k → IsFirstNotRecorded scheme n (j ++ rest) k
 not_recorded_more scheme n j rest k bad =
-    let below : k < length j = slice_get_within j k bad.0 bad.1 in
+    let below : k < length j = slice_get_within j k bad.input bad.is in
     let short : k ≤ length j = omega arith in
-    (bad.0, slice_get_append_left j rest k bad.0 bad.1, λ e. bad.2 (rw take-append-le at e))
+    let front : take k (j ++ rest) ≡ take k j = take-append-le k j rest short in
+    record { input = bad.input; is = slice_get_append_left j rest k bad.input bad.is; refused = λ e. bad.refused (rw front at e); before = subst (Replays scheme n) (sym front) bad.before }
 
 -- so a fault of the first ones is one of the whole
 pub fault_more : (scheme : Scheme) (n : Node) (j rest : List Input) (fault : ReplayFault) → HasFault scheme n j fault → HasFault scheme n (j ++ rest) fault
@@ -105,3 +109,22 @@ fault_at_next scheme s n m old j inputs k i fault schemes nodes taken below item
 -- a code that differs from out of memory
 pub refused_otherwise : (code : ℕ) → (code == out_of_memory) ≡ false → code ≡ out_of_memory → ⊥
 refused_otherwise code e same = true≢false (sym (eq-eqb code out_of_memory same) ∙ e)
+
+-- ---- journals whose verdicts are known one by one
+
+-- each of these inputs is recorded after the past and those before it
+abbrev pub AllRecorded : Scheme → Node → List Input → List Input → Type 0
+AllRecorded scheme n past [] = Unit {0}
+AllRecorded scheme n past (i ∷ is) = ((xs : List Transition) × (verdict scheme n (history scheme n past) i ≡ Enters xs)) × AllRecorded scheme n (past ++ i ∷ []) is
+
+recorded_at : (scheme : Scheme) (n : Node) (past is : List Input) (k : ℕ) (i : Input) → AllRecorded scheme n past is → slice_get is k ≡ Some i → answer scheme n (past ++ take k is) i ≡ Ok (Recorded (length past + k))
+recorded_at scheme n past [] k i h e = absurd cc
+recorded_at scheme n past (x ∷ is) zero i h e =
+    let same : x ≡ i = cc (e) in
+    ap (λ (l : List Input). answer scheme n l i) (append-nil past) ∙ ap (answer scheme n past) (sym same) ∙ ap (answer_of (length past)) h.0.1 ∙ ap (λ (m : ℕ). Ok (Recorded m)) (omega arith)
+recorded_at scheme n past (x ∷ is) (suc k) i h e =
+    let count : length (past ++ x ∷ []) ≡ length past + 1 = length-append past (x ∷ []) in
+    ap (λ (l : List Input). answer scheme n l i) (sym (append_assoc past (x ∷ []) (take k is))) ∙ recorded_at scheme n (past ++ x ∷ []) is k i h.1 e ∙ ap (λ (m : ℕ). Ok (Recorded m)) (omega arith)
+
+pub replays_from : (scheme : Scheme) (n : Node) (journal : List Input) → AllRecorded scheme n [] journal → Replays scheme n journal
+replays_from scheme n journal h k i e = recorded_at scheme n [] journal k i h e ∙ ap (λ (m : ℕ). Ok (Recorded m)) (zero-add k)

@@ -42,13 +42,16 @@ after journal input (Err refusal) = journal
 abbrev pub Replays : Scheme → Node → List Input → Type 0
 Replays scheme n journal = (k : ℕ) (input : Input) → slice_get journal k ≡ Some input → answer scheme n (take k journal) input ≡ Ok (Recorded k)
 
--- the record at that place of the journal isn't recorded there after the records before it
-abbrev pub IsNotRecordedAt : Scheme → Node → List Input → ℕ → Type 0
-IsNotRecordedAt scheme n journal k = (input : Input) × (slice_get journal k ≡ Some input) × (answer scheme n (take k journal) input ≡ Ok (Recorded k) → ⊥)
+-- the record at that place is the first one of the journal that isn't recorded there after the records before it
+pub record IsFirstNotRecorded (scheme : Scheme) (n : Node) (journal : List Input) (k : ℕ) : Type 0 where
+  pub input : Input
+  pub is : slice_get journal k ≡ Some input
+  pub refused : answer scheme n (take k journal) input ≡ Ok (Recorded k) → ⊥
+  pub before : Replays scheme n (take k journal)
 
 -- the journal has the fault; of memory nothing can be said
 abbrev pub HasFault : Scheme → Node → List Input → ReplayFault → Type 0
-HasFault scheme n journal (NotRecorded k) = IsNotRecordedAt scheme n journal k
+HasFault scheme n journal (NotRecorded k) = IsFirstNotRecorded scheme n journal k
 HasFault scheme n journal NoMemory = Unit {0}
 
 -- the fault is told of that place, where it tells one

@@ -1,18 +1,11 @@
 -- What falls short of an order: each record is recorded on the ones before it, and each received message is among all that its sender sends.
-use Rattle.std.specs.Prelude.{◌≡◌, false, List, [], ◌∷◌, ◌++◌}
+use Rattle.std.specs.Prelude.{◌≡◌, false, List, [], ◌∷◌}
 use Rattle.units.specs.declared.code.Node.{Node}
 use Rattle.wire.specs.declared.input.Input.{Input}
 use Rattle.scheme.specs.declared.registries.Scheme.{Scheme}
-use Rattle.protocol.specs.Deciding.{Enters}
-use Rattle.protocol.specs.History.{Transition}
+use Rattle.protocol.specs.Cores.{Replays}
 use Rattle.protocol.specs.Registries.{is_node}
-use Rattle.protocol.specs.Verdict.{verdict, history}
 use Rattle.protocol.specs.Weave.{WasSent}
-
--- each record of a journal was recorded after the earlier ones
-abbrev pub AllRecorded : Scheme → Node → List Input → List Input → Type 0
-AllRecorded scheme n past [] = Unit {0}
-AllRecorded scheme n past (i ∷ is) = ((xs : List Transition) × (verdict scheme n (history scheme n past) i ≡ Enters xs)) × AllRecorded scheme n (past ++ i ∷ []) is
 
 -- each received message was sent to the node by its sender's whole journal
 abbrev pub AllSent : Scheme → (Node → List Input) → List Input → Node → Type 0
@@ -20,4 +13,4 @@ AllSent scheme journals [] n = Unit {0}
 AllSent scheme journals (i ∷ is) n = WasSent scheme journals n i × AllSent scheme journals is n
 
 abbrev pub IsPlausible : Scheme → (Node → List Input) → Type 0
-IsPlausible scheme journals = (n : Node) → (is_node scheme n ≡ false → journals n ≡ []) × AllRecorded scheme n [] (journals n) × AllSent scheme journals (journals n) n
+IsPlausible scheme journals = (n : Node) → (is_node scheme n ≡ false → journals n ≡ []) × Replays scheme n (journals n) × AllSent scheme journals (journals n) n

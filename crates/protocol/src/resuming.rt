@@ -16,7 +16,7 @@ fn resume_one<C: NodeCore>(core: &mut C, input: &Input) -> Result<(), ReplayFaul
     ensures fault { IfErr result (HasFault (C.scheme_of core.old) (C.node_of core.old) (C.journal_of core.old ++ input.now ∷ [])) }
     ensures place { IfErr result (IsAt (length (C.journal_of core.old))) }
 {
-    let place = core.records();
+    let place = core.journal().len();
     match core.step(input) {
         Ok(Stepped::Recorded(_)) => Ok(()),
         Err(refusal) if refusal == Refusal::NO_MEMORY => Err(ReplayFault::NoMemory),

@@ -26,7 +26,9 @@ use Rattle.scheme.specs.Order.{AreFew, AreMembers}
 use Rattle.scheme.specs.declared.members.Member.{Member}
 use Rattle.scheme.specs.declared.registries.Scheme.{Scheme}
 use Rattle.protocol.proofs.WorkedScheme.{nz, jp, nz_node, nz1, first_of_may, a_day_after, thousand}
-use Rattle.protocol.specs.Plausible.{AllRecorded, AllSent, IsPlausible}
+use Rattle.protocol.proofs.Replaying.{replays_from}
+use Rattle.protocol.specs.Cores.{Replays}
+use Rattle.protocol.specs.Plausible.{AllSent, IsPlausible}
 use Rattle.protocol.specs.Registries.{is_node}
 use Rattle.protocol.specs.Verdict.{verdict}
 use Rattle.protocol.specs.Weave.{Projects, WasSent, ArePrefixes}
@@ -126,11 +128,12 @@ each P at_jp at_nz other c =
 
 pub plausible : IsPlausible two_units journals
 unfolding verdict
-plausible Itl = ((λ h. absurd (cc (h))), ((_, refl), ((_, refl), ((_, refl), tt))), ((refl, (0, lit< tt, refl)), ((refl, (0, lit< tt, refl)), (tt, tt))))
+plausible Itl = ((λ h. absurd (cc (h))), replays_from two_units Itl (journals Itl) ((_, refl), ((_, refl), ((_, refl), tt))), ((refl, (0, lit< tt, refl)), ((refl, (0, lit< tt, refl)), (tt, tt))))
 plausible (Registry c) =
-    each (λ d js. (is_node two_units (Registry d) ≡ false → js ≡ []) × AllRecorded two_units (Registry d) [] js × AllSent two_units journals js (Registry d))
-    ((λ h. absurd (cc (h))), ((_, refl), tt), (tt, tt)) ((λ h. absurd (cc (h))), ((_, refl), ((_, refl), tt)), ((refl, (3, lit< tt, refl)), (tt, tt)))
-    (λ d a b. ((λ h. refl), tt, tt)) c
+    each (λ d js. (is_node two_units (Registry d) ≡ false → js ≡ []) × Replays two_units (Registry d) js × AllSent two_units journals js (Registry d))
+    ((λ h. absurd (cc (h))), replays_from two_units (Registry jp) of_jp ((_, refl), tt), (tt, tt))
+    ((λ h. absurd (cc (h))), replays_from two_units (Registry nz) of_nz ((_, refl), ((_, refl), tt)), ((refl, (3, lit< tt, refl)), (tt, tt)))
+    (λ d a b. ((λ h. refl), replays_from two_units (Registry d) [] tt, tt)) c
 
 -- ---- and no events lead to them
 

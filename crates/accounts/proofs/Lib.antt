@@ -3,3 +3,4 @@ pub mod Standings
 pub mod Placing
 pub mod Blocks
 pub mod Holding
+pub mod Counts

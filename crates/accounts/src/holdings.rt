@@ -15,21 +15,22 @@ ghost use Rattle.accounts.specs.Placing.{placed};
 ghost use Rattle.accounts.specs.Refusals.{IsOpen, IsHeldAs, AreHeld, AreFree, IsLacking, MayReserve, IsReserveRefusal, IsOpenRefusal, IsCloseRefusal, HasUnits};
 ghost use Rattle.accounts.specs.declared.lot.Standing.TheVariants.{Open, Closed};
 
-use crate::account::{Account, open_accounts, set_standing, standing_of};
+use crate::account::{Account, open_accounts, set_standing};
 use crate::lines::lines;
 use crate::lot::{Line, Lot, Standing};
 use status::TransactionId;
 use std::alloc::Global;
+use std::collections::BTreeMap;
 use std::marker::Model;
 use units::refusal_code::{
     ACCOUNT_NOT_OPEN, ALREADY_SO, HOLDS_UNITS, UNIT_RESERVED, UNKNOWN_ACCOUNT,
 };
-use units::{Block, NoMemory, Refusal, UnitMap};
+use units::{Block, NoMemory, Refusal, Unit, UnitMap};
 
 /// A registry's accounts and the units that they hold.
 #[derive(Debug, Drop)]
 pub struct Holdings {
-    accounts: Vec<Account>,
+    accounts: BTreeMap<u64, Account>,
     lots: UnitMap<Lot>,
 }
 
@@ -42,7 +43,7 @@ impl Model for Holdings {
 
     ghost coded = { held_code };
 
-    ghost view = { λ h. record { accounts = standings h.accounts.items; lots = h.lots } };
+    ghost view = { λ h. record { accounts = standings h.accounts; lots = h.lots } };
 }
 
 // Whether the transaction reserves the lot.
@@ -100,7 +101,8 @@ impl Holdings {
     fn standing(&self, account: u64) -> Option<Standing>
         ensures { result ≡ map.get self.now.accounts account }
     {
-        standing_of(&self.accounts, account)
+        let account = self.accounts.get(&account)?;
+        Some(account.standing)
     }
 
     // Gives an account of the registry the standing.
@@ -227,6 +229,19 @@ impl Holdings {
         Ok(())
     }
 
+    /// Whether `open_account` would open the account: refused as it refuses. Takes no memory.
+    pub fn may_open(&self, account: u64) -> Result<(), Refusal>
+        ensures ok { OnOk result (map.get self.now.accounts account ≡ Some Closed) }
+        ensures err { IfErr result (λ r. IsOpenRefusal self.now account r.code) }
+    {
+        let code = match self.standing(account) {
+            None => UNKNOWN_ACCOUNT,
+            Some(Standing::Open) => ALREADY_SO,
+            Some(Standing::Closed) => return Ok(()),
+        };
+        Err(Refusal { code })
+    }
+
     /// Opens a closed account. Refused with `UNKNOWN_ACCOUNT`: the registry has no such account;
     /// `ALREADY_SO`: it is open already. After a refusal nothing has changed. Takes no memory.
     pub fn open_account(&mut self, account: u64) -> Result<(), Refusal>
@@ -234,16 +249,32 @@ impl Holdings {
         ensures refused { IfErr result (λ r. IsOpenRefusal self.old account r.code) }
         ensures err { OnErr result (self.new ≡ self.old) }
     {
+        self.may_open(account)?;
+        self.set_standing(account, Standing::Open);
+        Ok(())
+    }
+
+    /// Whether `close_account` would close the account: refused as it refuses. Takes no memory.
+    pub fn may_close(&self, account: u64) -> Result<(), Refusal>
+        ensures ok { OnOk result ((map.get self.now.accounts account ≡ Some Open) × (HasUnits self.now account → ⊥)) }
+        ensures err { IfErr result (λ r. IsCloseRefusal self.now account r.code) }
+    {
         match self.standing(account) {
             None => Err(Refusal {
                 code: UNKNOWN_ACCOUNT,
             }),
-            Some(Standing::Open) => Err(Refusal { code: ALREADY_SO }),
-            Some(Standing::Closed) => {
-                self.set_standing(account, Standing::Open);
-                Ok(())
-            }
+            Some(Standing::Closed) => Err(Refusal { code: ALREADY_SO }),
+            Some(Standing::Open) if self.has_units(account) => Err(Refusal { code: HOLDS_UNITS }),
+            Some(Standing::Open) => Ok(()),
         }
+    }
+
+    // Whether a unit is in the account.
+    fn has_units(&self, account: u64) -> bool
+        ensures some { OnTrue result (HasUnits self.now account) }
+        ensures none { OnFalse result (HasUnits self.now account → ⊥) }
+    {
+        self.lots.has_mark(|lot| lot.account == account)
     }
 
     /// Closes an open account that holds nothing. Refused with `UNKNOWN_ACCOUNT`: the registry has
@@ -254,19 +285,16 @@ impl Holdings {
         ensures refused { IfErr result (λ r. IsCloseRefusal self.old account r.code) }
         ensures err { OnErr result (self.new ≡ self.old) }
     {
-        match self.standing(account) {
-            None => Err(Refusal {
-                code: UNKNOWN_ACCOUNT,
-            }),
-            Some(Standing::Closed) => Err(Refusal { code: ALREADY_SO }),
-            Some(Standing::Open) => {
-                if self.lots.has_mark(|lot| lot.account == account) {
-                    return Err(Refusal { code: HOLDS_UNITS });
-                }
-                self.set_standing(account, Standing::Closed);
-                Ok(())
-            }
-        }
+        self.may_close(account)?;
+        self.set_standing(account, Standing::Closed);
+        Ok(())
+    }
+
+    /// How the unit is held, or `None`. Takes no memory.
+    pub fn lot(&self, unit: &Unit) -> Option<Lot>
+        ensures { result ≡ map.get self.now.lots unit.now }
+    {
+        self.lots.get(unit)
     }
 
     // Whether one of the block's units is held.

@@ -1,5 +1,5 @@
 -- How many entries of maps pass tests: if at each key one map's entry counts as much as those of two others together, so do all.
-use Rattle.std.proofs.Common.{◌≡◌, ℕ, ◌+◌, List, [], ◌∷◌, ◌++◌, map, Bool, true, false, true≢false, is_some, ◌&&◌, not, cond, T, Option, Some, None, refl, sym, ap, ◌∙◌, subst, arith, inl, inr}
+use Rattle.std.proofs.Common.{◌≡◌, ℕ, ◌+◌, ◌<◌, List, [], ◌∷◌, ◌++◌, map, Bool, true, false, true≢false, is_some, ◌&&◌, not, cond, T, Option, Some, None, refl, sym, ap, ◌∙◌, subst, arith, inl, inr}
 use Rattle.std.specs.declared.cmp.Ordering.{Ordering}
 use Rattle.std.specs.declared.cmp.Ordering.TheVariants.{Less, Equal, Greater}
 use Rattle.std.specs.Cmp.{IsTotalOrder, eq_by_cmp_equiv, tied_itself}
@@ -7,7 +7,7 @@ use Rattle.std.specs.FinMap.{FinMap, get, get-entries, entries, entries_sorted}
 use Rattle.std.specs.FinMap.Entries.{find, is_sorted, below_all, where_key, is_sorted-where_key, find-where_key, is_some-find}
 use Rattle.std.specs.List.{count_by, list_any}
 use Rattle.std.specs.Ordering.{is_eq, is_lt, eq_by_cmp}
-use Rattle.std.proofs.lemmas.Bool.{cases_Bool, or_parts, or_from}
+use Rattle.std.proofs.lemmas.Bool.{cases_Bool, or_parts, or_from, false_from_ne_true}
 use Rattle.std.proofs.lemmas.List.Folds.{list_any-append}
 use Rattle.std.proofs.lemmas.List.Sums.{sum_by-cons}
 use Rattle.std.proofs.lemmas.Map.Lookups.{CmpEqualImpliesEq}
@@ -30,6 +30,9 @@ both false b h = absurd h
 abbrev pub tally : {X : Type 0} → (X → Bool) → Option X → ℕ
 tally passes None = 0
 tally passes (Some x) = cond (passes x) 1 0
+
+abbrev one_if : Bool → ℕ
+one_if t = cond t 1 0
 
 abbrev pub count_of : {K X : Type 0} → (X → Bool) → List (K × X) → ℕ
 count_of passes es = count_by (λ e. passes e.1) es
@@ -66,6 +69,31 @@ module _ {K : Type 0} (R : K → K → Ordering) (o : IsTotalOrder R) (same : Cm
               omega (arith, later, all, nothing)
           | false ↦ λ t. omega (arith, later, all, kept)
         ] refl
+
+    -- an entry that passes counts
+    pub counted_some : (p : X → Bool) (k : K) (x : X) (es : List (K × X)) → T (is_sorted R es) → find R k es ≡ Some x → p x ≡ true → 0 < count_of p es
+    counted_some p k x es h is passes =
+        let split = count_rest p k es h in
+        let one = ap (tally p) is ∙ ap one_if passes in
+        omega (arith, split, one)
+
+    -- where some count, one passes
+    pub some_counted : (p : X → Bool) (es : List (K × X)) → T (is_sorted R es) → 0 < count_of p es → (k : K) × (x : X) × (find R k es ≡ Some x) × (p x ≡ true)
+    some_counted p [] h lt = absurd (omega arith)
+    some_counted p (e ∷ es) h lt =
+        let two = both (below_all R e.0 es) (is_sorted R es) h in
+        let all = sum_by-cons (λ (x : K × X). cond (p x.1) 1 0) e es in
+        elim (cases_Bool (p e.1)) [
+          | inl yes' ↦ (e.0, e.1, ap (λ r. cond (is_eq r) (Some e.1) (find R e.0 es)) (tied_itself o e.0), yes')
+          | inr no' ↦
+              let skipped = ap one_if no' in
+              let later : 0 < count_of p es = omega (arith, lt, all, skipped) in
+              let w = some_counted p es two.1 later in
+              let apart : eq_by_cmp R w.0 e.0 ≡ false = false_from_ne_true (eq_by_cmp R w.0 e.0) (λ t.
+              let clash : None ≡ Some w.1 = sym (find_below e.0 es two.0) ∙ ap (λ x. find R x es) (sym (same w.0 e.0 (equal _ t))) ∙ w.2 in
+              cc (clash)) in
+              (w.0, w.1, ap (λ t. cond t (Some e.1) (find R w.0 es)) apart ∙ w.2, w.3)
+        ]
 
     no_entries : (es : List (K × X)) → ((k : K) → find R k es ≡ None) → es ≡ []
     no_entries [] h = refl

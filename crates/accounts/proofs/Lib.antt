@@ -4,3 +4,7 @@ pub mod Placing
 pub mod Blocks
 pub mod Holding
 pub mod Counts
+pub mod Parts
+pub mod Shares
+pub mod Units
+pub mod Keeping

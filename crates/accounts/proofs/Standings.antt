@@ -1,5 +1,5 @@
 -- What the map of the accounts answers.
-use Rattle.std.proofs.Common.{◌≡◌, ℕ, List, [], ◌∷◌, map, Bool, true, false, cond, eqb, Option, Some, refl, sym, ap, ◌∙◌, arith}
+use Rattle.std.proofs.Common.{◌≡◌, ℕ, List, [], ◌∷◌, map, Bool, true, false, cond, eqb, Option, Some, None, IsSome, refl, sym, ap, ◌∙◌, arith}
 use Rattle.std.specs.BTreeMap as tree
 use Rattle.std.specs.BTreeMap.{BTreeMap}
 use Rattle.std.specs.FinMap.{FinMap, get, get-from_entries, same_map}
@@ -9,6 +9,7 @@ use Rattle.std.specs.Cmp.{nat_cmp_total}
 use Rattle.std.specs.Option.{option_map}
 use Rattle.std.specs.Ordering.{nat_cmp, is_eq, eq_by_cmp}
 use Rattle.std.proofs.lemmas.Bool.Decides.{nat_tests}
+use Rattle.std.proofs.lemmas.Option.{none-some}
 use Rattle.std.proofs.lemmas.Map.Lookups.{exact_unsigned}
 use Rattle.accounts.specs.Accounts.{standings}
 use Rattle.accounts.specs.declared.account.Account.{Account}
@@ -36,3 +37,24 @@ get_accounts accounts m e n = ap (λ k. get k n) (sym e) ∙ get-standings accou
 -- accounts of the same standings
 pub same_standings : (a b : BTreeMap ℕ Account) → ((n : ℕ) → option_map (λ x. x.standing) (tree.get nat_cmp a n) ≡ option_map (λ x. x.standing) (tree.get nat_cmp b n)) → standings a ≡ standings b
 same_standings a b h = same_map nat_cmp_total exact_unsigned (standings a) (standings b) (λ n. get-standings a n ∙ h n ∙ sym (get-standings b n))
+
+kept_standing : (f : Account → Account) → ((a : Account) → (f a).standing ≡ a.standing) → (o : Option Account) → option_map (λ x. x.standing) (option_map f o) ≡ option_map (λ x. x.standing) o
+kept_standing f kept None = refl
+kept_standing f kept (Some a) = ap Some (kept a)
+
+-- accounts that changed in their counts
+pub standings_kept : (a b : BTreeMap ℕ Account) (f : ℕ → Account → Account) → ((n : ℕ) (x : Account) → (f n x).standing ≡ x.standing) → ((n : ℕ) → tree.get nat_cmp a n ≡ option_map (f n) (tree.get nat_cmp b n)) → standings a ≡ standings b
+standings_kept a b f kept changed = same_standings a b (λ n. ap (option_map (λ x. x.standing)) (changed n) ∙ kept_standing (f n) (kept n) (tree.get nat_cmp b n))
+
+-- one account that changed in its counts
+pub standings_kept_one : (a b : BTreeMap ℕ Account) (f : Account → Account) (k : ℕ) → ((x : Account) → (f x).standing ≡ x.standing) → ((n : ℕ) → tree.get nat_cmp a n ≡ cond (eqb n k) (option_map f (tree.get nat_cmp b n)) (tree.get nat_cmp b n)) → standings a ≡ standings b
+standings_kept_one a b f k kept changed = same_standings a b (λ n. ap (option_map (λ x. x.standing)) (changed n) ∙ either (eqb n k) (tree.get nat_cmp b n))
+  where
+    either : (t : Bool) (o : Option Account) → option_map (λ x. x.standing) (cond t (option_map f o) o) ≡ option_map (λ x. x.standing) o
+    either true o = kept_standing f kept o
+    either false o = refl
+
+-- an account with a standing is there
+pub known_account : (o : Option Account) (s : Standing) → option_map (λ a. a.standing) o ≡ Some s → IsSome o
+known_account None s e = absurd (none-some s e)
+known_account (Some a) s e = refl

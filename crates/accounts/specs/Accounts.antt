@@ -7,9 +7,9 @@ use Rattle.accounts.specs.declared.account.Account.{Account}
 use Rattle.accounts.specs.declared.lot.Standing.{Standing}
 use Rattle.accounts.specs.declared.lot.Standing.TheVariants.{Open}
 
--- an open account
+-- an open account that holds nothing
 abbrev pub opened : Account
-opened = record { standing = Open }
+opened = record { standing = Open; held = 0; free = 0 }
 
 -- the account with the standing
 abbrev pub with_standing : Standing → Account → Account

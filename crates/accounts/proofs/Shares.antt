@@ -1,16 +1,16 @@
 -- Accounts whose counts change share by share.
 use Rattle.std.proofs.Common.{◌≡◌, ℕ, ◌+◌, ◌-◌, ◌<◌, ◌≤◌, List, length, get_or, take, cond, eqb, Option, Some, None, refl, ap, arith, eq-eqb}
-use Rattle.std.specs.Option.{option_map, option_map_or}
+use Rattle.std.specs.Option.{option_map}
 use Rattle.std.proofs.lemmas.List.Sums.{sum_by_more_le}
-use Rattle.accounts.specs.Tables.{share_of, with_more_free, with_fewer}
+use Rattle.accounts.specs.Tables.{free_in, held_in, share_of, with_more_free, with_fewer}
 use Rattle.accounts.specs.declared.account.Account.{Account}
 use Rattle.accounts.specs.declared.reservation.Share.{Share}
 
-pub freed : (m : ℕ) (o : Option Account) → option_map_or (λ a. a.free) (option_map (with_more_free m) o) 0 ≤ option_map_or (λ a. a.free) o 0 + m
+pub freed : (m : ℕ) (o : Option Account) → free_in (option_map (with_more_free m) o) ≤ free_in o + m
 freed m None = omega arith
 freed m (Some a) = omega arith
 
-pub left : (m : ℕ) (o : Option Account) → option_map_or (λ a. a.held) (option_map (with_fewer m) o) 0 ≡ option_map_or (λ a. a.held) o 0 - m
+pub left : (m : ℕ) (o : Option Account) → held_in (option_map (with_fewer m) o) ≡ held_in o - m
 left m None = omega arith
 left m (Some a) = refl
 

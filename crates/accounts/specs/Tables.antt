@@ -23,13 +23,19 @@ use Rattle.accounts.specs.declared.lot.Lot.{Lot}
 use Rattle.accounts.specs.declared.reservation.Reservation.{Reservation}
 use Rattle.accounts.specs.declared.reservation.Share.{Share}
 
--- how many units the account has, as the table says; an account that isn't there has none
+-- how many units an account has, as the table says; one that isn't there has none
+abbrev pub held_in : Option Account → ℕ
+held_in account = option_map_or (λ a. a.held) account 0
+
 abbrev pub held_at : BTreeMap ℕ Account → ℕ → ℕ
-held_at accounts number = option_map_or (λ a. a.held) (tree.get nat_cmp accounts number) 0
+held_at accounts number = held_in (tree.get nat_cmp accounts number)
 
 -- how many of them are free
+abbrev pub free_in : Option Account → ℕ
+free_in account = option_map_or (λ a. a.free) account 0
+
 abbrev pub free_at : BTreeMap ℕ Account → ℕ → ℕ
-free_at accounts number = option_map_or (λ a. a.free) (tree.get nat_cmp accounts number) 0
+free_at accounts number = free_in (tree.get nat_cmp accounts number)
 
 -- the account with so many more units, all free
 abbrev pub with_units : ℕ → Account → Account
@@ -55,13 +61,19 @@ units_in blocks = sum_by (λ b. size (interval_of b)) blocks
 abbrev pub share_of : List Share → ℕ → ℕ
 share_of shares account = sum_by (λ s. cond (s.account == account) s.count 0) shares
 
--- the blocks that the transaction reserves
+-- the blocks that a transaction reserves; without a reservation, none
+abbrev pub blocks_in : Option Reservation → List Block
+blocks_in reservation = option_map_or (λ r. r.blocks.items) reservation []
+
 abbrev pub blocks_of : BTreeMap TransactionId Reservation → TransactionId → List Block
-blocks_of reservations id = option_map_or (λ r. r.blocks.items) (tree.get id_cmp reservations id) []
+blocks_of reservations id = blocks_in (tree.get id_cmp reservations id)
 
 -- how many units of which accounts it reserves
+abbrev pub shares_in : Option Reservation → List Share
+shares_in reservation = option_map_or (λ r. r.shares.items) reservation []
+
 abbrev pub shares_of : BTreeMap TransactionId Reservation → TransactionId → List Share
-shares_of reservations id = option_map_or (λ r. r.shares.items) (tree.get id_cmp reservations id) []
+shares_of reservations id = shares_in (tree.get id_cmp reservations id)
 
 -- held in the account, of the kind, and so reserved
 abbrev pub lot_in : ℕ → Option TransactionId → Kind → Lot
@@ -98,8 +110,8 @@ pub record IsListed (lots : Lots) (id : TransactionId) (blocks : List Block) (sh
 abbrev pub AreInRange : Lots → Type 0
 AreInRange lots = (s : Serial) → IsSome (map.get lots s) → s.number ≤ last_unit
 
--- all of this
-pub record AreKept (accounts : BTreeMap ℕ Account) (lots : Lots) (reservations : BTreeMap TransactionId Reservation) : Type 0 where
+-- the tables are in step with the lots
+pub record AreInStep (accounts : BTreeMap ℕ Account) (lots : Lots) (reservations : BTreeMap TransactionId Reservation) : Type 0 where
   pub counted : AreCounted accounts lots
   pub listed : (id : TransactionId) → IsListed lots id (blocks_of reservations id) (shares_of reservations id)
   pub in_range : AreInRange lots

@@ -44,7 +44,7 @@ impl Model for Holdings {
     ghost use Rattle.accounts.specs.Holdings.{Held};
     ghost use Rattle.accounts.specs.Accounts.{standings};
     ghost use Rattle.accounts.specs.Coding.{held_code};
-    ghost use Rattle.accounts.specs.Tables.{AreKept};
+    ghost use Rattle.accounts.specs.Tables.{AreInStep};
 
     ghost Value = { Held };
 
@@ -52,7 +52,7 @@ impl Model for Holdings {
 
     ghost view = { λ h. record { accounts = standings h.accounts; lots = h.lots } };
 
-    ghost invariant = { λ h. AreKept h.accounts h.lots h.reservations };
+    ghost invariant = { λ h. AreInStep h.accounts h.lots h.reservations };
 }
 
 // Whether the transaction reserves the lot.

@@ -6,10 +6,10 @@ use Rattle.std.specs.Ordering.{nat_cmp}
 use Rattle.accounts.specs.Holdings.{kind_in}
 use Rattle.accounts.specs.Tables.{free_at, held_at, with_units}
 use Rattle.accounts.specs.declared.lot.Standing.TheVariants.{Open}
-use Rattle.accounts.proofs.Keeping.{held_fits, free_fits, kept_credited}
+use Rattle.accounts.proofs.InStep.{held_fits, free_fits, kept_credited}
 use Rattle.accounts.proofs.Parts.{kind_covered}
 use Rattle.accounts.proofs.Standings.{get_accounts, standings_kept_one, known_account}
-use Rattle.accounts.proofs.Units.{put}
+use Rattle.accounts.proofs.OneUnit.{put}
 use Rattle.accounts.proofs.holdings.Holdings.credit.Goals as goal
 
 pub put_in-requires-clause-held : goal.put_in-requires-clause-held

@@ -6,7 +6,7 @@ use Rattle.std.specs.Ordering.{is_eq}
 use Rattle.units.specs.Keys.{unit_cmp}
 use Rattle.status.specs.Id.{id_cmp}
 use Rattle.accounts.specs.declared.account.Account.{Account}
-use Rattle.accounts.proofs.Keeping.{kept_empty}
+use Rattle.accounts.proofs.InStep.{kept_empty}
 use Rattle.std.specs.List.{list_any}
 use Rattle.std.specs.Prelude.{◌==◌}
 use Rattle.accounts.specs.Accounts.{opened}

@@ -9,11 +9,11 @@ use Rattle.units.specs.Unit.{covers}
 use Rattle.status.specs.Id.{id_cmp}
 use Rattle.accounts.specs.Holdings.{kind_in}
 use Rattle.accounts.specs.Tables.{blocks_of, free_at, shares_of, units_in, with_fewer_free}
-use Rattle.accounts.proofs.Keeping.{enough_free, kept_reserved, kept_same, put_back_same}
+use Rattle.accounts.proofs.InStep.{enough_free, kept_reserved, kept_same, put_back_same}
 use Rattle.accounts.proofs.Parts.{kind_covered}
-use Rattle.accounts.proofs.Placing.{free_lots, reserved_lot}
+use Rattle.accounts.proofs.Reserving.{free_lots, reserved_lot}
 use Rattle.accounts.proofs.Standings.{standings_kept_one}
-use Rattle.accounts.proofs.Units.{put}
+use Rattle.accounts.proofs.OneUnit.{put}
 use Rattle.accounts.proofs.holdings.Holdings.reserve.Goals as goal
 
 pub invariant_of-self : goal.invariant_of-self

@@ -12,7 +12,7 @@ use Rattle.accounts.specs.Tables.{lot_in}
 use Rattle.accounts.specs.declared.lot.Lot.{Lot}
 use Rattle.accounts.proofs.Blocks.{covers_from}
 use Rattle.accounts.proofs.Parts.{kind_found}
-use Rattle.accounts.proofs.Units.{put}
+use Rattle.accounts.proofs.OneUnit.{put}
 
 -- the units of blocks that may be reserved are free, also where other blocks have them
 pub free_lots : (held : Held) (account : ℕ) (blocks parts : List Block) → MayReserve held account blocks → ((p : Block) (s : Serial) → IsUnitOf parts p s → (b : Block) × IsUnitOf blocks b s × (b.raw.kind ≡ p.raw.kind))

@@ -1,19 +1,16 @@
--- What holdings keep beside their lots goes on after each change.
--- Each call is seen unit by unit (`Units`); the counts follow by `Counts.counts_add`, where a list of blocks counts as the map from units to
+-- What holdings keep beside their lots stays in step with them through each change.
+-- Each call is seen unit by unit (`OneUnit`); the counts follow by `Counts.counts_add`, where a list of blocks counts as the map from units to
 -- kinds that it means.
-use Rattle.std.proofs.Common.{◌≡◌, ℕ, ◌+◌, ◌-◌, ◌^◌, ◌<◌, ◌≤◌, List, [], ◌∷◌, ◌++◌, Bool, true, false, ◌&&◌, ◌||◌, not, true≢false, cond, eqb, Option, Some, None, IsSome, is_some, refl, sym, ap, ◌∙◌, subst, arith, inl, inr}
+use Rattle.std.proofs.Common.{◌≡◌, ℕ, ◌+◌, ◌-◌, ◌^◌, ◌<◌, ◌≤◌, List, [], ◌∷◌, ◌++◌, Bool, true, false, ◌&&◌, ◌||◌, true≢false, cond, eqb, Option, Some, None, IsSome, is_some, refl, sym, ap, ◌∙◌, subst, arith, inl, inr}
 use Rattle.std.specs.BTreeMap as tree
 use Rattle.std.specs.BTreeMap.{BTreeMap}
-use Rattle.std.specs.Cmp.{tied_itself}
-use Rattle.std.specs.FinMap.{FinMap, get, get-entries, entries, entries_sorted}
-use Rattle.std.specs.FinMap.Entries.{find}
-use Rattle.std.specs.List.{AllByRecursion}
-use Rattle.std.specs.Option.{option_map, option_map_or}
-use Rattle.std.specs.Ordering.{nat_cmp, eq_by_cmp, is_eq}
+use Rattle.std.specs.FinMap.{FinMap, get}
+use Rattle.std.specs.Option.{option_map}
+use Rattle.std.specs.Ordering.{nat_cmp}
 use Rattle.std.proofs.lemmas.Bool.{cases_Bool, eqb-true, eq-eqb}
 use Rattle.std.proofs.lemmas.Bool.Decides.{nat_tests}
 use Rattle.std.proofs.lemmas.List.Folds.{list_any-append}
-use Rattle.std.proofs.lemmas.List.Sums.{sum_by-append, sum_by-cons, count_by-le-length}
+use Rattle.std.proofs.lemmas.List.Sums.{sum_by-append, sum_by-cons}
 use Rattle.units.specs.Apart.{AllApart}
 use Rattle.units.specs.Intervals.{marks_of}
 use Rattle.units.specs.Keys.{unit_cmp}
@@ -22,90 +19,36 @@ use Rattle.units.specs.Unit.{has_unit, covers}
 use Rattle.units.specs.declared.block.Block.{Block}
 use Rattle.units.specs.declared.block.Kind.{Kind}
 use Rattle.units.specs.declared.block.Unit.{Unit as Serial}
-use Rattle.units.proofs.CountingUnits.{few}
 use Rattle.units.proofs.Walking.{number_of}
-use Rattle.units.proofs.UnitKeys.{units_total, exact_units}
 use Rattle.status.specs.Id.{id_cmp, same_id}
 use Rattle.status.specs.declared.id.TransactionId.{TransactionId}
 use Rattle.status.proofs.Ids.{id_of_same, same_id-refl}
-use Rattle.accounts.specs.Holdings.{is_free_in, is_reserved_by, kind_in, released}
-use Rattle.accounts.specs.Tables.{held_at, free_at, with_units, with_fewer_free, with_more_free, with_fewer, units_in, share_of, blocks_of, shares_of, lot_in, Lots, is_in, is_share, reserves, IsListed, AreInRange, AreKept}
+use Rattle.accounts.specs.Holdings.{is_free_in, kind_in, released}
+use Rattle.accounts.specs.Tables.{blocks_in, shares_in, free_in, held_in, held_at, free_at, with_units, with_fewer_free, with_more_free, with_fewer, units_in, share_of, blocks_of, shares_of, lot_in, Lots, is_in, is_share, reserves, IsListed, AreInRange, AreInStep}
 use Rattle.accounts.specs.declared.account.Account.{Account}
 use Rattle.accounts.specs.declared.lot.Lot.{Lot}
 use Rattle.accounts.specs.declared.reservation.Reservation.{Reservation}
 use Rattle.accounts.specs.declared.reservation.Share.{Share}
-use Rattle.accounts.proofs.Counts.{tally, count_of, counts_add}
+use Rattle.accounts.proofs.Counts.{tally}
 use Rattle.accounts.proofs.Parts.{intervals_of, kinds_counted, get_kinds, kind_found, kind_covered, apart_append}
-use Rattle.accounts.proofs.Units.{share_within, released_reserves, released_in, released_free, released_share, others, taken_reserves, taken_in, taken_free, taken_share, put, in_account, credited_in, credited_free, credited_reserves, credited_share, reserved_in, reserved_free, reserved_reserves, reserved_share}
-
--- ---- counts
-
-abbrev pub count : (Lot → Bool) → Lots → ℕ
-count passes lots = count_of passes (entries lots)
-
-adds : {Y Z : Type 0} (p : Lot → Bool) (q : Y → Bool) (r : Z → Bool) (m : Lots) (n : FinMap unit_cmp Y) (l : FinMap unit_cmp Z) → ((s : Serial) → tally p (get m s) ≡ tally q (get n s) + tally r (get l s)) → count p m ≡ count_of q (entries n) + count_of r (entries l)
-adds p q r m n l h = counts_add unit_cmp units_total exact_units p q r m n l h
-
-no_tally : {X : Type 0} (o : Option X) → tally (λ x. false) o ≡ 0
-no_tally None = refl
-no_tally (Some x) = refl
-
-none_counted : (m : Lots) → count (λ lot. false) m ≡ 0
-none_counted m =
-    let twice = adds (λ lot. false) (λ lot. false) (λ lot. false) m m m (λ s. rw (no_tally (get m s)) refl) in
-    omega (arith, twice)
-
-same : (p q : Lot → Bool) (m n : Lots) → ((s : Serial) → tally p (get m s) ≡ tally q (get n s)) → count p m ≡ count q n
-same p q m n h =
-    let one = adds p q (λ lot. false) m n n (λ s. let e = h s in let z = no_tally (get n s) in omega (arith, e, z)) in
-    let zero = none_counted n in
-    omega (arith, one, zero)
-
-nothing : (p : Lot → Bool) (m : Lots) → ((s : Serial) → tally p (get m s) ≡ 0) → count p m ≡ 0
-nothing p m h = same p (λ lot. false) m m (λ s. h s ∙ sym (no_tally (get m s))) ∙ none_counted m
-
-abbrev IsSmall : Serial → Type 0
-IsSmall u = u.number ≤ last_unit
-
-found : (t : Bool) (x : Lot) (o : Option Lot) → IsSome o → IsSome (cond t (Some x) o)
-found true x o h = refl
-found false x o h = h
-
-all_small : (es : List (Serial × Lot)) → ((s : Serial) → IsSome (find unit_cmp s es) → IsSmall s) → AllByRecursion (λ e. IsSmall e.0) es
-all_small [] h = tt
-all_small (e ∷ es) h = (
-  h e.0 (ap (λ r. is_some (cond (is_eq r) (Some e.1) (find unit_cmp e.0 es))) (tied_itself units_total e.0)),
-  all_small es (λ s i. h s (found (eq_by_cmp unit_cmp s e.0) e.1 (find unit_cmp s es) i)),
-)
-
--- fewer units than a number can say
-pub count_bound : (p : Lot → Bool) (lots : Lots) → AreInRange lots → count p lots ≤ 2 ^ 63
-count_bound p lots range =
-    let small = all_small (entries lots) (λ s i. range s (ap is_some (get-entries lots s) ∙ i)) in
-    let bound = few (entries lots) (entries_sorted lots) small in
-    let within = count_by-le-length (λ (e : Serial × Lot). p e.1) (entries lots) in
-    omega (arith, bound, within)
-
-pub shares_within : (n : ℕ) (id : TransactionId) (lots : Lots) → count (is_share n id) lots ≤ count (is_in n) lots
-shares_within n id lots =
-    let split = adds (is_in n) (is_share n id) (λ lot. is_in n lot && not (is_reserved_by id lot)) lots lots lots (λ s. share_within n id (get lots s)) in
-    omega (arith, split)
+use Rattle.accounts.proofs.OneUnit.{released_reserves, released_in, released_free, released_share, others, taken_reserves, taken_in, taken_free, taken_share, put, in_account, credited_in, credited_free, credited_reserves, credited_share, reserved_in, reserved_free, reserved_reserves, reserved_share}
+use Rattle.accounts.proofs.LotCounts.{count, adds, same, nothing, count_bound, shares_within}
 
 -- ---- a transaction's reservation is let go
 
-module _ (accounts accounts' : BTreeMap ℕ Account) (lots lots' : Lots) (res res' : BTreeMap TransactionId Reservation) (id : TransactionId) (kept : AreKept accounts lots res)
+module _ (accounts accounts' : BTreeMap ℕ Account) (lots lots' : Lots) (res res' : BTreeMap TransactionId Reservation) (id : TransactionId) (kept : AreInStep accounts lots res)
     (gone : (q : TransactionId) → tree.get id_cmp res' q ≡ cond (same_id id q) None (tree.get id_cmp res q)) where
   no_blocks : (q : TransactionId) → same_id id q ≡ true → blocks_of res' q ≡ []
-  no_blocks q e = ap (λ o. option_map_or (λ (r : Reservation). r.blocks.items) o []) (gone q ∙ ap (λ t. cond t None (tree.get id_cmp res q)) e)
+  no_blocks q e = ap blocks_in (gone q ∙ ap (λ t. cond t None (tree.get id_cmp res q)) e)
 
   no_shares : (q : TransactionId) → same_id id q ≡ true → shares_of res' q ≡ []
-  no_shares q e = ap (λ o. option_map_or (λ (r : Reservation). r.shares.items) o []) (gone q ∙ ap (λ t. cond t None (tree.get id_cmp res q)) e)
+  no_shares q e = ap shares_in (gone q ∙ ap (λ t. cond t None (tree.get id_cmp res q)) e)
 
   other_blocks : (q : TransactionId) → same_id id q ≡ false → blocks_of res' q ≡ blocks_of res q
-  other_blocks q e = ap (λ o. option_map_or (λ (r : Reservation). r.blocks.items) o []) (gone q ∙ ap (λ t. cond t None (tree.get id_cmp res q)) e)
+  other_blocks q e = ap blocks_in (gone q ∙ ap (λ t. cond t None (tree.get id_cmp res q)) e)
 
   other_shares : (q : TransactionId) → same_id id q ≡ false → shares_of res' q ≡ shares_of res q
-  other_shares q e = ap (λ o. option_map_or (λ (r : Reservation). r.shares.items) o []) (gone q ∙ ap (λ t. cond t None (tree.get id_cmp res q)) e)
+  other_shares q e = ap shares_in (gone q ∙ ap (λ t. cond t None (tree.get id_cmp res q)) e)
 
   let_go : ((q : TransactionId) (s : Serial) → reserves q (get lots' s) ≡ cond (same_id id q) false (reserves q (get lots s)))
       → ((n : ℕ) (q : TransactionId) (s : Serial) → tally (is_share n q) (get lots' s) ≡ cond (same_id id q) 0 (tally (is_share n q) (get lots s)))
@@ -128,12 +71,6 @@ module _ (accounts accounts' : BTreeMap ℕ Account) (lots lots' : Lots) (res re
     }
   ]
 
-abbrev held_in : Option Account → ℕ
-held_in o = option_map_or (λ a. a.held) o 0
-
-abbrev free_in : Option Account → ℕ
-free_in o = option_map_or (λ a. a.free) o 0
-
 freed_held : (m : ℕ) (o : Option Account) → held_in (option_map (with_more_free m) o) ≡ held_in o
 freed_held m None = refl
 freed_held m (Some a) = refl
@@ -150,7 +87,7 @@ fewer_free : (m : ℕ) (o : Option Account) → free_in (option_map (with_fewer 
 fewer_free m None = refl
 fewer_free m (Some a) = refl
 
-module _ (accounts : BTreeMap ℕ Account) (lots : Lots) (res : BTreeMap TransactionId Reservation) (id : TransactionId) (kept : AreKept accounts lots res) where
+module _ (accounts : BTreeMap ℕ Account) (lots : Lots) (res : BTreeMap TransactionId Reservation) (id : TransactionId) (kept : AreInStep accounts lots res) where
   -- no account has fewer units than the transaction reserves of it
   pub share_held : (n : ℕ) → share_of (shares_of res id) n ≤ held_at accounts n
   share_held n =
@@ -182,7 +119,7 @@ module _ (accounts : BTreeMap ℕ Account) (lots : Lots) (res : BTreeMap Transac
     pub kept_released : (accounts' : BTreeMap ℕ Account) (res' : BTreeMap TransactionId Reservation)
         → ((q : TransactionId) → tree.get id_cmp res' q ≡ cond (same_id id q) None (tree.get id_cmp res q))
         → ((n : ℕ) → tree.get nat_cmp accounts' n ≡ option_map (with_more_free (share_of (shares_of res id) n)) (tree.get nat_cmp accounts n))
-        → AreKept accounts' lots' res'
+        → AreInStep accounts' lots' res'
     kept_released accounts' res' gone freed = record {
       counted = record {
         held = λ n.
@@ -212,7 +149,7 @@ module _ (accounts : BTreeMap ℕ Account) (lots : Lots) (res : BTreeMap Transac
     pub kept_removed : (accounts' : BTreeMap ℕ Account) (res' : BTreeMap TransactionId Reservation)
         → ((q : TransactionId) → tree.get id_cmp res' q ≡ cond (same_id id q) None (tree.get id_cmp res q))
         → ((n : ℕ) → tree.get nat_cmp accounts' n ≡ option_map (with_fewer (share_of (shares_of res id) n)) (tree.get nat_cmp accounts n))
-        → AreKept accounts' lots' res'
+        → AreInStep accounts' lots' res'
     kept_removed accounts' res' gone taken = record {
       counted = record {
         held = λ n.
@@ -257,7 +194,7 @@ in_blocks blocks s k e =
     let high = (number_of w.0.raw s w.1.has).1 in
     omega (arith, range, high)
 
-module _ (accounts : BTreeMap ℕ Account) (lots : Lots) (res : BTreeMap TransactionId Reservation) (kept : AreKept accounts lots res) (a : ℕ) (blocks : List Block) (apart : AllApart blocks) (lots' : Lots) where
+module _ (accounts : BTreeMap ℕ Account) (lots : Lots) (res : BTreeMap TransactionId Reservation) (kept : AreInStep accounts lots res) (a : ℕ) (blocks : List Block) (apart : AllApart blocks) (lots' : Lots) where
   kinds : FinMap unit_cmp Kind
   kinds = marks_of (intervals_of blocks)
 
@@ -307,7 +244,7 @@ module _ (accounts : BTreeMap ℕ Account) (lots : Lots) (res : BTreeMap Transac
 
   pub kept_credited : Credited → Absent → IsSome (tree.get nat_cmp accounts a) → (accounts' : BTreeMap ℕ Account)
       → ((n : ℕ) → tree.get nat_cmp accounts' n ≡ cond (eqb n a) (option_map (with_units (units_in blocks)) (tree.get nat_cmp accounts n)) (tree.get nat_cmp accounts n))
-      → AreKept accounts' lots' res
+      → AreInStep accounts' lots' res
   kept_credited changed absent known accounts' more =
       let there = λ (n : ℕ) (e : eqb n a ≡ true). ap (λ m. is_some (tree.get nat_cmp accounts m)) (eqb-true n a e) ∙ known in
       record {
@@ -385,12 +322,6 @@ module _ (accounts : BTreeMap ℕ Account) (lots : Lots) (res : BTreeMap Transac
 
     module _ (longer : Reservation) (res' : BTreeMap TransactionId Reservation) (put_in : (q : TransactionId) → tree.get id_cmp res' q ≡ cond (same_id id q) (Some longer) (tree.get id_cmp res q))
         (blocks_are : longer.blocks.items ≡ blocks_of res id ++ blocks) (shares_are : longer.shares.items ≡ shares_of res id ++ record { account = a; count = units_in blocks } ∷ []) where
-      abbrev blocks_in : Option Reservation → List Block
-      blocks_in o = option_map_or (λ r. r.blocks.items) o []
-
-      abbrev shares_in : Option Reservation → List Share
-      shares_in o = option_map_or (λ r. r.shares.items) o []
-
       at_id : tree.get id_cmp res' id ≡ Some longer
       at_id = put_in id ∙ ap (λ t. cond t (Some longer) (tree.get id_cmp res id)) (same_id-refl id)
 
@@ -443,7 +374,7 @@ module _ (accounts : BTreeMap ℕ Account) (lots : Lots) (res : BTreeMap Transac
 
       pub kept_reserved : Reserved → AreFree → (accounts' : BTreeMap ℕ Account)
           → ((n : ℕ) → tree.get nat_cmp accounts' n ≡ cond (eqb n a) (option_map (with_fewer_free (units_in blocks)) (tree.get nat_cmp accounts n)) (tree.get nat_cmp accounts n))
-          → AreKept accounts' lots' res'
+          → AreInStep accounts' lots' res'
       kept_reserved changed free accounts' fewer = record {
         counted = record {
           held = λ n.
@@ -464,26 +395,26 @@ module _ (accounts : BTreeMap ℕ Account) (lots : Lots) (res : BTreeMap Transac
       }
 
 -- the same reservations, in another table
-pub kept_same : (accounts : BTreeMap ℕ Account) (lots lots' : Lots) (res res' : BTreeMap TransactionId Reservation) → AreKept accounts lots res → lots' ≡ lots → ((q : TransactionId) → tree.get id_cmp res' q ≡ tree.get id_cmp res q) → AreKept accounts lots' res'
+pub kept_same : (accounts : BTreeMap ℕ Account) (lots lots' : Lots) (res res' : BTreeMap TransactionId Reservation) → AreInStep accounts lots res → lots' ≡ lots → ((q : TransactionId) → tree.get id_cmp res' q ≡ tree.get id_cmp res q) → AreInStep accounts lots' res'
 kept_same accounts lots lots' res res' kept e same' =
-    subst (λ m. AreKept accounts m res') (sym e) (record {
+    subst (λ m. AreInStep accounts m res') (sym e) (record {
       counted = kept.counted;
       listed = λ q.
           let at = same' q in
           record {
-            exact = λ s. (kept.listed q).exact s ∙ ap (λ o. covers (option_map_or (λ (r : Reservation). r.blocks.items) o []) s) (sym at);
-            apart = subst (λ o. AllApart (option_map_or (λ (r : Reservation). r.blocks.items) o [])) (sym at) (kept.listed q).apart;
-            shared = λ n. ap (λ o. share_of (option_map_or (λ (r : Reservation). r.shares.items) o []) n) at ∙ (kept.listed q).shared n;
+            exact = λ s. (kept.listed q).exact s ∙ ap (λ o. covers (blocks_in o) s) (sym at);
+            apart = subst (λ o. AllApart (blocks_in o)) (sym at) (kept.listed q).apart;
+            shared = λ n. ap (λ o. share_of (shares_in o) n) at ∙ (kept.listed q).shared n;
           };
       in_range = kept.in_range;
     })
 
 -- a transaction that reserves nothing
-module _ (accounts : BTreeMap ℕ Account) (lots : Lots) (res : BTreeMap TransactionId Reservation) (id : TransactionId) (kept : AreKept accounts lots res) (none : tree.get id_cmp res id ≡ None) where
+module _ (accounts : BTreeMap ℕ Account) (lots : Lots) (res : BTreeMap TransactionId Reservation) (id : TransactionId) (kept : AreInStep accounts lots res) (none : tree.get id_cmp res id ≡ None) where
   pub none_reserved : (s : Serial) → reserves id (get lots s) ≡ false
-  none_reserved s = (kept.listed id).exact s ∙ ap (λ o. covers (option_map_or (λ (r : Reservation). r.blocks.items) o []) s) none
+  none_reserved s = (kept.listed id).exact s ∙ ap (λ o. covers (blocks_in o) s) none
 
-  pub kept_none : (res' : BTreeMap TransactionId Reservation) → ((q : TransactionId) → tree.get id_cmp res' q ≡ cond (same_id id q) None (tree.get id_cmp res q)) → AreKept accounts lots res'
+  pub kept_none : (res' : BTreeMap TransactionId Reservation) → ((q : TransactionId) → tree.get id_cmp res' q ≡ cond (same_id id q) None (tree.get id_cmp res q)) → AreInStep accounts lots res'
   kept_none res' gone = kept_same accounts lots lots res res' kept refl (λ q. gone q ∙ (elim (cases_Bool (same_id id q)) [
     | inl yes' ↦ rw yes' (sym (ap (tree.get id_cmp res) (sym (id_of_same id q yes')) ∙ none))
     | inr no' ↦ rw no' refl
@@ -500,7 +431,7 @@ put_back_same res res' res'' id longer before was put' back q = back q ∙ (elim
 ])
 
 -- nothing held, nothing reserved
-pub kept_empty : (accounts : BTreeMap ℕ Account) (lots : Lots) (res : BTreeMap TransactionId Reservation) → ((n : ℕ) → (held_at accounts n ≡ 0) × (free_at accounts n ≡ 0)) → ((s : Serial) → get lots s ≡ None) → ((q : TransactionId) → tree.get id_cmp res q ≡ None) → AreKept accounts lots res
+pub kept_empty : (accounts : BTreeMap ℕ Account) (lots : Lots) (res : BTreeMap TransactionId Reservation) → ((n : ℕ) → (held_at accounts n ≡ 0) × (free_at accounts n ≡ 0)) → ((s : Serial) → get lots s ≡ None) → ((q : TransactionId) → tree.get id_cmp res q ≡ None) → AreInStep accounts lots res
 kept_empty accounts lots res zero' none empty' = record {
   counted = record {
     held = λ n. (zero' n).0 ∙ sym (nothing (is_in n) lots (λ s. ap (tally (is_in n)) (none s)));
@@ -509,9 +440,9 @@ kept_empty accounts lots res zero' none empty' = record {
   listed = λ q.
       let at = empty' q in
       record {
-        exact = λ s. ap (reserves q) (none s) ∙ ap (λ o. covers (option_map_or (λ (r : Reservation). r.blocks.items) o []) s) (sym at);
-        apart = subst (λ o. AllApart (option_map_or (λ (r : Reservation). r.blocks.items) o [])) (sym at) tt;
-        shared = λ n. ap (λ o. share_of (option_map_or (λ (r : Reservation). r.shares.items) o []) n) at ∙ sym (nothing (is_share n q) lots (λ s. ap (tally (is_share n q)) (none s)));
+        exact = λ s. ap (reserves q) (none s) ∙ ap (λ o. covers (blocks_in o) s) (sym at);
+        apart = subst (λ o. AllApart (blocks_in o)) (sym at) tt;
+        shared = λ n. ap (λ o. share_of (shares_in o) n) at ∙ sym (nothing (is_share n q) lots (λ s. ap (tally (is_share n q)) (none s)));
       };
   in_range = λ s h. absurd (true≢false (sym h ∙ ap is_some (none s)));
 }

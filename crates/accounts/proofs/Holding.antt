@@ -1,6 +1,6 @@
 -- How units are held, by tests of their lots.
-use Rattle.std.proofs.Common.{◌≡◌, ◌≢◌, ℕ, List, Bool, true, true≢false, ◌&&◌, eqb, Option, Some, None, IsSome, is_none, refl, sym, ap, ◌∙◌, eq-eqb}
-use Rattle.std.specs.FinMap.{FinMap, get}
+use Rattle.std.proofs.Common.{◌≡◌, ◌≢◌, ℕ, ◌<◌, List, Bool, true, true≢false, ◌&&◌, eqb, Option, Some, None, IsSome, is_none, refl, sym, ap, ◌∙◌, eq-eqb}
+use Rattle.std.specs.FinMap.{FinMap, get, get-entries, entries, entries_sorted}
 use Rattle.std.specs.Option.{option_map}
 use Rattle.std.proofs.lemmas.Bool.{and_parts, and_from, eqb-true}
 use Rattle.std.proofs.lemmas.Option.{none-some, same_Some}
@@ -15,7 +15,10 @@ use Rattle.status.specs.declared.id.TransactionId.{TransactionId}
 use Rattle.accounts.specs.Holdings.{Held}
 use Rattle.accounts.specs.Refusals.{IsHeldAs, AreHeld, IsReserved, HasUnits}
 use Rattle.accounts.specs.declared.lot.Lot.{Lot}
+use Rattle.units.proofs.UnitKeys.{units_total, exact_units}
+use Rattle.accounts.specs.Tables.{is_in}
 use Rattle.accounts.proofs.Blocks.{covered}
+use Rattle.accounts.proofs.Counts.{count_of, some_counted, counted_some}
 use Rattle.accounts.proofs.Same.{kind_of_same}
 
 -- a mark that passes
@@ -61,13 +64,12 @@ reserved_from held account blocks all s h no' =
     let lot = all b.0 s b.1 in
     record { unit = s; lot = lot.lot; of = h; is = lot.is; reserved = some_of lot.lot.reserving (λ e. no' (ap (option_map is_unreserved) lot.is ∙ ap Some e)) }
 
-abbrev pub is_in : ℕ → Lot → Bool
-is_in account lot = eqb lot.account account
+-- an account has units where some are counted
+pub units_counted : (held : Held) (account : ℕ) → 0 < count_of (is_in account) (entries held.lots) → HasUnits held account
+units_counted held account lt =
+    let w = some_counted unit_cmp units_total exact_units (is_in account) (entries held.lots) (entries_sorted held.lots) lt in
+    record { unit = w.0; lot = w.1; is = get-entries held.lots w.0 ∙ w.2; account_is = eqb-true w.1.account account w.3 }
 
-pub units_from : (held : Held) (account : ℕ) (s : Serial) → option_map (is_in account) (get held.lots s) ≡ Some true → HasUnits held account
-units_from held account s e =
-    let h = passing (is_in account) (get held.lots s) e in
-    record { unit = s; lot = h.0; is = h.1; account_is = eqb-true h.0.account account h.2 }
-
-pub passes_units : (held : Held) (account : ℕ) (h : HasUnits held account) → option_map (is_in account) (get held.lots h.unit) ≡ Some true
-passes_units held account h = ap (option_map (is_in account)) h.is ∙ ap Some (eq-eqb h.lot.account account h.account_is)
+pub counted_units : (held : Held) (account : ℕ) → HasUnits held account → 0 < count_of (is_in account) (entries held.lots)
+counted_units held account h =
+    counted_some unit_cmp units_total exact_units (is_in account) h.unit h.lot (entries held.lots) (entries_sorted held.lots) (sym (get-entries held.lots h.unit) ∙ h.is) (eq-eqb h.lot.account account h.account_is)

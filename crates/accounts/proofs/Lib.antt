@@ -1,5 +1,11 @@
 pub mod Same
 pub mod Standings
-pub mod Placing
+pub mod Reserving
 pub mod Blocks
 pub mod Holding
+pub mod Counts
+pub mod Parts
+pub mod Shares
+pub mod OneUnit
+pub mod InStep
+pub mod LotCounts

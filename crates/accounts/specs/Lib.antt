@@ -2,5 +2,5 @@ pub mod Holdings
 pub mod Refusals
 pub mod Lines
 pub mod Accounts
-pub mod Placing
 pub mod Coding
+pub mod Tables

@@ -1,46 +1,111 @@
-//! The accounts of a registry, as a list.
-ghost use Rattle.std.specs.Prelude.{◌≡◌, map, IfOk};
-ghost use Rattle.accounts.specs.Accounts.{opened, standing_in, with_standing};
+//! The accounts of a registry, by their numbers.
+ghost use Rattle.std.specs.BTreeMap as tree;
+ghost use Rattle.std.specs.List.{list_any};
+ghost use Rattle.std.specs.Ordering.{nat_cmp};
+ghost use Rattle.std.specs.Prelude.{◌≡◌, ◌==◌, ◌+◌, ◌<◌, ◌≤◌, ◌^◌, ℕ, Some, None, option_map, IfOk, if◌then◌else◌};
+ghost use Rattle.accounts.specs.Accounts.{opened, with_standing};
+ghost use Rattle.accounts.specs.Tables.{held_at, free_at, with_units, with_fewer_free, with_more_free, with_fewer, share_of};
 
 use crate::lot::Standing;
-use std::alloc::{AllocError, Global};
+use crate::reservation::Share;
+use std::alloc::Global;
+use std::collections::BTreeMap;
+use units::NoMemory;
 
-/// An account of the registry.
+/// An account of the registry: how many units it has, and how many of these are free.
 #[derive(Clone, Copy, Debug, PartialEq, Eq)]
 pub(crate) struct Account {
-    number: u64,
-    standing: Standing,
+    pub standing: Standing,
+    pub held: u64,
+    pub free: u64,
 }
 
-/// Open accounts of these numbers.
-pub(crate) fn open_accounts(alloc: Global, numbers: &[u64]) -> Result<Vec<Account>, AllocError>
-    ensures { IfOk result (λ v. v.items ≡ map opened numbers.now) }
+/// Open accounts of these numbers, which hold nothing.
+pub(crate) fn open_accounts(
+    alloc: Global,
+    numbers: &[u64],
+) -> Result<BTreeMap<u64, Account>, NoMemory>
+    ensures { IfOk result (λ m. (n : ℕ) → tree.get nat_cmp m n ≡ (if list_any (λ a. a == n) numbers.now then Some opened else None)) }
 {
-    let mut accounts = Vec::new(alloc);
+    let mut accounts = BTreeMap::new(alloc);
     for number in numbers {
-        accounts.push(Account {
-            number: *number,
+        let account = Account {
             standing: Standing::Open,
-        })?;
+            held: 0,
+            free: 0,
+        };
+        accounts.insert(*number, account)?;
     }
     Ok(accounts)
 }
 
-/// The standing of the first account of that number.
-pub(crate) fn standing_of(accounts: &[Account], number: u64) -> Option<Standing>
-    ensures { result ≡ standing_in accounts.now number }
+/// Gives the account of that number the standing, if there is one.
+pub(crate) fn set_standing(accounts: &mut BTreeMap<u64, Account>, number: u64, standing: Standing)
+    ensures { (n : ℕ) → tree.get nat_cmp accounts.new n ≡ (if n == number then option_map (with_standing standing) (tree.get nat_cmp accounts.old n) else tree.get nat_cmp accounts.old n) }
 {
-    let account = accounts.iter().find(|account| account.number == number)?;
-    Some(account.standing)
+    if let Some(account) = accounts.get_mut(&number) {
+        account.standing = standing;
+    }
 }
 
-/// Gives the accounts of that number the standing.
-pub(crate) fn set_standing(accounts: &mut [Account], number: u64, standing: Standing)
-    ensures { accounts.new ≡ map (with_standing number standing) accounts.old }
+/// The account of that number has so many more units, all free.
+pub(crate) fn put_in(accounts: &mut BTreeMap<u64, Account>, number: u64, count: u64)
+    requires held { held_at accounts.old number + count < 2 ^ 64 }
+    requires free { free_at accounts.old number + count < 2 ^ 64 }
+    ensures { (n : ℕ) → tree.get nat_cmp accounts.new n ≡ (if n == number then option_map (with_units count) (tree.get nat_cmp accounts.old n) else tree.get nat_cmp accounts.old n) }
 {
-    for account in accounts {
-        if account.number == number {
-            account.standing = standing;
-        }
+    if let Some(account) = accounts.get_mut(&number) {
+        account.held += count;
+        account.free += count;
+    }
+}
+
+/// So many of the account's free units are free no more.
+pub(crate) fn reserve(accounts: &mut BTreeMap<u64, Account>, number: u64, count: u64)
+    requires { count ≤ free_at accounts.old number }
+    ensures { (n : ℕ) → tree.get nat_cmp accounts.new n ≡ (if n == number then option_map (with_fewer_free count) (tree.get nat_cmp accounts.old n) else tree.get nat_cmp accounts.old n) }
+{
+    if let Some(account) = accounts.get_mut(&number) {
+        account.free -= count;
+    }
+}
+
+// So many more of the account's units are free.
+fn release(accounts: &mut BTreeMap<u64, Account>, number: u64, count: u64)
+    requires { free_at accounts.old number + count < 2 ^ 64 }
+    ensures { (n : ℕ) → tree.get nat_cmp accounts.new n ≡ (if n == number then option_map (with_more_free count) (tree.get nat_cmp accounts.old n) else tree.get nat_cmp accounts.old n) }
+{
+    if let Some(account) = accounts.get_mut(&number) {
+        account.free += count;
+    }
+}
+
+// The account has so many fewer units.
+fn take_out(accounts: &mut BTreeMap<u64, Account>, number: u64, count: u64)
+    requires { count ≤ held_at accounts.old number }
+    ensures { (n : ℕ) → tree.get nat_cmp accounts.new n ≡ (if n == number then option_map (with_fewer count) (tree.get nat_cmp accounts.old n) else tree.get nat_cmp accounts.old n) }
+{
+    if let Some(account) = accounts.get_mut(&number) {
+        account.held -= count;
+    }
+}
+
+/// The shares' units, which were reserved, are free.
+pub(crate) fn release_all(accounts: &mut BTreeMap<u64, Account>, shares: &[Share])
+    requires { (n : ℕ) → free_at accounts.old n + share_of shares.now n < 2 ^ 64 }
+    ensures { (n : ℕ) → tree.get nat_cmp accounts.new n ≡ option_map (with_more_free (share_of shares.now n)) (tree.get nat_cmp accounts.old n) }
+{
+    for share in shares {
+        release(accounts, share.account, share.count);
+    }
+}
+
+/// The shares' units, which were reserved, are in their accounts no more.
+pub(crate) fn take_out_all(accounts: &mut BTreeMap<u64, Account>, shares: &[Share])
+    requires { (n : ℕ) → share_of shares.now n ≤ held_at accounts.old n }
+    ensures { (n : ℕ) → tree.get nat_cmp accounts.new n ≡ option_map (with_fewer (share_of shares.now n)) (tree.get nat_cmp accounts.old n) }
+{
+    for share in shares {
+        take_out(accounts, share.account, share.count);
     }
 }

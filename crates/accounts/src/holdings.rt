@@ -11,38 +11,48 @@ ghost use Rattle.units.specs.Unit.{has_unit, covers};
 ghost use Rattle.units.specs.declared.block.Unit.{Unit as Serial};
 ghost use Rattle.accounts.specs.Holdings.{is_open, is_reserved_by, is_free_in, reserved, released, free_lot, kind_in};
 ghost use Rattle.accounts.specs.Lines.{AreLines};
-ghost use Rattle.accounts.specs.Placing.{placed};
+ghost use Rattle.accounts.specs.Tables.{is_in, lot_in};
 ghost use Rattle.accounts.specs.Refusals.{IsOpen, IsHeldAs, AreHeld, AreFree, IsLacking, MayReserve, IsReserveRefusal, IsOpenRefusal, IsCloseRefusal, HasUnits};
 ghost use Rattle.accounts.specs.declared.lot.Standing.TheVariants.{Open, Closed};
 
-use crate::account::{Account, open_accounts, set_standing, standing_of};
+use crate::account::{
+    Account, open_accounts, put_in, release_all, reserve, set_standing, take_out_all,
+};
+use crate::apart::{apart, count};
 use crate::lines::lines;
 use crate::lot::{Line, Lot, Standing};
+use crate::reservation::{Reservation, Share, extended, put, put_back, take};
 use status::TransactionId;
 use std::alloc::Global;
+use std::collections::BTreeMap;
 use std::marker::Model;
 use units::refusal_code::{
     ACCOUNT_NOT_OPEN, ALREADY_SO, HOLDS_UNITS, UNIT_RESERVED, UNKNOWN_ACCOUNT,
 };
-use units::{Block, NoMemory, Refusal, UnitMap};
+use units::{Block, NoMemory, Refusal, Unit, UnitMap};
 
 /// A registry's accounts and the units that they hold.
 #[derive(Debug, Drop)]
 pub struct Holdings {
-    accounts: Vec<Account>,
+    alloc: Global,
+    accounts: BTreeMap<u64, Account>,
     lots: UnitMap<Lot>,
+    reservations: BTreeMap<TransactionId, Reservation>,
 }
 
 impl Model for Holdings {
     ghost use Rattle.accounts.specs.Holdings.{Held};
     ghost use Rattle.accounts.specs.Accounts.{standings};
     ghost use Rattle.accounts.specs.Coding.{held_code};
+    ghost use Rattle.accounts.specs.Tables.{AreInStep};
 
     ghost Value = { Held };
 
     ghost coded = { held_code };
 
-    ghost view = { λ h. record { accounts = standings h.accounts.items; lots = h.lots } };
+    ghost view = { λ h. record { accounts = standings h.accounts; lots = h.lots } };
+
+    ghost invariant = { λ h. AreInStep h.accounts h.lots h.reservations };
 }
 
 // Whether the transaction reserves the lot.
@@ -52,26 +62,24 @@ fn is_reserved_by(lot: &Lot, id: TransactionId) -> bool
     lot.reserving == Some(id)
 }
 
-// The lots with the units of each block in turn put into the account, so reserved.
-fn placed(
-    lots: &UnitMap<Lot>,
+// Puts the units of each block into the account, with their block's kind, so reserved.
+fn set_lots(
+    lots: &mut UnitMap<Lot>,
     account: u64,
     blocks: &[Block],
     reserving: Option<TransactionId>,
-) -> Result<UnitMap<Lot>, NoMemory>
-    ensures { IfOk result (λ after. (s : Serial) → map.get after s ≡ placed account reserving blocks.now s (map.get lots.now s)) }
+) -> Result<(), NoMemory>
+    requires { AllApart blocks.now }
+    ensures ok { OnOk result ((s : Serial) → map.get lots.new s ≡ option_or (option_map (lot_in account reserving) (kind_in blocks.now s)) (map.get lots.old s)) }
+    ensures err { OnErr result (lots.new ≡ lots.old) }
 {
-    let mut draft = lots.copy()?;
-    for block in blocks {
-        let kind = block.raw.kind;
-        let lot = Lot {
+    lots.set_all(blocks, |block| {
+        Some(Lot {
             account,
-            kind,
+            kind: block.raw.kind,
             reserving,
-        };
-        draft.set(block, Some(lot))?;
-    }
-    Ok(draft)
+        })
+    })
 }
 
 impl Holdings {
@@ -83,8 +91,10 @@ impl Holdings {
     {
         let accounts = open_accounts(alloc, accounts)?;
         Ok(Holdings {
+            alloc,
             accounts,
             lots: UnitMap::new(alloc),
+            reservations: BTreeMap::new(alloc),
         })
     }
 
@@ -100,7 +110,8 @@ impl Holdings {
     fn standing(&self, account: u64) -> Option<Standing>
         ensures { result ≡ map.get self.now.accounts account }
     {
-        standing_of(&self.accounts, account)
+        let account = self.accounts.get(&account)?;
+        Some(account.standing)
     }
 
     // Gives an account of the registry the standing.
@@ -185,7 +196,18 @@ impl Holdings {
         ensures err { OnErr result (self.new ≡ self.old) }
     {
         self.check(account, blocks)?;
-        self.lots = placed(&self.lots, account, blocks, Some(id))?;
+        let parts = apart(self.alloc, blocks)?;
+        let share = Share {
+            account,
+            count: count(&parts),
+        };
+        let longer = extended(self.alloc, &self.reservations, id, &parts, share)?;
+        let before = put(&mut self.reservations, id, longer)?;
+        if let Err(refused) = set_lots(&mut self.lots, account, &parts, Some(id)) {
+            put_back(&mut self.reservations, id, before);
+            return Err(refused.into());
+        }
+        reserve(&mut self.accounts, account, share.count);
         Ok(())
     }
 
@@ -194,7 +216,10 @@ impl Holdings {
         ensures accounts { self.new.accounts ≡ self.old.accounts }
         ensures lots { (s : Serial) → map.get self.new.lots s ≡ option_map (released id) (map.get self.old.lots s) }
     {
-        self.lots.remark(|lot| {
+        let Some(reservation) = take(&mut self.reservations, id) else {
+            return;
+        };
+        self.lots.remark_in(&reservation.blocks, |lot| {
             if is_reserved_by(&lot, id) {
                 Lot {
                     reserving: None,
@@ -204,6 +229,7 @@ impl Holdings {
                 lot
             }
         });
+        release_all(&mut self.accounts, &reservation.shares);
     }
 
     /// Takes out what the transaction reserves. Takes no memory.
@@ -211,7 +237,12 @@ impl Holdings {
         ensures accounts { self.new.accounts ≡ self.old.accounts }
         ensures lots { (s : Serial) → map.get self.new.lots s ≡ marks_that (λ lot. not (is_reserved_by id lot)) (map.get self.old.lots s) }
     {
-        self.lots.retain(|lot| !is_reserved_by(&lot, id));
+        let Some(reservation) = take(&mut self.reservations, id) else {
+            return;
+        };
+        self.lots
+            .remove_in(&reservation.blocks, |lot| is_reserved_by(&lot, id));
+        take_out_all(&mut self.accounts, &reservation.shares);
     }
 
     /// Puts the blocks' units into the account, free. The account is open, and none of the units
@@ -223,8 +254,22 @@ impl Holdings {
         ensures ok { OnOk result ((self.new.accounts ≡ self.old.accounts) × ((s : Serial) → map.get self.new.lots s ≡ option_or (option_map (free_lot account) (kind_in blocks.now s)) (map.get self.old.lots s))) }
         ensures err { OnErr result (self.new ≡ self.old) }
     {
-        self.lots = placed(&self.lots, account, blocks, None)?;
+        set_lots(&mut self.lots, account, blocks, None)?;
+        put_in(&mut self.accounts, account, count(blocks));
         Ok(())
+    }
+
+    /// Whether `open_account` would open the account: refused as it refuses. Takes no memory.
+    pub fn may_open(&self, account: u64) -> Result<(), Refusal>
+        ensures ok { OnOk result (map.get self.now.accounts account ≡ Some Closed) }
+        ensures err { IfErr result (λ r. IsOpenRefusal self.now account r.code) }
+    {
+        let code = match self.standing(account) {
+            None => UNKNOWN_ACCOUNT,
+            Some(Standing::Open) => ALREADY_SO,
+            Some(Standing::Closed) => return Ok(()),
+        };
+        Err(Refusal { code })
     }
 
     /// Opens a closed account. Refused with `UNKNOWN_ACCOUNT`: the registry has no such account;
@@ -234,16 +279,42 @@ impl Holdings {
         ensures refused { IfErr result (λ r. IsOpenRefusal self.old account r.code) }
         ensures err { OnErr result (self.new ≡ self.old) }
     {
+        self.may_open(account)?;
+        self.set_standing(account, Standing::Open);
+        Ok(())
+    }
+
+    /// Whether `close_account` would close the account: refused as it refuses. Takes no memory.
+    pub fn may_close(&self, account: u64) -> Result<(), Refusal>
+        ensures ok { OnOk result ((map.get self.now.accounts account ≡ Some Open) × (HasUnits self.now account → ⊥)) }
+        ensures err { IfErr result (λ r. IsCloseRefusal self.now account r.code) }
+    {
         match self.standing(account) {
             None => Err(Refusal {
                 code: UNKNOWN_ACCOUNT,
             }),
-            Some(Standing::Open) => Err(Refusal { code: ALREADY_SO }),
-            Some(Standing::Closed) => {
-                self.set_standing(account, Standing::Open);
-                Ok(())
-            }
+            Some(Standing::Closed) => Err(Refusal { code: ALREADY_SO }),
+            Some(Standing::Open) if self.has_units(account) => Err(Refusal { code: HOLDS_UNITS }),
+            Some(Standing::Open) => Ok(()),
         }
+    }
+
+    // How many units the account has.
+    fn held_count(&self, account: u64) -> u64
+        ensures { result ≡ count_by (λ e. is_in account e.1) (map.entries self.now.lots) }
+    {
+        match self.accounts.get(&account) {
+            Some(account) => account.held,
+            None => 0,
+        }
+    }
+
+    // Whether a unit is in the account.
+    fn has_units(&self, account: u64) -> bool
+        ensures some { OnTrue result (HasUnits self.now account) }
+        ensures none { OnFalse result (HasUnits self.now account → ⊥) }
+    {
+        self.held_count(account) > 0
     }
 
     /// Closes an open account that holds nothing. Refused with `UNKNOWN_ACCOUNT`: the registry has
@@ -254,19 +325,16 @@ impl Holdings {
         ensures refused { IfErr result (λ r. IsCloseRefusal self.old account r.code) }
         ensures err { OnErr result (self.new ≡ self.old) }
     {
-        match self.standing(account) {
-            None => Err(Refusal {
-                code: UNKNOWN_ACCOUNT,
-            }),
-            Some(Standing::Closed) => Err(Refusal { code: ALREADY_SO }),
-            Some(Standing::Open) => {
-                if self.lots.has_mark(|lot| lot.account == account) {
-                    return Err(Refusal { code: HOLDS_UNITS });
-                }
-                self.set_standing(account, Standing::Closed);
-                Ok(())
-            }
-        }
+        self.may_close(account)?;
+        self.set_standing(account, Standing::Closed);
+        Ok(())
+    }
+
+    /// How the unit is held, or `None`. Takes no memory.
+    pub fn lot(&self, unit: &Unit) -> Option<Lot>
+        ensures { result ≡ map.get self.now.lots unit.now }
+    {
+        self.lots.get(unit)
     }
 
     // Whether one of the block's units is held.
@@ -289,8 +357,10 @@ impl Holdings {
     pub fn free_count(&self, account: u64) -> u64
         ensures { result ≡ count_by (λ e. is_free_in account e.1) (map.entries self.now.lots) }
     {
-        self.lots
-            .count_where(|lot| lot.account == account && lot.reserving.is_none())
+        match self.accounts.get(&account) {
+            Some(account) => account.free,
+            None => 0,
+        }
     }
 
     /// What is held, as lines by account and then in the order of units, neighbours with one

@@ -2,9 +2,11 @@
 #![tactic(auto)]
 
 mod account;
+mod apart;
 mod holdings;
 mod lines;
 mod lot;
+mod reservation;
 
 pub use holdings::Holdings;
 pub use lot::{Line, Lot, Standing};

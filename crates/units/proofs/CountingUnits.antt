@@ -65,7 +65,7 @@ less Less h = refl
 less Equal h = absurd h
 less Greater h = absurd h
 
-abbrev IsSmall : Serial → Type 0
+abbrev pub IsSmall : Serial → Type 0
 IsSmall u = u.number ≤ last_unit
 
 -- units in order have room below the bound of their numbers
@@ -78,7 +78,7 @@ room e (f ∷ es) sorted small =
     let later = room f es parts.1 small.1 in
     omega arith
 
-few : {X : Type 0} (es : List (Serial × X)) → T (is_sorted unit_cmp es) → AllByRecursion (λ x. IsSmall x.0) es → length es ≤ 2 ^ 63
+pub few : {X : Type 0} (es : List (Serial × X)) → T (is_sorted unit_cmp es) → AllByRecursion (λ x. IsSmall x.0) es → length es ≤ 2 ^ 63
 few [] sorted small = omega arith
 few (e ∷ es) sorted small = let r = room e es sorted small in omega arith
 

@@ -1,7 +1,7 @@
 -- The map that intervals mean answers as the list does.
 use Rattle.std.proofs.Common.{◌≡◌, ℕ, ◌+◌, ◌-◌, zero, suc, List, [], ◌∷◌, Bool, true, false, ◌&&◌, cond, eqb, leb, ltb, Option, Some, find, refl, sym, ap, ◌∙◌, arith}
 use Rattle.std.specs.Option.{option_map}
-use Rattle.std.specs.FinMap.{get, get-empty, get-insert, same_map}
+use Rattle.std.specs.FinMap.{get, get-empty, get-insert}
 use Rattle.std.proofs.lemmas.Bool.Decides.{nat_tests}
 use Rattle.units.specs.Code.{same_code}
 use Rattle.units.specs.Intervals.{has, mark_at, numbered, Marks, put_units, size, marks_of}
@@ -9,7 +9,7 @@ use Rattle.units.specs.Keys.{unit_cmp}
 use Rattle.units.specs.Unit.{same_period}
 use Rattle.units.specs.declared.block.Unit.{Unit as Serial}
 use Rattle.units.specs.declared.interval.Interval.{Interval}
-use Rattle.units.proofs.UnitKeys.{units_total, exact_units, tied}
+use Rattle.units.proofs.UnitKeys.{units_total, tied}
 
 no_first : (o p : Bool) (f x : ℕ) → (o && (p && (leb f x && ltb x (f + 0)))) ≡ false
 no_first true true f x = grind (arith, nat_tests)

@@ -1,12 +1,15 @@
 //! A map from single units to marks.
-ghost use Rattle.std.specs.Prelude.{◌≡◌, ◌≢◌, ◌++◌, Bool, true, Some, None, Option, IsTrue, IsSome, OnOk, OnErr, IfOk, find, option_map, count_by, if◌then◌else◌};
+ghost use Rattle.std.specs.Prelude.{◌≡◌, ◌≢◌, ◌⊎◌, ◌++◌, Bool, true, Some, None, Option, IsTrue, IsSome, OnOk, OnErr, IfOk, find, not, option_map, count_by, if◌then◌else◌};
 ghost use Rattle.std.specs.Bool.{OnTrue, OnFalse};
 ghost use Rattle.std.specs.FinMap as map;
 ghost use Rattle.std.specs.List.{list_any, AllZip};
+ghost use Rattle.std.specs.Option.{option_map_or};
+ghost use Rattle.units.specs.Apart.{AllApart};
 ghost use Rattle.units.specs.Canonical.{AreCanonical};
 ghost use Rattle.units.specs.Cutting.{meets, parts, without, assigned, IsRemarked};
 ghost use Rattle.units.specs.Intervals.{has, mark_at, AreKept, marks_that};
-ghost use Rattle.units.specs.Unit.{has_unit};
+ghost use Rattle.units.specs.Unit.{has_unit, covers};
+ghost use Rattle.units.specs.declared.block.Block.{Block};
 ghost use Rattle.units.specs.declared.block.Unit.{Unit as Serial};
 
 use crate::block::{Block, Unit};
@@ -221,6 +224,27 @@ impl<M: Copy> UnitMap<M> {
         Ok(())
     }
 
+    /// Gives the units of each block the mark of their block, whether they are there or not, or takes them out. After
+    /// `NoMemory` nothing has changed.
+    pub fn set_all<F: Fn(Block) -> Option<M>>(
+        &mut self,
+        blocks: &[Block],
+        mark: F,
+    ) -> Result<(), NoMemory>
+        requires callable { F.IsAlwaysCallable mark }
+        requires apart { AllApart blocks.now }
+        ensures ok { (marks : Block → Option M) → ((b : Block) (r : Option M) → F.post mark b r → r ≡ marks b) → OnOk result ((u : Serial) → map.get self.new u ≡ option_map_or marks (find (λ b. has_unit b.raw u) blocks.now) (map.get self.old u)) }
+        ensures err { OnErr result (self.new ≡ self.old) }
+    {
+        let mut draft = self.copy()?;
+        for block in blocks {
+            let given = mark(*block);
+            draft.set(block, given)?;
+        }
+        *self = draft;
+        Ok(())
+    }
+
     /// Changes each mark to what the function gives. Takes no memory.
     pub fn remark<F: Fn(M) -> M>(&mut self, change: F)
         requires { F.IsAlwaysCallable change }
@@ -235,6 +259,27 @@ impl<M: Copy> UnitMap<M> {
         ensures { (passes : M → Bool) → ((m : M) (r : Bool) → F.post test m r → r ≡ passes m) → (u : Serial) → map.get self.new u ≡ marks_that passes (map.get self.old u) }
     {
         self.intervals.retain(|interval| test(interval.mark));
+    }
+
+    /// Changes each mark to what the function gives. All units whose marks it changes are in the blocks. Takes no
+    /// memory.
+    pub fn remark_in<F: Fn(M) -> M>(&mut self, blocks: &[Block], change: F)
+        requires callable { F.IsAlwaysCallable change }
+        requires only { (u : Serial) (m r : M) → map.get self.old u ≡ Some m → F.post change m r → (r ≡ m) ⊎ IsTrue (covers blocks.now u) }
+        ensures { (after : M → M) → ((m r : M) → F.post change m r → r ≡ after m) → ((m : M) → after (after m) ≡ after m) → (u : Serial) → map.get self.new u ≡ option_map after (map.get self.old u) }
+    {
+        let _ = blocks;
+        self.remark(change);
+    }
+
+    /// Takes the units out whose marks pass the test. All of them are in the blocks. Takes no memory.
+    pub fn remove_in<F: Fn(M) -> bool>(&mut self, blocks: &[Block], test: F)
+        requires callable { F.IsAlwaysCallable test }
+        requires only { (u : Serial) (m : M) → map.get self.old u ≡ Some m → F.post test m true → IsTrue (covers blocks.now u) }
+        ensures { (passes : M → Bool) → ((m : M) (r : Bool) → F.post test m r → r ≡ passes m) → (u : Serial) → map.get self.new u ≡ marks_that (λ m. not (passes m)) (map.get self.old u) }
+    {
+        let _ = blocks;
+        self.retain(|mark| !test(mark));
     }
 }
 

@@ -1,10 +1,36 @@
-use Rattle.std.proofs.Common.{ap, ◌∙◌}
-use Rattle.accounts.specs.Accounts.{standing_in}
-use Rattle.accounts.proofs.Standings.{get-standings, standing_in-opened}
+use Rattle.std.proofs.Common.{◌≡◌, Bool, true, false, cond, Some, None, refl, sym, subst, ap, ◌∙◌}
+use Rattle.std.specs.FinMap.{get, get-empty}
+use Rattle.std.specs.Map.{lookup}
+use Rattle.std.specs.Option.{option_map, option_map_or}
+use Rattle.std.specs.Ordering.{is_eq}
+use Rattle.units.specs.Keys.{unit_cmp}
+use Rattle.status.specs.Id.{id_cmp}
+use Rattle.accounts.specs.declared.account.Account.{Account}
+use Rattle.accounts.proofs.InStep.{kept_empty}
+use Rattle.std.specs.List.{list_any}
+use Rattle.std.specs.Prelude.{◌==◌}
+use Rattle.accounts.specs.Accounts.{opened}
+use Rattle.accounts.specs.declared.lot.Standing.TheVariants.{Open}
+use Rattle.accounts.proofs.Standings.{get-standings}
 use Rattle.accounts.proofs.holdings.Holdings.new.Goals as goal
+
+all_open : (t : Bool) → option_map (λ a. a.standing) (cond t (Some opened) None) ≡ cond t (Some Open) None
+all_open true = refl
+all_open false = refl
 
 pub returns-clause-accounts : goal.returns-clause-accounts
 returns-clause-accounts c n =
-    get-standings c.in_ok-accounts.accounts.items n
-    ∙ ap (λ xs. standing_in xs n) c.in_ok-accounts.ensures
-    ∙ standing_in-opened c.args.accounts.now n
+    get-standings c.in_ok-accounts.accounts n
+    ∙ ap (option_map (λ a. a.standing)) (c.in_ok-accounts.ensures n)
+    ∙ all_open (list_any (λ a. a == n) c.args.accounts.now)
+
+zero_counts : (t : Bool) → (option_map_or (λ a. a.held) (cond t (Some opened) None) 0 ≡ 0) × (option_map_or (λ a. a.free) (cond t (Some opened) None) 0 ≡ 0)
+zero_counts true = (refl, refl)
+zero_counts false = (refl, refl)
+
+pub invariant_of-result : goal.invariant_of-result
+invariant_of-result c =
+    kept_empty c.in_ok-accounts.accounts c.new.result c.new-2.result
+    (λ n. subst (λ o. (option_map_or (λ (a : Account). a.held) o 0 ≡ 0) × (option_map_or (λ (a : Account). a.free) o 0 ≡ 0)) (sym (c.in_ok-accounts.ensures n)) (zero_counts (list_any (λ a. a == n) c.args.accounts.now)))
+    (λ s. ap (λ m. get m s) c.new.ensures ∙ get-empty unit_cmp s)
+    (λ q. ap (lookup (λ k. is_eq (id_cmp q k))) c.new-2.ensures.empty)

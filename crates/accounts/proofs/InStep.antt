@@ -1,0 +1,448 @@
+-- What holdings keep beside their lots stays in step with them through each change.
+-- Each call is seen unit by unit (`OneUnit`); the counts follow by `Counts.counts_add`, where a list of blocks counts as the map from units to
+-- kinds that it means.
+use Rattle.std.proofs.Common.{◌≡◌, ℕ, ◌+◌, ◌-◌, ◌^◌, ◌<◌, ◌≤◌, List, [], ◌∷◌, ◌++◌, Bool, true, false, ◌&&◌, ◌||◌, true≢false, cond, eqb, Option, Some, None, IsSome, is_some, refl, sym, ap, ◌∙◌, subst, arith, inl, inr}
+use Rattle.std.specs.BTreeMap as tree
+use Rattle.std.specs.BTreeMap.{BTreeMap}
+use Rattle.std.specs.FinMap.{FinMap, get}
+use Rattle.std.specs.Option.{option_map}
+use Rattle.std.specs.Ordering.{nat_cmp}
+use Rattle.std.proofs.lemmas.Bool.{cases_Bool, eqb-true, eq-eqb}
+use Rattle.std.proofs.lemmas.Bool.Decides.{nat_tests}
+use Rattle.std.proofs.lemmas.List.Folds.{list_any-append}
+use Rattle.std.proofs.lemmas.List.Sums.{sum_by-append, sum_by-cons}
+use Rattle.units.specs.Apart.{AllApart}
+use Rattle.units.specs.Intervals.{marks_of}
+use Rattle.units.specs.Keys.{unit_cmp}
+use Rattle.units.specs.Limits.{last_unit}
+use Rattle.units.specs.Unit.{has_unit, covers}
+use Rattle.units.specs.declared.block.Block.{Block}
+use Rattle.units.specs.declared.block.Kind.{Kind}
+use Rattle.units.specs.declared.block.Unit.{Unit as Serial}
+use Rattle.units.proofs.Walking.{number_of}
+use Rattle.status.specs.Id.{id_cmp, same_id}
+use Rattle.status.specs.declared.id.TransactionId.{TransactionId}
+use Rattle.status.proofs.Ids.{id_of_same, same_id-refl}
+use Rattle.accounts.specs.Holdings.{is_free_in, kind_in, released}
+use Rattle.accounts.specs.Tables.{blocks_in, shares_in, free_in, held_in, held_at, free_at, with_units, with_fewer_free, with_more_free, with_fewer, units_in, share_of, blocks_of, shares_of, lot_in, Lots, is_in, is_share, reserves, IsListed, AreInRange, AreInStep}
+use Rattle.accounts.specs.declared.account.Account.{Account}
+use Rattle.accounts.specs.declared.lot.Lot.{Lot}
+use Rattle.accounts.specs.declared.reservation.Reservation.{Reservation}
+use Rattle.accounts.specs.declared.reservation.Share.{Share}
+use Rattle.accounts.proofs.Counts.{tally}
+use Rattle.accounts.proofs.Parts.{intervals_of, kinds_counted, get_kinds, kind_found, kind_covered, apart_append}
+use Rattle.accounts.proofs.OneUnit.{released_reserves, released_in, released_free, released_share, others, taken_reserves, taken_in, taken_free, taken_share, put, in_account, credited_in, credited_free, credited_reserves, credited_share, reserved_in, reserved_free, reserved_reserves, reserved_share}
+use Rattle.accounts.proofs.LotCounts.{count, adds, same, nothing, count_bound, shares_within}
+
+-- ---- a transaction's reservation is let go
+
+module _ (accounts accounts' : BTreeMap ℕ Account) (lots lots' : Lots) (res res' : BTreeMap TransactionId Reservation) (id : TransactionId) (kept : AreInStep accounts lots res)
+    (gone : (q : TransactionId) → tree.get id_cmp res' q ≡ cond (same_id id q) None (tree.get id_cmp res q)) where
+  no_blocks : (q : TransactionId) → same_id id q ≡ true → blocks_of res' q ≡ []
+  no_blocks q e = ap blocks_in (gone q ∙ ap (λ t. cond t None (tree.get id_cmp res q)) e)
+
+  no_shares : (q : TransactionId) → same_id id q ≡ true → shares_of res' q ≡ []
+  no_shares q e = ap shares_in (gone q ∙ ap (λ t. cond t None (tree.get id_cmp res q)) e)
+
+  other_blocks : (q : TransactionId) → same_id id q ≡ false → blocks_of res' q ≡ blocks_of res q
+  other_blocks q e = ap blocks_in (gone q ∙ ap (λ t. cond t None (tree.get id_cmp res q)) e)
+
+  other_shares : (q : TransactionId) → same_id id q ≡ false → shares_of res' q ≡ shares_of res q
+  other_shares q e = ap shares_in (gone q ∙ ap (λ t. cond t None (tree.get id_cmp res q)) e)
+
+  let_go : ((q : TransactionId) (s : Serial) → reserves q (get lots' s) ≡ cond (same_id id q) false (reserves q (get lots s)))
+      → ((n : ℕ) (q : TransactionId) (s : Serial) → tally (is_share n q) (get lots' s) ≡ cond (same_id id q) 0 (tally (is_share n q) (get lots s)))
+      → (q : TransactionId) → IsListed lots' q (blocks_of res' q) (shares_of res' q)
+  let_go by_unit by_share q = elim (cases_Bool (same_id id q)) [
+    | inl yes' ↦ record {
+      exact = λ s. by_unit q s ∙ ap (λ t. cond t false (reserves q (get lots s))) yes' ∙ ap (λ bs. covers bs s) (sym (no_blocks q yes'));
+      apart = subst AllApart (sym (no_blocks q yes')) tt;
+      shared = λ n.
+          ap (λ ss. share_of ss n) (no_shares q yes')
+          ∙ sym (nothing (is_share n q) lots' (λ s. by_share n q s ∙ ap (λ t. cond t 0 (tally (is_share n q) (get lots s))) yes'));
+    }
+    | inr no' ↦ record {
+      exact = λ s. by_unit q s ∙ ap (λ t. cond t false (reserves q (get lots s))) no' ∙ (kept.listed q).exact s ∙ ap (λ bs. covers bs s) (sym (other_blocks q no'));
+      apart = subst AllApart (sym (other_blocks q no')) (kept.listed q).apart;
+      shared = λ n.
+          ap (λ ss. share_of ss n) (other_shares q no')
+          ∙ (kept.listed q).shared n
+          ∙ same (is_share n q) (is_share n q) lots lots' (λ s. sym (by_share n q s ∙ ap (λ t. cond t 0 (tally (is_share n q) (get lots s))) no'));
+    }
+  ]
+
+freed_held : (m : ℕ) (o : Option Account) → held_in (option_map (with_more_free m) o) ≡ held_in o
+freed_held m None = refl
+freed_held m (Some a) = refl
+
+freed_free : (m : ℕ) (o : Option Account) → m ≤ held_in o → free_in (option_map (with_more_free m) o) ≡ free_in o + m
+freed_free m None le = omega arith
+freed_free m (Some a) le = refl
+
+fewer_held : (m : ℕ) (o : Option Account) → held_in (option_map (with_fewer m) o) ≡ held_in o - m
+fewer_held m None = omega arith
+fewer_held m (Some a) = refl
+
+fewer_free : (m : ℕ) (o : Option Account) → free_in (option_map (with_fewer m) o) ≡ free_in o
+fewer_free m None = refl
+fewer_free m (Some a) = refl
+
+module _ (accounts : BTreeMap ℕ Account) (lots : Lots) (res : BTreeMap TransactionId Reservation) (id : TransactionId) (kept : AreInStep accounts lots res) where
+  -- no account has fewer units than the transaction reserves of it
+  pub share_held : (n : ℕ) → share_of (shares_of res id) n ≤ held_at accounts n
+  share_held n =
+      let shared = (kept.listed id).shared n in
+      let held = kept.counted.held n in
+      let within = shares_within n id lots in
+      omega (arith, shared, held, within)
+
+  module _ (lots' : Lots) (changed : (s : Serial) → get lots' s ≡ option_map (released id) (get lots s)) where
+    some_before : (o : Option Lot) → IsSome (option_map (released id) o) → IsSome o
+    some_before None h = h
+    some_before (Some x) h = refl
+
+    range' : AreInRange lots'
+    range' s h = kept.in_range s (some_before (get lots s) (ap is_some (sym (changed s)) ∙ h))
+
+    free_after : (n : ℕ) → count (is_free_in n) lots' ≡ count (is_free_in n) lots + count (is_share n id) lots
+    free_after n = adds (is_free_in n) (is_free_in n) (is_share n id) lots' lots lots (λ s. ap (tally (is_free_in n)) (changed s) ∙ released_free id n (get lots s))
+
+    -- the freed units have room
+    pub freed_fits : (n : ℕ) → free_at accounts n + share_of (shares_of res id) n < 2 ^ 64
+    freed_fits n =
+        let after = free_after n in
+        let bound = count_bound (is_free_in n) lots' range' in
+        let free = kept.counted.free n in
+        let shared = (kept.listed id).shared n in
+        omega (arith, after, bound, free, shared)
+
+    pub kept_released : (accounts' : BTreeMap ℕ Account) (res' : BTreeMap TransactionId Reservation)
+        → ((q : TransactionId) → tree.get id_cmp res' q ≡ cond (same_id id q) None (tree.get id_cmp res q))
+        → ((n : ℕ) → tree.get nat_cmp accounts' n ≡ option_map (with_more_free (share_of (shares_of res id) n)) (tree.get nat_cmp accounts n))
+        → AreInStep accounts' lots' res'
+    kept_released accounts' res' gone freed = record {
+      counted = record {
+        held = λ n.
+            ap held_in (freed n) ∙ freed_held (share_of (shares_of res id) n) (tree.get nat_cmp accounts n)
+            ∙ kept.counted.held n
+            ∙ same (is_in n) (is_in n) lots lots' (λ s. sym (ap (tally (is_in n)) (changed s) ∙ released_in id n (get lots s)));
+        free = λ n.
+            ap free_in (freed n) ∙ freed_free (share_of (shares_of res id) n) (tree.get nat_cmp accounts n) (share_held n)
+            ∙ ap (λ m. m + share_of (shares_of res id) n) (kept.counted.free n)
+            ∙ ap (λ m. count (is_free_in n) lots + m) ((kept.listed id).shared n)
+            ∙ sym (free_after n);
+      };
+      listed = let_go accounts accounts' lots lots' res res' id kept gone
+          (λ q s. ap (reserves q) (changed s) ∙ released_reserves id q (get lots s))
+          (λ n q s. ap (tally (is_share n q)) (changed s) ∙ released_share id n q (get lots s));
+      in_range = range';
+    }
+
+  module _ (lots' : Lots) (changed : (s : Serial) → get lots' s ≡ others id (get lots s)) where
+    some_left : (o : Option Lot) → IsSome (others id o) → IsSome o
+    some_left None h = h
+    some_left (Some x) h = refl
+
+    held_after : (n : ℕ) → count (is_in n) lots ≡ count (is_in n) lots' + count (is_share n id) lots
+    held_after n = adds (is_in n) (is_in n) (is_share n id) lots lots' lots (λ s. taken_in id n (get lots s) ∙ ap (λ o. tally (is_in n) o + tally (is_share n id) (get lots s)) (sym (changed s)))
+
+    pub kept_removed : (accounts' : BTreeMap ℕ Account) (res' : BTreeMap TransactionId Reservation)
+        → ((q : TransactionId) → tree.get id_cmp res' q ≡ cond (same_id id q) None (tree.get id_cmp res q))
+        → ((n : ℕ) → tree.get nat_cmp accounts' n ≡ option_map (with_fewer (share_of (shares_of res id) n)) (tree.get nat_cmp accounts n))
+        → AreInStep accounts' lots' res'
+    kept_removed accounts' res' gone taken = record {
+      counted = record {
+        held = λ n.
+            let now = ap held_in (taken n) ∙ fewer_held (share_of (shares_of res id) n) (tree.get nat_cmp accounts n) in
+            let before = kept.counted.held n in
+            let after = held_after n in
+            let shared = (kept.listed id).shared n in
+            omega (arith, now, before, after, shared);
+        free = λ n.
+            ap free_in (taken n) ∙ fewer_free (share_of (shares_of res id) n) (tree.get nat_cmp accounts n)
+            ∙ kept.counted.free n
+            ∙ same (is_free_in n) (is_free_in n) lots lots' (λ s. sym (ap (tally (is_free_in n)) (changed s) ∙ taken_free id n (get lots s)));
+      };
+      listed = let_go accounts accounts' lots lots' res res' id kept gone
+          (λ q s. ap (reserves q) (changed s) ∙ taken_reserves id q (get lots s))
+          (λ n q s. ap (tally (is_share n q)) (changed s) ∙ taken_share id n q (get lots s));
+      in_range = λ s h. kept.in_range s (some_left (get lots s) (ap is_some (sym (changed s)) ∙ h));
+    }
+
+-- ---- units are put into an account
+
+turned : (m n : ℕ) → eqb m n ≡ eqb n m
+turned m n = grind (arith, nat_tests)
+
+same_number : (n : ℕ) → eqb n n ≡ true
+same_number n = eq-eqb n n refl
+
+more_held : (t : Bool) (m : ℕ) (o : Option Account) → (t ≡ true → IsSome o) → held_in (cond t (option_map (with_units m) o) o) ≡ held_in o + cond t m 0
+more_held true m None known = absurd (true≢false (sym (known refl)))
+more_held true m (Some a) known = refl
+more_held false m o known = omega arith
+
+more_free : (t : Bool) (m : ℕ) (o : Option Account) → (t ≡ true → IsSome o) → free_in (cond t (option_map (with_units m) o) o) ≡ free_in o + cond t m 0
+more_free true m None known = absurd (true≢false (sym (known refl)))
+more_free true m (Some a) known = refl
+more_free false m o known = omega arith
+
+in_blocks : (blocks : List Block) (s : Serial) (k : Kind) → kind_in blocks s ≡ Some k → s.number ≤ last_unit
+in_blocks blocks s k e =
+    let w = kind_found blocks s k e in
+    let range = w.0.in_range in
+    let high = (number_of w.0.raw s w.1.has).1 in
+    omega (arith, range, high)
+
+module _ (accounts : BTreeMap ℕ Account) (lots : Lots) (res : BTreeMap TransactionId Reservation) (kept : AreInStep accounts lots res) (a : ℕ) (blocks : List Block) (apart : AllApart blocks) (lots' : Lots) where
+  kinds : FinMap unit_cmp Kind
+  kinds = marks_of (intervals_of blocks)
+
+  range_put : (r : Option TransactionId) → ((s : Serial) → get lots' s ≡ put a r (kind_in blocks s) (get lots s)) → AreInRange lots'
+  range_put r changed s h = elim (kind_in blocks s) as (λ k. kind_in blocks s ≡ k → IsSome (put a r k (get lots s)) → s.number ≤ last_unit) [
+    | None ↦ λ e i. kept.in_range s i
+    | Some k ↦ λ e i. in_blocks blocks s k e
+  ] refl (ap is_some (sym (changed s)) ∙ h)
+
+  abbrev Credited : Type 0
+  Credited = (s : Serial) → get lots' s ≡ put a None (kind_in blocks s) (get lots s)
+
+  abbrev Absent : Type 0
+  Absent = (s : Serial) (k : Kind) → kind_in blocks s ≡ Some k → get lots s ≡ None
+
+  held_credited : Credited → Absent → (n : ℕ) → count (is_in n) lots' ≡ count (is_in n) lots + cond (eqb a n) (units_in blocks) 0
+  unfolding kinds
+  held_credited changed absent n =
+      adds (is_in n) (is_in n) (in_account a n) lots' lots kinds (λ s. ap (tally (is_in n)) (changed s) ∙ credited_in a (kind_in blocks s) (get lots s) (absent s) n ∙ ap (λ k. tally (is_in n) (get lots s) + tally (in_account a n) k) (sym (get_kinds blocks s)))
+      ∙ ap (λ m. count (is_in n) lots + m) (kinds_counted blocks apart (eqb a n))
+
+  free_credited : Credited → Absent → (n : ℕ) → count (is_free_in n) lots' ≡ count (is_free_in n) lots + cond (eqb a n) (units_in blocks) 0
+  unfolding kinds
+  free_credited changed absent n =
+      adds (is_free_in n) (is_free_in n) (in_account a n) lots' lots kinds (λ s. ap (tally (is_free_in n)) (changed s) ∙ credited_free a (kind_in blocks s) (get lots s) (absent s) n ∙ ap (λ k. tally (is_free_in n) (get lots s) + tally (in_account a n) k) (sym (get_kinds blocks s)))
+      ∙ ap (λ m. count (is_free_in n) lots + m) (kinds_counted blocks apart (eqb a n))
+
+  all_here : cond (eqb a a) (units_in blocks) 0 ≡ units_in blocks
+  all_here = ap (λ t. cond t (units_in blocks) 0) (same_number a)
+
+  -- there is room in the account's counts
+  pub held_fits : Credited → Absent → held_at accounts a + units_in blocks < 2 ^ 64
+  held_fits changed absent =
+      let after = held_credited changed absent a in
+      let bound = count_bound (is_in a) lots' (range_put None changed) in
+      let held = kept.counted.held a in
+      let here = all_here in
+      omega (arith, after, bound, held, here)
+
+  pub free_fits : Credited → Absent → free_at accounts a + units_in blocks < 2 ^ 64
+  free_fits changed absent =
+      let after = free_credited changed absent a in
+      let bound = count_bound (is_free_in a) lots' (range_put None changed) in
+      let free = kept.counted.free a in
+      let here = all_here in
+      omega (arith, after, bound, free, here)
+
+  pub kept_credited : Credited → Absent → IsSome (tree.get nat_cmp accounts a) → (accounts' : BTreeMap ℕ Account)
+      → ((n : ℕ) → tree.get nat_cmp accounts' n ≡ cond (eqb n a) (option_map (with_units (units_in blocks)) (tree.get nat_cmp accounts n)) (tree.get nat_cmp accounts n))
+      → AreInStep accounts' lots' res
+  kept_credited changed absent known accounts' more =
+      let there = λ (n : ℕ) (e : eqb n a ≡ true). ap (λ m. is_some (tree.get nat_cmp accounts m)) (eqb-true n a e) ∙ known in
+      record {
+        counted = record {
+          held = λ n.
+              let now = ap held_in (more n) ∙ more_held (eqb n a) (units_in blocks) (tree.get nat_cmp accounts n) (there n) ∙ ap (λ t. held_at accounts n + cond t (units_in blocks) 0) (turned n a) in
+              let before = kept.counted.held n in
+              let after = held_credited changed absent n in
+              omega (arith, now, before, after);
+          free = λ n.
+              let now = ap free_in (more n) ∙ more_free (eqb n a) (units_in blocks) (tree.get nat_cmp accounts n) (there n) ∙ ap (λ t. free_at accounts n + cond t (units_in blocks) 0) (turned n a) in
+              let before = kept.counted.free n in
+              let after = free_credited changed absent n in
+              omega (arith, now, before, after);
+        };
+        listed = λ q. record {
+          exact = λ s. ap (reserves q) (changed s) ∙ credited_reserves a (kind_in blocks s) (get lots s) (absent s) q ∙ (kept.listed q).exact s;
+          apart = (kept.listed q).apart;
+          shared = λ n. (kept.listed q).shared n ∙ same (is_share n q) (is_share n q) lots lots' (λ s. sym (ap (tally (is_share n q)) (changed s) ∙ credited_share a (kind_in blocks s) (get lots s) (absent s) n q));
+        };
+        in_range = range_put None changed;
+      }
+
+  -- ---- units are reserved
+
+  module _ (id : TransactionId) where
+    abbrev Reserved : Type 0
+    Reserved = (s : Serial) → get lots' s ≡ put a (Some id) (kind_in blocks s) (get lots s)
+
+    abbrev AreFree : Type 0
+    AreFree = (s : Serial) (k : Kind) → kind_in blocks s ≡ Some k → get lots s ≡ Some (lot_in a None k)
+
+    free_reserved : Reserved → AreFree → (n : ℕ) → count (is_free_in n) lots ≡ count (is_free_in n) lots' + cond (eqb a n) (units_in blocks) 0
+    unfolding kinds
+    free_reserved changed free n =
+        adds (is_free_in n) (is_free_in n) (in_account a n) lots lots' kinds (λ s.
+        reserved_free a id (kind_in blocks s) (get lots s) (free s) n
+        ∙ ap (λ o. tally (is_free_in n) o + tally (in_account a n) (kind_in blocks s)) (sym (changed s))
+        ∙ ap (λ k. tally (is_free_in n) (get lots' s) + tally (in_account a n) k) (sym (get_kinds blocks s)))
+        ∙ ap (λ m. count (is_free_in n) lots' + m) (kinds_counted blocks apart (eqb a n))
+
+    share_reserved : Reserved → AreFree → (n : ℕ) (q : TransactionId) → count (is_share n q) lots' ≡ count (is_share n q) lots + cond (eqb a n && same_id id q) (units_in blocks) 0
+    unfolding kinds
+    share_reserved changed free n q =
+        adds (is_share n q) (is_share n q) (λ k. eqb a n && same_id id q) lots' lots kinds (λ s.
+        ap (tally (is_share n q)) (changed s)
+        ∙ reserved_share a id (kind_in blocks s) (get lots s) (free s) n q
+        ∙ ap (λ k. tally (is_share n q) (get lots s) + tally (λ (x : Kind). eqb a n && same_id id q) k) (sym (get_kinds blocks s)))
+        ∙ ap (λ m. count (is_share n q) lots + m) (kinds_counted blocks apart (eqb a n && same_id id q))
+
+    -- the account has so many free units
+    pub enough_free : Reserved → AreFree → units_in blocks ≤ free_at accounts a
+    enough_free changed free =
+        let split = free_reserved changed free a in
+        let before = kept.counted.free a in
+        let here = all_here in
+        omega (arith, split, before, here)
+
+    less_held : (t : Bool) (m : ℕ) (o : Option Account) → held_in (cond t (option_map (with_fewer_free m) o) o) ≡ held_in o
+    less_held true m None = refl
+    less_held true m (Some x) = refl
+    less_held false m o = refl
+
+    less_free : (t : Bool) (m : ℕ) (o : Option Account) → free_in (cond t (option_map (with_fewer_free m) o) o) ≡ free_in o - cond t m 0
+    less_free true m None = omega arith
+    less_free true m (Some x) = refl
+    less_free false m o = omega arith
+
+    -- a unit that the transaction reserves isn't free
+    not_both : AreFree → (s : Serial) → covers (blocks_of res id) s ≡ true → covers blocks s ≡ true → ⊥
+    not_both free s h e = elim (kind_in blocks s) as (λ k. kind_in blocks s ≡ k → is_some k ≡ true → ⊥) [
+      | None ↦ λ k i. true≢false (sym i)
+      | Some kind ↦ λ k i. true≢false (sym h ∙ sym ((kept.listed id).exact s) ∙ ap (reserves id) (free s kind k))
+    ] refl (kind_covered blocks s ∙ e)
+
+    module _ (longer : Reservation) (res' : BTreeMap TransactionId Reservation) (put_in : (q : TransactionId) → tree.get id_cmp res' q ≡ cond (same_id id q) (Some longer) (tree.get id_cmp res q))
+        (blocks_are : longer.blocks.items ≡ blocks_of res id ++ blocks) (shares_are : longer.shares.items ≡ shares_of res id ++ record { account = a; count = units_in blocks } ∷ []) where
+      at_id : tree.get id_cmp res' id ≡ Some longer
+      at_id = put_in id ∙ ap (λ t. cond t (Some longer) (tree.get id_cmp res id)) (same_id-refl id)
+
+      listed_here : Reserved → AreFree → IsListed lots' id (blocks_of res' id) (shares_of res' id)
+      listed_here changed free = record {
+        exact = λ s.
+            ap (reserves id) (changed s)
+            ∙ reserved_reserves a id (kind_in blocks s) (get lots s) (free s) id
+            ∙ ap (λ t. cond t (reserves id (get lots s) || is_some (kind_in blocks s)) (reserves id (get lots s))) (same_id-refl id)
+            ∙ ap (λ t. t || is_some (kind_in blocks s)) ((kept.listed id).exact s)
+            ∙ ap (λ t. covers (blocks_of res id) s || t) (kind_covered blocks s)
+            ∙ sym (list_any-append (λ (b : Block). has_unit b.raw s) (blocks_of res id) blocks)
+            ∙ ap (λ bs. covers bs s) (sym (ap blocks_in at_id ∙ blocks_are));
+        apart = subst AllApart (sym (ap blocks_in at_id ∙ blocks_are)) (apart_append (blocks_of res id) blocks (kept.listed id).apart apart (not_both free));
+        shared = λ n.
+            let share : Share = record { account = a; count = units_in blocks } in
+            let f = λ (x : Share). cond (eqb x.account n) x.count 0 in
+            let all = ap (λ ss. share_of ss n) (ap shares_in at_id ∙ shares_are) ∙ sum_by-append f (shares_of res id) (share ∷ []) in
+            let one = sum_by-cons f share [] in
+            let before = (kept.listed id).shared n in
+            let after = share_reserved changed free n id ∙ ap (λ t. count (is_share n id) lots + cond (eqb a n && t) (units_in blocks) 0) (same_id-refl id) ∙ ap (λ t. count (is_share n id) lots + cond t (units_in blocks) 0) (with_true (eqb a n)) in
+            omega (arith, all, one, before, after);
+      }
+        where
+          with_true : (t : Bool) → (t && true) ≡ t
+          with_true true = refl
+          with_true false = refl
+
+      listed_other : Reserved → AreFree → (q : TransactionId) → same_id id q ≡ false → IsListed lots' q (blocks_of res' q) (shares_of res' q)
+      listed_other changed free q other =
+          let at = put_in q ∙ ap (λ t. cond t (Some longer) (tree.get id_cmp res q)) other in
+          record {
+            exact = λ s.
+                ap (reserves q) (changed s)
+                ∙ reserved_reserves a id (kind_in blocks s) (get lots s) (free s) q
+                ∙ ap (λ t. cond t (reserves q (get lots s) || is_some (kind_in blocks s)) (reserves q (get lots s))) other
+                ∙ (kept.listed q).exact s
+                ∙ ap (λ bs. covers bs s) (sym (ap blocks_in at));
+            apart = subst AllApart (sym (ap blocks_in at)) (kept.listed q).apart;
+            shared = λ n.
+                let all = ap (λ ss. share_of ss n) (ap shares_in at) in
+                let before = (kept.listed q).shared n in
+                let after = share_reserved changed free n q ∙ ap (λ t. count (is_share n q) lots + cond (eqb a n && t) (units_in blocks) 0) other ∙ ap (λ t. count (is_share n q) lots + cond t (units_in blocks) 0) (with_false (eqb a n)) in
+                omega (arith, all, before, after);
+          }
+        where
+          with_false : (t : Bool) → (t && false) ≡ false
+          with_false true = refl
+          with_false false = refl
+
+      pub kept_reserved : Reserved → AreFree → (accounts' : BTreeMap ℕ Account)
+          → ((n : ℕ) → tree.get nat_cmp accounts' n ≡ cond (eqb n a) (option_map (with_fewer_free (units_in blocks)) (tree.get nat_cmp accounts n)) (tree.get nat_cmp accounts n))
+          → AreInStep accounts' lots' res'
+      kept_reserved changed free accounts' fewer = record {
+        counted = record {
+          held = λ n.
+              ap held_in (fewer n) ∙ less_held (eqb n a) (units_in blocks) (tree.get nat_cmp accounts n)
+              ∙ kept.counted.held n
+              ∙ same (is_in n) (is_in n) lots lots' (λ s. sym (ap (tally (is_in n)) (changed s) ∙ reserved_in a id (kind_in blocks s) (get lots s) (free s) n));
+          free = λ n.
+              let now = ap free_in (fewer n) ∙ less_free (eqb n a) (units_in blocks) (tree.get nat_cmp accounts n) ∙ ap (λ t. free_at accounts n - cond t (units_in blocks) 0) (turned n a) in
+              let before = kept.counted.free n in
+              let split = free_reserved changed free n in
+              omega (arith, now, before, split);
+        };
+        listed = λ q. elim (cases_Bool (same_id id q)) [
+          | inl yes' ↦ subst (λ x. IsListed lots' x (blocks_of res' x) (shares_of res' x)) (id_of_same id q yes') (listed_here changed free)
+          | inr no' ↦ listed_other changed free q no'
+        ];
+        in_range = range_put (Some id) changed;
+      }
+
+-- the same reservations, in another table
+pub kept_same : (accounts : BTreeMap ℕ Account) (lots lots' : Lots) (res res' : BTreeMap TransactionId Reservation) → AreInStep accounts lots res → lots' ≡ lots → ((q : TransactionId) → tree.get id_cmp res' q ≡ tree.get id_cmp res q) → AreInStep accounts lots' res'
+kept_same accounts lots lots' res res' kept e same' =
+    subst (λ m. AreInStep accounts m res') (sym e) (record {
+      counted = kept.counted;
+      listed = λ q.
+          let at = same' q in
+          record {
+            exact = λ s. (kept.listed q).exact s ∙ ap (λ o. covers (blocks_in o) s) (sym at);
+            apart = subst (λ o. AllApart (blocks_in o)) (sym at) (kept.listed q).apart;
+            shared = λ n. ap (λ o. share_of (shares_in o) n) at ∙ (kept.listed q).shared n;
+          };
+      in_range = kept.in_range;
+    })
+
+-- a transaction that reserves nothing
+module _ (accounts : BTreeMap ℕ Account) (lots : Lots) (res : BTreeMap TransactionId Reservation) (id : TransactionId) (kept : AreInStep accounts lots res) (none : tree.get id_cmp res id ≡ None) where
+  pub none_reserved : (s : Serial) → reserves id (get lots s) ≡ false
+  none_reserved s = (kept.listed id).exact s ∙ ap (λ o. covers (blocks_in o) s) none
+
+  pub kept_none : (res' : BTreeMap TransactionId Reservation) → ((q : TransactionId) → tree.get id_cmp res' q ≡ cond (same_id id q) None (tree.get id_cmp res q)) → AreInStep accounts lots res'
+  kept_none res' gone = kept_same accounts lots lots res res' kept refl (λ q. gone q ∙ (elim (cases_Bool (same_id id q)) [
+    | inl yes' ↦ rw yes' (sym (ap (tree.get id_cmp res) (sym (id_of_same id q yes')) ∙ none))
+    | inr no' ↦ rw no' refl
+  ]))
+
+-- what was put for a transaction and taken back
+pub put_back_same : (res res' res'' : BTreeMap TransactionId Reservation) (id : TransactionId) (longer : Reservation) (before : Option Reservation) → before ≡ tree.get id_cmp res id
+    → ((q : TransactionId) → tree.get id_cmp res' q ≡ cond (same_id id q) (Some longer) (tree.get id_cmp res q))
+    → ((q : TransactionId) → tree.get id_cmp res'' q ≡ cond (same_id id q) before (tree.get id_cmp res' q))
+    → (q : TransactionId) → tree.get id_cmp res'' q ≡ tree.get id_cmp res q
+put_back_same res res' res'' id longer before was put' back q = back q ∙ (elim (cases_Bool (same_id id q)) [
+  | inl yes' ↦ rw yes' (was ∙ ap (tree.get id_cmp res) (id_of_same id q yes'))
+  | inr no' ↦ rw no' (put' q ∙ ap (λ t. cond t (Some longer) (tree.get id_cmp res q)) no')
+])
+
+-- nothing held, nothing reserved
+pub kept_empty : (accounts : BTreeMap ℕ Account) (lots : Lots) (res : BTreeMap TransactionId Reservation) → ((n : ℕ) → (held_at accounts n ≡ 0) × (free_at accounts n ≡ 0)) → ((s : Serial) → get lots s ≡ None) → ((q : TransactionId) → tree.get id_cmp res q ≡ None) → AreInStep accounts lots res
+kept_empty accounts lots res zero' none empty' = record {
+  counted = record {
+    held = λ n. (zero' n).0 ∙ sym (nothing (is_in n) lots (λ s. ap (tally (is_in n)) (none s)));
+    free = λ n. (zero' n).1 ∙ sym (nothing (is_free_in n) lots (λ s. ap (tally (is_free_in n)) (none s)));
+  };
+  listed = λ q.
+      let at = empty' q in
+      record {
+        exact = λ s. ap (reserves q) (none s) ∙ ap (λ o. covers (blocks_in o) s) (sym at);
+        apart = subst (λ o. AllApart (blocks_in o)) (sym at) tt;
+        shared = λ n. ap (λ o. share_of (shares_in o) n) at ∙ sym (nothing (is_share n q) lots (λ s. ap (tally (is_share n q)) (none s)));
+      };
+  in_range = λ s h. absurd (true≢false (sym h ∙ ap is_some (none s)));
+}

@@ -1,0 +1,17 @@
+use Rattle.std.proofs.Common.{ap, take, get_or, arith}
+use Rattle.std.specs.BTreeMap as tree
+use Rattle.std.specs.Ordering.{nat_cmp}
+use Rattle.accounts.specs.Tables.{held_in, share_of}
+use Rattle.accounts.proofs.Shares.{left, so_far}
+use Rattle.accounts.proofs.account.take_out_all.Goals as goal
+
+pub take_out-requires : goal.take_out-requires
+take_out-requires c =
+    let shares = c.args.shares.now in
+    let i = c.loop-share.share-index in
+    let s = get_or shares i (record { account = 0; count = 0 }) in
+    let fits = c.requires s.account in
+    let within = so_far shares i (record { account = 0; count = 0 }) c.loop-share-test.true in
+    let now = ap held_in (c.loop-share.invariant s.account) in
+    let few = left (share_of (take i shares) s.account) (tree.get nat_cmp c.args.accounts.now s.account) in
+    omega (arith, fits, within, now, few)

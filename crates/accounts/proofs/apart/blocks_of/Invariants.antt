@@ -1,0 +1,6 @@
+use Rattle.std.proofs.Common.{◌≡◌, map, take}
+use Rattle.units.specs.Canonical.{interval_of}
+use Rattle.accounts.proofs.apart.blocks_of.Given as goal
+
+abbrev pub invariant-loop-interval : goal.invariant-loop-interval
+invariant-loop-interval l = map interval_of l.blocks.items ≡ take l.interval-index l.intervals

@@ -1,0 +1,67 @@
+//! Blocks that share no unit.
+ghost use Rattle.std.specs.Prelude.{◌≡◌, ℕ, map, IfOk};
+ghost use Rattle.units.specs.Apart.{AllApart};
+ghost use Rattle.units.specs.Canonical.{interval_of};
+ghost use Rattle.units.specs.Facts.{IsRange};
+ghost use Rattle.units.specs.Intervals.{AreKept};
+ghost use Rattle.units.specs.Unit.{covers};
+ghost use Rattle.units.specs.declared.block.Block.{Block};
+ghost use Rattle.units.specs.declared.block.Unit.{Unit as Serial};
+ghost use Rattle.accounts.specs.Refusals.{IsUnitOf};
+ghost use Rattle.accounts.specs.Tables.{units_in};
+
+use std::alloc::{AllocError, Global};
+use units::{Block, Interval, Kind, NoMemory, RawBlock, UnitMap};
+
+// The block of the interval's units.
+fn block_of(interval: &Interval<Kind>) -> Block
+    requires { IsRange interval.now.first interval.now.last }
+    ensures { interval_of result ≡ interval.now }
+{
+    let raw = RawBlock {
+        origin: interval.origin,
+        period: interval.period,
+        kind: interval.mark,
+        first: interval.first,
+        last: interval.last,
+    };
+    Block { raw }
+}
+
+// The blocks of the intervals.
+fn blocks_of(alloc: Global, intervals: &[Interval<Kind>]) -> Result<Vec<Block>, AllocError>
+    requires { AreKept intervals.now }
+    ensures { IfOk result (λ v. map interval_of v.items ≡ intervals.now) }
+{
+    let mut blocks = Vec::new(alloc);
+    for interval in intervals {
+        blocks.push(block_of(interval))?;
+    }
+    Ok(blocks)
+}
+
+/// Blocks that share no unit and have the units of these. Each of their units is of the kind of one of these.
+pub(crate) fn apart(alloc: Global, blocks: &[Block]) -> Result<Vec<Block>, NoMemory>
+    ensures apart { IfOk result (λ v. AllApart v.items) }
+    ensures same { IfOk result (λ v. (s : Serial) → covers v.items s ≡ covers blocks.now s) }
+    ensures kinds { IfOk result (λ v. (p : Block) (s : Serial) → IsUnitOf v.items p s → (b : Block) × IsUnitOf blocks.now b s × (b.raw.kind ≡ p.raw.kind)) }
+{
+    let mut kinds = UnitMap::new(alloc);
+    for block in blocks {
+        kinds.set(block, Some(block.raw.kind))?;
+    }
+    let intervals = kinds.in_order()?;
+    Ok(blocks_of(alloc, &intervals)?)
+}
+
+/// How many units the blocks have.
+pub(crate) fn count(blocks: &[Block]) -> u64
+    requires { AllApart blocks.now }
+    ensures { result ≡ units_in blocks.now }
+{
+    let mut count = 0;
+    for block in blocks {
+        count += block.count();
+    }
+    count
+}

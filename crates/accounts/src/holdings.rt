@@ -5,8 +5,10 @@ ghost use Rattle.std.specs.Bool.{OnTrue, OnFalse};
 ghost use Rattle.std.specs.FinMap as map;
 ghost use Rattle.std.specs.List.{list_any};
 ghost use Rattle.units.specs.Apart.{AllApart};
-ghost use Rattle.units.specs.Intervals.{marks_that};
+ghost use Rattle.units.specs.Canonical.{AreCanonical};
+ghost use Rattle.units.specs.Intervals.{AreKept, mark_at, marks_that};
 ghost use Rattle.units.specs.RefusalCodes.{out_of_memory};
+ghost use Rattle.units.specs.Spans.{intervals_of};
 ghost use Rattle.units.specs.Unit.{has_unit, covers};
 ghost use Rattle.units.specs.declared.block.Unit.{Unit as Serial};
 ghost use Rattle.accounts.specs.Holdings.{is_open, is_reserved_by, is_free_in, reserved, released, free_lot, kind_in};
@@ -29,7 +31,7 @@ use std::marker::Model;
 use units::refusal_code::{
     ACCOUNT_NOT_OPEN, ALREADY_SO, HOLDS_UNITS, UNIT_RESERVED, UNKNOWN_ACCOUNT,
 };
-use units::{Block, NoMemory, Refusal, Unit, UnitMap};
+use units::{Block, NoMemory, Refusal, Span, Unit, UnitMap};
 
 /// A registry's accounts and the units that they hold.
 #[derive(Debug, Drop)]
@@ -60,6 +62,20 @@ fn is_reserved_by(lot: &Lot, id: TransactionId) -> bool
     ensures { result ≡ is_reserved_by id lot.now }
 {
     lot.reserving == Some(id)
+}
+
+// The lot when the transaction has let it go.
+fn released(lot: Lot, id: TransactionId) -> Lot
+    ensures { result ≡ released id lot }
+{
+    if is_reserved_by(&lot, id) {
+        Lot {
+            reserving: None,
+            ..lot
+        }
+    } else {
+        lot
+    }
 }
 
 // Puts the units of each block into the account, with their block's kind, so reserved.
@@ -219,16 +235,12 @@ impl Holdings {
         let Some(reservation) = take(&mut self.reservations, id) else {
             return;
         };
-        self.lots.remark_in(&reservation.blocks, |lot| {
-            if is_reserved_by(&lot, id) {
-                Lot {
-                    reserving: None,
-                    ..lot
-                }
-            } else {
-                lot
-            }
-        });
+        self.lots.remark_in(
+            &reservation.blocks,
+            |lot|
+                ensures { result ≡ released id lot }
+            { released(lot, id) },
+        );
         release_all(&mut self.accounts, &reservation.shares);
     }
 
@@ -240,8 +252,12 @@ impl Holdings {
         let Some(reservation) = take(&mut self.reservations, id) else {
             return;
         };
-        self.lots
-            .remove_in(&reservation.blocks, |lot| is_reserved_by(&lot, id));
+        self.lots.remove_in(
+            &reservation.blocks,
+            |lot|
+                ensures { result ≡ is_reserved_by id lot }
+            { is_reserved_by(&lot, id) },
+        );
         take_out_all(&mut self.accounts, &reservation.shares);
     }
 
@@ -335,6 +351,16 @@ impl Holdings {
         ensures { result ≡ map.get self.now.lots unit.now }
     {
         self.lots.get(unit)
+    }
+
+    /// The intervals of units that are held in one way, by their first units: none shares a unit with another, and
+    /// neighbours that are held in the same way are one. Takes no memory.
+    pub fn pieces(&self) -> &BTreeMap<Unit, Span<Lot>>
+        ensures kept { AreKept (intervals_of result.now.entries) }
+        ensures joined { AreCanonical (λ _. 0) (intervals_of result.now.entries) }
+        ensures means { (s : Serial) → mark_at (intervals_of result.now.entries) s ≡ map.get self.now.lots s }
+    {
+        self.lots.pieces()
     }
 
     // Whether one of the block's units is held.

@@ -1,8 +1,10 @@
 -- Kinds that are one, and lists of blocks with a unit.
-use Rattle.std.proofs.Common.{◌≡◌, ◌≢◌, ℕ, ◌<◌, ◌+◌, ◌⊎◌, List, [], ◌∷◌, ◌++◌, length, get_or, take, Bool, true, false, ◌||◌, Option, Some, None, IsSome, refl, sym, ap, ◌∙◌, rules, inl, inr}
-use Rattle.std.specs.Option.{option_map}
-use Rattle.std.proofs.lemmas.Bool.{or_cases}
-use Rattle.std.proofs.lemmas.List.{take_more}
+use Rattle.std.proofs.Common.{◌≡◌, ◌≢◌, ℕ, ◌<◌, ◌+◌, ◌⊎◌, List, [], ◌∷◌, ◌++◌, length, get_or, take, Bool, true, false, ◌||◌, Option, Some, None, IsSome, refl, sym, ap, ◌∙◌, rules, inl, inr, arith}
+use Rattle.std.specs.Prelude.{find, if◌then◌else◌}
+use Rattle.std.specs.List.{HoldsAt, IsAmong}
+use Rattle.std.specs.Option.{option_map, option_map_or}
+use Rattle.std.proofs.lemmas.Bool.{or_cases, cases_Bool}
+use Rattle.std.proofs.lemmas.List.{take_more, get_or_default}
 use Rattle.std.proofs.lemmas.List.Folds.{list_any_at, list_any-append}
 use Rattle.units.specs.Unit.{has_unit, covers}
 use Rattle.units.specs.contracts.block.KindPartialEq.TheImpl.{ghosts}
@@ -55,3 +57,16 @@ covers_more blocks i b u lt is h =
 
     one : (c : Block) (v : Serial) → covers (c ∷ []) v ≡ true → has_unit c.raw v ≡ true
     one c v e = alone (has_unit c.raw v) e
+
+-- an element of which it is so
+pub among : {X : Type 0} (P : X → Type 0) (xs : List X) → (k : ℕ) × (k < length xs) × HoldsAt P xs k → (x : X) × IsAmong xs x × P x
+among P [] h = absurd (omega (arith, h.1))
+among P (x ∷ xs) h = (get_or (x ∷ xs) h.0 x, (h.0, (h.1, get_or_default (x ∷ xs) h.0 x (get_or (x ∷ xs) h.0 x) h.1)), h.2 x)
+
+-- what is given to the block of a unit, where that is no mark
+pub none_of : {M : Type 0} (blocks : List Block) (u : Serial) (mark : Option M) → option_map_or (λ (b : Block). None) (find (λ b. has_unit b.raw u) blocks) mark ≡ (if covers blocks u then None else mark)
+none_of [] u mark = refl
+none_of (b ∷ bs) u mark = elim (cases_Bool (has_unit b.raw u)) [
+  | inl yes' ↦ rw yes' refl
+  | inr no' ↦ rw no' (none_of bs u mark)
+]

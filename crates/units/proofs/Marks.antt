@@ -60,7 +60,3 @@ module _ {M : Type 0} where
   pub mark-find : (is : List (Interval M)) (u : Serial) → option_map (λ i. i.mark) (find (λ i. has i u) is) ≡ mark_at is u
   mark-find [] u = refl
   mark-find (i ∷ is) u = found (has i u) i (find (λ j. has j u) is) (mark_at is u) (mark-find is u)
-
-  -- the mark of the interval that was found is the map's
-  pub found_mark : (is js : List (Interval M)) (m : Marks M) (u : Serial) (r : Option (Interval M)) → r ≡ find (λ i. has i u) js → js ≡ is → marks_of is ≡ m → option_map (λ i. i.mark) r ≡ get m u
-  found_mark is js m u r e same view = ap (option_map (λ i. i.mark)) e ∙ mark-find js u ∙ ap (λ xs. mark_at xs u) same ∙ sym (get_view is m view u)

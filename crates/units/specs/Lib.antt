@@ -10,4 +10,6 @@ pub mod Keys
 pub mod Intervals
 pub mod Canonical
 pub mod Cutting
+pub mod Spans
+pub mod SpanSteps
 pub mod Following

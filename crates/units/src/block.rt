@@ -2,6 +2,7 @@
 ghost use Rattle.std.specs.Prelude.{◌≡◌, ◌≤◌, ◌+◌, ℕ, Err, IfOk, IfSome, IfNone, string_bytes};
 ghost use Rattle.units.specs.declared.block.Kind.{Kind};
 ghost use Rattle.units.specs.Facts.{IsRange};
+ghost use Rattle.units.specs.Limits.{last_unit};
 ghost use Rattle.units.specs.Block.{AreNumbers};
 
 use crate::code::Code;
@@ -189,9 +190,24 @@ impl fmt::Display for RawBlock {
     }
 }
 
+impl Unit {
+    ghost use Rattle.units.specs.Spans.{after_unit};
+
+    // The unit behind it.
+    pub(crate) fn after(&self) -> Unit
+        requires { self.now.number ≤ last_unit }
+        ensures { result ≡ after_unit self.now }
+    {
+        Unit {
+            number: self.number + 1,
+            ..*self
+        }
+    }
+}
+
 impl Block {
     ghost use Rattle.units.specs.Block.{IsRawText, raw_text};
-    ghost use Rattle.units.specs.Keys.{first_unit};
+    ghost use Rattle.units.specs.Keys.{first_unit, unit_numbered};
     ghost use Rattle.units.specs.Unit.{has_unit};
     ghost use Rattle.units.specs.declared.block.RawBlock.{RawBlock};
 
@@ -249,6 +265,17 @@ impl Block {
             && self.raw.period == unit.period
             && self.raw.first <= unit.number
             && unit.number <= self.raw.last
+    }
+
+    // The unit of its origin and period with this number.
+    pub(crate) fn unit(&self, number: u64) -> Unit
+        ensures { result ≡ unit_numbered self.now.raw number }
+    {
+        Unit {
+            origin: self.raw.origin,
+            period: self.raw.period,
+            number,
+        }
     }
 
     /// Its first unit.

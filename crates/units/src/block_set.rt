@@ -1,20 +1,27 @@
 //! Sets of units with their kinds.
-ghost use Rattle.std.specs.Prelude.{◌≡◌, ◌≢◌, ◌⊎◌, Some, None, IsTrue, IsSome, OnOk, OnErr, IfOk, IfErr, map as list_map, if◌then◌else◌};
+ghost use Rattle.std.specs.Prelude.{◌≡◌, ◌≢◌, ◌⊎◌, Some, None, IsTrue, IsSome, OnOk, OnErr, IfOk, IfErr, find, map as list_map, if◌then◌else◌};
 ghost use Rattle.std.specs.Bool.{OnTrue, OnFalse};
 ghost use Rattle.std.specs.FinMap as map;
+ghost use Rattle.std.specs.List.{IsAmong};
+ghost use Rattle.std.specs.Option.{option_map_or};
+ghost use Rattle.units.specs.Apart.{AllApart};
 ghost use Rattle.units.specs.Canonical.{AreCanonical, canonical as canonical_form, interval_of};
 ghost use Rattle.units.specs.Facts.{IsRange};
 ghost use Rattle.units.specs.Intervals.{AreKept, mark_at};
 ghost use Rattle.units.specs.RefusalCodes.{out_of_memory, blocks_overlap, unit_not_held};
+ghost use Rattle.units.specs.Spans.{intervals_of};
 ghost use Rattle.units.specs.Unit.{has_unit, covers};
+ghost use Rattle.units.specs.declared.block.Block.{Block};
 ghost use Rattle.units.specs.declared.block.Unit.{Unit as Serial};
 
-use crate::block::{Block, Kind, RawBlock};
+use crate::block::{Block, Kind, RawBlock, Unit};
 use crate::interval::Interval;
 use crate::memory::NoMemory;
+use crate::overlap::overlaps;
 use crate::refusal::Refusal;
-use crate::unit_map::UnitMap;
+use crate::unit_map::{Span, UnitMap};
 use std::alloc::Global;
+use std::collections::BTreeMap;
 use std::marker::Model;
 
 /// Which units there are, and the kind of each.
@@ -90,11 +97,72 @@ impl BlockSet {
         ensures refusals { IfErr result (λ r. (r.code ≡ unit_not_held) ⊎ (r.code ≡ out_of_memory)) }
         ensures err { OnErr result (self.new ≡ self.old) }
     {
-        let wanted = block.raw.kind;
-        if !self.kinds.has_all_of(&block, |kind| kind == wanted) {
+        if !self.holds(&block) {
             return Err(Refusal::NOT_HELD);
         }
         self.kinds.set(&block, None)?;
+        Ok(())
+    }
+
+    /// Adds the units of all the blocks, or of none. Fails with `BLOCKS_OVERLAP` where two of the blocks share a unit or one
+    /// of their units is there, of whatever kind, and with `OUT_OF_MEMORY` only where neither is so. After a refusal
+    /// nothing has changed.
+    pub fn add_all(&mut self, blocks: &[Block]) -> Result<(), Refusal>
+        ensures ok { OnOk result ((u : Serial) → map.get self.new u ≡ option_map_or (λ b. Some b.raw.kind) (find (λ b. has_unit b.raw u) blocks.now) (map.get self.old u)) }
+        ensures apart { OnOk result (AllApart blocks.now) }
+        ensures fresh { OnOk result ((u : Serial) → IsTrue (covers blocks.now u) → map.get self.old u ≡ None) }
+        ensures there { IfErr result (λ r. r.code ≡ blocks_overlap → (AllApart blocks.now → ⊥) ⊎ ((u : Serial) × IsTrue (covers blocks.now u) × IsSome (map.get self.old u))) }
+        ensures memory { IfErr result (λ r. r.code ≡ out_of_memory → AllApart blocks.now × ((u : Serial) → IsTrue (covers blocks.now u) → map.get self.old u ≡ None)) }
+        ensures refusals { IfErr result (λ r. (r.code ≡ blocks_overlap) ⊎ (r.code ≡ out_of_memory)) }
+        ensures err { OnErr result (self.new ≡ self.old) }
+    {
+        if overlaps(blocks) {
+            return Err(Refusal::OVERLAP);
+        }
+        if !self.disjoint(blocks) {
+            return Err(Refusal::OVERLAP);
+        }
+        self.kinds.set_all(blocks, |block| Some(block.raw.kind))?;
+        Ok(())
+    }
+
+    // Whether each of the block's units is there, of its kind.
+    fn holds(&self, block: &Block) -> bool
+        ensures all { OnTrue result ((u : Serial) → IsTrue (has_unit block.now.raw u) → map.get self.now u ≡ Some block.now.raw.kind) }
+        ensures lacking { OnFalse result ((u : Serial) × IsTrue (has_unit block.now.raw u) × (map.get self.now u ≢ Some block.now.raw.kind)) }
+    {
+        let wanted = block.raw.kind;
+        self.kinds.has_all_of(block, |kind| kind == wanted)
+    }
+
+    // Whether each unit of the blocks is there, of its block's kind.
+    fn holds_each(&self, blocks: &[Block]) -> bool
+        ensures all { OnTrue result ((b : Block) (u : Serial) → IsAmong blocks.now b → IsTrue (has_unit b.raw u) → map.get self.now u ≡ Some b.raw.kind) }
+        ensures lacking { OnFalse result ((b : Block) × (u : Serial) × IsAmong blocks.now b × IsTrue (has_unit b.raw u) × (map.get self.now u ≢ Some b.raw.kind)) }
+    {
+        blocks.iter().all(|block| self.holds(block))
+    }
+
+    /// Takes the units of all the blocks out, or of none. Fails with `BLOCKS_OVERLAP` where two of the blocks share a unit,
+    /// else with `UNIT_NOT_HELD` where a unit isn't there or is of another kind than its block, and with `OUT_OF_MEMORY`
+    /// only where neither is so. After a refusal nothing has changed.
+    pub fn take_all(&mut self, blocks: &[Block]) -> Result<(), Refusal>
+        ensures ok { OnOk result ((u : Serial) → map.get self.new u ≡ (if covers blocks.now u then None else map.get self.old u)) }
+        ensures apart { OnOk result (AllApart blocks.now) }
+        ensures held { OnOk result ((b : Block) (u : Serial) → IsAmong blocks.now b → IsTrue (has_unit b.raw u) → map.get self.old u ≡ Some b.raw.kind) }
+        ensures shared { IfErr result (λ r. r.code ≡ blocks_overlap → AllApart blocks.now → ⊥) }
+        ensures missing { IfErr result (λ r. r.code ≡ unit_not_held → AllApart blocks.now × ((b : Block) × (u : Serial) × IsAmong blocks.now b × IsTrue (has_unit b.raw u) × (map.get self.old u ≢ Some b.raw.kind))) }
+        ensures memory { IfErr result (λ r. r.code ≡ out_of_memory → AllApart blocks.now × ((b : Block) (u : Serial) → IsAmong blocks.now b → IsTrue (has_unit b.raw u) → map.get self.old u ≡ Some b.raw.kind)) }
+        ensures refusals { IfErr result (λ r. (r.code ≡ blocks_overlap) ⊎ ((r.code ≡ unit_not_held) ⊎ (r.code ≡ out_of_memory))) }
+        ensures err { OnErr result (self.new ≡ self.old) }
+    {
+        if overlaps(blocks) {
+            return Err(Refusal::OVERLAP);
+        }
+        if !self.holds_each(blocks) {
+            return Err(Refusal::NOT_HELD);
+        }
+        self.kinds.set_all(blocks, |_| None)?;
         Ok(())
     }
 
@@ -122,6 +190,16 @@ impl BlockSet {
             }
         }
         true
+    }
+
+    /// The units with their kinds as intervals, by their first units: none shares a unit with another, and neighbours of
+    /// one kind are one. Takes no memory.
+    pub fn pieces(&self) -> &BTreeMap<Unit, Span<Kind>>
+        ensures kept { AreKept (intervals_of result.now.entries) }
+        ensures joined { AreCanonical (λ _. 0) (intervals_of result.now.entries) }
+        ensures means { (u : Serial) → mark_at (intervals_of result.now.entries) u ≡ map.get self.now u }
+    {
+        self.kinds.pieces()
     }
 
     /// How many units there are. Takes no memory.

@@ -1,6 +1,6 @@
 //! Intervals: units in a row with one mark.
 ghost use Rattle.std.specs.Prelude.{◌≡◌, ◌↔◌, ℕ, IsTrue};
-ghost use Rattle.units.specs.Cutting.{meets, marked};
+ghost use Rattle.units.specs.Cutting.{meets};
 ghost use Rattle.units.specs.Intervals.{has};
 
 use crate::block::{Block, Kind, Period, Unit};
@@ -17,19 +17,6 @@ pub struct Interval<M> {
 }
 
 impl<M> Interval<M> {
-    /// The block's units with that mark.
-    pub(crate) fn of(block: &Block, mark: M) -> Interval<M>
-        ensures { result ≡ marked block.now.raw mark }
-    {
-        Interval {
-            origin: block.raw.origin,
-            period: block.raw.period,
-            first: block.raw.first,
-            last: block.raw.last,
-            mark,
-        }
-    }
-
     /// Whether it has that unit.
     pub fn has(&self, unit: &Unit) -> bool
         ensures { result ≡ has self.now unit.now }

@@ -27,4 +27,4 @@ pub use ordering::order_of_units;
 pub use overlap::overlaps;
 pub use refusal::Refusal;
 pub use text::{cut, number};
-pub use unit_map::UnitMap;
+pub use unit_map::{Span, UnitMap};

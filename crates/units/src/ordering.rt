@@ -33,8 +33,8 @@ fn is_next<M>(interval: &Interval<M>, next: &Interval<M>) -> bool
         && next.first - interval.last == 1
 }
 
-// Whether it begins there with the same mark.
-fn goes_on<M: Mark>(interval: &Interval<M>, next: &Interval<M>) -> bool
+/// Whether it begins there with the same mark.
+pub(crate) fn goes_on<M: Mark>(interval: &Interval<M>, next: &Interval<M>) -> bool
     ensures { IsTrue result ↔ GoesOn interval.now next.now }
 {
     is_next(interval, next) && interval.mark.is_same(&next.mark)

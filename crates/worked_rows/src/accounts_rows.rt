@@ -80,3 +80,82 @@ fn holdings_are_closed_and_opened(rt: HostRuntime) -> Result<(), Fail> {
     assert_eq!(rt; holdings.is_open(3), None);
     Ok(())
 }
+
+#[test]
+fn one_transaction_reserves_twice(rt: HostRuntime) -> Result<(), Fail> {
+    let mut holdings = hundred(rt.alloc())?;
+    let id = TransactionId::read("NZ1").ok_or("an identifier")?;
+    let shared = [
+        Block::read("NZ:1:1-30:AAU")?,
+        Block::read("NZ:1:21-40:AAU")?,
+    ];
+    let others = [Block::read("NZ:1:91-95:AAU")?];
+    assert_eq!(rt; holdings.reserve(1, &shared, id), Ok(()));
+    assert_eq!(rt; holdings.reserve(1, &others, id), Ok(()));
+    assert_eq!(rt; holdings.free_count(1), 55);
+    holdings.release(id);
+    assert_eq!(rt; holdings.free_count(1), 100);
+    assert_eq!(rt; holdings.reserve(1, &shared, id), Ok(()));
+    holdings.remove(id);
+    assert_eq!(rt; holdings.free_count(1), 60);
+    assert_eq!(rt; holdings.lot(&shared[0].first_unit()), None);
+    Ok(())
+}
+
+#[test]
+fn accounts_may_be_closed_and_opened(rt: HostRuntime) -> Result<(), Fail> {
+    let mut holdings = hundred(rt.alloc())?;
+    let id = TransactionId::read("NZ1").ok_or("an identifier")?;
+    assert_eq!(rt;
+        holdings.reserve(1, &[Block::read("NZ:1:1-100:AAU")?], id),
+        Ok(())
+    );
+    assert_eq!(rt; holdings.may_close(1), refusal(112));
+    assert_eq!(rt; holdings.may_close(2), Ok(()));
+    assert_eq!(rt; holdings.may_close(3), refusal(110));
+    assert_eq!(rt; holdings.may_open(2), refusal(111));
+    holdings.remove(id);
+    assert_eq!(rt; holdings.may_close(1), Ok(()));
+    assert_eq!(rt; holdings.close_account(1), Ok(()));
+    assert_eq!(rt; holdings.may_open(1), Ok(()));
+    assert_eq!(rt; holdings.may_close(1), refusal(111));
+    Ok(())
+}
+
+// A line of account 1.
+fn line(text: &str, reserving: Option<TransactionId>) -> Result<Line, Fail> {
+    Ok(Line {
+        account: 1,
+        block: Block::read(text)?,
+        reserving,
+    })
+}
+
+#[test]
+fn pieces(rt: HostRuntime) -> Result<(), Fail> {
+    let alloc = rt.alloc();
+    let mut holdings = hundred(alloc)?;
+    let first = TransactionId::read("NZ1").ok_or("an identifier")?;
+    let second = TransactionId::read("NZ2").ok_or("an identifier")?;
+    let low = [Block::read("NZ:1:20-30:AAU")?];
+    let high = [Block::read("NZ:1:31-40:AAU")?];
+    assert_eq!(rt; holdings.reserve(1, &low, first), Ok(()));
+    assert_eq!(rt; holdings.reserve(1, &high, second), Ok(()));
+    let four = [
+        line("NZ:1:1-19:AAU", None)?,
+        line("NZ:1:20-30:AAU", Some(first))?,
+        line("NZ:1:31-40:AAU", Some(second))?,
+        line("NZ:1:41-100:AAU", None)?,
+    ];
+    assert_eq!(rt; holdings.lines(alloc)?.as_slice(), four.as_slice());
+    assert_eq!(rt; holdings.free_count(1), 79);
+    assert_eq!(rt; holdings.pieces().len(), 4);
+    holdings.release(second);
+    let three = [four[0], four[1], line("NZ:1:31-100:AAU", None)?];
+    assert_eq!(rt; holdings.lines(alloc)?.as_slice(), three.as_slice());
+    holdings.release(first);
+    let one = [line("NZ:1:1-100:AAU", None)?];
+    assert_eq!(rt; holdings.lines(alloc)?.as_slice(), one.as_slice());
+    assert_eq!(rt; holdings.pieces().len(), 1);
+    Ok(())
+}

@@ -100,6 +100,25 @@ fn block_set(rt: HostRuntime) -> Result<(), Fail> {
 }
 
 #[test]
+fn several_blocks_at_once(rt: HostRuntime) -> Result<(), Fail> {
+    let (low, high) = (nz(Kind::Aau, 1, 5)?, nz(Kind::Aau, 6, 10)?);
+    let mut set = BlockSet::new(rt.alloc());
+    assert_eq!(rt; set.add_all(&[low, high]), Ok(()));
+    assert_eq!(rt; set.pieces().len(), 1);
+    let shared = [nz(Kind::Aau, 11, 12)?, nz(Kind::Cer, 10, 10)?];
+    assert_eq!(rt; set.add_all(&shared), Err(Refusal { code: 103 }));
+    assert_eq!(rt; set.count(), 10);
+    let beyond = [nz(Kind::Aau, 2, 3)?, nz(Kind::Aau, 8, 11)?];
+    assert_eq!(rt; set.take_all(&beyond), Err(Refusal { code: 105 }));
+    assert_eq!(rt; set.pieces().len(), 1);
+    let inside = [nz(Kind::Aau, 2, 3)?, nz(Kind::Aau, 5, 6)?];
+    assert_eq!(rt; set.take_all(&inside), Ok(()));
+    assert_eq!(rt; set.pieces().len(), 3);
+    assert_eq!(rt; set.count(), 6);
+    Ok(())
+}
+
+#[test]
 fn blocks_that_share_a_unit(rt: HostRuntime) -> Result<(), Fail> {
     let (low, high) = (nz(Kind::Aau, 1, 5)?, nz(Kind::Aau, 6, 10)?);
     assert!(rt; !overlaps(&[low, high]));

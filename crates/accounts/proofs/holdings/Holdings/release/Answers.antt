@@ -34,6 +34,16 @@ remark_in-requires-clause-only c u m r e h =
       | inr no' ↦ inl (same ∙ released_other id m no')
     ]
 
+pub remark_in-requires-clause-same : goal.remark_in-requires-clause-same
+remark_in-requires-clause-same c u m e =
+    let i = c.self.inside in
+    let id = c.args.id in
+    let blocks = ap blocks_in (sym c.in-Some.ensures.was) in
+    elim (cases_Bool (is_reserved_by id m)) [
+      | inl yes' ↦ inr (ap (λ bs. covers bs u) (c.deref.ensures.value ∙ sym blocks) ∙ sym ((c.self.invariant.listed id).exact u) ∙ ap (reserves id) e ∙ yes')
+      | inr no' ↦ inl (sym (released_other id m no'))
+    ]
+
 pub release_all-requires : goal.release_all-requires
 release_all-requires c n =
     let i = c.self.inside in

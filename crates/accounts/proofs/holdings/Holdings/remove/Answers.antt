@@ -1,8 +1,9 @@
-use Rattle.std.proofs.Common.{◌≡◌, ◌≤◌, true, rules, refl, sym, ap, subst, ◌∙◌}
+use Rattle.std.proofs.Common.{◌≡◌, ◌≤◌, true, rules, refl, sym, ap, subst, ◌∙◌, inl, inr}
 use Rattle.std.specs.BTreeMap as tree
 use Rattle.std.specs.FinMap.{get}
 use Rattle.std.specs.Option.{option_map}
 use Rattle.std.specs.Ordering.{nat_cmp}
+use Rattle.std.proofs.lemmas.Bool.{cases_Bool}
 use Rattle.units.specs.Unit.{covers}
 use Rattle.accounts.specs.Holdings.{is_reserved_by}
 use Rattle.accounts.specs.Tables.{blocks_in, shares_in, held_at, share_of, shares_of, with_fewer, reserves}
@@ -23,12 +24,14 @@ returns-in_default-clause-lots c s =
     others_none c.args.id (get i.lots s) none ∙ ap (λ h. others c.args.id (get h.lots s)) c.self.view_is
 
 pub remove_in-requires-clause-only : goal.remove_in-requires-clause-only
-remove_in-requires-clause-only c u m e h =
+remove_in-requires-clause-only c u m e =
     let i = c.self.inside in
     let id = c.args.id in
-    let yes' : true ≡ is_reserved_by id m = search (rules, h) in
     let blocks = ap blocks_in (sym c.in-Some.ensures.was) in
-    ap (λ bs. covers bs u) (c.deref.ensures.value ∙ sym blocks) ∙ sym ((c.self.invariant.listed id).exact u) ∙ ap (reserves id) e ∙ sym yes'
+    elim (cases_Bool (is_reserved_by id m)) [
+      | inl yes' ↦ inr (ap (λ bs. covers bs u) (c.deref.ensures.value ∙ sym blocks) ∙ sym ((c.self.invariant.listed id).exact u) ∙ ap (reserves id) e ∙ yes')
+      | inr no' ↦ inl (sym no')
+    ]
 
 pub take_out_all-requires : goal.take_out_all-requires
 take_out_all-requires c n =

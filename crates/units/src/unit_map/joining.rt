@@ -1,0 +1,99 @@
+//! Neighbours with one mark made one interval.
+ghost use Rattle.std.specs.Prelude.{◌≡◌, ◌≤◌, ◌+◌, Option, false, true, Some, IsSome};
+ghost use Rattle.std.specs.BTreeMap as tree;
+ghost use Rattle.std.specs.BTreeMap.{IsOrdered};
+ghost use Rattle.units.specs.Keys.{unit_cmp};
+ghost use Rattle.units.specs.Limits.{last_unit};
+ghost use Rattle.units.specs.Spans.{AreParted, Mean, IsSeam, is_between, reached};
+ghost use Rattle.units.specs.declared.block.Unit.{Unit as Serial};
+
+use super::Span;
+use super::cutting::overwrite;
+use super::finding::{floor, is_past, next};
+use super::walking::ends;
+use crate::block::{Block, Unit};
+use crate::interval::Mark;
+use crate::ordering::goes_on;
+use std::collections::BTreeMap;
+
+// Makes the interval that begins at the unit a part of the one that ends before it, where the two have one mark.
+fn join<M: Mark>(spans: &mut BTreeMap<Unit, Span<M>>, unit: Unit)
+    requires parted { AreParted (tree.get unit_cmp spans.old) }
+    requires ordered { IsOrdered unit_cmp spans.old }
+    requires first { 1 ≤ unit.number }
+    ensures parted { AreParted (tree.get unit_cmp spans.new) }
+    ensures means { (marks : Serial → Option M) → Mean (tree.get unit_cmp spans.old) marks → Mean (tree.get unit_cmp spans.new) marks }
+    ensures seams { (q : Serial) → IsSeam (tree.get unit_cmp spans.new) q → IsSeam (tree.get unit_cmp spans.old) q × (unit ≡ q → ⊥) }
+    ensures keys { (q : Serial) → IsSome (tree.get unit_cmp spans.new q) → IsSome (tree.get unit_cmp spans.old q) }
+    ensures ordered { IsOrdered unit_cmp spans.new }
+{
+    let Some(right) = spans.get(&unit).copied() else {
+        return;
+    };
+    let before = Unit {
+        number: unit.number - 1,
+        ..unit
+    };
+    if let Some((at, left)) = floor(spans, before) {
+        if goes_on(&left.interval(at), &right.interval(unit)) {
+            let joined = Span {
+                last: right.last,
+                mark: left.mark,
+            };
+            overwrite(spans, at, joined);
+            spans.remove(&unit);
+        }
+    }
+}
+
+// Joins each interval that begins from one unit to another, both included, with the one that it goes on from.
+fn join_between<M: Mark>(spans: &mut BTreeMap<Unit, Span<M>>, from: Unit, to: Unit)
+    requires parted { AreParted (tree.get unit_cmp spans.old) }
+    requires ordered { IsOrdered unit_cmp spans.old }
+    requires start { from.number ≤ last_unit + 1 }
+    ensures parted { AreParted (tree.get unit_cmp spans.new) }
+    ensures means { (marks : Serial → Option M) → Mean (tree.get unit_cmp spans.old) marks → Mean (tree.get unit_cmp spans.new) marks }
+    ensures seams { (q : Serial) → IsSeam (tree.get unit_cmp spans.new) q → IsSeam (tree.get unit_cmp spans.old) q × (is_between from to q ≡ false) }
+    ensures ordered { IsOrdered unit_cmp spans.new }
+{
+    let mut cursor = from;
+    while let Some((unit, _)) = next(spans, cursor) {
+        if is_past(&unit, &to) {
+            break;
+        }
+        join(spans, unit);
+        cursor = unit.after();
+    }
+}
+
+// Joins intervals in the blocks and at their ends.
+pub(super) fn join_along<M: Mark>(spans: &mut BTreeMap<Unit, Span<M>>, blocks: &[Block])
+    requires parted { AreParted (tree.get unit_cmp spans.old) }
+    requires ordered { IsOrdered unit_cmp spans.old }
+    ensures parted { AreParted (tree.get unit_cmp spans.new) }
+    ensures means { (marks : Serial → Option M) → Mean (tree.get unit_cmp spans.old) marks → Mean (tree.get unit_cmp spans.new) marks }
+    ensures seams { (q : Serial) → IsSeam (tree.get unit_cmp spans.new) q → IsSeam (tree.get unit_cmp spans.old) q × (reached blocks.now q ≡ false) }
+    ensures ordered { IsOrdered unit_cmp spans.new }
+{
+    for block in blocks {
+        join_between(
+            spans,
+            block.unit(block.raw.first),
+            block.unit(block.raw.last + 1),
+        );
+    }
+}
+
+// Joins all intervals that go on from others.
+pub(super) fn join_all<M: Mark>(spans: &mut BTreeMap<Unit, Span<M>>)
+    requires parted { AreParted (tree.get unit_cmp spans.old) }
+    requires ordered { IsOrdered unit_cmp spans.old }
+    ensures parted { AreParted (tree.get unit_cmp spans.new) }
+    ensures means { (marks : Serial → Option M) → Mean (tree.get unit_cmp spans.old) marks → Mean (tree.get unit_cmp spans.new) marks }
+    ensures joined { (q : Serial) → IsSeam (tree.get unit_cmp spans.new) q → ⊥ }
+    ensures ordered { IsOrdered unit_cmp spans.new }
+{
+    if let Some((from, to)) = ends(spans) {
+        join_between(spans, from, to);
+    }
+}

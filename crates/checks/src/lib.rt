@@ -1,0 +1,2 @@
+//! Numbered checks of orders and transfers: why a registry refuses an order, and what the acquirer and the log find.
+#![tactic(auto)]

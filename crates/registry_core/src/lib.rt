@@ -1,0 +1,2 @@
+//! A registry.
+#![tactic(auto)]

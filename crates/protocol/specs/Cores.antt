@@ -26,7 +26,7 @@ abbrev pub answer : Scheme → Node → List Input → Input → Result Stepped 
 answer scheme n journal input = answer_of (length journal) (verdict scheme n (history scheme n journal) input)
 
 -- the result is the one that is due, or out of memory in its place
-abbrev pub IsDueOrNoMemory : Result Stepped Refusal → Result Stepped Refusal → Type 0
+abbrev pub IsDueOrNoMemory : {X : Type 0} → Result X Refusal → Result X Refusal → Type 0
 IsDueOrNoMemory result due = (result ≡ due) ⊎ (result ≡ Err (record { code = out_of_memory }))
 
 -- the journal after that result for an input

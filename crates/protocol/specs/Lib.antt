@@ -8,6 +8,7 @@ pub mod AtRegistry
 pub mod AtLog
 pub mod Verdict
 pub mod Cores
+pub mod Decisions
 pub mod Unacknowledged
 pub mod Refusing
 pub mod World

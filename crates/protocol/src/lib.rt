@@ -3,12 +3,14 @@
 //! Beside them what is asked of a node's core, and journals taken into a core again.
 #![tactic(auto)]
 
+mod decision;
 mod event;
 mod node_core;
 mod refusals;
 mod replay_fault;
 mod resuming;
 
+pub use decision::Decision;
 pub use event::{Outcome, Posted, WorldEvent};
 pub use node_core::{NodeCore, Stepped};
 pub use refusals::refusals_have_causes;

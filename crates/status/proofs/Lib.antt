@@ -1,3 +1,4 @@
 pub mod Ids
 pub mod Contents
 pub mod Orders
+pub mod IdOrder

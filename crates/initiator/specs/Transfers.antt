@@ -1,0 +1,66 @@
+-- What an initiator keeps of its transfers, and what it reads off that.
+use Rattle.std.specs.Prelude.{ℕ, Bool, true, false, ◌&&◌, not, cond, [], ◌∷◌, Option, is_some}
+use Rattle.std.specs.BTreeMap.{BTreeMap}
+use Rattle.std.specs.FinMap.{FinMap, from_entries, get}
+use Rattle.std.specs.Option.{option_map_or}
+use Rattle.units.specs.Code.{same_code}
+use Rattle.units.specs.RefusalCodes.{not_proposed_here, no_longer_proposed}
+use Rattle.units.specs.declared.code.Code.{Code}
+use Rattle.status.specs.Id.{id_cmp}
+use Rattle.status.specs.Status.{same_status}
+use Rattle.status.specs.declared.id.TransactionId.{TransactionId}
+use Rattle.status.specs.declared.words.Known.{Known}
+use Rattle.status.specs.declared.words.Known.TheVariants.{Unknown, Stands}
+use Rattle.status.specs.declared.words.RowInput.{RowInput}
+use Rattle.status.specs.declared.words.RowInput.TheVariants.{RequestOrder, RepeatedRequestOrder}
+use Rattle.status.specs.declared.words.Status.{Status}
+use Rattle.status.specs.declared.words.Status.TheVariants.{Proposed}
+use Rattle.protocol.specs.Checks.{Causes}
+use Rattle.initiator.specs.declared.transfer.Cancellation.{Cancellation}
+use Rattle.initiator.specs.declared.transfer.Cancellation.TheVariants.{NotAsked, Asked}
+use Rattle.initiator.specs.declared.transfer.Transfer.{Transfer}
+
+-- the registry, the last transaction number that it gave (0 before the first), and its transfers
+pub record Initiating : Type 0 where
+  pub code : Code
+  pub last : ℕ
+  pub transfers : FinMap id_cmp Transfer
+
+-- a new transfer
+abbrev pub opened : Transfer
+opened = record { status = Proposed; cancellation = NotAsked }
+
+-- the transfer when its cancellation was asked for
+abbrev pub asked : Transfer → Transfer
+asked x = record x { cancellation = Asked }
+
+-- the transfer when it has come to that status
+abbrev pub settled : Status → Transfer → Transfer
+settled new x = record x { status = new }
+
+-- what the table asks of a transfer: an initiator always has its content
+abbrev pub known : Option Transfer → Known
+known x = option_map_or (λ y. Stands y.status) x Unknown
+
+abbrev pub is_asked : Cancellation → Bool
+is_asked NotAsked = false
+is_asked Asked = true
+
+-- the column of an order to ask for cancellation: the first one for its transfer, or another
+abbrev pub request_column : Option Transfer → RowInput
+request_column x = cond (option_map_or (λ y. is_asked y.cancellation) x false) RepeatedRequestOrder RequestOrder
+
+-- stands Proposed
+abbrev pub is_proposed : Option Transfer → Bool
+is_proposed x = option_map_or (λ y. same_status y.status Proposed) x false
+
+-- the transfers by their identifiers
+unfoldable pub by_id : BTreeMap TransactionId Transfer → FinMap id_cmp Transfer
+by_id transfers = from_entries transfers.entries
+
+-- why an order to ask for a transfer's cancellation is refused
+abbrev pub request_refusals : Initiating → TransactionId → Causes
+request_refusals i t =
+    (not (same_code t.code i.code && is_some (get i.transfers t)), not_proposed_here)
+    ∷ (not (is_proposed (get i.transfers t)), no_longer_proposed)
+    ∷ []

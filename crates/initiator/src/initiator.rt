@@ -1,0 +1,226 @@
+//! The role of the registry that a transfer leaves.
+ghost use Rattle.std.specs.Prelude.{◌≡◌, ◌+◌, ◌⊎◌, not, List, Some, None, Option, IfOk, IfErr, OnOk, OnErr, option_map, if◌then◌else◌};
+ghost use Rattle.std.specs.FinMap as map;
+ghost use Rattle.units.specs.RefusalCodes.{out_of_memory};
+ghost use Rattle.units.specs.Unit.{have_unit};
+ghost use Rattle.units.specs.Intervals.{marks_that};
+ghost use Rattle.units.specs.declared.block.Block.{Block};
+ghost use Rattle.units.specs.declared.block.Unit.{Unit as Serial};
+ghost use Rattle.status.specs.Content.{Content as Terms, raws};
+ghost use Rattle.status.specs.Id.{same_id, id_at};
+ghost use Rattle.status.specs.Rows.{initiator_row};
+ghost use Rattle.status.specs.Status.{same_status};
+ghost use Rattle.status.specs.declared.id.TransactionId.{TransactionId};
+ghost use Rattle.status.specs.declared.words.RowInput.TheVariants as column;
+ghost use Rattle.status.specs.declared.words.Status.TheVariants as status_word;
+ghost use Rattle.accounts.specs.Holdings as held;
+ghost use Rattle.accounts.specs.Refusals.{MayReserve};
+ghost use Rattle.protocol.specs.AtRegistry.{content_of};
+ghost use Rattle.protocol.specs.Checks.{Holding};
+ghost use Rattle.protocol.specs.Cores.{IsDueOrNoMemory};
+ghost use Rattle.protocol.specs.Decisions.{decided, unless};
+ghost use Rattle.protocol.specs.Effects.{initiator_sends};
+ghost use Rattle.checks.specs.Knowing.{Knows};
+ghost use Rattle.checks.specs.Refusing.{first_of, order_refusals};
+ghost use Rattle.initiator.specs.Transfers.{opened, asked, settled, known, request_column, request_refusals};
+
+use crate::messages::{on_notice, on_proposing, on_request};
+use crate::table::{ask, forget, open, settle};
+use crate::transfer::{Transfer, is_proposed, known, request_column};
+use accounts::Holdings;
+use checks::{Offer, propose_check};
+use protocol::Decision;
+use scheme::Scheme;
+use status::{Order, Role, Row, RowInput, Status, TransactionId, row};
+use std::alloc::Global;
+use std::collections::BTreeMap;
+use std::marker::Model;
+use units::refusal_code::{NO_LONGER_PROPOSED, NO_ROW, NOT_PROPOSED_HERE};
+use units::{Code, Refusal};
+
+/// The transfers that a registry proposed, by their identifiers. It decides what the initiator's table says to an input, without
+/// any change, and does then what a decision that moves a transfer asks for.
+#[derive(Debug, Drop)]
+pub struct Initiator {
+    code: Code,
+    last: u32,
+    transfers: BTreeMap<TransactionId, Transfer>,
+}
+
+impl Model for Initiator {
+    ghost use Rattle.initiator.specs.Transfers.{Initiating, by_id};
+
+    ghost Value = { Initiating };
+
+    ghost view = { λ s. record { code = s.code; last = s.last; transfers = by_id s.transfers } };
+
+    ghost use Rattle.initiator.specs.Coding.{initiating_code};
+
+    ghost coded = { initiating_code };
+}
+
+impl Initiator {
+    /// The initiator of that registry, which has proposed nothing yet. Takes no memory.
+    pub fn new(alloc: Global, code: Code) -> Initiator
+        ensures { result ≡ record { code = code; last = 0; transfers = map.empty } }
+    {
+        Initiator {
+            code,
+            last: 0,
+            transfers: BTreeMap::new(alloc),
+        }
+    }
+
+    // The transfer with that identifier.
+    fn transfer(&self, id: TransactionId) -> Option<Transfer>
+        ensures { result ≡ map.get self.now.transfers id }
+    {
+        self.transfers.get(&id).copied()
+    }
+
+    /// Where the transfer stands, or `None` where the registry proposed no such one.
+    pub fn status_of(&self, id: TransactionId) -> Option<Status>
+        ensures { result ≡ option_map (λ x. x.status) (map.get self.now.transfers id) }
+    {
+        let transfer = self.transfer(id)?;
+        Some(transfer.status)
+    }
+
+    /// The offer that an order makes, under the registry's next number. Fails as `propose_check` fails.
+    pub fn offer(
+        &self,
+        alloc: Global,
+        scheme: &Scheme,
+        holdings: &Holdings,
+        order: &Order,
+    ) -> Result<Offer, Refusal>
+        ensures ok { (known : Holding) → Knows scheme.now self.now.code holdings.now known → IfOk result (λ offer. first_of (order_refusals scheme.now self.now.code known self.now.last order.now) ≡ None) }
+        ensures id { IfOk result (λ offer. id_at self.now.code (self.now.last + 1) ≡ Some offer.id) }
+        ensures content { IfOk result (λ offer. offer.content ≡ content_of order.now) }
+        ensures reservable { IfOk result (λ offer. (blocks : List Block) → raws blocks ≡ offer.content.units → MayReserve holdings.now offer.content.account blocks) }
+        ensures refused { (known : Holding) → Knows scheme.now self.now.code holdings.now known → IfErr result (λ r. (r.code ≡ out_of_memory) ⊎ (first_of (order_refusals scheme.now self.now.code known self.now.last order.now) ≡ Some r.code)) }
+    {
+        propose_check(alloc, scheme, self.code, holdings, self.last, order)
+    }
+
+    /// What the table says to an offer: a new transfer is to be Proposed to the log. Fails with `NO_ROW` where the registry has
+    /// a transfer of that identifier, and with `OUT_OF_MEMORY`.
+    pub fn propose(&self, alloc: Global, offer: &Offer) -> Result<Decision, Refusal>
+        ensures { IsDueOrNoMemory result (decided (initiator_row (known (map.get self.now.transfers offer.now.id)) column.Propose) (initiator_sends self.now.code offer.now.id (Some offer.now.content) column.Propose)) }
+    {
+        match row(
+            Role::Initiator,
+            known(self.transfer(offer.id)),
+            RowInput::Propose,
+        ) {
+            Row::Move(new) => {
+                let messages = on_proposing(alloc, self.code, offer.id, &offer.content)?;
+                Ok(Decision::Moves { new, messages })
+            }
+            Row::Repeat => Ok(Decision::Repeat),
+            Row::Late => Ok(Decision::Late),
+            Row::Refused => Err(Refusal { code: NO_ROW }),
+        }
+    }
+
+    /// What the table says to an order to ask the log for the transfer's cancellation: the first is to be sent, and any other is a
+    /// repeat. Fails with `NOT_PROPOSED_HERE` where this registry didn't propose the transfer, with `NO_LONGER_PROPOSED`
+    /// where it has another status than Proposed, and with `OUT_OF_MEMORY`.
+    pub fn request(&self, alloc: Global, id: TransactionId) -> Result<Decision, Refusal>
+        ensures { (content : Option Terms) → IsDueOrNoMemory result (unless (request_refusals self.now id) (decided (initiator_row (known (map.get self.now.transfers id)) (request_column (map.get self.now.transfers id))) (initiator_sends self.now.code id content (request_column (map.get self.now.transfers id))))) }
+    {
+        let transfer = self.transfer(id);
+        if id.code != self.code || transfer.is_none() {
+            return Err(Refusal {
+                code: NOT_PROPOSED_HERE,
+            });
+        }
+        if !is_proposed(transfer) {
+            return Err(Refusal {
+                code: NO_LONGER_PROPOSED,
+            });
+        }
+        let column = request_column(transfer);
+        match row(Role::Initiator, known(transfer), column) {
+            Row::Move(new) => {
+                let messages = on_request(alloc, self.code, id, column)?;
+                Ok(Decision::Moves { new, messages })
+            }
+            Row::Repeat => Ok(Decision::Repeat),
+            Row::Late => Ok(Decision::Late),
+            Row::Refused => Err(Refusal { code: NO_ROW }),
+        }
+    }
+
+    /// What the table says to the log's notification of that status. Fails with `NO_ROW` where the table has no such row, and
+    /// with `OUT_OF_MEMORY`.
+    pub fn notice(
+        &self,
+        alloc: Global,
+        id: TransactionId,
+        told: Status,
+    ) -> Result<Decision, Refusal>
+        ensures { (content : Option Terms) → IsDueOrNoMemory result (decided (initiator_row (known (map.get self.now.transfers id)) (column.Notified told)) (initiator_sends self.now.code id content (column.Notified told))) }
+    {
+        match row(
+            Role::Initiator,
+            known(self.transfer(id)),
+            RowInput::Notified(told),
+        ) {
+            Row::Move(new) => {
+                let messages = on_notice(alloc, self.code, id, told)?;
+                Ok(Decision::Moves { new, messages })
+            }
+            Row::Repeat => Ok(Decision::Repeat),
+            Row::Late => Ok(Decision::Late),
+            Row::Refused => Err(Refusal { code: NO_ROW }),
+        }
+    }
+
+    /// The offer is a transfer that is Proposed, and its units are reserved for it. After `OUT_OF_MEMORY`, with which alone it
+    /// fails, nothing has changed.
+    pub fn open(&mut self, holdings: &mut Holdings, offer: &Offer) -> Result<(), Refusal>
+        requires absent { map.get self.old.transfers offer.now.id ≡ None }
+        requires reservable { (blocks : List Block) → raws blocks ≡ offer.now.content.units → MayReserve holdings.old offer.now.content.account blocks }
+        ensures ok { OnOk result ((self.new.code ≡ self.old.code) × (self.new.last ≡ offer.now.id.number) × ((t : TransactionId) → map.get self.new.transfers t ≡ (if same_id offer.now.id t then Some opened else map.get self.old.transfers t))) }
+        ensures accounts { holdings.new.accounts ≡ holdings.old.accounts }
+        ensures lots { OnOk result ((s : Serial) → map.get holdings.new.lots s ≡ (if have_unit offer.now.content.units s then option_map (held.reserved offer.now.id) (map.get holdings.old.lots s) else map.get holdings.old.lots s)) }
+        ensures err { OnErr result ((self.new ≡ self.old) × (holdings.new ≡ holdings.old)) }
+        ensures refused { IfErr result (λ r. r.code ≡ out_of_memory) }
+    {
+        open(&mut self.transfers, offer.id)?;
+        let (account, units) = (offer.content.account(), offer.content.units());
+        if let Err(refused) = holdings.reserve(account, units, offer.id) {
+            forget(&mut self.transfers, offer.id);
+            return Err(refused);
+        }
+        self.last = offer.id.number;
+        Ok(())
+    }
+
+    /// The transfer's cancellation was asked for. Takes no memory.
+    pub fn ask(&mut self, id: TransactionId)
+        ensures transfers { (t : TransactionId) → map.get self.new.transfers t ≡ (if same_id id t then option_map asked (map.get self.old.transfers t) else map.get self.old.transfers t) }
+        ensures code { self.new.code ≡ self.old.code }
+        ensures last { self.new.last ≡ self.old.last }
+    {
+        ask(&mut self.transfers, id);
+    }
+
+    /// The transfer has come to that status: its units leave the registry where it is Completed, and are free again at any other.
+    /// Takes no memory.
+    pub fn settle(&mut self, holdings: &mut Holdings, id: TransactionId, new: Status)
+        ensures transfers { (t : TransactionId) → map.get self.new.transfers t ≡ (if same_id id t then option_map (settled new) (map.get self.old.transfers t) else map.get self.old.transfers t) }
+        ensures code { self.new.code ≡ self.old.code }
+        ensures last { self.new.last ≡ self.old.last }
+        ensures accounts { holdings.new.accounts ≡ holdings.old.accounts }
+        ensures lots { (s : Serial) → map.get holdings.new.lots s ≡ (if same_status new status_word.Completed then marks_that (λ lot. not (held.is_reserved_by id lot)) (map.get holdings.old.lots s) else option_map (held.released id) (map.get holdings.old.lots s)) }
+    {
+        settle(&mut self.transfers, id, new);
+        if new == Status::Completed {
+            holdings.remove(id);
+        } else {
+            holdings.release(id);
+        }
+    }
+}

@@ -1,0 +1,56 @@
+//! The table of an initiator's transfers.
+ghost use Rattle.std.specs.BTreeMap as tree;
+ghost use Rattle.std.specs.Prelude.{◌≡◌, None, Some, OnErr, OnOk, option_map, if◌then◌else◌};
+ghost use Rattle.initiator.specs.Transfers.{asked, opened, settled};
+ghost use Rattle.status.specs.Id.{id_cmp, same_id};
+ghost use Rattle.status.specs.declared.id.TransactionId.{TransactionId};
+
+use crate::transfer::{Cancellation, Transfer};
+use status::{Status, TransactionId};
+use std::collections::BTreeMap;
+use units::NoMemory;
+
+/// A new transfer. After `NoMemory` nothing has changed.
+pub(crate) fn open(
+    transfers: &mut BTreeMap<TransactionId, Transfer>,
+    id: TransactionId,
+) -> Result<(), NoMemory>
+    ensures ok { OnOk result ((t : TransactionId) → tree.get id_cmp transfers.new t ≡ (if same_id id t then Some opened else tree.get id_cmp transfers.old t)) }
+    ensures err { OnErr result (transfers.new.entries ≡ transfers.old.entries) }
+{
+    let transfer = Transfer {
+        status: Status::Proposed,
+        cancellation: Cancellation::NotAsked,
+    };
+    transfers.insert(id, transfer)?;
+    Ok(())
+}
+
+/// Takes the transfer out.
+pub(crate) fn forget(transfers: &mut BTreeMap<TransactionId, Transfer>, id: TransactionId)
+    ensures { (t : TransactionId) → tree.get id_cmp transfers.new t ≡ (if same_id id t then None else tree.get id_cmp transfers.old t) }
+{
+    transfers.remove(&id);
+}
+
+/// The transfer's cancellation was asked for.
+pub(crate) fn ask(transfers: &mut BTreeMap<TransactionId, Transfer>, id: TransactionId)
+    ensures { (t : TransactionId) → tree.get id_cmp transfers.new t ≡ (if same_id id t then option_map asked (tree.get id_cmp transfers.old t) else tree.get id_cmp transfers.old t) }
+{
+    if let Some(transfer) = transfers.get_mut(&id) {
+        transfer.cancellation = Cancellation::Asked;
+    }
+}
+
+/// The transfer has come to that status.
+pub(crate) fn settle(
+    transfers: &mut BTreeMap<TransactionId, Transfer>,
+    id: TransactionId,
+    new: Status,
+)
+    ensures { (t : TransactionId) → tree.get id_cmp transfers.new t ≡ (if same_id id t then option_map (settled new) (tree.get id_cmp transfers.old t) else tree.get id_cmp transfers.old t) }
+{
+    if let Some(transfer) = transfers.get_mut(&id) {
+        transfer.status = new;
+    }
+}

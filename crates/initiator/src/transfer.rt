@@ -1,0 +1,53 @@
+//! What an initiator knows of a transfer.
+
+ghost use Rattle.std.specs.Prelude.{◌≡◌, ◌⊎◌};
+ghost use Rattle.initiator.specs.Transfers as transfers;
+ghost use Rattle.status.specs.declared.words.RowInput.TheVariants as words;
+
+use status::{Known, RowInput, Status};
+
+/// Whether an order to ask for a transfer's cancellation is recorded.
+#[derive(Clone, Copy, Debug, PartialEq, Eq)]
+pub enum Cancellation {
+    NotAsked,
+    Asked,
+}
+
+/// What an initiator knows of a transfer of its own: where it stands, and whether its cancellation was asked for.
+#[derive(Clone, Copy, Debug, PartialEq, Eq)]
+pub struct Transfer {
+    pub status: Status,
+    pub cancellation: Cancellation,
+}
+
+/// What the table asks of a transfer.
+pub(crate) fn known(transfer: Option<Transfer>) -> Known
+    ensures { result ≡ transfers.known transfer }
+{
+    match transfer {
+        Some(transfer) => Known::Stands(transfer.status),
+        None => Known::Unknown,
+    }
+}
+
+/// Whether it stands Proposed.
+pub(crate) fn is_proposed(transfer: Option<Transfer>) -> bool
+    ensures { result ≡ transfers.is_proposed transfer }
+{
+    match transfer {
+        Some(transfer) => transfer.status == Status::Proposed,
+        None => false,
+    }
+}
+
+/// The column of an order to ask for its cancellation.
+pub(crate) fn request_column(transfer: Option<Transfer>) -> RowInput
+    ensures value { result ≡ transfers.request_column transfer }
+    ensures either { (result ≡ words.RequestOrder) ⊎ (result ≡ words.RepeatedRequestOrder) }
+{
+    match transfer {
+        Some(transfer) if transfer.cancellation == Cancellation::Asked =>
+            RowInput::RepeatedRequestOrder,
+        _ => RowInput::RequestOrder,
+    }
+}

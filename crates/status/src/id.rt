@@ -20,6 +20,15 @@ impl TransactionId {
     ghost use Rattle.status.specs.Id.{id_text, id_at};
     ghost use Rattle.status.specs.declared.id.TransactionId.{TransactionId};
 
+    /// The least identifier, in the order of codes and numbers.
+    pub const LEAST: TransactionId = TransactionId {
+        code: Code {
+            first: b'A',
+            second: b'A',
+        },
+        number: 1,
+    };
+
     /// The identifier of that code and number, where the number is in range.
     pub fn new(code: Code, number: u32) -> Option<TransactionId>
         ensures some { IfSome result (λ t. (t.code ≡ code) × (t.number ≡ number)) }

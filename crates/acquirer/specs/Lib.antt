@@ -1,0 +1,3 @@
+pub mod Transfers
+pub mod Awaiting
+pub mod Coding

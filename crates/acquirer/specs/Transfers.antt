@@ -1,0 +1,43 @@
+-- What an acquirer keeps of the transfers to it, and what it reads off that.
+use Rattle.std.specs.Prelude.{ℕ, Bool, false, ◌==◌, ◌&&◌, Option, Some, option_and_then}
+use Rattle.std.specs.BTreeMap.{BTreeMap}
+use Rattle.std.specs.FinMap.{FinMap, from_entries}
+use Rattle.std.specs.Option.{option_map_or}
+use Rattle.units.specs.declared.code.Code.{Code}
+use Rattle.status.specs.Content.{Content}
+use Rattle.status.specs.Id.{id_cmp}
+use Rattle.status.specs.Status.{same_status}
+use Rattle.status.specs.declared.id.TransactionId.{TransactionId}
+use Rattle.status.specs.declared.words.Known.{Known}
+use Rattle.status.specs.declared.words.Known.TheVariants.{Unknown, Bare, Stands}
+use Rattle.status.specs.declared.words.Status.{Status}
+use Rattle.status.specs.declared.words.Status.TheVariants.{Accepted}
+use Rattle.acquirer.specs.declared.transfer.Transfer.{Transfer}
+
+-- the registry, and the transfers to it
+pub record Acquiring : Type 0 where
+  pub code : Code
+  pub transfers : FinMap id_cmp Transfer
+
+-- what the table asks of a transfer
+abbrev pub known_of : Transfer → Known
+known_of x = option_map_or (λ k. Stands x.status) x.content Bare
+
+abbrev pub known : Option Transfer → Known
+known x = option_map_or known_of x Unknown
+
+-- its content, where it is known
+abbrev pub content_in : Option Transfer → Option Content
+content_in x = option_and_then (λ y. y.content) x
+
+-- it was accepted, and its units are to go to that account
+abbrev pub awaits : ℕ → Option Transfer → Bool
+awaits account x = option_map_or (λ y. same_status y.status Accepted && option_map_or (λ k. k.to_account == account) y.content false) x false
+
+-- the transfer when it has come to that status
+abbrev pub finished : Status → Transfer → Transfer
+finished new x = record x { status = new }
+
+-- the transfers by their identifiers
+unfoldable pub by_id : BTreeMap TransactionId Transfer → FinMap id_cmp Transfer
+by_id transfers = from_entries transfers.entries

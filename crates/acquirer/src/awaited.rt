@@ -1,0 +1,73 @@
+//! Transfers that accounts await.
+ghost use Rattle.std.specs.BTreeSet.{contains};
+ghost use Rattle.std.specs.Prelude.{◌≡◌, ◌||◌, ◌&&◌, not, ℕ, true, false, Some, IfSome, IfNone, OnOk, OnErr};
+ghost use Rattle.acquirer.specs.Awaiting.{awaited_cmp, is_place};
+ghost use Rattle.acquirer.specs.Transfers.{awaits};
+ghost use Rattle.acquirer.specs.declared.awaited.Awaited.{Awaited};
+
+use crate::transfer::Transfer;
+use status::{Status, TransactionId};
+use std::collections::BTreeSet;
+use units::NoMemory;
+
+/// A transfer that was accepted, by the account that it goes to.
+#[derive(Clone, Copy, Debug, PartialEq, Eq, PartialOrd, Ord)]
+pub(crate) struct Awaited {
+    pub account: u64,
+    pub id: TransactionId,
+}
+
+/// The place of a transfer among those that are awaited, or `None` where it isn't.
+pub(crate) fn awaited_of(id: TransactionId, transfer: &Transfer) -> Option<Awaited>
+    ensures some { IfSome result (λ q. (q.id ≡ id) × (awaits q.account (Some transfer.now) ≡ true)) }
+    ensures none { IfNone result ((account : ℕ) → awaits account (Some transfer.now) ≡ false) }
+{
+    let content = transfer.content.as_ref()?;
+    if transfer.status != Status::Accepted {
+        return None;
+    }
+    Some(Awaited {
+        account: content.to_account(),
+        id,
+    })
+}
+
+/// The place is there, where there is one. After `NoMemory` nothing has changed.
+pub(crate) fn remember(
+    awaited: &mut BTreeSet<Awaited>,
+    place: Option<Awaited>,
+) -> Result<(), NoMemory>
+    ensures ok { OnOk result ((q : Awaited) → contains awaited_cmp awaited.new q ≡ (contains awaited_cmp awaited.old q || is_place q place)) }
+    ensures err { OnErr result ((q : Awaited) → contains awaited_cmp awaited.new q ≡ contains awaited_cmp awaited.old q) }
+{
+    if let Some(place) = place {
+        awaited.insert(place)?;
+    }
+    Ok(())
+}
+
+/// The place isn't there any more.
+pub(crate) fn forget(awaited: &mut BTreeSet<Awaited>, place: Option<Awaited>)
+    ensures { (q : Awaited) → contains awaited_cmp awaited.new q ≡ (contains awaited_cmp awaited.old q && not (is_place q place)) }
+{
+    if let Some(place) = place {
+        awaited.remove(&place);
+    }
+}
+
+/// A transfer that the account awaits, where there is one.
+pub(crate) fn first_awaited(awaited: &BTreeSet<Awaited>, account: u64) -> Option<Awaited>
+    ensures some { IfSome result (λ q. (q.account ≡ account) × (contains awaited_cmp awaited.now q ≡ true)) }
+    ensures none { IfNone result ((q : Awaited) → q.account ≡ account → contains awaited_cmp awaited.now q ≡ false) }
+{
+    let least = Awaited {
+        account,
+        id: TransactionId::LEAST,
+    };
+    let found = awaited.range(least..).next()?;
+    if found.account == account {
+        Some(*found)
+    } else {
+        None
+    }
+}

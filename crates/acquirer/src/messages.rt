@@ -1,0 +1,35 @@
+//! What an acquirer sends.
+ghost use Rattle.std.specs.Prelude.{◌≡◌, [], ◌∷◌, IfOk};
+ghost use Rattle.protocol.specs.Deciding.{offered};
+ghost use Rattle.protocol.specs.Effects.{acquirer_sends};
+ghost use Rattle.checks.specs.Finding.{codes_in};
+ghost use Rattle.std.specs.Prelude.{None};
+
+use status::TransactionId;
+use std::alloc::Global;
+use units::{Code, Items, NoMemory, Node};
+use wire::{AcquirerCodes, Message, Notice, Notification};
+
+/// What follows a proposal, by what was found in it: Accepted to the log, or Rejected with the codes.
+pub(crate) fn on_proposal(
+    alloc: Global,
+    code: Code,
+    id: TransactionId,
+    found: Option<AcquirerCodes>,
+) -> Result<Items<Message>, NoMemory>
+    ensures { IfOk result (λ messages. messages ≡ acquirer_sends code id (codes_in found) (offered None (codes_in found))) }
+{
+    let notice = match found {
+        None => Notice::Accepted,
+        Some(codes) => Notice::Rejected(codes),
+    };
+    let answer = Notification {
+        from: Node::Registry(code),
+        to: Node::Itl,
+        id,
+        notice,
+    };
+    let mut messages = Vec::new(alloc);
+    messages.push(Message::Notification(answer))?;
+    Ok(Items::from_vec(messages))
+}

@@ -1,0 +1,55 @@
+//! The table of the transfers to an acquirer, and which of them are awaited.
+ghost use Rattle.std.specs.BTreeMap as tree;
+ghost use Rattle.std.specs.Prelude.{◌≡◌, false, None, Some, OnErr, OnOk, option_map, if◌then◌else◌};
+ghost use Rattle.acquirer.specs.Awaiting.{AreAwaited};
+ghost use Rattle.acquirer.specs.Transfers.{finished};
+ghost use Rattle.status.specs.Id.{id_cmp, same_id};
+ghost use Rattle.status.specs.Status.{same_status};
+ghost use Rattle.status.specs.declared.id.TransactionId.{TransactionId};
+ghost use Rattle.status.specs.declared.words.Status.TheVariants as words;
+
+use crate::awaited::{Awaited, awaited_of, forget, remember};
+use crate::transfer::Transfer;
+use status::{Status, TransactionId};
+use std::collections::{BTreeMap, BTreeSet};
+use units::NoMemory;
+
+/// A transfer more. After `NoMemory` nothing has changed.
+pub(crate) fn put(
+    transfers: &mut BTreeMap<TransactionId, Transfer>,
+    awaited: &mut BTreeSet<Awaited>,
+    id: TransactionId,
+    transfer: Transfer,
+) -> Result<(), NoMemory>
+    requires absent { tree.get id_cmp transfers.old id ≡ None }
+    requires kept { AreAwaited transfers.old awaited.old }
+    ensures ok { OnOk result ((t : TransactionId) → tree.get id_cmp transfers.new t ≡ (if same_id id t then Some transfer else tree.get id_cmp transfers.old t)) }
+    ensures err { OnErr result (transfers.new.entries ≡ transfers.old.entries) }
+    ensures kept { AreAwaited transfers.new awaited.new }
+{
+    let place = awaited_of(id, &transfer);
+    remember(awaited, place)?;
+    if transfers.insert(id, transfer).is_err() {
+        forget(awaited, place);
+        return Err(NoMemory);
+    }
+    Ok(())
+}
+
+/// The transfer has come to that status, which isn't Accepted.
+pub(crate) fn finish(
+    transfers: &mut BTreeMap<TransactionId, Transfer>,
+    awaited: &mut BTreeSet<Awaited>,
+    id: TransactionId,
+    new: Status,
+)
+    requires over { same_status new words.Accepted ≡ false }
+    requires kept { AreAwaited transfers.old awaited.old }
+    ensures transfers { (t : TransactionId) → tree.get id_cmp transfers.new t ≡ (if same_id id t then option_map (finished new) (tree.get id_cmp transfers.old t) else tree.get id_cmp transfers.old t) }
+    ensures kept { AreAwaited transfers.new awaited.new }
+{
+    if let Some(transfer) = transfers.get_mut(&id) {
+        forget(awaited, awaited_of(id, transfer));
+        transfer.status = new;
+    }
+}

@@ -1,0 +1,25 @@
+//! What an acquirer knows of a transfer.
+ghost use Rattle.std.specs.Prelude.{◌≡◌, option_copied};
+ghost use Rattle.acquirer.specs.Transfers as transfers;
+
+use status::{Content, Known, RowInput, Status};
+
+/// What an acquirer knows of a transfer to it: where it stands, and its content, which is `None` where it was cancelled before
+/// its proposal came.
+#[derive(Debug, Drop)]
+pub struct Transfer {
+    pub status: Status,
+    pub content: Option<Content>,
+}
+
+impl Transfer {
+    /// What the table asks of it.
+    pub(crate) fn known(&self) -> Known
+        ensures { result ≡ transfers.known_of self.now }
+    {
+        match self.content {
+            Some(_) => Known::Stands(self.status),
+            None => Known::Bare,
+        }
+    }
+}

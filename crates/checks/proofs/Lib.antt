@@ -3,3 +3,5 @@ pub mod FirstCauses
 pub mod PiecesOfBlocks
 pub mod HeldUnits
 pub mod OrderRefusals
+pub mod CodesInOrder
+pub mod FoundUnits

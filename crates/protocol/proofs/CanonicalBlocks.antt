@@ -150,7 +150,7 @@ joined_both s (b ∷ bs) h =
     let y = r.0 in
     (omega arith, j.1)
 
-pub good_ranges : (bs : List RawBlock) → list_any is_out_of_range bs ≡ false → AllGood bs
+good_ranges : (bs : List RawBlock) → list_any is_out_of_range bs ≡ false → AllGood bs
 good_ranges [] h = tt
 good_ranges (b ∷ bs) h =
     let a = or_parts (is_out_of_range b) (list_any is_out_of_range bs) h in

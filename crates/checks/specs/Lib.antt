@@ -1,2 +1,4 @@
 pub mod Knowing
 pub mod Refusing
+pub mod Finding
+pub mod Following

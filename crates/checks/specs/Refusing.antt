@@ -1,5 +1,5 @@
 -- The first cause of a refusal, and why an order to transfer units is refused.
-use Rattle.std.specs.Prelude.{ℕ, ◌+◌, cond, List, [], ◌∷◌, ◌++◌, Option, Some, None, is_none}
+use Rattle.std.specs.Prelude.{ℕ, ◌+◌, cond, [], ◌∷◌, ◌++◌, Option, Some, None, is_none}
 use Rattle.units.specs.RefusalCodes.{transactions_used_up}
 use Rattle.units.specs.declared.code.Code.{Code}
 use Rattle.status.specs.Id.{id_at}

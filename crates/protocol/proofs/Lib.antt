@@ -1,6 +1,10 @@
 pub mod Histories
 pub mod Replaying
 pub mod RefusedBy
+pub mod CountsInLists
+pub mod UnitsOfBlocks
+pub mod CanonicalBlocks
+pub mod RepeatedUnits
 pub mod WorkedScheme
 pub mod WorkedRows
 pub mod WorkedCleanUps

@@ -1,5 +1,2 @@
--- Lists and blocks: tests of sameness, counts, and the units of blocks. What is general is in the crate `lemmas`.
+-- What tests of sameness say of codes and statuses. Counts in lists and the units of blocks are in the crate `protocol`, what is general in `lemmas`.
 pub mod TestsOfSameness
-pub mod CountsInLists
-pub mod UnitsOfBlocks
-pub mod CanonicalBlocks

@@ -26,7 +26,7 @@ use Rattle.protocol.specs.Claims.{at_registry}
 use Rattle.protocol.specs.History.{Transition, Entry, transitions_of, newest, stands, sends, is_status, carries, gives, credits}
 use Rattle.safety.proofs.AgreementOfNodes.CausalHistories.{Causal, heard_sent, log_said}
 use Rattle.lemmas.proofs.NoRepeats.{NoRepeat}
-use Rattle.safety.proofs.ListLemmas.CountsInLists.{picked, In_picked}
+use Rattle.protocol.proofs.CountsInLists.{picked, In_picked}
 use Rattle.safety.proofs.OneRegistry.TransactionEnds.{each_move, ends_last, ends_once, offered, completed_sent, known, proposer, proposer_of}
 use Rattle.safety.proofs.MovesAndHistories.NewestTransitions.{Made, Offered}
 use Rattle.lemmas.proofs.Membership.{In}

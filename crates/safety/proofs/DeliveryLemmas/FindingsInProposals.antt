@@ -48,7 +48,7 @@ use Rattle.safety.proofs.OwnersOfUnits.UnitsWithOneOwner.{held_or_owed, one_owne
 use Rattle.safety.proofs.OneRegistry.InitiatorStatuses.{IsOwnStatus, own_statuses}
 use Rattle.safety.proofs.MovesAndHistories.TableRows.{word_to}
 use Rattle.safety.proofs.OneRegistry.RegistryHearings.{told_own}
-use Rattle.safety.proofs.ListLemmas.UnitsOfBlocks.{covered}
+use Rattle.protocol.proofs.UnitsOfBlocks.{covered}
 use Rattle.safety.proofs.WorldLemmas.NodesWithStation.{Unplaced}
 use Rattle.safety.proofs.DeliveryLemmas.WelcomeAtRegistry.{registry_known}
 

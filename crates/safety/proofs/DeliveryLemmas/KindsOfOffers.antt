@@ -25,7 +25,7 @@ use Rattle.protocol.specs.Checks.{has_other_kind}
 use Rattle.protocol.specs.History.{Transition, Entry, Place, transitions_of, sends, messages_of, credits, holds, credited_place, place_in, place}
 use Rattle.protocol.specs.Pieces.{Piece, pieces, pieces_of, repeats}
 use Rattle.protocol.specs.Registries.{allotted}
-use Rattle.safety.proofs.ListLemmas.CanonicalBlocks.{canonical_no_repeats, canonical_from}
+use Rattle.protocol.proofs.CanonicalBlocks.{canonical_no_repeats, canonical_from}
 use Rattle.safety.proofs.AgreementOfNodes.CausalHistories.{Causal}
 use Rattle.safety.proofs.AgreementOfNodes.CompletionsAgree.{credited, offered_sent}
 use Rattle.lemmas.proofs.SomePass.{list_any_none}
@@ -35,7 +35,7 @@ use Rattle.safety.proofs.MovesAndHistories.NewestTransitions.{Made, Offered, off
 use Rattle.lemmas.proofs.Membership.{In, In_cases, In_left, In_right, In_find, In_flat_map}
 use Rattle.lemmas.proofs.OneValue.{one_some}
 use Rattle.safety.proofs.MovesAndHistories.TableMoves.{RegistryMove, proposes, asks, arrives, bares, settles, finishes}
-use Rattle.safety.proofs.ListLemmas.UnitsOfBlocks.{piece_of_block}
+use Rattle.protocol.proofs.UnitsOfBlocks.{piece_of_block}
 
 -- no unit of another kind than it was allotted with
 abbrev pub AreRight : Scheme → List Piece → Type 0

@@ -62,7 +62,7 @@ use Rattle.safety.proofs.OneLog.LogHearings.{IsAgreed, log_backed, log_sent, log
 use Rattle.safety.proofs.MovesAndHistories.MessageSenders.{sender_sends}
 use Rattle.safety.proofs.MovesAndHistories.TableRows.{word_to}
 use Rattle.safety.proofs.OneRegistry.RegistryHearings.{Cause, IsTaken, told_own, told, accepted_sent}
-use Rattle.safety.proofs.ListLemmas.UnitsOfBlocks.{covered}
+use Rattle.protocol.proofs.UnitsOfBlocks.{covered}
 use Rattle.safety.proofs.WorldLemmas.NodesWithStation.{Unplaced}
 
 -- ---- the tables of a registry have a row

@@ -34,7 +34,7 @@ use Rattle.protocol.specs.Verdict.{verdict, made as made_of, extend, history_fro
 use Rattle.safety.proofs.MovesAndHistories.TransitionForms.{checked, checked_status, told_to, moved}
 use Rattle.lemmas.proofs.NoRepeats.{NoRepeat}
 use Rattle.lemmas.proofs.SomePass.{list_any_none, list_any_in}
-use Rattle.safety.proofs.ListLemmas.CountsInLists.{picked, In_picked, count_no, count_yes}
+use Rattle.protocol.proofs.CountsInLists.{picked, In_picked, count_no, count_yes}
 use Rattle.protocol.proofs.Histories.{history_from_append}
 use Rattle.safety.proofs.MovesAndHistories.LongerHistories.{made_history}
 use Rattle.safety.proofs.MovesAndHistories.NewestTransitions.{Made, made_log, newest_id, newest_append, newest_stands}
@@ -45,7 +45,7 @@ use Rattle.safety.proofs.MovesAndHistories.TableMoves.{LogMove, checks, passes, 
 use Rattle.safety.proofs.OneRegistry.TransactionEnds.{proposer}
 use Rattle.lemmas.proofs.Positions.{In_contains}
 use Rattle.safety.proofs.MovesAndHistories.TableRows.{log_from}
-use Rattle.safety.proofs.ListLemmas.UnitsOfBlocks.{piece_of}
+use Rattle.protocol.proofs.UnitsOfBlocks.{piece_of}
 
 abbrev pub IsBusy : Status → Type 0
 IsBusy Checked = Unit {0}

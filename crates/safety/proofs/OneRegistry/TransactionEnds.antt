@@ -38,7 +38,7 @@ use Rattle.protocol.specs.AtRegistry.{content_of}
 use Rattle.protocol.specs.AtLog.{is_no_registry, is_from_another}
 use Rattle.safety.proofs.MovesAndHistories.TransitionForms.{arrived_status, settled_messages, checked_status}
 use Rattle.lemmas.proofs.SomePass.{list_any_not}
-use Rattle.safety.proofs.ListLemmas.CountsInLists.{number_none, count_no, count_yes}
+use Rattle.protocol.proofs.CountsInLists.{number_none, count_no, count_yes}
 use Rattle.safety.proofs.MovesAndHistories.NewestTransitions.{Made, Got, Heard, Offered, heard_later, offered_later, made_registry, made_log, newest_append, newest_id, newest_in, one_notice, one_proposal}
 use Rattle.safety.proofs.OneRegistry.UnitsCountedOnce.{made_single, Single}
 use Rattle.lemmas.proofs.Membership.{In, In_cases, In_flat_map, In_left, In_right}

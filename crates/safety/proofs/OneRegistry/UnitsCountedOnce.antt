@@ -41,15 +41,15 @@ use Rattle.protocol.specs.AtRegistry.{holding, is_place, content_of, offer, in_r
 use Rattle.protocol.specs.Claims.{CountedOnce}
 use Rattle.protocol.specs.Verdict.{verdict, made as made_of}
 use Rattle.safety.proofs.MovesAndHistories.TransitionForms.{proposed, asking, arrived, arrived_status, settled_messages, bare, moved}
-use Rattle.safety.proofs.ListLemmas.CanonicalBlocks.{canonical_piece}
+use Rattle.protocol.proofs.CanonicalBlocks.{canonical_piece}
 use Rattle.lemmas.proofs.SomePass.{list_any_none, list_any_in}
-use Rattle.safety.proofs.ListLemmas.CountsInLists.{count_no, count_yes}
+use Rattle.protocol.proofs.CountsInLists.{count_no, count_yes}
 use Rattle.safety.proofs.MovesAndHistories.NewestTransitions.{Made, made_registry, newest_id}
 use Rattle.lemmas.proofs.Membership.{In}
 use Rattle.lemmas.proofs.OneValue.{clash}
 use Rattle.safety.proofs.MovesAndHistories.TableMoves.{RegistryMove, proposes, asks, arrives, bares, settles, finishes}
 use Rattle.safety.proofs.MovesAndHistories.TableRows.{word_to, initiator_from, acquirer_from}
-use Rattle.safety.proofs.ListLemmas.UnitsOfBlocks.{piece_of}
+use Rattle.protocol.proofs.UnitsOfBlocks.{piece_of}
 
 -- the newest transition is the one in front, or that of the older ones
 pub newest_cons : (x : Transition) (xs : List Transition) (t : TransactionId) (y : Transition) → newest (x ∷ xs) t ≡ Some y

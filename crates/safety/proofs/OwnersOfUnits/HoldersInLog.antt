@@ -22,7 +22,7 @@ use Rattle.protocol.specs.History.{Transition, Entry, transitions_of, newest, ha
 use Rattle.safety.proofs.AgreementOfNodes.CausalHistories.{Causal, heard_sent}
 use Rattle.safety.proofs.AgreementOfNodes.CompletionsAgree.{done_status, given, credited, is_given, completed_once, log_has, initiator_has, log_completed}
 use Rattle.lemmas.proofs.NoRepeats.{no_longer}
-use Rattle.safety.proofs.ListLemmas.CountsInLists.{picked, length_picked, In_picked, picked_In}
+use Rattle.protocol.proofs.CountsInLists.{picked, length_picked, In_picked, picked_In}
 use Rattle.safety.proofs.OneRegistry.TransactionEnds.{ends_last, completed_sent, known, proposer}
 use Rattle.safety.proofs.MovesAndHistories.NewestTransitions.{newest_id}
 use Rattle.safety.proofs.OneLog.OwnersInLog.{in_book, brings, brings_to, owner_is, log_ends_last, log_picked_once}

@@ -33,7 +33,7 @@ use Rattle.safety.proofs.WorldLemmas.CommittingEvents.{step_commits}
 use Rattle.safety.proofs.AgreementOfNodes.CompletionsAgree.{done_status, given, is_credited, stood, stands_so, completed_once, transfer, initiator_has, initiator_completed}
 use Rattle.lemmas.proofs.NoRepeats.{NoRepeat, no_repeat_apart}
 use Rattle.lemmas.proofs.SomePass.{list_any_some}
-use Rattle.safety.proofs.ListLemmas.CountsInLists.{number_none, number_append, number_one, picked, picked_In, picked_append}
+use Rattle.protocol.proofs.CountsInLists.{number_none, number_append, number_one, picked, picked_In, picked_append}
 use Rattle.safety.proofs.OneRegistry.TransactionEnds.{ends_last, own_contents, proposer}
 use Rattle.protocol.proofs.Histories.{history_from_append}
 use Rattle.safety.proofs.MovesAndHistories.LongerHistories.{transitions_from}

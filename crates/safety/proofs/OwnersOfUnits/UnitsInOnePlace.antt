@@ -23,7 +23,7 @@ use Rattle.protocol.specs.Registries.{allotted, has_member}
 use Rattle.safety.proofs.AgreementOfNodes.CausalHistories.{Causal}
 use Rattle.safety.proofs.AgreementOfNodes.CompletionsAgree.{done_status, given, credited, is_given, is_credited, stood, completed_once, transfer, initiator_completed}
 use Rattle.lemmas.proofs.NoRepeats.{NoRepeat, same_length}
-use Rattle.safety.proofs.ListLemmas.CountsInLists.{number_two, picked, length_picked, In_picked, picked_In, number_parts}
+use Rattle.protocol.proofs.CountsInLists.{number_two, picked, length_picked, In_picked, picked_In, number_parts}
 use Rattle.safety.proofs.OneRegistry.TransactionEnds.{ends_last, own_contents}
 use Rattle.safety.proofs.MovesAndHistories.NewestTransitions.{newest_id}
 use Rattle.safety.proofs.OneRegistry.UnitsCountedOnce.{local_history}

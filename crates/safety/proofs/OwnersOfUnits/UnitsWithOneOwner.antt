@@ -24,7 +24,7 @@ use Rattle.protocol.specs.Registries.{allotted, has_member}
 use Rattle.safety.proofs.OneLog.LogHearings.{IsAgreed}
 use Rattle.safety.proofs.AgreementOfNodes.CausalHistories.{Causal, completed_agrees}
 use Rattle.safety.proofs.AgreementOfNodes.CompletionsAgree.{given, is_given, stands_so}
-use Rattle.safety.proofs.ListLemmas.CountsInLists.{number_one, number_some, number_two}
+use Rattle.protocol.proofs.CountsInLists.{number_one, number_some, number_two}
 use Rattle.safety.proofs.OneRegistry.TransactionEnds.{ends_last, proposer}
 use Rattle.safety.proofs.MovesAndHistories.NewestTransitions.{newest_id}
 use Rattle.lemmas.proofs.Membership.{In}

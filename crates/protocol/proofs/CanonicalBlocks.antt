@@ -16,9 +16,9 @@ use Rattle.units.specs.Canonical.{canonical, put_block, join_block, in_order, jo
 use Rattle.units.specs.Unit.{have_unit}
 use Rattle.protocol.specs.Pieces.{Piece, piece, pieces, pieces_of, repeats, same_unit, up_from}
 use Rattle.lemmas.proofs.SomePass.{list_any_some, list_any_none, list_any_not}
-use Rattle.safety.proofs.ListLemmas.CountsInLists.{count_yes, count_no, number_none, number_append, number_one}
+use Rattle.protocol.proofs.CountsInLists.{count_yes, count_no, number_none, number_append, number_one}
 use Rattle.lemmas.proofs.Membership.{In, In_cases, In_left, In_right}
-use Rattle.safety.proofs.ListLemmas.UnitsOfBlocks.{unit_of_same, same_unit_refl, piece_of}
+use Rattle.protocol.proofs.UnitsOfBlocks.{unit_of_same, same_unit_refl, piece_of}
 
 abbrev is_at : Serial → Piece → Bool
 is_at s p = same_unit p.unit s

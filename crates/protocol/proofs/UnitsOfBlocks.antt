@@ -24,7 +24,7 @@ same_unit_refl s = and_from (same_code s.origin s.origin) _ (same_code-refl s.or
 
 -- ---- the numbers of a block
 
-In_up : (first count n : ℕ) → In n (up_from first count) → (first ≤ n) × (n < first + count)
+pub In_up : (first count n : ℕ) → In n (up_from first count) → (first ≤ n) × (n < first + count)
 In_up first zero n h = absurd h
 In_up first (suc count) n (inl e) = (omega arith, omega arith)
 In_up first (suc count) n (inr h) = let r = In_up (suc first) count n h in (let a = r.0 in omega arith, let b = r.1 in omega arith)
@@ -40,7 +40,7 @@ up_In first (suc count) n a b =
 -- ---- the units of blocks
 
 -- a piece of a block is one of its units
-block_of_piece : (b : RawBlock) (p : Piece) → In p (pieces_of b) → (has_unit b p.unit ≡ true) × (p.kind ≡ b.kind)
+pub block_of_piece : (b : RawBlock) (p : Piece) → In p (pieces_of b) → (has_unit b p.unit ≡ true) × (p.kind ≡ b.kind)
 block_of_piece b p h =
     let m = In_map (piece b) p (up_from b.first (suc b.last - b.first)) h in
     let r = In_up b.first (suc b.last - b.first) m.0 m.1 in

@@ -1,0 +1,36 @@
+-- What the code follows: the causes of an order's refusal in parts, in their order. No public contract cites it.
+use Rattle.std.specs.Prelude.{ℕ, ◌==◌, ◌||◌, not, nat_lt, List, [], ◌∷◌, length}
+use Rattle.std.specs.List.{list_any}
+use Rattle.units.specs.Code.{same_code}
+use Rattle.units.specs.Limits.{last_account, most_blocks}
+use Rattle.units.specs.RefusalCodes.{wrong_block_count, block_out_of_range, blocks_overlap, account_not_open, unit_not_held, unit_reserved, no_such_acquirer, account_out_of_range}
+use Rattle.units.specs.declared.block.RawBlock.{RawBlock}
+use Rattle.units.specs.declared.code.Code.{Code}
+use Rattle.status.specs.Order.{Order}
+use Rattle.scheme.specs.declared.registries.Scheme.{Scheme}
+use Rattle.protocol.specs.Checks.{Causes, Holding, is_out_of_range}
+use Rattle.protocol.specs.Pieces.{pieces, repeats}
+use Rattle.protocol.specs.Registries.{has_member, has_account}
+
+-- by its blocks alone
+abbrev pub block_refusals : List RawBlock → Causes
+block_refusals blocks =
+    ((length blocks == 0) || nat_lt most_blocks (length blocks), wrong_block_count)
+    ∷ (list_any is_out_of_range blocks, block_out_of_range)
+    ∷ (repeats (pieces blocks), blocks_overlap)
+    ∷ []
+
+-- by what the registry holds
+abbrev pub holding_refusals : Scheme → Code → Holding → ℕ → List RawBlock → Causes
+holding_refusals scheme c known account blocks =
+    (not (has_account scheme c account) || known.is_closed account, account_not_open)
+    ∷ (list_any (λ p. not (known.has account p)) (pieces blocks), unit_not_held)
+    ∷ (list_any (λ p. known.is_reserved p.unit) (pieces blocks), unit_reserved)
+    ∷ []
+
+-- by where the units are to go
+abbrev pub receiver_refusals : Scheme → Code → Order → Causes
+receiver_refusals scheme c o =
+    (not (has_member scheme o.to_registry) || same_code o.to_registry c, no_such_acquirer)
+    ∷ ((o.to_account == 0) || nat_lt last_account o.to_account, account_out_of_range)
+    ∷ []

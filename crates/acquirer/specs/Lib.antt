@@ -1,3 +1,4 @@
 pub mod Transfers
 pub mod Awaiting
 pub mod Coding
+pub mod Crediting

@@ -25,6 +25,7 @@ ghost use Rattle.protocol.specs.Deciding.{offered};
 ghost use Rattle.protocol.specs.Decisions.{decided};
 ghost use Rattle.protocol.specs.Effects.{acquirer_sends};
 ghost use Rattle.protocol.specs.Pieces.{pieces};
+ghost use Rattle.checks.specs.Finding.{codes_in};
 ghost use Rattle.checks.specs.Knowing.{Knows};
 ghost use Rattle.acquirer.specs.Crediting.{MayCredit};
 ghost use Rattle.acquirer.specs.Transfers.{awaits, content_in, finished, known};
@@ -43,6 +44,7 @@ use std::collections::{BTreeMap, BTreeSet};
 use std::marker::Model;
 use units::refusal_code::{NO_ROW, TRANSFER_ACCEPTED};
 use units::{Code, Items, NoMemory, Refusal};
+use wire::AcquirerCodes;
 
 /// The transfers to a registry, by their identifiers. It decides what the acquirer's table says to an input, without any change,
 /// and does then what a decision that moves a transfer asks for.
@@ -164,3 +166,108 @@ impl Acquirer {
             Row::Refused => Err(Refusal { code: NO_ROW }),
         }
     }
+
+    // Whether one of the transfer's units is held.
+    fn holds_some_of(&self, holdings: &Holdings, id: TransactionId) -> bool
+        ensures { (scheme : Scheme) (known_so : Holding) → Knows scheme self.now.code holdings.now known_so → result ≡ option_map_or (λ k. list_any (λ p. known_so.is_held p.unit) (pieces k.units)) (content_in (map.get self.now.transfers id)) false }
+    {
+        match self.content(id) {
+            Some(content) => holds_some(holdings, content.units()),
+            None => false,
+        }
+    }
+
+    /// What the table says to the log's notification of that status. A transfer isn't Completed while the registry holds one of its
+    /// units. Fails with `NO_ROW` where the table has no such row. Takes no memory.
+    pub fn notice(
+        &self,
+        alloc: Global,
+        holdings: &Holdings,
+        id: TransactionId,
+        told: Status,
+    ) -> Result<Decision, Refusal>
+        ensures { (scheme : Scheme) (known_so : Holding) → Knows scheme self.now.code holdings.now known_so → result ≡ decided (unless_held (option_map_or (λ k. list_any (λ p. known_so.is_held p.unit) (pieces k.units)) (content_in (map.get self.now.transfers id)) false) (acquirer_row (known (map.get self.now.transfers id)) (column.Notified told))) [] }
+    {
+        match row(Role::Acquirer, self.known(id), RowInput::Notified(told)) {
+            Row::Move(Status::Completed) if self.holds_some_of(holdings, id) => {
+                Err(Refusal { code: NO_ROW })
+            }
+            Row::Move(new) => Ok(Decision::Moves {
+                new,
+                messages: Items::new(alloc),
+            }),
+            Row::Repeat => Ok(Decision::Repeat),
+            Row::Late => Ok(Decision::Late),
+            Row::Refused => Err(Refusal { code: NO_ROW }),
+        }
+    }
+
+    /// Whether no transfer that goes to the account is awaited: refused with `TRANSFER_ACCEPTED` where one was accepted and hasn't
+    /// ended. Takes no memory.
+    pub fn may_close(&self, account: u64) -> Result<(), Refusal>
+        ensures ok { OnOk result ((t : TransactionId) → awaits account (map.get self.now.transfers t) ≡ false) }
+        ensures err { IfErr result (λ r. (r.code ≡ transfer_accepted) × ((t : TransactionId) × (awaits account (map.get self.now.transfers t) ≡ true))) }
+    {
+        match first_awaited(&self.awaited, account) {
+            None => Ok(()),
+            Some(_) => Err(Refusal {
+                code: TRANSFER_ACCEPTED,
+            }),
+        }
+    }
+
+    /// A transfer that has come, with that status and content. After `NoMemory` nothing has changed.
+    pub fn arrive(
+        &mut self,
+        id: TransactionId,
+        new: Status,
+        content: &Content,
+    ) -> Result<(), NoMemory>
+        requires { map.get self.old.transfers id ≡ None }
+        ensures ok { OnOk result ((self.new.code ≡ self.old.code) × ((t : TransactionId) → map.get self.new.transfers t ≡ (if same_id id t then Some (record { status = new; content = Some content.now }) else map.get self.old.transfers t))) }
+        ensures err { OnErr result (self.new ≡ self.old) }
+    {
+        let transfer = Transfer {
+            status: new,
+            content: Some(content.copy()?),
+        };
+        put(&mut self.transfers, &mut self.awaited, id, transfer)
+    }
+
+    /// A transfer that was cancelled before its proposal came. After `NoMemory` nothing has changed.
+    pub fn forestall(&mut self, id: TransactionId) -> Result<(), NoMemory>
+        requires { map.get self.old.transfers id ≡ None }
+        ensures ok { OnOk result ((self.new.code ≡ self.old.code) × ((t : TransactionId) → map.get self.new.transfers t ≡ (if same_id id t then Some (record { status = words.Cancelled; content = None }) else map.get self.old.transfers t))) }
+        ensures err { OnErr result (self.new ≡ self.old) }
+    {
+        let transfer = Transfer {
+            status: Status::Cancelled,
+            content: None,
+        };
+        put(&mut self.transfers, &mut self.awaited, id, transfer)
+    }
+
+    /// The transfer is Completed: its units are in the account that it goes to. After `NoMemory` nothing has changed.
+    pub fn complete(&mut self, holdings: &mut Holdings, id: TransactionId) -> Result<(), NoMemory>
+        requires { (k : Terms) → content_in (map.get self.old.transfers id) ≡ Some k → MayCredit holdings.old k }
+        ensures transfers { OnOk result ((self.new.code ≡ self.old.code) × ((t : TransactionId) → map.get self.new.transfers t ≡ (if same_id id t then option_map (finished words.Completed) (map.get self.old.transfers t) else map.get self.old.transfers t))) }
+        ensures accounts { holdings.new.accounts ≡ holdings.old.accounts }
+        ensures lots { (k : Terms) → content_in (map.get self.old.transfers id) ≡ Some k → OnOk result ((blocks : List Block) → raws blocks ≡ k.units → (s : Serial) → map.get holdings.new.lots s ≡ option_or (option_map (held.free_lot k.to_account) (kind_in blocks s)) (map.get holdings.old.lots s)) }
+        ensures none { content_in (map.get self.old.transfers id) ≡ None → holdings.new ≡ holdings.old }
+        ensures err { OnErr result ((self.new ≡ self.old) × (holdings.new ≡ holdings.old)) }
+    {
+        if let Some(content) = self.content(id) {
+            holdings.credit(content.to_account(), content.units())?;
+        }
+        finish(&mut self.transfers, &mut self.awaited, id, Status::Completed);
+        Ok(())
+    }
+
+    /// The transfer is Cancelled, and its account awaits it no longer. Takes no memory.
+    pub fn cancel(&mut self, id: TransactionId)
+        ensures code { self.new.code ≡ self.old.code }
+        ensures transfers { (t : TransactionId) → map.get self.new.transfers t ≡ (if same_id id t then option_map (finished words.Cancelled) (map.get self.old.transfers t) else map.get self.old.transfers t) }
+    {
+        finish(&mut self.transfers, &mut self.awaited, id, Status::Cancelled);
+    }
+}

@@ -1,0 +1,4 @@
+pub mod OrderedMaps
+pub mod Tables
+pub mod AwaitedTransfers
+pub mod PlacesInOrder

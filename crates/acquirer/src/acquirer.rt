@@ -69,13 +69,23 @@ impl Model for Acquirer {
     ghost invariant = { λ s. AreAwaited s.transfers s.awaited };
 }
 
-// The column of a proposal in which that was found, and of which no content is recorded.
-fn offered(found: &Option<AcquirerCodes>) -> RowInput
-    ensures { result ≡ offered None (codes_in found.now) }
+// The codes of what was found.
+fn codes_in(found: &Option<AcquirerCodes>) -> &[u16]
+    ensures { result.now ≡ codes_in found.now }
 {
     match found {
-        None => RowInput::ProposalWithoutFinding,
-        Some(_) => RowInput::ProposalWithFindings,
+        None => &[],
+        Some(codes) => codes.as_slice(),
+    }
+}
+
+// The column of a proposal in which these codes were found, and of which no content is recorded.
+fn offered(codes: &[u16]) -> RowInput
+    ensures { result ≡ offered None codes.now }
+{
+    match codes {
+        [] => RowInput::ProposalWithoutFinding,
+        _ => RowInput::ProposalWithFindings,
     }
 }
 
@@ -141,7 +151,7 @@ impl Acquirer {
             return self.equal_proposal(alloc, id);
         }
         let found = acquirer_findings(alloc, scheme, self.code, holdings, content)?;
-        match row(Role::Acquirer, self.known(id), offered(&found)) {
+        match row(Role::Acquirer, self.known(id), offered(codes_in(&found))) {
             Row::Move(new) => {
                 let messages = on_proposal(alloc, self.code, id, found)?;
                 Ok(Decision::Moves { new, messages })

@@ -4,6 +4,9 @@ ghost use Rattle.std.specs.Prelude.{◌≡◌, ◌||◌, ◌&&◌, not, ℕ, tru
 ghost use Rattle.acquirer.specs.Awaiting.{awaited_cmp, is_place};
 ghost use Rattle.acquirer.specs.Transfers.{awaits};
 ghost use Rattle.acquirer.specs.declared.awaited.Awaited.{Awaited};
+ghost use Rattle.status.specs.Id.{id_cmp, same_id};
+ghost use Rattle.std.specs.Ordering.{is_gt};
+ghost use Rattle.status.specs.declared.id.TransactionId.{TransactionId};
 
 use crate::transfer::Transfer;
 use status::{Status, TransactionId};
@@ -19,8 +22,7 @@ pub(crate) struct Awaited {
 
 /// The place of a transfer among those that are awaited, or `None` where it isn't.
 pub(crate) fn awaited_of(id: TransactionId, transfer: &Transfer) -> Option<Awaited>
-    ensures some { IfSome result (λ q. (q.id ≡ id) × (awaits q.account (Some transfer.now) ≡ true)) }
-    ensures none { IfNone result ((account : ℕ) → awaits account (Some transfer.now) ≡ false) }
+    ensures { (q : Awaited) → is_place q result ≡ (same_id id q.id && awaits q.account (Some transfer.now)) }
 {
     let content = transfer.content.as_ref()?;
     if transfer.status != Status::Accepted {
@@ -55,16 +57,24 @@ pub(crate) fn forget(awaited: &mut BTreeSet<Awaited>, place: Option<Awaited>)
     }
 }
 
+// The place of the account before all its transfers.
+fn start_of(account: u64) -> Awaited
+    ensures account { result.account ≡ account }
+    ensures least { (t : TransactionId) → is_gt (id_cmp result.id t) ≡ false }
+{
+    Awaited {
+        account,
+        id: TransactionId::LEAST,
+    }
+}
+
 /// A transfer that the account awaits, where there is one.
 pub(crate) fn first_awaited(awaited: &BTreeSet<Awaited>, account: u64) -> Option<Awaited>
     ensures some { IfSome result (λ q. (q.account ≡ account) × (contains awaited_cmp awaited.now q ≡ true)) }
     ensures none { IfNone result ((q : Awaited) → q.account ≡ account → contains awaited_cmp awaited.now q ≡ false) }
 {
-    let least = Awaited {
-        account,
-        id: TransactionId::LEAST,
-    };
-    let found = awaited.range(least..).next()?;
+    let start = start_of(account);
+    let found = awaited.range(start..).next()?;
     if found.account == account {
         Some(*found)
     } else {

@@ -1,8 +1,9 @@
 //! The table of the transfers to an acquirer, and which of them are awaited.
 ghost use Rattle.std.specs.BTreeMap as tree;
-ghost use Rattle.std.specs.Prelude.{◌≡◌, false, None, Some, OnErr, OnOk, option_map, if◌then◌else◌};
-ghost use Rattle.acquirer.specs.Awaiting.{AreAwaited};
-ghost use Rattle.acquirer.specs.Transfers.{finished};
+ghost use Rattle.std.specs.Prelude.{◌≡◌, ◌&&◌, false, None, Some, OnErr, OnOk, option_map, if◌then◌else◌};
+ghost use Rattle.acquirer.specs.Awaiting.{AreAwaited, is_place};
+ghost use Rattle.acquirer.specs.Transfers.{awaits, finished};
+ghost use Rattle.acquirer.specs.declared.awaited.Awaited.{Awaited};
 ghost use Rattle.status.specs.Id.{id_cmp, same_id};
 ghost use Rattle.status.specs.Status.{same_status};
 ghost use Rattle.status.specs.declared.id.TransactionId.{TransactionId};
@@ -13,6 +14,19 @@ use crate::transfer::Transfer;
 use status::{Status, TransactionId};
 use std::collections::{BTreeMap, BTreeSet};
 use units::NoMemory;
+
+/// The transfer is in the table. After `NoMemory` nothing has changed.
+fn insert(
+    transfers: &mut BTreeMap<TransactionId, Transfer>,
+    id: TransactionId,
+    transfer: Transfer,
+) -> Result<(), NoMemory>
+    ensures ok { OnOk result ((t : TransactionId) → tree.get id_cmp transfers.new t ≡ (if same_id id t then Some transfer else tree.get id_cmp transfers.old t)) }
+    ensures err { OnErr result (transfers.new.entries ≡ transfers.old.entries) }
+{
+    transfers.insert(id, transfer)?;
+    Ok(())
+}
 
 /// A transfer more. After `NoMemory` nothing has changed.
 pub(crate) fn put(
@@ -29,11 +43,30 @@ pub(crate) fn put(
 {
     let place = awaited_of(id, &transfer);
     remember(awaited, place)?;
-    if transfers.insert(id, transfer).is_err() {
+    if let Err(refused) = insert(transfers, id, transfer) {
         forget(awaited, place);
-        return Err(NoMemory);
+        return Err(refused);
     }
     Ok(())
+}
+
+/// The place of the transfer with that identifier among those that are awaited, or `None` where it isn't.
+fn place_in(transfers: &BTreeMap<TransactionId, Transfer>, id: TransactionId) -> Option<Awaited>
+    ensures { (q : Awaited) → is_place q result ≡ (same_id id q.id && awaits q.account (tree.get id_cmp transfers.now id)) }
+{
+    match transfers.get(&id) {
+        Some(transfer) => awaited_of(id, transfer),
+        None => None,
+    }
+}
+
+/// The transfer has that status.
+fn set_status(transfers: &mut BTreeMap<TransactionId, Transfer>, id: TransactionId, new: Status)
+    ensures { (t : TransactionId) → tree.get id_cmp transfers.new t ≡ (if same_id id t then option_map (finished new) (tree.get id_cmp transfers.old t) else tree.get id_cmp transfers.old t) }
+{
+    if let Some(transfer) = transfers.get_mut(&id) {
+        transfer.status = new;
+    }
 }
 
 /// The transfer has come to that status, which isn't Accepted.
@@ -48,8 +81,6 @@ pub(crate) fn finish(
     ensures transfers { (t : TransactionId) → tree.get id_cmp transfers.new t ≡ (if same_id id t then option_map (finished new) (tree.get id_cmp transfers.old t) else tree.get id_cmp transfers.old t) }
     ensures kept { AreAwaited transfers.new awaited.new }
 {
-    if let Some(transfer) = transfers.get_mut(&id) {
-        forget(awaited, awaited_of(id, transfer));
-        transfer.status = new;
-    }
+    forget(awaited, place_in(transfers, id));
+    set_status(transfers, id, new);
 }

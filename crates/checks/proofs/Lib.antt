@@ -5,3 +5,5 @@ pub mod HeldUnits
 pub mod OrderRefusals
 pub mod CodesInOrder
 pub mod FoundUnits
+pub mod MarkedUnits
+pub mod LogCauses

@@ -1,16 +1,19 @@
--- When a registry's holdings say what its checks ask.
-use Rattle.std.specs.Prelude.{◌≡◌, ℕ, ◌==◌, ◌&&◌, cond, false, Some, None, is_some}
+-- When a registry's holdings, and what the log keeps of units and registries, say what their checks ask.
+use Rattle.std.specs.Prelude.{◌≡◌, ℕ, ◌==◌, ◌&&◌, cond, Bool, false, Some, None, is_some, option_map, unwrap_or}
+use Rattle.std.specs.BTreeMap as tree
 use Rattle.std.specs.FinMap as map
 use Rattle.std.specs.Option.{option_map_or}
+use Rattle.units.specs.Keys.{code_cmp}
 use Rattle.units.specs.Unit.{same_kind}
 use Rattle.units.specs.declared.block.Unit.{Unit as Serial}
 use Rattle.units.specs.declared.code.Code.{Code}
 use Rattle.accounts.specs.Holdings.{Held}
 use Rattle.accounts.specs.declared.lot.Standing.TheVariants.{Open, Closed}
 use Rattle.scheme.specs.declared.registries.Scheme.{Scheme}
-use Rattle.protocol.specs.Checks.{Holding}
+use Rattle.protocol.specs.Checks.{Holding, Ledger}
 use Rattle.protocol.specs.Pieces.{Piece}
-use Rattle.protocol.specs.Registries.{has_account}
+use Rattle.protocol.specs.Registries.{allotted, has_account, member}
+use Rattle.checks.specs.declared.register.Register.{Register}
 
 -- the accounts are the registry's, each closed or open, and each unit's lot says how it is held
 pub record Knows (scheme : Scheme) (c : Code) (held : Held) (known : Holding) : Type 0 where
@@ -18,3 +21,17 @@ pub record Knows (scheme : Scheme) (c : Code) (held : Held) (known : Holding) : 
   pub has : (n : ℕ) (p : Piece) → known.has n p ≡ option_map_or (λ lot. (lot.account == n) && same_kind lot.kind p.kind) (map.get held.lots p.unit) false
   pub is_held : (s : Serial) → known.is_held s ≡ is_some (map.get held.lots s)
   pub is_reserved : (s : Serial) → known.is_reserved s ≡ option_map_or (λ lot. is_some lot.reserving) (map.get held.lots s) false
+
+-- ---- at the log
+
+-- the registry may take part in transfers at the start
+abbrev pub starts_eligible : Scheme → Code → Bool
+starts_eligible scheme c = option_map_or (λ m. m.eligible) (member scheme c) false
+
+-- the allotments are the scheme's, the book says who owns each allotted unit and no other, a unit is under way in a transfer, and a registry is eligible as the last order for it says, else as at the start
+pub record Registers (scheme : Scheme) (register : Register) (known : Ledger) : Type 0 where
+  pub allotments : (s : Serial) → map.get register.allotments s ≡ allotted scheme s
+  pub owner : (s : Serial) → known.owner s ≡ option_map (λ o. o.registry) (map.get register.book s)
+  pub owned : (s : Serial) → is_some (known.owner s) ≡ is_some (allotted scheme s)
+  pub is_busy : (s : Serial) → known.is_busy s ≡ is_some (map.get register.under_way s)
+  pub is_eligible : (c : Code) → known.is_eligible c ≡ unwrap_or (tree.get code_cmp register.orders c) (starts_eligible scheme c)

@@ -2,9 +2,15 @@
 #![tactic(auto)]
 
 mod acquirer;
+mod blocks;
 mod canonical;
 mod findings;
+mod log;
 mod order;
+mod register;
+mod registries;
 
 pub use acquirer::{acquirer_findings, holds_some};
+pub use log::log_findings;
 pub use order::{Offer, propose_check};
+pub use register::{Owner, Register, UnderWay};

@@ -18,7 +18,9 @@ ghost use Rattle.checks.specs.Following.{block_refusals, holding_refusals, recei
 ghost use Rattle.checks.specs.Knowing.{Knows};
 ghost use Rattle.checks.specs.Refusing.{first_of, order_refusals};
 
+use crate::blocks::has_repeats;
 use crate::canonical::canonical;
+use crate::registries::is_no_acquirer;
 use accounts::Holdings;
 use scheme::Scheme;
 use status::{Content, Order, TransactionId};
@@ -28,7 +30,7 @@ use units::refusal_code::{
     ACCOUNT_OUT_OF_RANGE, BLOCK_OUT_OF_RANGE, NO_SUCH_ACQUIRER, TRANSACTIONS_USED_UP,
     WRONG_BLOCK_COUNT,
 };
-use units::{Block, Code, Items, NoMemory, RawBlock, Refusal, overlaps};
+use units::{Block, Code, Items, NoMemory, RawBlock, Refusal};
 
 /// What an order that passes all checks offers.
 #[derive(Debug, Drop)]
@@ -79,13 +81,6 @@ fn blocks_of(alloc: Global, raw_blocks: &[RawBlock]) -> Result<Vec<Block>, Refus
     Ok(blocks)
 }
 
-// Whether a unit is there twice.
-fn has_repeats(blocks: &[Block]) -> bool
-    ensures { result ≡ repeats (pieces (raws blocks.now)) }
-{
-    overlaps(blocks)
-}
-
 // The blocks of an order, of which there are 1 to `MOST_BLOCKS`, whose numbers are in range, and which share no unit.
 fn checked_blocks(alloc: Global, raw_blocks: &[RawBlock]) -> Result<Vec<Block>, Refusal>
     ensures blocks { IfOk result (λ v. raws v.items ≡ raw_blocks.now) }
@@ -112,13 +107,6 @@ fn check_holdings(holdings: &Holdings, order: &Order, blocks: &[Block]) -> Resul
     ensures refused { (scheme : Scheme) (code : Code) (known : Holding) → Knows scheme code holdings.now known → IfErr result (λ r. first_of (holding_refusals scheme code known order.now.account order.now.units) ≡ Some r.code) }
 {
     holdings.check(order.account(), blocks)
-}
-
-// Whether the acquirer is unknown, or is the registry itself.
-fn is_no_acquirer(scheme: &Scheme, code: Code, acquirer: Code) -> bool
-    ensures { result ≡ (not (has_member scheme.now acquirer) || same_code acquirer code) }
-{
-    scheme.member(acquirer).is_none() || acquirer == code
 }
 
 // Whether no account can have that number.

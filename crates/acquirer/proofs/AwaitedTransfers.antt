@@ -1,0 +1,41 @@
+-- Which transfers are awaited, when one is put in or has come to its end.
+use Rattle.std.proofs.Common.{◌≡◌, ℕ, ◌||◌, ◌&&◌, Bool, true, false, not, cond, Option, Some, None, refl, sym, ap, ◌∙◌}
+use Rattle.std.specs.Option.{option_map}
+use Rattle.status.specs.Status.{same_status}
+use Rattle.status.specs.declared.words.Status.{Status}
+use Rattle.status.specs.declared.words.Status.TheVariants.{Accepted}
+use Rattle.acquirer.specs.Transfers.{awaits, finished}
+use Rattle.acquirer.specs.declared.transfer.Transfer.{Transfer}
+use Rattle.std.specs.Option.{option_map_or}
+use Rattle.std.specs.Prelude.{◌==◌}
+
+or_false : (a : Bool) → (a || false) ≡ a
+or_false true = refl
+or_false false = refl
+
+and_true : (a : Bool) → (a && true) ≡ a
+and_true true = refl
+and_true false = refl
+
+and_not : (a : Bool) → (a && not a) ≡ false
+and_not true = refl
+and_not false = refl
+
+pub awaited_put : (account : ℕ) (b : Bool) (old : Option Transfer) (x : Transfer) → (b ≡ true → old ≡ None) → (awaits account old || (b && awaits account (Some x))) ≡ awaits account (cond b (Some x) old)
+awaited_put account true old x h = ap (λ o. awaits account o || awaits account (Some x)) (h refl)
+awaited_put account false old x h = or_false (awaits account old)
+
+-- put in, and taken out again
+pub awaited_again : (account : ℕ) (b : Bool) (old : Option Transfer) (x : Transfer) → (b ≡ true → old ≡ None)
+    → ((awaits account old || (b && awaits account (Some x))) && not (b && awaits account (Some x))) ≡ awaits account old
+awaited_again account true old x h = ap (λ o. (awaits account o || awaits account (Some x)) && not (awaits account (Some x))) (h refl) ∙ and_not (awaits account (Some x)) ∙ sym (ap (awaits account) (h refl))
+awaited_again account false old x h = and_true (awaits account old || false) ∙ or_false (awaits account old)
+
+over : (account : ℕ) (new : Status) (o : Option Transfer) → same_status new Accepted ≡ false → awaits account (option_map (finished new) o) ≡ false
+over account new None h = refl
+over account new (Some x) h = ap (λ b. b && option_map_or (λ k. k.to_account == account) x.content false) h
+
+pub awaited_finish : (account : ℕ) (new : Status) (b : Bool) (old at : Option Transfer) → same_status new Accepted ≡ false → (b ≡ true → old ≡ at)
+    → (awaits account old && not (b && awaits account at)) ≡ awaits account (cond b (option_map (finished new) old) old)
+awaited_finish account new true old at h e = ap (λ o. awaits account o && not (awaits account at)) (e refl) ∙ and_not (awaits account at) ∙ sym (over account new old h)
+awaited_finish account new false old at h e = and_true (awaits account old)

@@ -1,0 +1,43 @@
+use Rattle.std.proofs.Common.{◌≡◌, ◌∷◌, ◌||◌, ◌&&◌, not, Bool, true, false, cond, Option, Some, None, refl, sym, ap, subst, ◌∙◌, inl, inr}
+use Rattle.std.specs.BTreeMap as tree
+use Rattle.std.specs.BTreeSet.{contains}
+use Rattle.std.specs.FinMap.{get}
+use Rattle.std.specs.Map.{lookup}
+use Rattle.std.specs.Option.{option_map, option_or}
+use Rattle.accounts.specs.Holdings.{free_lot, kind_in}
+use Rattle.std.specs.Ordering.{is_eq}
+use Rattle.std.specs.Prelude.{Result, Ok, Err, OnErr, OnOk}
+use Rattle.status.proofs.Ids.{id_of_same}
+use Rattle.status.specs.Id.{same_id, id_cmp}
+use Rattle.status.specs.declared.words.Status.TheVariants as words
+use Rattle.acquirer.specs.Awaiting.{awaited_cmp, is_place}
+use Rattle.acquirer.specs.Transfers.{awaits, finished}
+use Rattle.acquirer.proofs.AwaitedTransfers.{awaited_put, awaited_again, awaited_finish}
+use Rattle.acquirer.proofs.Tables.{changed_at, covered, same_kinds}
+use Rattle.acquirer.proofs.acquirer.Acquirer.complete.Goals as goal
+use Rattle.acquirer.proofs.acquirer.Acquirer.complete.Goals.{in-Some+in_ok-credit, in_default}
+
+pub credit-requires-clause-apart : goal.credit-requires-clause-apart
+credit-requires-clause-apart c = (c.requires c.in-Some.content.now (sym (c.in-Some.ensures))).apart c.units.result.now c.units.ensures.value
+
+pub credit-requires-clause-absent : goal.credit-requires-clause-absent
+credit-requires-clause-absent c s h = (c.requires c.in-Some.content.now (sym (c.in-Some.ensures))).absent s (sym (covered c.units.result.now c.in-Some.content.now.units s c.units.ensures.value) ∙ h)
+
+pub returns-clause-transfers : goal.returns-clause-transfers
+returns-clause-transfers c = (
+  ap (λ a. a.code) c.self.view_is,
+  λ t. changed_at (option_map (finished words.Completed)) (same_id c.args.id t) c.finish.new.transfers c.self.inside.transfers c.args.self.now.transfers t (ap (λ a. a.transfers) c.self.view_is) (c.finish.ensures.transfers t),
+)
+
+pub returns-clause-lots : goal.returns-clause-lots
+returns-clause-lots c k e blocks r s =
+    let was = get c.args.holdings.now.lots s in
+    elim c.match-content.branch [
+      | in-Some+in_ok-credit w ↦
+          let found : Some w.in-Some.content.now ≡ Some k = w.in-Some.ensures ∙ e in
+          let same : w.in-Some.content.now ≡ k = cc (found) in
+          ap (λ h. get h.lots s) w.holdings-is ∙ w.in_ok-credit.ensures.ok.1 s
+          ∙ ap (λ a. option_or (option_map (free_lot a) (kind_in w.units.result.now s)) was) (w.to_account.ensures.value ∙ ap (λ x. x.to_account) same)
+          ∙ ap (λ q. option_or (option_map (free_lot k.to_account) q) was) (same_kinds w.units.result.now blocks s (w.units.ensures.value ∙ ap (λ x. x.units) same ∙ sym r))
+      | in_default w ↦ absurd (let none : None ≡ Some k = w.in_default.ensures ∙ e in cc (none))
+    ]

@@ -1,0 +1,32 @@
+use Rattle.std.proofs.Common.{◌≡◌, ◌∷◌, ◌||◌, ◌&&◌, not, Bool, true, false, cond, Option, Some, None, refl, sym, ap, subst, ◌∙◌, inl, inr}
+use Rattle.std.specs.BTreeMap as tree
+use Rattle.std.specs.BTreeSet.{contains}
+use Rattle.std.specs.FinMap.{get}
+use Rattle.std.specs.Map.{lookup}
+use Rattle.std.specs.Option.{option_map}
+use Rattle.std.specs.Ordering.{is_eq}
+use Rattle.std.specs.Prelude.{Result, Ok, Err, OnErr, OnOk}
+use Rattle.status.proofs.Ids.{id_of_same}
+use Rattle.status.specs.Id.{same_id, id_cmp}
+use Rattle.status.specs.declared.words.Status.TheVariants as words
+use Rattle.acquirer.specs.Awaiting.{awaited_cmp, is_place}
+use Rattle.acquirer.specs.Transfers.{awaits, finished}
+use Rattle.acquirer.proofs.AwaitedTransfers.{awaited_put, awaited_again, awaited_finish}
+use Rattle.acquirer.proofs.Tables.{get_by_id, same_by_id, seen, changed_at}
+use Rattle.acquirer.proofs.table.put.Goals as goal
+
+pub returns-in-Err-clause-kept : goal.returns-in-Err-clause-kept
+returns-in-Err-clause-kept c q =
+    let was = tree.get id_cmp c.args.transfers.now in
+    let place = is_place q c.awaited_of-place.result in
+    c.forget.ensures q ∙ ap (λ b. b && not place) (c.in_ok-remember.ensures.ok q ∙ ap (λ b. b || place) (c.requires.kept q)) ∙ ap (λ b. (awaits q.account (was q.id) || b) && not b) (c.awaited_of-place.ensures q)
+    ∙ awaited_again q.account (same_id c.args.id q.id) (was q.id) c.args.transfer (λ e. ap was (sym (id_of_same c.args.id q.id e)) ∙ c.requires.absent)
+    ∙ ap (λ es. awaits q.account (lookup (λ k. is_eq (id_cmp q.id k)) es)) (sym c.in-Err.ensures.err)
+
+pub returns-clause-kept : goal.returns-clause-kept
+returns-clause-kept c q =
+    let was = tree.get id_cmp c.args.transfers.now in
+    let place = is_place q c.awaited_of-place.result in
+    c.in_ok-remember.ensures.ok q ∙ ap (λ b. b || place) (c.requires.kept q) ∙ ap (λ b. awaits q.account (was q.id) || b) (c.awaited_of-place.ensures q)
+    ∙ awaited_put q.account (same_id c.args.id q.id) (was q.id) c.args.transfer (λ e. ap was (sym (id_of_same c.args.id q.id e)) ∙ c.requires.absent)
+    ∙ ap (awaits q.account) (sym (c.in_default.ensures.ok q.id))

@@ -1,0 +1,13 @@
+//! Blocks of which a unit is there twice.
+ghost use Rattle.std.specs.Prelude.{◌≡◌};
+ghost use Rattle.status.specs.Content.{raws};
+ghost use Rattle.protocol.specs.Pieces.{pieces, repeats};
+
+use units::{Block, overlaps};
+
+/// Whether a unit is there twice.
+pub(crate) fn has_repeats(blocks: &[Block]) -> bool
+    ensures { result ≡ repeats (pieces (raws blocks.now)) }
+{
+    overlaps(blocks)
+}

@@ -1,0 +1,53 @@
+//! What the log knows of units and registries.
+ghost use Rattle.std.specs.Prelude.{◌≡◌};
+
+use scheme::Holder;
+use std::collections::BTreeMap;
+use units::{Code, Mark, UnitMap};
+
+/// Which registry owns a unit.
+#[derive(Clone, Copy, Debug, PartialEq, Eq)]
+pub struct Owner {
+    pub registry: Code,
+}
+
+/// That a unit is in a transfer that stands Checked or Accepted.
+#[derive(Clone, Copy, Debug, PartialEq, Eq)]
+pub struct UnderWay;
+
+/// What the log knows of units and registries.
+#[derive(Debug, Drop)]
+pub struct Register {
+    /// Who holds each allotted unit at the start.
+    pub allotments: UnitMap<Holder>,
+    /// Who owns each allotted unit.
+    pub book: UnitMap<Owner>,
+    /// The units that are in a transfer.
+    pub under_way: UnitMap<UnderWay>,
+    /// Whether a registry may take part in transfers, as the last order for it says.
+    pub orders: BTreeMap<Code, bool>,
+}
+
+impl Mark for Owner {
+    ghost group = { λ _. 0 };
+
+    fn group(&self) -> u64 {
+        0
+    }
+
+    fn is_same(&self, other: &Owner) -> bool {
+        self == other
+    }
+}
+
+impl Mark for UnderWay {
+    ghost group = { λ _. 0 };
+
+    fn group(&self) -> u64 {
+        0
+    }
+
+    fn is_same(&self, other: &UnderWay) -> bool {
+        self == other
+    }
+}

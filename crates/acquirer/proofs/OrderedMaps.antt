@@ -1,9 +1,9 @@
 -- An ordered map as a finite map: what it has at a key, and when two are the same.
-use Rattle.std.proofs.Common.{◌≡◌, Bool, true, false, List, [], ◌∷◌, cond, Option, Some, None, refl, sym, ap, ◌∙◌}
+use Rattle.std.proofs.Common.{◌≡◌, Bool, true, false, List, [], ◌∷◌, cond, Option, Some, refl, sym, ◌∙◌}
 use Rattle.std.specs.BTreeMap as tree
 use Rattle.std.specs.BTreeMap.{BTreeMap}
 use Rattle.std.specs.Cmp.{IsTotalOrder}
-use Rattle.std.specs.FinMap.{FinMap, from_entries, get, get-from_entries, same_map}
+use Rattle.std.specs.FinMap.{from_entries, get, get-from_entries, same_map}
 use Rattle.std.specs.FinMap.Entries.{find}
 use Rattle.std.specs.Map.{lookup}
 use Rattle.std.specs.Ordering.{is_eq, eq_by_cmp}

@@ -269,7 +269,12 @@ impl Acquirer {
         if let Some(content) = self.content(id) {
             holdings.credit(content.to_account(), content.units())?;
         }
-        finish(&mut self.transfers, &mut self.awaited, id, Status::Completed);
+        finish(
+            &mut self.transfers,
+            &mut self.awaited,
+            id,
+            Status::Completed,
+        );
         Ok(())
     }
 
@@ -278,6 +283,11 @@ impl Acquirer {
         ensures code { self.new.code ≡ self.old.code }
         ensures transfers { (t : TransactionId) → map.get self.new.transfers t ≡ (if same_id id t then option_map (finished words.Cancelled) (map.get self.old.transfers t) else map.get self.old.transfers t) }
     {
-        finish(&mut self.transfers, &mut self.awaited, id, Status::Cancelled);
+        finish(
+            &mut self.transfers,
+            &mut self.awaited,
+            id,
+            Status::Cancelled,
+        );
     }
 }

@@ -1,4 +1,3 @@
-use Rattle.std.proofs.Common.{refl}
 use Rattle.acquirer.proofs.PlacesInOrder.{least_id}
 use Rattle.acquirer.proofs.awaited.start_of.Goals as goal
 

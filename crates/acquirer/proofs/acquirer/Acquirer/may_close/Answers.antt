@@ -1,4 +1,4 @@
-use Rattle.std.proofs.Common.{◌≡◌, ◌∷◌, Bool, true, false, cond, Option, Some, None, refl, sym, ap, subst, ◌∙◌, inl, inr}
+use Rattle.std.proofs.Common.{refl, sym, ap, ◌∙◌}
 use Rattle.std.specs.FinMap.{get}
 use Rattle.acquirer.specs.Transfers.{awaits}
 use Rattle.acquirer.proofs.Tables.{seen}

@@ -1,4 +1,4 @@
-use Rattle.std.proofs.Common.{◌≡◌, ap}
+use Rattle.std.proofs.Common.{ap}
 use Rattle.std.specs.FinMap.{from_entries}
 use Rattle.status.specs.Id.{id_cmp}
 use Rattle.acquirer.specs.Transfers.{by_id}

@@ -1,0 +1,2 @@
+pub mod SoundHistories
+pub mod LotsOfUnits

@@ -1,27 +1,29 @@
 -- The lot of a unit after a history: which transfer reserves it, that a unit that is reserved is held, and that one that is held has a place.
-use Rattle.std.proofs.Common.{Bool, List, None, Option, Some, [], eq-eqb, is_some, option_map, ◌&&◌, ◌+◌, ◌||◌, ◌∙◌, ◌∷◌, ◌≡◌, ◌≤◌}
+use Rattle.std.proofs.Common.{Bool, List, None, Option, Some, [], ◌&&◌, ◌+◌, ◌||◌, ◌∙◌, ◌∷◌, ◌≡◌, ◌≤◌, ap, arith, cond, false, inl, inr, not, refl, subst, sym, true}
 use Rattle.units.specs.declared.code.Code.{Code}
 use Rattle.status.specs.declared.words.Status.TheVariants.{Completed, Proposed}
 use Rattle.status.specs.Content.{Content}
 use Rattle.scheme.specs.declared.members.Holder.{Holder}
 use Rattle.lemmas.proofs.Membership.{In, In_find}
 use Rattle.accounts.specs.declared.lot.Lot.{Lot}
-use Rattle.protocol.specs.History.{Place, Transition, at_start, credited_place, has_serial, is_status, is_with, place_in, stands_at}
+use Rattle.protocol.specs.History.{Place, Transition, at_start, credited_place, has_serial, is_status, is_with, place_in, stands_at, carries, credits, gives, holds, place, reserved}
 use Rattle.scheme.specs.declared.registries.Scheme.{Scheme}
-use Rattle.safety.proofs.WorldLemmas.SoundWorlds.{Sound}
+use Rattle.units.specs.declared.block.Unit.{Unit as Serial}
+use Rattle.registry_core.proofs.SoundHistories.{Sound}
 use Rattle.status.specs.declared.id.TransactionId.{TransactionId}
 use Rattle.safety.proofs.OneRegistry.UnitsCountedOnce.{Waits, reserved_waits}
-use Rattle.std.proofs.lemmas.Bool.{and_parts, cases_Bool, cond-false, cond-true, eqb-true}
+use Rattle.std.proofs.lemmas.Bool.{and_parts, cases_Bool, cond-false, cond-true, eq-eqb, eqb-true}
 use Rattle.std.specs.List.{count_by, list_any}
 use Rattle.safety.proofs.ListLemmas.CountsInLists.{count_no}
 use Rattle.units.specs.Unit.{has_unit}
-use Rattle.registry_core.specs.Readings.{lot_at}
-use Rattle.accounts.specs.Tables.{lot_in}
+use Rattle.std.specs.Prelude.{is_some, option_map, find}
+use Rattle.registry_core.specs.Readings.{lot_at, lot_in, reserver, waits}
 use Rattle.safety.proofs.MovesAndHistories.TableMoves.{newest_some}
-use Rattle.lemmas.proofs.OneValue.{one_some}
+use Rattle.lemmas.proofs.OneValue.{one_some, clash}
 use Rattle.units.specs.Code.{same_code}
 use Rattle.status.specs.Status.{same_status}
 use Rattle.safety.proofs.ListLemmas.TestsOfSameness.{status_of_same}
+use Rattle.protocol.specs.Registries.{allotted}
 
 -- ---- the first element that passes a test
 

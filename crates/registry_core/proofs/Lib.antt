@@ -1,2 +1,4 @@
 pub mod SoundHistories
 pub mod LotsOfUnits
+pub mod KnownHoldings
+pub mod StepsOfLots

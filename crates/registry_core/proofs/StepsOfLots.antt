@@ -1,29 +1,36 @@
 -- How each transition of a registry changes the lots: a proposal reserves its units, an initiator's end releases or removes them, an acquirer's completion
 -- credits them, and all other transitions leave each lot as it is. Each lemma states the lot in the form in which the calls of `Holdings` do.
 -- The strategy: what is held and where follows from counts and places, and who reserves from which transfers wait with the unit (`Waits`).
-use Rattle.std.proofs.Common.{Bool, List, None, Option, Some, ap, cond, false, not, refl, subst, sym, true, ◌+◌, ◌==◌, ◌∙◌, ◌∷◌, ◌≡◌, arith, inl, inr, ◌&&◌}
+use Rattle.std.proofs.Common.{Bool, List, None, Option, Some, ap, cond, false, not, refl, subst, sym, true, ◌+◌, ◌==◌, ◌∙◌, ◌∷◌, ◌≡◌, arith, inl, inr, ◌&&◌, [], ◌||◌}
 use Rattle.units.specs.declared.code.Code.{Code}
 use Rattle.accounts.specs.declared.lot.Lot.{Lot}
-use Rattle.protocol.specs.History.{Place, Transition, at_start, credits, gives, holds, newest, place, place_in, carries, has_serial}
+use Rattle.protocol.specs.History.{Place, Transition, at_start, credits, gives, holds, newest, place, place_in, carries, has_serial, credited_place}
 use Rattle.scheme.specs.declared.registries.Scheme.{Scheme}
 use Rattle.units.specs.declared.block.Unit.{Unit as Serial}
 use Rattle.registry_core.proofs.SoundHistories.{Sound}
 use Rattle.status.specs.declared.id.TransactionId.{TransactionId}
-use Rattle.safety.proofs.OneRegistry.UnitsCountedOnce.{waits_older, Waits}
+use Rattle.safety.proofs.OneRegistry.UnitsCountedOnce.{waits_older, Waits, free_content}
 use Rattle.lemmas.proofs.OneValue.{clash, one_some}
-use Rattle.std.proofs.lemmas.Bool.{ne_eqb, cond-false, cond-true, false_from_ne_true, and_from, and_left, and_right, cases_Bool}
+use Rattle.std.proofs.lemmas.Bool.{ne_eqb, cond-false, cond-true, false_from_ne_true, and_from, and_left, and_right, cases_Bool, eq-eqb, eqb-false}
 use Rattle.std.specs.List.{count_by}
 use Rattle.safety.proofs.ListLemmas.CountsInLists.{count_no, count_yes}
 use Rattle.status.proofs.Ids.{id_of_same, same_id-refl}
-use Rattle.accounts.specs.Holdings.{is_reserved_by, is_the, released, reserved as reserved_by}
+use Rattle.accounts.specs.Holdings.{is_reserved_by, is_the, released, reserved as reserved_by, free_lot, kind_in}
 use Rattle.registry_core.specs.Readings.{lot_at, lot_in, reserver}
 use Rattle.units.specs.Intervals.{marks_that}
-use Rattle.std.specs.Prelude.{option_map}
-use Rattle.registry_core.proofs.LotsOfUnits.{reserver_same, lot_of_unheld, none_waits, reserver_none, reserver_waits, waits_reserver}
+use Rattle.std.specs.Prelude.{option_map, find}
+use Rattle.registry_core.proofs.LotsOfUnits.{reserver_same, lot_of_unheld, none_waits, reserver_none, reserver_waits, waits_reserver, any_found, none_is, unheld_reserver}
 use Rattle.units.specs.Code.{same_code}
 use Rattle.status.specs.Id.{same_id}
 use Rattle.status.specs.declared.words.Status.TheVariants.{Completed, Proposed}
 use Rattle.status.specs.Status.{same_status}
+use Rattle.units.specs.declared.block.Block.{Block}
+use Rattle.status.specs.Content.{Content, raws}
+use Rattle.units.specs.declared.block.Kind.{Kind}
+use Rattle.units.specs.declared.block.RawBlock.{RawBlock}
+use Rattle.units.specs.Unit.{covers, has_unit, have_unit}
+use Rattle.protocol.specs.AtRegistry.{holds_some}
+use Rattle.std.specs.Option.{option_or}
 
 -- ---- a lot by its three parts
 
@@ -70,6 +77,38 @@ own_go : (h : Bool) (r : Option TransactionId) (q : Option Place) (t : Transacti
 own_go true r None t own = refl
 own_go true r (Some q) t own = goes r q t own
 own_go false r q t own = refl
+
+-- ---- blocks and the raw blocks of a content
+
+pub covers_raws : (blocks : List Block) (s : Serial) → have_unit (raws blocks) s ≡ covers blocks s
+covers_raws [] s = refl
+covers_raws (b ∷ bs) s = ap (λ t. has_unit b.raw s || t) (covers_raws bs s)
+
+find_raws : (blocks : List Block) (s : Serial) → find (λ (b : RawBlock). has_unit b s) (raws blocks) ≡ option_map (λ (b : Block). b.raw) (find (λ (b : Block). has_unit b.raw s) blocks)
+find_raws [] s = refl
+find_raws (b ∷ bs) s = go (has_unit b.raw s) (find_raws bs s)
+  where
+    go : (t : Bool) → find (λ (b : RawBlock). has_unit b s) (raws bs) ≡ option_map (λ (b : Block). b.raw) (find (λ (b : Block). has_unit b.raw s) bs)
+        → cond t (Some b.raw) (find (λ (b : RawBlock). has_unit b s) (raws bs)) ≡ option_map (λ (b : Block). b.raw) (cond t (Some b) (find (λ (b : Block). has_unit b.raw s) bs))
+    go true e = refl
+    go false e = e
+
+kind_uncovered : (blocks : List Block) (s : Serial) → covers blocks s ≡ false → kind_in blocks s ≡ None
+kind_uncovered blocks s h = none_is (kind_in blocks s) (sym (any_found (λ (b : Block). has_unit b.raw s) (λ (b : Block). b.raw.kind) blocks) ∙ h)
+
+-- a unit of the content, as it was credited
+credited_lot : (k : Content) (blocks : List Block) → raws blocks ≡ k.units → (s : Serial) → option_map (lot_in None) (credited_place s k) ≡ option_map (free_lot k.to_account) (kind_in blocks s)
+credited_lot k blocks units s =
+    let put = λ (o : Option RawBlock). option_map (lot_in None) (option_map (λ (b : RawBlock). record { account = k.to_account; kind = b.kind }) o) in
+    ap put (ap (find (λ (b : RawBlock). has_unit b s)) (sym units) ∙ find_raws blocks s) ∙ go (find (λ (b : Block). has_unit b.raw s) blocks)
+  where
+    go : (o : Option Block) → option_map (lot_in None) (option_map (λ (b : RawBlock). record { account = k.to_account; kind = b.kind }) (option_map (λ (b : Block). b.raw) o)) ≡ option_map (free_lot k.to_account) (option_map (λ (b : Block). b.raw.kind) o)
+    go None = refl
+    go (Some b) = refl
+
+or_none : {X : Type 0} (o : Option X) → option_or o None ≡ o
+or_none None = refl
+or_none (Some x) = refl
 
 module _ (scheme : Scheme) (c : Code) (s : Serial) where
   -- ---- the parts after one more transition
@@ -180,4 +219,37 @@ module _ (scheme : Scheme) (c : Code) (s : Serial) where
             let free = unreserved x xs old none (reserver c xs s) refl in
             moved_lot x xs (reserver c xs s) given (ended_credits x end.2) (ended_reserver x xs sound old end.4 (reserver c xs s) refl ∙ free.1)
             ∙ others_stay (holds scheme c xs s) (reserver c xs s) (place scheme c xs s) x.id free.0
+      ]
+
+  -- ---- an acquirer takes units in
+
+  taken_hold : (x : Transition) (xs : List Transition) → Sound scheme c xs → gives c s x ≡ false → credits c s x ≡ true → holds scheme c xs s ≡ false → holds scheme c (x ∷ xs) s ≡ true
+  taken_hold x xs old given credited free =
+      let o = count_no (gives c s) x xs given in
+      let i = count_yes (credits c s) x xs credited in
+      let low = (old.local s).low in
+      let high = (old.local s).high in
+      let apart = eqb-false (at_start scheme c s + count_by (credits c s) xs) (count_by (gives c s) xs + 1) free in
+      eq-eqb (at_start scheme c s + count_by (credits c s) (x ∷ xs)) (count_by (gives c s) (x ∷ xs) + 1) (omega arith)
+
+  pub taken_lot : (x : Transition) (xs : List Transition) (k : Content) (blocks : List Block) → Sound scheme c (x ∷ xs) → Sound scheme c xs → same_code x.id.code c ≡ false → same_status x.new Completed ≡ true → x.content ≡ Some k
+      → holds_some scheme c xs (Some k) ≡ false → raws blocks ≡ k.units → lot_at scheme c (x ∷ xs) s ≡ option_or (option_map (free_lot k.to_account) (kind_in blocks s)) (lot_at scheme c xs s)
+  taken_lot x xs k blocks sound old foreign done content none units =
+      let given : gives c s x ≡ false = and_right (same_status x.new Completed) (same_code x.id.code c && carries x s) (and_left (same_code x.id.code c) (carries x s) foreign) in
+      let carried : carries x s ≡ have_unit k.units s = ap (λ o. has_serial o s) content in
+      elim (cases_Bool (have_unit k.units s)) [
+        | inl y ↦
+            let credited : credits c s x ≡ true =
+            and_from (same_status x.new Completed) (not (same_code x.id.code c) && carries x s) done (and_from (not (same_code x.id.code c)) (carries x s) (ap not foreign) (carried ∙ y)) in
+            let free = free_content scheme c s xs (Some k) y none in
+            let hold = taken_hold x xs old given credited free in
+            let by : reserver c (x ∷ xs) s ≡ None = foreign_reserver x xs sound old foreign ∙ unheld_reserver scheme c s xs old free in
+            let at : place scheme c (x ∷ xs) s ≡ credited_place s k = cond-true (credits c s x) (place_in s x.content) (place scheme c xs s) credited ∙ ap (place_in s) content in
+            (λ i. lot_of (hold i) (by i) (at i)) ∙ credited_lot k blocks units s ∙ sym (or_none (option_map (free_lot k.to_account) (kind_in blocks s)))
+            ∙ ap (option_or (option_map (free_lot k.to_account) (kind_in blocks s))) (sym (lot_of_unheld scheme c s xs free))
+        | inr n ↦
+            let credited : credits c s x ≡ false =
+            and_right (same_status x.new Completed) (not (same_code x.id.code c) && carries x s) (and_right (not (same_code x.id.code c)) (carries x s) (carried ∙ n)) in
+            foreign_lot x xs sound old foreign given credited
+            ∙ ap (λ (o : Option Kind). option_or (option_map (free_lot k.to_account) o) (lot_at scheme c xs s)) (sym (kind_uncovered blocks s (sym (covers_raws blocks s) ∙ ap (λ us. have_unit us s) units ∙ n)))
       ]

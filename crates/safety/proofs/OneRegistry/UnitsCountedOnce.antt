@@ -179,7 +179,7 @@ module _ (scheme : Scheme) (c : Code) (s : Serial) where
       ]
 
   -- one that moves no unit and waits for none
-  quiet : (x : Transition) (xs : List Transition) → gives c s x ≡ false → credits c s x ≡ false → (x.new ≡ Proposed → ⊥) → Local scheme c s xs → Local scheme c s (x ∷ xs)
+  pub quiet : (x : Transition) (xs : List Transition) → gives c s x ≡ false → credits c s x ≡ false → (x.new ≡ Proposed → ⊥) → Local scheme c s xs → Local scheme c s (x ∷ xs)
   quiet x xs given credited other l =
       let o = count_no (gives c s) x xs given in
       let i = count_no (credits c s) x xs credited in
@@ -230,7 +230,7 @@ module _ (scheme : Scheme) (c : Code) (s : Serial) where
       (and_from (same_code w.last.id.code c) (stands_at xs w.last.id Proposed && carries w.last s) own (and_from (stands_at xs w.last.id Proposed) (carries w.last s) stands w.has))
 
   -- a proposal of units that are held and not reserved
-  asked : (x : Transition) (xs : List Transition) → gives c s x ≡ false → credits c s x ≡ false → (carries x s ≡ true → (holds scheme c xs s ≡ true) × (reserved c xs s ≡ false))
+  pub asked : (x : Transition) (xs : List Transition) → gives c s x ≡ false → credits c s x ≡ false → (carries x s ≡ true → (holds scheme c xs s ≡ true) × (reserved c xs s ≡ false))
       → Local scheme c s xs → Local scheme c s (x ∷ xs)
   asked x xs given credited free l =
       let o = count_no (gives c s) x xs given in
@@ -264,7 +264,7 @@ module _ (scheme : Scheme) (c : Code) (s : Serial) where
       }
 
   -- one of a transfer that waits on, with the same content
-  again : (x q : Transition) (xs : List Transition) → gives c s x ≡ false → credits c s x ≡ false → newest xs x.id ≡ Some q → q.new ≡ Proposed → x.content ≡ q.content → Local scheme c s xs → Local scheme c s (x ∷ xs)
+  pub again : (x q : Transition) (xs : List Transition) → gives c s x ≡ false → credits c s x ≡ false → newest xs x.id ≡ Some q → q.new ≡ Proposed → x.content ≡ q.content → Local scheme c s xs → Local scheme c s (x ∷ xs)
   again x q xs given credited old stood same l =
       let o = count_no (gives c s) x xs given in
       let i = count_no (credits c s) x xs credited in
@@ -288,7 +288,7 @@ module _ (scheme : Scheme) (c : Code) (s : Serial) where
             | inr e ↦ record { last = w.last; is = e.0; new = w.new; own = w.own; has = w.has }
           ]
 
-  settled_move : (es : List Entry) (t : TransactionId) (told : Status) (moment : ℕ) (q : Transition) (new : Status) (messages : List Message) → newest (transitions_of es) t ≡ Some q
+  pub settled_move : (es : List Entry) (t : TransactionId) (told : Status) (moment : ℕ) (q : Transition) (new : Status) (messages : List Message) → newest (transitions_of es) t ≡ Some q
       → same_code t.code c ≡ true → initiator_row (Stands q.new) (Notified told) ≡ Move new → Local scheme c s (transitions_of es) → Local scheme c s (moved q new moment messages ∷ transitions_of es)
   settled_move es t told moment q new messages old own move l =
       let about = newest_id (transitions_of es) t q old in
@@ -310,7 +310,7 @@ module _ (scheme : Scheme) (c : Code) (s : Serial) where
       let p = piece_of k.units s h in
       subst (λ z. holds scheme c xs z ≡ false) p.2 (list_any_none (λ (q : Piece). holds scheme c xs q.unit) (pieces k.units) p.0 e p.1)
 
-  finished_move : (es : List Entry) (t : TransactionId) (told : Status) (moment : ℕ) (q : Transition) (new : Status) → newest (transitions_of es) t ≡ Some q → same_code t.code c ≡ false
+  pub finished_move : (es : List Entry) (t : TransactionId) (told : Status) (moment : ℕ) (q : Transition) (new : Status) → newest (transitions_of es) t ≡ Some q → same_code t.code c ≡ false
       → acquirer_row (Stands q.new) (Notified told) ≡ Move new → (same_status new Completed && holds_some scheme c (transitions_of es) q.content) ≡ false
       → Local scheme c s (transitions_of es) → Local scheme c s (moved q new moment [] ∷ transitions_of es)
   finished_move es t told moment q new old foreign move none l =

@@ -2,3 +2,4 @@ pub mod SoundHistories
 pub mod LotsOfUnits
 pub mod KnownHoldings
 pub mod StepsOfLots
+pub mod LotsAfterTransitions

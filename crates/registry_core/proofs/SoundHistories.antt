@@ -29,7 +29,7 @@ pub record Sound (scheme : Scheme) (c : Code) (xs : List Transition) : Type 0 wh
 abbrev pub Follows : List Transition → Transition → Type 0
 Follows xs x = (newest xs x.id ≡ None) ⊎ ((q : Transition) × (newest xs x.id ≡ Some q) × (x.content ≡ q.content))
 
-follows_keeps : (x : Transition) (xs : List Transition) → Follows xs x → ContentsKept xs → ContentsKept (x ∷ xs)
+pub follows_keeps : (x : Transition) (xs : List Transition) → Follows xs x → ContentsKept xs → ContentsKept (x ∷ xs)
 follows_keeps x xs follows old y z (inl e) h =
     elim (newest_cons x xs y.id z h) [
       | inl a ↦ ap (λ (w : Transition). w.content) (sym a.0 ∙ e)

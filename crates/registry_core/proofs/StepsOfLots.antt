@@ -34,10 +34,10 @@ use Rattle.std.specs.Option.{option_or}
 
 -- ---- a lot by its three parts
 
-abbrev lot_of : Bool → Option TransactionId → Option Place → Option Lot
+abbrev pub lot_of : Bool → Option TransactionId → Option Place → Option Lot
 lot_of held reserving q = cond held (option_map (lot_in reserving) q) None
 
-newly_reserved : (h : Bool) (r : Option TransactionId) (q : Option Place) (t : TransactionId) → lot_of h (Some t) q ≡ option_map (reserved_by t) (lot_of h r q)
+pub newly_reserved : (h : Bool) (r : Option TransactionId) (q : Option Place) (t : TransactionId) → lot_of h (Some t) q ≡ option_map (reserved_by t) (lot_of h r q)
 newly_reserved true r None t = refl
 newly_reserved true r (Some q) t = refl
 newly_reserved false r q t = refl
@@ -122,12 +122,12 @@ module _ (scheme : Scheme) (c : Code) (s : Serial) where
   same_place : (x : Transition) (xs : List Transition) → credits c s x ≡ false → place scheme c (x ∷ xs) s ≡ place scheme c xs s
   same_place x xs credited = cond-false (credits c s x) (place_in s x.content) (place scheme c xs s) credited
 
-  moved_lot : (x : Transition) (xs : List Transition) (r : Option TransactionId) → gives c s x ≡ false → credits c s x ≡ false → reserver c (x ∷ xs) s ≡ r
+  pub moved_lot : (x : Transition) (xs : List Transition) (r : Option TransactionId) → gives c s x ≡ false → credits c s x ≡ false → reserver c (x ∷ xs) s ≡ r
       → lot_at scheme c (x ∷ xs) s ≡ lot_of (holds scheme c xs s) r (place scheme c xs s)
   moved_lot x xs r given credited by = λ i. lot_of (same_hold x xs given credited i) (by i) (same_place x xs credited i)
 
   -- a transfer of another transaction waits as before
-  waits_on : (x : Transition) (xs : List Transition) (t : TransactionId) → same_id x.id t ≡ false → Waits c s xs t → Waits c s (x ∷ xs) t
+  pub waits_on : (x : Transition) (xs : List Transition) (t : TransactionId) → same_id x.id t ≡ false → Waits c s xs t → Waits c s (x ∷ xs) t
   waits_on x xs t other w = record { last = w.last; is = cond-false (same_id x.id t) (Some x) (newest xs t) other ∙ w.is; new = w.new; own = w.own; has = w.has }
 
   -- of a transaction of another registry
@@ -144,14 +144,14 @@ module _ (scheme : Scheme) (c : Code) (s : Serial) where
       after t w = waits_on x xs t (other t w.own) w
 
   -- of another registry's, and no unit moves
-  foreign_lot : (x : Transition) (xs : List Transition) → Sound scheme c (x ∷ xs) → Sound scheme c xs → same_code x.id.code c ≡ false → gives c s x ≡ false → credits c s x ≡ false
+  pub foreign_lot : (x : Transition) (xs : List Transition) → Sound scheme c (x ∷ xs) → Sound scheme c xs → same_code x.id.code c ≡ false → gives c s x ≡ false → credits c s x ≡ false
       → lot_at scheme c (x ∷ xs) s ≡ lot_at scheme c xs s
   foreign_lot x xs sound old foreign given credited = moved_lot x xs (reserver c xs s) given credited (foreign_reserver x xs sound old foreign)
 
   -- ---- an initiator's transfer comes to its end
 
   -- the transition that ends a transfer of the registry's own
-  abbrev Ends : Transition → List Transition → Transition → Type 0
+  abbrev pub Ends : Transition → List Transition → Transition → Type 0
   Ends x xs q = (newest xs x.id ≡ Some q) × (q.new ≡ Proposed) × (same_code x.id.code c ≡ true) × (x.content ≡ q.content) × (x.new ≡ Proposed → ⊥)
 
   ended_credits : (x : Transition) → same_code x.id.code c ≡ true → credits c s x ≡ false
@@ -180,7 +180,7 @@ module _ (scheme : Scheme) (c : Code) (s : Serial) where
             ∙ sym (cond-false (same_id u x.id) None (Some u) n)
       ]
 
-  released_lot : (x : Transition) (xs : List Transition) (q : Transition) → Sound scheme c (x ∷ xs) → Sound scheme c xs → Ends x xs q → same_status x.new Completed ≡ false
+  pub released_lot : (x : Transition) (xs : List Transition) (q : Transition) → Sound scheme c (x ∷ xs) → Sound scheme c xs → Ends x xs q → same_status x.new Completed ≡ false
       → lot_at scheme c (x ∷ xs) s ≡ option_map (released x.id) (lot_at scheme c xs s)
   released_lot x xs q sound old end unfinished =
       let given = and_left (same_status x.new Completed) (same_code x.id.code c && carries x s) unfinished in
@@ -201,7 +201,7 @@ module _ (scheme : Scheme) (c : Code) (s : Serial) where
       let other = false_from_ne_true (same_id u x.id) (λ y. none (subst (Waits c s xs) (id_of_same u x.id y) (reserver_waits scheme c s xs u old e))) in
       (other, cond-false (same_id u x.id) None (Some u) other)
 
-  removed_lot : (x : Transition) (xs : List Transition) (q : Transition) → Sound scheme c (x ∷ xs) → Sound scheme c xs → Ends x xs q → same_status x.new Completed ≡ true
+  pub removed_lot : (x : Transition) (xs : List Transition) (q : Transition) → Sound scheme c (x ∷ xs) → Sound scheme c xs → Ends x xs q → same_status x.new Completed ≡ true
       → lot_at scheme c (x ∷ xs) s ≡ marks_that (λ lot. not (is_reserved_by x.id lot)) (lot_at scheme c xs s)
   removed_lot x xs q sound old end done =
       elim (cases_Bool (carries x s)) [

@@ -3,3 +3,4 @@ pub mod LotsOfUnits
 pub mod KnownHoldings
 pub mod StepsOfLots
 pub mod LotsAfterTransitions
+pub mod LotsAfterMoves

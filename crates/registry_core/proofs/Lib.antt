@@ -4,3 +4,7 @@ pub mod KnownHoldings
 pub mod StepsOfLots
 pub mod LotsAfterTransitions
 pub mod LotsAfterMoves
+pub mod StandingsOfAccounts
+pub mod NewestById
+pub mod UsedAccounts
+pub mod AwaitedTransfers

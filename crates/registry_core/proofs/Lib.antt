@@ -8,3 +8,4 @@ pub mod StandingsOfAccounts
 pub mod NewestById
 pub mod UsedAccounts
 pub mod AwaitedTransfers
+pub mod OpeningLots

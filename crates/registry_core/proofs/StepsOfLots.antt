@@ -106,7 +106,7 @@ credited_lot k blocks units s =
     go None = refl
     go (Some b) = refl
 
-or_none : {X : Type 0} (o : Option X) → option_or o None ≡ o
+pub or_none : {X : Type 0} (o : Option X) → option_or o None ≡ o
 or_none None = refl
 or_none (Some x) = refl
 

@@ -36,7 +36,7 @@ use Rattle.safety.proofs.ListLemmas.UnitsOfBlocks.{piece_of}
 use Rattle.units.specs.Code.{same_code}
 use Rattle.status.specs.Status.{same_status}
 
-or_some : {X : Type 0} (a b : Option X) → is_some (option_or a b) ≡ (is_some a || is_some b)
+pub or_some : {X : Type 0} (a b : Option X) → is_some (option_or a b) ≡ (is_some a || is_some b)
 or_some None b = refl
 or_some (Some x) b = refl
 
@@ -47,7 +47,7 @@ flat_map_In f a x (y ∷ ys) (inr i) h = In_right a (f y) (flat_map f ys) (flat_
 
 module _ (s : Serial) where
   -- a unit is allotted exactly when the blocks have it
-  allotted_in_blocks : (code : Code) (parts : List Allotment) → is_some (allotted_in code parts s) ≡ covers (blocks_of parts) s
+  pub allotted_in_blocks : (code : Code) (parts : List Allotment) → is_some (allotted_in code parts s) ≡ covers (blocks_of parts) s
   allotted_in_blocks code [] = refl
   allotted_in_blocks code (a ∷ parts) =
       or_some (option_map (λ (b : Block). holder code a.account b.raw.kind) (find (λ (b : Block). has_unit b.raw s) a.units)) (allotted_in code parts s)

@@ -9,3 +9,4 @@ pub mod NewestById
 pub mod UsedAccounts
 pub mod AwaitedTransfers
 pub mod OpeningLots
+pub mod RecordedEntries

@@ -10,3 +10,5 @@ pub mod UsedAccounts
 pub mod AwaitedTransfers
 pub mod OpeningLots
 pub mod RecordedEntries
+pub mod OpenReceivers
+pub mod ApartContents

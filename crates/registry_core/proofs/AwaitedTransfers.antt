@@ -18,6 +18,7 @@ use Rattle.std.specs.Option.{option_map_or}
 use Rattle.units.specs.Code.{same_code}
 use Rattle.status.specs.Status.{same_status}
 use Rattle.safety.proofs.ListLemmas.TestsOfSameness.{status_of_same}
+use Rattle.protocol.specs.Verdict.{made}
 
 -- a transaction of another registry that stands Accepted, with the account that its units go to
 pub record Awaited (c : Code) (xs : List Transition) (account : ℕ) : Type 0 where
@@ -72,3 +73,18 @@ some_awaited c xs account a =
 -- of a history
 pub awaited_in : (scheme : Scheme) (c : Code) (es : List Entry) (account : ℕ) → Made scheme (Registry c) es → is_awaited c (transitions_of es) account ≡ true → Awaited c (transitions_of es) account
 awaited_in scheme c es account made h = awaited_some scheme c (transitions_of es) account (sound_history scheme c es made) h
+
+-- the same as a test of a row with the newest status and the content
+pub awaited_row : (scheme : Scheme) (c : Code) (xs : List Transition) (account : ℕ) → Sound scheme c xs → is_awaited c xs account ≡ true
+    → (t : TransactionId) × ((x : Transition) × (same_code t.code c ≡ false) × (newest xs t ≡ Some x) × ((same_status x.new Accepted && option_map_or (λ k. k.to_account == account) x.content false) ≡ true))
+awaited_row scheme c xs account sound h =
+    let a = awaited_some scheme c xs account sound h in
+    let to : goes_to account a.last.content ≡ true = ap (goes_to account) a.known ∙ eq-eqb a.content.to_account account a.account_is in
+    (a.id, (a.last, a.foreign, a.is, and_from (same_status a.last.new Accepted) (goes_to account a.last.content) (ap (λ z. same_status z Accepted) a.new) to))
+
+pub row_awaited : (c : Code) (xs : List Transition) (account : ℕ) (t : TransactionId) (x : Transition) → same_code t.code c ≡ false → newest xs t ≡ Some x
+    → (same_status x.new Accepted && option_map_or (λ k. k.to_account == account) x.content false) ≡ true → is_awaited c xs account ≡ true
+row_awaited c xs account t x foreign is h =
+    let parts = and_parts (same_status x.new Accepted) (goes_to account x.content) h in
+    let k = going account x.content parts.1 in
+    some_awaited c xs account (record { id = t; last = x; content = k.0; is = is; foreign = foreign; new = status_of_same x.new Accepted parts.0; known = k.1; account_is = k.2 })

@@ -12,3 +12,4 @@ pub mod OpeningLots
 pub mod RecordedEntries
 pub mod OpenReceivers
 pub mod ApartContents
+pub mod RequestedTransfers

@@ -4,7 +4,7 @@ use Rattle.units.specs.declared.code.Code.{Code}
 use Rattle.status.specs.declared.words.Status.TheVariants.{Completed, Proposed}
 use Rattle.status.specs.Content.{Content, raws}
 use Rattle.protocol.specs.History.{Entry, Transition, holds, newest, place, proposals, reserved, transitions_of}
-use Rattle.std.proofs.Common.{List, None, Some, [], ap, false, not, refl, subst, sym, true, ℕ, ◌&&◌, ◌+◌, ◌∙◌, ◌∷◌, ◌≡◌}
+use Rattle.std.proofs.Common.{List, None, Some, [], ap, false, not, refl, subst, sym, true, ℕ, ◌&&◌, ◌+◌, ◌∙◌, ◌∷◌, ◌≡◌, inl, inr}
 use Rattle.safety.proofs.MovesAndHistories.NewestTransitions.{Made, newest_id}
 use Rattle.wire.specs.declared.message.Message.{Message}
 use Rattle.status.specs.declared.words.Row.TheVariants.{Move}
@@ -19,8 +19,8 @@ use Rattle.status.specs.declared.words.Known.TheVariants.{Stands}
 use Rattle.status.specs.declared.words.Status.{Status}
 use Rattle.status.specs.declared.id.TransactionId.{TransactionId}
 use Rattle.status.specs.Rows.{acquirer_row, initiator_row}
-use Rattle.std.proofs.lemmas.Bool.{and_parts, false_from_ne_true, not-false}
-use Rattle.safety.proofs.OneRegistry.UnitsCountedOnce.{and_second, arrived_quiet}
+use Rattle.std.proofs.lemmas.Bool.{and_parts, false_from_ne_true, not-false, cases_Bool, cond-false, cond-true}
+use Rattle.safety.proofs.OneRegistry.UnitsCountedOnce.{and_second, arrived_quiet, free_content}
 use Rattle.safety.proofs.MovesAndHistories.TransitionForms.{arrived, asking, bare, moved, proposed}
 use Rattle.safety.proofs.ListLemmas.CanonicalBlocks.{canonical_piece}
 use Rattle.protocol.specs.AtRegistry.{content_of, holding, holds_some, is_place}
@@ -39,6 +39,9 @@ use Rattle.protocol.specs.Checks.{propose_refusals}
 use Rattle.units.specs.Code.{same_code}
 use Rattle.status.specs.Status.{same_status}
 use Rattle.safety.proofs.ListLemmas.TestsOfSameness.{status_of_same}
+use Rattle.lemmas.proofs.OneValue.{clash}
+use Rattle.protocol.specs.Deciding.{known}
+use Rattle.registry_core.proofs.LotsOfUnits.{lot_of_unheld}
 
 -- units that a proposal may take are held, and none is reserved
 pub proposed_free : (scheme : Scheme) (c : Code) (es : List Entry) (o : Order) → NoneStands (propose_refusals scheme c (holding scheme c es) o) → (s : Serial) → have_unit (content_of o).units s ≡ true
@@ -116,3 +119,23 @@ module _ (scheme : Scheme) (c : Code) (es : List Entry) (made : Made scheme (Reg
   lot_absent x new k blocks done known none units =
       lots_before_credit scheme c (transitions_of es) k blocks
       (ap (holds_some scheme c (transitions_of es)) (sym known) ∙ and_second (same_status new Completed) (holds_some scheme c (transitions_of es) x.content) none (ap (λ z. same_status z Completed) done)) units
+
+  -- both ends of a transfer out of this registry at once
+  pub lot_settled : (t : TransactionId) (told : Status) (x : Transition) (new : Status) (moment : ℕ) (messages : List Message) → newest (transitions_of es) t ≡ Some x → same_code t.code c ≡ true
+      → initiator_row (Stands x.new) (Notified told) ≡ Move new → (s : Serial)
+      → lot_at scheme c (moved x new moment messages ∷ transitions_of es) s
+      ≡ (if same_status new Completed then marks_that (λ lot. not (is_reserved_by t lot)) (lot_at scheme c (transitions_of es) s) else option_map (released t) (lot_at scheme c (transitions_of es) s))
+  lot_settled t told x new moment messages was own move s =
+      let lot = lot_at scheme c (transitions_of es) s in
+      elim (cases_Bool (same_status new Completed)) [
+        | inl y ↦
+            lot_removed t told x new moment messages was own move (status_of_same new Completed y) s
+            ∙ sym (cond-true (same_status new Completed) (marks_that (λ lot. not (is_reserved_by t lot)) lot) (option_map (released t) lot) y)
+        | inr n ↦
+            lot_released t told x new moment messages was own move (λ e. clash (same_status new Completed) (ap (λ z. same_status z Completed) e) n) s
+            ∙ sym (cond-false (same_status new Completed) (marks_that (λ lot. not (is_reserved_by t lot)) lot) (option_map (released t) lot) n)
+      ]
+
+-- as the content lists its units, none of them is there before they are credited
+pub units_absent : (scheme : Scheme) (c : Code) (xs : List Transition) (k : Content) → holds_some scheme c xs (Some k) ≡ false → (s : Serial) → have_unit k.units s ≡ true → lot_at scheme c xs s ≡ None
+units_absent scheme c xs k none s y = lot_of_unheld scheme c s xs (free_content scheme c s xs (Some k) y none)

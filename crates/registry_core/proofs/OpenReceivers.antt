@@ -5,8 +5,8 @@ use Rattle.wire.specs.declared.input.Input.TheVariants.{Ack, CleanUp, CloseAccou
 use Rattle.std.proofs.Common.{Bool, List, None, Some, [], ap, cond, false, inl, inr, refl, subst, sym, true, ℕ, ◌==◌, ◌∙◌, ◌∷◌, ◌≡◌}
 use Rattle.units.specs.declared.code.Code.{Code}
 use Rattle.status.specs.Content.{Content}
-use Rattle.registry_core.proofs.RecordedEntries.{Entered, entered_made, recorded_causes}
-use Rattle.protocol.specs.Deciding.{Enters, enters}
+use Rattle.registry_core.proofs.RecordedEntries.{Entered, entered_made, recorded_causes, entered_registry}
+use Rattle.protocol.specs.Deciding.{Enters, enters, known}
 use Rattle.protocol.specs.History.{Entry, Transition, closes, is_closed, newest, transitions_of}
 use Rattle.wire.specs.declared.input.Input.{Input}
 use Rattle.accounts.specs.declared.lot.Standing.TheVariants.{Open}
@@ -29,7 +29,6 @@ use Rattle.units.specs.Code.{same_code}
 use Rattle.registry_core.proofs.AwaitedTransfers.{some_awaited}
 use Rattle.registry_core.specs.Readings.{standing_at}
 use Rattle.std.specs.Prelude.{unwrap_or}
-use Rattle.protocol.specs.Verdict.{verdict}
 
 finds_nothing : (found : List ℕ) → arrived_status found ≡ Accepted → found ≡ []
 finds_nothing [] h = refl
@@ -84,10 +83,6 @@ module _ (scheme : Scheme) (c : Code) where
   stays_open es e account (Eligible d may) is entered awaited old = standing_kept scheme c es e (ap is_account_order is) account ∙ old
   stays_open es e account (Received m moment) is entered awaited old = standing_kept scheme c es e (ap is_account_order is) account ∙ old
 
-  entered_registry : (e : Entry) (es : List Entry) → Entered scheme c (e ∷ es) → registry_verdict scheme c es e.input ≡ Enters e.transitions
-  unfolding verdict
-  entered_registry e es h = h.0
-
   pub receivers_open : (es : List Entry) → Entered scheme c es → ReceiversOpen es
   receivers_open [] entered t x k h foreign new known = absurd (cc (h))
   receivers_open (e ∷ es) entered t x k h foreign new known =
@@ -96,7 +91,7 @@ module _ (scheme : Scheme) (c : Code) where
             let was = sym u ∙ h in
             let old = receivers_open es entered.1 t x k was foreign new known in
             let awaited = some_awaited c (transitions_of es) k.to_account (record { id = t; last = x; content = k; is = was; foreign = foreign; new = new; known = known; account_is = refl }) in
-            stays_open es e k.to_account e.input refl (entered_registry e es entered) awaited old
+            stays_open es e k.to_account e.input refl (entered_registry scheme c e es entered) awaited old
         | inr u ↦
             let j : u.0 ≡ x = one_some u.0 x (sym u.3 ∙ h) in
             let move = subst (λ z. RegistryMove scheme c es e.input z) j (made_registry scheme c e es u.0 (entered_made scheme c (e ∷ es) entered) u.1) in

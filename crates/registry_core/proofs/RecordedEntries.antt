@@ -16,6 +16,7 @@ use Rattle.protocol.specs.Verdict.{history, made, verdict}
 use Rattle.protocol.proofs.Histories.{history_snoc}
 use Rattle.lemmas.proofs.Positions.{some_at}
 use Rattle.std.proofs.Math.Seq.{take-suc}
+use Rattle.protocol.specs.AtRegistry.{registry_verdict}
 
 -- each entry was recorded: the verdict on its input enters its transitions
 abbrev pub Entered : Scheme → Code → List Entry → Type 0
@@ -50,6 +51,10 @@ module _ (scheme : Scheme) (c : Code) where
 
   pub replays_entered : (journal : List Input) → Replays scheme (Registry c) journal → Entered scheme c (history scheme (Registry c) journal)
   replays_entered journal h = subst (λ (j : List Input). Entered scheme c (history scheme (Registry c) j)) (take_all (length journal) journal (omega arith)) (entered_take journal h (length journal) (omega arith))
+
+pub entered_registry : (scheme : Scheme) (c : Code) (e : Entry) (es : List Entry) → Entered scheme c (e ∷ es) → registry_verdict scheme c es e.input ≡ Enters e.transitions
+unfolding verdict
+entered_registry scheme c e es h = h.0
 
 -- ---- what was recorded had no cause of a refusal
 

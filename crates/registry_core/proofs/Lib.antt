@@ -13,3 +13,5 @@ pub mod RecordedEntries
 pub mod OpenReceivers
 pub mod ApartContents
 pub mod RequestedTransfers
+pub mod FirstRefusals
+pub mod AccountVerdicts

@@ -1,6 +1,7 @@
--- A cancellation is asked for only of a transaction that is known, and a registry gives its transactions their numbers in turn.
+-- A cancellation is asked for only of a transaction that is known, and what is known of a transfer out of the registry is where it stands.
+use Rattle.protocol.specs.Deciding as decide
 use Rattle.wire.specs.declared.input.Input.TheVariants.{Ack, CleanUp, CloseAccount, Eligible, OpenAccount, Propose, Received, Request}
-use Rattle.std.proofs.Common.{Bool, List, None, Some, [], ap, false, inl, inr, refl, sym, true, ℕ, ◌&&◌, ◌++◌, ◌∙◌, ◌∷◌, ◌≡◌}
+use Rattle.std.proofs.Common.{List, None, Some, [], ap, false, inl, inr, refl, sym, true, ◌&&◌, ◌++◌, ◌∙◌, ◌∷◌, ◌≡◌, Option}
 use Rattle.units.specs.declared.code.Code.{Code}
 use Rattle.registry_core.proofs.RecordedEntries.{Entered, entered_registry, recorded_causes}
 use Rattle.protocol.specs.Deciding.{Enters}
@@ -9,13 +10,18 @@ use Rattle.wire.specs.declared.input.Input.{Input}
 use Rattle.scheme.specs.declared.registries.Scheme.{Scheme}
 use Rattle.status.specs.declared.id.TransactionId.{TransactionId}
 use Rattle.std.proofs.lemmas.Bool.{and_parts, false_from_ne_true, not-false, or_from}
-use Rattle.lemmas.proofs.OneValue.{clash, one_some}
-use Rattle.status.specs.Id.{id_at, id_if, is_number, number_from, same_id}
+use Rattle.lemmas.proofs.OneValue.{clash}
+use Rattle.status.specs.Id.{same_id}
 use Rattle.status.proofs.Ids.{id_of_same}
 use Rattle.protocol.specs.AtRegistry.{in_role, registry_verdict, request_column, request_refusals}
 use Rattle.std.specs.Prelude.{is_some}
-use Rattle.safety.proofs.MovesAndHistories.NewestTransitions.{newest_append}
+use Rattle.safety.proofs.MovesAndHistories.NewestTransitions.{newest_append, Made, newest_id}
 use Rattle.units.specs.Code.{same_code}
+use Rattle.status.specs.declared.words.Known.TheVariants.{Bare, Stands, Unknown}
+use Rattle.status.specs.Content.{Content}
+use Rattle.units.specs.declared.code.Node.TheVariants.{Registry}
+use Rattle.std.specs.Option.{option_map_or}
+use Rattle.safety.proofs.OneRegistry.TransactionEnds.{own_contents}
 
 unknown_before : (xs rest : List Transition) (t : TransactionId) → newest (xs ++ rest) t ≡ None → newest rest t ≡ None
 unknown_before xs rest t h =
@@ -45,12 +51,14 @@ module _ (scheme : Scheme) (c : Code) where
       let before = unknown_before e.transitions (transitions_of es) t none in
       or_from (is_request_of t e.input) (is_requested es t) (asked_known es t e.input e.transitions (entered_registry scheme c e es entered) before) (unknown_unrequested es entered.1 t before)
 
-numbered : (c : Code) (n : ℕ) (b : Bool) (e : is_number n ≡ b) (t : TransactionId) → id_if c n b e ≡ Some t → t.number ≡ n
-numbered c n true e t h =
-    let here : TransactionId = record { code = c; number = n; in_range = number_from n e } in
-    sym (ap (λ (u : TransactionId). u.number) (one_some here t h))
-numbered c n false e t h = absurd (cc (h))
-
--- a registry's transaction has the number that it was given
-pub number_of : (c : Code) (n : ℕ) (t : TransactionId) → id_at c n ≡ Some t → t.number ≡ n
-number_of c n t h = numbered c n (is_number n) refl t h
+-- a transfer out of the registry always has a content, so its status says what is known of it
+pub own_known : (scheme : Scheme) (c : Code) (es : List Entry) → Made scheme (Registry c) es → (t : TransactionId) → same_code t.code c ≡ true
+    → decide.known (newest (transitions_of es) t) ≡ option_map_or (λ x. Stands x.new) (newest (transitions_of es) t) Unknown
+own_known scheme c es h t own = go (newest (transitions_of es) t) refl
+  where
+    go : (o : Option Transition) → newest (transitions_of es) t ≡ o → decide.known o ≡ option_map_or (λ (x : Transition). Stands x.new) o Unknown
+    go None e = refl
+    go (Some x) e =
+        let about = newest_id (transitions_of es) t x e in
+        let content = own_contents scheme c es h x about.0 (ap (λ (z : TransactionId). same_code z.code c) about.1 ∙ own) in
+        ap (λ (k : Option Content). option_map_or (λ (z : Content). Stands x.new) k Bare) content.is

@@ -1,0 +1,17 @@
+pub mod SoundHistories
+pub mod LotsOfUnits
+pub mod KnownHoldings
+pub mod StepsOfLots
+pub mod LotsAfterTransitions
+pub mod LotsAfterMoves
+pub mod StandingsOfAccounts
+pub mod NewestById
+pub mod UsedAccounts
+pub mod AwaitedTransfers
+pub mod OpeningLots
+pub mod RecordedEntries
+pub mod OpenReceivers
+pub mod ApartContents
+pub mod RequestedTransfers
+pub mod FirstRefusals
+pub mod AccountVerdicts

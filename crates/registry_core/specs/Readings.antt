@@ -1,6 +1,5 @@
 -- What a registry's tables are to say of its history: how each unit is held, which accounts are open, and which transfers are awaited.
-use Rattle.std.specs.Prelude.{ℕ, ◌==◌, ◌&&◌, not, cond, Bool, false, List, find, Option, Some, None, option_map}
-use Rattle.std.specs.Option.{option_map_or}
+use Rattle.std.specs.Prelude.{ℕ, ◌&&◌, cond, Bool, List, find, Option, Some, None, option_map}
 use Rattle.units.specs.Code.{same_code}
 use Rattle.units.specs.declared.block.Unit.{Unit as Serial}
 use Rattle.units.specs.declared.code.Code.{Code}

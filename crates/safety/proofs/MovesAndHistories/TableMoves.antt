@@ -91,7 +91,7 @@ pub data LogMove (scheme : Scheme) (es : List Entry) : Input → Transition → 
   forestalls : (r : Asking) (moment : Moment) → r.from ≡ Registry r.id.code → is_no_registry scheme r.from ≡ false → newest (transitions_of es) r.id ≡ None
       → LogMove scheme es (Received (message.Request r) moment) (forestalled r.id moment.seconds)
 
-refuse_made : (cs : Causes) (v : Verdict) (x : Transition) → In x (made (refuse cs v)) → NoneStands cs × In x (made v)
+pub refuse_made : (cs : Causes) (v : Verdict) (x : Transition) → In x (made (refuse cs v)) → NoneStands cs × In x (made v)
 refuse_made [] v x h = (tt, h)
 refuse_made (c ∷ cs) v x h = go c.0 c.1 (refuse cs v) (refuse_made cs v x) h
   where

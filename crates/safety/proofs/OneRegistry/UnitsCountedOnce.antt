@@ -134,7 +134,7 @@ initiator_new a told new h e =
     subst (λ b. initiator_row (Stands b) (Notified Proposed) ≡ Move new) m.0 (subst (λ w. initiator_row (Stands a) (Notified w) ≡ Move new) t h) in
     cc (r)
 
-acquirer_new : (a told new : Status) → acquirer_row (Stands a) (Notified told) ≡ Move new → new ≡ Proposed → ⊥
+pub acquirer_new : (a told new : Status) → acquirer_row (Stands a) (Notified told) ≡ Move new → new ≡ Proposed → ⊥
 acquirer_new a told new h e =
     let m = acquirer_from a told new h in
     elim m.2 [
@@ -142,7 +142,7 @@ acquirer_new a told new h e =
       | inr x ↦ let y : Proposed ≡ Cancelled = sym e ∙ m.1 ∙ x in cc (y)
     ]
 
-arrived_quiet : (found : List ℕ) → (same_status (arrived_status found) Completed ≡ false) × (arrived_status found ≡ Proposed → ⊥)
+pub arrived_quiet : (found : List ℕ) → (same_status (arrived_status found) Completed ≡ false) × (arrived_status found ≡ Proposed → ⊥)
 arrived_quiet [] = (refl, λ e. cc (e))
 arrived_quiet (n ∷ ns) = (refl, λ e. cc (e))
 
@@ -166,12 +166,12 @@ start_once : (b : Bool) → cond b 1 0 + 0 ≤ 0 + 1
 start_once true = omega arith
 start_once false = omega arith
 
-and_second : (a b : Bool) → (a && b) ≡ false → a ≡ true → b ≡ false
+pub and_second : (a b : Bool) → (a && b) ≡ false → a ≡ true → b ≡ false
 and_second true b h e = h
 and_second false b h e = absurd (cc (e))
 
 module _ (scheme : Scheme) (c : Code) (s : Serial) where
-  waits_older : (x : Transition) (xs : List Transition) (t : TransactionId) → (x.new ≡ Proposed → ⊥) → Waits c s (x ∷ xs) t → Waits c s xs t × (same_id x.id t ≡ false)
+  pub waits_older : (x : Transition) (xs : List Transition) (t : TransactionId) → (x.new ≡ Proposed → ⊥) → Waits c s (x ∷ xs) t → Waits c s xs t × (same_id x.id t ≡ false)
   waits_older x xs t other w =
       elim (newest_cons x xs t w.last w.is) [
         | inl e ↦ absurd (other (ap (λ (z : Transition). z.new) e.0 ∙ w.new))
@@ -179,7 +179,7 @@ module _ (scheme : Scheme) (c : Code) (s : Serial) where
       ]
 
   -- one that moves no unit and waits for none
-  quiet : (x : Transition) (xs : List Transition) → gives c s x ≡ false → credits c s x ≡ false → (x.new ≡ Proposed → ⊥) → Local scheme c s xs → Local scheme c s (x ∷ xs)
+  pub quiet : (x : Transition) (xs : List Transition) → gives c s x ≡ false → credits c s x ≡ false → (x.new ≡ Proposed → ⊥) → Local scheme c s xs → Local scheme c s (x ∷ xs)
   quiet x xs given credited other l =
       let o = count_no (gives c s) x xs given in
       let i = count_no (credits c s) x xs credited in
@@ -219,7 +219,7 @@ module _ (scheme : Scheme) (c : Code) (s : Serial) where
       }
 
   -- a transfer that waits makes its units reserved
-  reserved_waits : (xs : List Transition) (t : TransactionId) → Waits c s xs t → reserved c xs s ≡ true
+  pub reserved_waits : (xs : List Transition) (t : TransactionId) → Waits c s xs t → reserved c xs s ≡ true
   reserved_waits xs t w =
       let about = newest_id xs t w.last w.is in
       let own : same_code w.last.id.code c ≡ true = subst (λ (z : TransactionId). same_code z.code c ≡ true) (sym about.1) w.own in
@@ -230,7 +230,7 @@ module _ (scheme : Scheme) (c : Code) (s : Serial) where
       (and_from (same_code w.last.id.code c) (stands_at xs w.last.id Proposed && carries w.last s) own (and_from (stands_at xs w.last.id Proposed) (carries w.last s) stands w.has))
 
   -- a proposal of units that are held and not reserved
-  asked : (x : Transition) (xs : List Transition) → gives c s x ≡ false → credits c s x ≡ false → (carries x s ≡ true → (holds scheme c xs s ≡ true) × (reserved c xs s ≡ false))
+  pub asked : (x : Transition) (xs : List Transition) → gives c s x ≡ false → credits c s x ≡ false → (carries x s ≡ true → (holds scheme c xs s ≡ true) × (reserved c xs s ≡ false))
       → Local scheme c s xs → Local scheme c s (x ∷ xs)
   asked x xs given credited free l =
       let o = count_no (gives c s) x xs given in
@@ -264,7 +264,7 @@ module _ (scheme : Scheme) (c : Code) (s : Serial) where
       }
 
   -- one of a transfer that waits on, with the same content
-  again : (x q : Transition) (xs : List Transition) → gives c s x ≡ false → credits c s x ≡ false → newest xs x.id ≡ Some q → q.new ≡ Proposed → x.content ≡ q.content → Local scheme c s xs → Local scheme c s (x ∷ xs)
+  pub again : (x q : Transition) (xs : List Transition) → gives c s x ≡ false → credits c s x ≡ false → newest xs x.id ≡ Some q → q.new ≡ Proposed → x.content ≡ q.content → Local scheme c s xs → Local scheme c s (x ∷ xs)
   again x q xs given credited old stood same l =
       let o = count_no (gives c s) x xs given in
       let i = count_no (credits c s) x xs credited in
@@ -288,7 +288,7 @@ module _ (scheme : Scheme) (c : Code) (s : Serial) where
             | inr e ↦ record { last = w.last; is = e.0; new = w.new; own = w.own; has = w.has }
           ]
 
-  settled_move : (es : List Entry) (t : TransactionId) (told : Status) (moment : ℕ) (q : Transition) (new : Status) (messages : List Message) → newest (transitions_of es) t ≡ Some q
+  pub settled_move : (es : List Entry) (t : TransactionId) (told : Status) (moment : ℕ) (q : Transition) (new : Status) (messages : List Message) → newest (transitions_of es) t ≡ Some q
       → same_code t.code c ≡ true → initiator_row (Stands q.new) (Notified told) ≡ Move new → Local scheme c s (transitions_of es) → Local scheme c s (moved q new moment messages ∷ transitions_of es)
   settled_move es t told moment q new messages old own move l =
       let about = newest_id (transitions_of es) t q old in
@@ -304,13 +304,13 @@ module _ (scheme : Scheme) (c : Code) (s : Serial) where
         | inr n ↦ quiet (moved q new moment messages) (transitions_of es) n credited (initiator_new q.new told new move) l
       ]
 
-  free_content : (xs : List Transition) (k : Option Content) → has_serial k s ≡ true → holds_some scheme c xs k ≡ false → holds scheme c xs s ≡ false
+  pub free_content : (xs : List Transition) (k : Option Content) → has_serial k s ≡ true → holds_some scheme c xs k ≡ false → holds scheme c xs s ≡ false
   free_content xs None h e = absurd (cc (h))
   free_content xs (Some k) h e =
       let p = piece_of k.units s h in
       subst (λ z. holds scheme c xs z ≡ false) p.2 (list_any_none (λ (q : Piece). holds scheme c xs q.unit) (pieces k.units) p.0 e p.1)
 
-  finished_move : (es : List Entry) (t : TransactionId) (told : Status) (moment : ℕ) (q : Transition) (new : Status) → newest (transitions_of es) t ≡ Some q → same_code t.code c ≡ false
+  pub finished_move : (es : List Entry) (t : TransactionId) (told : Status) (moment : ℕ) (q : Transition) (new : Status) → newest (transitions_of es) t ≡ Some q → same_code t.code c ≡ false
       → acquirer_row (Stands q.new) (Notified told) ≡ Move new → (same_status new Completed && holds_some scheme c (transitions_of es) q.content) ≡ false
       → Local scheme c s (transitions_of es) → Local scheme c s (moved q new moment [] ∷ transitions_of es)
   finished_move es t told moment q new old foreign move none l =
@@ -327,7 +327,7 @@ module _ (scheme : Scheme) (c : Code) (s : Serial) where
         | inr n ↦ quiet (moved q new moment []) (transitions_of es) given n (acquirer_new q.new told new move) l
       ]
 
-  local_move : (es : List Entry) (input : Input) (x : Transition) → RegistryMove scheme c es input x → Local scheme c s (transitions_of es) → Local scheme c s (x ∷ transitions_of es)
+  pub local_move : (es : List Entry) (input : Input) (x : Transition) → RegistryMove scheme c es input x → Local scheme c s (transitions_of es) → Local scheme c s (x ∷ transitions_of es)
   local_move es input x (proposes o t none is fresh) l =
       let xs = transitions_of es in
       asked (proposed c t (content_of o)) xs refl refl

@@ -119,7 +119,7 @@ CodesRise ms = Pairwise (λ a b. code_cmp a.code b.code ≡ Less) ms
 pub codes_rise : (scheme : Scheme) → CodesRise scheme.members
 codes_rise scheme = scheme.sound.ordered
 
-other_member : (m : Member) (ms : List Member) → AllByRecursion (λ n. code_cmp m.code n.code ≡ Less) ms → (n : Member) → In n ms → m.code ≡ n.code → ⊥
+pub other_member : (m : Member) (ms : List Member) → AllByRecursion (λ n. code_cmp m.code n.code ≡ Less) ms → (n : Member) → In n ms → m.code ≡ n.code → ⊥
 other_member m [] rise n i e = absurd i
 other_member m (k ∷ ks) rise n (inl d) e =
     let lt = code_below m.code k.code rise.0 in
@@ -157,7 +157,7 @@ over_none [] = refl
 over_none (m ∷ ms) = let b = over_none ms in omega arith
 
 -- who holds a unit at the start is a registry of the scheme
-allotted_code : (c : Code) (shares : List Allotment) (s : Serial) (h : Holder) → start.allotted_in c shares s ≡ Some h → h.registry ≡ c
+pub allotted_code : (c : Code) (shares : List Allotment) (s : Serial) (h : Holder) → start.allotted_in c shares s ≡ Some h → h.registry ≡ c
 allotted_code c [] s h e = absurd (cc (e))
 allotted_code c (a ∷ rest) s h e = go (find (λ (b : Block). has_unit b.raw s) a.units) e (λ d. allotted_code c rest s h d)
   where
@@ -165,7 +165,7 @@ allotted_code c (a ∷ rest) s h e = go (find (λ (b : Block). has_unit b.raw s)
     go None d older = older d
     go (Some b) d older = let same : start.holder c a.account b.raw.kind ≡ h = cc (d) in sym (ap (λ (z : Holder). z.registry) same)
 
-holder_member : (ms : List Member) (s : Serial) (h : Holder) → start.allotted ms s ≡ Some h → (m : Member) × In m ms × (h.registry ≡ m.code)
+pub holder_member : (ms : List Member) (s : Serial) (h : Holder) → start.allotted ms s ≡ Some h → (m : Member) × In m ms × (h.registry ≡ m.code)
 holder_member [] s h e = absurd (cc (e))
 holder_member (m ∷ ms) s h e = go (start.allotted_in m.code m.allotted s) refl e (λ d. holder_member ms s h d)
   where

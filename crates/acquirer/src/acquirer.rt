@@ -231,15 +231,15 @@ impl Acquirer {
         &mut self,
         id: TransactionId,
         new: Status,
-        content: &Content,
+        content: Content,
     ) -> Result<(), NoMemory>
         requires { map.get self.old.transfers id ≡ None }
-        ensures ok { OnOk result ((self.new.code ≡ self.old.code) × ((t : TransactionId) → map.get self.new.transfers t ≡ (if same_id id t then Some (record { status = new; content = Some content.now }) else map.get self.old.transfers t))) }
+        ensures ok { OnOk result ((self.new.code ≡ self.old.code) × ((t : TransactionId) → map.get self.new.transfers t ≡ (if same_id id t then Some (record { status = new; content = Some content }) else map.get self.old.transfers t))) }
         ensures err { OnErr result (self.new ≡ self.old) }
     {
         let transfer = Transfer {
             status: new,
-            content: Some(content.copy()?),
+            content: Some(content),
         };
         put(&mut self.transfers, &mut self.awaited, id, transfer)
     }

@@ -23,7 +23,7 @@ use Rattle.lemmas.proofs.SomePass.{list_any_none}
 use Rattle.protocol.specs.Verdict.{made, verdict}
 use Rattle.std.proofs.lemmas.Bool.{or_parts}
 use Rattle.safety.proofs.OneRegistry.TransactionEnds.{own_code}
-use Rattle.safety.proofs.ListLemmas.UnitsOfBlocks.{piece_of_block, same_unit_refl}
+use Rattle.protocol.proofs.UnitsOfBlocks.{piece_of_block, same_unit_refl}
 use Rattle.protocol.specs.AtRegistry.{registry_answer, registry_refusals, registry_verdict}
 use Rattle.units.specs.Code.{same_code}
 

@@ -22,7 +22,7 @@ use Rattle.status.specs.Rows.{acquirer_row, initiator_row}
 use Rattle.std.proofs.lemmas.Bool.{and_parts, false_from_ne_true, not-false, cases_Bool, cond-false, cond-true}
 use Rattle.safety.proofs.OneRegistry.UnitsCountedOnce.{and_second, arrived_quiet, free_content}
 use Rattle.safety.proofs.MovesAndHistories.TransitionForms.{arrived, asking, bare, moved, proposed}
-use Rattle.safety.proofs.ListLemmas.CanonicalBlocks.{canonical_piece}
+use Rattle.protocol.proofs.CanonicalBlocks.{canonical_piece}
 use Rattle.protocol.specs.AtRegistry.{content_of, holding, holds_some, is_place}
 use Rattle.units.specs.Unit.{covers, have_unit}
 use Rattle.registry_core.proofs.StepsOfLots.{covers_raws}

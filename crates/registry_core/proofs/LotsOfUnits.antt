@@ -14,7 +14,7 @@ use Rattle.status.specs.declared.id.TransactionId.{TransactionId}
 use Rattle.safety.proofs.OneRegistry.UnitsCountedOnce.{Waits, reserved_waits}
 use Rattle.std.proofs.lemmas.Bool.{and_parts, cases_Bool, cond-false, cond-true, eq-eqb, eqb-true}
 use Rattle.std.specs.List.{count_by, list_any}
-use Rattle.safety.proofs.ListLemmas.CountsInLists.{count_no}
+use Rattle.protocol.proofs.CountsInLists.{count_no}
 use Rattle.units.specs.Unit.{has_unit}
 use Rattle.std.specs.Prelude.{is_some, option_map, find}
 use Rattle.registry_core.specs.Readings.{lot_at, lot_in, reserver, waits}

@@ -7,6 +7,7 @@ use Rattle.status.proofs.Ids.{id_of_same, same_id-refl}
 use Rattle.protocol.specs.Deciding.{known}
 use Rattle.std.specs.Prelude.{if◌then◌else◌, option_map}
 use Rattle.status.specs.Id.{same_id}
+use Rattle.registry_core.specs.Readings.{row_at}
 
 pub newest_here : (x : Transition) (xs : List Transition) → newest (x ∷ xs) x.id ≡ Some x
 newest_here x xs = cond-true (same_id x.id x.id) (Some x) (newest xs x.id) (same_id-refl x.id)
@@ -24,12 +25,9 @@ transitions_one e es x one = ap (λ xs. xs ++ transitions_of es) one
 -- ---- tables that keep the rows of some identifiers, read off the newest transitions
 
 module _ {R : Type 0} (keep : TransactionId → Bool) where
-  abbrev pub row_at : (TransactionId → Transition → R) → List Transition → TransactionId → Option R
-  row_at row xs t = cond (keep t) (option_map (row t) (newest xs t)) None
-
   module _ (row row' : TransactionId → Transition → R) (x : Transition) (xs : List Transition) (others : (t : TransactionId) → keep t ≡ true → same_id x.id t ≡ false → row' t ≡ row t) where
     -- a row of another identifier
-    row_there : (t : TransactionId) → same_id x.id t ≡ false → row_at row xs t ≡ row_at row' (x ∷ xs) t
+    row_there : (t : TransactionId) → same_id x.id t ≡ false → row_at keep row xs t ≡ row_at keep row' (x ∷ xs) t
     row_there t other =
         elim (cases_Bool (keep t)) [
           | inl y ↦
@@ -40,14 +38,14 @@ module _ {R : Type 0} (keep : TransactionId → Bool) where
           | inr n ↦ cond-false (keep t) (option_map (row t) (newest xs t)) None n ∙ sym (cond-false (keep t) (option_map (row' t) (newest (x ∷ xs) t)) None n)
         ]
 
-    row_here : (t : TransactionId) → keep x.id ≡ true → same_id x.id t ≡ true → Some (row' x.id x) ≡ row_at row' (x ∷ xs) t
+    row_here : (t : TransactionId) → keep x.id ≡ true → same_id x.id t ≡ true → Some (row' x.id x) ≡ row_at keep row' (x ∷ xs) t
     row_here t kept same =
-        subst (λ u. Some (row' x.id x) ≡ row_at row' (x ∷ xs) u) (id_of_same x.id t same)
+        subst (λ u. Some (row' x.id x) ≡ row_at keep row' (x ∷ xs) u) (id_of_same x.id t same)
         (sym (cond-true (keep x.id) (option_map (row' x.id) (newest (x ∷ xs) x.id)) None kept ∙ ap (option_map (row' x.id)) (newest_here x xs)))
 
     -- the transition's row is put in
-    pub row_put : (old new : TransactionId → Option R) → keep x.id ≡ true → ((t : TransactionId) → old t ≡ row_at row xs t)
-        → ((t : TransactionId) → new t ≡ (if same_id x.id t then Some (row' x.id x) else old t)) → (t : TransactionId) → new t ≡ row_at row' (x ∷ xs) t
+    pub row_put : (old new : TransactionId → Option R) → keep x.id ≡ true → ((t : TransactionId) → old t ≡ row_at keep row xs t)
+        → ((t : TransactionId) → new t ≡ (if same_id x.id t then Some (row' x.id x) else old t)) → (t : TransactionId) → new t ≡ row_at keep row' (x ∷ xs) t
     row_put old new kept was put t =
         elim (cases_Bool (same_id x.id t)) [
           | inl y ↦ put t ∙ cond-true (same_id x.id t) (Some (row' x.id x)) (old t) y ∙ row_here t kept y
@@ -55,8 +53,8 @@ module _ {R : Type 0} (keep : TransactionId → Bool) where
         ]
 
     -- the row of the transaction, which is known, is changed
-    pub row_changed : (change : R → R) (q : Transition) (old new : TransactionId → Option R) → keep x.id ≡ true → newest xs x.id ≡ Some q → row' x.id x ≡ change (row x.id q) → ((t : TransactionId) → old t ≡ row_at row xs t)
-        → ((t : TransactionId) → new t ≡ (if same_id x.id t then option_map change (old t) else old t)) → (t : TransactionId) → new t ≡ row_at row' (x ∷ xs) t
+    pub row_changed : (change : R → R) (q : Transition) (old new : TransactionId → Option R) → keep x.id ≡ true → newest xs x.id ≡ Some q → row' x.id x ≡ change (row x.id q) → ((t : TransactionId) → old t ≡ row_at keep row xs t)
+        → ((t : TransactionId) → new t ≡ (if same_id x.id t then option_map change (old t) else old t)) → (t : TransactionId) → new t ≡ row_at keep row' (x ∷ xs) t
     row_changed change q old new kept known changed was put =
         row_put old new kept was (λ t. put t ∙ (elim (cases_Bool (same_id x.id t)) [
           | inl y ↦
@@ -69,7 +67,7 @@ module _ {R : Type 0} (keep : TransactionId → Bool) where
         ]))
 
     -- a table that doesn't keep the transition's identifier stays as it is
-    pub row_kept : keep x.id ≡ false → (t : TransactionId) → row_at row xs t ≡ row_at row' (x ∷ xs) t
+    pub row_kept : keep x.id ≡ false → (t : TransactionId) → row_at keep row xs t ≡ row_at keep row' (x ∷ xs) t
     row_kept out t =
         elim (cases_Bool (same_id x.id t)) [
           | inl y ↦

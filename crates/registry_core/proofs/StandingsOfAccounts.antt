@@ -11,7 +11,7 @@ use Rattle.scheme.specs.declared.registries.Scheme.{Scheme}
 use Rattle.accounts.specs.declared.lot.Standing.{Standing}
 use Rattle.status.specs.declared.id.TransactionId.{TransactionId}
 use Rattle.std.proofs.lemmas.Bool.{cases_Bool, cond-false, cond-true, eq-eqb, eqb-false, eqb-true, ne_eqb}
-use Rattle.safety.proofs.ListLemmas.CountsInLists.{count_no, count_yes}
+use Rattle.protocol.proofs.CountsInLists.{count_no, count_yes}
 use Rattle.protocol.specs.Registries.{has_account}
 use Rattle.status.specs.Id.{same_id}
 use Rattle.registry_core.specs.Readings.{standing_at}

@@ -13,7 +13,7 @@ use Rattle.safety.proofs.OneRegistry.UnitsCountedOnce.{waits_older, Waits, free_
 use Rattle.lemmas.proofs.OneValue.{clash, one_some}
 use Rattle.std.proofs.lemmas.Bool.{ne_eqb, cond-false, cond-true, false_from_ne_true, and_from, and_left, and_right, cases_Bool, eq-eqb, eqb-false}
 use Rattle.std.specs.List.{count_by}
-use Rattle.safety.proofs.ListLemmas.CountsInLists.{count_no, count_yes}
+use Rattle.protocol.proofs.CountsInLists.{count_no, count_yes}
 use Rattle.status.proofs.Ids.{id_of_same, same_id-refl}
 use Rattle.accounts.specs.Holdings.{is_reserved_by, is_the, released, reserved as reserved_by, free_lot, kind_in}
 use Rattle.registry_core.specs.Readings.{lot_at, lot_in, reserver}

@@ -30,9 +30,9 @@ use Rattle.std.specs.Prelude.{find, is_some, option_map}
 use Rattle.protocol.specs.AtRegistry.{is_used, seen}
 use Rattle.lemmas.proofs.SomePass.{list_any_some, list_any_in}
 use Rattle.registry_core.specs.Readings.{lot_at, lot_in, reserver}
-use Rattle.safety.proofs.ListLemmas.CountsInLists.{number_some}
+use Rattle.protocol.proofs.CountsInLists.{number_some}
 use Rattle.std.specs.Option.{option_map_or, option_or}
-use Rattle.safety.proofs.ListLemmas.UnitsOfBlocks.{piece_of}
+use Rattle.protocol.proofs.UnitsOfBlocks.{piece_of}
 use Rattle.units.specs.Code.{same_code}
 use Rattle.status.specs.Status.{same_status}
 

@@ -1,1 +1,4 @@
 pub mod Readings
+pub mod Kept
+pub mod Effects
+pub mod Registry

@@ -1,2 +1,5 @@
 //! A registry.
 #![tactic(auto)]
+
+mod effect;
+mod tables;

@@ -19,7 +19,11 @@ on_err (Ok x) P Q p f = tt
 on_err (Err e) P Q p f = f p
 
 pub returns-clause-ok : goal.returns-clause-ok
-returns-clause-ok c = on_ok c.put.result _ _ c.put.ensures.ok (λ h. (ap (λ a. a.code) c.self.view_is, λ t. changed_at (λ _. Some (record { status = c.args.new; content = Some c.in_ok-copy.field-0 })) (same_id c.args.id t) c.put.new.transfers c.self.inside.transfers c.args.self.now.transfers t (ap (λ a. a.transfers) c.self.view_is) (h t) ∙ ap (λ k. cond (same_id c.args.id t) (Some (record { status = c.args.new; content = Some k })) (get c.args.self.now.transfers t)) c.in_ok-copy.ensures))
+returns-clause-ok c =
+    on_ok c.put.result _ _ c.put.ensures.ok (λ h. (
+      ap (λ a. a.code) c.self.view_is,
+      λ t. changed_at (λ _. Some (record { status = c.args.new; content = Some c.args.content })) (same_id c.args.id t) c.put.new.transfers c.self.inside.transfers c.args.self.now.transfers t (ap (λ a. a.transfers) c.self.view_is) (h t),
+    ))
 
 pub returns-clause-err : goal.returns-clause-err
 returns-clause-err c = on_err c.put.result _ _ c.put.ensures.err (λ h. ap (λ m. record { code = c.self.inside.code; transfers = m }) (same_by_id c.put.new.transfers c.self.inside.transfers (λ t. ap (lookup (λ k. is_eq (id_cmp t k))) h)) ∙ c.self.view_is)

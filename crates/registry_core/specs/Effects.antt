@@ -39,6 +39,11 @@ IsEffect c es (Received (message.Notification n) moment) x (Complete id) = (n.id
 IsEffect c es (Received (message.Notification n) moment) x (Cancel id) = (n.id ≡ id) × (x.new ≡ Cancelled) × (is_foreign c id ≡ true) × (is_known (transitions_of es) id ≡ true)
 IsEffect c es _ x _ = ⊥
 
+-- what an offer asks for may be reserved
+abbrev pub IsReservable : Effect → Held → Type 0
+IsReservable (Open offer) held = (blocks : List Block) → raws blocks ≡ offer.content.units → MayReserve held offer.content.account blocks
+IsReservable _ held = Unit {0}
+
 -- what an effect may be carried out on
 abbrev pub MayCarry : Effect → Initiating → Acquiring → Held → Type 0
 MayCarry (Open offer) i a held = (map.get i.transfers offer.id ≡ None) × ((blocks : List Block) → raws blocks ≡ offer.content.units → MayReserve held offer.content.account blocks)

@@ -1,22 +1,6 @@
--- The codes of causes ascend, as the causes do.
-use Rattle.std.proofs.Common.{◌≡◌, ℕ, ◌+◌, ◌≤◌, List, [], ◌∷◌, ◌++◌, Bool, true, false, refl, sym, ap, ◌∙◌, arith, append_assoc}
-use Rattle.wire.specs.Codes.{Ascends, AreAcquirerCodes}
+-- The codes of causes, noted one after another.
+use Rattle.std.proofs.Common.{◌≡◌, ℕ, List, [], ◌∷◌, ◌++◌, Bool, true, false, refl, sym, ap, ◌∙◌, append_assoc}
 use Rattle.protocol.specs.Checks.{Causes, codes_of}
-
--- codes that ascend from a higher number
-later : (f g l : ℕ) (cs : List ℕ) → f ≤ g → Ascends g l cs → Ascends f l cs
-later f g l [] le h = tt
-later f g l (c ∷ cs) le h = let low = h.0.0 in ((omega (arith, le, low), h.0.1), h.1)
-
--- a cause before the others
-pub ascends_more : (b : Bool) (f n l : ℕ) (xs : Causes) → f ≤ n → n ≤ l → Ascends (n + 1) l (codes_of xs) → Ascends f l (codes_of ((b, n) ∷ xs))
-ascends_more true f n l xs low high rest = ((low, high), rest)
-ascends_more false f n l xs low high rest = later f (n + 1) l (codes_of xs) (omega (arith, low)) rest
-
--- codes that are none of an acquirer's lists
-pub no_acquirer_codes : (cs : List ℕ) → Ascends 301 304 cs → (AreAcquirerCodes cs → ⊥) → [] ≡ cs
-no_acquirer_codes [] h no' = refl
-no_acquirer_codes (c ∷ cs) h no' = absurd (no' (omega arith, h))
 
 codes_append : (xs ys : Causes) → codes_of (xs ++ ys) ≡ codes_of xs ++ codes_of ys
 codes_append [] ys = refl

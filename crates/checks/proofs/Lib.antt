@@ -7,3 +7,4 @@ pub mod CodesInOrder
 pub mod FoundUnits
 pub mod MarkedUnits
 pub mod LogCauses
+pub mod CanonicalLengths

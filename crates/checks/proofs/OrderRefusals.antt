@@ -1,5 +1,5 @@
 -- The first cause of an order's refusal, found part by part.
-use Rattle.std.proofs.Common.{◌≡◌, ℕ, ◌+◌, ◌<◌, [], ◌∷◌, ◌++◌, Bool, true, false, true≢false, Option, Some, None, is_none, refl, ◌∙◌, arith}
+use Rattle.std.proofs.Common.{◌≡◌, ℕ, ◌+◌, ◌<◌, [], ◌∷◌, ◌++◌, Bool, true, false, true≢false, Some, None, is_none, refl, ◌∙◌, arith}
 use Rattle.std.specs.Prelude.{nat_le}
 use Rattle.std.proofs.lemmas.Bool.{and_right, lt-leb}
 use Rattle.units.specs.Limits.{last_transaction}
@@ -25,9 +25,6 @@ module _ (scheme : Scheme) (c : Code) (known : Holding) (last : ℕ) (o : Order)
   abbrev of_receiver : Causes
   of_receiver = receiver_refusals scheme c o
 
-  abbrev Shows : Option ℕ → Type 0
-  Shows code = first_of (order_refusals scheme c known last o) ≡ code
-
   past_blocks : first_of (block_refusals o.units) ≡ None → first_of (order_refusals scheme c known last o) ≡ first_of (of_holding ++ (of_receiver ++ number_refusals c last))
   past_blocks none = first_beyond (block_refusals o.units) (of_holding ++ (of_receiver ++ number_refusals c last)) none
 
@@ -36,9 +33,6 @@ module _ (scheme : Scheme) (c : Code) (known : Holding) (last : ℕ) (o : Order)
 
   past_receiver : first_of (block_refusals o.units) ≡ None → first_of of_holding ≡ None → first_of of_receiver ≡ None → first_of (order_refusals scheme c known last o) ≡ first_of (number_refusals c last)
   past_receiver none held goes = past_holding none held ∙ first_beyond of_receiver (number_refusals c last) goes
-
-  pub in_blocks : (n : ℕ) → first_of (block_refusals o.units) ≡ Some n → first_of (order_refusals scheme c known last o) ≡ Some n
-  in_blocks n e = first_within (block_refusals o.units) (of_holding ++ (of_receiver ++ number_refusals c last)) n e
 
   pub in_holding : (n : ℕ) → first_of (block_refusals o.units) ≡ None → first_of (holding_refusals scheme c known o.account o.units) ≡ Some n → first_of (order_refusals scheme c known last o) ≡ Some n
   in_holding n none e = past_blocks none ∙ first_within of_holding (of_receiver ++ number_refusals c last) n e

@@ -5,8 +5,8 @@ ghost use Rattle.protocol.specs.Pieces.{pieces, repeats};
 
 use units::{Block, overlaps};
 
-/// Whether a unit is there twice.
-pub(crate) fn has_repeats(blocks: &[Block]) -> bool
+/// Whether a unit is in two of the blocks, whatever their kinds. Takes no memory.
+pub fn has_repeats(blocks: &[Block]) -> bool
     ensures { result ≡ repeats (pieces (raws blocks.now)) }
 {
     overlaps(blocks)

@@ -1,13 +1,14 @@
 //! The checks of an order to transfer units out of a registry.
-ghost use Rattle.std.specs.Prelude.{◌≡◌, ◌⊎◌, ◌+◌, ◌==◌, ◌||◌, not, true, false, List, Some, None, length, nat_lt, IfOk, IfErr, OnOk};
+ghost use Rattle.std.specs.Prelude.{◌≡◌, ◌⊎◌, ◌+◌, ◌==◌, ◌||◌, not, true, false, List, Some, None, length, nat_lt, IfOk, IfErr, OnOk, IfSome, IfNone};
 ghost use Rattle.std.specs.List.{list_any};
-ghost use Rattle.units.specs.Code.{same_code};
+ghost use Rattle.units.specs.Canonical.{canonical};
 ghost use Rattle.units.specs.Limits.{most_blocks, last_account};
 ghost use Rattle.units.specs.RefusalCodes.{out_of_memory, block_out_of_range};
 ghost use Rattle.units.specs.declared.block.Block.{Block};
 ghost use Rattle.units.specs.declared.code.Code.{Code};
 ghost use Rattle.scheme.specs.declared.registries.Scheme.{Scheme};
 ghost use Rattle.status.specs.Content.{raws};
+ghost use Rattle.status.specs.Facts.{IsAccountNumber};
 ghost use Rattle.status.specs.Id.{id_at};
 ghost use Rattle.accounts.specs.Refusals.{MayReserve};
 ghost use Rattle.protocol.specs.AtRegistry.{content_of};
@@ -150,21 +151,29 @@ fn order_blocks(alloc: Global, order: &Order) -> Result<Vec<Block>, Refusal>
     checked_blocks(alloc, order.units())
 }
 
+// What the order offers, with the units in canonical form. An order that passes its checks offers something where its
+// account has a number that an account can have.
+fn offered(order: &Order, units: Vec<Block>) -> Option<Content>
+    requires { raws units.items ≡ canonical order.now.units }
+    ensures some { IfSome result (λ c. c ≡ content_of order.now) }
+    ensures none { (scheme : Scheme) (code : Code) → IfNone result (first_of (block_refusals order.now.units) ≡ None → first_of (receiver_refusals scheme code order.now) ≡ None → IsAccountNumber order.now.account → ⊥) }
+{
+    Content::new(
+        order.account(),
+        order.to_registry(),
+        order.to_account(),
+        Items::from_vec(units),
+    )
+}
+
 // What the order offers, with the order's blocks.
 fn content_of(alloc: Global, order: &Order, blocks: &[Block]) -> Result<Content, NoMemory>
     requires { raws blocks.now ≡ order.now.units }
     ensures { IfOk result (λ c. c ≡ content_of order.now) }
 {
-    let units = Items::from_vec(canonical(alloc, blocks)?);
-    match Content::new(
-        order.account(),
-        order.to_registry(),
-        order.to_account(),
-        units,
-    ) {
-        Some(content) => Ok(content),
-        None => Err(NoMemory),
-    }
+    let units = canonical(alloc, blocks)?;
+    // no scheme that is read lists an account whose number is out of range
+    offered(order, units).ok_or(NoMemory)
 }
 
 /// Checks an order to transfer units out of the registry of that code, with `last` transaction numbers given before.
@@ -173,7 +182,8 @@ fn content_of(alloc: Global, order: &Order, blocks: &[Block]) -> Result<Content,
 /// unit is in two blocks; `ACCOUNT_NOT_OPEN`: the account is unknown or closed; `UNIT_NOT_HELD`: a unit isn't held in the
 /// account with its block's kind; `UNIT_RESERVED`: a unit is reserved; `NO_SUCH_ACQUIRER`: the acquiring registry is
 /// unknown, or is this one; `ACCOUNT_OUT_OF_RANGE`: no account can have the number of the receiving one;
-/// `TRANSACTIONS_USED_UP`: no number is left; `OUT_OF_MEMORY`.
+/// `TRANSACTIONS_USED_UP`: no number is left; `OUT_OF_MEMORY`, also where the registry lists the account under a number
+/// that no account can have, as it does in no scheme that is read.
 pub fn propose_check(
     alloc: Global,
     scheme: &Scheme,

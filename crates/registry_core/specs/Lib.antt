@@ -2,3 +2,4 @@ pub mod Readings
 pub mod Kept
 pub mod Effects
 pub mod Registry
+pub mod Taking

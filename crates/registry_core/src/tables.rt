@@ -1,5 +1,5 @@
 //! A registry's journal and tables.
-ghost use Rattle.std.specs.Prelude.{◌≡◌, ◌⊎◌, ◌×◌, true, false, nat_le, length, [], ◌∷◌, IfOk, IfErr, OnOk};
+ghost use Rattle.std.specs.Prelude.{◌≡◌, ◌⊎◌, true, false, nat_le, length, [], ◌∷◌, IfOk, IfErr, OnOk};
 ghost use Rattle.units.specs.RefusalCodes.{journal_full, out_of_memory};
 ghost use Rattle.protocol.specs.Deciding.{enters};
 ghost use Rattle.protocol.specs.History.{Transition};
@@ -37,7 +37,7 @@ impl Tables {
     // A copy of the input, for which the journal has room. Refused with `JOURNAL_FULL` where it has as many records as the scheme
     // allows, and with `OUT_OF_MEMORY`.
     fn fitting(&self, scheme: &Scheme, input: &Input) -> Result<Input, Refusal>
-        ensures copy { IfOk result (λ record. record ≡ input.now) }
+        ensures copy { IfOk result (λ i. i ≡ input.now) }
         ensures ok { OnOk result (nat_le scheme.now.records (length self.now.journal.items) ≡ false) }
         ensures err { IfErr result (λ r. (r.code ≡ out_of_memory) ⊎ ((r.code ≡ journal_full) × (nat_le scheme.now.records (length self.now.journal.items) ≡ true))) }
     {
@@ -62,7 +62,9 @@ impl Tables {
         ensures { Takes scheme.now code self.old self.new input.now result }
     {
         let record = self.fitting(scheme, input)?;
-        self.journal.reserve(1)?;
+        if self.journal.reserve(1).is_err() {
+            return Err(Refusal::NO_MEMORY);
+        }
         self.outbox.record(messages.into_vec())?;
         let done = carry_out(
             &mut self.initiator,
@@ -99,7 +101,9 @@ impl Tables {
             return Ok(Stepped::Repeat);
         }
         let record = self.fitting(scheme, input)?;
-        self.journal.reserve(1)?;
+        if self.journal.reserve(1).is_err() {
+            return Err(Refusal::NO_MEMORY);
+        }
         self.outbox.acknowledge(key)?;
         let place = self.journal.len();
         self.journal.push_reserved(record);
@@ -121,7 +125,9 @@ impl Tables {
     {
         self.holdings.may_open(account.value)?;
         let record = self.fitting(scheme, input)?;
-        self.journal.reserve(1)?;
+        if self.journal.reserve(1).is_err() {
+            return Err(Refusal::NO_MEMORY);
+        }
         self.outbox.record(Vec::new(alloc))?;
         if let Err(refused) = self.holdings.open_account(account.value) {
             self.outbox.take_back();
@@ -148,7 +154,9 @@ impl Tables {
         self.holdings.may_close(account.value)?;
         self.acquirer.may_close(account.value)?;
         let record = self.fitting(scheme, input)?;
-        self.journal.reserve(1)?;
+        if self.journal.reserve(1).is_err() {
+            return Err(Refusal::NO_MEMORY);
+        }
         self.outbox.record(Vec::new(alloc))?;
         if let Err(refused) = self.holdings.close_account(account.value) {
             self.outbox.take_back();

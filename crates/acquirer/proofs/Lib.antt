@@ -1,4 +1,3 @@
-pub mod OrderedMaps
 pub mod Tables
 pub mod AwaitedTransfers
 pub mod PlacesInOrder

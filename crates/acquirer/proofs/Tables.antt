@@ -3,8 +3,8 @@ use Rattle.std.proofs.Common.{◌≡◌, Bool, true, false, cond, Option, Some, 
 use Rattle.std.specs.BTreeMap as tree
 use Rattle.std.specs.BTreeMap.{BTreeMap}
 use Rattle.std.specs.FinMap.{FinMap, get}
-use Rattle.std.specs.Prelude.{◌||◌, List, [], ◌∷◌, option_map, find}
-use Rattle.units.specs.Unit.{has_unit, have_unit, covers}
+use Rattle.std.specs.Prelude.{List, [], ◌∷◌, option_map, find}
+use Rattle.units.specs.Unit.{has_unit}
 use Rattle.units.specs.declared.block.Block.{Block}
 use Rattle.units.specs.declared.block.Kind.{Kind}
 use Rattle.units.specs.declared.block.RawBlock.{RawBlock}
@@ -16,7 +16,7 @@ use Rattle.status.specs.Id.{id_cmp}
 use Rattle.status.specs.declared.id.TransactionId.{TransactionId}
 use Rattle.acquirer.specs.Transfers.{by_id}
 use Rattle.acquirer.specs.declared.transfer.Transfer.{Transfer}
-use Rattle.acquirer.proofs.OrderedMaps.{get_entries, same_entries}
+use Rattle.lemmas.proofs.OrderedMaps.{get_entries, same_entries}
 
 pub get_by_id : (m : BTreeMap TransactionId Transfer) (t : TransactionId) → get (by_id m) t ≡ tree.get id_cmp m t
 unfolding by_id
@@ -35,15 +35,6 @@ seen m v e t = ap (λ w. get w t) (sym e) ∙ get_by_id m t
 pub changed_at : (f : Option Transfer → Option Transfer) (b : Bool) (a m : BTreeMap TransactionId Transfer) (v : FinMap id_cmp Transfer) (t : TransactionId) → by_id m ≡ v
     → tree.get id_cmp a t ≡ cond b (f (tree.get id_cmp m t)) (tree.get id_cmp m t) → get (by_id a) t ≡ cond b (f (get v t)) (get v t)
 changed_at f b a m v t e h = get_by_id a t ∙ h ∙ ap (λ o. cond b (f o) o) (sym (seen m v e t))
-
--- ---- the units of blocks
-
-pub covered : (blocks : List Block) (units : List RawBlock) (s : Serial) → raws blocks ≡ units → covers blocks s ≡ have_unit units s
-covered blocks units s e = go blocks ∙ ap (λ l. have_unit l s) e
-  where
-    go : (bs : List Block) → covers bs s ≡ have_unit (raws bs) s
-    go [] = refl
-    go (b ∷ bs) = ap (λ r. has_unit b.raw s || r) (go bs)
 
 -- the kind that the first of them gives a unit
 kind_at : List RawBlock → Serial → Option Kind

@@ -5,3 +5,4 @@ pub mod SomePass
 pub mod Comparisons
 pub mod NoRepeats
 pub mod Permutations
+pub mod OrderedMaps

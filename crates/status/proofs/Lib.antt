@@ -2,3 +2,4 @@ pub mod Ids
 pub mod Contents
 pub mod Orders
 pub mod IdOrder
+pub mod UnitsOfContents

@@ -1,5 +1,4 @@
-use Rattle.std.proofs.Common.{cond, Some, sym, ap, ◌∙◌}
-use Rattle.std.specs.FinMap.{get}
+use Rattle.std.proofs.Common.{Some, sym, ap, ◌∙◌}
 use Rattle.std.specs.Map.{lookup}
 use Rattle.std.specs.Ordering.{is_eq}
 use Rattle.std.specs.Prelude.{Result, Ok, Err, OnErr, OnOk}

@@ -2,10 +2,11 @@ use Rattle.std.proofs.Common.{◌≡◌, Some, None, sym, ap, ◌∙◌}
 use Rattle.std.specs.FinMap.{get}
 use Rattle.std.specs.Option.{option_map, option_or}
 use Rattle.accounts.specs.Holdings.{free_lot, kind_in}
+use Rattle.status.proofs.UnitsOfContents.{covered}
 use Rattle.status.specs.Id.{same_id}
 use Rattle.status.specs.declared.words.Status.TheVariants as words
 use Rattle.acquirer.specs.Transfers.{finished}
-use Rattle.acquirer.proofs.Tables.{changed_at, covered, same_kinds}
+use Rattle.acquirer.proofs.Tables.{changed_at, same_kinds}
 use Rattle.acquirer.proofs.acquirer.Acquirer.complete.Goals as goal
 use Rattle.acquirer.proofs.acquirer.Acquirer.complete.Goals.{in-Some+in_ok-credit, in_default}
 

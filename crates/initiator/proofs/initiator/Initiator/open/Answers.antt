@@ -4,9 +4,10 @@ use Rattle.std.specs.Map.{lookup}
 use Rattle.std.specs.Option.{option_map}
 use Rattle.std.specs.Prelude.{Result, Ok, Err, OnErr}
 use Rattle.std.specs.Ordering.{is_eq}
+use Rattle.status.proofs.UnitsOfContents.{covered}
 use Rattle.status.specs.Id.{same_id, id_cmp}
 use Rattle.initiator.specs.Transfers.{opened}
-use Rattle.initiator.proofs.Tables.{changed_at, same_by_id, same_again, seen, covered}
+use Rattle.initiator.proofs.Tables.{changed_at, same_by_id, same_again, seen}
 use Rattle.accounts.specs.Holdings.{reserved}
 use Rattle.accounts.specs.Refusals.{MayReserve}
 use Rattle.initiator.proofs.Reserving.{only_memory}

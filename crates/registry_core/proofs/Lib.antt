@@ -15,3 +15,4 @@ pub mod ApartContents
 pub mod RequestedTransfers
 pub mod FirstRefusals
 pub mod AccountVerdicts
+pub mod TablesSayHistory

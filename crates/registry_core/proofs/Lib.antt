@@ -16,3 +16,4 @@ pub mod RequestedTransfers
 pub mod FirstRefusals
 pub mod AccountVerdicts
 pub mod TablesSayHistory
+pub mod EffectsMayBe

@@ -17,3 +17,4 @@ pub mod FirstRefusals
 pub mod AccountVerdicts
 pub mod TablesSayHistory
 pub mod EffectsMayBe
+pub mod KeptByMoves

@@ -15,3 +15,6 @@ pub mod ApartContents
 pub mod RequestedTransfers
 pub mod FirstRefusals
 pub mod AccountVerdicts
+pub mod TablesSayHistory
+pub mod EffectsMayBe
+pub mod KeptByMoves

@@ -1,5 +1,5 @@
 -- The newest transition of each transaction after one more, for tables with a row for each identifier.
-use Rattle.std.proofs.Common.{Bool, List, None, Option, Some, [], ap, cond, false, inl, inr, subst, sym, true, ◌++◌, ◌∙◌, ◌∷◌, ◌≡◌}
+use Rattle.std.proofs.Common.{Bool, List, None, Option, Some, [], ap, false, inl, inr, subst, sym, true, ◌++◌, ◌∙◌, ◌∷◌, ◌≡◌}
 use Rattle.protocol.specs.History.{Entry, Transition, newest, transitions_of}
 use Rattle.status.specs.declared.id.TransactionId.{TransactionId}
 use Rattle.std.proofs.lemmas.Bool.{cases_Bool, cond-false, cond-true}

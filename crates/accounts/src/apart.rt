@@ -1,5 +1,5 @@
 //! Blocks that share no unit.
-ghost use Rattle.std.specs.Prelude.{◌≡◌, ℕ, map, IfOk};
+ghost use Rattle.std.specs.Prelude.{◌≡◌, map, IfOk};
 ghost use Rattle.units.specs.Apart.{AllApart};
 ghost use Rattle.units.specs.Canonical.{interval_of};
 ghost use Rattle.units.specs.Facts.{IsRange};

@@ -1,5 +1,5 @@
 -- Walks over the spans of several blocks in turn.
-use Rattle.std.proofs.Common.{◌≡◌, inl, inr, ℕ, ◌+◌, ◌<◌, List, [], ◌∷◌, ◌++◌, length, get_or, take, Bool, true, false, true≢false, ◌||◌, cond, Option, Some, None, IsSome, refl, sym, ap, ◌∙◌, subst}
+use Rattle.std.proofs.Common.{◌≡◌, inl, inr, ℕ, ◌+◌, ◌<◌, List, [], ◌∷◌, ◌++◌, length, get_or, take, Bool, true, false, true≢false, ◌||◌, cond, Option, Some, None, refl, sym, ap, ◌∙◌, subst}
 use Rattle.std.specs.BTreeMap.{BTreeMap, IsOrdered, get}
 use Rattle.std.specs.List.{list_any}
 use Rattle.std.specs.Option.{option_and_then}
@@ -40,9 +40,6 @@ module _ {M : Type 0} where
     pub means : (f : Serial → Option M) → Mean (get unit_cmp old) f → Mean (get unit_cmp now) f
     pub seams : (q : Serial) → IsSeam (get unit_cmp now) q → IsSeam (get unit_cmp old) q × (reached blocks q ≡ false)
 
-  pub along_none : (m : BTreeMap Serial (Span M)) → AreParted (get unit_cmp m) → IsOrdered unit_cmp m → JoinedAlong [] m m
-  along_none m parted ordered = record { parted = parted; ordered = ordered; means = λ f mean. mean; seams = λ q seam. (seam, refl) }
-
   pub along_more : (blocks : List Block) (i : ℕ) (b : Block) (old now new : BTreeMap Serial (Span M)) (from to : Serial) → i < length blocks → b ≡ get_or blocks i b → from ≡ first_unit b.raw → to ≡ end_unit b.raw
       → JoinedAlong (take i blocks) old now → AreParted (get unit_cmp new) → IsOrdered unit_cmp new → ((f : Serial → Option M) → Mean (get unit_cmp now) f → Mean (get unit_cmp new) f)
       → ((q : Serial) → IsSeam (get unit_cmp new) q → IsSeam (get unit_cmp now) q × (is_between from to q ≡ false)) → JoinedAlong (take (i + 1) blocks) old new
@@ -61,10 +58,6 @@ module _ {M : Type 0} where
   pub changed_gives : (R : M → Option M → Type 0) (after : M → Option M) → ((m : M) (r : Option M) → R m r → r ≡ after m) → (o n : Option (Span M)) → IsChanged R o n → n ≡ respanned after o
   changed_gives R after gives None n changed = changed
   changed_gives R after gives (Some s) n changed = changed.2 ∙ ap (remarked s) (gives s.mark changed.0 changed.1)
-
-  pub changed_out : (R : M → Option M → Type 0) (o n : Option (Span M)) → (IsSome o → ⊥) → n ≡ o → IsChanged R o n
-  changed_out R None n none e = e
-  changed_out R (Some s) n none e = absurd (none refl)
 
   pub changed_same : (R : M → Option M → Type 0) (s : Span M) (o n : Option (Span M)) → IsChanged R o n → o ≡ Some s → ((r : Option M) → R s.mark r → r ≡ Some s.mark) → n ≡ Some s
   changed_same R s None n changed e only = absurd (none_held s e)
@@ -109,17 +102,6 @@ module _ {M : Type 0} where
     pub reshaped : AreReshaped (get unit_cmp old) (get unit_cmp now)
     pub fewer : ((m r : M) → R m (Some r) → r ≡ m) → (q : Serial) (t : Span M) → get unit_cmp now q ≡ Some t → get unit_cmp old q ≡ Some t
     pub outside : (q : Serial) → covers blocks q ≡ false → get unit_cmp now q ≡ get unit_cmp old q
-
-  pub change_none : (R : M → Option M → Type 0) (m : BTreeMap Serial (Span M)) → AreParted (get unit_cmp m) → IsOrdered unit_cmp m → ChangedAlong R [] m m
-  change_none R m parted ordered = record {
-    parted = parted;
-    ordered = ordered;
-    changed = λ after gives again q. refl;
-    same = λ q s e only. e;
-    reshaped = λ q t e. (t, e, refl);
-    fewer = λ only q t e. e;
-    outside = λ q out. refl;
-  }
 
   pub change_more : (R : M → Option M → Type 0) (blocks : List Block) (i : ℕ) (b : Block) (old now new : BTreeMap Serial (Span M)) (from to : Serial) → i < length blocks → b ≡ get_or blocks i b → from ≡ first_unit b.raw → to ≡ unit_numbered b.raw b.raw.last
       → ChangedAlong R (take i blocks) old now → AreParted (get unit_cmp new) → IsOrdered unit_cmp new

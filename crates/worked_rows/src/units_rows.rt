@@ -138,10 +138,11 @@ fn marks_of_units(rt: HostRuntime) -> Result<(), Fail> {
     let mut kinds = UnitMap::new(rt.alloc());
     kinds.set(&block, Some(Kind::Aau))?;
     assert_eq!(rt; kinds.get(&unit), Some(Kind::Aau));
-    kinds.remark(|_| Kind::Cer);
-    assert!(rt; kinds.has_mark(|kind| kind == Kind::Cer));
-    assert_eq!(rt; kinds.count_where(|kind| kind == Kind::Aau), 0);
-    kinds.retain(|kind| kind == Kind::Aau);
+    kinds.set(&nz(Kind::Cer, 4, 6)?, Some(Kind::Cer))?;
+    assert_eq!(rt; kinds.count_where(|kind| kind == Kind::Aau), 7);
+    assert!(rt; kinds.has_some_of(&block, |kind| kind == Kind::Cer));
+    assert_eq!(rt; kinds.pieces().len(), 3);
+    kinds.set(&block, None)?;
     assert_eq!(rt; kinds.get(&unit), None);
     Ok(())
 }

@@ -1,5 +1,5 @@
 //! Marks that change, and intervals that are taken out, which takes no memory.
-ghost use Rattle.std.specs.Prelude.{◌≡◌, ◌≤◌, ◌+◌, Option, Some, None, IsSome, IfSome, IfNone, true, false, if◌then◌else◌};
+ghost use Rattle.std.specs.Prelude.{◌≡◌, ◌≤◌, ◌+◌, Option, Some, None, true, false, if◌then◌else◌};
 ghost use Rattle.std.specs.Option.{option_and_then};
 ghost use Rattle.std.specs.BTreeMap as tree;
 ghost use Rattle.std.specs.BTreeMap.{IsOrdered};
@@ -14,17 +14,6 @@ use super::cutting::overwrite;
 use super::finding::{is_past, next};
 use crate::block::{Block, Unit};
 use std::collections::BTreeMap;
-
-// The first units of the first and of the last interval.
-pub(super) fn ends<M>(spans: &BTreeMap<Unit, Span<M>>) -> Option<(Unit, Unit)>
-    ensures all { IfSome result (λ e. (q : Serial) → IsSome (tree.get unit_cmp spans.now q) → is_between e.0 e.1 q ≡ true) }
-    ensures there { IfSome result (λ e. IsSome (tree.get unit_cmp spans.now e.0)) }
-    ensures none { IfNone result ((q : Serial) → tree.get unit_cmp spans.now q ≡ None) }
-{
-    let (first, _) = spans.first_key_value()?;
-    let (last, _) = spans.last_key_value()?;
-    Some((*first, *last))
-}
 
 // Gives an interval that is there the mark, or takes it out.
 fn respan<M: Copy>(spans: &mut BTreeMap<Unit, Span<M>>, at: Unit, span: Span<M>, mark: Option<M>)
@@ -92,22 +81,5 @@ pub(super) fn change_in<M: Copy, F: Fn(M) -> Option<M>>(
             block.unit(block.raw.last),
             &change,
         );
-    }
-}
-
-// Gives each interval the mark that becomes of its own, or takes it out.
-pub(super) fn change_all<M: Copy, F: Fn(M) -> Option<M>>(
-    spans: &mut BTreeMap<Unit, Span<M>>,
-    change: F,
-)
-    requires callable { F.IsAlwaysCallable change }
-    requires parted { AreParted (tree.get unit_cmp spans.old) }
-    requires ordered { IsOrdered unit_cmp spans.old }
-    ensures changed { (q : Serial) → IsChanged (F.post change) (tree.get unit_cmp spans.old q) (tree.get unit_cmp spans.new q) }
-    ensures parted { AreParted (tree.get unit_cmp spans.new) }
-    ensures ordered { IsOrdered unit_cmp spans.new }
-{
-    if let Some((from, to)) = ends(spans) {
-        change_between(spans, from, to, &change);
     }
 }

@@ -1,7 +1,7 @@
 -- What holdings keep beside their lots stays in step with them through each change.
 -- Each call is seen unit by unit (`OneUnit`); the counts follow by `Counts.counts_add`, where a list of blocks counts as the map from units to
 -- kinds that it means.
-use Rattle.std.proofs.Common.{◌≡◌, ℕ, ◌+◌, ◌-◌, ◌^◌, ◌<◌, ◌≤◌, List, [], ◌∷◌, ◌++◌, Bool, true, false, ◌&&◌, ◌||◌, true≢false, cond, eqb, Option, Some, None, IsSome, is_some, refl, sym, ap, ◌∙◌, subst, arith, inl, inr}
+use Rattle.std.proofs.Common.{◌≡◌, ◌⊎◌, ℕ, ◌+◌, ◌-◌, ◌^◌, ◌<◌, ◌≤◌, List, [], ◌∷◌, ◌++◌, Bool, true, false, ◌&&◌, ◌||◌, true≢false, cond, eqb, Option, Some, None, IsSome, is_some, refl, sym, ap, ◌∙◌, subst, arith, inl, inr}
 use Rattle.std.specs.BTreeMap as tree
 use Rattle.std.specs.BTreeMap.{BTreeMap}
 use Rattle.std.specs.FinMap.{FinMap, get}
@@ -23,7 +23,7 @@ use Rattle.units.proofs.Walking.{number_of}
 use Rattle.status.specs.Id.{id_cmp, same_id}
 use Rattle.status.specs.declared.id.TransactionId.{TransactionId}
 use Rattle.status.proofs.Ids.{id_of_same, same_id-refl}
-use Rattle.accounts.specs.Holdings.{is_free_in, kind_in, released}
+use Rattle.accounts.specs.Holdings.{is_free_in, is_reserved_by, kind_in, released}
 use Rattle.accounts.specs.Tables.{blocks_in, shares_in, free_in, held_in, held_at, free_at, with_units, with_fewer_free, with_more_free, with_fewer, units_in, share_of, blocks_of, shares_of, lot_in, Lots, is_in, is_share, reserves, IsListed, AreInRange, AreInStep}
 use Rattle.accounts.specs.declared.account.Account.{Account}
 use Rattle.accounts.specs.declared.lot.Lot.{Lot}
@@ -88,6 +88,13 @@ fewer_free m None = refl
 fewer_free m (Some a) = refl
 
 module _ (accounts : BTreeMap ℕ Account) (lots : Lots) (res : BTreeMap TransactionId Reservation) (id : TransactionId) (kept : AreInStep accounts lots res) where
+  -- a unit that is held is reserved by others or by none, or is in the blocks
+  pub reserved_in_blocks : (s : Serial) (lot : Lot) → get lots s ≡ Some lot → (is_reserved_by id lot ≡ false) ⊎ (covers (blocks_of res id) s ≡ true)
+  reserved_in_blocks s lot e = elim (cases_Bool (is_reserved_by id lot)) [
+    | inl yes' ↦ inr (sym ((kept.listed id).exact s) ∙ ap (reserves id) e ∙ yes')
+    | inr no' ↦ inl no'
+  ]
+
   -- no account has fewer units than the transaction reserves of it
   pub share_held : (n : ℕ) → share_of (shares_of res id) n ≤ held_at accounts n
   share_held n =

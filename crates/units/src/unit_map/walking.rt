@@ -1,12 +1,11 @@
 //! Marks that change, and intervals that are taken out, which takes no memory.
-ghost use Rattle.std.specs.Prelude.{◌≡◌, ◌≤◌, ◌+◌, Option, Some, None, true, false, if◌then◌else◌};
-ghost use Rattle.std.specs.Option.{option_and_then};
+ghost use Rattle.std.specs.Prelude.{◌≡◌, ◌≤◌, ◌+◌, Option, Some, None, true, false};
 ghost use Rattle.std.specs.BTreeMap as tree;
 ghost use Rattle.std.specs.BTreeMap.{IsOrdered};
 ghost use Rattle.units.specs.Keys.{unit_cmp};
 ghost use Rattle.units.specs.Limits.{last_unit};
-ghost use Rattle.units.specs.Spans.{AreParted, AreReshaped, IsChanged, Puts, is_between, remarked, respanned};
-ghost use Rattle.units.specs.Unit.{covers};
+ghost use Rattle.units.specs.SpanSteps.{AreChangedIn};
+ghost use Rattle.units.specs.Spans.{AreParted, IsChanged, Puts, is_between, remarked};
 ghost use Rattle.units.specs.declared.block.Unit.{Unit as Serial};
 
 use super::Span;
@@ -65,14 +64,7 @@ pub(super) fn change_in<M: Copy, F: Fn(M) -> Option<M>>(
     requires callable { F.IsAlwaysCallable change }
     requires parted { AreParted (tree.get unit_cmp spans.old) }
     requires ordered { IsOrdered unit_cmp spans.old }
-    ensures changed { (after : M → Option M) → ((m : M) (r : Option M) → F.post change m r → r ≡ after m) → ((m : M) → option_and_then after (after m) ≡ after m)
-        → (q : Serial) → tree.get unit_cmp spans.new q ≡ (if covers blocks.now q then respanned after (tree.get unit_cmp spans.old q) else tree.get unit_cmp spans.old q) }
-    ensures same { (q : Serial) (s : Span M) → tree.get unit_cmp spans.old q ≡ Some s → ((r : Option M) → F.post change s.mark r → r ≡ Some s.mark) → tree.get unit_cmp spans.new q ≡ Some s }
-    ensures reshaped { AreReshaped (tree.get unit_cmp spans.old) (tree.get unit_cmp spans.new) }
-    ensures fewer { ((m r : M) → F.post change m (Some r) → r ≡ m) → (q : Serial) (t : Span M) → tree.get unit_cmp spans.new q ≡ Some t → tree.get unit_cmp spans.old q ≡ Some t }
-    ensures outside { (q : Serial) → covers blocks.now q ≡ false → tree.get unit_cmp spans.new q ≡ tree.get unit_cmp spans.old q }
-    ensures parted { AreParted (tree.get unit_cmp spans.new) }
-    ensures ordered { IsOrdered unit_cmp spans.new }
+    ensures { AreChangedIn (F.post change) blocks.now spans.old spans.new }
 {
     for block in blocks {
         change_between(

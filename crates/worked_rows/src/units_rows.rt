@@ -51,7 +51,7 @@ fn a_list_and_its_copy(rt: HostRuntime) -> Result<(), Fail> {
     let list = Items::from_vec(vec![in alloc; 3u64, 1, 2]?);
     let copy = list.copy()?;
     assert_eq!(rt; list.as_slice(), [3, 1, 2].as_slice());
-    assert_eq!(rt; copy.as_slice(), [3, 1, 2].as_slice());
+    assert_eq!(rt; copy.into_vec().as_slice(), [3, 1, 2].as_slice());
     let none: Items<u64> = Items::new(alloc);
     assert_eq!(rt; none.as_slice().len(), 0);
     Ok(())

@@ -3,7 +3,7 @@ use Rattle.std.proofs.Common.{◌≡◌, ◌≢◌, ℕ, ◌<◌, List, Bool, tr
 use Rattle.std.specs.FinMap.{FinMap, get, get-entries, entries, entries_sorted}
 use Rattle.std.specs.Option.{option_map}
 use Rattle.std.proofs.lemmas.Bool.{and_parts, and_from, eqb-true}
-use Rattle.std.proofs.lemmas.Option.{none-some, same_Some}
+use Rattle.std.proofs.lemmas.Option.{same_Some}
 use denote.Enum.Bare.{sameb, true_same}
 use Rattle.units.specs.contracts.block.Kind as kind
 use Rattle.units.specs.Keys.{unit_cmp}
@@ -15,25 +15,20 @@ use Rattle.status.specs.declared.id.TransactionId.{TransactionId}
 use Rattle.accounts.specs.Holdings.{Held}
 use Rattle.accounts.specs.Refusals.{IsHeldAs, AreHeld, IsReserved, HasUnits}
 use Rattle.accounts.specs.declared.lot.Lot.{Lot}
+use Rattle.units.proofs.BlockLists.{kind_from, passed}
 use Rattle.units.proofs.UnitKeys.{units_total, exact_units}
 use Rattle.accounts.specs.Tables.{is_in}
 use Rattle.accounts.proofs.Blocks.{covered}
 use Rattle.accounts.proofs.Counts.{count_of, some_counted, counted_some}
-use Rattle.accounts.proofs.Same.{kind_of_same}
-
--- a mark that passes
-pub passing : {A : Type 0} (p : A → Bool) (o : Option A) → option_map p o ≡ Some true → (x : A) × (o ≡ Some x) × (p x ≡ true)
-passing p None e = absurd (none-some true e)
-passing p (Some x) e = (x, refl, same_Some (p x) true e)
 
 abbrev pub is_held_as : ℕ → Kind → Lot → Bool
 is_held_as account k lot = eqb lot.account account && sameb kind.the_type lot.kind k
 
 pub held_as : (held : Held) (account : ℕ) (k : Kind) (s : Serial) → option_map (is_held_as account k) (get held.lots s) ≡ Some true → IsHeldAs held account k s
 held_as held account k s e =
-    let h = passing (is_held_as account k) (get held.lots s) e in
+    let h = passed (is_held_as account k) (get held.lots s) e in
     let two = and_parts (eqb h.0.account account) (sameb kind.the_type h.0.kind k) h.2 in
-    record { lot = h.0; is = h.1; account_is = eqb-true h.0.account account two.0; kind_is = kind_of_same h.0.kind k two.1 }
+    record { lot = h.0; is = h.1; account_is = eqb-true h.0.account account two.0; kind_is = kind_from h.0.kind k two.1 }
 
 passes_held : (held : Held) (account : ℕ) (k : Kind) (s : Serial) → IsHeldAs held account k s → option_map (is_held_as account k) (get held.lots s) ≡ Some true
 passes_held held account k s h =

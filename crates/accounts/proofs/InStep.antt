@@ -1,7 +1,7 @@
 -- What holdings keep beside their lots stays in step with them through each change.
 -- Each call is seen unit by unit (`OneUnit`); the counts follow by `Counts.counts_add`, where a list of blocks counts as the map from units to
 -- kinds that it means.
-use Rattle.std.proofs.Common.{◌≡◌, ℕ, ◌+◌, ◌-◌, ◌^◌, ◌<◌, ◌≤◌, List, [], ◌∷◌, ◌++◌, Bool, true, false, ◌&&◌, ◌||◌, true≢false, cond, eqb, Option, Some, None, IsSome, is_some, refl, sym, ap, ◌∙◌, subst, arith, inl, inr}
+use Rattle.std.proofs.Common.{◌≡◌, ◌⊎◌, ℕ, ◌+◌, ◌-◌, ◌^◌, ◌<◌, ◌≤◌, List, [], ◌∷◌, ◌++◌, Bool, true, false, ◌&&◌, ◌||◌, true≢false, cond, eqb, Option, Some, None, IsSome, is_some, refl, sym, ap, ◌∙◌, subst, arith, inl, inr}
 use Rattle.std.specs.BTreeMap as tree
 use Rattle.std.specs.BTreeMap.{BTreeMap}
 use Rattle.std.specs.FinMap.{FinMap, get}
@@ -23,7 +23,8 @@ use Rattle.units.proofs.Walking.{number_of}
 use Rattle.status.specs.Id.{id_cmp, same_id}
 use Rattle.status.specs.declared.id.TransactionId.{TransactionId}
 use Rattle.status.proofs.Ids.{id_of_same, same_id-refl}
-use Rattle.accounts.specs.Holdings.{is_free_in, kind_in, released}
+use Rattle.accounts.specs.Holdings.{is_free_in, is_reserved_by, kind_in, released}
+use Rattle.accounts.specs.Reservations.{AreGiven}
 use Rattle.accounts.specs.Tables.{blocks_in, shares_in, free_in, held_in, held_at, free_at, with_units, with_fewer_free, with_more_free, with_fewer, units_in, share_of, blocks_of, shares_of, lot_in, Lots, is_in, is_share, reserves, IsListed, AreInRange, AreInStep}
 use Rattle.accounts.specs.declared.account.Account.{Account}
 use Rattle.accounts.specs.declared.lot.Lot.{Lot}
@@ -88,6 +89,13 @@ fewer_free m None = refl
 fewer_free m (Some a) = refl
 
 module _ (accounts : BTreeMap ℕ Account) (lots : Lots) (res : BTreeMap TransactionId Reservation) (id : TransactionId) (kept : AreInStep accounts lots res) where
+  -- a unit that is held is reserved by others or by none, or is in the blocks
+  pub reserved_in_blocks : (s : Serial) (lot : Lot) → get lots s ≡ Some lot → (is_reserved_by id lot ≡ false) ⊎ (covers (blocks_of res id) s ≡ true)
+  reserved_in_blocks s lot e = elim (cases_Bool (is_reserved_by id lot)) [
+    | inl yes' ↦ inr (sym ((kept.listed id).exact s) ∙ ap (reserves id) e ∙ yes')
+    | inr no' ↦ inl no'
+  ]
+
   -- no account has fewer units than the transaction reserves of it
   pub share_held : (n : ℕ) → share_of (shares_of res id) n ≤ held_at accounts n
   share_held n =
@@ -320,11 +328,7 @@ module _ (accounts : BTreeMap ℕ Account) (lots : Lots) (res : BTreeMap Transac
       | Some kind ↦ λ k i. true≢false (sym h ∙ sym ((kept.listed id).exact s) ∙ ap (reserves id) (free s kind k))
     ] refl (kind_covered blocks s ∙ e)
 
-    module _ (longer : Reservation) (res' : BTreeMap TransactionId Reservation) (put_in : (q : TransactionId) → tree.get id_cmp res' q ≡ cond (same_id id q) (Some longer) (tree.get id_cmp res q))
-        (blocks_are : longer.blocks.items ≡ blocks_of res id ++ blocks) (shares_are : longer.shares.items ≡ shares_of res id ++ record { account = a; count = units_in blocks } ∷ []) where
-      at_id : tree.get id_cmp res' id ≡ Some longer
-      at_id = put_in id ∙ ap (λ t. cond t (Some longer) (tree.get id_cmp res id)) (same_id-refl id)
-
+    module _ (res' : BTreeMap TransactionId Reservation) (given : AreGiven id (blocks_of res id ++ blocks) (shares_of res id ++ record { account = a; count = units_in blocks } ∷ []) res res') where
       listed_here : Reserved → AreFree → IsListed lots' id (blocks_of res' id) (shares_of res' id)
       listed_here changed free = record {
         exact = λ s.
@@ -334,12 +338,12 @@ module _ (accounts : BTreeMap ℕ Account) (lots : Lots) (res : BTreeMap Transac
             ∙ ap (λ t. t || is_some (kind_in blocks s)) ((kept.listed id).exact s)
             ∙ ap (λ t. covers (blocks_of res id) s || t) (kind_covered blocks s)
             ∙ sym (list_any-append (λ (b : Block). has_unit b.raw s) (blocks_of res id) blocks)
-            ∙ ap (λ bs. covers bs s) (sym (ap blocks_in at_id ∙ blocks_are));
-        apart = subst AllApart (sym (ap blocks_in at_id ∙ blocks_are)) (apart_append (blocks_of res id) blocks (kept.listed id).apart apart (not_both free));
+            ∙ ap (λ bs. covers bs s) (sym given.blocks_are);
+        apart = subst AllApart (sym given.blocks_are) (apart_append (blocks_of res id) blocks (kept.listed id).apart apart (not_both free));
         shared = λ n.
             let share : Share = record { account = a; count = units_in blocks } in
             let f = λ (x : Share). cond (eqb x.account n) x.count 0 in
-            let all = ap (λ ss. share_of ss n) (ap shares_in at_id ∙ shares_are) ∙ sum_by-append f (shares_of res id) (share ∷ []) in
+            let all = ap (λ ss. share_of ss n) given.shares_are ∙ sum_by-append f (shares_of res id) (share ∷ []) in
             let one = sum_by-cons f share [] in
             let before = (kept.listed id).shared n in
             let after = share_reserved changed free n id ∙ ap (λ t. count (is_share n id) lots + cond (eqb a n && t) (units_in blocks) 0) (same_id-refl id) ∙ ap (λ t. count (is_share n id) lots + cond t (units_in blocks) 0) (with_true (eqb a n)) in
@@ -352,7 +356,7 @@ module _ (accounts : BTreeMap ℕ Account) (lots : Lots) (res : BTreeMap Transac
 
       listed_other : Reserved → AreFree → (q : TransactionId) → same_id id q ≡ false → IsListed lots' q (blocks_of res' q) (shares_of res' q)
       listed_other changed free q other =
-          let at = put_in q ∙ ap (λ t. cond t (Some longer) (tree.get id_cmp res q)) other in
+          let at = given.others q other in
           record {
             exact = λ s.
                 ap (reserves q) (changed s)
@@ -394,20 +398,30 @@ module _ (accounts : BTreeMap ℕ Account) (lots : Lots) (res : BTreeMap Transac
         in_range = range_put (Some id) changed;
       }
 
--- the same reservations, in another table
-pub kept_same : (accounts : BTreeMap ℕ Account) (lots lots' : Lots) (res res' : BTreeMap TransactionId Reservation) → AreInStep accounts lots res → lots' ≡ lots → ((q : TransactionId) → tree.get id_cmp res' q ≡ tree.get id_cmp res q) → AreInStep accounts lots' res'
-kept_same accounts lots lots' res res' kept e same' =
+-- a table in which each transaction reserves the same
+pub kept_same : (accounts : BTreeMap ℕ Account) (lots lots' : Lots) (res res' : BTreeMap TransactionId Reservation) (id : TransactionId) → AreInStep accounts lots res → lots' ≡ lots → AreGiven id (blocks_of res id) (shares_of res id) res res' → AreInStep accounts lots' res'
+kept_same accounts lots lots' res res' id kept e given =
     subst (λ m. AreInStep accounts m res') (sym e) (record {
       counted = kept.counted;
-      listed = λ q.
-          let at = same' q in
-          record {
-            exact = λ s. (kept.listed q).exact s ∙ ap (λ o. covers (blocks_in o) s) (sym at);
-            apart = subst (λ o. AllApart (blocks_in o)) (sym at) (kept.listed q).apart;
-            shared = λ n. ap (λ o. share_of (shares_in o) n) at ∙ (kept.listed q).shared n;
-          };
+      listed = λ q. record {
+        exact = λ s. (kept.listed q).exact s ∙ ap (λ bs. covers bs s) (sym (blocks q));
+        apart = subst AllApart (sym (blocks q)) (kept.listed q).apart;
+        shared = λ n. ap (λ ss. share_of ss n) (shares q) ∙ (kept.listed q).shared n;
+      };
       in_range = kept.in_range;
     })
+  where
+    blocks : (q : TransactionId) → blocks_of res' q ≡ blocks_of res q
+    blocks q = elim (cases_Bool (same_id id q)) [
+      | inl yes' ↦ subst (λ x. blocks_of res' x ≡ blocks_of res x) (id_of_same id q yes') given.blocks_are
+      | inr no' ↦ ap blocks_in (given.others q no')
+    ]
+
+    shares : (q : TransactionId) → shares_of res' q ≡ shares_of res q
+    shares q = elim (cases_Bool (same_id id q)) [
+      | inl yes' ↦ subst (λ x. shares_of res' x ≡ shares_of res x) (id_of_same id q yes') given.shares_are
+      | inr no' ↦ ap shares_in (given.others q no')
+    ]
 
 -- a transaction that reserves nothing
 module _ (accounts : BTreeMap ℕ Account) (lots : Lots) (res : BTreeMap TransactionId Reservation) (id : TransactionId) (kept : AreInStep accounts lots res) (none : tree.get id_cmp res id ≡ None) where
@@ -415,20 +429,15 @@ module _ (accounts : BTreeMap ℕ Account) (lots : Lots) (res : BTreeMap Transac
   none_reserved s = (kept.listed id).exact s ∙ ap (λ o. covers (blocks_in o) s) none
 
   pub kept_none : (res' : BTreeMap TransactionId Reservation) → ((q : TransactionId) → tree.get id_cmp res' q ≡ cond (same_id id q) None (tree.get id_cmp res q)) → AreInStep accounts lots res'
-  kept_none res' gone = kept_same accounts lots lots res res' kept refl (λ q. gone q ∙ (elim (cases_Bool (same_id id q)) [
-    | inl yes' ↦ rw yes' (sym (ap (tree.get id_cmp res) (sym (id_of_same id q yes')) ∙ none))
-    | inr no' ↦ rw no' refl
-  ]))
+  kept_none res' gone = kept_same accounts lots lots res res' id kept refl (record {
+    blocks_are = ap blocks_in (gone id ∙ ap (λ t. cond t None (tree.get id_cmp res id)) (same_id-refl id) ∙ sym none);
+    shares_are = ap shares_in (gone id ∙ ap (λ t. cond t None (tree.get id_cmp res id)) (same_id-refl id) ∙ sym none);
+    others = λ q other. gone q ∙ ap (λ t. cond t None (tree.get id_cmp res q)) other;
+  })
 
--- what was put for a transaction and taken back
-pub put_back_same : (res res' res'' : BTreeMap TransactionId Reservation) (id : TransactionId) (longer : Reservation) (before : Option Reservation) → before ≡ tree.get id_cmp res id
-    → ((q : TransactionId) → tree.get id_cmp res' q ≡ cond (same_id id q) (Some longer) (tree.get id_cmp res q))
-    → ((q : TransactionId) → tree.get id_cmp res'' q ≡ cond (same_id id q) before (tree.get id_cmp res' q))
-    → (q : TransactionId) → tree.get id_cmp res'' q ≡ tree.get id_cmp res q
-put_back_same res res' res'' id longer before was put' back q = back q ∙ (elim (cases_Bool (same_id id q)) [
-  | inl yes' ↦ rw yes' (was ∙ ap (tree.get id_cmp res) (id_of_same id q yes'))
-  | inr no' ↦ rw no' (put' q ∙ ap (λ t. cond t (Some longer) (tree.get id_cmp res q)) no')
-])
+-- what was added for a transaction and taken back
+pub taken_back : (res res' res'' : BTreeMap TransactionId Reservation) (id : TransactionId) (blocks : List Block) (shares : List Share) → AreGiven id blocks shares res res' → AreGiven id (blocks_of res id) (shares_of res id) res' res'' → AreGiven id (blocks_of res id) (shares_of res id) res res''
+taken_back res res' res'' id blocks shares given back = record { blocks_are = back.blocks_are; shares_are = back.shares_are; others = λ q other. back.others q other ∙ given.others q other }
 
 -- nothing held, nothing reserved
 pub kept_empty : (accounts : BTreeMap ℕ Account) (lots : Lots) (res : BTreeMap TransactionId Reservation) → ((n : ℕ) → (held_at accounts n ≡ 0) × (free_at accounts n ≡ 0)) → ((s : Serial) → get lots s ≡ None) → ((q : TransactionId) → tree.get id_cmp res q ≡ None) → AreInStep accounts lots res

@@ -2,16 +2,13 @@
 use Rattle.std.proofs.Common.{◌≡◌, Bool, true, true≢false, ◌&&◌, eqb, Option, Some, None, refl, sym, ap, eq-eqb}
 use Rattle.std.specs.Option.{option_eq}
 use Rattle.std.proofs.lemmas.Bool.{and_parts, and_from, eqb-true}
-use denote.Enum.Bare.{sameb, same_true, true_same}
+use denote.Enum.Bare.{sameb, true_same}
 use Rattle.units.specs.contracts.block.Kind as kind
-use Rattle.units.specs.declared.block.Kind.{Kind}
+use Rattle.units.proofs.BlockLists.{kind_from}
 use Rattle.status.specs.Id.{same_id}
 use Rattle.status.proofs.Ids.{id_of_same, same_id-refl}
 use Rattle.status.specs.declared.id.TransactionId.{TransactionId}
 use Rattle.accounts.specs.declared.lot.Lot.{Lot}
-
-pub kind_of_same : (a b : Kind) → sameb kind.the_type a b ≡ true → a ≡ b
-kind_of_same a b e = same_true kind.the_type tt a b e
 
 pub reserving_of_same : (a b : Option TransactionId) → option_eq same_id a b ≡ true → a ≡ b
 reserving_of_same None None e = refl
@@ -31,7 +28,7 @@ lot_of_same a b e =
     let h = and_parts (eqb a.account b.account) _ e in
     let k = and_parts (sameb kind.the_type a.kind b.kind) (option_eq same_id a.reserving b.reserving) h.1 in
     let accounts = eqb-true a.account b.account h.0 in
-    let kinds = kind_of_same a.kind b.kind k.0 in
+    let kinds = kind_from a.kind b.kind k.0 in
     let reservings = reserving_of_same a.reserving b.reserving k.1 in
     λ i. record { account = accounts i; kind = kinds i; reserving = reservings i }
 

@@ -4,3 +4,4 @@ pub mod Lines
 pub mod Accounts
 pub mod Coding
 pub mod Tables
+pub mod Reservations

@@ -1,44 +1,14 @@
 //! Blocks that share no unit.
-ghost use Rattle.std.specs.Prelude.{◌≡◌, ℕ, map, IfOk};
+ghost use Rattle.std.specs.Prelude.{◌≡◌, IfOk};
 ghost use Rattle.units.specs.Apart.{AllApart};
-ghost use Rattle.units.specs.Canonical.{interval_of};
-ghost use Rattle.units.specs.Facts.{IsRange};
-ghost use Rattle.units.specs.Intervals.{AreKept};
 ghost use Rattle.units.specs.Unit.{covers};
 ghost use Rattle.units.specs.declared.block.Block.{Block};
 ghost use Rattle.units.specs.declared.block.Unit.{Unit as Serial};
 ghost use Rattle.accounts.specs.Refusals.{IsUnitOf};
 ghost use Rattle.accounts.specs.Tables.{units_in};
 
-use std::alloc::{AllocError, Global};
-use units::{Block, Interval, Kind, NoMemory, RawBlock, UnitMap};
-
-// The block of the interval's units.
-fn block_of(interval: &Interval<Kind>) -> Block
-    requires { IsRange interval.now.first interval.now.last }
-    ensures { interval_of result ≡ interval.now }
-{
-    let raw = RawBlock {
-        origin: interval.origin,
-        period: interval.period,
-        kind: interval.mark,
-        first: interval.first,
-        last: interval.last,
-    };
-    Block { raw }
-}
-
-// The blocks of the intervals.
-fn blocks_of(alloc: Global, intervals: &[Interval<Kind>]) -> Result<Vec<Block>, AllocError>
-    requires { AreKept intervals.now }
-    ensures { IfOk result (λ v. map interval_of v.items ≡ intervals.now) }
-{
-    let mut blocks = Vec::new(alloc);
-    for interval in intervals {
-        blocks.push(block_of(interval))?;
-    }
-    Ok(blocks)
-}
+use std::alloc::Global;
+use units::{Block, NoMemory, UnitMap, blocks_of};
 
 /// Blocks that share no unit and have the units of these. Each of their units is of the kind of one of these.
 pub(crate) fn apart(alloc: Global, blocks: &[Block]) -> Result<Vec<Block>, NoMemory>

@@ -23,7 +23,7 @@ use crate::account::{
 use crate::apart::{apart, count};
 use crate::lines::lines;
 use crate::lot::{Line, Lot, Standing};
-use crate::reservation::{Reservation, Share, extended, put, put_back, take};
+use crate::reservation::{Reservation, Share, extend, shorten, take};
 use status::TransactionId;
 use std::alloc::Global;
 use std::collections::BTreeMap;
@@ -217,10 +217,9 @@ impl Holdings {
             account,
             count: count(&parts),
         };
-        let longer = extended(self.alloc, &self.reservations, id, &parts, share)?;
-        let before = put(&mut self.reservations, id, longer)?;
+        extend(self.alloc, &mut self.reservations, id, &parts, share)?;
         if let Err(refused) = set_lots(&mut self.lots, account, &parts, Some(id)) {
-            put_back(&mut self.reservations, id, before);
+            shorten(&mut self.reservations, id, &parts);
             return Err(refused.into());
         }
         reserve(&mut self.accounts, account, share.count);

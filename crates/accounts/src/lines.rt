@@ -6,23 +6,16 @@ ghost use Rattle.accounts.specs.Lines.{lot_interval};
 
 use crate::lot::{Line, Lot};
 use std::alloc::{AllocError, Global};
-use units::{Block, Interval, RawBlock};
+use units::Interval;
 
 // The interval as a line.
 fn line(interval: &Interval<Lot>) -> Line
     requires { IsRange interval.now.first interval.now.last }
     ensures { lot_interval result ≡ interval.now }
 {
-    let raw = RawBlock {
-        origin: interval.origin,
-        period: interval.period,
-        kind: interval.mark.kind,
-        first: interval.first,
-        last: interval.last,
-    };
     Line {
         account: interval.mark.account,
-        block: Block { raw },
+        block: interval.block(interval.mark.kind),
         reserving: interval.mark.reserving,
     }
 }

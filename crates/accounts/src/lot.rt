@@ -1,5 +1,4 @@
 //! What a unit is held as.
-ghost use Rattle.std.specs.Prelude.{◌≡◌};
 
 use status::TransactionId;
 use units::{Block, Kind, Mark};

@@ -1,6 +1,9 @@
 //! What transactions reserve.
 ghost use Rattle.std.specs.BTreeMap as tree;
-ghost use Rattle.std.specs.Prelude.{◌≡◌, ◌∷◌, [], ◌++◌, Option, Some, None, IfOk, OnOk, OnErr, IsSome, if◌then◌else◌};
+ghost use Rattle.std.specs.Prelude.{◌≡◌, ◌-◌, List, ◌∷◌, [], ◌++◌, length, take, None, OnOk, OnErr, if◌then◌else◌};
+ghost use Rattle.units.specs.declared.block.Block.{Block};
+ghost use Rattle.accounts.specs.declared.reservation.Share.{Share};
+ghost use Rattle.accounts.specs.Reservations.{AreGiven};
 ghost use Rattle.accounts.specs.Tables.{blocks_of, shares_of};
 ghost use Rattle.status.specs.Id.{id_cmp, same_id};
 ghost use Rattle.status.specs.declared.id.TransactionId.{TransactionId};
@@ -25,54 +28,49 @@ pub(crate) struct Reservation {
 }
 
 impl Reservation {
-    // An equal one, with more blocks and one more share.
-    fn with(&self, alloc: Global, blocks: &[Block], share: Share) -> Result<Reservation, NoMemory>
-        ensures blocks { IfOk result (λ r. r.blocks.items ≡ self.now.blocks.items ++ blocks.now) }
-        ensures shares { IfOk result (λ r. r.shares.items ≡ self.now.shares.items ++ share ∷ []) }
+    // More blocks and one more share. After `NoMemory` nothing has changed.
+    fn extend(&mut self, blocks: &[Block], share: Share) -> Result<(), NoMemory>
+        ensures ok { OnOk result ((self.new.blocks.items ≡ self.old.blocks.items ++ blocks.now) × (self.new.shares.items ≡ self.old.shares.items ++ share ∷ [])) }
+        ensures err { OnErr result ((self.new.blocks.items ≡ self.old.blocks.items) × (self.new.shares.items ≡ self.old.shares.items)) }
     {
-        let mut all = Vec::from_slice(alloc, &self.blocks)?;
-        all.extend_from_slice(blocks)?;
-        let mut shares = Vec::from_slice(alloc, &self.shares)?;
-        shares.push(share)?;
-        Ok(Reservation {
-            blocks: all,
-            shares,
-        })
+        self.shares.reserve(1)?;
+        self.blocks.extend_from_slice(blocks)?;
+        self.shares.push_reserved(share);
+        Ok(())
+    }
+
+    // Without its last blocks, as many as that, and without its last share.
+    fn shorten(&mut self, count: usize)
+        ensures blocks { self.new.blocks.items ≡ take (length self.old.blocks.items - count) self.old.blocks.items }
+        ensures shares { self.new.shares.items ≡ take (length self.old.shares.items - 1) self.old.shares.items }
+    {
+        self.blocks
+            .truncate(self.blocks.len().saturating_sub(count));
+        self.shares.pop();
     }
 }
 
-/// What the transaction reserves, with more blocks and one more share.
-pub(crate) fn extended(
+/// Adds blocks and a share to what the transaction reserves, in its own lists. After `NoMemory` each transaction reserves what it did.
+pub(crate) fn extend(
     alloc: Global,
-    reservations: &BTreeMap<TransactionId, Reservation>,
+    reservations: &mut BTreeMap<TransactionId, Reservation>,
     id: TransactionId,
     blocks: &[Block],
     share: Share,
-) -> Result<Reservation, NoMemory>
-    ensures blocks { IfOk result (λ r. r.blocks.items ≡ blocks_of reservations.now id ++ blocks.now) }
-    ensures shares { IfOk result (λ r. r.shares.items ≡ shares_of reservations.now id ++ share ∷ []) }
+) -> Result<(), NoMemory>
+    ensures ok { OnOk result (AreGiven id (blocks_of reservations.old id ++ blocks.now) (shares_of reservations.old id ++ share ∷ []) reservations.old reservations.new) }
+    ensures err { OnErr result (AreGiven id (blocks_of reservations.old id) (shares_of reservations.old id) reservations.old reservations.new) }
 {
-    if let Some(reservation) = reservations.get(&id) {
-        return reservation.with(alloc, blocks, share);
+    if let Some(reservation) = reservations.get_mut(&id) {
+        return reservation.extend(blocks, share);
     }
-    let none = Reservation {
+    let mut reservation = Reservation {
         blocks: Vec::new(alloc),
         shares: Vec::new(alloc),
     };
-    none.with(alloc, blocks, share)
-}
-
-/// Gives the transaction a reservation, and returns the one that it had. After `NoMemory` nothing has changed.
-pub(crate) fn put(
-    reservations: &mut BTreeMap<TransactionId, Reservation>,
-    id: TransactionId,
-    reservation: Reservation,
-) -> Result<Option<Reservation>, NoMemory>
-    ensures before { IfOk result (λ before. before ≡ tree.get id_cmp reservations.old id) }
-    ensures ok { OnOk result ((q : TransactionId) → tree.get id_cmp reservations.new q ≡ (if same_id id q then Some reservation else tree.get id_cmp reservations.old q)) }
-    ensures err { OnErr result (reservations.new.entries ≡ reservations.old.entries) }
-{
-    Ok(reservations.insert(id, reservation)?)
+    reservation.extend(blocks, share)?;
+    reservations.insert(id, reservation)?;
+    Ok(())
 }
 
 /// Takes out what the transaction reserves, and returns it.
@@ -86,20 +84,15 @@ pub(crate) fn take(
     reservations.remove(&id)
 }
 
-/// Gives the transaction, which reserves something, what it reserved before.
-pub(crate) fn put_back(
+/// Takes the blocks and the share back that `extend` added last. Takes no memory.
+pub(crate) fn shorten(
     reservations: &mut BTreeMap<TransactionId, Reservation>,
     id: TransactionId,
-    before: Option<Reservation>,
+    blocks: &[Block],
 )
-    requires { IsSome (tree.get id_cmp reservations.old id) }
-    ensures { (q : TransactionId) → tree.get id_cmp reservations.new q ≡ (if same_id id q then before else tree.get id_cmp reservations.old q) }
+    ensures { (before : List Block) (earlier : List Share) (last : Share) → blocks_of reservations.old id ≡ before ++ blocks.now → shares_of reservations.old id ≡ earlier ++ last ∷ [] → AreGiven id before earlier reservations.old reservations.new }
 {
-    let Some(reservation) = before else {
-        reservations.remove(&id);
-        return;
-    };
-    if let Some(place) = reservations.get_mut(&id) {
-        *place = reservation;
+    if let Some(reservation) = reservations.get_mut(&id) {
+        reservation.shorten(blocks.len());
     }
 }

@@ -60,22 +60,12 @@ module _ (text f b l g : List ℕ) (e : text ≡ f ++ 45 ∷ b) (d : b ≡ l ++ 
       let u = subst (λ s. AreNumbers s x y k) whole t in
       never k (last_piece f l g x y k ff fl u).1
 
-  pub are_numbers : (x y : ℕ) (k : Kind) → IsNumberText f x → IsNumberText l y → g ≡ kind_text k → AreNumbers text x y k
-  are_numbers x y k p q r = record {
-    spelled = whole ∙ cc (p.0, q.0, r);
-    first_fits = p.1;
-    last_fits = q.1;
-  }
-
 -- the pieces that the two cuts of a block give
 origin_piece : (o b : List ℕ) (r : RawBlock) → IsFreeOf 58 o → IsRawText (o ++ 58 ∷ b) r → (o ≡ code_text r.origin) × (b ≡ period_text r.period ++ 58 ∷ numbers_text r.first r.last r.kind)
 origin_piece o b r free t = cut_once 58 o b (code_text r.origin) _ free (code_free r.origin) t.spelled
 
 period_piece : (o p g : List ℕ) (r : RawBlock) → IsFreeOf 58 o → IsFreeOf 58 p → IsRawText (o ++ 58 ∷ (p ++ 58 ∷ g)) r → (p ≡ period_text r.period) × (g ≡ numbers_text r.first r.last r.kind)
 period_piece o p g r fo fp t = cut_once 58 p g (period_text r.period) _ fp (period_free r.period) (origin_piece o _ r fo t).1
-
-pub no_origin_cut : (text : List ℕ) → IsFreeOf 58 text → (r : RawBlock) → IsRawText text r → ⊥
-no_origin_cut text free r t = cut_not_free 58 (code_text r.origin) _ (subst (IsFreeOf 58) t.spelled free)
 
 pub no_period_cut : (text o b : List ℕ) → text ≡ o ++ 58 ∷ b → IsFreeOf 58 o → IsFreeOf 58 b → (r : RawBlock) → IsRawText text r → ⊥
 no_period_cut text o b e fo fb r t =
@@ -91,17 +81,3 @@ module _ (text o b p g : List ℕ) (e : text ≡ o ++ 58 ∷ b) (d : b ≡ p ++ 
 
   pub no_period : ((q : Period) → p ≡ period_text q → ⊥) → (r : RawBlock) → IsRawText text r → ⊥
   no_period never r t = never r.period (period_piece o p g r fo fp (subst (λ s. IsRawText s r) all t)).0
-
-  pub no_numbers : ((x y : ℕ) (k : Kind) → AreNumbers g x y k → ⊥) → (r : RawBlock) → IsRawText text r → ⊥
-  no_numbers never r t = never r.first r.last r.kind (record {
-    spelled = (period_piece o p g r fo fp (subst (λ s. IsRawText s r) all t)).1;
-    first_fits = t.first;
-    last_fits = t.last;
-  })
-
-  pub is_raw : (r : RawBlock) → o ≡ code_text r.origin → p ≡ period_text r.period → AreNumbers g r.first r.last r.kind → IsRawText text r
-  is_raw r x y n = record {
-    spelled = all ∙ cc (x, y, n.spelled);
-    first = n.first_fits;
-    last = n.last_fits;
-  }

@@ -1,5 +1,5 @@
 -- How many units intervals have: the entries of their map that pass a test, counted by intervals.
-use Rattle.std.proofs.Common.{◌≡◌, ℕ, ◌+◌, ◌^◌, ◌<◌, ◌≤◌, zero, suc, List, [], ◌∷◌, length, get_or, take, Bool, true, false, ◌&&◌, cond, T, leb, ltb, Some, None, refl, sym, ap, ◌∙◌, subst, arith}
+use Rattle.std.proofs.Common.{◌≡◌, ℕ, ◌+◌, ◌^◌, ◌<◌, ◌≤◌, zero, suc, List, [], ◌∷◌, length, get_or, Bool, true, false, ◌&&◌, cond, T, leb, ltb, Some, None, refl, sym, ap, ◌∙◌, subst, arith}
 use Rattle.std.specs.declared.cmp.Ordering.{Ordering}
 use Rattle.std.specs.declared.cmp.Ordering.TheVariants.{Less, Equal, Greater}
 use Rattle.std.specs.FinMap.{find, put, is_sorted, get, get-entries, len-entries, len-empty, entries, empty, entries-insert, entries_sorted}
@@ -7,7 +7,7 @@ use Rattle.std.specs.FinMap.Entries.{by_order, below_all}
 use Rattle.std.specs.List.{sum_by, count_by, AllByRecursion}
 use Rattle.std.specs.Ordering.{is_eq, is_lt}
 use Rattle.std.proofs.lemmas.Bool.{le-leb, le-ltb, and_from}
-use Rattle.std.proofs.lemmas.List.Sums.{sum_by-cons, sum_by_more, count_by-le-length}
+use Rattle.std.proofs.lemmas.List.Sums.{sum_by-cons, count_by-le-length}
 use Rattle.units.specs.Code.{same_code}
 use Rattle.units.specs.Facts.{IsRange}
 use Rattle.units.specs.Limits.{last_unit}
@@ -172,6 +172,3 @@ module _ {M : Type 0} where
   -- an interval that stands at a place of the list
   pub range_at : (is : List (Interval M)) (k : ℕ) (i : Interval M) → AreKept is → k < length is → i ≡ get_or is k i → IsRange i.first i.last
   range_at is k i kept h e = subst (λ (j : Interval M). IsRange j.first j.last) (sym e) (kept_range is k i kept h)
-
-  pub sum_step : (f : Interval M → ℕ) (is : List (Interval M)) (k : ℕ) (i : Interval M) → k < length is → i ≡ get_or is k i → sum_by f (take (k + 1) is) ≡ sum_by f (take k is) + f i
-  sum_step f is k i h e = sum_by_more f is k i h ∙ ap (λ (j : Interval M). sum_by f (take k is) + f j) (sym e)

@@ -12,10 +12,6 @@ use Rattle.units.specs.declared.code.Code.{Code}
 use Rattle.units.specs.declared.block.Period.{Period}
 use Rattle.units.specs.declared.interval.Interval.{Interval}
 
--- one line: origin and period
-abbrev line : Code → Period → Code → Period → Bool
-line o p q r = same_code o q && same_period p r
-
 -- a test of a line and of two numbers, as plain facts
 pub record Holds (o q : Code) (p r : Period) (a b : Bool) : Type 0 where
   pub first : o.first ≡ q.first

@@ -6,7 +6,6 @@ pub mod UnitKeys
 pub mod Marks
 pub mod Cutting
 pub mod Walking
-pub mod Marking
 pub mod BlockLists
 pub mod SharedUnits
 pub mod UnitOrder

@@ -1,6 +1,5 @@
 -- The map that intervals mean answers as the list does.
-use Rattle.std.proofs.Common.{◌≡◌, ℕ, ◌+◌, ◌-◌, zero, suc, List, [], ◌∷◌, Bool, true, false, ◌&&◌, cond, eqb, leb, ltb, Option, Some, find, refl, sym, ap, ◌∙◌, arith}
-use Rattle.std.specs.Option.{option_map}
+use Rattle.std.proofs.Common.{◌≡◌, ℕ, ◌+◌, ◌-◌, zero, suc, List, [], ◌∷◌, Bool, true, false, ◌&&◌, cond, eqb, leb, ltb, Some, refl, sym, ap, ◌∙◌, arith}
 use Rattle.std.specs.FinMap.{get, get-empty, get-insert}
 use Rattle.std.proofs.lemmas.Bool.Decides.{nat_tests}
 use Rattle.units.specs.Code.{same_code}
@@ -51,12 +50,3 @@ module _ {M : Type 0} where
   -- what a map answers, by its intervals
   pub get_view : (is : List (Interval M)) (m : Marks M) → marks_of is ≡ m → (u : Serial) → get m u ≡ mark_at is u
   get_view is m e u = ap (λ k. get k u) (sym e) ∙ get-marks_of is u
-
-  found : (t : Bool) (i : Interval M) (o : Option (Interval M)) (p : Option M) → option_map (λ j. j.mark) o ≡ p → option_map (λ j. j.mark) (cond t (Some i) o) ≡ cond t (Some i.mark) p
-  found true i o p h = refl
-  found false i o p h = h
-
-  -- the mark of the first interval with the unit
-  pub mark-find : (is : List (Interval M)) (u : Serial) → option_map (λ i. i.mark) (find (λ i. has i u) is) ≡ mark_at is u
-  mark-find [] u = refl
-  mark-find (i ∷ is) u = found (has i u) i (find (λ j. has j u) is) (mark_at is u) (mark-find is u)

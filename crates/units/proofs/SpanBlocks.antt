@@ -1,5 +1,5 @@
 -- Walks over the spans of several blocks in turn.
-use Rattle.std.proofs.Common.{◌≡◌, inl, inr, ℕ, ◌+◌, ◌<◌, List, [], ◌∷◌, ◌++◌, length, get_or, take, Bool, true, false, true≢false, ◌||◌, cond, Option, Some, None, IsSome, refl, sym, ap, ◌∙◌, subst}
+use Rattle.std.proofs.Common.{◌≡◌, inl, inr, ℕ, ◌+◌, ◌<◌, List, [], ◌∷◌, ◌++◌, length, get_or, take, Bool, true, false, true≢false, ◌||◌, cond, Option, Some, None, refl, sym, ap, ◌∙◌, subst}
 use Rattle.std.specs.BTreeMap.{BTreeMap, IsOrdered, get}
 use Rattle.std.specs.List.{list_any}
 use Rattle.std.specs.Option.{option_and_then}
@@ -7,7 +7,8 @@ use Rattle.std.proofs.lemmas.Bool.{cases_Bool, or_parts, false_from_ne_true}
 use Rattle.std.proofs.lemmas.List.{take_more}
 use Rattle.std.proofs.lemmas.List.Folds.{list_any-append}
 use Rattle.units.specs.Keys.{unit_cmp, first_unit, unit_numbered}
-use Rattle.units.specs.Spans.{AreParted, AreReshaped, Mean, IsSeam, IsChanged, is_between, end_unit, reaches, reached, remarked, respanned}
+use Rattle.units.specs.SpanSteps.{AreJoinedIn, AreChangedIn}
+use Rattle.units.specs.Spans.{AreParted, Mean, IsSeam, IsChanged, is_between, end_unit, reaches, reached, remarked, respanned}
 use Rattle.units.specs.Unit.{has_unit, covers}
 use Rattle.units.specs.declared.block.Block.{Block}
 use Rattle.units.specs.declared.block.Unit.{Unit as Serial}
@@ -34,18 +35,9 @@ false_both : (s t : Bool) → s ≡ false → t ≡ false → (s || t) ≡ false
 false_both s t e f = rw (e, f) refl
 
 module _ {M : Type 0} where
-  pub record JoinedAlong (blocks : List Block) (old now : BTreeMap Serial (Span M)) : Type 0 where
-    pub parted : AreParted (get unit_cmp now)
-    pub ordered : IsOrdered unit_cmp now
-    pub means : (f : Serial → Option M) → Mean (get unit_cmp old) f → Mean (get unit_cmp now) f
-    pub seams : (q : Serial) → IsSeam (get unit_cmp now) q → IsSeam (get unit_cmp old) q × (reached blocks q ≡ false)
-
-  pub along_none : (m : BTreeMap Serial (Span M)) → AreParted (get unit_cmp m) → IsOrdered unit_cmp m → JoinedAlong [] m m
-  along_none m parted ordered = record { parted = parted; ordered = ordered; means = λ f mean. mean; seams = λ q seam. (seam, refl) }
-
   pub along_more : (blocks : List Block) (i : ℕ) (b : Block) (old now new : BTreeMap Serial (Span M)) (from to : Serial) → i < length blocks → b ≡ get_or blocks i b → from ≡ first_unit b.raw → to ≡ end_unit b.raw
-      → JoinedAlong (take i blocks) old now → AreParted (get unit_cmp new) → IsOrdered unit_cmp new → ((f : Serial → Option M) → Mean (get unit_cmp now) f → Mean (get unit_cmp new) f)
-      → ((q : Serial) → IsSeam (get unit_cmp new) q → IsSeam (get unit_cmp now) q × (is_between from to q ≡ false)) → JoinedAlong (take (i + 1) blocks) old new
+      → AreJoinedIn (take i blocks) old now → AreParted (get unit_cmp new) → IsOrdered unit_cmp new → ((f : Serial → Option M) → Mean (get unit_cmp now) f → Mean (get unit_cmp new) f)
+      → ((q : Serial) → IsSeam (get unit_cmp new) q → IsSeam (get unit_cmp now) q × (is_between from to q ≡ false)) → AreJoinedIn (take (i + 1) blocks) old new
   along_more blocks i b old now new from to lt is is_first is_end so_far parted ordered means seams = record {
     parted = parted;
     ordered = ordered;
@@ -61,10 +53,6 @@ module _ {M : Type 0} where
   pub changed_gives : (R : M → Option M → Type 0) (after : M → Option M) → ((m : M) (r : Option M) → R m r → r ≡ after m) → (o n : Option (Span M)) → IsChanged R o n → n ≡ respanned after o
   changed_gives R after gives None n changed = changed
   changed_gives R after gives (Some s) n changed = changed.2 ∙ ap (remarked s) (gives s.mark changed.0 changed.1)
-
-  pub changed_out : (R : M → Option M → Type 0) (o n : Option (Span M)) → (IsSome o → ⊥) → n ≡ o → IsChanged R o n
-  changed_out R None n none e = e
-  changed_out R (Some s) n none e = absurd (none refl)
 
   pub changed_same : (R : M → Option M → Type 0) (s : Span M) (o n : Option (Span M)) → IsChanged R o n → o ≡ Some s → ((r : Option M) → R s.mark r → r ≡ Some s.mark) → n ≡ Some s
   changed_same R s None n changed e only = absurd (none_held s e)
@@ -100,31 +88,10 @@ module _ {M : Type 0} where
 
   -- ---- other marks, block by block
 
-  pub record ChangedAlong (R : M → Option M → Type 0) (blocks : List Block) (old now : BTreeMap Serial (Span M)) : Type 0 where
-    pub parted : AreParted (get unit_cmp now)
-    pub ordered : IsOrdered unit_cmp now
-    pub changed : (after : M → Option M) → ((m : M) (r : Option M) → R m r → r ≡ after m) → ((m : M) → option_and_then after (after m) ≡ after m)
-        → (q : Serial) → get unit_cmp now q ≡ cond (covers blocks q) (respanned after (get unit_cmp old q)) (get unit_cmp old q)
-    pub same : (q : Serial) (s : Span M) → get unit_cmp old q ≡ Some s → ((r : Option M) → R s.mark r → r ≡ Some s.mark) → get unit_cmp now q ≡ Some s
-    pub reshaped : AreReshaped (get unit_cmp old) (get unit_cmp now)
-    pub fewer : ((m r : M) → R m (Some r) → r ≡ m) → (q : Serial) (t : Span M) → get unit_cmp now q ≡ Some t → get unit_cmp old q ≡ Some t
-    pub outside : (q : Serial) → covers blocks q ≡ false → get unit_cmp now q ≡ get unit_cmp old q
-
-  pub change_none : (R : M → Option M → Type 0) (m : BTreeMap Serial (Span M)) → AreParted (get unit_cmp m) → IsOrdered unit_cmp m → ChangedAlong R [] m m
-  change_none R m parted ordered = record {
-    parted = parted;
-    ordered = ordered;
-    changed = λ after gives again q. refl;
-    same = λ q s e only. e;
-    reshaped = λ q t e. (t, e, refl);
-    fewer = λ only q t e. e;
-    outside = λ q out. refl;
-  }
-
   pub change_more : (R : M → Option M → Type 0) (blocks : List Block) (i : ℕ) (b : Block) (old now new : BTreeMap Serial (Span M)) (from to : Serial) → i < length blocks → b ≡ get_or blocks i b → from ≡ first_unit b.raw → to ≡ unit_numbered b.raw b.raw.last
-      → ChangedAlong R (take i blocks) old now → AreParted (get unit_cmp new) → IsOrdered unit_cmp new
+      → AreChangedIn R (take i blocks) old now → AreParted (get unit_cmp new) → IsOrdered unit_cmp new
       → ((q : Serial) → is_between from to q ≡ true → IsChanged R (get unit_cmp now q) (get unit_cmp new q)) → ((q : Serial) → is_between from to q ≡ false → get unit_cmp new q ≡ get unit_cmp now q)
-      → ChangedAlong R (take (i + 1) blocks) old new
+      → AreChangedIn R (take (i + 1) blocks) old new
   change_more R blocks i b old now new from to lt is is_first is_end so_far parted ordered inside out' =
       let ends = λ (q : Serial). ends_same from to (first_unit b.raw) (unit_numbered b.raw b.raw.last) q is_first is_end in
       let within = λ (q : Serial) (h : has_unit b.raw q ≡ true). inside q (ends q ∙ in_between b.raw q h) in

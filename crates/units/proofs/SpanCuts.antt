@@ -7,12 +7,11 @@ use Rattle.units.specs.Canonical.{GoesOn}
 use Rattle.units.specs.Facts.{IsRange}
 use Rattle.units.specs.Intervals.{has}
 use Rattle.units.specs.Keys.{unit_cmp}
-use Rattle.units.specs.SpanSteps.{Restores, IsBegun}
+use Rattle.units.specs.SpanSteps.{IsBegun}
 use Rattle.units.specs.Spans.{interval_at, AreParted, Mean, IsSeam, Puts, begun, after_unit}
 use Rattle.units.specs.Unit.{period_index}
 use Rattle.units.specs.declared.block.Unit.{Unit as Serial}
 use Rattle.units.specs.declared.unit_map.Span.{Span}
-use Rattle.units.specs.declared.unit_map.cutting.Step.TheVariants.{Put}
 use Rattle.units.proofs.SpanLists.{one_span}
 use Rattle.units.proofs.SpanPuts.{Held, put_here, put_other, one_unit, none_held, not_some, some_same, is_some_from, each_put}
 use Rattle.units.proofs.UnitLines.{line_of, line_after, in_true, in_true_from, in_false_from, UpTo, same_unit, one_line, at_self, at_false_from, at_true}
@@ -133,12 +132,6 @@ module _ {M : Type 0} where
       kept q None e some = absurd (not_some (old q) e some)
       kept q (Some s) e some = subst (λ (x : Option (Span M)). IsSome x) (sym (put_other v (Some (alone v m)) old new puts q (λ same. none_held s (sym absent ∙ ap old same ∙ e)) ∙ e)) refl
 
-  pub restores_put : (v : Serial) (m : M) (old new : Held M) → old v ≡ None → Puts v (Some (alone v m)) old new → Restores (Put v) old new
-  restores_put v m old new absent puts q = elim (one_unit v q) [
-    | inl same ↦ ap old (sym same) ∙ absent ∙ ap (λ t. cond t None (new q)) (sym (ap (is_at (unit_cmp v)) (sym same) ∙ at_self v))
-    | inr other ↦ sym (put_other v (Some (alone v m)) old new puts q other) ∙ ap (λ t. cond t None (new q)) (sym (at_false_from v q other))
-  ]
-
   -- ---- the span that has a unit begins last before it
 
   pub floor_only : (held : Held M) → AreParted held → (at v : Serial) (span : Span M) → held at ≡ Some span → UpTo at v
@@ -175,11 +168,3 @@ module _ {M : Type 0} where
       by_cases (Some s) e =
           let r = parted.ranges v s e in
           absurd (true≢false (sym (in_true_from v s v (record { line = refl; low = omega arith; high = r.1 })) ∙ none v s e))
-
-  -- nor at a unit within another span
-  pub absent_within : (held : Held M) → AreParted held → (at v : Serial) (span : Span M) → held at ≡ Some span → has (interval_at at span) v ≡ true → (at ≡ v → ⊥) → held v ≡ None
-  absent_within held parted at v span e h other = by_cases (held v) refl
-    where
-      by_cases : (o : Option (Span M)) → held v ≡ o → o ≡ None
-      by_cases None f = refl
-      by_cases (Some s) f = absurd (other (parted.apart at v span s e f h))

@@ -276,9 +276,6 @@ module _ {M : Type 0} where
   pub still_key : (b : Block) (rest : List Block) (given : Option M) (old middle late : Held M) → AllApart (b ∷ rest) → IsPrepared b.raw given old middle → AreSetIn rest middle late → IsSome given → IsSome (late (first_unit b.raw))
   still_key b rest given old middle late apart one set some = set.keys (first_unit b.raw) (no_block b.raw rest (first_unit b.raw) apart.0 (first_in b.raw b.in_range)) (one.key some)
 
-  pub set_none : (held : Held M) → AreParted held → AreSetIn [] held held
-  set_none held parted = record { parted = parted; cuts = λ q only c. c; keys = λ q out some. some; seams = λ q seam. inl seam }
-
   -- ---- what taking out the spans within a block leaves
 
   abbrev Gives : (M → Option M → Type 0) → Type 0

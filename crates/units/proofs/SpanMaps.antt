@@ -105,10 +105,6 @@ module _ {M : Type 0} where
   pub seam_fewer : (old new : Held M) → ((q : Serial) (t : Span M) → new q ≡ Some t → old q ≡ Some t) → (q : Serial) → IsSeam new q → IsSeam old q
   seam_fewer old new fewer q seam = record { before = seam.before; left = seam.left; right = seam.right; first = fewer seam.before seam.left seam.first; second = fewer q seam.right seam.second; goes_on = seam.goes_on }
 
-  pub kept_marks : (passes : M → Bool) (o : Option M) → option_and_then (λ m. cond (passes m) (Some m) None) o ≡ marks_that passes o
-  kept_marks passes None = refl
-  kept_marks passes (Some m) = refl
-
   pub mapped_marks : (after : M → M) (o : Option M) → option_and_then (λ m. Some (after m)) o ≡ option_map after o
   mapped_marks after None = refl
   mapped_marks after (Some m) = refl

@@ -45,15 +45,6 @@ module _ {M : Type 0} where
     | inr other ↦ others q t other (sym (put_other k (Some w) old new puts q other) ∙ e)
   ]
 
-  -- what holds of those that were there holds of each that is left
-  pub each_left : (P : Serial → Span M → Type 0) (k : Serial) (old new : Held M) → Puts k None old new
-      → ((q : Serial) (t : Span M) → (k ≡ q → ⊥) → old q ≡ Some t → P q t)
-      → (q : Serial) (t : Span M) → new q ≡ Some t → P q t
-  each_left P k old new puts others q t e = elim (one_unit k q) [
-    | inl same ↦ absurd (none_held t (sym (put_here k None old new puts) ∙ ap new same ∙ e))
-    | inr other ↦ others q t other (sym (put_other k None old new puts q other) ∙ e)
-  ]
-
   -- a key that was there still is, after another was given a span
   pub still_there : (k v : Serial) (w : Span M) (old new : Held M) → Puts v (Some w) old new → IsSome (old k) → IsSome (new k)
   still_there k v w old new puts some = elim (one_unit v k) [

@@ -25,12 +25,6 @@ before_up a b c p q =
     let y = q.line in
     record { line = omega arith; number = λ e. let m = p.number (omega arith) in let n = q.number (omega arith) in omega arith }
 
-pub up_before : (a b c : Serial) → UpTo a b → Before b c → Before a c
-up_before a b c p q =
-    let x = p.line in
-    let y = q.line in
-    record { line = omega arith; number = λ e. let m = p.number (omega arith) in let n = q.number (omega arith) in omega arith }
-
 pub up_from_before : (a b : Serial) → Before a b → UpTo a b
 up_from_before a b p = record { line = p.line; number = λ e. let m = p.number e in omega arith }
 
@@ -82,9 +76,6 @@ module _ {M : Type 0} where
     pub up : UpTo a c
     pub means : (f : Serial → Option M) → Mean (get unit_cmp old) f → Mean (get unit_cmp now) f
     pub seams : (q : Serial) → IsSeam (get unit_cmp now) q → IsSeam (get unit_cmp old) q × (UpTo a q → Before q c → ⊥)
-
-  pub joined_none : (a : Serial) (m : BTreeMap Serial (Span M)) → AreParted (get unit_cmp m) → IsOrdered unit_cmp m → a.number ≤ last_unit + 1 → JoinedTo a a m m
-  joined_none a m parted ordered start = record { parted = parted; ordered = ordered; start = start; up = up_self a; means = λ f mean. mean; seams = λ q seam. (seam, λ p b. not_both q a b p) }
 
   pub joined_more : (a c k : Serial) (s : Span M) (old now new : BTreeMap Serial (Span M)) → JoinedTo a c old now → get unit_cmp now k ≡ Some s → UpTo c k
       → ((q : Serial) → UpTo c q → IsSome (get unit_cmp now q) → UpTo k q)
@@ -150,17 +141,6 @@ module _ {M : Type 0} where
     pub far : (q : Serial) → UpTo a q → Before q c → UpTo q b
     pub inside : (q : Serial) → UpTo a q → Before q c → IsChanged R (get unit_cmp old q) (get unit_cmp now q)
     pub outside : (q : Serial) → (UpTo a q → Before q c → ⊥) → get unit_cmp now q ≡ get unit_cmp old q
-
-  pub changed_none : (R : M → Option M → Type 0) (a b : Serial) (m : BTreeMap Serial (Span M)) → AreParted (get unit_cmp m) → IsOrdered unit_cmp m → a.number ≤ last_unit + 1 → ChangedTo R a b a m m
-  changed_none R a b m parted ordered start = record {
-    parted = parted;
-    ordered = ordered;
-    start = start;
-    up = up_self a;
-    far = λ q x y. absurd (not_both q a y x);
-    inside = λ q x y. absurd (not_both q a y x);
-    outside = λ q out. refl;
-  }
 
   changed_nothing : (R : M → Option M → Type 0) (o n : Option (Span M)) → o ≡ None → n ≡ None → IsChanged R o n
   changed_nothing R o n e f = subst (λ x. IsChanged R x n) (sym e) f

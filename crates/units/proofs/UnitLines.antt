@@ -53,9 +53,6 @@ pub less_from : (a b : Serial) → Before a b → unit_cmp a b ≡ Less
 unfolding line_of
 less_from a b h = less_from_below a b (record { line = h.line; number = h.number })
 
-pub lt_true_from : (a b : Serial) → Before a b → is_lt (unit_cmp a b) ≡ true
-lt_true_from a b h = ap is_lt (less_from a b h)
-
 cases : (t : Bool) → (t ≡ true) ⊎ (t ≡ false)
 cases true = inl refl
 cases false = inr refl
@@ -168,9 +165,6 @@ pub block_true_from : (b : RawBlock) (u : Serial) → In (first_unit b) b.last u
 block_true_from b u h =
     let p = line_parts (first_unit b) u h.line in
     within_from b.origin u.origin b.period u.period b.first b.last u.number (record { one = p.0; two = p.1; period = p.2; low = h.low; high = h.high })
-
-pub block_false_from : (b : RawBlock) (u : Serial) → (In (first_unit b) b.last u → ⊥) → has_unit b u ≡ false
-block_false_from b u out = false_from_ne_true _ (λ e. out (block_true b u e))
 
 -- a line does not ask for the number
 pub line_numbered : (b : RawBlock) (n : ℕ) → line_of (unit_numbered b n) ≡ line_of (first_unit b)

@@ -1,10 +1,10 @@
--- What the code that sets marks follows, step by step; no public contract cites it.
+-- What the code that sets and changes marks follows, step by step; no public contract cites it.
 use Rattle.std.specs.Prelude.{◌≡◌, ◌⊎◌, List, true, false, Option, Some, None, IsSome, find, if◌then◌else◌}
-use Rattle.std.specs.Option.{option_map_or}
+use Rattle.std.specs.Option.{option_and_then, option_map_or}
 use Rattle.std.specs.List.{AllByRecursion}
-use Rattle.std.specs.BTreeMap.{is_at}
+use Rattle.std.specs.BTreeMap.{BTreeMap, IsOrdered, get, is_at}
 use Rattle.units.specs.Keys.{unit_cmp, first_unit}
-use Rattle.units.specs.Spans.{AreParted, Mean, IsSeam, IsCutAt, after_unit, end_unit, reaches, reached, begun}
+use Rattle.units.specs.Spans.{AreParted, AreReshaped, Mean, IsSeam, IsCutAt, after_unit, end_unit, reaches, reached, respanned, begun}
 use Rattle.units.specs.Unit.{has_unit, covers}
 use Rattle.units.specs.declared.block.Block.{Block}
 use Rattle.units.specs.declared.block.RawBlock.{RawBlock}
@@ -50,3 +50,21 @@ pub record AreSetIn {M : Type 0} (blocks : List Block) (old new : Serial → Opt
 -- each unit of the blocks has the mark that is given to its block, and the others have theirs
 abbrev pub set_to : {M : Type 0} → (Block → Option M) → List Block → (Serial → Option M) → Serial → Option M
 set_to given blocks marks u = option_map_or given (find (λ b. has_unit b.raw u) blocks) (marks u)
+
+-- spans that go on are one in the blocks and at their ends; the marks stay, and spans go on where others end only beyond
+pub record AreJoinedIn {M : Type 0} (blocks : List Block) (old new : BTreeMap Serial (Span M)) : Type 0 where
+  pub parted : AreParted (get unit_cmp new)
+  pub ordered : IsOrdered unit_cmp new
+  pub means : (f : Serial → Option M) → Mean (get unit_cmp old) f → Mean (get unit_cmp new) f
+  pub seams : (q : Serial) → IsSeam (get unit_cmp new) q → IsSeam (get unit_cmp old) q × (reached blocks q ≡ false)
+
+-- spans that begin in the blocks have marks that the relation gives, where a mark that it gave it gives again, or are out
+pub record AreChangedIn {M : Type 0} (R : M → Option M → Type 0) (blocks : List Block) (old new : BTreeMap Serial (Span M)) : Type 0 where
+  pub parted : AreParted (get unit_cmp new)
+  pub ordered : IsOrdered unit_cmp new
+  pub changed : (after : M → Option M) → ((m : M) (r : Option M) → R m r → r ≡ after m) → ((m : M) → option_and_then after (after m) ≡ after m)
+      → (q : Serial) → get unit_cmp new q ≡ (if covers blocks q then respanned after (get unit_cmp old q) else get unit_cmp old q)
+  pub same : (q : Serial) (s : Span M) → get unit_cmp old q ≡ Some s → ((r : Option M) → R s.mark r → r ≡ Some s.mark) → get unit_cmp new q ≡ Some s
+  pub reshaped : AreReshaped (get unit_cmp old) (get unit_cmp new)
+  pub fewer : ((m r : M) → R m (Some r) → r ≡ m) → (q : Serial) (t : Span M) → get unit_cmp new q ≡ Some t → get unit_cmp old q ≡ Some t
+  pub outside : (q : Serial) → covers blocks q ≡ false → get unit_cmp new q ≡ get unit_cmp old q

@@ -6,7 +6,6 @@ ghost use Rattle.std.specs.List.{IsAmong};
 ghost use Rattle.std.specs.Option.{option_map_or};
 ghost use Rattle.units.specs.Apart.{AllApart};
 ghost use Rattle.units.specs.Canonical.{AreCanonical, canonical as canonical_form, interval_of};
-ghost use Rattle.units.specs.Facts.{IsRange};
 ghost use Rattle.units.specs.Intervals.{AreKept, mark_at};
 ghost use Rattle.units.specs.RefusalCodes.{out_of_memory, blocks_overlap, unit_not_held};
 ghost use Rattle.units.specs.Spans.{intervals_of};
@@ -14,8 +13,8 @@ ghost use Rattle.units.specs.Unit.{has_unit, covers};
 ghost use Rattle.units.specs.declared.block.Block.{Block};
 ghost use Rattle.units.specs.declared.block.Unit.{Unit as Serial};
 
-use crate::block::{Block, Kind, RawBlock, Unit};
-use crate::interval::Interval;
+use crate::block::{Block, Kind, Unit};
+use crate::interval::blocks_of;
 use crate::memory::NoMemory;
 use crate::overlap::overlaps;
 use crate::refusal::Refusal;
@@ -42,21 +41,6 @@ impl Model for BlockSet {
     ghost coded = { map.code serial.the_row.coded kind.the_row.coded };
 
     ghost view = { λ s. s.kinds };
-}
-
-// The block of the interval's units.
-fn block_of(interval: &Interval<Kind>) -> Block
-    requires { IsRange interval.now.first interval.now.last }
-    ensures { interval_of result ≡ interval.now }
-{
-    let raw = RawBlock {
-        origin: interval.origin,
-        period: interval.period,
-        kind: interval.mark,
-        first: interval.first,
-        last: interval.last,
-    };
-    Block { raw }
 }
 
 impl BlockSet {
@@ -218,11 +202,7 @@ impl BlockSet {
         ensures same { IfOk result (λ v. (u : Serial) → mark_at (list_map interval_of v.items) u ≡ map.get self.now u) }
     {
         let intervals = self.kinds.in_order()?;
-        let mut blocks = Vec::with_capacity(alloc, intervals.len())?;
-        for interval in &intervals {
-            blocks.push(block_of(interval))?;
-        }
-        Ok(blocks)
+        Ok(blocks_of(alloc, &intervals)?)
     }
 
     /// An equal set, or `NoMemory`.

@@ -1,10 +1,14 @@
 //! Intervals: units in a row with one mark.
-ghost use Rattle.std.specs.Prelude.{◌≡◌, ◌↔◌, ℕ, IsTrue};
+ghost use Rattle.std.specs.Prelude.{◌≡◌, ◌↔◌, ℕ, IsTrue, IfOk, map};
+ghost use Rattle.units.specs.Canonical.{interval_of};
 ghost use Rattle.units.specs.Cutting.{meets};
-ghost use Rattle.units.specs.Intervals.{has};
+ghost use Rattle.units.specs.Facts.{IsRange};
+ghost use Rattle.units.specs.Intervals.{AreKept, has};
 
-use crate::block::{Block, Kind, Period, Unit};
+use crate::block::{Block, Kind, Period, RawBlock, Unit};
 use crate::code::Code;
+use crate::memory::NoMemory;
+use std::alloc::Global;
 
 /// Units of one origin and period, from a first to a last number, both included, all with one mark.
 #[derive(Clone, Copy, Debug, PartialEq, Eq)]
@@ -25,6 +29,21 @@ impl<M> Interval<M> {
             && self.period == unit.period
             && self.first <= unit.number
             && unit.number <= self.last
+    }
+
+    /// The block of its units, of that kind.
+    pub fn block(&self, kind: Kind) -> Block
+        requires { IsRange self.now.first self.now.last }
+        ensures { result.raw ≡ record { origin = self.now.origin; period = self.now.period; kind = kind; first = self.now.first; last = self.now.last } }
+    {
+        let raw = RawBlock {
+            origin: self.origin,
+            period: self.period,
+            kind,
+            first: self.first,
+            last: self.last,
+        };
+        Block { raw }
     }
 
     /// Whether it has a unit of the block, where its numbers are in order.
@@ -63,4 +82,16 @@ impl Mark for Kind {
     fn is_same(&self, other: &Kind) -> bool {
         self == other
     }
+}
+
+/// The blocks of the intervals, in their order: each of the kind that its interval has as its mark. Or `NoMemory`.
+pub fn blocks_of(alloc: Global, intervals: &[Interval<Kind>]) -> Result<Vec<Block>, NoMemory>
+    requires { AreKept intervals.now }
+    ensures { IfOk result (λ v. map interval_of v.items ≡ intervals.now) }
+{
+    let mut blocks = Vec::with_capacity(alloc, intervals.len())?;
+    for interval in intervals {
+        blocks.push(interval.block(interval.mark))?;
+    }
+    Ok(blocks)
 }

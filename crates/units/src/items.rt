@@ -1,5 +1,5 @@
 //! A list that contracts see as a list.
-ghost use Rattle.std.specs.Prelude.{◌≡◌, List, [], IfOk, IfErr};
+ghost use Rattle.std.specs.Prelude.{◌≡◌, List, [], IfOk};
 
 use crate::memory::NoMemory;
 use std::alloc::Global;

@@ -25,14 +25,14 @@ use crate::interval::{Interval, Mark};
 use crate::memory::NoMemory;
 use crate::ordering::in_order;
 use finding::interval_with;
-use joining::{join_all, join_along};
+use joining::join_along;
 use listing::{copied, intervals};
-use reading::{all_pass, one_passes, some_passes};
+use reading::{all_pass, some_passes};
 use setting::set_each;
 use std::alloc::Global;
 use std::collections::BTreeMap;
 use std::marker::Model;
-use walking::{change_all, change_in};
+use walking::change_in;
 
 /// The last number and the mark of units in a row, of which an ordered map has the first one as its key.
 #[derive(Clone, Copy, Debug, PartialEq, Eq)]
@@ -148,32 +148,12 @@ impl<M: Copy> UnitMap<M> {
         some_passes(&self.spans, block, test)
     }
 
-    /// Whether a unit is there with a mark that passes the test. Takes no memory.
-    pub fn has_mark<F: Fn(M) -> bool>(&self, test: F) -> bool
-        requires { F.IsAlwaysCallable test }
-        ensures some { (passes : M → Bool) → ((m : M) (r : Bool) → F.post test m r → r ≡ passes m) → OnTrue result ((u : Serial) × (option_map passes (map.get self.now u) ≡ Some true)) }
-        ensures none { (passes : M → Bool) → ((m : M) (r : Bool) → F.post test m r → r ≡ passes m) → OnFalse result ((u : Serial) → option_map passes (map.get self.now u) ≢ Some true) }
-    {
-        one_passes(&self.spans, test)
-    }
-
     /// How many units are there whose mark passes the test. Takes no memory.
     pub fn count_where<F: Fn(M) -> bool>(&self, test: F) -> u64
         requires { F.IsAlwaysCallable test }
         ensures { (passes : M → Bool) → ((m : M) (r : Bool) → F.post test m r → r ≡ passes m) → result ≡ count_by (λ e. passes e.1) (map.entries self.now) }
     {
         count_where(&self.spans, test)
-    }
-
-    /// Takes the units out whose marks don't pass the test. Takes no memory.
-    pub fn retain<F: Fn(M) -> bool>(&mut self, test: F)
-        requires { F.IsAlwaysCallable test }
-        ensures { (passes : M → Bool) → ((m : M) (r : Bool) → F.post test m r → r ≡ passes m) → (u : Serial) → map.get self.new u ≡ marks_that passes (map.get self.old u) }
-    {
-        change_all(
-            &mut self.spans,
-            |mark| if test(mark) { Some(mark) } else { None },
-        );
     }
 
     /// Takes out the units whose marks pass the test. Only units of the blocks have such marks. Takes no memory.
@@ -215,15 +195,6 @@ impl<M: Mark> UnitMap<M> {
         set_each(&mut self.spans, blocks, &mark)?;
         join_along(&mut self.spans, blocks);
         Ok(())
-    }
-
-    /// Changes each mark to what the function gives. Takes no memory.
-    pub fn remark<F: Fn(M) -> M>(&mut self, change: F)
-        requires { F.IsAlwaysCallable change }
-        ensures { (after : M → M) → ((m r : M) → F.post change m r → r ≡ after m) → (u : Serial) → map.get self.new u ≡ option_map after (map.get self.old u) }
-    {
-        change_all(&mut self.spans, |mark| Some(change(mark)));
-        join_all(&mut self.spans);
     }
 
     /// Changes each mark to what the function gives. Only units of the blocks have marks that it changes. Takes no

@@ -1,9 +1,11 @@
-//! Worked rows of sets of units, holdings, status tables and schemes: values from outside, each public function with
-//! enough memory, and what no clause says.
+//! Worked rows of sets of units, holdings, status tables, schemes and outboxes: values from outside, each public
+//! function with enough memory, and what no clause says.
 #![tactic(auto)]
 
 #[cfg(test)]
 mod accounts_rows;
+#[cfg(test)]
+mod outbox_rows;
 #[cfg(test)]
 mod scheme_rows;
 #[cfg(test)]

@@ -114,6 +114,9 @@ fn a_registry_and_a_holder_are_found(rt: HostRuntime) -> Result<(), Fail> {
     };
     assert_eq!(rt; scheme.allotted(&last), Some(holder));
     assert_eq!(rt; scheme.allotted(&behind), None);
+    let allotments = scheme.allotments(alloc)?;
+    assert_eq!(rt; allotments.get(&last), Some(holder));
+    assert_eq!(rt; allotments.count_where(|_| true), 100);
     Ok(())
 }
 

@@ -209,6 +209,7 @@ fn the_limits_of_an_order(rt: HostRuntime) -> Result<(), Fail> {
         assert_eq!(rt; made.is_some(), is_order);
         if let Some(made) = made {
             let copy = made.copy().expect(&rt, "memory");
+            assert!(rt; copy.same(&made));
             assert_eq!(rt; copy.account(), account);
             assert_eq!(rt; copy.to_registry(), code("JP")?);
             assert_eq!(rt; copy.to_account(), to_account);

@@ -51,7 +51,7 @@ fn a_list_and_its_copy(rt: HostRuntime) -> Result<(), Fail> {
     let list = Items::from_vec(vec![in alloc; 3u64, 1, 2]?);
     let copy = list.copy()?;
     assert_eq!(rt; list.as_slice(), [3, 1, 2].as_slice());
-    assert_eq!(rt; copy.as_slice(), [3, 1, 2].as_slice());
+    assert_eq!(rt; copy.into_vec().as_slice(), [3, 1, 2].as_slice());
     let none: Items<u64> = Items::new(alloc);
     assert_eq!(rt; none.as_slice().len(), 0);
     Ok(())
@@ -138,10 +138,11 @@ fn marks_of_units(rt: HostRuntime) -> Result<(), Fail> {
     let mut kinds = UnitMap::new(rt.alloc());
     kinds.set(&block, Some(Kind::Aau))?;
     assert_eq!(rt; kinds.get(&unit), Some(Kind::Aau));
-    kinds.remark(|_| Kind::Cer);
-    assert!(rt; kinds.has_mark(|kind| kind == Kind::Cer));
-    assert_eq!(rt; kinds.count_where(|kind| kind == Kind::Aau), 0);
-    kinds.retain(|kind| kind == Kind::Aau);
+    kinds.set(&nz(Kind::Cer, 4, 6)?, Some(Kind::Cer))?;
+    assert_eq!(rt; kinds.count_where(|kind| kind == Kind::Aau), 7);
+    assert!(rt; kinds.has_some_of(&block, |kind| kind == Kind::Cer));
+    assert_eq!(rt; kinds.pieces().len(), 3);
+    kinds.set(&block, None)?;
     assert_eq!(rt; kinds.get(&unit), None);
     Ok(())
 }

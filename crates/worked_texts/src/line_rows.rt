@@ -40,8 +40,9 @@ fn a_line_of_the_limit(rt: HostRuntime) -> Result<(), Fail> {
     let mut splitter = Splitter::new(alloc, LIMIT);
     let lines = splitter.feed(&stream).expect(&rt, "one line");
     assert_eq!(rt; lines.as_slice().len(), 1);
-    for line in lines.as_slice() {
+    for line in lines.into_vec() {
         assert_eq!(rt; line.as_slice(), bytes.as_slice());
+        assert_eq!(rt; line.into_vec().as_slice(), bytes.as_slice());
     }
     assert_eq!(rt; splitter.finish(), Ok(()));
     Ok(())

@@ -102,6 +102,7 @@ fn texts_are_written_and_read_back(rt: HostRuntime) -> Result<(), Fail> {
         let line = encode(alloc, &message).expect(&rt, "memory");
         assert_eq!(rt; line.as_slice(), text.as_bytes());
         let copy = message.copy().expect(&rt, "memory");
+        assert!(rt; copy.same(&message));
         let again = encode(alloc, &copy).expect(&rt, "memory");
         assert_eq!(rt; again.as_slice(), text.as_bytes());
     }
@@ -159,6 +160,34 @@ fn messages_built_from_parts(rt: HostRuntime) -> Result<(), Fail> {
         let line = encode(alloc, &message).expect(&rt, "memory");
         assert_eq!(rt; line.as_slice(), text.as_bytes());
     }
+    Ok(())
+}
+
+#[test]
+fn the_ends_of_a_message(rt: HostRuntime) -> Result<(), Fail> {
+    let alloc = rt.alloc();
+    let (nz, jp) = (Node::Registry(code("NZ")?), Node::Registry(code("JP")?));
+    for (text, sender) in [(PROPOSAL, nz), (NOTIFICATION, jp), (REQUEST, nz)] {
+        let message = decode(alloc, text.as_bytes()).expect(&rt, "a message");
+        assert_eq!(rt; message.sender(), sender);
+        assert_eq!(rt; message.receiver(), Node::Itl);
+        assert_eq!(rt; Some(message.transaction()), TransactionId::read("NZ1"));
+    }
+    Ok(())
+}
+
+#[test]
+fn the_parts_of_messages_are_compared(rt: HostRuntime) -> Result<(), Fail> {
+    let alloc = rt.alloc();
+    let jp = code("JP")?;
+    let notice = rejected(alloc, &[301])?;
+    assert!(rt; notice.same(&rejected(alloc, &[301])?));
+    assert!(rt; !notice.same(&rejected(alloc, &[301, 303])?));
+    let ours = checked_proposal(alloc, jp)?;
+    let theirs = checked_proposal(alloc, code("CH")?)?;
+    assert!(rt; ours.same(&checked_proposal(alloc, jp)?));
+    assert!(rt; !ours.same(&theirs));
+    assert!(rt; !ours.same(&request(Node::Registry(jp))?));
     Ok(())
 }
 

@@ -35,6 +35,7 @@ fn records_are_written_and_read_back(rt: HostRuntime) -> Result<(), Fail> {
     for text in RECORDS {
         let input = decode_input(alloc, text.as_bytes()).expect(&rt, "a record");
         let copy = input.copy().expect(&rt, "memory");
+        assert!(rt; copy.same(&input));
         let line = encode_input(alloc, &copy).expect(&rt, "memory");
         assert_eq!(rt; line.as_slice(), text.as_bytes());
     }
@@ -85,6 +86,17 @@ fn an_order_is_kept_as_it_was_given(rt: HostRuntime) -> Result<(), Fail> {
         let input = decode_input(alloc, text.as_bytes()).expect(&rt, "a record");
         let line = encode_input(alloc, &input).expect(&rt, "memory");
         assert_eq!(rt; line.as_slice(), text.as_bytes());
+    }
+    Ok(())
+}
+
+#[test]
+fn records_that_differ(rt: HostRuntime) -> Result<(), Fail> {
+    let alloc = rt.alloc();
+    for i in 1..RECORDS.len() {
+        let input = decode_input(alloc, RECORDS[i].as_bytes()).expect(&rt, "a record");
+        let other = decode_input(alloc, RECORDS[i - 1].as_bytes()).expect(&rt, "a record");
+        assert!(rt; !input.same(&other));
     }
     Ok(())
 }

@@ -1,7 +1,7 @@
 //! Intervals that are cut in two, so that one begins at a unit, and how that is undone.
 ghost use Rattle.std.specs.Prelude.{◌≡◌, true, false, Some, None, Option, IsSome, IfOk, OnOk, OnErr};
 ghost use Rattle.std.specs.BTreeMap as tree;
-ghost use Rattle.std.specs.BTreeMap.{IsOrdered, IsUnchanged, is_at};
+ghost use Rattle.std.specs.BTreeMap.{IsOrdered, IsUnchanged};
 ghost use Rattle.units.specs.Facts.{IsRange};
 ghost use Rattle.units.specs.Intervals.{has};
 ghost use Rattle.units.specs.Keys.{unit_cmp};

@@ -6,7 +6,7 @@ ghost use Rattle.std.specs.BTreeMap.Range.{IsLeBy};
 ghost use Rattle.std.specs.Ordering.{is_lt};
 ghost use Rattle.units.specs.Intervals.{has};
 ghost use Rattle.units.specs.Keys.{unit_cmp};
-ghost use Rattle.units.specs.Spans.{AreParted, interval_at, marks_in};
+ghost use Rattle.units.specs.Spans.{AreParted, marks_in};
 ghost use Rattle.units.specs.declared.block.Unit.{Unit as Serial};
 
 use super::Span;

@@ -1,16 +1,16 @@
 //! Neighbours with one mark made one interval.
-ghost use Rattle.std.specs.Prelude.{◌≡◌, ◌≤◌, ◌+◌, Option, false, true, Some, IsSome};
+ghost use Rattle.std.specs.Prelude.{◌≡◌, ◌≤◌, ◌+◌, Option, false, Some, IsSome};
 ghost use Rattle.std.specs.BTreeMap as tree;
 ghost use Rattle.std.specs.BTreeMap.{IsOrdered};
 ghost use Rattle.units.specs.Keys.{unit_cmp};
 ghost use Rattle.units.specs.Limits.{last_unit};
-ghost use Rattle.units.specs.Spans.{AreParted, Mean, IsSeam, is_between, reached};
+ghost use Rattle.units.specs.SpanSteps.{AreJoinedIn};
+ghost use Rattle.units.specs.Spans.{AreParted, Mean, IsSeam, is_between};
 ghost use Rattle.units.specs.declared.block.Unit.{Unit as Serial};
 
 use super::Span;
 use super::cutting::overwrite;
 use super::finding::{floor, is_past, next};
-use super::walking::ends;
 use crate::block::{Block, Unit};
 use crate::interval::Mark;
 use crate::ordering::goes_on;
@@ -70,10 +70,7 @@ fn join_between<M: Mark>(spans: &mut BTreeMap<Unit, Span<M>>, from: Unit, to: Un
 pub(super) fn join_along<M: Mark>(spans: &mut BTreeMap<Unit, Span<M>>, blocks: &[Block])
     requires parted { AreParted (tree.get unit_cmp spans.old) }
     requires ordered { IsOrdered unit_cmp spans.old }
-    ensures parted { AreParted (tree.get unit_cmp spans.new) }
-    ensures means { (marks : Serial → Option M) → Mean (tree.get unit_cmp spans.old) marks → Mean (tree.get unit_cmp spans.new) marks }
-    ensures seams { (q : Serial) → IsSeam (tree.get unit_cmp spans.new) q → IsSeam (tree.get unit_cmp spans.old) q × (reached blocks.now q ≡ false) }
-    ensures ordered { IsOrdered unit_cmp spans.new }
+    ensures { AreJoinedIn blocks.now spans.old spans.new }
 {
     for block in blocks {
         join_between(
@@ -81,19 +78,5 @@ pub(super) fn join_along<M: Mark>(spans: &mut BTreeMap<Unit, Span<M>>, blocks: &
             block.unit(block.raw.first),
             block.unit(block.raw.last + 1),
         );
-    }
-}
-
-// Joins all intervals that go on from others.
-pub(super) fn join_all<M: Mark>(spans: &mut BTreeMap<Unit, Span<M>>)
-    requires parted { AreParted (tree.get unit_cmp spans.old) }
-    requires ordered { IsOrdered unit_cmp spans.old }
-    ensures parted { AreParted (tree.get unit_cmp spans.new) }
-    ensures means { (marks : Serial → Option M) → Mean (tree.get unit_cmp spans.old) marks → Mean (tree.get unit_cmp spans.new) marks }
-    ensures joined { (q : Serial) → IsSeam (tree.get unit_cmp spans.new) q → ⊥ }
-    ensures ordered { IsOrdered unit_cmp spans.new }
-{
-    if let Some((from, to)) = ends(spans) {
-        join_between(spans, from, to);
     }
 }

@@ -3,9 +3,8 @@ ghost use Rattle.std.specs.Prelude.{◌≡◌, ◌≢◌, Bool, true, Some, IsTr
 ghost use Rattle.std.specs.BTreeMap as tree;
 ghost use Rattle.std.specs.BTreeMap.{IsOrdered};
 ghost use Rattle.std.specs.Bool.{OnTrue, OnFalse};
-ghost use Rattle.std.specs.List.{list_any};
 ghost use Rattle.units.specs.Keys.{unit_cmp};
-ghost use Rattle.units.specs.Spans.{AreParted, intervals_of, marks_in};
+ghost use Rattle.units.specs.Spans.{AreParted, marks_in};
 ghost use Rattle.units.specs.Unit.{has_unit};
 ghost use Rattle.units.specs.declared.block.Unit.{Unit as Serial};
 
@@ -13,22 +12,6 @@ use super::Span;
 use super::finding::{floor, interval_with};
 use crate::block::{Block, Unit};
 use std::collections::BTreeMap;
-
-// Whether one of the intervals has a mark that passes the test.
-pub(super) fn one_passes<M: Copy, F: Fn(M) -> bool>(
-    spans: &BTreeMap<Unit, Span<M>>,
-    test: F,
-) -> bool
-    requires { F.IsAlwaysCallable test }
-    ensures { (passes : M → Bool) → ((m : M) (r : Bool) → F.post test m r → r ≡ passes m) → result ≡ list_any (λ i. passes i.mark) (intervals_of spans.now.entries) }
-{
-    for (_, span) in spans {
-        if test(span.mark) {
-            return true;
-        }
-    }
-    false
-}
 
 // Whether each of the block's units is in an interval whose mark passes the test.
 pub(super) fn all_pass<M: Copy, F: Fn(M) -> bool>(

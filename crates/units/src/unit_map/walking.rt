@@ -1,12 +1,11 @@
 //! Marks that change, and intervals that are taken out, which takes no memory.
-ghost use Rattle.std.specs.Prelude.{◌≡◌, ◌≤◌, ◌+◌, Option, Some, None, IsSome, IfSome, IfNone, true, false, if◌then◌else◌};
-ghost use Rattle.std.specs.Option.{option_and_then};
+ghost use Rattle.std.specs.Prelude.{◌≡◌, ◌≤◌, ◌+◌, Option, Some, None, true, false};
 ghost use Rattle.std.specs.BTreeMap as tree;
 ghost use Rattle.std.specs.BTreeMap.{IsOrdered};
 ghost use Rattle.units.specs.Keys.{unit_cmp};
 ghost use Rattle.units.specs.Limits.{last_unit};
-ghost use Rattle.units.specs.Spans.{AreParted, AreReshaped, IsChanged, Puts, is_between, remarked, respanned};
-ghost use Rattle.units.specs.Unit.{covers};
+ghost use Rattle.units.specs.SpanSteps.{AreChangedIn};
+ghost use Rattle.units.specs.Spans.{AreParted, IsChanged, Puts, is_between, remarked};
 ghost use Rattle.units.specs.declared.block.Unit.{Unit as Serial};
 
 use super::Span;
@@ -14,17 +13,6 @@ use super::cutting::overwrite;
 use super::finding::{is_past, next};
 use crate::block::{Block, Unit};
 use std::collections::BTreeMap;
-
-// The first units of the first and of the last interval.
-pub(super) fn ends<M>(spans: &BTreeMap<Unit, Span<M>>) -> Option<(Unit, Unit)>
-    ensures all { IfSome result (λ e. (q : Serial) → IsSome (tree.get unit_cmp spans.now q) → is_between e.0 e.1 q ≡ true) }
-    ensures there { IfSome result (λ e. IsSome (tree.get unit_cmp spans.now e.0)) }
-    ensures none { IfNone result ((q : Serial) → tree.get unit_cmp spans.now q ≡ None) }
-{
-    let (first, _) = spans.first_key_value()?;
-    let (last, _) = spans.last_key_value()?;
-    Some((*first, *last))
-}
 
 // Gives an interval that is there the mark, or takes it out.
 fn respan<M: Copy>(spans: &mut BTreeMap<Unit, Span<M>>, at: Unit, span: Span<M>, mark: Option<M>)
@@ -76,14 +64,7 @@ pub(super) fn change_in<M: Copy, F: Fn(M) -> Option<M>>(
     requires callable { F.IsAlwaysCallable change }
     requires parted { AreParted (tree.get unit_cmp spans.old) }
     requires ordered { IsOrdered unit_cmp spans.old }
-    ensures changed { (after : M → Option M) → ((m : M) (r : Option M) → F.post change m r → r ≡ after m) → ((m : M) → option_and_then after (after m) ≡ after m)
-        → (q : Serial) → tree.get unit_cmp spans.new q ≡ (if covers blocks.now q then respanned after (tree.get unit_cmp spans.old q) else tree.get unit_cmp spans.old q) }
-    ensures same { (q : Serial) (s : Span M) → tree.get unit_cmp spans.old q ≡ Some s → ((r : Option M) → F.post change s.mark r → r ≡ Some s.mark) → tree.get unit_cmp spans.new q ≡ Some s }
-    ensures reshaped { AreReshaped (tree.get unit_cmp spans.old) (tree.get unit_cmp spans.new) }
-    ensures fewer { ((m r : M) → F.post change m (Some r) → r ≡ m) → (q : Serial) (t : Span M) → tree.get unit_cmp spans.new q ≡ Some t → tree.get unit_cmp spans.old q ≡ Some t }
-    ensures outside { (q : Serial) → covers blocks.now q ≡ false → tree.get unit_cmp spans.new q ≡ tree.get unit_cmp spans.old q }
-    ensures parted { AreParted (tree.get unit_cmp spans.new) }
-    ensures ordered { IsOrdered unit_cmp spans.new }
+    ensures { AreChangedIn (F.post change) blocks.now spans.old spans.new }
 {
     for block in blocks {
         change_between(
@@ -92,22 +73,5 @@ pub(super) fn change_in<M: Copy, F: Fn(M) -> Option<M>>(
             block.unit(block.raw.last),
             &change,
         );
-    }
-}
-
-// Gives each interval the mark that becomes of its own, or takes it out.
-pub(super) fn change_all<M: Copy, F: Fn(M) -> Option<M>>(
-    spans: &mut BTreeMap<Unit, Span<M>>,
-    change: F,
-)
-    requires callable { F.IsAlwaysCallable change }
-    requires parted { AreParted (tree.get unit_cmp spans.old) }
-    requires ordered { IsOrdered unit_cmp spans.old }
-    ensures changed { (q : Serial) → IsChanged (F.post change) (tree.get unit_cmp spans.old q) (tree.get unit_cmp spans.new q) }
-    ensures parted { AreParted (tree.get unit_cmp spans.new) }
-    ensures ordered { IsOrdered unit_cmp spans.new }
-{
-    if let Some((from, to)) = ends(spans) {
-        change_between(spans, from, to, &change);
     }
 }

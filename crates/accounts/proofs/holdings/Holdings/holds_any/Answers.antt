@@ -6,7 +6,8 @@ use Rattle.units.specs.Unit.{has_unit}
 use Rattle.units.specs.declared.block.Block.{Block}
 use Rattle.units.specs.declared.block.Unit.{Unit as Serial}
 use Rattle.accounts.specs.Holdings.{Held}
-use Rattle.accounts.proofs.Blocks.{among, all_at, covered, covers_from}
+use Rattle.units.proofs.BlockLists.{among}
+use Rattle.accounts.proofs.Blocks.{all_at, covered, covers_from}
 use Rattle.accounts.proofs.holdings.Holdings.holds_any.Goals as goal
 
 abbrev are_absent : Held → Block → Type 0

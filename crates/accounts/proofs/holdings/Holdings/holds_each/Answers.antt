@@ -5,7 +5,7 @@ use Rattle.units.specs.Unit.{has_unit}
 use Rattle.units.specs.declared.block.Block.{Block}
 use Rattle.units.specs.declared.block.Unit.{Unit as Serial}
 use Rattle.accounts.specs.Refusals.{IsHeldAs}
-use Rattle.accounts.proofs.Blocks.{among}
+use Rattle.units.proofs.BlockLists.{among}
 use Rattle.accounts.proofs.holdings.Holdings.holds_each.Goals as goal
 
 pub returns-clause-lacking : goal.returns-clause-lacking

@@ -7,7 +7,8 @@ use Rattle.units.specs.Unit.{has_unit}
 use Rattle.units.specs.declared.block.Block.{Block}
 use Rattle.units.specs.declared.block.Unit.{Unit as Serial}
 use Rattle.accounts.specs.Holdings.{Held}
-use Rattle.accounts.proofs.Blocks.{among, all_at, covered, covers_from}
+use Rattle.units.proofs.BlockLists.{among}
+use Rattle.accounts.proofs.Blocks.{all_at, covered, covers_from}
 use Rattle.accounts.proofs.Holding.{is_unreserved, free_from}
 use Rattle.accounts.proofs.holdings.Holdings.is_each_free.Goals as goal
 

@@ -3,13 +3,12 @@ use Rattle.std.specs.BTreeMap as tree
 use Rattle.std.specs.FinMap.{get}
 use Rattle.std.specs.Option.{option_map}
 use Rattle.std.specs.Ordering.{nat_cmp}
-use Rattle.std.proofs.lemmas.Bool.{cases_Bool}
 use Rattle.units.specs.Unit.{covers}
-use Rattle.accounts.specs.Holdings.{is_reserved_by, released}
-use Rattle.accounts.specs.Tables.{blocks_in, shares_in, free_at, share_of, shares_of, with_more_free, reserves}
+use Rattle.accounts.specs.Holdings.{released}
+use Rattle.accounts.specs.Tables.{blocks_in, shares_in, free_at, share_of, shares_of, with_more_free}
 use Rattle.accounts.proofs.Standings.{standings_kept}
 use Rattle.accounts.proofs.OneUnit.{released_twice, released_other, released_none}
-use Rattle.accounts.proofs.InStep.{freed_fits, kept_released, none_reserved, kept_none}
+use Rattle.accounts.proofs.InStep.{freed_fits, kept_released, none_reserved, kept_none, reserved_in_blocks}
 use Rattle.accounts.proofs.holdings.Holdings.release.Goals as goal
 
 pub invariant_of-self : goal.invariant_of-self
@@ -26,22 +25,18 @@ returns-in_default-clause-lots c s =
 pub remark_in-requires-clause-only : goal.remark_in-requires-clause-only
 remark_in-requires-clause-only c u m r e h =
     let i = c.self.inside in
-    let id = c.args.id in
-    let same : r ≡ released id m = search (rules, h) in
-    let blocks = ap blocks_in (sym c.in-Some.ensures.was) in
-    elim (cases_Bool (is_reserved_by id m)) [
-      | inl yes' ↦ inr (ap (λ bs. covers bs u) (c.deref.ensures.value ∙ sym blocks) ∙ sym ((c.self.invariant.listed id).exact u) ∙ ap (reserves id) e ∙ yes')
-      | inr no' ↦ inl (same ∙ released_other id m no')
+    let same : r ≡ released c.args.id m = search (rules, h) in
+    elim (reserved_in_blocks i.accounts i.lots i.reservations c.args.id c.self.invariant u m e) [
+      | inl other ↦ inl (same ∙ released_other c.args.id m other)
+      | inr among ↦ inr (ap (λ bs. covers bs u) (c.deref.ensures.value ∙ ap blocks_in c.in-Some.ensures.was) ∙ among)
     ]
 
 pub remark_in-requires-clause-same : goal.remark_in-requires-clause-same
 remark_in-requires-clause-same c u m e =
     let i = c.self.inside in
-    let id = c.args.id in
-    let blocks = ap blocks_in (sym c.in-Some.ensures.was) in
-    elim (cases_Bool (is_reserved_by id m)) [
-      | inl yes' ↦ inr (ap (λ bs. covers bs u) (c.deref.ensures.value ∙ sym blocks) ∙ sym ((c.self.invariant.listed id).exact u) ∙ ap (reserves id) e ∙ yes')
-      | inr no' ↦ inl (sym (released_other id m no'))
+    elim (reserved_in_blocks i.accounts i.lots i.reservations c.args.id c.self.invariant u m e) [
+      | inl other ↦ inl (sym (released_other c.args.id m other))
+      | inr among ↦ inr (ap (λ bs. covers bs u) (c.deref.ensures.value ∙ ap blocks_in c.in-Some.ensures.was) ∙ among)
     ]
 
 pub release_all-requires : goal.release_all-requires

@@ -1,15 +1,14 @@
-use Rattle.std.proofs.Common.{◌≡◌, ◌≤◌, true, rules, refl, sym, ap, subst, ◌∙◌, inl, inr}
+use Rattle.std.proofs.Common.{◌≡◌, ◌≤◌, rules, refl, sym, ap, subst, ◌∙◌, inl, inr}
 use Rattle.std.specs.BTreeMap as tree
 use Rattle.std.specs.FinMap.{get}
 use Rattle.std.specs.Option.{option_map}
 use Rattle.std.specs.Ordering.{nat_cmp}
-use Rattle.std.proofs.lemmas.Bool.{cases_Bool}
 use Rattle.units.specs.Unit.{covers}
 use Rattle.accounts.specs.Holdings.{is_reserved_by}
-use Rattle.accounts.specs.Tables.{blocks_in, shares_in, held_at, share_of, shares_of, with_fewer, reserves}
+use Rattle.accounts.specs.Tables.{blocks_in, shares_in, held_at, share_of, shares_of, with_fewer}
 use Rattle.accounts.proofs.Standings.{standings_kept}
 use Rattle.accounts.proofs.OneUnit.{others, others_none}
-use Rattle.accounts.proofs.InStep.{share_held, kept_removed, none_reserved, kept_none}
+use Rattle.accounts.proofs.InStep.{share_held, kept_removed, none_reserved, kept_none, reserved_in_blocks}
 use Rattle.accounts.proofs.holdings.Holdings.remove.Goals as goal
 
 pub invariant_of-self : goal.invariant_of-self
@@ -26,11 +25,9 @@ returns-in_default-clause-lots c s =
 pub remove_in-requires-clause-only : goal.remove_in-requires-clause-only
 remove_in-requires-clause-only c u m e =
     let i = c.self.inside in
-    let id = c.args.id in
-    let blocks = ap blocks_in (sym c.in-Some.ensures.was) in
-    elim (cases_Bool (is_reserved_by id m)) [
-      | inl yes' ↦ inr (ap (λ bs. covers bs u) (c.deref.ensures.value ∙ sym blocks) ∙ sym ((c.self.invariant.listed id).exact u) ∙ ap (reserves id) e ∙ yes')
-      | inr no' ↦ inl (sym no')
+    elim (reserved_in_blocks i.accounts i.lots i.reservations c.args.id c.self.invariant u m e) [
+      | inl other ↦ inl (sym other)
+      | inr among ↦ inr (ap (λ bs. covers bs u) (c.deref.ensures.value ∙ ap blocks_in c.in-Some.ensures.was) ∙ among)
     ]
 
 pub take_out_all-requires : goal.take_out_all-requires

@@ -1,15 +1,13 @@
 use Rattle.std.proofs.Common.{◌≤◌, ◌∷◌, [], ◌++◌, Some, cond, eqb, refl, sym, ap, subst, ◌∙◌}
 use Rattle.std.specs.BTreeMap as tree
 use Rattle.std.specs.FinMap.{get}
-use Rattle.std.specs.Map.{lookup}
 use Rattle.std.specs.Option.{option_map}
-use Rattle.std.specs.Ordering.{is_eq, nat_cmp}
+use Rattle.std.specs.Ordering.{nat_cmp}
 use Rattle.units.specs.Apart.{AllApart}
 use Rattle.units.specs.Unit.{covers}
-use Rattle.status.specs.Id.{id_cmp}
 use Rattle.accounts.specs.Holdings.{kind_in}
 use Rattle.accounts.specs.Tables.{blocks_of, free_at, shares_of, units_in, with_fewer_free}
-use Rattle.accounts.proofs.InStep.{enough_free, kept_reserved, kept_same, put_back_same}
+use Rattle.accounts.proofs.InStep.{enough_free, kept_reserved, kept_same, taken_back}
 use Rattle.accounts.proofs.Parts.{kind_covered}
 use Rattle.accounts.proofs.Reserving.{free_lots, reserved_lot}
 use Rattle.accounts.proofs.Standings.{standings_kept_one}
@@ -19,13 +17,16 @@ use Rattle.accounts.proofs.holdings.Holdings.reserve.Goals as goal
 pub invariant_of-self : goal.invariant_of-self
 invariant_of-self c =
     let i = c.self.inside in
-    kept_same i.accounts i.lots i.lots i.reservations c.put.new.reservations c.self.invariant refl (λ q. ap (lookup (λ k. is_eq (id_cmp q k))) c.in_err-before.ensures.err)
+    kept_same i.accounts i.lots i.lots i.reservations c.extend.new.reservations c.args.id c.self.invariant refl c.in_err-extend.ensures.err
 
 pub invariant_of-self-in-Err : goal.invariant_of-self-in-Err
 invariant_of-self-in-Err c =
     let i = c.self.inside in
-    kept_same i.accounts i.lots c.set_lots.new.lots i.reservations c.put_back.new.reservations c.self.invariant c.in-Err.ensures.err
-    (put_back_same i.reservations c.put.new.reservations c.put_back.new.reservations c.args.id c.in_ok-longer.longer c.in_ok-before.before c.in_ok-before.ensures.before c.in_ok-before.ensures.ok c.put_back.ensures)
+    let id = c.args.id in
+    let given = c.in_ok-extend.ensures.ok in
+    kept_same i.accounts i.lots c.set_lots.new.lots i.reservations c.shorten.new.reservations id c.self.invariant c.in-Err.ensures.err
+    (taken_back i.reservations c.extend.new.reservations c.shorten.new.reservations id _ _ given
+    (c.shorten.ensures (blocks_of i.reservations id) (shares_of i.reservations id) _ (given.blocks_are ∙ ap (λ bs. blocks_of i.reservations id ++ bs) (c.deref-2.ensures.value ∙ sym c.deref-in-Err.ensures.value)) given.shares_are))
 
 pub reserve-requires : goal.reserve-requires
 reserve-requires c =
@@ -47,9 +48,13 @@ invariant_of-self-2 c =
     let apart = subst AllApart (sym c.deref-3.ensures.value) c.in_ok-parts.ensures.apart in
     let counted = c.count.ensures ∙ ap units_in (c.deref.ensures.value ∙ sym c.deref-3.ensures.value) in
     let free = free_lots c.args.self.now a c.args.blocks.now c.in_ok-parts.parts.items c.in_ok-check.ensures.ok c.in_ok-parts.ensures.kinds in
-    kept_reserved i.accounts i.lots i.reservations c.self.invariant a parts apart c.set_lots.new.lots id c.in_ok-longer.longer c.put.new.reservations c.in_ok-before.ensures.ok
-    (c.in_ok-longer.ensures.blocks ∙ ap (λ bs. blocks_of i.reservations id ++ bs) (c.deref-2.ensures.value ∙ sym c.deref-3.ensures.value))
-    (c.in_ok-longer.ensures.shares ∙ ap (λ m. shares_of i.reservations id ++ record { account = a; count = m } ∷ []) counted)
+    let given = c.in_ok-extend.ensures.ok in
+    kept_reserved i.accounts i.lots i.reservations c.self.invariant a parts apart c.set_lots.new.lots id c.extend.new.reservations
+    (record {
+      blocks_are = given.blocks_are ∙ ap (λ bs. blocks_of i.reservations id ++ bs) (c.deref-2.ensures.value ∙ sym c.deref-3.ensures.value);
+      shares_are = given.shares_are ∙ ap (λ m. shares_of i.reservations id ++ record { account = a; count = m } ∷ []) counted;
+      others = given.others;
+    })
     c.in_default.ensures.ok
     (λ s k e. ap (λ h. get h.lots s) c.self.view_is ∙ free s k (ap (λ bs. kind_in bs s) (sym c.deref-3.ensures.value) ∙ e))
     c.reserve.new.accounts

@@ -1,5 +1,0 @@
-pub mod Readings
-pub mod Kept
-pub mod Effects
-pub mod Registry
-pub mod Taking

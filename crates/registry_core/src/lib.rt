@@ -1,5 +1,0 @@
-//! A registry.
-#![tactic(auto)]
-
-mod effect;
-mod tables;

@@ -262,7 +262,7 @@ impl Acquirer {
         requires { (k : Terms) → content_in (map.get self.old.transfers id) ≡ Some k → MayCredit holdings.old k }
         ensures transfers { OnOk result ((self.new.code ≡ self.old.code) × ((t : TransactionId) → map.get self.new.transfers t ≡ (if same_id id t then option_map (finished words.Completed) (map.get self.old.transfers t) else map.get self.old.transfers t))) }
         ensures accounts { holdings.new.accounts ≡ holdings.old.accounts }
-        ensures lots { (k : Terms) → content_in (map.get self.old.transfers id) ≡ Some k → OnOk result ((blocks : List Block) → raws blocks ≡ k.units → (s : Serial) → map.get holdings.new.lots s ≡ option_or (option_map (held.free_lot k.to_account) (kind_in blocks s)) (map.get holdings.old.lots s)) }
+        ensures lots { (k : Terms) → content_in (map.get self.old.transfers id) ≡ Some k → OnOk result ((blocks : List Block) × (raws blocks ≡ k.units) × ((s : Serial) → map.get holdings.new.lots s ≡ option_or (option_map (held.free_lot k.to_account) (kind_in blocks s)) (map.get holdings.old.lots s))) }
         ensures none { content_in (map.get self.old.transfers id) ≡ None → holdings.new ≡ holdings.old }
         ensures err { OnErr result ((self.new ≡ self.old) × (holdings.new ≡ holdings.old)) }
     {

@@ -6,7 +6,7 @@ use Rattle.status.proofs.UnitsOfContents.{covered}
 use Rattle.status.specs.Id.{same_id}
 use Rattle.status.specs.declared.words.Status.TheVariants as words
 use Rattle.acquirer.specs.Transfers.{finished}
-use Rattle.acquirer.proofs.Tables.{changed_at, same_kinds}
+use Rattle.acquirer.proofs.Tables.{changed_at}
 use Rattle.acquirer.proofs.acquirer.Acquirer.complete.Goals as goal
 use Rattle.acquirer.proofs.acquirer.Acquirer.complete.Goals.{in-Some+in_ok-credit, in_default}
 
@@ -23,14 +23,15 @@ returns-clause-transfers c = (
 )
 
 pub returns-clause-lots : goal.returns-clause-lots
-returns-clause-lots c k e blocks r s =
-    let was = get c.args.holdings.now.lots s in
+returns-clause-lots c k e =
     elim c.match-content.branch [
       | in-Some+in_ok-credit w ↦
           let found : Some w.in-Some.content.now ≡ Some k = w.in-Some.ensures ∙ e in
-          let same : w.in-Some.content.now ≡ k = cc (found) in
-          ap (λ h. get h.lots s) w.holdings-is ∙ w.in_ok-credit.ensures.ok.1 s
-          ∙ ap (λ a. option_or (option_map (free_lot a) (kind_in w.units.result.now s)) was) (w.to_account.ensures.value ∙ ap (λ x. x.to_account) same)
-          ∙ ap (λ q. option_or (option_map (free_lot k.to_account) q) was) (same_kinds w.units.result.now blocks s (w.units.ensures.value ∙ ap (λ x. x.units) same ∙ sym r))
+          let same : w.in-Some.content.now ≡ k = cc (found) in (
+            w.units.result.now,
+            w.units.ensures.value ∙ ap (λ x. x.units) same,
+            λ s. ap (λ h. get h.lots s) w.holdings-is ∙ w.in_ok-credit.ensures.ok.1 s
+                ∙ ap (λ a. option_or (option_map (free_lot a) (kind_in w.units.result.now s)) (get c.args.holdings.now.lots s)) (w.to_account.ensures.value ∙ ap (λ x. x.to_account) same),
+          )
       | in_default w ↦ absurd (let none : None ≡ Some k = w.in_default.ensures ∙ e in cc (none))
     ]

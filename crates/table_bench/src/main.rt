@@ -24,8 +24,11 @@ use units::{Block, Code, Kind, NoMemory, Node, Period, UnitMap, overlaps};
 use wire::{Message, Request};
 
 const LEAST: u64 = 16;
+
 const MOST: u64 = 10_000_000;
+
 const UNITS_OF_AN_INTERVAL: u64 = 10;
+
 const BLOCKS_OF_A_CALL: u64 = 16;
 // Of so many messages one isn't acknowledged.
 const WAITING: usize = 2;
@@ -120,9 +123,7 @@ fn kind_at(place: u64) -> Kind {
 
 // The block of the interval at that place.
 fn block_at(origin: Code, place: u64) -> Option<Block> {
-    let first = place
-        .saturating_mul(UNITS_OF_AN_INTERVAL)
-        .saturating_add(1);
+    let first = place.saturating_mul(UNITS_OF_AN_INTERVAL).saturating_add(1);
     let last = first.saturating_add(UNITS_OF_AN_INTERVAL - 1);
     Block::new(origin, Period::First, kind_at(place), first, last).ok()
 }
@@ -210,7 +211,10 @@ fn outbox_time(clock: &impl Clock, outbox: &Outbox, sizes: Sizes) -> Result<Foun
     let mut count: u64 = 0;
     for call in 0..sizes.calls {
         let from = call.saturating_mul(STEP) % sizes.messages.max(LEAST);
-        if outbox.next_unacknowledged(Node::Itl, from as usize).is_some() {
+        if outbox
+            .next_unacknowledged(Node::Itl, from as usize)
+            .is_some()
+        {
             count = count.saturating_add(1);
         }
     }

@@ -2,6 +2,7 @@
 ghost use Rattle.std.specs.Prelude.{◌≡◌};
 
 use scheme::Holder;
+use status::TransactionId;
 use std::collections::BTreeMap;
 use units::{Code, Mark, UnitMap};
 
@@ -11,9 +12,11 @@ pub struct Owner {
     pub registry: Code,
 }
 
-/// That a unit is in a transfer that stands Checked or Accepted.
+/// The transfer that a unit is in, which stands Checked or Accepted.
 #[derive(Clone, Copy, Debug, PartialEq, Eq)]
-pub struct UnderWay;
+pub struct UnderWay {
+    pub id: TransactionId,
+}
 
 /// What the log knows of units and registries.
 #[derive(Debug, Drop)]
@@ -22,7 +25,7 @@ pub struct Register {
     pub allotments: UnitMap<Holder>,
     /// Who owns each allotted unit.
     pub book: UnitMap<Owner>,
-    /// The units that are in a transfer.
+    /// The transfer that each unit under way is in.
     pub under_way: UnitMap<UnderWay>,
     /// Whether a registry may take part in transfers, as the last order for it says.
     pub orders: BTreeMap<Code, bool>,

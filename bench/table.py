@@ -1,0 +1,62 @@
+#!/usr/bin/env python3
+"""How long calls on a map of many intervals, and on an outbox of many messages, take.
+
+The map has 100,000 or 200,000 intervals, the outbox 1,000,000 or 2,000,000 messages, of which every other waits. Printed are the best times of
+10,000 calls of `set_all` with 16 blocks each, there and back, and of 10,000 look-ups of the next message that waits, and the ratio
+of the doubling of the size. The exit status is 1 where a ratio is over its limit.
+"""
+
+import argparse
+import pathlib
+import subprocess
+import sys
+
+import building
+
+CRATE = pathlib.Path(__file__).resolve().parent.parent / "crates" / "table_bench"
+PROGRAM = CRATE / "out" / "table_bench"
+# Intervals and messages.
+SIZES = ((100_000, 1_000_000), (200_000, 2_000_000))
+CALLS = 10_000
+MOST_DOUBLING = 1.3
+
+
+def times(intervals, messages):
+    """The two times in milliseconds."""
+    words = [PROGRAM, str(intervals), str(messages), str(CALLS)]
+    ended = subprocess.run(words, stdout=subprocess.PIPE, text=True, check=False)
+    if ended.returncode != 0:
+        sys.exit(f"{PROGRAM.name} ended with status {ended.returncode}")
+    in_map, in_outbox, found = (int(word) for word in ended.stdout.split())
+    # few look-ups begin after the last message that waits
+    if found < CALLS * 9 // 10:
+        sys.exit(f"{PROGRAM.name} found only {found:,} messages in {CALLS:,} look-ups")
+    return in_map / 1_000, in_outbox / 1_000
+
+
+def main():
+    parser = argparse.ArgumentParser(description=__doc__.splitlines()[0])
+    parser.add_argument("--runs", type=int, default=5, help="runs of each size; the best times count")
+    given = parser.parse_args()
+    building.prove_and_build(CRATE, ["16", "16", "16"])
+    best = {size: (float("inf"), float("inf")) for size in SIZES}
+    for _ in range(max(1, given.runs)):
+        for size in SIZES:
+            best[size] = tuple(map(min, best[size], times(*size)))
+
+    kept = True
+    before = None
+    for (intervals, messages), (in_map, in_outbox) in best.items():
+        line = f"{intervals:>7,} intervals {in_map:.1f} ms  {messages:>9,} messages {in_outbox:.2f} ms"
+        if before is not None:
+            doublings = in_map / before[0], in_outbox / before[1]
+            kept = kept and max(doublings) <= MOST_DOUBLING
+            line += f"  doublings {doublings[0]:.2f} and {doublings[1]:.2f} (limit {MOST_DOUBLING})"
+        print(line)
+        before = in_map, in_outbox
+    print("within the limits" if kept else "over a limit")
+    return 0 if kept else 1
+
+
+if __name__ == "__main__":
+    sys.exit(main())

@@ -1,0 +1,178 @@
+-- What the tables do with an input for which a role has decided.
+use Rattle.std.proofs.Common.{◌≡◌, ℕ, Bool, true, false, not, List, [], ◌∷◌, Some, None, Ok, Err, inl, inr, refl, sym, ap, subst, ◌∙◌}
+use Rattle.std.specs.FinMap as map
+use Rattle.std.specs.Prelude.{Result, is_some}
+use Rattle.std.proofs.lemmas.Bool.{cases_Bool, cond-true, cond-false, or_parts}
+use Rattle.units.specs.Code.{same_code}
+use Rattle.units.specs.RefusalCodes.{no_row}
+use Rattle.units.specs.declared.code.Code.{Code}
+use Rattle.units.specs.declared.code.Node.TheVariants.{Registry}
+use Rattle.units.specs.declared.refusal.Refusal.{Refusal}
+use Rattle.status.specs.Rows.{acquirer_row, initiator_row}
+use Rattle.status.specs.Status.{same_status}
+use Rattle.status.specs.declared.words.Known.{Known}
+use Rattle.status.specs.declared.words.Known.TheVariants.{Bare, Stands, Unknown}
+use Rattle.status.specs.declared.words.Row.{Row}
+use Rattle.status.specs.declared.words.Row.TheVariants.{Move, Refused}
+use Rattle.status.specs.declared.words.RowInput.TheVariants as column
+use Rattle.status.specs.declared.words.RowInput.TheVariants.{Notified}
+use Rattle.status.specs.declared.words.Status.{Status}
+use Rattle.status.specs.declared.words.Status.TheVariants.{Proposed, Checked, Accepted, Rejected, Terminated, Cancelled, Completed}
+use Rattle.wire.specs.declared.input.Input.{Input}
+use Rattle.wire.specs.declared.input.Input.TheVariants.{Received}
+use Rattle.wire.specs.declared.message.Message.{Message}
+use Rattle.wire.specs.declared.message.Message.TheVariants as message
+use Rattle.wire.specs.declared.message.Notification.{Notification}
+use Rattle.wire.specs.declared.message.Proposal.{Proposal}
+use Rattle.wire.specs.declared.message.Request.{Request}
+use Rattle.scheme.specs.declared.registries.Scheme.{Scheme}
+use Rattle.status.specs.declared.moment.Moment.{Moment}
+use Rattle.protocol.specs.AtRegistry.{holding, holds_some, registry_answer, registry_refusals, unless_held}
+use Rattle.protocol.specs.Checks.{Causes}
+use Rattle.protocol.specs.Cores.{IsDueOrNoMemory}
+use Rattle.protocol.specs.Deciding as decide
+use Rattle.protocol.specs.Effects.{acquirer_sends, initiator_sends}
+use Rattle.lemmas.proofs.OneValue.{clash}
+use Rattle.protocol.specs.Deciding.{IsLate, IsRefused, IsRepeat, by_row, content_in, enters, known, refuse}
+use Rattle.protocol.specs.Decisions.{decided, unless}
+use Rattle.protocol.specs.History.{Entry, Transition, newest, transitions_of}
+use Rattle.protocol.specs.Verdict.{history}
+use Rattle.protocol.specs.declared.decision.Decision.{Decision}
+use Rattle.protocol.specs.declared.decision.Decision.TheVariants as decision
+use Rattle.checks.specs.Knowing.{Knows}
+use Rattle.checks.specs.Refusing.{first_of}
+use Rattle.safety.proofs.MovesAndHistories.TableRows.{acquirer_from, acquirer_notified, unless_moves}
+use Rattle.safety.proofs.ListLemmas.TestsOfSameness.{status_of_same}
+use Rattle.registry_core.specs.Effects.{IsEffect, ending}
+use Rattle.registry_core.specs.Kept.{IsKept}
+use Rattle.registry_core.specs.Readings.{is_foreign}
+use Rattle.registry_core.specs.Taking.{due}
+use Rattle.registry_core.specs.declared.tables.Tables.{Tables}
+use Rattle.registry_core.proofs.DecisionsAndVerdicts.{unless_enters, unless_late, unless_moves as causes_move, unless_refused, unless_repeat}
+use Rattle.registry_core.proofs.FirstRefusals.{first_none, refuse_first, refuse_none}
+use Rattle.registry_core.proofs.KnownHoldings.{knows}
+use Rattle.registry_core.proofs.RecordedEntries.{entered_made, replays_entered}
+use Rattle.registry_core.proofs.TablesSayHistory.{foreign_there_so}
+use Rattle.registry_core.proofs.TakenInputs.{GivenUp, due_so}
+
+-- what the holdings know is what the history says
+pub knows_so : (scheme : Scheme) (c : Code) (tables : Tables) → IsKept scheme c tables → Knows scheme c tables.holdings (holding scheme c (history scheme (Registry c) tables.journal.items))
+knows_so scheme c tables kept =
+    let es = history scheme (Registry c) tables.journal.items in
+    knows scheme c es (entered_made scheme c es (replays_entered scheme c tables.journal.items kept.replays)) tables.holdings kept.kept.lots kept.kept.accounts
+
+-- ---- a decision, where the verdict on the input goes by that row after those causes
+
+module _ (scheme : Scheme) (c : Code) (tables : Tables) (input : Input) (to : Status → Transition) (cs : Causes) (row : Row) (ms : List Message) (d : Result Decision Refusal)
+    (is : IsDueOrNoMemory d (unless cs (decided row ms)))
+    (row_is : due scheme c tables input ≡ refuse cs (by_row scheme (history scheme (Registry c) tables.journal.items) to row)) where
+  pub given_up : (r : Refusal) → d ≡ Err r → GivenUp scheme c tables input r.code
+  given_up r h =
+      elim (unless_refused scheme (history scheme (Registry c) tables.journal.items) to cs row ms d r is h) [
+        | inl memory ↦ inl memory
+        | inr e ↦ inr (row_is ∙ e)
+      ]
+
+  pub moves : (new : Status) (ms' : List Message) → d ≡ Ok (decision.Moves new ms') → due scheme c tables input ≡ enters scheme (history scheme (Registry c) tables.journal.items) (to new ∷ [])
+  moves new ms' h = row_is ∙ unless_enters scheme (history scheme (Registry c) tables.journal.items) to cs row ms ms' new d is h
+
+  pub sends : (new : Status) (ms' : List Message) → d ≡ Ok (decision.Moves new ms') → ms' ≡ ms
+  sends new ms' h = (causes_move cs row ms ms' new d is h).2
+
+  pub row_moves : (new : Status) (ms' : List Message) → d ≡ Ok (decision.Moves new ms') → row ≡ Move new
+  row_moves new ms' h = (causes_move cs row ms ms' new d is h).1
+
+  pub repeats : d ≡ Ok decision.Repeat → due scheme c tables input ≡ IsRepeat
+  repeats h = row_is ∙ unless_repeat scheme (history scheme (Registry c) tables.journal.items) to cs row ms d is h
+
+  pub comes_late : d ≡ Ok decision.Late → due scheme c tables input ≡ IsLate
+  comes_late h = row_is ∙ unless_late scheme (history scheme (Registry c) tables.journal.items) to cs row ms d is h
+
+-- ---- messages
+
+-- a proposal that is welcome isn't of this registry
+pub welcome_foreign : (c : Code) (es : List Entry) (p : Proposal) → first_of (registry_refusals c es (message.Proposal p)) ≡ None → same_code p.id.code c ≡ false
+welcome_foreign c es p none =
+    let h = (first_none (registry_refusals c es (message.Proposal p)) none).1.1.0 in
+    (or_parts (same_code p.id.code c) _ (or_parts (not (same_code p.content.acquirer c)) _ h).1).0
+
+module _ (scheme : Scheme) (c : Code) (tables : Tables) (kept : IsKept scheme c tables) where
+  -- what ends a transfer to the registry is its effect
+  pub ending_effect : (n : Notification) (moment : Moment) (told new : Status) (held : Bool) (x : Transition) → same_code n.id.code c ≡ false → x.new ≡ new
+      → unless_held held (acquirer_row (known (newest (transitions_of (history scheme (Registry c) tables.journal.items)) n.id)) (Notified told)) ≡ Move new
+      → IsEffect c (history scheme (Registry c) tables.journal.items) (Received (message.Notification n) moment) x (ending (is_some (map.get tables.acquirer.transfers n.id)) n.id new)
+  ending_effect n moment told new held x foreign stood move =
+      let es = history scheme (Registry c) tables.journal.items in
+      let i = Received (message.Notification n) moment in
+      let there = foreign_there_so scheme c tables kept n.id foreign in
+      let other : is_foreign c n.id ≡ true = ap not foreign in
+      elim (cases_Bool (is_some (map.get tables.acquirer.transfers n.id))) [
+        | inr none ↦ subst (λ b. IsEffect c es i x (ending b n.id new)) (sym none) (refl, there ∙ none)
+        | inl some ↦
+            subst (λ b. IsEffect c es i x (ending b n.id new)) (sym some)
+            (elim (cases_Bool (same_status new Completed)) [
+              | inl y ↦ subst (λ e. IsEffect c es i x e) (sym (cond-true (same_status new Completed) _ _ y)) (refl, stood ∙ status_of_same new Completed y, other, there ∙ some)
+              | inr isnt ↦ subst (λ e. IsEffect c es i x e) (sym (cond-false (same_status new Completed) _ _ isnt)) (refl, stood ∙ cancelled isnt, other, there ∙ some)
+            ])
+      ]
+    where
+      row : acquirer_row (known (newest (transitions_of (history scheme (Registry c) tables.journal.items)) n.id)) (Notified told) ≡ Move new
+      row = (unless_moves held (acquirer_row (known (newest (transitions_of (history scheme (Registry c) tables.journal.items)) n.id)) (Notified told)) new move).0
+
+      cancelled : same_status new Completed ≡ false → new ≡ Cancelled
+      cancelled isnt =
+          elim (acquirer_notified (known (newest (transitions_of (history scheme (Registry c) tables.journal.items)) n.id)) told new row) [
+            | inr e ↦ e.2
+            | inl e ↦
+                let f = acquirer_from e.0 told new (subst (λ k. acquirer_row k (Notified told) ≡ Move new) e.1 row) in
+                elim f.2 [
+                  | inl done ↦ clash (same_status new Completed) (ap (λ z. same_status z Completed) (f.1 ∙ done)) isnt
+                  | inr gone ↦ f.1 ∙ gone
+                ]
+          ]
+
+  unasked_initiator : (k : Known) → initiator_row k column.Request ≡ Refused
+  unasked_initiator Unknown = refl
+  unasked_initiator Bare = refl
+  unasked_initiator (Stands Proposed) = refl
+  unasked_initiator (Stands Completed) = refl
+  unasked_initiator (Stands Rejected) = refl
+  unasked_initiator (Stands Terminated) = refl
+  unasked_initiator (Stands Cancelled) = refl
+  unasked_initiator (Stands Checked) = refl
+  unasked_initiator (Stands Accepted) = refl
+
+  unheld_refused : (held : Bool) → unless_held held Refused ≡ Refused
+  unheld_refused true = refl
+  unheld_refused false = refl
+
+  unasked_acquirer : (k : Known) → acquirer_row k column.Request ≡ Refused
+  unasked_acquirer Unknown = refl
+  unasked_acquirer Bare = refl
+  unasked_acquirer (Stands Proposed) = refl
+  unasked_acquirer (Stands Completed) = refl
+  unasked_acquirer (Stands Rejected) = refl
+  unasked_acquirer (Stands Terminated) = refl
+  unasked_acquirer (Stands Cancelled) = refl
+  unasked_acquirer (Stands Checked) = refl
+  unasked_acquirer (Stands Accepted) = refl
+
+  -- no registry takes a request
+  pub request_refused : (r : Request) (moment : Moment) → first_of (registry_refusals c (history scheme (Registry c) tables.journal.items) (message.Request r)) ≡ None → due scheme c tables (Received (message.Request r) moment) ≡ IsRefused no_row
+  request_refused r moment none =
+      let es = history scheme (Registry c) tables.journal.items in
+      let last = newest (transitions_of es) r.id in
+      let to = decide.moved r.id (content_in last) moment.seconds in
+      due_so scheme c tables (Received (message.Request r) moment)
+      ∙ refuse_none (registry_refusals c es (message.Request r)) (registry_answer scheme c es moment.seconds (message.Request r)) (first_none (registry_refusals c es (message.Request r)) none)
+      ∙ (elim (cases_Bool (same_code r.id.code c)) [
+        | inl own ↦ cond-true (same_code r.id.code c) _ _ own ∙ ap (by_row scheme es (to (initiator_sends c r.id (content_in last) column.Request))) (unasked_initiator (known last))
+        | inr other ↦
+            cond-false (same_code r.id.code c) _ _ other
+            ∙ ap (by_row scheme es (to (acquirer_sends c r.id [] column.Request))) (ap (unless_held (holds_some scheme c (transitions_of es) (content_in last))) (unasked_acquirer (known last)) ∙ unheld_refused (holds_some scheme c (transitions_of es) (content_in last)))
+      ])
+
+  pub message_refused : (m : Message) (moment : Moment) (code : ℕ) → first_of (registry_refusals c (history scheme (Registry c) tables.journal.items) m) ≡ Some code → due scheme c tables (Received m moment) ≡ IsRefused code
+  message_refused m moment code first =
+      let es = history scheme (Registry c) tables.journal.items in
+      due_so scheme c tables (Received m moment) ∙ refuse_first (registry_refusals c es m) (registry_answer scheme c es moment.seconds m) code first

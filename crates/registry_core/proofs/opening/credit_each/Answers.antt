@@ -1,0 +1,35 @@
+use Rattle.std.proofs.Common.{refl, sym, ap, subst, option_map, ◌∙◌}
+use Rattle.std.specs.FinMap as map
+use Rattle.units.specs.Keys.{unit_cmp}
+use Rattle.std.specs.FinMap.{get-empty}
+use Rattle.std.specs.Option.{option_or}
+use Rattle.units.specs.Apart.{AllApart}
+use Rattle.units.specs.Unit.{covers}
+use Rattle.accounts.specs.Holdings.{free_lot, kind_in}
+use Rattle.registry_core.proofs.OpeningLots.{allotment_more}
+use Rattle.registry_core.proofs.opening.credit_each.Goals as goal
+
+pub loop-allotment-init : goal.loop-allotment-init
+loop-allotment-init c = record { accounts = refl; lots = λ s. ap (λ m. map.get m s) c.requires.empty ∙ get-empty unit_cmp s }
+
+pub credit-requires-clause-apart : goal.credit-requires-clause-apart
+credit-requires-clause-apart c =
+    let f = allotment_more c.args.allotted.now c.loop-allotment.allotment-index c.allotment-item.result c.requires.apart c.loop-allotment-test.true c.allotment-item.is in
+    subst AllApart (sym c.as_slice.ensures) f.apart
+
+pub credit-requires-clause-absent : goal.credit-requires-clause-absent
+credit-requires-clause-absent c s y =
+    let f = allotment_more c.args.allotted.now c.loop-allotment.allotment-index c.allotment-item.result c.requires.apart c.loop-allotment-test.true c.allotment-item.is in
+    c.loop-allotment.invariant.lots s ∙ f.absent s (ap (λ bs. covers bs s) (sym c.as_slice.ensures) ∙ y)
+
+pub loop-allotment-preserved : goal.loop-allotment-preserved
+loop-allotment-preserved c =
+    let a = c.allotment-item.result in
+    let f = allotment_more c.args.allotted.now c.loop-allotment.allotment-index a c.requires.apart c.loop-allotment-test.true c.allotment-item.is in
+    let put = c.in_ok-credit.ensures.ok in
+    record {
+      accounts = put.0 ∙ c.loop-allotment.invariant.accounts;
+      lots = λ s.
+          put.1 s ∙ ap (λ bs. option_or (option_map (free_lot a.account) (kind_in bs s)) (map.get c.loop-allotment.holdings.lots s)) c.as_slice.ensures
+          ∙ ap (option_or (option_map (free_lot a.account) (kind_in a.units s))) (c.loop-allotment.invariant.lots s) ∙ sym (f.credited s);
+    }

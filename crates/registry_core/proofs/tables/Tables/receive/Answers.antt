@@ -1,0 +1,62 @@
+use Rattle.std.proofs.Common.{inr, sym, ap, ◌∙◌}
+use Rattle.units.specs.declared.code.Node.TheVariants.{Registry}
+use Rattle.wire.specs.declared.input.Input.TheVariants.{Received}
+use Rattle.protocol.specs.Verdict.{history}
+use Rattle.checks.specs.Refusing.{first_of}
+use Rattle.protocol.specs.AtRegistry.{registry_refusals}
+use Rattle.registry_core.specs.Taking.{due}
+use Rattle.registry_core.proofs.DecidedInputs.{message_refused, request_refused}
+use Rattle.registry_core.proofs.TakenInputs.{are_same, takes_refused}
+use Rattle.registry_core.proofs.tables.Tables.receive.Goals as goal
+
+pub returns-in-Some : goal.returns-in-Some
+returns-in-Some c =
+    let s = c.args.scheme.now in
+    let k = c.args.code in
+    let was = c.args.self.now in
+    let i = c.args.input.now in
+    let kept = c.requires.kept in
+    let es = history s (Registry k) was.journal.items in
+    let first = c.message_refusal.ensures es kept.kept.own kept.kept.foreign in
+    takes_refused s k was was i (record { code = c.in-Some.refused }) kept (are_same was)
+    (inr (ap (due s k was) c.requires.input.1 ∙ message_refused s k was kept c.args.message.now c.requires.input.0 c.in-Some.refused (sym first ∙ c.in-Some.is)))
+
+pub arrive-requires-clause-input : goal.arrive-requires-clause-input
+arrive-requires-clause-input c = (c.requires.input.0, c.requires.input.1 ∙ ap (λ m. Received m c.requires.input.0) c.in-Proposal.is)
+
+pub arrive-requires-clause-welcome : goal.arrive-requires-clause-welcome
+arrive-requires-clause-welcome c =
+    let s = c.args.scheme.now in
+    let k = c.args.code in
+    let was = c.args.self.now in
+    let i = c.args.input.now in
+    let kept = c.requires.kept in
+    let es = history s (Registry k) was.journal.items in
+    let first = c.message_refusal.ensures es kept.kept.own kept.kept.foreign in
+    ap (λ m. first_of (registry_refusals k es m)) (sym c.in-Proposal.is) ∙ sym first ∙ c.in_default.is
+
+pub hear-requires-clause-input : goal.hear-requires-clause-input
+hear-requires-clause-input c = (c.requires.input.0, c.requires.input.1 ∙ ap (λ m. Received m c.requires.input.0) c.in-Notification.is)
+
+pub hear-requires-clause-welcome : goal.hear-requires-clause-welcome
+hear-requires-clause-welcome c =
+    let s = c.args.scheme.now in
+    let k = c.args.code in
+    let was = c.args.self.now in
+    let i = c.args.input.now in
+    let kept = c.requires.kept in
+    let es = history s (Registry k) was.journal.items in
+    let first = c.message_refusal.ensures es kept.kept.own kept.kept.foreign in
+    ap (λ m. first_of (registry_refusals k es m)) (sym c.in-Notification.is) ∙ sym first ∙ c.in_default.is
+
+pub returns-in-Request : goal.returns-in-Request
+returns-in-Request c =
+    let s = c.args.scheme.now in
+    let k = c.args.code in
+    let was = c.args.self.now in
+    let i = c.args.input.now in
+    let kept = c.requires.kept in
+    let es = history s (Registry k) was.journal.items in
+    let first = c.message_refusal.ensures es kept.kept.own kept.kept.foreign in
+    takes_refused s k was was i (record { code = 46 }) kept (are_same was) (inr (ap (due s k was) (c.requires.input.1 ∙ ap (λ m. Received m c.requires.input.0) c.in-Request.is)
+    ∙ request_refused s k was kept c.in-Request.field-0 c.requires.input.0 (ap (λ m. first_of (registry_refusals k es m)) (sym c.in-Request.is) ∙ sym first ∙ c.in_default.is)))

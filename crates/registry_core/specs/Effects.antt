@@ -1,0 +1,86 @@
+-- What the tables do for a transition.
+use Rattle.std.specs.Prelude.{◌≡◌, not, Bool, true, false, cond, List, Option, Some, None, option_map, if◌then◌else◌}
+use Rattle.std.specs.FinMap as map
+use Rattle.std.specs.Option.{option_or}
+use Rattle.units.specs.Intervals.{marks_that}
+use Rattle.units.specs.Unit.{have_unit}
+use Rattle.units.specs.declared.block.Block.{Block}
+use Rattle.units.specs.declared.block.Unit.{Unit as Serial}
+use Rattle.units.specs.declared.code.Code.{Code}
+use Rattle.status.specs.Content.{Content, raws}
+use Rattle.status.specs.Id.{same_id, id_cmp}
+use Rattle.status.specs.Status.{same_status}
+use Rattle.status.specs.declared.id.TransactionId.{TransactionId}
+use Rattle.status.specs.declared.words.Status.{Status}
+use Rattle.status.specs.declared.words.Status.TheVariants.{Completed, Cancelled}
+use Rattle.accounts.specs.Holdings.{Held, reserved, released, is_reserved_by, free_lot, kind_in}
+use Rattle.accounts.specs.Refusals.{MayReserve}
+use Rattle.accounts.specs.declared.lot.Lot.{Lot}
+use Rattle.wire.specs.declared.input.Input.{Input}
+use Rattle.wire.specs.declared.input.Input.TheVariants.{Propose, Request, Received}
+use Rattle.wire.specs.declared.message.Message.TheVariants as message
+use Rattle.protocol.specs.History.{Entry, Transition, transitions_of, is_known}
+use Rattle.initiator.specs.Transfers as initiator
+use Rattle.initiator.specs.Transfers.{Initiating}
+use Rattle.acquirer.specs.Crediting.{MayCredit}
+use Rattle.acquirer.specs.Transfers as acquirer
+use Rattle.acquirer.specs.Transfers.{Acquiring}
+use Rattle.registry_core.specs.Readings.{is_own, is_foreign}
+use Rattle.registry_core.specs.declared.effect.Effect.{Effect}
+use Rattle.registry_core.specs.declared.effect.Effect.TheVariants.{Open, Ask, Settle, Arrive, Forestall, Complete, Cancel}
+
+-- the effect is what a transition by that input asks for
+abbrev pub IsEffect : Code → List Entry → Input → Transition → Effect → Type 0
+IsEffect c es (Propose o) x (Open offer) = (x.id ≡ offer.id) × (x.content ≡ Some offer.content)
+IsEffect c es (Request t) x (Ask id) = t ≡ id
+IsEffect c es (Received (message.Proposal p) moment) x (Arrive id new content) = (p.id ≡ id) × (x.new ≡ new) × (p.content ≡ content)
+IsEffect c es (Received (message.Notification n) moment) x (Settle id new) = (n.id ≡ id) × (x.new ≡ new) × (is_own c id ≡ true)
+IsEffect c es (Received (message.Notification n) moment) x (Forestall id) = (n.id ≡ id) × (is_known (transitions_of es) id ≡ false)
+IsEffect c es (Received (message.Notification n) moment) x (Complete id) = (n.id ≡ id) × (x.new ≡ Completed) × (is_foreign c id ≡ true) × (is_known (transitions_of es) id ≡ true)
+IsEffect c es (Received (message.Notification n) moment) x (Cancel id) = (n.id ≡ id) × (x.new ≡ Cancelled) × (is_foreign c id ≡ true) × (is_known (transitions_of es) id ≡ true)
+IsEffect c es _ x _ = ⊥
+
+-- what ends a transfer to the registry, which it may know
+abbrev pub ending : Bool → TransactionId → Status → Effect
+ending false id new = Forestall id
+ending true id new = cond (same_status new Completed) (Complete id) (Cancel id)
+
+-- what an offer asks for may be reserved
+abbrev pub IsReservable : Effect → Held → Type 0
+IsReservable (Open offer) held = (blocks : List Block) → raws blocks ≡ offer.content.units → MayReserve held offer.content.account blocks
+IsReservable _ held = Unit {0}
+
+-- what an effect may be carried out on
+abbrev pub MayCarry : Effect → Initiating → Acquiring → Held → Type 0
+MayCarry (Open offer) i a held = (map.get i.transfers offer.id ≡ None) × ((blocks : List Block) → raws blocks ≡ offer.content.units → MayReserve held offer.content.account blocks)
+MayCarry (Arrive id new content) i a held = map.get a.transfers id ≡ None
+MayCarry (Forestall id) i a held = map.get a.transfers id ≡ None
+MayCarry (Complete id) i a held = (k : Content) → acquirer.content_in (map.get a.transfers id) ≡ Some k → MayCredit held k
+MayCarry _ i a held = Unit {0}
+
+-- ---- what an effect leaves
+
+-- one transaction changed, and no other
+abbrev pub ChangedAt : {X : Type 0} → TransactionId → (Option X → Option X) → map.FinMap id_cmp X → map.FinMap id_cmp X → Type 0
+ChangedAt id change m m' = (t : TransactionId) → map.get m' t ≡ (if same_id id t then change (map.get m t) else map.get m t)
+
+-- the accounts are as they were, and each unit's lot is as told
+abbrev pub LotsAre : Held → Held → (Serial → Option Lot) → Type 0
+LotsAre held held' lot = (held'.accounts ≡ held.accounts) × ((s : Serial) → map.get held'.lots s ≡ lot s)
+
+abbrev pub Carried : Effect → (i i' : Initiating) (a a' : Acquiring) (held held' : Held) → Type 0
+Carried (Open offer) i i' a a' held held' =
+    (i'.code ≡ i.code) × (i'.last ≡ offer.id.number) × ChangedAt offer.id (λ x. Some initiator.opened) i.transfers i'.transfers × (a' ≡ a)
+    × LotsAre held held' (λ s. if have_unit offer.content.units s then option_map (reserved offer.id) (map.get held.lots s) else map.get held.lots s)
+Carried (Ask id) i i' a a' held held' = (i'.code ≡ i.code) × (i'.last ≡ i.last) × ChangedAt id (option_map initiator.asked) i.transfers i'.transfers × (a' ≡ a) × (held' ≡ held)
+Carried (Settle id new) i i' a a' held held' =
+    (i'.code ≡ i.code) × (i'.last ≡ i.last) × ChangedAt id (option_map (initiator.settled new)) i.transfers i'.transfers × (a' ≡ a)
+    × LotsAre held held' (λ s. if same_status new Completed then marks_that (λ lot. not (is_reserved_by id lot)) (map.get held.lots s) else option_map (released id) (map.get held.lots s))
+Carried (Arrive id new content) i i' a a' held held' =
+    (i' ≡ i) × (a'.code ≡ a.code) × ChangedAt id (λ x. Some (record { status = new; content = Some content })) a.transfers a'.transfers × (held' ≡ held)
+Carried (Forestall id) i i' a a' held held' =
+    (i' ≡ i) × (a'.code ≡ a.code) × ChangedAt id (λ x. Some (record { status = Cancelled; content = None })) a.transfers a'.transfers × (held' ≡ held)
+Carried (Complete id) i i' a a' held held' =
+    (i' ≡ i) × (a'.code ≡ a.code) × ChangedAt id (option_map (acquirer.finished Completed)) a.transfers a'.transfers × (held'.accounts ≡ held.accounts)
+    × ((k : Content) → acquirer.content_in (map.get a.transfers id) ≡ Some k → (blocks : List Block) × (raws blocks ≡ k.units) × ((s : Serial) → map.get held'.lots s ≡ option_or (option_map (free_lot k.to_account) (kind_in blocks s)) (map.get held.lots s)))
+Carried (Cancel id) i i' a a' held held' = (i' ≡ i) × (a'.code ≡ a.code) × ChangedAt id (option_map (acquirer.finished Cancelled)) a.transfers a'.transfers × (held' ≡ held)

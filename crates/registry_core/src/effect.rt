@@ -1,0 +1,61 @@
+//! What a transition does to a registry's tables.
+ghost use Rattle.std.specs.Prelude.{◌≡◌, IfErr, OnErr, OnOk};
+ghost use Rattle.registry_core.specs.Effects.{Carried, MayCarry};
+ghost use Rattle.units.specs.RefusalCodes.{out_of_memory};
+
+use accounts::Holdings;
+use acquirer::Acquirer;
+use checks::Offer;
+use initiator::Initiator;
+use status::{Content, Status, TransactionId};
+use units::Refusal;
+
+/// What a transition does to a registry's tables.
+#[derive(Debug, Drop)]
+pub(crate) enum Effect {
+    /// The offer is Proposed, and its units are reserved.
+    Open(Offer),
+    /// The cancellation of a transfer out of the registry was asked for.
+    Ask(TransactionId),
+    /// A transfer out of the registry has come to that status.
+    Settle {
+        id: TransactionId,
+        new: Status,
+    },
+    /// A transfer to the registry has come.
+    Arrive {
+        id: TransactionId,
+        new: Status,
+        content: Content,
+    },
+    /// A transfer to the registry was cancelled before it came.
+    Forestall(TransactionId),
+    /// A transfer to the registry is Completed.
+    Complete(TransactionId),
+    /// A transfer to the registry that had come is Cancelled.
+    Cancel(TransactionId),
+}
+
+/// Carries the effect out. After `OUT_OF_MEMORY`, with which alone it fails, nothing has changed.
+pub(crate) fn carry_out(
+    initiator: &mut Initiator,
+    acquirer: &mut Acquirer,
+    holdings: &mut Holdings,
+    effect: Effect,
+) -> Result<(), Refusal>
+    requires { MayCarry effect initiator.old acquirer.old holdings.old }
+    ensures ok { OnOk result (Carried effect initiator.old initiator.new acquirer.old acquirer.new holdings.old holdings.new) }
+    ensures err { OnErr result ((initiator.new ≡ initiator.old) × (acquirer.new ≡ acquirer.old) × (holdings.new ≡ holdings.old)) }
+    ensures refused { IfErr result (λ r. r.code ≡ out_of_memory) }
+{
+    match effect {
+        Effect::Open(offer) => initiator.open(holdings, &offer)?,
+        Effect::Ask(id) => initiator.ask(id),
+        Effect::Settle { id, new } => initiator.settle(holdings, id, new),
+        Effect::Arrive { id, new, content } => acquirer.arrive(id, new, content)?,
+        Effect::Forestall(id) => acquirer.forestall(id)?,
+        Effect::Complete(id) => acquirer.complete(holdings, id)?,
+        Effect::Cancel(id) => acquirer.cancel(id),
+    }
+    Ok(())
+}

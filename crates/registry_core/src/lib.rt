@@ -1,0 +1,11 @@
+//! A registry.
+#![tactic(auto)]
+
+mod effect;
+mod opening;
+mod refusals;
+mod registry;
+mod tables;
+mod taking;
+
+pub use registry::RegistryCore;

@@ -1,0 +1,46 @@
+//! The holdings with which a registry starts.
+ghost use Rattle.std.specs.Prelude.{◌≡◌, ℕ, [], IfOk, OnOk};
+ghost use Rattle.std.specs.FinMap as map;
+ghost use Rattle.std.specs.List.{AllByRecursion};
+ghost use Rattle.units.specs.Apart.{AllApart};
+ghost use Rattle.units.specs.declared.block.Unit.{Unit as Serial};
+ghost use Rattle.accounts.specs.Refusals.{IsOpen};
+ghost use Rattle.scheme.specs.Order.{blocks_of};
+ghost use Rattle.registry_core.specs.Readings.{lot_at, standing_at};
+ghost use Rattle.registry_core.specs.Opening.{allotted_lot};
+
+use accounts::Holdings;
+use scheme::{Allotment, Member, Scheme};
+use std::alloc::Global;
+use units::{Code, NoMemory};
+
+// Credits what the allotments give, where nothing is held before. Each of their accounts is open, and they share no unit.
+fn credit_each(holdings: &mut Holdings, allotted: &[Allotment]) -> Result<(), NoMemory>
+    requires empty { holdings.old.lots ≡ map.empty }
+    requires open_accounts { AllByRecursion (λ a. IsOpen holdings.old a.account) allotted.now }
+    requires apart { AllApart (blocks_of allotted.now) }
+    ensures accounts { holdings.new.accounts ≡ holdings.old.accounts }
+    ensures lots { OnOk result ((s : Serial) → map.get holdings.new.lots s ≡ allotted_lot allotted.now s) }
+{
+    for allotment in allotted {
+        holdings.credit(allotment.account, allotment.units.as_slice())?;
+    }
+    Ok(())
+}
+
+/// The holdings of a registry at the start: its accounts, open, with what the scheme allots to them; or `NoMemory`.
+pub(crate) fn opening_holdings(
+    alloc: Global,
+    scheme: &Scheme,
+    code: Code,
+) -> Result<Holdings, NoMemory>
+    ensures accounts { IfOk result (λ h. (n : ℕ) → map.get h.accounts n ≡ standing_at scheme.now code [] n) }
+    ensures lots { IfOk result (λ h. (s : Serial) → map.get h.lots s ≡ lot_at scheme.now code [] s) }
+{
+    let Some(member) = scheme.member(code) else {
+        return Holdings::new(alloc, &[]);
+    };
+    let mut holdings = Holdings::new(alloc, member.accounts.as_slice())?;
+    credit_each(&mut holdings, member.allotted.as_slice())?;
+    Ok(holdings)
+}

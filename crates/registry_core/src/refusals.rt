@@ -1,0 +1,165 @@
+//! Why a registry refuses a message, before its tables are asked.
+ghost use Rattle.std.specs.Prelude.{◌≡◌, ◌&&◌, ◌||◌, not, false, List};
+ghost use Rattle.std.specs.FinMap as map;
+ghost use Rattle.units.specs.Code.{same_code, same_node};
+ghost use Rattle.units.specs.declared.code.Node.TheVariants as nodes;
+ghost use Rattle.status.specs.Status.{same_status};
+ghost use Rattle.status.specs.declared.id.TransactionId.{TransactionId as Id};
+ghost use Rattle.status.specs.declared.words.Status.TheVariants as statuses;
+ghost use Rattle.wire.specs.Notices.{notice_status};
+ghost use Rattle.wire.specs.declared.message.Message.TheVariants as message;
+ghost use Rattle.protocol.specs.AtRegistry.{is_checked, registry_refusals};
+ghost use Rattle.protocol.specs.Deciding as deciding;
+ghost use Rattle.protocol.specs.History.{Entry, newest, transitions_of};
+ghost use Rattle.protocol.specs.History as history;
+ghost use Rattle.protocol.specs.Pieces.{pieces, repeats};
+ghost use Rattle.checks.specs.Refusing.{first_of};
+ghost use Rattle.registry_core.specs.Readings.{foreign_row, is_foreign, is_own, own_row, row_at};
+
+use acquirer::Acquirer;
+use checks::has_repeats;
+use initiator::Initiator;
+use status::{Content, Status, TransactionId};
+use units::refusal_code::{
+    NO_ROW, OTHER_ADDRESSEE, OTHER_CONTENT, SENDER_NOT_ALLOWED, UNKNOWN_TRANSACTION, WRONG_PARTY,
+};
+use units::{Code, Node};
+use wire::{Message, Notification, Proposal, ProposalStatus, Request};
+
+// Whether the node is the registry.
+fn is_registry(code: Code, node: Node) -> bool
+    ensures { result ≡ same_node node (nodes.Registry code) }
+{
+    node == Node::Registry(code)
+}
+
+// Whether the node is the log.
+fn is_log(node: Node) -> bool
+    ensures { result ≡ same_node node nodes.Itl }
+{
+    node == Node::Itl
+}
+
+// Whether the log has checked the proposal.
+fn is_checked(status: ProposalStatus) -> bool
+    ensures { result ≡ is_checked status }
+{
+    match status {
+        ProposalStatus::Proposed => false,
+        ProposalStatus::Checked => true,
+    }
+}
+
+// Whether the transfer isn't one to the registry from another one, or has a unit twice.
+fn is_wrong_party(code: Code, proposal: &Proposal) -> bool
+    ensures { result ≡ (not (same_code proposal.now.content.acquirer code) || (same_code proposal.now.id.code code || repeats (pieces proposal.now.content.units))) }
+{
+    proposal.content.acquirer() != code
+        || proposal.id.code == code
+        || has_repeats(proposal.content.units())
+}
+
+// Whether the transfer of another registry has another content than that one.
+fn has_other(acquirer: &Acquirer, id: TransactionId, content: &Content) -> bool
+    ensures { (code : Code) (es : List Entry) → ((t : Id) → map.get acquirer.now.transfers t ≡ row_at (is_foreign code) foreign_row (transitions_of es) t) → same_code id.code code ≡ false → result ≡ deciding.has_other (newest (transitions_of es) id) content.now }
+{
+    match acquirer.content(id) {
+        Some(recorded) => !recorded.same(content),
+        None => false,
+    }
+}
+
+// Whether a record is about the transaction.
+fn is_known(code: Code, initiator: &Initiator, acquirer: &Acquirer, id: TransactionId) -> bool
+    ensures { (es : List Entry) → ((t : Id) → map.get initiator.now.transfers t ≡ row_at (is_own code) (own_row es) (transitions_of es) t) → ((t : Id) → map.get acquirer.now.transfers t ≡ row_at (is_foreign code) foreign_row (transitions_of es) t) → result ≡ history.is_known (transitions_of es) id }
+{
+    if id.code == code {
+        initiator.status_of(id).is_some()
+    } else {
+        acquirer.status_of(id).is_some()
+    }
+}
+
+// Whether the notification tells that a transfer of another registry is Cancelled.
+fn forestalls(code: Code, notification: &Notification) -> bool
+    ensures { result ≡ (same_status (notice_status notification.now.notice) statuses.Cancelled && not (same_code notification.now.id.code code)) }
+{
+    notification.notice.status() == Status::Cancelled && notification.id.code != code
+}
+
+/// Why a registry refuses a proposal, before its table is asked; or `None`.
+pub(crate) fn proposal_refusal(code: Code, acquirer: &Acquirer, proposal: &Proposal) -> Option<u16>
+    ensures { (es : List Entry) → ((t : Id) → map.get acquirer.now.transfers t ≡ row_at (is_foreign code) foreign_row (transitions_of es) t) → result ≡ first_of (registry_refusals code es (message.Proposal proposal.now)) }
+{
+    if !is_registry(code, proposal.to) {
+        return Some(OTHER_ADDRESSEE);
+    }
+    if !is_log(proposal.from) {
+        return Some(SENDER_NOT_ALLOWED);
+    }
+    if is_wrong_party(code, proposal) {
+        return Some(WRONG_PARTY);
+    }
+    if has_other(acquirer, proposal.id, &proposal.content) {
+        return Some(OTHER_CONTENT);
+    }
+    if !is_checked(proposal.status) {
+        return Some(NO_ROW);
+    }
+    None
+}
+
+/// Why a registry refuses a notification, before its tables are asked; or `None`.
+pub(crate) fn notification_refusal(
+    code: Code,
+    initiator: &Initiator,
+    acquirer: &Acquirer,
+    notification: &Notification,
+) -> Option<u16>
+    ensures { (es : List Entry) → ((t : Id) → map.get initiator.now.transfers t ≡ row_at (is_own code) (own_row es) (transitions_of es) t) → ((t : Id) → map.get acquirer.now.transfers t ≡ row_at (is_foreign code) foreign_row (transitions_of es) t) → result ≡ first_of (registry_refusals code es (message.Notification notification.now)) }
+{
+    if !is_registry(code, notification.to) {
+        return Some(OTHER_ADDRESSEE);
+    }
+    if !is_log(notification.from) {
+        return Some(SENDER_NOT_ALLOWED);
+    }
+    if is_known(code, initiator, acquirer, notification.id) || forestalls(code, notification) {
+        return None;
+    }
+    Some(UNKNOWN_TRANSACTION)
+}
+
+/// Why a registry refuses a request, before its tables are asked; or `None`.
+pub(crate) fn request_refusal(code: Code, request: &Request) -> Option<u16>
+    ensures { (es : List Entry) → result ≡ first_of (registry_refusals code es (message.Request request.now)) }
+{
+    if !is_registry(code, request.to) {
+        return Some(OTHER_ADDRESSEE);
+    }
+    if !is_log(request.from) {
+        return Some(SENDER_NOT_ALLOWED);
+    }
+    None
+}
+
+/// Why a registry refuses a message, before its tables are asked; or `None`.
+pub(crate) fn message_refusal(
+    code: Code,
+    initiator: &Initiator,
+    acquirer: &Acquirer,
+    message: &Message,
+) -> Option<u16>
+    ensures { (es : List Entry) → ((t : Id) → map.get initiator.now.transfers t ≡ row_at (is_own code) (own_row es) (transitions_of es) t) → ((t : Id) → map.get acquirer.now.transfers t ≡ row_at (is_foreign code) foreign_row (transitions_of es) t) → result ≡ first_of (registry_refusals code es message.now) }
+{
+    match message {
+        Message::Proposal(proposal) => proposal_refusal(code, acquirer, proposal),
+        Message::Notification(notification) => notification_refusal(
+            code,
+            initiator,
+            acquirer,
+            notification,
+        ),
+        Message::Request(request) => request_refusal(code, request),
+    }
+}

@@ -1,0 +1,200 @@
+//! A registry.
+ghost use Rattle.std.specs.FinMap as map;
+ghost use Rattle.std.specs.List.{count_by};
+ghost use Rattle.std.specs.Prelude.{◌≡◌, ℕ, ◌+◌, cond, true, [], Some, IfOk, IfSome};
+ghost use Rattle.units.specs.declared.block.Unit.{Unit as Serial};
+ghost use Rattle.status.specs.declared.id.TransactionId.{TransactionId};
+ghost use Rattle.protocol.specs.History.{at_start, credits, gives, holds, spendable};
+ghost use Rattle.registry_core.specs.Kept.{IsKept};
+ghost use Rattle.registry_core.specs.Readings.{lot_at, reserver, standing_at};
+ghost use Rattle.registry_core.specs.Registry.{IsReserving, moves, past};
+ghost use Rattle.registry_core.specs.Reported.{AreHoldings};
+
+use crate::opening::opening_holdings;
+use crate::tables::Tables;
+use accounts::{Holdings, Line};
+use acquirer::Acquirer;
+use initiator::Initiator;
+use outbox::Outbox;
+use protocol::{NodeCore, Stepped};
+use scheme::Scheme;
+use status::{Status, TransactionId};
+use std::alloc::Global;
+use std::marker::Model;
+use units::refusal_code::NO_ROW;
+use units::{Code, NoMemory, Node, Refusal, Unit};
+use wire::{Input, Message};
+
+/// A registry of a scheme: the journal of the inputs that it recorded, and beside it what the journal says of its units, its
+/// accounts, its transfers in each role, and its messages. In contracts it is its scheme, its code, and its journal.
+#[derive(Debug, Drop)]
+pub struct RegistryCore {
+    alloc: Global,
+    scheme: Scheme,
+    code: Code,
+    tables: Tables,
+}
+
+impl Model for RegistryCore {
+    ghost use Rattle.std.specs.Coded.{codes};
+    ghost use Rattle.scheme.specs.contracts.registries.Scheme as kept_scheme;
+    ghost use Rattle.registry_core.specs.Kept.{IsKept};
+    ghost use Rattle.registry_core.specs.Registry.{Registry};
+
+    ghost Value = { Registry };
+
+    ghost coded = { Prim.hlevel (codes, kept_scheme.the_row.coded) };
+
+    ghost view = { λ s. record { scheme = s.scheme; code = s.code; journal = s.tables.journal.items } };
+
+    ghost invariant = { λ s. IsKept s.scheme s.code s.tables };
+}
+
+// The tables of that registry before any record; or `NoMemory`.
+fn opening_tables(alloc: Global, scheme: &Scheme, code: Code) -> Result<Tables, NoMemory>
+    ensures kept { IfOk result (IsKept scheme.now code) }
+    ensures journal { IfOk result (λ t. t.journal.items ≡ []) }
+{
+    Ok(Tables {
+        journal: Vec::new(alloc),
+        holdings: opening_holdings(alloc, scheme, code)?,
+        initiator: Initiator::new(alloc, code),
+        acquirer: Acquirer::new(alloc, code),
+        outbox: Outbox::new(alloc),
+    })
+}
+
+impl RegistryCore {
+    /// The registry of that code, which has recorded nothing yet. Where the scheme has no registry of that code it has no
+    /// accounts and no units. Fails with `NoMemory`.
+    pub fn new(alloc: Global, scheme: &Scheme, code: Code) -> Result<RegistryCore, NoMemory>
+        ensures { IfOk result (λ r. r ≡ record { scheme = scheme.now; code = code; journal = [] }) }
+    {
+        Ok(RegistryCore {
+            alloc,
+            scheme: scheme.copy(alloc)?,
+            code,
+            tables: opening_tables(alloc, scheme, code)?,
+        })
+    }
+
+    /// The units that it holds, and how its accounts stand. A unit is in the account, and of the kind, with which it came last,
+    /// or was allotted; an account is open but where the last order for it closed it.
+    pub fn holdings(&self) -> &Holdings
+        ensures lots { (s : Serial) → map.get result.now.lots s ≡ lot_at self.now.scheme self.now.code (moves self.now) s }
+        ensures accounts { (n : ℕ) → map.get result.now.accounts n ≡ standing_at self.now.scheme self.now.code (past self.now) n }
+    {
+        &self.tables.holdings
+    }
+
+    /// What it holds, as a report writes it: lines by account and then in the order of units, neighbours of one account, one
+    /// kind and one reserving transfer joined, where each unit that is held stands in one line. Or `NoMemory`.
+    pub fn lines(&self) -> Result<Vec<Line>, NoMemory>
+        ensures { IfOk result (λ lines. AreHoldings self.now lines.items) }
+    {
+        self.tables.holdings.lines(self.alloc)
+    }
+
+    /// Whether it holds the unit. The unit counts there once or not at all, whatever the registry was given, forged messages
+    /// included: it was allotted to it or came as often as it left, and once more where it is held.
+    pub fn held(&self, unit: &Unit) -> bool
+        ensures held { result ≡ holds self.now.scheme self.now.code (moves self.now) unit.now }
+        ensures once { at_start self.now.scheme self.now.code unit.now + count_by (credits self.now.code unit.now) (moves self.now) ≡ count_by (gives self.now.code unit.now) (moves self.now) + cond result 1 0 }
+    {
+        self.tables.holdings.lot(unit).is_some()
+    }
+
+    /// The transfer that reserves the unit: the one transfer with the unit out of this registry that stands Proposed. The unit is
+    /// held then. Or `None`, where there is no such transfer.
+    pub fn reserving(&self, unit: &Unit) -> Option<TransactionId>
+        ensures reserver { result ≡ reserver self.now.code (moves self.now) unit.now }
+        ensures some { IfSome result (IsReserving self.now unit.now) }
+        ensures only { (t : TransactionId) → IsReserving self.now unit.now t → result ≡ Some t }
+        ensures held { IfSome result (λ t. holds self.now.scheme self.now.code (moves self.now) unit.now ≡ true) }
+    {
+        self.tables.holdings.lot(unit)?.reserving
+    }
+
+    /// Whether it holds the unit, and no transfer reserves it.
+    pub fn spendable(&self, unit: &Unit) -> bool
+        ensures { result ≡ spendable self.now.scheme self.now.code (moves self.now) unit.now }
+    {
+        self.held(unit) && self.reserving(unit).is_none()
+    }
+}
+
+impl NodeCore for RegistryCore {
+    ghost use Rattle.units.specs.declared.code.Node.TheVariants.{Registry};
+
+    ghost scheme_of = { λ r. r.scheme };
+
+    ghost node_of = { λ r. Registry r.code };
+
+    ghost journal_of = { λ r. r.journal };
+
+    fn node(&self) -> Node {
+        Node::Registry(self.code)
+    }
+
+    fn journal(&self) -> &[Input] {
+        self.tables.journal.as_slice()
+    }
+
+    fn step(&mut self, input: &Input) -> Result<Stepped, Refusal> {
+        let (alloc, scheme, code) = (self.alloc, &self.scheme, self.code);
+        match input {
+            Input::Propose(order) => self.tables.propose(alloc, scheme, code, input, order),
+            Input::Request(id) => self.tables.request(alloc, scheme, code, input, *id),
+            Input::OpenAccount(account) => {
+                self.tables
+                    .open_account(alloc, scheme, code, input, *account)
+            }
+            Input::CloseAccount(account) => {
+                self.tables
+                    .close_account(alloc, scheme, code, input, *account)
+            }
+            Input::Ack(key) => self.tables.acknowledge(scheme, code, input, *key),
+            Input::Received { message, .. } => {
+                self.tables.receive(alloc, scheme, code, input, message)
+            }
+            Input::CleanUp(_) => Err(Refusal { code: NO_ROW }),
+            Input::Eligible { .. } => Err(Refusal { code: NO_ROW }),
+        }
+    }
+
+    fn outbox(&self, key: usize) -> Option<&Message> {
+        self.tables.outbox.message(key)
+    }
+
+    fn acknowledged(&self, key: usize) -> bool {
+        self.tables.outbox.is_acknowledged(key)
+    }
+
+    fn sends(&self) -> usize {
+        self.tables.outbox.sends()
+    }
+
+    fn records(&self) -> usize {
+        self.tables.journal.len()
+    }
+
+    fn status_of(&self, id: TransactionId) -> Option<Status> {
+        if id.code == self.code {
+            self.tables.initiator.status_of(id)
+        } else {
+            self.tables.acquirer.status_of(id)
+        }
+    }
+
+    fn sent_by(&self, records: usize) -> usize {
+        self.tables.outbox.sent_by(records)
+    }
+
+    fn next_unacknowledged(&self, peer: Node, from: usize) -> Option<usize> {
+        self.tables.outbox.next_unacknowledged(peer, from)
+    }
+
+    fn fresh(&self) -> Result<RegistryCore, NoMemory> {
+        RegistryCore::new(self.alloc, &self.scheme, self.code)
+    }
+}

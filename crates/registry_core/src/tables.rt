@@ -1,0 +1,169 @@
+//! A registry's journal and tables.
+ghost use Rattle.std.specs.Prelude.{◌≡◌, ◌⊎◌, true, false, nat_le, length, [], ◌∷◌, IfOk, IfErr, OnOk};
+ghost use Rattle.units.specs.RefusalCodes.{journal_full, out_of_memory};
+ghost use Rattle.protocol.specs.Deciding.{enters};
+ghost use Rattle.protocol.specs.History.{Transition};
+ghost use Rattle.protocol.specs.Verdict.{history};
+ghost use Rattle.units.specs.declared.code.Node.TheVariants.{Registry};
+ghost use Rattle.wire.specs.declared.input.Input.TheVariants as inputs;
+ghost use Rattle.registry_core.specs.Effects.{IsEffect, IsReservable};
+ghost use Rattle.registry_core.specs.Kept.{IsKept};
+ghost use Rattle.registry_core.specs.Taking.{Takes, due};
+
+use crate::effect::{Effect, carry_out};
+use accounts::Holdings;
+use acquirer::Acquirer;
+use initiator::Initiator;
+use outbox::Outbox;
+use protocol::Stepped;
+use scheme::Scheme;
+use std::alloc::Global;
+use units::refusal_code::{JOURNAL_FULL, NO_ROW};
+use units::{Code, Items, Refusal};
+use wire::{Input, Message, Number};
+
+/// A registry's journal, and what is read off its history: how its units are held and its accounts stand, its transfers in each
+/// role, and what it sent.
+#[derive(Debug, Drop)]
+pub(crate) struct Tables {
+    pub journal: Vec<Input>,
+    pub holdings: Holdings,
+    pub initiator: Initiator,
+    pub acquirer: Acquirer,
+    pub outbox: Outbox,
+}
+
+impl Tables {
+    // A copy of the input, for which the journal has room. Refused with `JOURNAL_FULL` where it has as many records as the scheme
+    // allows, and with `OUT_OF_MEMORY`.
+    fn fitting(&self, scheme: &Scheme, input: &Input) -> Result<Input, Refusal>
+        ensures copy { IfOk result (λ i. i ≡ input.now) }
+        ensures ok { OnOk result (nat_le scheme.now.records (length self.now.journal.items) ≡ false) }
+        ensures err { IfErr result (λ r. (r.code ≡ out_of_memory) ⊎ ((r.code ≡ journal_full) × (nat_le scheme.now.records (length self.now.journal.items) ≡ true))) }
+    {
+        if scheme.records() <= self.journal.len() as u64 {
+            return Err(Refusal { code: JOURNAL_FULL });
+        }
+        Ok(input.copy()?)
+    }
+
+    /// Records the input, whose transition has that effect and sends these messages.
+    pub(crate) fn record(
+        &mut self,
+        scheme: &Scheme,
+        code: Code,
+        input: &Input,
+        effect: Effect,
+        messages: Items<Message>,
+    ) -> Result<Stepped, Refusal>
+        requires kept { IsKept scheme.now code self.old }
+        requires row { (x : Transition) × (due scheme.now code self.old input.now ≡ enters scheme.now (history scheme.now (Registry code) self.old.journal.items) (x ∷ [])) × (messages ≡ x.messages) × IsEffect code (history scheme.now (Registry code) self.old.journal.items) input.now x effect }
+        requires reservable { IsReservable effect self.old.holdings }
+        ensures { Takes scheme.now code self.old self.new input.now result }
+    {
+        let record = self.fitting(scheme, input)?;
+        if self.journal.reserve(1).is_err() {
+            return Err(Refusal::NO_MEMORY);
+        }
+        self.outbox.record(messages.into_vec())?;
+        let done = carry_out(
+            &mut self.initiator,
+            &mut self.acquirer,
+            &mut self.holdings,
+            effect,
+        );
+        if let Err(refused) = done {
+            self.outbox.take_back();
+            return Err(refused);
+        }
+        let place = self.journal.len();
+        self.journal.push_reserved(record);
+        Ok(Stepped::Recorded(place))
+    }
+
+    /// Takes an acknowledgement of the message with that key.
+    pub(crate) fn acknowledge(
+        &mut self,
+        scheme: &Scheme,
+        code: Code,
+        input: &Input,
+        key: Number,
+    ) -> Result<Stepped, Refusal>
+        requires kept { IsKept scheme.now code self.old }
+        requires input { input.now ≡ inputs.Ack key }
+        ensures { Takes scheme.now code self.old self.new input.now result }
+    {
+        let key = key.value as usize;
+        if self.outbox.sends() <= key {
+            return Err(Refusal { code: NO_ROW });
+        }
+        if self.outbox.is_acknowledged(key) {
+            return Ok(Stepped::Repeat);
+        }
+        let record = self.fitting(scheme, input)?;
+        if self.journal.reserve(1).is_err() {
+            return Err(Refusal::NO_MEMORY);
+        }
+        self.outbox.acknowledge(key)?;
+        let place = self.journal.len();
+        self.journal.push_reserved(record);
+        Ok(Stepped::Recorded(place))
+    }
+
+    /// Takes an order to open the account of that number.
+    pub(crate) fn open_account(
+        &mut self,
+        alloc: Global,
+        scheme: &Scheme,
+        code: Code,
+        input: &Input,
+        account: Number,
+    ) -> Result<Stepped, Refusal>
+        requires kept { IsKept scheme.now code self.old }
+        requires input { input.now ≡ inputs.OpenAccount account }
+        ensures { Takes scheme.now code self.old self.new input.now result }
+    {
+        self.holdings.may_open(account.value)?;
+        let record = self.fitting(scheme, input)?;
+        if self.journal.reserve(1).is_err() {
+            return Err(Refusal::NO_MEMORY);
+        }
+        self.outbox.record(Vec::new(alloc))?;
+        if let Err(refused) = self.holdings.open_account(account.value) {
+            self.outbox.take_back();
+            return Err(refused);
+        }
+        let place = self.journal.len();
+        self.journal.push_reserved(record);
+        Ok(Stepped::Recorded(place))
+    }
+
+    /// Takes an order to close the account of that number.
+    pub(crate) fn close_account(
+        &mut self,
+        alloc: Global,
+        scheme: &Scheme,
+        code: Code,
+        input: &Input,
+        account: Number,
+    ) -> Result<Stepped, Refusal>
+        requires kept { IsKept scheme.now code self.old }
+        requires input { input.now ≡ inputs.CloseAccount account }
+        ensures { Takes scheme.now code self.old self.new input.now result }
+    {
+        self.holdings.may_close(account.value)?;
+        self.acquirer.may_close(account.value)?;
+        let record = self.fitting(scheme, input)?;
+        if self.journal.reserve(1).is_err() {
+            return Err(Refusal::NO_MEMORY);
+        }
+        self.outbox.record(Vec::new(alloc))?;
+        if let Err(refused) = self.holdings.close_account(account.value) {
+            self.outbox.take_back();
+            return Err(refused);
+        }
+        let place = self.journal.len();
+        self.journal.push_reserved(record);
+        Ok(Stepped::Recorded(place))
+    }
+}

@@ -26,3 +26,4 @@ pub mod CoreReadings
 pub mod RowsOfInputs
 pub mod DecidedInputs
 pub mod ReportedLines
+pub mod RolesDecide

@@ -1,7 +1,7 @@
 //! How long calls on a map of many intervals, and on an outbox of many messages, take.
 //!
-//! `table_bench INTERVALS MESSAGES CALLS` makes a map of so many intervals of ten units, the kinds of neighbours
-//! different, and an outbox of so many messages of one record each, of which every other is acknowledged. Then it
+//! `table_bench INTERVALS MESSAGES CALLS` makes a map of INTERVALS intervals of ten units, the kinds of neighbours
+//! different, and an outbox of MESSAGES messages of one record each, of which every other is acknowledged. Then it
 //! gives 16 blocks in the map another kind and their own again, CALLS times in all, and looks CALLS times for the
 //! next message that waits, and prints a line of the two times in microseconds and of how many look-ups found a message:
 //! `MAP OUTBOX FOUND`. Each number is 16 to 10,000,000.
@@ -30,7 +30,7 @@ const MOST: u64 = 10_000_000;
 const UNITS_OF_AN_INTERVAL: u64 = 10;
 
 const BLOCKS_OF_A_CALL: u64 = 16;
-// Of so many messages one isn't acknowledged.
+// One of this many messages isn't acknowledged.
 const WAITING: usize = 2;
 // What the next interval is found by: a step that shares no factor with the usual numbers of intervals.
 const STEP: u64 = 7_919;
@@ -128,7 +128,7 @@ fn block_at(origin: Code, place: u64) -> Option<Block> {
     Block::new(origin, Period::First, kind_at(place), first, last).ok()
 }
 
-// A map of so many intervals.
+// A map of that many intervals.
 fn map_of(alloc: Global, origin: Code, intervals: u64) -> Result<UnitMap<Kind>, Fault> {
     let mut kinds = UnitMap::new(alloc);
     for place in 0..intervals {
@@ -177,7 +177,7 @@ fn map_time(
     Ok(start.elapsed(clock)?)
 }
 
-// An outbox of so many messages, of which every other is acknowledged.
+// An outbox of that many messages, of which every other is acknowledged.
 fn outbox_of(alloc: Global, origin: Code, messages: u64) -> Result<Outbox, Fault> {
     let mut outbox = Outbox::new(alloc);
     let Some(id) = TransactionId::new(origin, 1) else {

@@ -1,11 +1,29 @@
 use accounts::{Holdings, Line};
 use status::TransactionId;
 use std::alloc::Global;
+use std::process::Abort;
 use std::test::Fail;
 use units::{Block, Refusal};
 
 fn refusal(code: u16) -> Result<(), Refusal> {
     Err(Refusal { code })
+}
+
+fn block(rt: &impl Abort, text: &str) -> Block {
+    Block::read(text).expect(rt, "a block")
+}
+
+fn id(rt: &impl Abort, text: &str) -> TransactionId {
+    TransactionId::read(text).expect(rt, "an identifier")
+}
+
+// A line of account 1.
+fn line(rt: &impl Abort, text: &str, reserving: Option<TransactionId>) -> Line {
+    Line {
+        account: 1,
+        block: block(rt, text),
+        reserving,
+    }
 }
 
 // Accounts 1 and 2, and a hundred units in the first.
@@ -15,147 +33,197 @@ fn hundred(alloc: Global) -> Result<Holdings, Fail> {
     Ok(holdings)
 }
 
+// The holdings are these lines.
+fn assert_lines(rt: &impl Abort, holdings: &Holdings, alloc: Global, wanted: &[Line]) {
+    let lines = holdings.lines(alloc).expect(rt, "memory");
+    assert!(rt; lines.as_slice() == wanted);
+}
+
+// `check` refuses the block of that text with the code, and so does `reserve` for NZ2.
+fn assert_refused(rt: &impl Abort, holdings: &mut Holdings, account: u64, text: &str, code: u16) {
+    let blocks = [block(rt, text)];
+    let checked = holdings.check(account, &blocks);
+    let reserved = holdings.reserve(account, &blocks, id(rt, "NZ2"));
+    assert_eq!(rt; (checked, reserved), (refusal(code), refusal(code)));
+}
+
+// The transaction reserves the blocks of account 1, in which so many units are free then.
+fn assert_reserved(
+    rt: &impl Abort,
+    holdings: &mut Holdings,
+    blocks: &[Block],
+    id: TransactionId,
+    free: u64,
+) {
+    let reserved = holdings.reserve(1, blocks, id);
+    assert_eq!(rt; (reserved, holdings.free_count(1)), (Ok(()), free));
+}
+
+// After the transaction's release so many units of account 1 are free.
+fn assert_released(rt: &impl Abort, holdings: &mut Holdings, id: TransactionId, free: u64) {
+    holdings.release(id);
+    assert_eq!(rt; holdings.free_count(1), free);
+}
+
+// After the transaction's removal so many units of account 1 are free.
+fn assert_removed(rt: &impl Abort, holdings: &mut Holdings, id: TransactionId, free: u64) {
+    holdings.remove(id);
+    assert_eq!(rt; holdings.free_count(1), free);
+}
+
 #[test]
 fn holdings_are_reserved_once(rt: HostRuntime) -> Result<(), Fail> {
+    let first = id(&rt, "NZ1");
+    let sixty = [block(&rt, "NZ:1:1-60:AAU")];
     let mut holdings = hundred(rt.alloc())?;
-    let first = TransactionId::read("NZ1").ok_or("an identifier")?;
-    let second = TransactionId::read("NZ2").ok_or("an identifier")?;
-    let sixty = [Block::read("NZ:1:1-60:AAU")?];
-    assert_eq!(rt; holdings.check(1, &sixty), Ok(()));
-    assert_eq!(rt; holdings.reserve(1, &sixty, first), Ok(()));
-    assert_eq!(rt; holdings.free_count(1), 40);
-    let shared = [Block::read("NZ:1:60-61:AAU")?];
-    let beyond = [Block::read("NZ:1:100-101:AAU")?];
-    let kind = [Block::read("NZ:1:61-61:CER")?];
-    assert_eq!(rt; holdings.reserve(1, &shared, second), refusal(106));
-    assert_eq!(rt; holdings.check(1, &shared), refusal(106));
-    assert_eq!(rt; holdings.reserve(1, &beyond, second), refusal(105));
-    assert_eq!(rt; holdings.reserve(1, &kind, second), refusal(105));
-    assert_eq!(rt; holdings.reserve(2, &sixty, second), refusal(105));
-    assert_eq!(rt; holdings.reserve(3, &sixty, second), refusal(104));
-    holdings.release(second);
-    assert_eq!(rt; holdings.free_count(1), 40);
-    holdings.release(first);
-    assert_eq!(rt; holdings.free_count(1), 100);
+    assert_reserved(&rt, &mut holdings, &sixty, first, 40);
+    for (account, text, code) in [
+        (1, "NZ:1:60-61:AAU", 106),
+        (1, "NZ:1:100-101:AAU", 105),
+        (1, "NZ:1:61-61:CER", 105),
+        (2, "NZ:1:1-60:AAU", 105),
+        (3, "NZ:1:1-60:AAU", 104),
+    ] {
+        assert_refused(&rt, &mut holdings, account, text, code);
+    }
+    assert_released(&rt, &mut holdings, id(&rt, "NZ2"), 40);
+    assert_released(&rt, &mut holdings, first, 100);
     Ok(())
 }
 
 #[test]
 fn holdings_are_taken_out(rt: HostRuntime) -> Result<(), Fail> {
+    let first = id(&rt, "NZ1");
+    let blocks = [block(&rt, "NZ:1:1-30:AAU"), block(&rt, "NZ:1:31-60:AAU")];
+    let left = line(&rt, "NZ:1:61-100:AAU", None);
     let mut holdings = hundred(rt.alloc())?;
-    let id = TransactionId::read("NZ1").ok_or("an identifier")?;
-    let blocks = [
-        Block::read("NZ:1:1-30:AAU")?,
-        Block::read("NZ:1:31-60:AAU")?,
-    ];
-    assert_eq!(rt; holdings.reserve(1, &blocks, id), Ok(()));
-    holdings.remove(id);
-    assert_eq!(rt; holdings.free_count(1), 40);
+    assert_reserved(&rt, &mut holdings, &blocks, first, 40);
+    assert_removed(&rt, &mut holdings, first, 40);
     assert!(rt; !holdings.holds_any(&blocks));
-    let left = Block::read("NZ:1:61-100:AAU")?;
-    assert!(rt; holdings.holds_any(&[blocks[0], left]));
-    let line = Line {
-        account: 1,
-        block: left,
-        reserving: None,
-    };
-    let lines = holdings.lines(rt.alloc())?;
-    assert_eq!(rt; lines.as_slice(), [line].as_slice());
-    Ok(())
-}
-
-#[test]
-fn holdings_are_closed_and_opened(rt: HostRuntime) -> Result<(), Fail> {
-    let mut holdings = hundred(rt.alloc())?;
-    assert_eq!(rt; holdings.close_account(1), refusal(112));
-    assert_eq!(rt; holdings.close_account(2), Ok(()));
-    assert_eq!(rt; holdings.is_open(2), Some(false));
-    assert_eq!(rt; holdings.close_account(2), refusal(111));
-    assert_eq!(rt; holdings.check(2, &[]), refusal(104));
-    assert_eq!(rt; holdings.open_account(2), Ok(()));
-    assert_eq!(rt; holdings.is_open(2), Some(true));
-    assert_eq!(rt; holdings.open_account(2), refusal(111));
-    assert_eq!(rt; holdings.open_account(3), refusal(110));
-    assert_eq!(rt; holdings.close_account(3), refusal(110));
-    assert_eq!(rt; holdings.is_open(3), None);
+    assert!(rt; holdings.holds_any(&[blocks[0], left.block]));
+    assert_lines(&rt, &holdings, rt.alloc(), &[left]);
     Ok(())
 }
 
 #[test]
 fn one_transaction_reserves_twice(rt: HostRuntime) -> Result<(), Fail> {
+    let first = id(&rt, "NZ1");
+    let shared = [block(&rt, "NZ:1:1-30:AAU"), block(&rt, "NZ:1:21-40:AAU")];
+    let others = [block(&rt, "NZ:1:91-95:AAU")];
     let mut holdings = hundred(rt.alloc())?;
-    let id = TransactionId::read("NZ1").ok_or("an identifier")?;
-    let shared = [
-        Block::read("NZ:1:1-30:AAU")?,
-        Block::read("NZ:1:21-40:AAU")?,
-    ];
-    let others = [Block::read("NZ:1:91-95:AAU")?];
-    assert_eq!(rt; holdings.reserve(1, &shared, id), Ok(()));
-    assert_eq!(rt; holdings.reserve(1, &others, id), Ok(()));
-    assert_eq!(rt; holdings.free_count(1), 55);
-    holdings.release(id);
-    assert_eq!(rt; holdings.free_count(1), 100);
-    assert_eq!(rt; holdings.reserve(1, &shared, id), Ok(()));
-    holdings.remove(id);
-    assert_eq!(rt; holdings.free_count(1), 60);
+    assert_reserved(&rt, &mut holdings, &shared, first, 60);
+    assert_reserved(&rt, &mut holdings, &others, first, 55);
+    assert_released(&rt, &mut holdings, first, 100);
+    assert_reserved(&rt, &mut holdings, &shared, first, 60);
+    assert_removed(&rt, &mut holdings, first, 60);
     assert_eq!(rt; holdings.lot(&shared[0].first_unit()), None);
+    Ok(())
+}
+
+#[test]
+fn pieces(rt: HostRuntime) -> Result<(), Fail> {
+    let (first, second) = (id(&rt, "NZ1"), id(&rt, "NZ2"));
+    let low = line(&rt, "NZ:1:1-19:AAU", None);
+    let of_first = line(&rt, "NZ:1:20-30:AAU", Some(first));
+    let of_second = line(&rt, "NZ:1:31-40:AAU", Some(second));
+    let high = line(&rt, "NZ:1:41-100:AAU", None);
+    let joined = line(&rt, "NZ:1:31-100:AAU", None);
+    let alloc = rt.alloc();
+    let mut holdings = hundred(alloc)?;
+    assert_reserved(&rt, &mut holdings, &[of_first.block], first, 89);
+    assert_reserved(&rt, &mut holdings, &[of_second.block], second, 79);
+    assert_lines(&rt, &holdings, alloc, &[low, of_first, of_second, high]);
+    assert_eq!(rt; holdings.pieces().len(), 4);
+    assert_released(&rt, &mut holdings, second, 89);
+    assert_lines(&rt, &holdings, alloc, &[low, of_first, joined]);
+    assert_released(&rt, &mut holdings, first, 100);
+    assert_lines(&rt, &holdings, alloc, &[line(&rt, "NZ:1:1-100:AAU", None)]);
+    assert_eq!(rt; holdings.pieces().len(), 1);
+    Ok(())
+}
+
+/// A call that changes an account's standing, or asks whether it would.
+#[derive(Clone, Copy)]
+enum Call {
+    Open,
+    Close,
+    MayOpen,
+    MayClose,
+}
+
+impl Call {
+    /// What the call returns.
+    fn of(self, holdings: &mut Holdings, account: u64) -> Result<(), Refusal> {
+        match self {
+            Call::Open => holdings.open_account(account),
+            Call::Close => holdings.close_account(account),
+            Call::MayOpen => holdings.may_open(account),
+            Call::MayClose => holdings.may_close(account),
+        }
+    }
+}
+
+// One after another, the calls with these accounts return these results.
+fn assert_calls(
+    rt: &impl Abort,
+    holdings: &mut Holdings,
+    calls: &[(Call, u64, Result<(), Refusal>)],
+) {
+    for (call, account, wanted) in calls {
+        assert_eq!(rt; call.of(holdings, *account), *wanted);
+    }
+}
+
+#[test]
+fn holdings_are_closed_and_opened(rt: HostRuntime) -> Result<(), Fail> {
+    let mut holdings = hundred(rt.alloc())?;
+    let close = [
+        (Call::Close, 1, refusal(112)),
+        (Call::Close, 2, Ok(())),
+        (Call::Close, 2, refusal(111)),
+        (Call::Close, 3, refusal(110)),
+    ];
+    let open = [
+        (Call::Open, 2, Ok(())),
+        (Call::Open, 2, refusal(111)),
+        (Call::Open, 3, refusal(110)),
+    ];
+    assert_calls(&rt, &mut holdings, &close);
+    assert_eq!(rt;
+        (holdings.is_open(2), holdings.is_open(3)),
+        (Some(false), None)
+    );
+    assert_eq!(rt; holdings.check(2, &[]), refusal(104));
+    assert_calls(&rt, &mut holdings, &open);
+    assert_eq!(rt; holdings.is_open(2), Some(true));
     Ok(())
 }
 
 #[test]
 fn accounts_may_be_closed_and_opened(rt: HostRuntime) -> Result<(), Fail> {
     let mut holdings = hundred(rt.alloc())?;
-    let id = TransactionId::read("NZ1").ok_or("an identifier")?;
-    assert_eq!(rt;
-        holdings.reserve(1, &[Block::read("NZ:1:1-100:AAU")?], id),
-        Ok(())
-    );
-    assert_eq!(rt; holdings.may_close(1), refusal(112));
-    assert_eq!(rt; holdings.may_close(2), Ok(()));
-    assert_eq!(rt; holdings.may_close(3), refusal(110));
-    assert_eq!(rt; holdings.may_open(2), refusal(111));
-    holdings.remove(id);
-    assert_eq!(rt; holdings.may_close(1), Ok(()));
-    assert_eq!(rt; holdings.close_account(1), Ok(()));
-    assert_eq!(rt; holdings.may_open(1), Ok(()));
-    assert_eq!(rt; holdings.may_close(1), refusal(111));
-    Ok(())
-}
-
-// A line of account 1.
-fn line(text: &str, reserving: Option<TransactionId>) -> Result<Line, Fail> {
-    Ok(Line {
-        account: 1,
-        block: Block::read(text)?,
-        reserving,
-    })
-}
-
-#[test]
-fn pieces(rt: HostRuntime) -> Result<(), Fail> {
-    let alloc = rt.alloc();
-    let mut holdings = hundred(alloc)?;
-    let first = TransactionId::read("NZ1").ok_or("an identifier")?;
-    let second = TransactionId::read("NZ2").ok_or("an identifier")?;
-    let low = [Block::read("NZ:1:20-30:AAU")?];
-    let high = [Block::read("NZ:1:31-40:AAU")?];
-    assert_eq!(rt; holdings.reserve(1, &low, first), Ok(()));
-    assert_eq!(rt; holdings.reserve(1, &high, second), Ok(()));
-    let four = [
-        line("NZ:1:1-19:AAU", None)?,
-        line("NZ:1:20-30:AAU", Some(first))?,
-        line("NZ:1:31-40:AAU", Some(second))?,
-        line("NZ:1:41-100:AAU", None)?,
+    let first = id(&rt, "NZ1");
+    let before = [
+        (Call::MayClose, 1, refusal(112)),
+        (Call::MayClose, 2, Ok(())),
+        (Call::MayClose, 3, refusal(110)),
+        (Call::MayOpen, 2, refusal(111)),
     ];
-    assert_eq!(rt; holdings.lines(alloc)?.as_slice(), four.as_slice());
-    assert_eq!(rt; holdings.free_count(1), 79);
-    assert_eq!(rt; holdings.pieces().len(), 4);
-    holdings.release(second);
-    let three = [four[0], four[1], line("NZ:1:31-100:AAU", None)?];
-    assert_eq!(rt; holdings.lines(alloc)?.as_slice(), three.as_slice());
-    holdings.release(first);
-    let one = [line("NZ:1:1-100:AAU", None)?];
-    assert_eq!(rt; holdings.lines(alloc)?.as_slice(), one.as_slice());
-    assert_eq!(rt; holdings.pieces().len(), 1);
+    let behind = [
+        (Call::MayClose, 1, Ok(())),
+        (Call::Close, 1, Ok(())),
+        (Call::MayOpen, 1, Ok(())),
+        (Call::MayClose, 1, refusal(111)),
+    ];
+    assert_reserved(
+        &rt,
+        &mut holdings,
+        &[block(&rt, "NZ:1:1-100:AAU")],
+        first,
+        0,
+    );
+    assert_calls(&rt, &mut holdings, &before);
+    assert_removed(&rt, &mut holdings, first, 0);
+    assert_calls(&rt, &mut holdings, &behind);
     Ok(())
 }

@@ -1,6 +1,7 @@
 use outbox::Outbox;
 use status::TransactionId;
 use std::alloc::Global;
+use std::process::Abort;
 use std::test::Fail;
 use units::{Code, Node};
 use wire::{Message, Request};
@@ -21,26 +22,36 @@ fn requests(alloc: Global, count: u32) -> Result<Vec<Message>, Fail> {
     Ok(messages)
 }
 
-#[test]
-fn messages_are_numbered_and_acknowledged(rt: HostRuntime) -> Result<(), Fail> {
-    let alloc = rt.alloc();
-    let registry = Node::Registry(nz()?);
-    let second = TransactionId::new(nz()?, 2);
+// An outbox of two requests, the first acknowledged.
+fn acknowledged(rt: &impl Abort, alloc: Global) -> Result<Outbox, Fail> {
     let mut outbox = Outbox::new(alloc);
     outbox.record(requests(alloc, 2)?)?;
     assert_eq!(rt; outbox.next_unacknowledged(Node::Itl, 0), Some(0));
     if outbox.sends() > 0 {
         outbox.acknowledge(0)?;
     }
-    assert_eq!(rt; outbox.records(), 2);
-    assert_eq!(rt; outbox.sends(), 2);
+    Ok(outbox)
+}
+
+#[test]
+fn messages_are_numbered(rt: HostRuntime) -> Result<(), Fail> {
+    let second = TransactionId::new(nz()?, 2);
+    let outbox = acknowledged(&rt, rt.alloc())?;
+    assert_eq!(rt; (outbox.records(), outbox.sends()), (2, 2));
     assert_eq!(rt; (outbox.sent_by(0), outbox.sent_by(1)), (0, 2));
+    assert_eq!(rt; outbox.message(1).map(|m| m.transaction()), second);
+    assert!(rt; outbox.message(2).is_none());
+    Ok(())
+}
+
+#[test]
+fn messages_are_acknowledged(rt: HostRuntime) -> Result<(), Fail> {
+    let registry = Node::Registry(nz()?);
+    let outbox = acknowledged(&rt, rt.alloc())?;
     assert!(rt; outbox.is_acknowledged(0));
     assert!(rt; !outbox.is_acknowledged(1));
     assert_eq!(rt; outbox.next_unacknowledged(Node::Itl, 0), Some(1));
     assert_eq!(rt; outbox.next_unacknowledged(registry, 0), None);
-    assert_eq!(rt; outbox.message(1).map(|m| m.transaction()), second);
-    assert!(rt; outbox.message(2).is_none());
     Ok(())
 }
 

@@ -1,4 +1,4 @@
-use scheme::{Holder, Member, Scheme, SchemeFault};
+use scheme::{Allotment, Holder, Member, Scheme, SchemeFault};
 use std::alloc::Global;
 use std::process::Abort;
 use std::test::Fail;
@@ -50,23 +50,36 @@ fn repeated(alloc: Global, count: u64, before: &str, behind: &str) -> Result<Str
     Ok(text)
 }
 
-fn assert_worked(rt: &impl Abort, registries: &[Member]) -> Result<(), Fail> {
+/// The registry has that code and these accounts, and is eligible.
+fn assert_member(rt: &impl Abort, member: &Member, code: &str, accounts: &[u64]) {
+    let code = Code::read(code).expect(rt, "two letters");
+    assert_eq!(rt; member.code, code);
+    assert!(rt; member.accounts.as_slice() == accounts);
+    assert!(rt; member.eligible);
+}
+
+/// The allotment is a hundred units in account 1.
+fn assert_allotment(rt: &impl Abort, allotment: &Allotment) {
+    let block = Block::read("NZ:1:1-100:AAU").expect(rt, "a block");
+    assert_eq!(rt; allotment.account, 1);
+    assert_eq!(rt; allotment.units.as_slice(), [block].as_slice());
+}
+
+/// The scheme is that of JP and NZ.
+fn assert_worked(rt: &impl Abort, scheme: &Scheme) {
+    assert_eq!(rt; scheme.records(), 1000);
+    let registries = scheme.registries();
     assert_eq!(rt; registries.len(), 2);
     let (jp, nz) = (&registries[0], &registries[1]);
-    assert_eq!(rt; Some(jp.code), Code::read("JP"));
-    assert_eq!(rt; Some(nz.code), Code::read("NZ"));
-    assert_eq!(rt; jp.accounts.as_slice(), [7, 8].as_slice());
-    assert_eq!(rt; nz.accounts.as_slice(), [1, 2].as_slice());
-    assert!(rt; jp.eligible && nz.eligible);
+    assert_member(rt, jp, "JP", &[7, 8]);
+    assert_member(rt, nz, "NZ", &[1, 2]);
     assert_eq!(rt; jp.kinds.as_slice(), [Kind::Aau, Kind::Cer].as_slice());
     assert_eq!(rt; nz.kinds.as_slice().len(), 6);
     assert_eq!(rt; jp.allotted.as_slice().len(), 0);
     assert_eq!(rt; nz.allotted.as_slice().len(), 1);
-    let allotment = &nz.allotted.as_slice()[0];
-    assert_eq!(rt; allotment.account, 1);
-    let block = Block::read("NZ:1:1-100:AAU")?;
-    assert_eq!(rt; allotment.units.as_slice(), [block].as_slice());
-    Ok(())
+    for allotment in nz.allotted.as_slice() {
+        assert_allotment(rt, allotment);
+    }
 }
 
 #[test]
@@ -78,25 +91,34 @@ fn a_scheme_is_read_and_copied(rt: HostRuntime) -> Result<(), Fail> {
         let text = text_of(alloc, registries)?;
         let scheme = Scheme::read(alloc, text.as_bytes())?;
         let copy = scheme.copy(alloc)?;
-        for one in [&scheme, &copy] {
-            assert_eq!(rt; one.records(), 1000);
-            assert_worked(&rt, one.registries())?;
-        }
+        assert_worked(&rt, &scheme);
+        assert_worked(&rt, &copy);
     }
     Ok(())
 }
 
-#[test]
-fn a_registry_and_a_holder_are_found(rt: HostRuntime) -> Result<(), Fail> {
-    let alloc = rt.alloc();
+/// The scheme of JP and NZ.
+fn worked(alloc: Global) -> Result<Scheme, Fail> {
     let registries = format!(in alloc; "{JP},{NZ}")?;
     let text = text_of(alloc, registries.as_str())?;
-    let scheme = Scheme::read(alloc, text.as_bytes())?;
+    Ok(Scheme::read(alloc, text.as_bytes())?)
+}
+
+#[test]
+fn a_registry_is_found(rt: HostRuntime) -> Result<(), Fail> {
     let nz = Code::read("NZ").expect(&rt, "two letters");
     let ch = Code::read("CH").expect(&rt, "two letters");
+    let scheme = worked(rt.alloc())?;
     let member = scheme.member(nz).expect(&rt, "a registry");
     assert_eq!(rt; member.accounts.as_slice(), [1, 2].as_slice());
     assert!(rt; scheme.member(ch).is_none());
+    Ok(())
+}
+
+#[test]
+fn a_holder_is_found(rt: HostRuntime) -> Result<(), Fail> {
+    let alloc = rt.alloc();
+    let nz = Code::read("NZ").expect(&rt, "two letters");
     let last = Unit {
         origin: nz,
         period: Period::First,
@@ -112,6 +134,7 @@ fn a_registry_and_a_holder_are_found(rt: HostRuntime) -> Result<(), Fail> {
         account: 1,
         kind: Kind::Aau,
     };
+    let scheme = worked(alloc)?;
     assert_eq!(rt; scheme.allotted(&last), Some(holder));
     assert_eq!(rt; scheme.allotted(&behind), None);
     let allotments = scheme.allotments(alloc)?;
@@ -121,78 +144,86 @@ fn a_registry_and_a_holder_are_found(rt: HostRuntime) -> Result<(), Fail> {
 }
 
 #[test]
-fn each_fault_is_answered(rt: HostRuntime) -> Result<(), Fail> {
-    let alloc = rt.alloc();
-    let empty = Scheme::read(alloc, b"");
+fn what_is_no_scheme(rt: HostRuntime) {
+    let empty = Scheme::read(rt.alloc(), b"");
     assert_eq!(rt; empty.err(), Some(SchemeFault::NotJson));
-    let list = Scheme::read(alloc, b"[]");
+    let list = Scheme::read(rt.alloc(), b"[]");
     assert_eq!(rt; list.err(), Some(SchemeFault::Shape));
+}
+
+#[test]
+fn faults_of_registries(rt: HostRuntime) -> Result<(), Fail> {
+    let alloc = rt.alloc();
     assert_eq!(rt; fault(alloc, JP)?, Some(SchemeFault::TooFew));
     let codes = format!(in alloc; "{JP},{NZ},{JP}")?;
     assert_eq!(rt; fault(alloc, codes.as_str())?, Some(SchemeFault::CodeTwice));
-    assert_eq!(rt;
-        fault_beside_jp(alloc, "3,5,3", "")?,
-        Some(SchemeFault::AccountTwice)
-    );
-    let unknown = r#"{"account":9,"units":[]}"#;
-    assert_eq!(rt;
-        fault_beside_jp(alloc, "3,5", unknown)?,
-        Some(SchemeFault::UnknownAccount)
-    );
-    let same_kind = r#"{"account":3,"units":["NZ:1:10-20:AAU","NZ:1:1-10:AAU"]}"#;
-    assert_eq!(rt;
-        fault_beside_jp(alloc, "3,5", same_kind)?,
-        Some(SchemeFault::AllotmentOverlap)
-    );
-    let two_kinds =
-        r#"{"account":3,"units":["NZ:1:1-10:AAU"]},{"account":5,"units":["NZ:1:10-20:RMU"]}"#;
-    assert_eq!(rt;
-        fault_beside_jp(alloc, "3,5", two_kinds)?,
-        Some(SchemeFault::AllotmentOverlap)
-    );
-    let apart = r#"{"account":3,"units":["NZ:1:11-20:RMU","NZ:2:1-10:AAU","NZ:1:1-10:AAU"]}"#;
-    assert_eq!(rt; fault_beside_jp(alloc, "3,5", apart)?, None);
+    Ok(())
+}
+
+const UNKNOWN: &str = r#"{"account":9,"units":[]}"#;
+
+const SAME_KIND: &str = r#"{"account":3,"units":["NZ:1:10-20:AAU","NZ:1:1-10:AAU"]}"#;
+
+const TWO_KINDS: &str =
+    r#"{"account":3,"units":["NZ:1:1-10:AAU"]},{"account":5,"units":["NZ:1:10-20:RMU"]}"#;
+
+const APART: &str = r#"{"account":3,"units":["NZ:1:11-20:RMU","NZ:2:1-10:AAU","NZ:1:1-10:AAU"]}"#;
+
+#[test]
+fn faults_of_allotments(rt: HostRuntime) -> Result<(), Fail> {
+    for (accounts, allotted, wanted) in [
+        ("3,5,3", "", Some(SchemeFault::AccountTwice)),
+        ("3,5", UNKNOWN, Some(SchemeFault::UnknownAccount)),
+        ("3,5", SAME_KIND, Some(SchemeFault::AllotmentOverlap)),
+        ("3,5", TWO_KINDS, Some(SchemeFault::AllotmentOverlap)),
+        ("3,5", APART, None),
+    ] {
+        assert_eq!(rt; fault_beside_jp(rt.alloc(), accounts, allotted)?, wanted);
+    }
     Ok(())
 }
 
 #[test]
-fn the_limits(rt: HostRuntime) -> Result<(), Fail> {
+fn the_limit_of_accounts(rt: HostRuntime) -> Result<(), Fail> {
     let alloc = rt.alloc();
-    let accounts = repeated(alloc, 1_000, "", "")?;
-    assert_eq!(rt; fault_beside_jp(alloc, accounts.as_str(), "")?, None);
-    let accounts = repeated(alloc, 1_001, "", "")?;
-    assert_eq!(rt;
-        fault_beside_jp(alloc, accounts.as_str(), "")?,
-        Some(SchemeFault::TooMany)
-    );
-    let one_each = repeated(
+    for (count, wanted) in [(1_000, None), (1_001, Some(SchemeFault::TooMany))] {
+        let accounts = repeated(alloc, count, "", "")?;
+        assert_eq!(rt; fault_beside_jp(alloc, accounts.as_str(), "")?, wanted);
+    }
+    Ok(())
+}
+
+#[test]
+fn the_limit_of_allotments(rt: HostRuntime) -> Result<(), Fail> {
+    let alloc = rt.alloc();
+    let mut allotted = repeated(
         alloc,
         10_000,
         "{\"account\":1,\"units\":[\"NZ:2:1",
         "-9999999:AAU\"]}",
     )?;
-    let last = fault_beside_jp(alloc, "1", one_each.as_str())?;
+    let last = fault_beside_jp(alloc, "1", allotted.as_str())?;
     assert_eq!(rt; last, Some(SchemeFault::AllotmentOverlap));
-    let more = format!(in alloc; "{one_each},{{\"account\":1,\"units\":[\"NZ:1:1-1:AAU\"]}}")?;
-    assert_eq!(rt;
-        fault_beside_jp(alloc, "1", more.as_str())?,
-        Some(SchemeFault::TooMany)
-    );
+    allotted.push_str(r#",{"account":1,"units":["NZ:1:1-1:AAU"]}"#)?;
+    let more = fault_beside_jp(alloc, "1", allotted.as_str())?;
+    assert_eq!(rt; more, Some(SchemeFault::TooMany));
+    Ok(())
+}
+
+#[test]
+fn the_limit_of_registries(rt: HostRuntime) -> Result<(), Fail> {
+    let alloc = rt.alloc();
     let mut registries = String::from_str(alloc, JP)?;
     for _ in 0..31 {
         registries.push_str(",")?;
         registries.push_str(JP)?;
     }
-    assert_eq!(rt;
-        fault(alloc, registries.as_str())?,
-        Some(SchemeFault::CodeTwice)
-    );
+    let last = fault(alloc, registries.as_str())?;
+    assert_eq!(rt; last, Some(SchemeFault::CodeTwice));
     registries.push_str(",")?;
     registries.push_str(NZ)?;
-    assert_eq!(rt;
-        fault(alloc, registries.as_str())?,
-        Some(SchemeFault::TooMany)
-    );
+    let more = fault(alloc, registries.as_str())?;
+    assert_eq!(rt; more, Some(SchemeFault::TooMany));
     Ok(())
 }
 

@@ -2,6 +2,7 @@ use status::{
     Content, Known, Moment, MomentFault, Order, Role, Row, RowInput, Status, TransactionId, row,
 };
 use std::alloc::Global;
+use std::process::Abort;
 use std::test::Fail;
 use units::{Block, Code, Items, Kind, Period, RawBlock};
 
@@ -129,6 +130,14 @@ fn the_name_of_each_status(rt: HostRuntime) {
     }
 }
 
+/// The content is for JP, and has these accounts and so many blocks.
+fn assert_content(rt: &impl Abort, content: &Content, account: u64, to_account: u64, count: usize) {
+    let accounts = (content.account(), content.to_account());
+    assert_eq!(rt; accounts, (account, to_account));
+    assert_eq!(rt; Some(content.acquirer()), Code::read("JP"));
+    assert_eq!(rt; content.units().len(), count);
+}
+
 #[test]
 fn the_limits_of_a_content(rt: HostRuntime) -> Result<(), Fail> {
     let alloc = rt.alloc();
@@ -150,10 +159,7 @@ fn the_limits_of_a_content(rt: HostRuntime) -> Result<(), Fail> {
             "{account} {to_account} {count}"
         );
         if let Some(made) = made {
-            assert_eq!(rt; made.account(), account);
-            assert_eq!(rt; made.acquirer(), code("JP")?);
-            assert_eq!(rt; made.to_account(), to_account);
-            assert_eq!(rt; made.units().len(), count);
+            assert_content(&rt, &made, account, to_account, count);
         }
     }
     Ok(())
@@ -179,19 +185,61 @@ const CONTENTS: [(u64, &str, u64, &[&str], bool); 8] = [
     ),
 ];
 
+/// Whether the contents are the same, whichever is asked.
+fn assert_same(rt: &impl Abort, one: &Content, other: &Content, is_same: bool) {
+    assert_eq!(rt; (one.same(other), other.same(one)), (is_same, is_same));
+}
+
+/// The content of those parts, which are within the limits.
+fn made(
+    rt: &impl Abort,
+    alloc: Global,
+    account: u64,
+    acquirer: &str,
+    to_account: u64,
+    units: &[&str],
+) -> Result<Content, Fail> {
+    let made = content(alloc, account, acquirer, to_account, units)?;
+    Ok(made.expect(rt, "a content"))
+}
+
+#[test]
+fn a_content_and_its_copy(rt: HostRuntime) -> Result<(), Fail> {
+    let one = made(&rt, rt.alloc(), 1, "JP", 7, &BLOCKS)?;
+    let copy = one.copy().expect(&rt, "memory");
+    assert_same(&rt, &one, &copy, true);
+    Ok(())
+}
+
 #[test]
 fn contents_are_compared_in_each_part(rt: HostRuntime) -> Result<(), Fail> {
     let alloc = rt.alloc();
-    let one = content(alloc, 1, "JP", 7, &BLOCKS)?.expect(&rt, "a content");
-    let copy = one.copy().expect(&rt, "memory");
-    assert!(rt; one.same(&copy) && copy.same(&one));
+    let one = made(&rt, alloc, 1, "JP", 7, &BLOCKS)?;
     for (account, acquirer, to_account, units, is_same) in CONTENTS {
-        let made = content(alloc, account, acquirer, to_account, units)?;
-        let other = made.expect(&rt, "a content");
-        assert_eq!(rt; one.same(&other), is_same);
-        assert_eq!(rt; other.same(&one), is_same);
+        let other = made(&rt, alloc, account, acquirer, to_account, units)?;
+        assert_same(&rt, &one, &other, is_same);
     }
     Ok(())
+}
+
+/// A copy of the order is the same, is for JP, and has these accounts and one block of those numbers.
+fn assert_copied(
+    rt: &impl Abort,
+    order: &Order,
+    account: u64,
+    to_account: u64,
+    first: u64,
+    last: u64,
+) {
+    let copy = order.copy().expect(rt, "memory");
+    assert!(rt; copy.same(order));
+    let accounts = (copy.account(), copy.to_account());
+    assert_eq!(rt; accounts, (account, to_account));
+    assert_eq!(rt; Some(copy.to_registry()), Code::read("JP"));
+    assert_eq!(rt; copy.units().len(), 1);
+    for block in copy.units() {
+        assert_eq!(rt; (block.first, block.last), (first, last));
+    }
 }
 
 #[test]
@@ -208,15 +256,7 @@ fn the_limits_of_an_order(rt: HostRuntime) -> Result<(), Fail> {
         let made = order(alloc, account, to_account, first, last)?;
         assert_eq!(rt; made.is_some(), is_order);
         if let Some(made) = made {
-            let copy = made.copy().expect(&rt, "memory");
-            assert!(rt; copy.same(&made));
-            assert_eq!(rt; copy.account(), account);
-            assert_eq!(rt; copy.to_registry(), code("JP")?);
-            assert_eq!(rt; copy.to_account(), to_account);
-            assert_eq!(rt; copy.units().len(), 1);
-            for block in copy.units() {
-                assert_eq!(rt; (block.first, block.last), (first, last));
-            }
+            assert_copied(&rt, &made, account, to_account, first, last);
         }
     }
     Ok(())

@@ -1,3 +1,5 @@
+use std::alloc::Global;
+use std::process::Abort;
 use std::test::Fail;
 use units::{
     Block, BlockFault, BlockSet, Code, Items, Kind, Node, Period, RawBlock, Refusal, Unit, UnitMap,
@@ -13,13 +15,14 @@ fn block_texts(rt: HostRuntime) {
 }
 
 #[test]
-fn a_block_is_written_as_it_was_read(rt: HostRuntime) -> Result<(), Fail> {
+fn a_block_is_written_as_it_was_read(rt: HostRuntime) {
+    let text = "CH:2:101-250:tCER";
     let origin = Code::new(b'C', b'H').expect(&rt, "two letters");
-    let block = Block::new(origin, Period::Second, Kind::Tcer, 101, 250)?;
-    assert_eq!(rt; Block::read("CH:2:101-250:tCER"), Ok(block));
-    assert_eq!(rt; RawBlock::read("CH:2:101-250:tCER"), Some(block.raw));
-    let written = block.write(rt.alloc())?;
-    assert_eq!(rt; written.as_str(), "CH:2:101-250:tCER");
+    let block = Block::new(origin, Period::Second, Kind::Tcer, 101, 250).expect(&rt, "a block");
+    assert_eq!(rt; Block::read(text), Ok(block));
+    assert_eq!(rt; RawBlock::read(text), Some(block.raw));
+    let written = block.write(rt.alloc()).expect(&rt, "memory");
+    assert_eq!(rt; written.as_str(), text);
     assert_eq!(rt; block.count(), 150);
     let (period, number) = (Period::Second, 250);
     assert!(rt;
@@ -29,7 +32,6 @@ fn a_block_is_written_as_it_was_read(rt: HostRuntime) -> Result<(), Fail> {
             number
         })
     );
-    Ok(())
 }
 
 #[test]
@@ -57,78 +59,94 @@ fn a_list_and_its_copy(rt: HostRuntime) -> Result<(), Fail> {
     Ok(())
 }
 
-fn nz(kind: Kind, first: u64, last: u64) -> Result<Block, BlockFault> {
-    let origin = Code::new(b'N', b'Z').ok_or(BlockFault::Shape)?;
-    Block::new(origin, Period::First, kind, first, last)
+fn nz(rt: &impl Abort, kind: Kind, first: u64, last: u64) -> Block {
+    let origin = Code::new(b'N', b'Z').expect(rt, "two letters");
+    Block::new(origin, Period::First, kind, first, last).expect(rt, "a block")
 }
 
-#[test]
-fn block_set(rt: HostRuntime) -> Result<(), Fail> {
-    let alloc = rt.alloc();
+fn aau(rt: &impl Abort, first: u64, last: u64) -> Block {
+    nz(rt, Kind::Aau, first, last)
+}
+
+// A hundred units, put in as two blocks.
+fn hundred(rt: &impl Abort, alloc: Global) -> BlockSet {
     let mut set = BlockSet::new(alloc);
-    assert_eq!(rt; set.add(nz(Kind::Aau, 1, 50)?), Ok(()));
-    assert_eq!(rt; set.add(nz(Kind::Aau, 51, 100)?), Ok(()));
-    assert_eq!(rt;
-        set.canonical(alloc)?.as_slice(),
-        [nz(Kind::Aau, 1, 100)?].as_slice()
-    );
-    assert_eq!(rt; set.count(), 100);
-    assert_eq!(rt; set.take(nz(Kind::Aau, 41, 60)?), Ok(()));
-    assert_eq!(rt; set.count(), 80);
-    assert_eq!(rt;
-        set.take(nz(Kind::Aau, 40, 41)?),
-        Err(Refusal { code: 105 })
-    );
-    assert_eq!(rt;
-        set.add(nz(Kind::Aau, 100, 101)?),
-        Err(Refusal { code: 103 })
-    );
-    assert_eq!(rt; set.add(nz(Kind::Cer, 41, 60)?), Ok(()));
-    let (low, middle) = (nz(Kind::Aau, 1, 40)?, nz(Kind::Cer, 41, 60)?);
-    let high = nz(Kind::Aau, 61, 100)?;
-    let copy = set.copy()?;
-    assert_eq!(rt;
-        copy.canonical(alloc)?.as_slice(),
-        [low, middle, high].as_slice()
-    );
-    assert_eq!(rt; high.write(alloc)?.as_str(), "NZ:1:61-100:AAU");
-    assert!(rt; set.contains_all(&[nz(Kind::Rmu, 40, 61)?]));
-    assert!(rt; !set.contains_all(&[low, nz(Kind::Aau, 100, 101)?]));
-    assert!(rt; set.disjoint(&[nz(Kind::Aau, 101, 102)?]));
-    assert!(rt; !set.disjoint(&[nz(Kind::Aau, 101, 102)?, high]));
-    Ok(())
+    for block in [aau(rt, 1, 50), aau(rt, 51, 100)] {
+        assert_eq!(rt; set.add(block), Ok(()));
+    }
+    set
+}
+
+// The set is these blocks, and has so many units.
+fn assert_set(rt: &impl Abort, set: &BlockSet, alloc: Global, wanted: &[Block], count: u64) {
+    assert_eq!(rt; set.count(), count);
+    let blocks = set.canonical(alloc).expect(rt, "memory");
+    assert!(rt; blocks.as_slice() == wanted);
 }
 
 #[test]
-fn several_blocks_at_once(rt: HostRuntime) -> Result<(), Fail> {
-    let (low, high) = (nz(Kind::Aau, 1, 5)?, nz(Kind::Aau, 6, 10)?);
+fn block_set(rt: HostRuntime) {
+    let alloc = rt.alloc();
+    let (low, high) = (aau(&rt, 1, 40), aau(&rt, 61, 100));
+    let middle = nz(&rt, Kind::Cer, 41, 60);
+    let mut set = hundred(&rt, alloc);
+    assert_set(&rt, &set, alloc, &[aau(&rt, 1, 100)], 100);
+    assert_eq!(rt; set.take(aau(&rt, 41, 60)), Ok(()));
+    assert_eq!(rt; set.take(aau(&rt, 40, 41)), Err(Refusal { code: 105 }));
+    assert_eq!(rt; set.add(aau(&rt, 100, 101)), Err(Refusal { code: 103 }));
+    assert_set(&rt, &set, alloc, &[low, high], 80);
+    assert_eq!(rt; set.add(middle), Ok(()));
+    assert_set(&rt, &set, alloc, &[low, middle, high], 100);
+    let copy = set.copy().expect(&rt, "memory");
+    assert_set(&rt, &copy, alloc, &[low, middle, high], 100);
+}
+
+#[test]
+fn blocks_of_a_set(rt: HostRuntime) {
+    let (low, above) = (aau(&rt, 1, 40), aau(&rt, 101, 102));
+    let (other, across) = (nz(&rt, Kind::Rmu, 40, 41), aau(&rt, 100, 101));
+    let set = hundred(&rt, rt.alloc());
+    for (blocks, has_all, has_none) in [
+        ([low, other], true, false),
+        ([low, across], false, false),
+        ([above, above], false, true),
+        ([above, low], false, false),
+    ] {
+        assert_eq!(rt; set.contains_all(&blocks), has_all);
+        assert_eq!(rt; set.disjoint(&blocks), has_none);
+    }
+}
+
+// The set has so many units, in so many intervals.
+fn assert_size(rt: &impl Abort, set: &BlockSet, units: u64, intervals: usize) {
+    assert_eq!(rt; (set.count(), set.pieces().len()), (units, intervals));
+}
+
+#[test]
+fn several_blocks_at_once(rt: HostRuntime) {
+    let blocks = [aau(&rt, 1, 5), aau(&rt, 6, 10)];
+    let shared = [aau(&rt, 11, 12), nz(&rt, Kind::Cer, 10, 10)];
+    let beyond = [aau(&rt, 2, 3), aau(&rt, 8, 11)];
+    let inside = [aau(&rt, 2, 3), aau(&rt, 5, 6)];
     let mut set = BlockSet::new(rt.alloc());
-    assert_eq!(rt; set.add_all(&[low, high]), Ok(()));
-    assert_eq!(rt; set.pieces().len(), 1);
-    let shared = [nz(Kind::Aau, 11, 12)?, nz(Kind::Cer, 10, 10)?];
+    assert_eq!(rt; set.add_all(&blocks), Ok(()));
     assert_eq!(rt; set.add_all(&shared), Err(Refusal { code: 103 }));
-    assert_eq!(rt; set.count(), 10);
-    let beyond = [nz(Kind::Aau, 2, 3)?, nz(Kind::Aau, 8, 11)?];
     assert_eq!(rt; set.take_all(&beyond), Err(Refusal { code: 105 }));
-    assert_eq!(rt; set.pieces().len(), 1);
-    let inside = [nz(Kind::Aau, 2, 3)?, nz(Kind::Aau, 5, 6)?];
+    assert_size(&rt, &set, 10, 1);
     assert_eq!(rt; set.take_all(&inside), Ok(()));
-    assert_eq!(rt; set.pieces().len(), 3);
-    assert_eq!(rt; set.count(), 6);
-    Ok(())
+    assert_size(&rt, &set, 6, 3);
 }
 
 #[test]
-fn blocks_that_share_a_unit(rt: HostRuntime) -> Result<(), Fail> {
-    let (low, high) = (nz(Kind::Aau, 1, 5)?, nz(Kind::Aau, 6, 10)?);
+fn blocks_that_share_a_unit(rt: HostRuntime) {
+    let (low, high) = (aau(&rt, 1, 5), aau(&rt, 6, 10));
     assert!(rt; !overlaps(&[low, high]));
-    assert!(rt; overlaps(&[low, high, nz(Kind::Cer, 10, 11)?]));
-    Ok(())
+    assert!(rt; overlaps(&[low, high, nz(&rt, Kind::Cer, 10, 11)]));
 }
 
 #[test]
 fn marks_of_units(rt: HostRuntime) -> Result<(), Fail> {
-    let block = nz(Kind::Aau, 1, 10)?;
+    let block = aau(&rt, 1, 10);
     let (origin, period) = (block.raw.origin, block.raw.period);
     let unit = Unit {
         origin,
@@ -138,7 +156,7 @@ fn marks_of_units(rt: HostRuntime) -> Result<(), Fail> {
     let mut kinds = UnitMap::new(rt.alloc());
     kinds.set(&block, Some(Kind::Aau))?;
     assert_eq!(rt; kinds.get(&unit), Some(Kind::Aau));
-    kinds.set(&nz(Kind::Cer, 4, 6)?, Some(Kind::Cer))?;
+    kinds.set(&nz(&rt, Kind::Cer, 4, 6), Some(Kind::Cer))?;
     assert_eq!(rt; kinds.count_where(|kind| kind == Kind::Aau), 7);
     assert!(rt; kinds.has_some_of(&block, |kind| kind == Kind::Cer));
     assert_eq!(rt; kinds.pieces().len(), 3);

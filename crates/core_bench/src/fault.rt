@@ -1,0 +1,88 @@
+//! Why nothing is measured, or no more.
+
+use scheme::SchemeFault;
+use std::alloc::{AllocError, AllocFailed};
+use std::io;
+use thiserror::Error;
+use units::{BlockFault, NoMemory, Refusal};
+
+/// Why nothing is measured, or no more.
+#[derive(Debug, Drop, Error)]
+pub enum Fault {
+    /// The words are not a kind of work and a number of inputs.
+    #[error("two words are wanted, transfers or accounts and a number of inputs from 9 to 1,000,000")]
+    Words,
+    /// The scheme is none, or a number of an input is out of its range.
+    #[error("an input can't be made")]
+    Input,
+    /// The registry refused an input.
+    #[error("an input was refused with {0}")]
+    Refused(u16),
+    /// Memory was refused.
+    #[error("out of memory")]
+    NoMemory,
+    /// The clock, the words or the output failed.
+    #[error("{0}")]
+    System(io::Error),
+}
+
+impl From<AllocError> for Fault {
+    fn from(_: AllocError) -> Fault {
+        Fault::NoMemory
+    }
+}
+
+impl<T: Drop> From<AllocFailed<T>> for Fault {
+    fn from(_: AllocFailed<T>) -> Fault {
+        Fault::NoMemory
+    }
+}
+
+impl From<NoMemory> for Fault {
+    fn from(_: NoMemory) -> Fault {
+        Fault::NoMemory
+    }
+}
+
+impl From<SchemeFault> for Fault {
+    fn from(fault: SchemeFault) -> Fault {
+        match fault {
+            SchemeFault::NoMemory => Fault::NoMemory,
+            _ => Fault::Input,
+        }
+    }
+}
+
+impl From<BlockFault> for Fault {
+    fn from(_: BlockFault) -> Fault {
+        Fault::Input
+    }
+}
+
+impl From<Refusal> for Fault {
+    fn from(refusal: Refusal) -> Fault {
+        if refusal == Refusal::NO_MEMORY {
+            Fault::NoMemory
+        } else {
+            Fault::Refused(refusal.code)
+        }
+    }
+}
+
+impl From<io::Error> for Fault {
+    fn from(error: io::Error) -> Fault {
+        Fault::System(error)
+    }
+}
+
+impl Fault {
+    /// The program's exit status.
+    pub fn status(&self) -> u8 {
+        match self {
+            Fault::System(_) => 1,
+            Fault::Words => 2,
+            Fault::Input | Fault::Refused(_) => 3,
+            Fault::NoMemory => 5,
+        }
+    }
+}

@@ -1,0 +1,187 @@
+//! The inputs that the registry is given.
+
+use crate::fault::Fault;
+use status::{Content, Moment, Order, TransactionId};
+use std::alloc::Global;
+use units::{Block, Code, Items, Kind, Node, Period, RawBlock};
+use wire::{Input, Message, Notice, Notification, Number, Proposal, ProposalStatus};
+
+/// The account that is closed and opened.
+const EMPTY_ACCOUNT: u64 = 1;
+
+/// The account that all units of the registry are in, and that others are credited to.
+const FULL_ACCOUNT: u64 = 2;
+
+/// The other registry's account.
+const OTHER_ACCOUNT: u64 = 7;
+
+const UNITS_OF_A_BLOCK: u64 = 10;
+
+/// How far one round's block is from the next: half of the units between them stay.
+const UNITS_OF_A_ROUND: u64 = 2 * UNITS_OF_A_BLOCK;
+
+/// How many messages a round sends.
+const MESSAGES_OF_A_ROUND: u64 = 3;
+
+/// When each message came: 2012-05-01T00:00:00Z.
+const MOMENT: u64 = 1_335_830_400;
+
+/// The messages that a round sends, in their order.
+#[derive(Clone, Copy, Debug)]
+enum Sent {
+    Proposal,
+    Completed,
+    Accepted,
+}
+
+/// One input of a round.
+#[derive(Clone, Copy, Debug)]
+enum Step {
+    Order,
+    Accepted,
+    Proposal,
+    Completed,
+    Ack(Sent),
+}
+
+/// A whole transfer out of the registry, one into it, and two repeats.
+const ROUND: [Step; 9] = [
+    Step::Order,
+    Step::Ack(Sent::Proposal),
+    Step::Accepted,
+    Step::Ack(Sent::Completed),
+    Step::Proposal,
+    Step::Ack(Sent::Accepted),
+    Step::Completed,
+    Step::Accepted,
+    Step::Proposal,
+];
+
+/// The registry that is given inputs, and the other one.
+#[derive(Clone, Copy, Debug)]
+pub struct Nodes {
+    pub own: Code,
+    pub other: Code,
+}
+
+impl Nodes {
+    /// NZ, and JP as the other one.
+    pub fn read() -> Option<Nodes> {
+        Some(Nodes {
+            own: Code::read("NZ")?,
+            other: Code::read("JP")?,
+        })
+    }
+}
+
+/// One round, by how many are before it.
+#[derive(Clone, Copy, Debug)]
+struct Round {
+    nodes: Nodes,
+    place: u32,
+}
+
+impl Round {
+    // The round's transaction of that registry.
+    fn id(&self, code: Code) -> Result<TransactionId, Fault> {
+        let number = self.place.saturating_add(1);
+        TransactionId::new(code, number).ok_or(Fault::Input)
+    }
+
+    // The round's block of that registry's units.
+    fn block(&self, origin: Code) -> Result<Block, Fault> {
+        let first = u64::from(self.place)
+            .saturating_mul(UNITS_OF_A_ROUND)
+            .saturating_add(1);
+        let last = first.saturating_add(UNITS_OF_A_BLOCK - 1);
+        Ok(Block::new(origin, Period::First, Kind::Aau, first, last)?)
+    }
+
+    fn order(&self, alloc: Global) -> Result<Input, Fault> {
+        let block = self.block(self.nodes.own)?;
+        let units: Vec<RawBlock> = Vec::from_slice(alloc, &[block.raw])?;
+        let order = Order::new(
+            FULL_ACCOUNT,
+            self.nodes.other,
+            OTHER_ACCOUNT,
+            Items::from_vec(units),
+        );
+        Ok(Input::Propose(order.ok_or(Fault::Input)?))
+    }
+
+    // The other registry's proposal, as the log passes it on.
+    fn proposal(&self, alloc: Global) -> Result<Input, Fault> {
+        let block = self.block(self.nodes.other)?;
+        let units = Items::from_vec(Vec::from_slice(alloc, &[block])?);
+        let content = Content::new(OTHER_ACCOUNT, self.nodes.own, FULL_ACCOUNT, units);
+        received(Message::Proposal(Proposal {
+            from: Node::Itl,
+            to: Node::Registry(self.nodes.own),
+            id: self.id(self.nodes.other)?,
+            status: ProposalStatus::Checked,
+            content: content.ok_or(Fault::Input)?,
+        }))
+    }
+
+    // What the log tells of the round's transaction of that registry.
+    fn notification(&self, code: Code, notice: Notice) -> Result<Input, Fault> {
+        received(Message::Notification(Notification {
+            from: Node::Itl,
+            to: Node::Registry(self.nodes.own),
+            id: self.id(code)?,
+            notice,
+        }))
+    }
+
+    // The acknowledgement of one of the round's messages.
+    fn ack(&self, sent: Sent) -> Result<Input, Fault> {
+        let behind = match sent {
+            Sent::Proposal => 0,
+            Sent::Completed => 1,
+            Sent::Accepted => 2,
+        };
+        let key = u64::from(self.place)
+            .saturating_mul(MESSAGES_OF_A_ROUND)
+            .saturating_add(behind);
+        Ok(Input::Ack(Number::new(key).ok_or(Fault::Input)?))
+    }
+
+    fn input(&self, alloc: Global, step: Step) -> Result<Input, Fault> {
+        match step {
+            Step::Order => self.order(alloc),
+            Step::Accepted => self.notification(self.nodes.own, Notice::Accepted),
+            Step::Proposal => self.proposal(alloc),
+            Step::Completed => self.notification(self.nodes.other, Notice::Completed),
+            Step::Ack(sent) => self.ack(sent),
+        }
+    }
+}
+
+fn received(message: Message) -> Result<Input, Fault> {
+    let moment = Moment::new(MOMENT).ok_or(Fault::Input)?;
+    Ok(Input::Received { message, moment })
+}
+
+/// That many inputs of rounds one after another.
+pub fn rounds_of(alloc: Global, nodes: Nodes, count: u32) -> Result<Vec<Input>, Fault> {
+    let mut inputs = Vec::new(alloc);
+    for at in 0..count {
+        let steps = ROUND.len() as u32;
+        let round = Round {
+            nodes,
+            place: at / steps,
+        };
+        let step = ROUND[(at % steps) as usize];
+        inputs.push(round.input(alloc, step)?)?;
+    }
+    Ok(inputs)
+}
+
+/// The orders to close an account and to open it again.
+pub fn account_orders(alloc: Global) -> Result<Vec<Input>, Fault> {
+    let account = Number::new(EMPTY_ACCOUNT).ok_or(Fault::Input)?;
+    let mut orders = Vec::new(alloc);
+    orders.push(Input::CloseAccount(account))?;
+    orders.push(Input::OpenAccount(account))?;
+    Ok(orders)
+}

@@ -1,0 +1,77 @@
+-- The set of the transactions that stand Checked, and the units under way, by what the table says of each transaction.
+use Rattle.std.proofs.Common.{◌≡◌, ◌&&◌, ◌==◌, ℕ, Bool, true, false, not, cond, Option, Some, None, refl, sym, ap, ◌∙◌}
+use Rattle.std.specs.BTreeMap as tree
+use Rattle.std.specs.BTreeMap.{BTreeMap}
+use Rattle.std.specs.BTreeSet.{BTreeSet, contains}
+use Rattle.std.specs.FinMap as finite
+use Rattle.std.specs.Prelude.{option_map}
+use Rattle.std.proofs.lemmas.Bool.{and_parts}
+use Rattle.units.specs.Intervals.{marks_that}
+use Rattle.units.specs.Keys.{unit_cmp}
+use Rattle.units.specs.declared.block.Unit.{Unit as Serial}
+use Rattle.status.proofs.Ids.{id_of_same}
+use Rattle.status.specs.Content.{Content}
+use Rattle.status.specs.Id.{id_cmp, same_id}
+use Rattle.status.specs.Status.{same_status}
+use Rattle.status.specs.declared.id.TransactionId.{TransactionId}
+use Rattle.status.specs.declared.moment.Moment.{Moment}
+use Rattle.status.specs.declared.words.Status.TheVariants.{Checked}
+use Rattle.checks.specs.declared.register.UnderWay.{UnderWay}
+use Rattle.protocol.specs.History.{has_serial}
+use Rattle.log_core.specs.Effects.{content_of}
+use Rattle.log_core.specs.Kept.{waiting_cmp}
+use Rattle.log_core.specs.Readings.{Standing, of_transfer}
+use Rattle.log_core.specs.Transfers.{AreMarked, AreWaiting, is_checked, is_place, standing_of}
+use Rattle.log_core.specs.declared.transfer.Transfer.{Transfer}
+use Rattle.log_core.specs.declared.waiting.Waiting.{Waiting}
+
+-- ---- a place that is taken out
+
+taken_out : (same here there : Bool) → (same ≡ true → there ≡ true → here ≡ true) → (there && not (here && same)) ≡ (not same && there)
+taken_out true true true h = refl
+taken_out true false true h = let e : false ≡ true = h refl refl in absurd (cc (e))
+taken_out true true false h = refl
+taken_out true false false h = refl
+taken_out false true true h = refl
+taken_out false false true h = refl
+taken_out false true false h = refl
+taken_out false false false h = refl
+
+none_there : (same there : Bool) → (same ≡ true → there ≡ false) → there ≡ (not same && there)
+none_there true there h = h refl
+none_there false there h = refl
+
+is_since : (since : ℕ) (o : Option Standing) (x : Standing) → o ≡ Some x → is_checked since o ≡ true → (x.since == since) ≡ true
+is_since since o x e h = (and_parts (same_status x.status Checked) (x.since == since) (ap (is_checked since) (sym e) ∙ h)).1
+
+module _ (transfers : BTreeMap TransactionId Transfer) (checked : BTreeSet Waiting) (waiting : AreWaiting transfers checked) (id : TransactionId) where
+  there_of : (w : Waiting) → same_id id w.id ≡ true → contains waiting_cmp checked w ≡ is_checked w.since.seconds (standing_of transfers id)
+  there_of w same = waiting w ∙ ap (λ t. is_checked w.since.seconds (standing_of transfers t)) (sym (id_of_same id w.id same))
+
+  pub stops : (x : Transfer) → tree.get id_cmp transfers id ≡ Some x → (w : Waiting)
+      → (contains waiting_cmp checked w && not (is_place w (record { since = x.since; id = id }))) ≡ (not (same_id id w.id) && contains waiting_cmp checked w)
+  stops x is w =
+      taken_out (same_id id w.id) (x.since.seconds == w.since.seconds) (contains waiting_cmp checked w)
+      (λ same there. is_since w.since.seconds (standing_of transfers id) (of_transfer x) (ap (option_map of_transfer) is) (sym (there_of w same) ∙ there))
+
+  pub none_waits : tree.get id_cmp transfers id ≡ None → (w : Waiting) → same_id id w.id ≡ true → contains waiting_cmp checked w ≡ false
+  none_waits none w same = there_of w same ∙ ap (λ o. is_checked w.since.seconds (option_map of_transfer o)) none
+
+  pub none_stops : tree.get id_cmp transfers id ≡ None → (w : Waiting) → contains waiting_cmp checked w ≡ (not (same_id id w.id) && contains waiting_cmp checked w)
+  none_stops none w = none_there (same_id id w.id) (contains waiting_cmp checked w) (none_waits none w)
+
+  pub none_at_place : (since : Moment) → tree.get id_cmp transfers id ≡ None → (w : Waiting) → is_place w (record { since = since; id = id }) ≡ true → contains waiting_cmp checked w ≡ false
+  none_at_place since none w h = none_waits none w (and_parts (since.seconds == w.since.seconds) (same_id id w.id) h).1
+
+-- ---- units
+
+-- none of the marks passes, so all are left
+pub none_marked : {M : Type 0} (passes : M → Bool) (o : Option M) → ((m : M) → o ≡ Some m → passes m ≡ false) → o ≡ marks_that (λ m. not (passes m)) o
+none_marked passes None h = refl
+none_marked passes (Some m) h = ap (λ b. cond (not b) (Some m) None) (sym (h m refl))
+
+-- the transfer's units are those of its content
+pub marked_content : (transfers : BTreeMap TransactionId Transfer) (under_way : finite.FinMap unit_cmp UnderWay) (id : TransactionId) (k : Option Content) → AreMarked transfers under_way → k ≡ content_of (standing_of transfers id)
+    → (s : Serial) (u : UnderWay) → finite.get under_way s ≡ Some u → same_id u.id id ≡ true → has_serial k s ≡ true
+marked_content transfers under_way id k marked is s u e same =
+    ap (λ c. has_serial c s) (is ∙ ap (λ t. content_of (standing_of transfers t)) (sym (id_of_same u.id id same))) ∙ marked s u e

@@ -1,0 +1,70 @@
+-- The verdict on a clean-up, and its effect, by the transactions that it cancels.
+use Rattle.std.proofs.Common.{Global, List, Vec, [], ap, map, refl, subst, sym, true, ℕ, ◌∙◌, ◌∷◌, ◌≡◌}
+use Rattle.std.specs.Prelude.{is_some, option_map}
+use Rattle.units.specs.declared.code.Node.TheVariants.{Itl}
+use Rattle.status.specs.declared.id.TransactionId.{TransactionId}
+use Rattle.status.specs.declared.moment.Moment.{Moment}
+use Rattle.wire.specs.declared.input.Input.TheVariants.{CleanUp}
+use Rattle.scheme.specs.declared.registries.Scheme.{Scheme}
+use Rattle.protocol.specs.AtLog as log
+use Rattle.protocol.specs.Deciding.{IsRepeat, enters}
+use Rattle.protocol.specs.History.{Entry, Transition, transitions_of}
+use Rattle.protocol.specs.Verdict.{history, verdict}
+use Rattle.lemmas.proofs.Membership.{In, In_map}
+use Rattle.safety.proofs.MovesAndHistories.LongerHistories.{made_history}
+use Rattle.safety.proofs.MovesAndHistories.NewestTransitions.{Made}
+use Rattle.log_core.specs.Effects.{IsEffect, standing_in}
+use Rattle.log_core.specs.Kept.{IsKept}
+use Rattle.log_core.specs.Readings.{of_transition}
+use Rattle.log_core.specs.Taking.{due}
+use Rattle.log_core.specs.Transfers.{IsOfKnown}
+use Rattle.log_core.specs.declared.effect.Effect.TheVariants.{Cancel}
+use Rattle.log_core.specs.declared.tables.Tables.{Tables}
+use Rattle.log_core.proofs.CleanedInOrder.{all_from_in}
+use Rattle.log_core.proofs.CleanedUp.{checked_newest, due_cancelled, due_is}
+
+abbrev ids_in : List Transition → List TransactionId
+ids_in xs = map (λ (x : Transition). x.id) xs
+
+-- where nothing is due it is a repeat, and else it is recorded
+none_cleaned : (scheme : Scheme) (es : List Entry) (xs : List Transition) → ids_in xs ≡ [] → log.clean_up scheme es xs ≡ IsRepeat
+none_cleaned scheme es [] e = refl
+none_cleaned scheme es (x ∷ xs) e = absurd (cc (e))
+
+some_cleaned : (scheme : Scheme) (es : List Entry) (xs : List Transition) (t : TransactionId) (ts : List TransactionId) → ids_in xs ≡ t ∷ ts → log.clean_up scheme es xs ≡ enters scheme es xs
+some_cleaned scheme es [] t ts e = absurd (cc (e))
+some_cleaned scheme es (x ∷ xs) t ts e = refl
+
+module _ (scheme : Scheme) (tables : Tables) where
+  abbrev past : List Entry
+  past = history scheme Itl tables.journal.items
+
+  due_clean : (moment : Moment) → due scheme tables (CleanUp moment) ≡ log.clean_up scheme past (log.due (transitions_of past) moment.seconds)
+  unfolding verdict
+  due_clean moment = refl
+
+  pub clean_up_repeats : (moment : Moment) → map (λ x. x.id) (log.due (transitions_of (history scheme Itl tables.journal.items)) moment.seconds) ≡ [] → due scheme tables (CleanUp moment) ≡ IsRepeat
+  clean_up_repeats moment none = due_clean moment ∙ none_cleaned scheme past (log.due (transitions_of past) moment.seconds) none
+
+  pub clean_up_enters : (moment : Moment) (t : TransactionId) (ts : List TransactionId) → map (λ x. x.id) (log.due (transitions_of (history scheme Itl tables.journal.items)) moment.seconds) ≡ t ∷ ts
+      → due scheme tables (CleanUp moment) ≡ enters scheme (history scheme Itl tables.journal.items) (log.due (transitions_of (history scheme Itl tables.journal.items)) moment.seconds)
+  clean_up_enters moment t ts some = due_clean moment ∙ some_cleaned scheme past (log.due (transitions_of past) moment.seconds) t ts some
+
+  module _ (moment : ℕ) (ids : Vec TransactionId Global) (are : map (λ x. x.id) (log.due (transitions_of (history scheme Itl tables.journal.items)) moment) ≡ ids.items) where
+    made_so : Made scheme Itl past
+    made_so = made_history scheme Itl tables.journal.items
+
+    -- its transitions are what the cancellation of these asks for
+    pub clean_up_effect : IsEffect (log.due (transitions_of (history scheme Itl tables.journal.items)) moment) moment (Cancel ids)
+    clean_up_effect = (are, due_cancelled scheme past made_so moment)
+
+    -- each of these was known
+    pub clean_up_known : IsKept scheme tables → IsOfKnown (standing_in tables) (Cancel ids)
+    clean_up_known kept =
+        all_from_in (λ t. is_some (standing_in tables t) ≡ true) ids.items
+        (λ t i.
+        let y = In_map (λ (x : Transition). x.id) t (log.due (transitions_of past) moment) (subst (In t) (sym are) i) in
+        let since = due_is scheme past made_so moment y.0 y.1 in
+        let x = checked_newest (transitions_of past) since.0 y.0.id since.1 in
+        let stands : is_some (standing_in tables y.0.id) ≡ true = ap is_some (kept.kept.transfers y.0.id ∙ ap (option_map of_transition) x.1) in
+        subst (λ u. is_some (standing_in tables u) ≡ true) y.2 stands)

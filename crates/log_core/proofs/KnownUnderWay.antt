@@ -1,0 +1,109 @@
+-- The transfer that a unit is in: it is the one that stands Checked or Accepted with the unit, and there is one at most.
+use Rattle.std.proofs.Common.{Bool, List, None, Option, Some, [], ap, cond, false, refl, subst, sym, true, ◌∙◌, ◌∷◌, ◌≡◌, ◌||◌}
+use Rattle.std.specs.Prelude.{find, is_some, option_map}
+use Rattle.std.specs.List.{list_any}
+use Rattle.std.proofs.lemmas.Bool.{and_from, and_parts}
+use Rattle.units.specs.declared.block.Unit.{Unit as Serial}
+use Rattle.units.specs.declared.code.Node.TheVariants.{Itl}
+use Rattle.status.specs.Status.{same_status}
+use Rattle.status.specs.declared.id.TransactionId.{TransactionId}
+use Rattle.status.specs.declared.words.Status.{Status}
+use Rattle.status.specs.declared.words.Status.TheVariants.{Accepted, Cancelled, Checked, Completed, Proposed, Rejected, Terminated}
+use Rattle.scheme.specs.declared.registries.Scheme.{Scheme}
+use Rattle.checks.specs.declared.register.UnderWay.{UnderWay}
+use Rattle.protocol.specs.History.{Entry, Transition, carries, has_serial, is_status, newest, transitions_of}
+use Rattle.lemmas.proofs.Membership.{In, In_find}
+use Rattle.lemmas.proofs.SomePass.{list_any_in}
+use Rattle.safety.proofs.MovesAndHistories.NewestTransitions.{Made, newest_id}
+use Rattle.safety.proofs.MovesAndHistories.TableMoves.{newest_some}
+use Rattle.safety.proofs.OneLog.OwnersInLog.{Busy, IsBusy, in_book}
+use Rattle.log_core.specs.Readings.{is_with, under_way}
+use Rattle.log_core.proofs.KnownContents.{ContentsKept, contents_kept}
+
+-- ---- the first element that passes a test
+
+pub any_found : {X Y : Type 0} (p : X → Bool) (f : X → Y) (xs : List X) → list_any p xs ≡ is_some (option_map f (find p xs))
+any_found p f [] = refl
+any_found {X} {Y} p f (x ∷ xs) = go (p x) (any_found p f xs)
+  where
+    go : (b : Bool) → list_any p xs ≡ is_some (option_map f (find p xs)) → (b || list_any p xs) ≡ is_some (option_map f (cond b (Some x) (find p xs)))
+    go true e = refl
+    go false e = e
+
+pub some_is : {X : Type 0} (o : Option X) → is_some o ≡ true → (x : X) × (o ≡ Some x)
+some_is None e = absurd (cc (e))
+some_is (Some x) e = (x, refl)
+
+pub mapped : {X Y : Type 0} (f : X → Y) (o : Option X) (y : Y) → option_map f o ≡ Some y → (x : X) × (o ≡ Some x) × (f x ≡ y)
+mapped f None y e = absurd (cc (e))
+mapped f (Some x) y e = (x, refl, cc (e))
+
+-- ---- a transfer that is under way
+
+busy_test : (s : Status) → (same_status s Checked || same_status s Accepted) ≡ true → IsBusy s
+busy_test Checked h = tt
+busy_test Accepted h = tt
+busy_test Proposed h = absurd (cc (h))
+busy_test Rejected h = absurd (cc (h))
+busy_test Terminated h = absurd (cc (h))
+busy_test Cancelled h = absurd (cc (h))
+busy_test Completed h = absurd (cc (h))
+
+test_busy : (s : Status) → IsBusy s → (same_status s Checked || same_status s Accepted) ≡ true
+test_busy Checked h = refl
+test_busy Accepted h = refl
+test_busy Proposed h = absurd h
+test_busy Rejected h = absurd h
+test_busy Terminated h = absurd h
+test_busy Cancelled h = absurd h
+test_busy Completed h = absurd h
+
+-- whether the newest transition stands so
+abbrev stands_busy : Option Transition → Bool
+stands_busy o = is_status (option_map (λ (x : Transition). x.new) o) Checked || is_status (option_map (λ (x : Transition). x.new) o) Accepted
+
+with_busy : (xs : List Transition) (s : Serial) (x : Transition) → ContentsKept xs → In x xs → is_with xs s x ≡ true → Busy s xs x.id
+with_busy xs s x contents i h =
+    let parts = and_parts (stands_busy (newest xs x.id)) (carries x s) h in
+    let last = newest_some xs x i in
+    record {
+      last = last.0;
+      is = last.1;
+      new = busy_test last.0.new (subst (λ o. stands_busy o ≡ true) last.1 parts.0);
+      has = subst (λ k. has_serial k s ≡ true) (sym (contents x last.0 i last.1)) parts.1;
+    }
+
+busy_with : (xs : List Transition) (s : Serial) (t : TransactionId) → Busy s xs t → is_some (under_way xs s) ≡ true
+busy_with xs s t b =
+    let about = newest_id xs t b.last b.is in
+    let here : newest xs b.last.id ≡ Some b.last = ap (newest xs) about.1 ∙ b.is in
+    let passes : is_with xs s b.last ≡ true = and_from (stands_busy (newest xs b.last.id)) (carries b.last s) (subst (λ o. stands_busy o ≡ true) (sym here) (test_busy b.last.new b.new)) b.has in
+    sym (any_found (is_with xs s) (λ (x : Transition). record { id = x.id }) xs) ∙ list_any_in (is_with xs s) xs b.last about.0 passes
+
+under_way_with : (xs : List Transition) (s : Serial) (u : UnderWay) → ContentsKept xs → under_way xs s ≡ Some u → Busy s xs u.id
+under_way_with xs s u contents h =
+    let x = mapped (λ (y : Transition). record { id = y.id }) (find (is_with xs s) xs) u h in
+    let g = In_find (is_with xs s) xs x.0 x.1 in
+    subst (λ (w : UnderWay). Busy s xs w.id) x.2 (with_busy xs s x.0 contents g.0 g.1)
+
+module _ (scheme : Scheme) (es : List Entry) (made : Made scheme Itl es) (s : Serial) where
+  -- the unit's transfer is under way with it
+  pub under_way_busy : (u : UnderWay) → under_way (transitions_of es) s ≡ Some u → Busy s (transitions_of es) u.id
+  under_way_busy u h = under_way_with (transitions_of es) s u (contents_kept scheme es made) h
+
+  -- the transfer that is under way with the unit is the one that the unit is in
+  pub busy_under_way : (t : TransactionId) → Busy s (transitions_of es) t → under_way (transitions_of es) s ≡ Some (record { id = t })
+  busy_under_way t b =
+      let u = some_is (under_way (transitions_of es) s) (busy_with (transitions_of es) s t b) in
+      let one : u.0.id ≡ t = (in_book scheme s es made).one u.0.id t (under_way_busy u.0 u.1) b in
+      u.1 ∙ (λ i. Some (record { id = one i }))
+
+  -- what says of the unit which transfer is under way with it says which transfer the unit is in
+  pub under_way_is : (o : Option UnderWay) → ((t : TransactionId) → Busy s (transitions_of es) t → o ≡ Some (record { id = t })) → ((u : UnderWay) → o ≡ Some u → Busy s (transitions_of es) u.id)
+      → under_way (transitions_of es) s ≡ o
+  under_way_is None to from = go (under_way (transitions_of es) s) refl
+    where
+      go : (p : Option UnderWay) → under_way (transitions_of es) s ≡ p → p ≡ None
+      go None e = refl
+      go (Some u) e = let none = to u.id (under_way_busy u e) in absurd (cc (none))
+  under_way_is (Some u) to from = busy_under_way u.id (from u refl)

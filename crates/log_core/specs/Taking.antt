@@ -1,0 +1,29 @@
+-- What the log's tables do with an input.
+use Rattle.std.specs.Prelude.{◌≡◌, Result}
+use Rattle.units.specs.declared.code.Node.TheVariants.{Itl}
+use Rattle.units.specs.declared.refusal.Refusal.{Refusal}
+use Rattle.wire.specs.declared.input.Input.{Input}
+use Rattle.wire.specs.declared.input.Input.TheVariants.{CleanUp, Received}
+use Rattle.scheme.specs.declared.registries.Scheme.{Scheme}
+use Rattle.protocol.specs.Cores.{IsDueOrNoMemory, after, answer}
+use Rattle.protocol.specs.Deciding.{Verdict}
+use Rattle.protocol.specs.Verdict.{verdict, history}
+use Rattle.protocol.specs.declared.node_core.Stepped.{Stepped}
+use Rattle.log_core.specs.Kept.{IsKept}
+use Rattle.log_core.specs.declared.tables.Tables.{Tables}
+
+-- the verdict on the input after the tables' journal
+abbrev pub due : Scheme → Tables → Input → Verdict
+due scheme tables input = verdict scheme Itl (history scheme Itl tables.journal.items) input
+
+-- an input that may make transitions: an acknowledgement and an order on eligibility make none, and each other one is refused
+abbrev pub IsMessageOrCleanUp : Input → Type 0
+IsMessageOrCleanUp (Received m moment) = Unit {0}
+IsMessageOrCleanUp (CleanUp moment) = Unit {0}
+IsMessageOrCleanUp _ = ⊥
+
+-- the result is what is due, the journal has the input where it was recorded, and the tables follow the journal
+pub record Takes (scheme : Scheme) (tables tables' : Tables) (input : Input) (result : Result Stepped Refusal) : Type 0 where
+  pub answer_is : IsDueOrNoMemory result (answer scheme Itl tables.journal.items input)
+  pub journal_is : tables'.journal.items ≡ after tables.journal.items input result
+  pub kept : IsKept scheme tables'

@@ -1,0 +1,95 @@
+-- What the log's tables say of transactions, and how the tables fit together.
+use Rattle.std.specs.Prelude.{◌≡◌, ℕ, ◌==◌, ◌&&◌, Bool, true, false, List, [], ◌∷◌, Option, Some, None, option_map, is_some}
+use Rattle.std.specs.BTreeMap as tree
+use Rattle.std.specs.BTreeMap.{BTreeMap}
+use Rattle.std.specs.BTreeSet.{BTreeSet, contains}
+use Rattle.std.specs.FinMap as finite
+use Rattle.std.specs.List.{AllByRecursion}
+use Rattle.std.specs.Option.{option_map_or}
+use Rattle.units.specs.Apart.{AllApart}
+use Rattle.units.specs.Keys.{code_cmp, unit_cmp}
+use Rattle.units.specs.declared.block.Block.{Block}
+use Rattle.units.specs.declared.block.Unit.{Unit as Serial}
+use Rattle.units.specs.declared.code.Code.{Code}
+use Rattle.status.specs.Content.{Content, raws}
+use Rattle.status.specs.Id.{id_cmp, same_id}
+use Rattle.status.specs.Status.{same_status}
+use Rattle.status.specs.declared.id.TransactionId.{TransactionId}
+use Rattle.status.specs.declared.moment.Moment.{Moment}
+use Rattle.status.specs.declared.words.Known.{Known}
+use Rattle.status.specs.declared.words.Known.TheVariants.{Unknown, Bare, Stands}
+use Rattle.status.specs.declared.words.Status.{Status}
+use Rattle.status.specs.declared.words.Status.TheVariants.{Cancelled, Checked, Completed}
+use Rattle.checks.specs.declared.register.UnderWay.{UnderWay}
+use Rattle.protocol.specs.History.{has_serial}
+use Rattle.log_core.specs.Effects.{content_of, standing_in}
+use Rattle.log_core.specs.Kept.{waiting_cmp}
+use Rattle.log_core.specs.Readings.{Standing, of_transfer}
+use Rattle.log_core.specs.declared.effect.Effect.{Effect}
+use Rattle.log_core.specs.declared.effect.Effect.TheVariants.{Begin, Settle, Cancel}
+use Rattle.log_core.specs.declared.tables.Tables.{Tables}
+use Rattle.log_core.specs.declared.transfer.Transfer.{Transfer}
+use Rattle.log_core.specs.declared.waiting.Waiting.{Waiting}
+
+-- where a transaction stands
+abbrev pub standing_of : BTreeMap TransactionId Transfer → TransactionId → Option Standing
+standing_of transfers t = option_map of_transfer (tree.get id_cmp transfers t)
+
+-- the transaction came to that status then
+abbrev pub came_at : Status → Moment → Transfer → Transfer
+came_at new moment x = record x { status = new; since = moment }
+
+-- what the status table asks of a transaction
+abbrev pub known : Option Standing → Known
+known x = option_map_or (λ y. option_map_or (λ k. Stands y.status) y.content Bare) x Unknown
+
+-- it stands Checked since that second
+abbrev pub is_checked : ℕ → Option Standing → Bool
+is_checked since x = option_map_or (λ y. same_status y.status Checked && (y.since == since)) x false
+
+-- the place is that one
+abbrev pub is_place : Waiting → Waiting → Bool
+is_place w p = (p.since.seconds == w.since.seconds) && same_id p.id w.id
+
+-- the set has the transactions that stand Checked, each by its moment
+abbrev pub AreWaiting : BTreeMap TransactionId Transfer → BTreeSet Waiting → Type 0
+AreWaiting transfers checked = (w : Waiting) → contains waiting_cmp checked w ≡ is_checked w.since.seconds (standing_of transfers w.id)
+
+-- a unit that is under way is one of its transfer's
+abbrev pub AreMarked : BTreeMap TransactionId Transfer → finite.FinMap unit_cmp UnderWay → Type 0
+AreMarked transfers under_way = (s : Serial) (u : UnderWay) → finite.get under_way s ≡ Some u → has_serial (content_of (standing_of transfers u.id)) s ≡ true
+
+-- ---- what an effect may be carried out on
+
+-- a transaction that begins wasn't known, and those that are cancelled were
+abbrev pub IsOfKnown : (TransactionId → Option Standing) → Effect → Type 0
+IsOfKnown old (Begin id new content) = old id ≡ None
+IsOfKnown old (Settle id new) = Unit {0}
+IsOfKnown old (Cancel ids) = AllByRecursion (λ t. is_some (old t) ≡ true) ids.items
+
+-- what takes a transaction back: one that is known is cancelled, and one that isn't begins Cancelled without a content
+abbrev pub IsWithdrawal : TransactionId → Option Standing → Effect → Type 0
+IsWithdrawal t None effect = effect ≡ Begin t Cancelled None
+IsWithdrawal t (Some x) (Cancel ids) = ids.items ≡ t ∷ []
+IsWithdrawal t (Some x) _ = ⊥
+
+-- no unit is in two blocks of the content
+abbrev pub IsApart : Option Content → Type 0
+IsApart content = (k : Content) (blocks : List Block) → content ≡ Some k → raws blocks ≡ k.units → AllApart blocks
+
+-- units that come under way, or that are handed over, are each in one block
+abbrev pub AreApart : (TransactionId → Option Standing) → Effect → Type 0
+AreApart old (Begin id new content) = same_status new Checked ≡ true → IsApart content
+AreApart old (Settle id new) = (same_status new Checked ≡ false) × (same_status new Completed ≡ true → IsApart (content_of (old id)))
+AreApart old (Cancel ids) = Unit {0}
+
+-- tables that say the same
+pub record AreSame (tables tables' : Tables) : Type 0 where
+  pub journal : tables'.journal.items ≡ tables.journal.items
+  pub allotments : tables'.register.allotments ≡ tables.register.allotments
+  pub book : tables'.register.book ≡ tables.register.book
+  pub under_way : tables'.register.under_way ≡ tables.register.under_way
+  pub orders : (c : Code) → tree.get code_cmp tables'.register.orders c ≡ tree.get code_cmp tables.register.orders c
+  pub transfers : (t : TransactionId) → standing_in tables' t ≡ standing_in tables t
+  pub checked : (w : Waiting) → contains waiting_cmp tables'.checked w ≡ contains waiting_cmp tables.checked w
+  pub outbox : tables'.outbox ≡ tables.outbox

@@ -1,0 +1,137 @@
+//! What the log's table says to a message that isn't refused for what it is.
+ghost use Rattle.std.specs.Prelude.{◌≡◌, ℕ, List, [], Some, None};
+ghost use Rattle.status.specs.Rows.{log_row};
+ghost use Rattle.status.specs.declared.words.RowInput.TheVariants as column;
+ghost use Rattle.wire.specs.Notices.{notice_codes, notice_status};
+ghost use Rattle.protocol.specs.Checks.{Ledger, log_findings};
+ghost use Rattle.protocol.specs.Cores.{IsDueOrNoMemory};
+ghost use Rattle.protocol.specs.Deciding.{offered};
+ghost use Rattle.protocol.specs.Decisions.{decided};
+ghost use Rattle.protocol.specs.Effects.{log_sends};
+ghost use Rattle.checks.specs.Finding.{codes_in};
+ghost use Rattle.checks.specs.Knowing.{Registers};
+ghost use Rattle.log_core.specs.Effects.{content_of, standing_in};
+ghost use Rattle.log_core.specs.Transfers.{known};
+
+use crate::messages::{on_notice, on_proposal, on_request};
+use crate::tables::Tables;
+use crate::transfers::{content, known};
+use checks::log_findings;
+use protocol::Decision;
+use scheme::Scheme;
+use status::{Content, Role, Row, RowInput, TransactionId, row};
+use std::alloc::Global;
+use units::refusal_code::NO_ROW;
+use units::{Items, Refusal};
+use wire::{LogCodes, Notice};
+
+// The codes of what was found.
+fn codes_in(found: &Option<LogCodes>) -> &[u16]
+    ensures { result.now ≡ codes_in found.now }
+{
+    match found {
+        None => &[],
+        Some(codes) => codes.as_slice(),
+    }
+}
+
+// The column of a proposal in which these codes were found, and of which no content is recorded.
+fn offered(codes: &[u16]) -> RowInput
+    ensures { result ≡ offered None codes.now }
+{
+    match codes {
+        [] => RowInput::ProposalWithoutFinding,
+        _ => RowInput::ProposalWithFindings,
+    }
+}
+
+impl Tables {
+    /// What the table says to a proposal, which is equal to the one whose content is recorded, if one is. Where none is, it is to be
+    /// passed on as Checked, or Terminated is to be sent, by what is found in it. Fails with `NO_ROW` where the table has no such
+    /// row, and with `OUT_OF_MEMORY`.
+    pub(crate) fn on_proposal(
+        &self,
+        alloc: Global,
+        scheme: &Scheme,
+        id: TransactionId,
+        offer: &Content,
+    ) -> Result<Decision, Refusal>
+        ensures { (known_so : Ledger) (found : List ℕ) → Registers scheme.now self.now.register known_so → found ≡ log_findings scheme.now known_so id.code offer.now → IsDueOrNoMemory result (decided (log_row (known (standing_in self.now id)) (offered (content_of (standing_in self.now id)) found)) (log_sends id (Some offer.now) found (offered (content_of (standing_in self.now id)) found))) }
+    {
+        if content(&self.transfers, id).is_some() {
+            return self.on_equal_proposal(alloc, id);
+        }
+        let found = log_findings(alloc, scheme, &self.register, id.code, offer)?;
+        match row(
+            Role::Itl,
+            known(&self.transfers, id),
+            offered(codes_in(&found)),
+        ) {
+            Row::Move(new) => {
+                let messages = on_proposal(alloc, id, offer, found)?;
+                Ok(Decision::Moves { new, messages })
+            }
+            Row::Repeat => Ok(Decision::Repeat),
+            Row::Late => Ok(Decision::Late),
+            Row::Refused => Err(Refusal { code: NO_ROW }),
+        }
+    }
+
+    // What the table says to a proposal equal to the one that is recorded.
+    fn on_equal_proposal(&self, alloc: Global, id: TransactionId) -> Result<Decision, Refusal>
+        ensures { result ≡ decided (log_row (known (standing_in self.now id)) column.EqualProposal) [] }
+    {
+        match row(
+            Role::Itl,
+            known(&self.transfers, id),
+            RowInput::EqualProposal,
+        ) {
+            Row::Move(new) => Ok(Decision::Moves {
+                new,
+                messages: Items::new(alloc),
+            }),
+            Row::Repeat => Ok(Decision::Repeat),
+            Row::Late => Ok(Decision::Late),
+            Row::Refused => Err(Refusal { code: NO_ROW }),
+        }
+    }
+
+    /// What the table says to a notification. Fails with `NO_ROW` where the table has no such row, and with `OUT_OF_MEMORY`.
+    pub(crate) fn on_notice(
+        &self,
+        alloc: Global,
+        id: TransactionId,
+        notice: &Notice,
+    ) -> Result<Decision, Refusal>
+        ensures { IsDueOrNoMemory result (decided (log_row (known (standing_in self.now id)) (column.Notified (notice_status notice.now))) (log_sends id (content_of (standing_in self.now id)) (notice_codes notice.now) (column.Notified (notice_status notice.now)))) }
+    {
+        match row(
+            Role::Itl,
+            known(&self.transfers, id),
+            RowInput::Notified(notice.status()),
+        ) {
+            Row::Move(new) => {
+                let messages = on_notice(alloc, id, content(&self.transfers, id), notice)?;
+                Ok(Decision::Moves { new, messages })
+            }
+            Row::Repeat => Ok(Decision::Repeat),
+            Row::Late => Ok(Decision::Late),
+            Row::Refused => Err(Refusal { code: NO_ROW }),
+        }
+    }
+
+    /// What the table says to a request. Fails with `NO_ROW` where the table has no such row, and with `OUT_OF_MEMORY`.
+    pub(crate) fn on_request(&self, alloc: Global, id: TransactionId) -> Result<Decision, Refusal>
+        ensures { IsDueOrNoMemory result (decided (log_row (known (standing_in self.now id)) column.Request) (log_sends id (content_of (standing_in self.now id)) [] column.Request)) }
+    {
+        match row(Role::Itl, known(&self.transfers, id), RowInput::Request) {
+            Row::Move(new) => {
+                let messages = on_request(alloc, id, content(&self.transfers, id))?;
+                Ok(Decision::Moves { new, messages })
+            }
+            Row::Repeat => Ok(Decision::Repeat),
+            Row::Late => Ok(Decision::Late),
+            Row::Refused => Err(Refusal { code: NO_ROW }),
+        }
+    }
+}

@@ -1,0 +1,160 @@
+//! The log of a scheme.
+ghost use Rattle.std.specs.Prelude.{◌≡◌, [], Some, IfOk, IfSome};
+ghost use Rattle.units.specs.Intervals.{AreKept, mark_at};
+ghost use Rattle.units.specs.Canonical.{AreCanonical};
+ghost use Rattle.units.specs.Spans.{intervals_of};
+ghost use Rattle.units.specs.declared.block.Unit.{Unit as Serial};
+ghost use Rattle.status.specs.declared.id.TransactionId as declared_id;
+ghost use Rattle.protocol.specs.History as history;
+ghost use Rattle.log_core.specs.Log.{IsUnderWayWith, moves};
+ghost use Rattle.log_core.specs.Readings.{owner};
+
+use crate::opening::opening_tables;
+use crate::tables::Tables;
+use crate::transfers::status;
+use checks::Owner;
+use protocol::{NodeCore, Stepped};
+use scheme::Scheme;
+use status::{Status, TransactionId};
+use std::alloc::Global;
+use std::collections::BTreeMap;
+use std::marker::Model;
+use units::{Code, NoMemory, Node, Refusal, Span, Unit};
+use wire::{Input, Message};
+
+/// The log of a scheme: the journal of the inputs that it recorded, and beside it what the journal says of units and registries,
+/// of transactions, and of its messages. In contracts it is its scheme and its journal.
+#[derive(Debug, Drop)]
+pub struct LogCore {
+    alloc: Global,
+    scheme: Scheme,
+    tables: Tables,
+}
+
+impl Model for LogCore {
+    ghost use Rattle.std.specs.Coded.{codes};
+    ghost use Rattle.scheme.specs.contracts.registries.Scheme as kept_scheme;
+    ghost use Rattle.log_core.specs.Kept.{IsKept};
+    ghost use Rattle.log_core.specs.Log.{Log};
+
+    ghost Value = { Log };
+
+    ghost coded = { Prim.hlevel (codes, kept_scheme.the_row.coded) };
+
+    ghost view = { λ s. record { scheme = s.scheme; journal = s.tables.journal.items } };
+
+    ghost invariant = { λ s. IsKept s.scheme s.tables };
+}
+
+impl LogCore {
+    /// The log of that scheme, which has recorded nothing yet. Fails with `NoMemory`.
+    pub fn new(alloc: Global, scheme: &Scheme) -> Result<LogCore, NoMemory>
+        ensures { IfOk result (λ l. l ≡ record { scheme = scheme.now; journal = [] }) }
+    {
+        Ok(LogCore {
+            alloc,
+            scheme: scheme.copy(alloc)?,
+            tables: opening_tables(alloc, scheme)?,
+        })
+    }
+
+    /// The registry that owns the unit: the acquirer of the transfer with the unit that was Completed last, else the registry
+    /// that it is allotted to. Or `None`, where it isn't allotted.
+    pub fn book_owner(&self, unit: &Unit) -> Option<Code>
+        ensures { result ≡ history.book_owner self.now.scheme (moves self.now) unit.now }
+    {
+        let owner = self.tables.register.book.get(unit)?;
+        Some(owner.registry)
+    }
+
+    /// Who owns which units, as intervals by their first units: none shares a unit with another, and neighbours with one
+    /// owner are one.
+    pub fn pieces(&self) -> &BTreeMap<Unit, Span<Owner>>
+        ensures kept { AreKept (intervals_of result.now.entries) }
+        ensures joined { AreCanonical (λ _. 0) (intervals_of result.now.entries) }
+        ensures means { (u : Serial) → mark_at (intervals_of result.now.entries) u ≡ owner self.now.scheme (moves self.now) u }
+    {
+        self.tables.register.book.pieces()
+    }
+
+    /// The transfer that the unit is in: the one transfer with the unit that stands Checked or Accepted. So no two such transfers
+    /// share a unit, whatever messages came. Or `None`, where there is no such transfer.
+    pub fn transfer_of(&self, unit: &Unit) -> Option<TransactionId>
+        ensures some { IfSome result (IsUnderWayWith self.now unit.now) }
+        ensures only { (t : declared_id.TransactionId) → IsUnderWayWith self.now unit.now t → result ≡ Some t }
+    {
+        let under_way = self.tables.register.under_way.get(unit)?;
+        Some(under_way.id)
+    }
+}
+
+impl NodeCore for LogCore {
+    ghost use Rattle.std.specs.Prelude.{Contains, List, true};
+    ghost use Rattle.status.specs.declared.words.Status as words_type;
+    ghost use Rattle.units.specs.declared.code.Node.TheVariants.{Itl};
+    ghost use Rattle.status.specs.declared.words.Status.TheVariants as words;
+    ghost use Rattle.protocol.specs.Claims.{IsEnd};
+    ghost use Rattle.protocol.specs.Cores.{IsDueOrNoMemory, after, answer};
+    ghost use Rattle.protocol.specs.Deciding.{Enters};
+    ghost use Rattle.protocol.specs.History.{Transition, book_owner, carries, stands};
+    ghost use Rattle.protocol.specs.Verdict.{verdict};
+    ghost use Rattle.log_core.specs.Log.{past};
+
+    ghost scheme_of = { λ l. l.scheme };
+
+    ghost node_of = { λ _. Itl };
+
+    ghost journal_of = { λ l. l.journal };
+
+    fn node(&self) -> Node {
+        Node::Itl
+    }
+
+    fn journal(&self) -> &[Input] {
+        self.tables.journal.as_slice()
+    }
+
+    /// As `NodeCore::step`. And whatever messages came: where the input is recorded, and completes a transfer, the initiator owned
+    /// each of its units before; and a transaction that was Rejected, Terminated, Cancelled or Completed is so after.
+    fn step(&mut self, input: &Input) -> Result<Stepped, Refusal>
+        ensures answer { IsDueOrNoMemory result (answer self.old.scheme Itl self.old.journal input.now) }
+        ensures journal { self.new.journal ≡ after self.old.journal input.now result }
+        ensures scheme { self.new.scheme ≡ self.old.scheme }
+        ensures owned { (xs : List Transition) → verdict self.old.scheme Itl (past self.old) input.now ≡ Enters xs → (x : Transition) → Contains xs x → x.new ≡ words.Completed → (s : Serial) → carries x s ≡ true → book_owner self.old.scheme (moves self.old) s ≡ Some x.id.code }
+        ensures ends_stay { (t : declared_id.TransactionId) (s : words_type.Status) → IsEnd s → stands (moves self.old) t ≡ Some s → stands (moves self.new) t ≡ Some s }
+    {
+        self.tables.take(self.alloc, &self.scheme, input)
+    }
+
+    fn outbox(&self, key: usize) -> Option<&Message> {
+        self.tables.outbox.message(key)
+    }
+
+    fn acknowledged(&self, key: usize) -> bool {
+        self.tables.outbox.is_acknowledged(key)
+    }
+
+    fn sends(&self) -> usize {
+        self.tables.outbox.sends()
+    }
+
+    fn records(&self) -> usize {
+        self.tables.journal.len()
+    }
+
+    fn status_of(&self, id: TransactionId) -> Option<Status> {
+        status(&self.tables.transfers, id)
+    }
+
+    fn sent_by(&self, records: usize) -> usize {
+        self.tables.outbox.sent_by(records)
+    }
+
+    fn next_unacknowledged(&self, peer: Node, from: usize) -> Option<usize> {
+        self.tables.outbox.next_unacknowledged(peer, from)
+    }
+
+    fn fresh(&self) -> Result<LogCore, NoMemory> {
+        LogCore::new(self.alloc, &self.scheme)
+    }
+}

@@ -1,0 +1,108 @@
+//! What the log sends.
+ghost use Rattle.std.specs.Prelude.{◌≡◌, [], ◌∷◌, ◌++◌, Some, None, IfOk, OnOk, option_copied};
+ghost use Rattle.checks.specs.Finding.{codes_in};
+ghost use Rattle.protocol.specs.Deciding.{offered};
+ghost use Rattle.protocol.specs.Effects.{log_sends, notifies};
+ghost use Rattle.units.specs.declared.code.Node.TheVariants as nodes;
+ghost use Rattle.status.specs.declared.words.RowInput.TheVariants as column;
+ghost use Rattle.wire.specs.Notices.{notice_codes, notice_status};
+
+use status::{Content, TransactionId};
+use std::alloc::Global;
+use units::{Code, Items, NoMemory, Node};
+use wire::{LogCodes, Message, Notice, Notification, Proposal, ProposalStatus};
+
+// The notification to that registry.
+fn notification(registry: Code, id: TransactionId, notice: Notice) -> Message
+    ensures { result ≡ notifies nodes.Itl (nodes.Registry registry) id notice }
+{
+    Message::Notification(Notification {
+        from: Node::Itl,
+        to: Node::Registry(registry),
+        id,
+        notice,
+    })
+}
+
+// A list of one message.
+fn one(alloc: Global, message: Message) -> Result<Items<Message>, NoMemory>
+    ensures { IfOk result (λ messages. messages ≡ message ∷ []) }
+{
+    let mut messages = Vec::new(alloc);
+    messages.push(message)?;
+    Ok(Items::from_vec(messages))
+}
+
+/// What follows a proposal, by what was found in it: the proposal as Checked to the acquirer, or Terminated with the codes to
+/// the initiator.
+pub(crate) fn on_proposal(
+    alloc: Global,
+    id: TransactionId,
+    content: &Content,
+    found: Option<LogCodes>,
+) -> Result<Items<Message>, NoMemory>
+    ensures { IfOk result (λ messages. messages ≡ log_sends id (Some content.now) (codes_in found) (offered None (codes_in found))) }
+{
+    if let Some(codes) = found {
+        return one(alloc, notification(id.code, id, Notice::Terminated(codes)));
+    }
+    let proposal = Proposal {
+        from: Node::Itl,
+        to: Node::Registry(content.acquirer()),
+        id,
+        status: ProposalStatus::Checked,
+        content: content.copy()?,
+    };
+    one(alloc, Message::Proposal(proposal))
+}
+
+/// What follows a notification: Accepted and Rejected go to the initiator, and Completed to the acquirer.
+pub(crate) fn on_notice(
+    alloc: Global,
+    id: TransactionId,
+    content: Option<&Content>,
+    notice: &Notice,
+) -> Result<Items<Message>, NoMemory>
+    ensures { IfOk result (λ messages. messages ≡ log_sends id (option_copied content.entry) (notice_codes notice.now) (column.Notified (notice_status notice.now))) }
+{
+    match (notice, content) {
+        (Notice::Accepted, _) => one(alloc, notification(id.code, id, Notice::Accepted)),
+        (Notice::Rejected(codes), _) => {
+            let notice = Notice::Rejected(codes.copy()?);
+            one(alloc, notification(id.code, id, notice))
+        }
+        (Notice::Completed, Some(content)) => one(
+            alloc,
+            notification(content.acquirer(), id, Notice::Completed),
+        ),
+        _ => Ok(Items::new(alloc)),
+    }
+}
+
+/// Adds what follows a cancellation: Cancelled to the initiator, and then to the acquirer, where that is known.
+pub(crate) fn push_cancelled(
+    messages: &mut Vec<Message>,
+    id: TransactionId,
+    content: Option<&Content>,
+) -> Result<(), NoMemory>
+    ensures { OnOk result (messages.new.items ≡ messages.old.items ++ log_sends id (option_copied content.entry) [] column.CleanUp) }
+{
+    messages.push(notification(id.code, id, Notice::Cancelled))?;
+    if let Some(content) = content {
+        messages.push(notification(content.acquirer(), id, Notice::Cancelled))?;
+    }
+    Ok(())
+}
+
+/// What follows a request: as after a cancellation.
+pub(crate) fn on_request(
+    alloc: Global,
+    id: TransactionId,
+    content: Option<&Content>,
+) -> Result<Items<Message>, NoMemory>
+    ensures { IfOk result (λ messages. messages ≡ log_sends id (option_copied content.entry) [] column.Request) }
+{
+    let mut messages = Vec::new(alloc);
+    push_cancelled(&mut messages, id, content)?;
+    Ok(Items::from_vec(messages))
+}

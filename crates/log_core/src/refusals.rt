@@ -1,0 +1,186 @@
+//! Why the log refuses a message, before its table is asked.
+ghost use Rattle.std.specs.Prelude.{◌≡◌, List, option_copied, option_map};
+ghost use Rattle.units.specs.Code.{same_node};
+ghost use Rattle.units.specs.declared.code.Node.TheVariants as nodes;
+ghost use Rattle.status.specs.declared.id.TransactionId.{TransactionId as Id};
+ghost use Rattle.wire.specs.declared.message.Message.TheVariants as messages;
+ghost use Rattle.protocol.specs.AtLog as log;
+ghost use Rattle.protocol.specs.AtLog.{log_refusals};
+ghost use Rattle.protocol.specs.Deciding as deciding;
+ghost use Rattle.protocol.specs.History as history;
+ghost use Rattle.protocol.specs.History.{Entry, newest, transitions_of};
+ghost use Rattle.checks.specs.Refusing.{first_of};
+ghost use Rattle.log_core.specs.Readings.{of_transition};
+ghost use Rattle.log_core.specs.Transfers.{standing_of};
+
+use crate::registries::is_member;
+use crate::transfer::Transfer;
+use crate::transfers::{content, status};
+use scheme::Scheme;
+use status::{Content, Status, TransactionId};
+use std::collections::BTreeMap;
+use units::refusal_code::{
+    NO_ROW, OTHER_ADDRESSEE, OTHER_CONTENT, SENDER_NOT_ALLOWED, UNKNOWN_TRANSACTION, WRONG_PARTY,
+};
+use units::{Code, Node};
+use wire::{Message, Notification, Proposal, ProposalStatus, Request};
+
+// Whether the node is the log.
+fn is_log(node: Node) -> bool
+    ensures { result ≡ same_node node nodes.Itl }
+{
+    node == Node::Itl
+}
+
+// Whether the node is the registry of that code.
+fn is_registry(node: Node, code: Code) -> bool
+    ensures { result ≡ same_node node (nodes.Registry code) }
+{
+    node == Node::Registry(code)
+}
+
+// Whether the node is no registry of the scheme.
+fn is_no_registry(scheme: &Scheme, node: Node) -> bool
+    ensures { result ≡ log.is_no_registry scheme.now node }
+{
+    match node {
+        Node::Itl => true,
+        Node::Registry(code) => !is_member(scheme, code),
+    }
+}
+
+// Whether an initiator has proposed it.
+fn is_proposed(status: ProposalStatus) -> bool
+    ensures { result ≡ log.is_proposed status }
+{
+    match status {
+        ProposalStatus::Proposed => true,
+        ProposalStatus::Checked => false,
+    }
+}
+
+// Whether a transaction has another content than that one.
+fn has_other(
+    transfers: &BTreeMap<TransactionId, Transfer>,
+    id: TransactionId,
+    offered: &Content,
+) -> bool
+    ensures { (es : List Entry) → standing_of transfers.now id ≡ option_map of_transition (newest (transitions_of es) id) → result ≡ deciding.has_other (newest (transitions_of es) id) offered.now }
+{
+    match content(transfers, id) {
+        Some(recorded) => !recorded.same(offered),
+        None => false,
+    }
+}
+
+// Whether a record is about the transaction.
+fn is_known(transfers: &BTreeMap<TransactionId, Transfer>, id: TransactionId) -> bool
+    ensures { (es : List Entry) → standing_of transfers.now id ≡ option_map of_transition (newest (transitions_of es) id) → result ≡ history.is_known (transitions_of es) id }
+{
+    status(transfers, id).is_some()
+}
+
+// Whether the node isn't the acquirer of that content.
+fn is_not_acquirer(from: Node, content: Option<&Content>) -> bool
+    ensures { result ≡ log.is_not_acquirer from (option_copied content.entry) }
+{
+    match content {
+        Some(content) => !is_registry(from, content.acquirer()),
+        None => true,
+    }
+}
+
+// Whether a notification of that status comes from another node than the one that decides on it.
+fn is_from_another(from: Node, id: TransactionId, content: Option<&Content>, told: Status) -> bool
+    ensures { result ≡ log.is_from_another from id (option_copied content.entry) told }
+{
+    match told {
+        Status::Accepted | Status::Rejected => is_not_acquirer(from, content),
+        Status::Completed => !is_registry(from, id.code),
+        _ => false,
+    }
+}
+
+/// Why the log refuses a proposal, before its table is asked; or `None`.
+pub(crate) fn proposal_refusal(
+    scheme: &Scheme,
+    transfers: &BTreeMap<TransactionId, Transfer>,
+    proposal: &Proposal,
+) -> Option<u16>
+    ensures { (es : List Entry) → ((t : Id) → standing_of transfers.now t ≡ option_map of_transition (newest (transitions_of es) t)) → result ≡ first_of (log_refusals scheme.now es (messages.Proposal proposal.now)) }
+{
+    if !is_log(proposal.to) {
+        return Some(OTHER_ADDRESSEE);
+    }
+    if is_no_registry(scheme, proposal.from) {
+        return Some(SENDER_NOT_ALLOWED);
+    }
+    if !is_registry(proposal.from, proposal.id.code) {
+        return Some(WRONG_PARTY);
+    }
+    if has_other(transfers, proposal.id, &proposal.content) {
+        return Some(OTHER_CONTENT);
+    }
+    if !is_proposed(proposal.status) {
+        return Some(NO_ROW);
+    }
+    None
+}
+
+/// Why the log refuses a notification, before its table is asked; or `None`.
+pub(crate) fn notification_refusal(
+    scheme: &Scheme,
+    transfers: &BTreeMap<TransactionId, Transfer>,
+    notification: &Notification,
+) -> Option<u16>
+    ensures { (es : List Entry) → ((t : Id) → standing_of transfers.now t ≡ option_map of_transition (newest (transitions_of es) t)) → result ≡ first_of (log_refusals scheme.now es (messages.Notification notification.now)) }
+{
+    let (from, id) = (notification.from, notification.id);
+    if !is_log(notification.to) {
+        return Some(OTHER_ADDRESSEE);
+    }
+    if is_no_registry(scheme, from) {
+        return Some(SENDER_NOT_ALLOWED);
+    }
+    if !is_known(transfers, id) {
+        return Some(UNKNOWN_TRANSACTION);
+    }
+    let told = notification.notice.status();
+    if is_from_another(from, id, content(transfers, id), told) {
+        return Some(WRONG_PARTY);
+    }
+    None
+}
+
+/// Why the log refuses a request, before its table is asked; or `None`.
+pub(crate) fn request_refusal(scheme: &Scheme, request: &Request) -> Option<u16>
+    ensures { (es : List Entry) → result ≡ first_of (log_refusals scheme.now es (messages.Request request.now)) }
+{
+    if !is_log(request.to) {
+        return Some(OTHER_ADDRESSEE);
+    }
+    if is_no_registry(scheme, request.from) {
+        return Some(SENDER_NOT_ALLOWED);
+    }
+    if !is_registry(request.from, request.id.code) {
+        return Some(WRONG_PARTY);
+    }
+    None
+}
+
+/// Why the log refuses a message, before its table is asked; or `None`.
+pub(crate) fn message_refusal(
+    scheme: &Scheme,
+    transfers: &BTreeMap<TransactionId, Transfer>,
+    message: &Message,
+) -> Option<u16>
+    ensures { (es : List Entry) → ((t : Id) → standing_of transfers.now t ≡ option_map of_transition (newest (transitions_of es) t)) → result ≡ first_of (log_refusals scheme.now es message.now) }
+{
+    match message {
+        Message::Proposal(proposal) => proposal_refusal(scheme, transfers, proposal),
+        Message::Notification(notification) => {
+            notification_refusal(scheme, transfers, notification)
+        }
+        Message::Request(request) => request_refusal(scheme, request),
+    }
+}

@@ -1,0 +1,26 @@
+//! What the log keeps of a transaction.
+ghost use Rattle.std.specs.Prelude.{◌≡◌, Some};
+ghost use Rattle.log_core.specs.Readings.{of_transfer};
+ghost use Rattle.log_core.specs.Transfers as transfers;
+
+use status::{Content, Known, Moment, Status};
+
+/// A transaction: its status, its content where that is known, and since when it has that status.
+#[derive(Debug, Drop)]
+pub(crate) struct Transfer {
+    pub status: Status,
+    pub content: Option<Content>,
+    pub since: Moment,
+}
+
+impl Transfer {
+    /// What the status table asks of it.
+    pub(crate) fn known(&self) -> Known
+        ensures { result ≡ transfers.known (Some (of_transfer self.now)) }
+    {
+        match self.content {
+            Some(_) => Known::Stands(self.status),
+            None => Known::Bare,
+        }
+    }
+}

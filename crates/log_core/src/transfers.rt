@@ -1,0 +1,80 @@
+//! The table of the log's transactions.
+ghost use Rattle.std.specs.BTreeMap as tree;
+ghost use Rattle.std.specs.Prelude.{◌≡◌, None, Some, OnErr, OnOk, option_map, option_copied, if◌then◌else◌};
+ghost use Rattle.log_core.specs.Transfers as asked;
+ghost use Rattle.log_core.specs.Transfers.{came_at, standing_of};
+ghost use Rattle.log_core.specs.Effects.{content_of};
+ghost use Rattle.status.specs.Id.{id_cmp, same_id};
+ghost use Rattle.status.specs.declared.id.TransactionId.{TransactionId};
+
+use crate::transfer::Transfer;
+use status::{Content, Known, Moment, Status, TransactionId};
+use std::collections::BTreeMap;
+use units::NoMemory;
+
+/// The transaction is in the table. After `NoMemory` nothing has changed.
+pub(crate) fn put(
+    transfers: &mut BTreeMap<TransactionId, Transfer>,
+    id: TransactionId,
+    transfer: Transfer,
+) -> Result<(), NoMemory>
+    ensures ok { OnOk result ((t : TransactionId) → tree.get id_cmp transfers.new t ≡ (if same_id id t then Some transfer else tree.get id_cmp transfers.old t)) }
+    ensures err { OnErr result (transfers.new.entries ≡ transfers.old.entries) }
+{
+    transfers.insert(id, transfer)?;
+    Ok(())
+}
+
+/// Takes the transaction out.
+pub(crate) fn take_out(transfers: &mut BTreeMap<TransactionId, Transfer>, id: TransactionId)
+    ensures { (t : TransactionId) → tree.get id_cmp transfers.new t ≡ (if same_id id t then None else tree.get id_cmp transfers.old t) }
+{
+    transfers.remove(&id);
+}
+
+/// The transaction has that status since that moment.
+pub(crate) fn set_status(
+    transfers: &mut BTreeMap<TransactionId, Transfer>,
+    id: TransactionId,
+    new: Status,
+    moment: Moment,
+)
+    ensures { (t : TransactionId) → tree.get id_cmp transfers.new t ≡ (if same_id id t then option_map (came_at new moment) (tree.get id_cmp transfers.old t) else tree.get id_cmp transfers.old t) }
+{
+    if let Some(transfer) = transfers.get_mut(&id) {
+        transfer.status = new;
+        transfer.since = moment;
+    }
+}
+
+/// What the status table asks of the transaction.
+pub(crate) fn known(transfers: &BTreeMap<TransactionId, Transfer>, id: TransactionId) -> Known
+    ensures { result ≡ asked.known (standing_of transfers.now id) }
+{
+    match transfers.get(&id) {
+        Some(transfer) => transfer.known(),
+        None => Known::Unknown,
+    }
+}
+
+/// The content of the transaction, or `None` where none is recorded.
+pub(crate) fn content(
+    transfers: &BTreeMap<TransactionId, Transfer>,
+    id: TransactionId,
+) -> Option<&Content>
+    ensures { option_copied result ≡ content_of (standing_of transfers.now id) }
+{
+    let transfer = transfers.get(&id)?;
+    transfer.content.as_ref()
+}
+
+/// Where the transaction stands, or `None` where no record is about it.
+pub(crate) fn status(
+    transfers: &BTreeMap<TransactionId, Transfer>,
+    id: TransactionId,
+) -> Option<Status>
+    ensures { result ≡ option_map (λ x. x.status) (standing_of transfers.now id) }
+{
+    let transfer = transfers.get(&id)?;
+    Some(transfer.status)
+}

@@ -1,0 +1,33 @@
+//! Transactions in the order in which clean-ups cancel them.
+ghost use Rattle.std.specs.BTreeSet.{contains};
+ghost use Rattle.std.specs.Prelude.{◌≡◌, ◌||◌, ◌&&◌, not, OnOk, OnErr};
+ghost use Rattle.log_core.specs.Kept.{waiting_cmp};
+ghost use Rattle.log_core.specs.Transfers.{is_place};
+ghost use Rattle.log_core.specs.declared.waiting.Waiting as declared;
+
+use status::{Moment, TransactionId};
+use std::collections::BTreeSet;
+use units::NoMemory;
+
+/// A transaction that stands Checked, and since when.
+#[derive(Clone, Copy, Debug, PartialEq, Eq, PartialOrd, Ord)]
+pub(crate) struct Waiting {
+    pub since: Moment,
+    pub id: TransactionId,
+}
+
+/// The place is there. After `NoMemory` nothing has changed.
+pub(crate) fn remember(checked: &mut BTreeSet<Waiting>, place: Waiting) -> Result<(), NoMemory>
+    ensures ok { OnOk result ((w : declared.Waiting) → contains waiting_cmp checked.new w ≡ (contains waiting_cmp checked.old w || is_place w place)) }
+    ensures err { OnErr result ((w : declared.Waiting) → contains waiting_cmp checked.new w ≡ contains waiting_cmp checked.old w) }
+{
+    checked.insert(place)?;
+    Ok(())
+}
+
+/// The place isn't there any more.
+pub(crate) fn forget(checked: &mut BTreeSet<Waiting>, place: Waiting)
+    ensures { (w : declared.Waiting) → contains waiting_cmp checked.new w ≡ (contains waiting_cmp checked.old w && not (is_place w place)) }
+{
+    checked.remove(&place);
+}

@@ -1,0 +1,194 @@
+use crate::cores::{ROOM, assert_sent, walk};
+use crate::logs::{assert_owner, log};
+use protocol::Outcome::{Late, Recorded, Refused, Repeat};
+use protocol::{NodeCore, Outcome, ReplayFault, resume};
+use std::test::Fail;
+use wire::decode_input;
+
+const PROPOSAL: &str =
+    r#"{"input":"received","message":{"account":1,"call":"AcceptProposal","from":"NZ","status":"Proposed","to":"ITL","to_account":7,"to_registry":"JP","transaction":"NZ1","units":["NZ:1:1-100:AAU"]},"moment":1335830400}"#;
+
+const ACCEPTED: &str =
+    r#"{"input":"received","message":{"call":"AcceptNotification","codes":[],"from":"JP","status":"Accepted","to":"ITL","transaction":"NZ1"},"moment":1335830400}"#;
+
+const COMPLETED: &str =
+    r#"{"input":"received","message":{"call":"AcceptNotification","codes":[],"from":"NZ","status":"Completed","to":"ITL","transaction":"NZ1"},"moment":1335830400}"#;
+
+const REQUEST: &str =
+    r#"{"input":"received","message":{"call":"RequestCancellation","from":"NZ","to":"ITL","transaction":"NZ1"},"moment":1335830400}"#;
+
+const REFUSALS: &[(&str, Outcome)] = &[
+    (ACCEPTED, Refused(47)),
+    (
+        r#"{"input":"received","message":{"account":1,"call":"AcceptProposal","from":"JP","status":"Proposed","to":"ITL","to_account":7,"to_registry":"JP","transaction":"NZ1","units":["NZ:1:1-100:AAU"]},"moment":1335830400}"#,
+        Refused(44),
+    ),
+    (
+        r#"{"input":"received","message":{"account":1,"call":"AcceptProposal","from":"NZ","status":"Proposed","to":"JP","to_account":7,"to_registry":"JP","transaction":"NZ1","units":["NZ:1:1-100:AAU"]},"moment":1335830400}"#,
+        Refused(42),
+    ),
+    (
+        r#"{"input":"received","message":{"account":1,"call":"AcceptProposal","from":"AU","status":"Proposed","to":"ITL","to_account":7,"to_registry":"JP","transaction":"AU1","units":["NZ:1:1-100:AAU"]},"moment":1335830400}"#,
+        Refused(43),
+    ),
+    (PROPOSAL, Recorded(0)),
+    (PROPOSAL, Repeat),
+    (
+        r#"{"input":"received","message":{"account":1,"call":"AcceptProposal","from":"NZ","status":"Proposed","to":"ITL","to_account":7,"to_registry":"JP","transaction":"NZ1","units":["NZ:1:1-99:AAU"]},"moment":1335830400}"#,
+        Refused(45),
+    ),
+    (
+        r#"{"input":"received","message":{"call":"AcceptNotification","codes":[204],"from":"JP","status":"Terminated","to":"ITL","transaction":"NZ1"},"moment":1335830400}"#,
+        Refused(46),
+    ),
+    (r#"{"account":1,"input":"open"}"#, Refused(46)),
+];
+
+#[test]
+fn messages_are_refused_in_order(rt: HostRuntime) -> Result<(), Fail> {
+    let alloc = rt.alloc();
+    let mut log = log(alloc, ROOM)?;
+    walk(&rt, alloc, &mut log, REFUSALS)?;
+    assert_owner(&rt, &log, "NZ:1:1-1:AAU", "NZ", true)?;
+    assert_eq!(rt; log.pieces().len(), 1);
+    Ok(())
+}
+
+const FROM_JP: &str =
+    r#"{"input":"received","message":{"account":7,"call":"AcceptProposal","from":"JP","status":"Proposed","to":"ITL","to_account":7,"to_registry":"JP","transaction":"JP1","units":["NZ:1:100-101:CER"]},"moment":1335830400}"#;
+
+#[test]
+fn findings_terminate_a_transfer(rt: HostRuntime) -> Result<(), Fail> {
+    let alloc = rt.alloc();
+    let mut log = log(alloc, ROOM)?;
+    walk(
+        &rt,
+        alloc,
+        &mut log,
+        &[(FROM_JP, Recorded(0)), (FROM_JP, Repeat)],
+    )?;
+    assert_sent(
+        &rt,
+        alloc,
+        &log,
+        0,
+        &[
+            r#"{"call":"AcceptNotification","codes":[201,203,204,206],"from":"ITL","status":"Terminated","to":"JP","transaction":"JP1"}"#,
+        ],
+    )
+}
+
+const TRANSFER: &[(&str, Outcome)] = &[
+    (PROPOSAL, Recorded(0)),
+    (ACCEPTED, Recorded(1)),
+    (REQUEST, Late),
+    (r#"{"input":"clean_up","moment":1335916800}"#, Repeat),
+    (COMPLETED, Recorded(2)),
+    (COMPLETED, Repeat),
+    (ACCEPTED, Repeat),
+    (r#"{"input":"ack","key":0}"#, Recorded(3)),
+    (r#"{"input":"ack","key":3}"#, Refused(46)),
+];
+
+#[test]
+fn a_completed_transfer_moves_the_book(rt: HostRuntime) -> Result<(), Fail> {
+    let alloc = rt.alloc();
+    let mut log = log(alloc, ROOM)?;
+    walk(&rt, alloc, &mut log, TRANSFER)?;
+    assert_owner(&rt, &log, "NZ:1:100-100:AAU", "JP", false)?;
+    assert!(rt; log.acknowledged(0) && !log.acknowledged(1));
+    let record = [decode_input(alloc, PROPOSAL.as_bytes())?];
+    assert_eq!(rt; resume(&mut log, &record), Err(ReplayFault::NotRecorded(4)));
+    Ok(())
+}
+
+const CLEANED: &[(&str, Outcome)] = &[
+    (PROPOSAL, Recorded(0)),
+    (r#"{"input":"clean_up","moment":1335916799}"#, Repeat),
+    (r#"{"input":"clean_up","moment":1335916800}"#, Recorded(1)),
+    (ACCEPTED, Late),
+    (r#"{"input":"clean_up","moment":1335916801}"#, Repeat),
+];
+
+#[test]
+fn a_clean_up_cancels_after_a_day(rt: HostRuntime) -> Result<(), Fail> {
+    let alloc = rt.alloc();
+    let mut log = log(alloc, ROOM)?;
+    walk(&rt, alloc, &mut log, CLEANED)?;
+    assert_owner(&rt, &log, "NZ:1:1-1:AAU", "NZ", false)?;
+    assert_sent(
+        &rt,
+        alloc,
+        &log,
+        1,
+        &[
+            r#"{"call":"AcceptNotification","codes":[],"from":"ITL","status":"Cancelled","to":"NZ","transaction":"NZ1"}"#,
+            r#"{"call":"AcceptNotification","codes":[],"from":"ITL","status":"Cancelled","to":"JP","transaction":"NZ1"}"#,
+        ],
+    )
+}
+
+const TWO_CLEANED: &[(&str, Outcome)] = &[
+    (
+        r#"{"input":"received","message":{"account":1,"call":"AcceptProposal","from":"NZ","status":"Proposed","to":"ITL","to_account":7,"to_registry":"JP","transaction":"NZ10","units":["NZ:1:1-10:AAU"]},"moment":1335830400}"#,
+        Recorded(0),
+    ),
+    (
+        r#"{"input":"received","message":{"account":1,"call":"AcceptProposal","from":"NZ","status":"Proposed","to":"ITL","to_account":7,"to_registry":"JP","transaction":"NZ2","units":["NZ:1:11-20:AAU"]},"moment":1335830401}"#,
+        Recorded(1),
+    ),
+    (r#"{"input":"clean_up","moment":1335916801}"#, Recorded(2)),
+];
+
+#[test]
+fn a_clean_up_goes_by_code_and_number(rt: HostRuntime) -> Result<(), Fail> {
+    let alloc = rt.alloc();
+    let mut log = log(alloc, ROOM)?;
+    walk(&rt, alloc, &mut log, TWO_CLEANED)?;
+    assert_sent(
+        &rt,
+        alloc,
+        &log,
+        2,
+        &[
+            r#"{"call":"AcceptNotification","codes":[],"from":"ITL","status":"Cancelled","to":"NZ","transaction":"NZ2"}"#,
+            r#"{"call":"AcceptNotification","codes":[],"from":"ITL","status":"Cancelled","to":"JP","transaction":"NZ2"}"#,
+            r#"{"call":"AcceptNotification","codes":[],"from":"ITL","status":"Cancelled","to":"NZ","transaction":"NZ10"}"#,
+            r#"{"call":"AcceptNotification","codes":[],"from":"ITL","status":"Cancelled","to":"JP","transaction":"NZ10"}"#,
+        ],
+    )
+}
+
+const REQUESTED: &[(&str, Outcome)] = &[
+    (REQUEST, Recorded(0)),
+    (PROPOSAL, Late),
+    (REQUEST, Late),
+    (
+        r#"{"input":"eligible","may":false,"registry":"NZ"}"#,
+        Recorded(1),
+    ),
+    (
+        r#"{"input":"eligible","may":false,"registry":"NZ"}"#,
+        Repeat,
+    ),
+    (
+        r#"{"input":"eligible","may":false,"registry":"AU"}"#,
+        Refused(114),
+    ),
+];
+
+#[test]
+fn a_request_comes_before_its_proposal(rt: HostRuntime) -> Result<(), Fail> {
+    let alloc = rt.alloc();
+    let mut log = log(alloc, ROOM)?;
+    walk(&rt, alloc, &mut log, REQUESTED)?;
+    assert_sent(
+        &rt,
+        alloc,
+        &log,
+        0,
+        &[
+            r#"{"call":"AcceptNotification","codes":[],"from":"ITL","status":"Cancelled","to":"NZ","transaction":"NZ1"}"#,
+        ],
+    )
+}

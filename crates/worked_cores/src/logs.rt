@@ -1,0 +1,50 @@
+//! Logs of the worked scheme.
+
+use crate::cores::{Seen, scheme};
+use log_core::LogCore;
+use std::alloc::Global;
+use std::process::Abort;
+use std::test::Fail;
+use units::{Block, Code};
+
+/// A unit of each part of what is allotted, as blocks of it.
+const UNITS: [&str; 4] = [
+    "NZ:1:1-1:AAU",
+    "NZ:1:11-11:AAU",
+    "NZ:1:100-100:AAU",
+    "NZ:1:101-101:AAU",
+];
+
+/// The log of the worked scheme, with room for that many records.
+pub fn log(alloc: Global, room: &str) -> Result<LogCore, Fail> {
+    let scheme = scheme(alloc, room)?;
+    Ok(LogCore::new(alloc, &scheme)?)
+}
+
+impl Seen for LogCore {
+    fn is_like(&self, other: &LogCore) -> Result<bool, Fail> {
+        for text in UNITS {
+            let unit = Block::read(text)?.first_unit();
+            if self.book_owner(&unit) != other.book_owner(&unit)
+                || self.transfer_of(&unit) != other.transfer_of(&unit)
+            {
+                return Ok(false);
+            }
+        }
+        Ok(self.pieces().len() == other.pieces().len())
+    }
+}
+
+/// Asserts who owns the first unit of that block, and whether a transfer has it.
+pub fn assert_owner(
+    rt: &impl Abort,
+    log: &LogCore,
+    block: &str,
+    owner: &str,
+    is_under_way: bool,
+) -> Result<(), Fail> {
+    let unit = Block::read(block)?.first_unit();
+    assert_eq!(rt; log.book_owner(&unit), Code::read(owner));
+    assert_eq!(rt; log.transfer_of(&unit).is_some(), is_under_way);
+    Ok(())
+}

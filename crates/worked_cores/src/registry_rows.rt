@@ -1,0 +1,255 @@
+use crate::cores::{ROOM, assert_sent, scheme, walk};
+use crate::registries::{assert_none_held, registry};
+use checks::propose_check;
+use protocol::Outcome::{Recorded, Refused, Repeat};
+use protocol::{NodeCore, Outcome, ReplayFault, replay, resume};
+use registry_core::RegistryCore;
+use status::{Order, Status, TransactionId};
+use std::alloc::Global;
+use std::process::Abort;
+use std::test::Fail;
+use units::limits::LAST_TRANSACTION;
+use units::{Code, Node, Refusal};
+use wire::{Input, decode_input};
+
+const CLOSE_2: &str = r#"{"account":2,"input":"close"}"#;
+
+const OPEN_2: &str = r#"{"account":2,"input":"open"}"#;
+
+const HUNDRED: &str =
+    r#"{"account":1,"input":"propose","to_account":7,"to_registry":"JP","units":["NZ:1:1-100:AAU"]}"#;
+
+const SIXTY: &str =
+    r#"{"account":1,"input":"propose","to_account":7,"to_registry":"JP","units":["NZ:1:1-60:AAU"]}"#;
+
+const ACCEPTED: &str =
+    r#"{"input":"received","message":{"call":"AcceptNotification","codes":[],"from":"ITL","status":"Accepted","to":"NZ","transaction":"NZ1"},"moment":1335830400}"#;
+
+const ACK_0: &str = r#"{"input":"ack","key":0}"#;
+
+const ACK_1: &str = r#"{"input":"ack","key":1}"#;
+
+const REQUEST: &str = r#"{"input":"request","transaction":"NZ1"}"#;
+
+const REFUSED_ORDERS: &[(&str, Outcome)] = &[
+    (
+        r#"{"account":1,"input":"propose","to_account":7,"to_registry":"JP","units":[]}"#,
+        Refused(101),
+    ),
+    (
+        r#"{"account":1,"input":"propose","to_account":7,"to_registry":"JP","units":["NZ:1:1-1:AAU","NZ:1:2-2:AAU","NZ:1:3-3:AAU","NZ:1:4-4:AAU","NZ:1:5-5:AAU","NZ:1:6-6:AAU","NZ:1:7-7:AAU","NZ:1:8-8:AAU","NZ:1:9-9:AAU","NZ:1:10-10:AAU","NZ:1:11-11:AAU","NZ:1:12-12:AAU","NZ:1:13-13:AAU","NZ:1:14-14:AAU","NZ:1:15-15:AAU","NZ:1:16-16:AAU","NZ:1:17-17:AAU"]}"#,
+        Refused(101),
+    ),
+    (
+        r#"{"account":1,"input":"propose","to_account":7,"to_registry":"JP","units":["NZ:1:6-5:AAU"]}"#,
+        Refused(102),
+    ),
+    (
+        r#"{"account":1,"input":"propose","to_account":7,"to_registry":"JP","units":["NZ:1:1-5:AAU","NZ:1:5-6:AAU"]}"#,
+        Refused(103),
+    ),
+    (
+        r#"{"account":3,"input":"propose","to_account":7,"to_registry":"JP","units":["NZ:1:1-1:AAU"]}"#,
+        Refused(104),
+    ),
+    (
+        r#"{"account":1,"input":"propose","to_account":7,"to_registry":"JP","units":["NZ:1:1-1:CER"]}"#,
+        Refused(105),
+    ),
+    (
+        r#"{"account":1,"input":"propose","to_account":7,"to_registry":"JP","units":["NZ:1:101-101:AAU"]}"#,
+        Refused(105),
+    ),
+    (
+        r#"{"account":1,"input":"propose","to_account":2,"to_registry":"NZ","units":["NZ:1:1-1:AAU"]}"#,
+        Refused(107),
+    ),
+    (
+        r#"{"account":1,"input":"propose","to_account":0,"to_registry":"JP","units":["NZ:1:1-1:AAU"]}"#,
+        Refused(108),
+    ),
+    (CLOSE_2, Recorded(0)),
+    (
+        r#"{"account":2,"input":"propose","to_account":7,"to_registry":"JP","units":["NZ:1:1-1:AAU"]}"#,
+        Refused(104),
+    ),
+    (SIXTY, Recorded(1)),
+    (
+        r#"{"account":1,"input":"propose","to_account":7,"to_registry":"JP","units":["NZ:1:60-100:AAU"]}"#,
+        Refused(106),
+    ),
+];
+
+#[test]
+fn orders_are_refused_by_their_first_cause(rt: HostRuntime) -> Result<(), Fail> {
+    let alloc = rt.alloc();
+    let mut nz = registry(alloc, "NZ", ROOM)?;
+    walk(&rt, alloc, &mut nz, REFUSED_ORDERS)?;
+    assert_eq!(rt; nz.holdings().free_count(1), 40);
+    Ok(())
+}
+
+fn order(alloc: Global, text: &str) -> Result<Order, Fail> {
+    match decode_input(alloc, text.as_bytes())? {
+        Input::Propose(order) => Ok(order),
+        _ => Err(Fail::new("another input")),
+    }
+}
+
+// Why NZ refuses the order once it has numbered that many transactions.
+fn refusal_after(alloc: Global, order: &Order, last: u32) -> Result<Option<Refusal>, Fail> {
+    let scheme = scheme(alloc, ROOM)?;
+    let code = Code::read("NZ").ok_or("a code")?;
+    let nz = RegistryCore::new(alloc, &scheme, code)?;
+    Ok(propose_check(alloc, &scheme, code, nz.holdings(), last, order).err())
+}
+
+#[test]
+fn transactions_are_used_up(rt: HostRuntime) -> Result<(), Fail> {
+    let alloc = rt.alloc();
+    let order = order(alloc, HUNDRED)?;
+    let refusal = refusal_after(alloc, &order, LAST_TRANSACTION)?;
+    assert_eq!(rt; refusal, Some(Refusal { code: 109 }));
+    Ok(())
+}
+
+const ACCOUNT_ORDERS: &[(&str, Outcome)] = &[
+    (r#"{"account":1,"input":"close"}"#, Refused(112)),
+    (CLOSE_2, Recorded(0)),
+    (CLOSE_2, Refused(111)),
+    (OPEN_2, Recorded(1)),
+    (r#"{"account":3,"input":"open"}"#, Refused(110)),
+];
+
+#[test]
+fn accounts_are_closed_and_opened(rt: HostRuntime) -> Result<(), Fail> {
+    let alloc = rt.alloc();
+    let mut nz = registry(alloc, "NZ", ROOM)?;
+    walk(&rt, alloc, &mut nz, ACCOUNT_ORDERS)
+}
+
+const ACKNOWLEDGEMENTS: &[(&str, Outcome)] = &[
+    (ACK_0, Recorded(1)),
+    (ACK_0, Repeat),
+    (ACK_1, Refused(46)),
+];
+
+// Asserts that the message of the first record is acknowledged, and that there is no other.
+fn assert_acknowledged(rt: &impl Abort, nz: &RegistryCore) {
+    assert!(rt; nz.acknowledged(0));
+    assert_eq!(rt; nz.next_unacknowledged(Node::Itl, 0), None);
+    assert_eq!(rt; nz.sends(), 1);
+    for (records, sent) in [(0, 0), (1, 1), (2, 1)] {
+        assert_eq!(rt; nz.sent_by(records), sent);
+    }
+}
+
+#[test]
+fn acknowledgements_are_recorded_once(rt: HostRuntime) -> Result<(), Fail> {
+    let alloc = rt.alloc();
+    let mut nz = registry(alloc, "NZ", ROOM)?;
+    walk(&rt, alloc, &mut nz, &[(HUNDRED, Recorded(0))])?;
+    assert_eq!(rt; nz.next_unacknowledged(Node::Itl, 0), Some(0));
+    walk(&rt, alloc, &mut nz, ACKNOWLEDGEMENTS)?;
+    assert_acknowledged(&rt, &nz);
+    Ok(())
+}
+
+/// The room of a journal that one record fills.
+const ONE_RECORD: &str = "1";
+
+const FULL: &[(&str, Outcome)] = &[
+    (HUNDRED, Recorded(0)),
+    (OPEN_2, Refused(111)),
+    (CLOSE_2, Refused(49)),
+    (r#"{"input":"clean_up","moment":1335916800}"#, Refused(46)),
+];
+
+#[test]
+fn full_journals_refuse_what_would_be_recorded(rt: HostRuntime) -> Result<(), Fail> {
+    let alloc = rt.alloc();
+    let mut nz = registry(alloc, "NZ", ONE_RECORD)?;
+    walk(&rt, alloc, &mut nz, FULL)
+}
+
+const TRANSFER_OUT: &[(&str, Outcome)] = &[
+    (ACCEPTED, Refused(47)),
+    (SIXTY, Recorded(0)),
+    (REQUEST, Recorded(1)),
+    (REQUEST, Repeat),
+    (r#"{"input":"request","transaction":"NZ2"}"#, Refused(115)),
+    (ACCEPTED, Recorded(2)),
+    (ACCEPTED, Repeat),
+    (REQUEST, Refused(116)),
+];
+
+const COMPLETED: &str =
+    r#"{"call":"AcceptNotification","codes":[],"from":"NZ","status":"Completed","to":"ITL","transaction":"NZ1"}"#;
+
+// Asserts that the units of the first transaction are out of the registry for good.
+fn assert_completed(rt: &impl Abort, nz: &RegistryCore) -> Result<(), Fail> {
+    let id = TransactionId::read("NZ1").ok_or("an identifier")?;
+    assert_eq!(rt; nz.status_of(id), Some(Status::Completed));
+    assert_eq!(rt; nz.holdings().free_count(1), 40);
+    assert_none_held(rt, nz, "NZ:1:1-60:AAU")
+}
+
+#[test]
+fn transfers_out_end_once(rt: HostRuntime) -> Result<(), Fail> {
+    let alloc = rt.alloc();
+    let mut nz = registry(alloc, "NZ", ROOM)?;
+    walk(&rt, alloc, &mut nz, TRANSFER_OUT)?;
+    assert_completed(&rt, &nz)?;
+    assert_sent(&rt, alloc, &nz, 2, &[COMPLETED])
+}
+
+// The inputs with these texts.
+fn inputs(alloc: Global, texts: &[&str]) -> Result<Vec<Input>, Fail> {
+    let mut inputs = Vec::new(alloc);
+    for text in texts {
+        inputs.push(decode_input(alloc, text.as_bytes())?)?;
+    }
+    Ok(inputs)
+}
+
+// What is wrong with these texts as a journal.
+fn fault_of_all(
+    alloc: Global,
+    nz: &RegistryCore,
+    texts: &[&str],
+) -> Result<Option<ReplayFault>, Fail> {
+    let records = inputs(alloc, texts)?;
+    Ok(replay(nz, &records).err())
+}
+
+fn assert_of_two_records(rt: &impl Abort, replayed: &RegistryCore, node: Node) {
+    assert_eq!(rt; replayed.records(), 2);
+    assert_eq!(rt; replayed.journal().len(), 2);
+    assert_eq!(rt; replayed.node(), node);
+}
+
+// Asserts that the two records are a journal, and that they aren't recorded after it.
+fn assert_replayed(rt: &impl Abort, nz: &RegistryCore, records: &[Input]) -> Result<(), Fail> {
+    let mut replayed = replay(nz, records)?;
+    assert_of_two_records(rt, &replayed, nz.node());
+    let fault = resume(&mut replayed, records).err();
+    assert_eq!(rt; fault, Some(ReplayFault::NotRecorded(2)));
+    Ok(())
+}
+
+#[test]
+fn journals_are_replayed(rt: HostRuntime) -> Result<(), Fail> {
+    let alloc = rt.alloc();
+    let nz = registry(alloc, "NZ", ROOM)?;
+    let records = inputs(alloc, &[HUNDRED, ACCEPTED])?;
+    assert_replayed(&rt, &nz, &records)
+}
+
+#[test]
+fn a_record_is_replayed_once(rt: HostRuntime) -> Result<(), Fail> {
+    let alloc = rt.alloc();
+    let nz = registry(alloc, "NZ", ROOM)?;
+    let fault = fault_of_all(alloc, &nz, &[HUNDRED, HUNDRED])?;
+    assert_eq!(rt; fault, Some(ReplayFault::NotRecorded(1)));
+    Ok(())
+}

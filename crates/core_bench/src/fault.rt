@@ -10,12 +10,12 @@ use units::{BlockFault, NoMemory, Refusal};
 #[derive(Debug, Drop, Error)]
 pub enum Fault {
     /// The words are not a kind of work and a number of inputs.
-    #[error("two words are wanted, transfers or accounts and a number of inputs from 9 to 1,000,000")]
+    #[error("two words are wanted, one of transfers, accounts, log, clean-ups and eligibility, and a number of inputs from 9 to 1,000,000")]
     Words,
     /// The scheme is none, or a number of an input is out of its range.
     #[error("an input can't be made")]
     Input,
-    /// The registry refused an input.
+    /// An input was refused.
     #[error("an input was refused with {0}")]
     Refused(u16),
     /// Memory was refused.

@@ -1,4 +1,4 @@
-//! The inputs that the registry is given.
+//! The inputs that a registry is given.
 
 use crate::fault::Fault;
 use status::{Content, Moment, Order, TransactionId};
@@ -23,8 +23,8 @@ const UNITS_OF_A_ROUND: u64 = 2 * UNITS_OF_A_BLOCK;
 /// How many messages a round sends.
 const MESSAGES_OF_A_ROUND: u64 = 3;
 
-/// When each message came: 2012-05-01T00:00:00Z.
-const MOMENT: u64 = 1_335_830_400;
+/// When each message comes: 2012-05-01T00:00:00Z.
+pub const MOMENT: u64 = 1_335_830_400;
 
 /// The messages that a round sends, in their order.
 #[derive(Clone, Copy, Debug)]
@@ -135,14 +135,14 @@ impl Round {
 
     // The acknowledgement of one of the round's messages.
     fn ack(&self, sent: Sent) -> Result<Input, Fault> {
-        let behind = match sent {
+        let place = match sent {
             Sent::Proposal => 0,
             Sent::Completed => 1,
             Sent::Accepted => 2,
         };
         let key = u64::from(self.place)
             .saturating_mul(MESSAGES_OF_A_ROUND)
-            .saturating_add(behind);
+            .saturating_add(place);
         Ok(Input::Ack(Number::new(key).ok_or(Fault::Input)?))
     }
 
@@ -157,7 +157,8 @@ impl Round {
     }
 }
 
-fn received(message: Message) -> Result<Input, Fault> {
+/// The input by which a message comes.
+pub fn received(message: Message) -> Result<Input, Fault> {
     let moment = Moment::new(MOMENT).ok_or(Fault::Input)?;
     Ok(Input::Received { message, moment })
 }

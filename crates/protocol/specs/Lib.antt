@@ -9,10 +9,12 @@ pub mod AtLog
 pub mod Verdict
 pub mod Cores
 pub mod Decisions
+pub mod Table
 pub mod Unacknowledged
 pub mod Refusing
 pub mod World
 pub mod Claims
+pub mod Headline
 pub mod Owner
 pub mod WayOut
 pub mod Weave

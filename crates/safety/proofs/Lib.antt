@@ -8,3 +8,4 @@ pub mod OwnersOfUnits
 pub mod DeliveryLemmas
 pub mod WayToRest
 pub mod JournalWeaves
+pub mod Headline

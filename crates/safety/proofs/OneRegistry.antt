@@ -5,3 +5,4 @@ pub mod TransactionEnds
 pub mod InitiatorStatuses
 pub mod RegistrySendings
 pub mod ProposalNumbers
+pub mod ProposedTransfers

@@ -4,6 +4,7 @@
 
 mod agreement;
 mod counting;
+mod debts;
 mod deliveries;
 mod log;
 mod one_place;
@@ -13,6 +14,7 @@ mod weaving;
 
 pub use agreement::nodes_agree;
 pub use counting::{completed_once, numbers_are_new, registry_counts_once};
+pub use debts::debts_are_owed;
 pub use deliveries::deliveries_are_welcome;
 pub use log::log_alone;
 pub use one_place::units_stand_in_one_place;

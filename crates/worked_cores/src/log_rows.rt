@@ -1,8 +1,11 @@
-use crate::cores::{ROOM, assert_sent, walk};
-use crate::logs::{assert_owner, log};
+use crate::cores::{ROOM, assert_sent, scheme, walk};
+use crate::logs::{assert_owner, log, opening_register};
+use checks::log_findings;
 use protocol::Outcome::{Late, Recorded, Refused, Repeat};
 use protocol::{NodeCore, Outcome, ReplayFault, resume};
+use status::Content;
 use std::test::Fail;
+use units::{Block, Code, Items};
 use wire::decode_input;
 
 const PROPOSAL: &str =
@@ -76,6 +79,21 @@ fn findings_terminate_a_transfer(rt: HostRuntime) -> Result<(), Fail> {
             r#"{"call":"AcceptNotification","codes":[201,203,204,206],"from":"ITL","status":"Terminated","to":"JP","transaction":"JP1"}"#,
         ],
     )
+}
+
+#[test]
+fn a_proposal_has_all_its_findings(rt: HostRuntime) -> Result<(), Fail> {
+    let alloc = rt.alloc();
+    let jp = Code::read("JP").ok_or("a code")?;
+    let block = Block::read("NZ:1:100-101:CER")?;
+    let units = Items::from_vec(Vec::from_slice(alloc, &[block])?);
+    let content = Content::new(7, jp, 7, units).ok_or("a content")?;
+    let scheme = scheme(alloc, ROOM)?;
+    let register = opening_register(alloc, &scheme)?;
+    let found = log_findings(alloc, &scheme, &register, jp, &content)?;
+    let codes = found.ok_or("findings")?;
+    assert_eq!(rt; codes.as_slice(), [201, 203, 204, 206].as_slice());
+    Ok(())
 }
 
 const TRANSFER: &[(&str, Outcome)] = &[

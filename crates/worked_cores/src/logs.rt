@@ -1,11 +1,14 @@
 //! Logs of the worked scheme.
 
 use crate::cores::{Seen, scheme};
+use checks::{Owner, Register};
 use log_core::LogCore;
+use scheme::Scheme;
 use std::alloc::Global;
+use std::collections::BTreeMap;
 use std::process::Abort;
 use std::test::Fail;
-use units::{Block, Code};
+use units::{Block, Code, UnitMap};
 
 /// A unit of each part of what is allotted, as blocks of it.
 const UNITS: [&str; 4] = [
@@ -19,6 +22,19 @@ const UNITS: [&str; 4] = [
 pub fn log(alloc: Global, room: &str) -> Result<LogCore, Fail> {
     let scheme = scheme(alloc, room)?;
     Ok(LogCore::new(alloc, &scheme)?)
+}
+
+/// What the log of the worked scheme knows of units and registries at the start: all units are NZ's.
+pub fn opening_register(alloc: Global, scheme: &Scheme) -> Result<Register, Fail> {
+    let registry = Code::read("NZ").ok_or("a code")?;
+    let mut book = UnitMap::new(alloc);
+    book.set(&Block::read("NZ:1:1-100:AAU")?, Some(Owner { registry }))?;
+    Ok(Register {
+        allotments: scheme.allotments(alloc)?,
+        book,
+        under_way: UnitMap::new(alloc),
+        orders: BTreeMap::new(alloc),
+    })
 }
 
 impl Seen for LogCore {

@@ -152,78 +152,75 @@ enum Call {
 }
 
 impl Call {
-    /// What the call returns.
-    fn of(self, holdings: &mut Holdings, account: u64) -> Result<(), Refusal> {
-        match self {
+    /// The code with which the call is refused, or `None`.
+    fn code(self, holdings: &mut Holdings, account: u64) -> Option<u16> {
+        let answer = match self {
             Call::Open => holdings.open_account(account),
             Call::Close => holdings.close_account(account),
             Call::MayOpen => holdings.may_open(account),
             Call::MayClose => holdings.may_close(account),
-        }
+        };
+        let refusal = answer.err()?;
+        Some(refusal.code)
     }
 }
 
-// One after another, the calls with these accounts return these results.
-fn assert_calls(
-    rt: &impl Abort,
-    holdings: &mut Holdings,
-    calls: &[(Call, u64, Result<(), Refusal>)],
-) {
-    for (call, account, wanted) in calls {
-        assert_eq!(rt; call.of(holdings, *account), *wanted);
+// One after another, the calls with these accounts are refused with these codes, or aren't refused.
+fn assert_calls(rt: &impl Abort, holdings: &mut Holdings, calls: &[(Call, u64, Option<u16>)]) {
+    for (call, account, code) in calls {
+        assert_eq!(rt; call.code(holdings, *account), *code);
     }
 }
+
+const CLOSE: [(Call, u64, Option<u16>); 4] = [
+    (Call::Close, 1, Some(112)),
+    (Call::Close, 2, None),
+    (Call::Close, 2, Some(111)),
+    (Call::Close, 3, Some(110)),
+];
+
+const OPEN: [(Call, u64, Option<u16>); 3] = [
+    (Call::Open, 2, None),
+    (Call::Open, 2, Some(111)),
+    (Call::Open, 3, Some(110)),
+];
 
 #[test]
 fn holdings_are_closed_and_opened(rt: HostRuntime) -> Result<(), Fail> {
     let mut holdings = hundred(rt.alloc())?;
-    let close = [
-        (Call::Close, 1, refusal(112)),
-        (Call::Close, 2, Ok(())),
-        (Call::Close, 2, refusal(111)),
-        (Call::Close, 3, refusal(110)),
-    ];
-    let open = [
-        (Call::Open, 2, Ok(())),
-        (Call::Open, 2, refusal(111)),
-        (Call::Open, 3, refusal(110)),
-    ];
-    assert_calls(&rt, &mut holdings, &close);
+    assert_calls(&rt, &mut holdings, &CLOSE);
     assert_eq!(rt;
         (holdings.is_open(2), holdings.is_open(3)),
         (Some(false), None)
     );
     assert_eq!(rt; holdings.check(2, &[]), refusal(104));
-    assert_calls(&rt, &mut holdings, &open);
+    assert_calls(&rt, &mut holdings, &OPEN);
     assert_eq!(rt; holdings.is_open(2), Some(true));
     Ok(())
 }
 
+const WHILE_RESERVED: [(Call, u64, Option<u16>); 4] = [
+    (Call::MayClose, 1, Some(112)),
+    (Call::MayClose, 2, None),
+    (Call::MayClose, 3, Some(110)),
+    (Call::MayOpen, 2, Some(111)),
+];
+
+const AFTER_REMOVAL: [(Call, u64, Option<u16>); 4] = [
+    (Call::MayClose, 1, None),
+    (Call::Close, 1, None),
+    (Call::MayOpen, 1, None),
+    (Call::MayClose, 1, Some(111)),
+];
+
 #[test]
 fn accounts_may_be_closed_and_opened(rt: HostRuntime) -> Result<(), Fail> {
-    let mut holdings = hundred(rt.alloc())?;
     let first = id(&rt, "NZ1");
-    let before = [
-        (Call::MayClose, 1, refusal(112)),
-        (Call::MayClose, 2, Ok(())),
-        (Call::MayClose, 3, refusal(110)),
-        (Call::MayOpen, 2, refusal(111)),
-    ];
-    let behind = [
-        (Call::MayClose, 1, Ok(())),
-        (Call::Close, 1, Ok(())),
-        (Call::MayOpen, 1, Ok(())),
-        (Call::MayClose, 1, refusal(111)),
-    ];
-    assert_reserved(
-        &rt,
-        &mut holdings,
-        &[block(&rt, "NZ:1:1-100:AAU")],
-        first,
-        0,
-    );
-    assert_calls(&rt, &mut holdings, &before);
+    let whole = [block(&rt, "NZ:1:1-100:AAU")];
+    let mut holdings = hundred(rt.alloc())?;
+    assert_reserved(&rt, &mut holdings, &whole, first, 0);
+    assert_calls(&rt, &mut holdings, &WHILE_RESERVED);
     assert_removed(&rt, &mut holdings, first, 0);
-    assert_calls(&rt, &mut holdings, &behind);
+    assert_calls(&rt, &mut holdings, &AFTER_REMOVAL);
     Ok(())
 }

@@ -1,4 +1,6 @@
+use crate::message_rows::{NOTIFICATION, PROPOSAL, REQUEST, assert_written};
 use std::alloc::{AllocError, Global};
+use std::process::Abort;
 use std::test::Fail;
 use wire::{Line, LineFault, Splitter, Truncated};
 
@@ -19,16 +21,39 @@ fn texts<'a>(
     Ok(texts)
 }
 
+/// What `feed` returns, by how many lines it returns.
+#[derive(Clone, Copy, PartialEq, Eq, Debug)]
+enum Fed {
+    Lines(usize),
+    TooLong(usize),
+    Closed,
+    NoMemory,
+}
+
+fn feed(splitter: &mut Splitter, piece: &[u8]) -> Fed {
+    match splitter.feed(piece) {
+        Ok(lines) => Fed::Lines(lines.as_slice().len()),
+        Err(LineFault::TooLong(lines)) => Fed::TooLong(lines.as_slice().len()),
+        Err(LineFault::Closed) => Fed::Closed,
+        Err(LineFault::NoMemory) => Fed::NoMemory,
+    }
+}
+
 #[test]
 fn a_line_over_the_limit(rt: HostRuntime) -> Result<(), Fail> {
     let alloc = rt.alloc();
     let bytes = vec![in alloc; b'a'; LIMIT + 1]?;
     let mut splitter = Splitter::new(alloc, LIMIT);
-    let answer = splitter.feed(&bytes);
-    assert!(rt; matches!(&answer, Err(LineFault::TooLong(lines)) if lines.as_slice().is_empty()));
-    assert!(rt; matches!(splitter.feed(b"\n"), Err(LineFault::Closed)));
+    assert_eq!(rt; feed(&mut splitter, &bytes), Fed::TooLong(0));
+    assert_eq!(rt; feed(&mut splitter, b"\n"), Fed::Closed);
     assert_eq!(rt; splitter.finish(), Err(Truncated));
     Ok(())
+}
+
+/// The line has these bytes.
+fn assert_line(rt: &impl Abort, line: Line, bytes: &[u8]) {
+    assert_eq!(rt; line.as_slice(), bytes);
+    assert_eq!(rt; line.into_vec().as_slice(), bytes);
 }
 
 #[test]
@@ -41,8 +66,7 @@ fn a_line_of_the_limit(rt: HostRuntime) -> Result<(), Fail> {
     let lines = splitter.feed(&stream).expect(&rt, "one line");
     assert_eq!(rt; lines.as_slice().len(), 1);
     for line in lines.into_vec() {
-        assert_eq!(rt; line.as_slice(), bytes.as_slice());
-        assert_eq!(rt; line.into_vec().as_slice(), bytes.as_slice());
+        assert_line(&rt, line, &bytes);
     }
     assert_eq!(rt; splitter.finish(), Ok(()));
     Ok(())
@@ -51,26 +75,62 @@ fn a_line_of_the_limit(rt: HostRuntime) -> Result<(), Fail> {
 #[test]
 fn a_stream_that_ends_within_a_line(rt: HostRuntime) {
     let mut splitter = Splitter::new(rt.alloc(), LIMIT);
-    let lines = splitter.feed(b"ab").expect(&rt, "no whole line");
-    assert_eq!(rt; lines.as_slice().len(), 0);
+    assert_eq!(rt; feed(&mut splitter, b"ab"), Fed::Lines(0));
     assert_eq!(rt; splitter.finish(), Err(Truncated));
 }
 
+/// A stream of these two pieces has the two lines.
+fn assert_two_lines(rt: &impl Abort, alloc: Global, before: &[u8], after: &[u8]) {
+    let mut splitter = Splitter::new(alloc, LIMIT);
+    let first = splitter.feed(before).expect(rt, "lines");
+    let second = splitter.feed(after).expect(rt, "lines");
+    let texts = texts(alloc, first.as_slice(), second.as_slice()).expect(rt, "memory");
+    let wanted = [b"Proposed NZ7".as_slice(), b"Accepted".as_slice()];
+    assert!(rt;
+        texts.as_slice() == wanted.as_slice(),
+        "cut at {}",
+        before.len()
+    );
+    assert_eq!(rt; splitter.finish(), Ok(()));
+}
+
 #[test]
-fn two_lines_cut_at_every_byte(rt: HostRuntime) -> Result<(), Fail> {
-    let alloc = rt.alloc();
+fn two_lines_cut_at_every_byte(rt: HostRuntime) {
     let stream = b"Proposed NZ7\nAccepted\n";
     for cut in 0..=stream.len() {
-        let mut splitter = Splitter::new(alloc, LIMIT);
-        let first = splitter.feed(&stream[..cut]).expect(&rt, "lines");
-        let second = splitter.feed(&stream[cut..]).expect(&rt, "lines");
-        let texts = texts(alloc, first.as_slice(), second.as_slice())?;
-        assert_eq!(rt;
-            texts.as_slice(),
-            [b"Proposed NZ7".as_slice(), b"Accepted".as_slice()].as_slice(),
-            "cut at {cut}"
-        );
-        assert_eq!(rt; splitter.finish(), Ok(()));
+        assert_two_lines(&rt, rt.alloc(), &stream[..cut], &stream[cut..]);
+    }
+}
+
+/// Each line is a message that is written as that text.
+fn assert_each_written(rt: &impl Abort, alloc: Global, lines: &[Line], text: &str) {
+    for line in lines {
+        assert_written(rt, alloc, line.as_slice(), text);
+    }
+}
+
+/// A stream of the text's one line in two pieces has it where the line ends.
+fn assert_one_line(rt: &impl Abort, alloc: Global, before: &[u8], after: &[u8], text: &str) {
+    let mut splitter = Splitter::new(alloc, LIMIT);
+    let first = splitter.feed(before).expect(rt, "lines");
+    let second = splitter.feed(after).expect(rt, "lines");
+    let ended = (first.as_slice().len(), second.as_slice().len());
+    let wanted = if after.is_empty() { (1, 0) } else { (0, 1) };
+    assert_eq!(rt; ended, wanted, "cut at {}", before.len());
+    assert_each_written(rt, alloc, first.as_slice(), text);
+    assert_each_written(rt, alloc, second.as_slice(), text);
+    assert_eq!(rt; splitter.finish(), Ok(()));
+}
+
+#[test]
+fn a_message_in_two_pieces(rt: HostRuntime) -> Result<(), Fail> {
+    let alloc = rt.alloc();
+    for text in [PROPOSAL, NOTIFICATION, REQUEST] {
+        let mut stream = Vec::from_slice(alloc, text.as_bytes())?;
+        stream.push(b'\n')?;
+        for cut in 0..=stream.len() {
+            assert_one_line(&rt, alloc, &stream[..cut], &stream[cut..], text);
+        }
     }
     Ok(())
 }

@@ -1,19 +1,20 @@
 use status::{Content, TransactionId};
 use std::alloc::Global;
+use std::process::Abort;
 use std::test::Fail;
 use units::{Block, Code, Items, Node, Refusal};
 use wire::{
     AcquirerCodes, LogCodes, Message, Notice, Notification, Proposal, ProposalStatus, Request,
-    Splitter, decode, encode,
+    decode, encode,
 };
 
-const PROPOSAL: &str =
+pub const PROPOSAL: &str =
     r#"{"account":1,"call":"AcceptProposal","from":"NZ","status":"Proposed","to":"ITL","to_account":7,"to_registry":"JP","transaction":"NZ1","units":["NZ:1:1-100:AAU"]}"#;
 
-const NOTIFICATION: &str =
+pub const NOTIFICATION: &str =
     r#"{"call":"AcceptNotification","codes":[],"from":"JP","status":"Accepted","to":"ITL","transaction":"NZ1"}"#;
 
-const REQUEST: &str =
+pub const REQUEST: &str =
     r#"{"call":"RequestCancellation","from":"NZ","to":"ITL","transaction":"NZ1"}"#;
 
 const LIMIT: usize = 8192;
@@ -91,103 +92,124 @@ fn checked_proposal(alloc: Global, jp: Code) -> Result<Message, Fail> {
     }))
 }
 
-#[test]
-fn texts_are_written_and_read_back(rt: HostRuntime) -> Result<(), Fail> {
-    let alloc = rt.alloc();
-    assert_eq!(rt; PROPOSAL.len(), 161);
-    assert_eq!(rt; NOTIFICATION.len(), 103);
-    assert_eq!(rt; REQUEST.len(), 73);
-    for text in [PROPOSAL, NOTIFICATION, REQUEST] {
-        let message = decode(alloc, text.as_bytes()).expect(&rt, "a message");
-        let line = encode(alloc, &message).expect(&rt, "memory");
-        assert_eq!(rt; line.as_slice(), text.as_bytes());
-        let copy = message.copy().expect(&rt, "memory");
-        assert!(rt; copy.same(&message));
-        let again = encode(alloc, &copy).expect(&rt, "memory");
-        assert_eq!(rt; again.as_slice(), text.as_bytes());
-    }
-    Ok(())
+/// The message is written as that text.
+fn assert_encoded(rt: &impl Abort, alloc: Global, message: &Message, text: &str) {
+    let line = encode(alloc, message).expect(rt, "memory");
+    assert_eq!(rt; line.as_slice(), text.as_bytes());
+}
+
+/// The line is a message, which is written as that text.
+pub fn assert_written(rt: &impl Abort, alloc: Global, line: &[u8], text: &str) {
+    let message = decode(alloc, line).expect(rt, text);
+    assert_encoded(rt, alloc, &message, text);
+}
+
+/// The line is no message.
+fn assert_refused(rt: &impl Abort, alloc: Global, line: &[u8]) {
+    let fault = decode(alloc, line).err();
+    assert_eq!(rt; fault, Some(Refusal { code: 41 }));
+}
+
+/// The copy of the text's message is the same, and is written as it was read.
+fn assert_copied(rt: &impl Abort, alloc: Global, text: &str) {
+    let message = decode(alloc, text.as_bytes()).expect(rt, "a message");
+    let copy = message.copy().expect(rt, "memory");
+    assert!(rt; copy.same(&message));
+    assert_encoded(rt, alloc, &copy, text);
 }
 
 #[test]
-fn a_message_in_two_pieces(rt: HostRuntime) -> Result<(), Fail> {
-    let alloc = rt.alloc();
-    for text in [PROPOSAL, NOTIFICATION, REQUEST] {
-        let mut stream = Vec::from_slice(alloc, text.as_bytes())?;
-        stream.push(b'\n')?;
-        for cut in 0..=stream.len() {
-            let mut splitter = Splitter::new(alloc, LIMIT);
-            let first = splitter.feed(&stream[..cut]).expect(&rt, "lines");
-            let second = splitter.feed(&stream[cut..]).expect(&rt, "lines");
-            let ended = (first.as_slice().len(), second.as_slice().len());
-            let wanted = if cut == stream.len() { (1, 0) } else { (0, 1) };
-            assert_eq!(rt; ended, wanted, "cut at {cut}");
-            for lines in [first.as_slice(), second.as_slice()] {
-                for line in lines {
-                    let message = decode(alloc, line.as_slice()).expect(&rt, "a message");
-                    let again = encode(alloc, &message).expect(&rt, "memory");
-                    assert_eq!(rt; again.as_slice(), text.as_bytes(), "cut at {cut}");
-                }
-            }
-            assert_eq!(rt; splitter.finish(), Ok(()));
-        }
+fn texts_are_written_and_read_back(rt: HostRuntime) {
+    for (text, length) in [(PROPOSAL, 161), (NOTIFICATION, 103), (REQUEST, 73)] {
+        assert_eq!(rt; text.len(), length);
+        assert_written(&rt, rt.alloc(), text.as_bytes(), text);
+        assert_copied(&rt, rt.alloc(), text);
     }
+}
+
+const REJECTED: &str =
+    r#"{"call":"AcceptNotification","codes":[301,303],"from":"JP","status":"Rejected","to":"ITL","transaction":"NZ1"}"#;
+
+const TERMINATED: &str =
+    r#"{"call":"AcceptNotification","codes":[207],"from":"ITL","status":"Terminated","to":"NZ","transaction":"NZ1"}"#;
+
+const CHECKED: &str =
+    r#"{"account":999999999,"call":"AcceptProposal","from":"ITL","status":"Checked","to":"JP","to_account":7,"to_registry":"JP","transaction":"NZ999999","units":["NZ:1:1-100:AAU","CH:2:5-999999999999:lCER"]}"#;
+
+#[test]
+fn notifications_built_from_parts(rt: HostRuntime) -> Result<(), Fail> {
+    let alloc = rt.alloc();
+    let (jp, nz) = (Node::Registry(code("JP")?), Node::Registry(code("NZ")?));
+    let rejected = notification(jp, Node::Itl, rejected(alloc, &[301, 303])?)?;
+    assert_encoded(&rt, alloc, &rejected, REJECTED);
+    let terminated = notification(Node::Itl, nz, terminated(alloc, &[207])?)?;
+    assert_encoded(&rt, alloc, &terminated, TERMINATED);
     Ok(())
 }
 
 #[test]
 fn messages_built_from_parts(rt: HostRuntime) -> Result<(), Fail> {
     let alloc = rt.alloc();
-    let jp = code("JP")?;
-    let nz = Node::Registry(code("NZ")?);
-    let rejected = rejected(alloc, &[301, 303])?;
-    let terminated = terminated(alloc, &[207])?;
-    for (message, text) in [
-        (
-            notification(Node::Registry(jp), Node::Itl, rejected)?,
-            r#"{"call":"AcceptNotification","codes":[301,303],"from":"JP","status":"Rejected","to":"ITL","transaction":"NZ1"}"#,
-        ),
-        (
-            notification(Node::Itl, nz, terminated)?,
-            r#"{"call":"AcceptNotification","codes":[207],"from":"ITL","status":"Terminated","to":"NZ","transaction":"NZ1"}"#,
-        ),
-        (request(nz)?, REQUEST),
-        (
-            checked_proposal(alloc, jp)?,
-            r#"{"account":999999999,"call":"AcceptProposal","from":"ITL","status":"Checked","to":"JP","to_account":7,"to_registry":"JP","transaction":"NZ999999","units":["NZ:1:1-100:AAU","CH:2:5-999999999999:lCER"]}"#,
-        ),
-    ] {
-        let line = encode(alloc, &message).expect(&rt, "memory");
-        assert_eq!(rt; line.as_slice(), text.as_bytes());
+    let (jp, nz) = (code("JP")?, Node::Registry(code("NZ")?));
+    assert_encoded(&rt, alloc, &request(nz)?, REQUEST);
+    assert_encoded(&rt, alloc, &checked_proposal(alloc, jp)?, CHECKED);
+    Ok(())
+}
+
+/// The text's message is from that node to the log, of the first transaction of NZ.
+fn assert_ends(rt: &impl Abort, alloc: Global, text: &str, sender: Node) {
+    let message = decode(alloc, text.as_bytes()).expect(rt, "a message");
+    assert_eq!(rt; message.sender(), sender);
+    assert_eq!(rt; message.receiver(), Node::Itl);
+    assert_eq!(rt; Some(message.transaction()), TransactionId::read("NZ1"));
+}
+
+#[test]
+fn the_ends_of_a_message(rt: HostRuntime) -> Result<(), Fail> {
+    let (nz, jp) = (Node::Registry(code("NZ")?), Node::Registry(code("JP")?));
+    for (text, sender) in [(PROPOSAL, nz), (NOTIFICATION, jp), (REQUEST, nz)] {
+        assert_ends(&rt, rt.alloc(), text, sender);
     }
     Ok(())
 }
 
 #[test]
-fn the_ends_of_a_message(rt: HostRuntime) -> Result<(), Fail> {
+fn the_parts_of_notices_are_compared(rt: HostRuntime) -> Result<(), Fail> {
     let alloc = rt.alloc();
-    let (nz, jp) = (Node::Registry(code("NZ")?), Node::Registry(code("JP")?));
-    for (text, sender) in [(PROPOSAL, nz), (NOTIFICATION, jp), (REQUEST, nz)] {
-        let message = decode(alloc, text.as_bytes()).expect(&rt, "a message");
-        assert_eq!(rt; message.sender(), sender);
-        assert_eq!(rt; message.receiver(), Node::Itl);
-        assert_eq!(rt; Some(message.transaction()), TransactionId::read("NZ1"));
-    }
+    let notice = rejected(alloc, &[301])?;
+    assert!(rt; notice.same(&rejected(alloc, &[301])?));
+    assert!(rt; !notice.same(&rejected(alloc, &[301, 303])?));
     Ok(())
+}
+
+/// Whether the other message is the same.
+fn assert_same(rt: &impl Abort, message: &Message, other: Message, is_same: bool) {
+    assert_eq!(rt; message.same(&other), is_same);
 }
 
 #[test]
 fn the_parts_of_messages_are_compared(rt: HostRuntime) -> Result<(), Fail> {
     let alloc = rt.alloc();
-    let jp = code("JP")?;
-    let notice = rejected(alloc, &[301])?;
-    assert!(rt; notice.same(&rejected(alloc, &[301])?));
-    assert!(rt; !notice.same(&rejected(alloc, &[301, 303])?));
+    let (jp, ch) = (code("JP")?, code("CH")?);
     let ours = checked_proposal(alloc, jp)?;
-    let theirs = checked_proposal(alloc, code("CH")?)?;
-    assert!(rt; ours.same(&checked_proposal(alloc, jp)?));
-    assert!(rt; !ours.same(&theirs));
-    assert!(rt; !ours.same(&request(Node::Registry(jp))?));
+    assert_same(&rt, &ours, checked_proposal(alloc, jp)?, true);
+    assert_same(&rt, &ours, checked_proposal(alloc, ch)?, false);
+    assert_same(&rt, &ours, request(Node::Registry(jp))?, false);
+    Ok(())
+}
+
+/// Each change makes the text no message.
+fn assert_wrong(
+    rt: &impl Abort,
+    alloc: Global,
+    text: &str,
+    changes: &[(&str, &str)],
+) -> Result<(), Fail> {
+    for (old, new) in changes {
+        let line = changed(alloc, text, old, new)?.expect(rt, "it stands there once");
+        let fault = decode(alloc, line.as_bytes()).err();
+        assert_eq!(rt; fault, Some(Refusal { code: 41 }), "{new} for {old}");
+    }
     Ok(())
 }
 
@@ -288,24 +310,12 @@ const WRONG_IN_NOTIFICATION: [(&str, &str); 29] = [
 
 #[test]
 fn a_proposal_with_something_wrong_in_it(rt: HostRuntime) -> Result<(), Fail> {
-    let alloc = rt.alloc();
-    for (old, new) in WRONG_IN_PROPOSAL {
-        let line = changed(alloc, PROPOSAL, old, new)?.expect(&rt, "it stands there once");
-        let fault = decode(alloc, line.as_bytes()).err();
-        assert_eq!(rt; fault, Some(Refusal { code: 41 }), "{new} for {old}");
-    }
-    Ok(())
+    assert_wrong(&rt, rt.alloc(), PROPOSAL, &WRONG_IN_PROPOSAL)
 }
 
 #[test]
 fn a_notification_with_something_wrong_in_it(rt: HostRuntime) -> Result<(), Fail> {
-    let alloc = rt.alloc();
-    for (old, new) in WRONG_IN_NOTIFICATION {
-        let line = changed(alloc, NOTIFICATION, old, new)?.expect(&rt, "it stands there once");
-        let fault = decode(alloc, line.as_bytes()).err();
-        assert_eq!(rt; fault, Some(Refusal { code: 41 }), "{new} for {old}");
-    }
-    Ok(())
+    assert_wrong(&rt, rt.alloc(), NOTIFICATION, &WRONG_IN_NOTIFICATION)
 }
 
 /// What stands in a request, and what makes it no message in its place.
@@ -321,13 +331,7 @@ const WRONG_IN_REQUEST: [(&str, &str); 7] = [
 
 #[test]
 fn a_request_with_something_wrong_in_it(rt: HostRuntime) -> Result<(), Fail> {
-    let alloc = rt.alloc();
-    for (old, new) in WRONG_IN_REQUEST {
-        let line = changed(alloc, REQUEST, old, new)?.expect(&rt, "it stands there once");
-        let fault = decode(alloc, line.as_bytes()).err();
-        assert_eq!(rt; fault, Some(Refusal { code: 41 }), "{new} for {old}");
-    }
-    Ok(())
+    assert_wrong(&rt, rt.alloc(), REQUEST, &WRONG_IN_REQUEST)
 }
 
 /// Statuses, their codes, and whether a notification of both is one.
@@ -364,6 +368,20 @@ const CODES: [(&str, &str, bool); 30] = [
     ("Checked", "[301]", false),
 ];
 
+/// The line is a message that is written as it was read, or is refused as none.
+fn assert_read(rt: &impl Abort, alloc: Global, line: &str, is_message: bool) {
+    match decode(alloc, line.as_bytes()) {
+        Ok(message) => {
+            assert!(rt; is_message, "{line}");
+            assert_encoded(rt, alloc, &message, line);
+        }
+        Err(refusal) => {
+            assert!(rt; !is_message, "{line}");
+            assert_eq!(rt; refusal, Refusal { code: 41 });
+        }
+    }
+}
+
 #[test]
 fn each_status_with_its_codes(rt: HostRuntime) -> Result<(), Fail> {
     let alloc = rt.alloc();
@@ -371,17 +389,7 @@ fn each_status_with_its_codes(rt: HostRuntime) -> Result<(), Fail> {
         let line = format!(in alloc;
             "{{\"call\":\"AcceptNotification\",\"codes\":{codes},\"from\":\"JP\",\"status\":\"{status}\",\"to\":\"ITL\",\"transaction\":\"NZ1\"}}"
         )?;
-        match decode(alloc, line.as_bytes()) {
-            Ok(message) => {
-                assert!(rt; is_message, "{codes} at {status}");
-                let again = encode(alloc, &message).expect(&rt, "memory");
-                assert_eq!(rt; again.as_slice(), line.as_bytes());
-            }
-            Err(refusal) => {
-                assert!(rt; !is_message, "{codes} at {status}");
-                assert_eq!(rt; refusal, Refusal { code: 41 });
-            }
-        }
+        assert_read(&rt, alloc, line.as_str(), is_message);
     }
     Ok(())
 }
@@ -403,7 +411,7 @@ fn lines_that_are_no_message(rt: HostRuntime) -> Result<(), Fail> {
         deep.as_slice(),
         no_text.as_slice(),
     ] {
-        assert_eq!(rt; decode(alloc, line).err(), Some(Refusal { code: 41 }));
+        assert_refused(&rt, alloc, line);
     }
     Ok(())
 }
@@ -440,17 +448,18 @@ fn the_limits_of_a_proposal(rt: HostRuntime) -> Result<(), Fail> {
     let alloc = rt.alloc();
     for (old, new) in RIGHT_IN_PROPOSAL {
         let line = changed(alloc, PROPOSAL, old, new)?.expect(&rt, "it stands there once");
-        let message = decode(alloc, line.as_bytes()).expect(&rt, "a message");
-        let again = encode(alloc, &message).expect(&rt, "memory");
-        assert_eq!(rt; again.as_slice(), line.as_bytes());
+        assert_written(&rt, alloc, line.as_bytes(), line.as_str());
     }
+    Ok(())
+}
+
+#[test]
+fn one_block_too_many(rt: HostRuntime) -> Result<(), Fail> {
+    let alloc = rt.alloc();
     let more = format!(in alloc; "{SIXTEEN},\"NZ:1:1-1:AAU\"")?;
     let line = changed(alloc, PROPOSAL, r#""NZ:1:1-100:AAU""#, more.as_str())?;
     let line = line.expect(&rt, "it stands there once");
-    assert_eq!(rt;
-        decode(alloc, line.as_bytes()).err(),
-        Some(Refusal { code: 41 })
-    );
+    assert_refused(&rt, alloc, line.as_bytes());
     Ok(())
 }
 
@@ -462,17 +471,14 @@ fn the_longest_line(rt: HostRuntime) -> Result<(), Fail> {
         line.push(b' ')?;
     }
     assert_eq!(rt; line.len(), LIMIT);
-    let message = decode(alloc, &line).expect(&rt, "a message");
-    let again = encode(alloc, &message).expect(&rt, "memory");
-    assert_eq!(rt; again.as_slice(), PROPOSAL.as_bytes());
+    assert_written(&rt, alloc, &line, PROPOSAL);
     line.push(b' ')?;
-    assert_eq!(rt; decode(alloc, &line).err(), Some(Refusal { code: 41 }));
+    assert_refused(&rt, alloc, &line);
     Ok(())
 }
 
 #[test]
-fn keys_in_another_order_and_spaces(rt: HostRuntime) -> Result<(), Fail> {
-    let alloc = rt.alloc();
+fn keys_in_another_order_and_spaces(rt: HostRuntime) {
     for (line, text) in [
         (
             " { \"units\" : [ \"NZ:1:1-100:AAU\" ] , \"transaction\":\"NZ1\",\t\"to_registry\":\"JP\",\"to_account\":  7,\"to\":\"ITL\",\r\"status\":\"Proposed\",\"from\":\"NZ\",\"call\":\"AcceptProposal\",\"account\":1 }\t",
@@ -483,9 +489,6 @@ fn keys_in_another_order_and_spaces(rt: HostRuntime) -> Result<(), Fail> {
             NOTIFICATION,
         ),
     ] {
-        let message = decode(alloc, line.as_bytes()).expect(&rt, "a message");
-        let again = encode(alloc, &message).expect(&rt, "memory");
-        assert_eq!(rt; again.as_slice(), text.as_bytes());
+        assert_written(&rt, rt.alloc(), line.as_bytes(), text);
     }
-    Ok(())
 }

@@ -1,5 +1,6 @@
 use status::{Moment, Order, TransactionId};
 use std::alloc::Global;
+use std::process::Abort;
 use std::test::Fail;
 use units::{Code, Items, RawBlock};
 use wire::{Input, Number, ReadFault, decode_input, encode_input};
@@ -29,17 +30,25 @@ const KEPT: [&str; 9] = [
     r#"{"input":"eligible","may":true,"registry":"JP"}"#,
 ];
 
+/// The record is written as that text.
+fn assert_encoded(rt: &impl Abort, alloc: Global, input: &Input, text: &str) {
+    let line = encode_input(alloc, input).expect(rt, "memory");
+    assert_eq!(rt; line.as_slice(), text.as_bytes());
+}
+
+/// The text is a record. Its copy is the same, and is written as it was read.
+fn assert_copied(rt: &impl Abort, alloc: Global, text: &str) {
+    let input = decode_input(alloc, text.as_bytes()).expect(rt, text);
+    let copy = input.copy().expect(rt, "memory");
+    assert!(rt; copy.same(&input));
+    assert_encoded(rt, alloc, &copy, text);
+}
+
 #[test]
-fn records_are_written_and_read_back(rt: HostRuntime) -> Result<(), Fail> {
-    let alloc = rt.alloc();
+fn records_are_written_and_read_back(rt: HostRuntime) {
     for text in RECORDS {
-        let input = decode_input(alloc, text.as_bytes()).expect(&rt, "a record");
-        let copy = input.copy().expect(&rt, "memory");
-        assert!(rt; copy.same(&input));
-        let line = encode_input(alloc, &copy).expect(&rt, "memory");
-        assert_eq!(rt; line.as_slice(), text.as_bytes());
+        assert_copied(&rt, rt.alloc(), text);
     }
-    Ok(())
 }
 
 fn order(alloc: Global) -> Result<Input, Fail> {
@@ -50,6 +59,11 @@ fn order(alloc: Global) -> Result<Input, Fail> {
     Ok(Input::Propose(order))
 }
 
+/// The record, which is built from its parts, is written as that text.
+fn assert_made(rt: &impl Abort, alloc: Global, input: Input, text: &str) {
+    assert_encoded(rt, alloc, &input, text);
+}
+
 #[test]
 fn inputs_built_from_parts(rt: HostRuntime) -> Result<(), Fail> {
     let alloc = rt.alloc();
@@ -58,47 +72,36 @@ fn inputs_built_from_parts(rt: HostRuntime) -> Result<(), Fail> {
     let moment = Moment::new(1_335_916_800).expect(&rt, "in 2012");
     let registry = Code::read("NZ").expect(&rt, "a code");
     let id = TransactionId::read("NZ1").expect(&rt, "a transaction");
-    for (input, text) in [
-        (order(alloc)?, RECORDS[0]),
-        (Input::CloseAccount(eight), RECORDS[2]),
-        (Input::OpenAccount(eight), RECORDS[3]),
-        (Input::Ack(key), RECORDS[4]),
-        (Input::CleanUp(moment), RECORDS[5]),
-        (
-            Input::Eligible {
-                registry,
-                may: false,
-            },
-            RECORDS[6],
-        ),
-        (Input::Request(id), RECORDS[7]),
-    ] {
-        let line = encode_input(alloc, &input).expect(&rt, "memory");
-        assert_eq!(rt; line.as_slice(), text.as_bytes());
-    }
+    assert_made(&rt, alloc, order(alloc)?, RECORDS[0]);
+    assert_made(&rt, alloc, Input::CloseAccount(eight), RECORDS[2]);
+    assert_made(&rt, alloc, Input::OpenAccount(eight), RECORDS[3]);
+    assert_made(&rt, alloc, Input::Ack(key), RECORDS[4]);
+    assert_made(&rt, alloc, Input::CleanUp(moment), RECORDS[5]);
+    let may = false;
+    assert_made(&rt, alloc, Input::Eligible { registry, may }, RECORDS[6]);
+    assert_made(&rt, alloc, Input::Request(id), RECORDS[7]);
     Ok(())
 }
 
 #[test]
-fn an_order_is_kept_as_it_was_given(rt: HostRuntime) -> Result<(), Fail> {
-    let alloc = rt.alloc();
+fn an_order_is_kept_as_it_was_given(rt: HostRuntime) {
     for text in KEPT {
-        let input = decode_input(alloc, text.as_bytes()).expect(&rt, "a record");
-        let line = encode_input(alloc, &input).expect(&rt, "memory");
-        assert_eq!(rt; line.as_slice(), text.as_bytes());
+        assert_copied(&rt, rt.alloc(), text);
     }
-    Ok(())
+}
+
+/// The texts are records that differ.
+fn assert_differ(rt: &impl Abort, alloc: Global, one: &str, other: &str) {
+    let input = decode_input(alloc, one.as_bytes()).expect(rt, one);
+    let other = decode_input(alloc, other.as_bytes()).expect(rt, other);
+    assert!(rt; !input.same(&other));
 }
 
 #[test]
-fn records_that_differ(rt: HostRuntime) -> Result<(), Fail> {
-    let alloc = rt.alloc();
+fn records_that_differ(rt: HostRuntime) {
     for i in 1..RECORDS.len() {
-        let input = decode_input(alloc, RECORDS[i].as_bytes()).expect(&rt, "a record");
-        let other = decode_input(alloc, RECORDS[i - 1].as_bytes()).expect(&rt, "a record");
-        assert!(rt; !input.same(&other));
+        assert_differ(&rt, rt.alloc(), RECORDS[i], RECORDS[i - 1]);
     }
-    Ok(())
 }
 
 const NO_RECORDS: [&str; 32] = [

@@ -3,6 +3,7 @@ use durable::StoreFault;
 use operator::{Action, Cause, OpFault, UsageFault, parse_words, rehearse, store_fault};
 use std::alloc::{AllocError, Global};
 use std::io::{self, ErrorKind, Read, Write};
+use std::process::Abort;
 use std::test::Fail;
 use units::{Code, Node};
 
@@ -59,10 +60,10 @@ const ACCEPTED_OUTCOMES: &str = "1 recorded 0
 ";
 
 /// What an input comes to: the result, and what was written.
-fn rehearsed(rt: &HostRuntime, input: &str) -> (Result<(), OpFault>, Vec<u8>) {
+fn rehearsed(alloc: Global, input: &str) -> (Result<(), OpFault>, Vec<u8>) {
     let mut reader = input.as_bytes();
-    let mut writer = Vec::new(rt.alloc());
-    let answer = rehearse(rt.alloc(), &mut reader, &mut writer);
+    let mut writer = Vec::new(alloc);
+    let answer = rehearse(alloc, &mut reader, &mut writer);
     (answer, writer)
 }
 
@@ -74,9 +75,19 @@ fn text_of(alloc: Global, parts: &[&str]) -> Result<String, AllocError> {
     Ok(text)
 }
 
+/// The parts in `input` are an input whose report has the parts in `report`.
+fn assert_report(rt: &impl Abort, alloc: Global, input: &[&str], report: &[&str]) {
+    let input = text_of(alloc, input).expect(rt, "memory for a test");
+    let report = text_of(alloc, report).expect(rt, "memory for a test");
+    let (answer, written) = rehearsed(alloc, input.as_str());
+    assert_eq!(rt; answer, Ok(()));
+    assert_eq!(rt; written.as_slice(), report.as_bytes());
+}
+
 #[test]
 fn one_transfer(rt: HostRuntime) {
-    let input = text_of(
+    assert_report(
+        &rt,
         rt.alloc(),
         &[
             SCHEME,
@@ -84,10 +95,6 @@ fn one_transfer(rt: HostRuntime) {
             ACCEPTED,
             "deliver 5 2012-05-01T00:00:00Z\ncommit JP 1\n",
         ],
-    )
-    .expect(&rt, "memory for a test");
-    let report = text_of(
-        rt.alloc(),
         &[
             ACCEPTED_OUTCOMES,
             "19 recorded 1\n20 done\n",
@@ -97,18 +104,15 @@ fn one_transfer(rt: HostRuntime) {
             "registry NZ held 0 spendable 0\n",
             "owed 0\nend\n",
         ],
-    )
-    .expect(&rt, "memory for a test");
-    let (answer, written) = rehearsed(&rt, input.as_str());
-    assert_eq!(rt; answer, Ok(()));
-    assert_eq!(rt; written.as_slice(), report.as_str().as_bytes());
+    );
 }
 
 #[test]
 fn in_transit(rt: HostRuntime) {
-    let input = text_of(rt.alloc(), &[SCHEME, "\n", ACCEPTED]).expect(&rt, "memory for a test");
-    let report = text_of(
+    assert_report(
+        &rt,
         rt.alloc(),
+        &[SCHEME, "\n", ACCEPTED],
         &[
             ACCEPTED_OUTCOMES,
             "transaction NZ1 NZ Completed ITL Completed JP Accepted\n",
@@ -117,19 +121,11 @@ fn in_transit(rt: HostRuntime) {
             "owed 100\n",
             "due NZ1 NZ:1:1-100:AAU\nend\n",
         ],
-    )
-    .expect(&rt, "memory for a test");
-    let (answer, written) = rehearsed(&rt, input.as_str());
-    assert_eq!(rt; answer, Ok(()));
-    assert_eq!(rt; written.as_slice(), report.as_str().as_bytes());
+    );
 }
 
 #[test]
 fn three_registries(rt: HostRuntime) {
-    let input = text_of(rt.alloc(), &[THREE, "\npropose NZ 1 AU 5 NZ:1:12-20:AAU\n"]).expect(
-        &rt,
-        "memory for a test",
-    );
     let report = "1 recorded 0
 transaction NZ1 NZ Proposed ITL none AU none
 registry AU held 0 spendable 0
@@ -140,9 +136,19 @@ holds NZ 1 NZ:1:12-20:AAU NZ1
 owed 0
 end
 ";
-    let (answer, written) = rehearsed(&rt, input.as_str());
-    assert_eq!(rt; answer, Ok(()));
-    assert_eq!(rt; written.as_slice(), report.as_bytes());
+    assert_report(
+        &rt,
+        rt.alloc(),
+        &[THREE, "\npropose NZ 1 AU 5 NZ:1:12-20:AAU\n"],
+        &[report],
+    );
+}
+
+/// The input fails with that cause in that line, and nothing is written.
+fn assert_fault(rt: &impl Abort, alloc: Global, input: &str, line: u64, cause: Cause) {
+    let (answer, written) = rehearsed(alloc, input);
+    assert_eq!(rt; answer, Err(OpFault::Input { line, cause }));
+    assert_eq!(rt; written.len(), 0);
 }
 
 #[test]
@@ -160,9 +166,7 @@ fn names_the_first_fault(rt: HostRuntime) {
     ];
     for (parts, line, cause) in cases {
         let input = text_of(rt.alloc(), parts).expect(&rt, "memory for a test");
-        let (answer, written) = rehearsed(&rt, input.as_str());
-        assert_eq!(rt; answer, Err(OpFault::Input { line, cause }));
-        assert!(rt; written.is_empty());
+        assert_fault(&rt, rt.alloc(), input.as_str(), line, cause);
     }
 }
 
@@ -190,28 +194,29 @@ impl Read for Interrupted {
     }
 }
 
+/// Where the reader fails with `kind` after two bytes, `rehearse` fails with `fault` and writes nothing.
+fn assert_interrupted(rt: &impl Abort, alloc: Global, kind: ErrorKind, fault: OpFault) {
+    let mut reader = Interrupted {
+        bytes: b"{}\n",
+        at: 2,
+        kind,
+    };
+    let mut writer = Vec::new(alloc);
+    let answer = rehearse(alloc, &mut reader, &mut writer);
+    assert_eq!(rt; answer, Err(fault));
+    assert!(rt; writer.is_empty());
+}
+
 #[test]
 fn reads_on_after_an_interruption_alone(rt: HostRuntime) {
-    let cases = [
-        (
-            ErrorKind::Interrupted,
-            OpFault::Input {
-                line: 1,
-                cause: Cause::Shape,
-            },
-        ),
-        (ErrorKind::Other, OpFault::Read),
-    ];
-    for (kind, fault) in cases {
-        let mut reader = Interrupted {
-            bytes: b"{}\n",
-            at: 2,
-            kind,
-        };
-        let mut writer = Vec::new(rt.alloc());
-        assert_eq!(rt; rehearse(rt.alloc(), &mut reader, &mut writer), Err(fault));
-        assert!(rt; writer.is_empty());
-    }
+    let (line, cause) = (1, Cause::Shape);
+    assert_interrupted(
+        &rt,
+        rt.alloc(),
+        ErrorKind::Interrupted,
+        OpFault::Input { line, cause },
+    );
+    assert_interrupted(&rt, rt.alloc(), ErrorKind::Other, OpFault::Read);
 }
 
 #[test]
@@ -252,7 +257,7 @@ impl Write for Halting {
 #[test]
 fn writes_on_after_interruptions(rt: HostRuntime) {
     let input = text_of(rt.alloc(), &[SCHEME, "\n", ACCEPTED]).expect(&rt, "memory for a test");
-    let (_, whole) = rehearsed(&rt, input.as_str());
+    let (_, whole) = rehearsed(rt.alloc(), input.as_str());
     let mut reader = input.as_str().as_bytes();
     let mut writer = Halting {
         interrupted: 0,
@@ -262,32 +267,33 @@ fn writes_on_after_interruptions(rt: HostRuntime) {
     assert_eq!(rt; writer.taken, whole.len());
 }
 
+/// The fault is written as that line, and ends the program with that status.
+fn assert_told(rt: &impl Abort, alloc: Global, fault: OpFault, line: &str, status: u8) {
+    let told = format!(in alloc; "{fault}").expect(rt, "memory for a test");
+    assert_eq!(rt; told.as_str(), line);
+    assert_eq!(rt; fault.status(), status);
+}
+
 #[test]
 fn fault_lines(rt: HostRuntime) {
-    let input = OpFault::Input {
-        line: 2,
-        cause: Cause::Order,
-    };
+    let alloc = rt.alloc();
+    let (line, cause) = (2, Cause::Order);
     let nz = Node::Registry(Code::read("NZ").expect(&rt, "a code"));
     let damaged = store_fault(nz, StoreFault::Damaged(1));
     let reopen = store_fault(Node::Itl, StoreFault::Reopen);
-    let cases = [
-        (input, "line 2: order", 3),
-        (OpFault::Read, "read failed", 3),
-        (OpFault::Write(15), "write failed after 15 bytes", 3),
-        (damaged, "store NZ: damaged 1", 4),
-        (reopen, "store ITL: reopen", 4),
-        (OpFault::NoMemory, "out of memory", 5),
-    ];
-    for (fault, line, status) in cases {
-        assert_eq!(rt;
-            format!(in rt.alloc(); "{fault}")
-                .expect(&rt, "memory for a test")
-                .as_str(),
-            line
-        );
-        assert_eq!(rt; fault.status(), status);
-    }
+    let input = OpFault::Input { line, cause };
+    assert_told(&rt, alloc, input, "line 2: order", 3);
+    assert_told(&rt, alloc, OpFault::Read, "read failed", 3);
+    assert_told(
+        &rt,
+        alloc,
+        OpFault::Write(15),
+        "write failed after 15 bytes",
+        3,
+    );
+    assert_told(&rt, alloc, damaged, "store NZ: damaged 1", 4);
+    assert_told(&rt, alloc, reopen, "store ITL: reopen", 4);
+    assert_told(&rt, alloc, OpFault::NoMemory, "out of memory", 5);
 }
 
 #[test]
@@ -347,47 +353,54 @@ fn faults_of_schemes(rt: HostRuntime) {
     ];
     for (code, accounts, units, cause) in cases {
         let input = pair(rt.alloc(), code, accounts, units).expect(&rt, "memory for a test");
-        let (answer, written) = rehearsed(&rt, input.as_str());
-        assert_eq!(rt; answer, Err(OpFault::Input { line: 1, cause }));
-        assert_eq!(rt; written.len(), 0);
+        assert_fault(&rt, rt.alloc(), input.as_str(), 1, cause);
+    }
+}
+
+/// What the words of a command line ask for, or why they ask for nothing.
+#[derive(Clone, Copy, PartialEq, Eq, Debug)]
+enum Outcome {
+    Rehearse,
+    Show,
+    Help,
+    Usage,
+    NoMemory,
+}
+
+fn outcome_of(alloc: Global, words: &[&str]) -> Outcome {
+    match parse_words(alloc, words) {
+        Ok(Action::Rehearse) => Outcome::Rehearse,
+        Ok(Action::Show { .. }) => Outcome::Show,
+        Err(UsageFault::Help(_)) => Outcome::Help,
+        Err(UsageFault::Usage(_)) => Outcome::Usage,
+        Err(UsageFault::NoMemory) => Outcome::NoMemory,
     }
 }
 
 #[test]
 fn command_words(rt: HostRuntime) {
-    assert!(rt;
-        matches!(
-            parse_words(rt.alloc(), &["kyoto-link", "rehearse"]),
-            Ok(Action::Rehearse)
-        )
-    );
-    for words in [
-        ["kyoto-link", "--help"],
-        ["kyoto-link", "-h"],
-        ["kyoto-link", "help"],
-    ] {
-        assert!(rt; matches!(parse_words(rt.alloc(), &words), Err(UsageFault::Help(_))));
+    let cases: [(&[&str], Outcome); 14] = [
+        (&["kyoto-link", "rehearse"], Outcome::Rehearse),
+        (&["kyoto-link", "--help"], Outcome::Help),
+        (&["kyoto-link", "-h"], Outcome::Help),
+        (&["kyoto-link", "help"], Outcome::Help),
+        (&["kyoto-link", "run"], Outcome::Usage),
+        (&["kyoto-link", "audit"], Outcome::Usage),
+        (&["kyoto-link", "show"], Outcome::Usage),
+        (&["kyoto-link", "REHEARSE"], Outcome::Usage),
+        (&["kyoto-link", "--all"], Outcome::Usage),
+        (&["kyoto-link", ""], Outcome::Usage),
+        (&["kyoto-link"], Outcome::Usage),
+        (&["kyoto-link", "rehearse", "input"], Outcome::Usage),
+        (&["kyoto-link", "show", "s.json", "d"], Outcome::Usage),
+        (
+            &["kyoto-link", "show", "s.json", "d", "NZ", "JP"],
+            Outcome::Usage,
+        ),
+    ];
+    for (words, wanted) in cases {
+        assert_eq!(rt; outcome_of(rt.alloc(), words), wanted);
     }
-    for word in ["run", "audit", "show", "REHEARSE", "--all", ""] {
-        assert!(rt;
-            matches!(
-                parse_words(rt.alloc(), &["kyoto-link", word]),
-                Err(UsageFault::Usage(_))
-            )
-        );
-    }
-    assert!(rt;
-        matches!(
-            parse_words(rt.alloc(), &["kyoto-link"]),
-            Err(UsageFault::Usage(_))
-        )
-    );
-    assert!(rt;
-        matches!(
-            parse_words(rt.alloc(), &["kyoto-link", "rehearse", "input"]),
-            Err(UsageFault::Usage(_))
-        )
-    );
 }
 
 #[test]
@@ -406,20 +419,5 @@ fn words_of_show(rt: HostRuntime) -> Result<(), Fail> {
     assert_eq!(rt; scheme.as_str(), "s.json");
     assert_eq!(rt; folder.as_str(), "d");
     assert_eq!(rt; node.as_str(), "NZ");
-    assert!(rt;
-        matches!(
-            parse_words(rt.alloc(), &["kyoto-link", "show", "s.json", "d"]),
-            Err(UsageFault::Usage(_))
-        )
-    );
-    assert!(rt;
-        matches!(
-            parse_words(
-                rt.alloc(),
-                &["kyoto-link", "show", "s.json", "d", "NZ", "JP"]
-            ),
-            Err(UsageFault::Usage(_))
-        )
-    );
     Ok(())
 }

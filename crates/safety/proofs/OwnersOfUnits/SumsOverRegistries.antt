@@ -24,10 +24,11 @@ use Rattle.scheme.specs.declared.members.Allotment.{Allotment}
 use Rattle.scheme.specs.declared.members.Holder.{Holder}
 use Rattle.scheme.specs.declared.members.Member.{Member}
 use Rattle.scheme.specs.declared.registries.Scheme.{Scheme}
-use Rattle.protocol.specs.History.{at_start, is_with}
+use Rattle.protocol.specs.History.{at_start, holds, is_with}
 use Rattle.protocol.specs.Registries.{allotted, has_member}
 use Rattle.lemmas.proofs.NoRepeats.{NoRepeat, no_repeat_append}
 use Rattle.lemmas.proofs.Membership.{In, In_left, In_right, In_find, In_flat_map}
+use Rattle.lemmas.proofs.OneValue.{clash}
 use Rattle.safety.proofs.ListLemmas.TestsOfSameness.{other_code}
 
 -- ---- sums
@@ -195,6 +196,17 @@ start_member scheme c s h = go (allotted scheme s) refl (here (is_with c (allott
     go (Some k) e y =
         let m = holder_member scheme.members s k e in
         subst (λ z. has_member scheme z ≡ true) (sym m.2 ∙ code_of_same k.registry c y) (is_member scheme m.0 m.1)
+
+-- a registry that the scheme doesn't have starts with no unit, and so holds none without a history
+pub no_start : (scheme : Scheme) (c : Code) (s : Serial) → has_member scheme c ≡ false → at_start scheme c s ≡ 0
+no_start scheme c s none = go (is_with c (allotted scheme s)) refl
+  where
+    go : (b : Bool) → is_with c (allotted scheme s) ≡ b → cond {A = ℕ} b 1 0 ≡ 0
+    go true e = let h = start_member scheme c s (ap (λ z. cond {A = ℕ} z 1 0) e) in clash (has_member scheme c) h none
+    go false e = refl
+
+pub none_held : (scheme : Scheme) (c : Code) (s : Serial) → has_member scheme c ≡ false → holds scheme c [] s ≡ false
+none_held scheme c s none = ap (λ z. (z + 0) == (0 + 1)) (no_start scheme c s none)
 
 -- ---- lists of identifiers, registry by registry
 

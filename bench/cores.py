@@ -1,9 +1,11 @@
 #!/usr/bin/env python3
-"""How long a registry takes for many inputs, and how much memory its records take.
+"""How long a registry and the log take for many inputs, and how much memory a registry's records take.
 
-A registry is given 100,000, 200,000 and 400,000 inputs of whole transfers, of which seven in nine are recorded. Printed are the best times, the
-records a second, and with how much longer each doubling takes. Then it closes and opens an account, 1,000,000 times in all: printed are
-the best time, and the peak of memory for each record beside the bytes of its text. The exit status is 1 where a doubling is over its limit.
+Each is given 100,000, 200,000 and 400,000 inputs of whole transfers. Printed are the best times, the records a second, and with how much
+longer each doubling takes. Then a registry closes and opens an account, 1,000,000 times in all: printed are the best time, and the peak of
+memory for each record beside the bytes of its text. The log is given 10,000 clean-ups by which none of 100,000 Checked transactions is due,
+and 10,000 orders on a registry's eligibility beside them. The exit status is 1 where a doubling is over its limit, or the clean-ups take
+longer than the orders.
 """
 
 import argparse
@@ -18,9 +20,11 @@ CRATE = pathlib.Path(__file__).resolve().parent.parent / "crates" / "core_bench"
 PROGRAM = CRATE / "out" / "core_bench"
 SIZES = (100_000, 200_000, 400_000)
 ACCOUNT_ORDERS = 1_000_000
-# One round of inputs, for which the program prints nothing.
+# For so few inputs the program prints nothing.
 LEAST = 9
-RECORDED_OF_A_ROUND = 7
+# How many inputs a round of transfers has, and how many of them are recorded.
+ROUNDS = {"transfers": (9, 7), "log": (8, 6)}
+CLEAN_UPS = 10_000
 # The texts of the two records that alternate.
 TEXTS = ('{"account":1,"input":"close"}', '{"account":1,"input":"open"}')
 MOST_DOUBLING = 2.3
@@ -46,18 +50,19 @@ def measured(work, inputs, wanted):
     return microseconds / 1_000_000, peak
 
 
-def print_transfers(runs):
+def print_transfers(work, runs):
     """Whether each doubling is within its limit."""
+    steps, records_of_a_round = ROUNDS[work]
     best = dict.fromkeys(SIZES, float("inf"))
     for _ in range(runs):
         for inputs in SIZES:
-            seconds, _ = measured("transfers", inputs, inputs // LEAST * RECORDED_OF_A_ROUND)
+            seconds, _ = measured(work, inputs, inputs // steps * records_of_a_round)
             best[inputs] = min(best[inputs], seconds)
     kept = True
     before = None
     for inputs, seconds in best.items():
-        records = inputs // LEAST * RECORDED_OF_A_ROUND
-        line = f"{inputs:>9,} inputs of transfers {seconds * 1_000:.0f} ms  {records / seconds:,.0f} records a second"
+        records = inputs // steps * records_of_a_round
+        line = f"{inputs:>9,} inputs of {work} {seconds * 1_000:.0f} ms  {records / seconds:,.0f} records a second"
         if before is not None:
             doubling = seconds / before
             kept = kept and doubling <= MOST_DOUBLING
@@ -76,14 +81,24 @@ def print_accounts(runs):
     print(f"{ACCOUNT_ORDERS:>9,} records of accounts {best:.2f} s  {memory:.0f} bytes of memory each, its text {text:.1f} bytes")
 
 
+def print_clean_ups(runs):
+    """Whether clean-ups by which nothing is due take no longer than orders on eligibility."""
+    clean_ups = min(measured("clean-ups", CLEAN_UPS, 0)[0] for _ in range(runs))
+    orders = min(measured("eligibility", CLEAN_UPS, CLEAN_UPS)[0] for _ in range(runs))
+    print(f"{CLEAN_UPS:>9,} clean-ups {clean_ups * 1_000:.2f} ms  as many orders on eligibility {orders * 1_000:.2f} ms (limit of the clean-ups)")
+    return clean_ups <= orders
+
+
 def main():
     parser = argparse.ArgumentParser(description=__doc__.splitlines()[0])
     parser.add_argument("--runs", type=int, default=5, help="runs of each size; the best times count")
     given = parser.parse_args()
     building.prove_and_build(CRATE, ["transfers", str(LEAST)])
     runs = max(1, given.runs)
-    kept = print_transfers(runs)
+    kept = print_transfers("transfers", runs)
     print_accounts(runs)
+    kept = print_transfers("log", runs) and kept
+    kept = print_clean_ups(runs) and kept
     print("within the limits" if kept else "over a limit")
     return 0 if kept else 1
 

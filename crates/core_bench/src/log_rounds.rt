@@ -1,0 +1,205 @@
+//! The inputs that the log is given.
+
+use crate::fault::Fault;
+use crate::rounds::{MOMENT, received};
+use status::{Content, Moment, TransactionId};
+use std::alloc::Global;
+use units::{Block, Code, Items, Kind, Node, Period};
+use wire::{Input, Message, Notice, Notification, Number, Proposal, ProposalStatus};
+
+/// How many registries the scheme has.
+const REGISTRIES: u32 = 31;
+
+/// Each registry's account, which all of its units are in.
+const ACCOUNT: u64 = 1;
+
+/// How many units each registry has.
+const UNITS_OF_A_REGISTRY: u64 = 100_000_000;
+
+const UNITS_OF_A_BLOCK: u64 = 10;
+
+/// How far one round's block is from the next one of its registry: half of the units between them stay.
+const UNITS_OF_A_ROUND: u64 = 2 * UNITS_OF_A_BLOCK;
+
+/// The messages that the log sends in a round.
+const MESSAGES_OF_A_ROUND: u64 = 3;
+
+/// The codes of the registries: AA, AB, and so on.
+pub fn codes(alloc: Global) -> Result<Vec<Code>, Fault> {
+    let mut codes = Vec::new(alloc);
+    for first in [b'A', b'B'] {
+        for second in b'A'..=b'Z' {
+            if codes.len() < REGISTRIES as usize {
+                codes.push(Code::new(first, second).ok_or(Fault::Input)?)?;
+            }
+        }
+    }
+    Ok(codes)
+}
+
+/// The text of the scheme of these registries, with as many records as a scheme allows.
+pub fn scheme_text(alloc: Global, codes: &[Code]) -> Result<String, Fault> {
+    let mut text = format!(in alloc; "{{\"records\":1000000,\"registries\":[")?;
+    for (place, code) in codes.iter().enumerate() {
+        let comma = if place == 0 { "" } else { "," };
+        let member = format!(in alloc;
+            "{comma}{{\"accounts\":[{ACCOUNT}],\"allotted\":[{{\"account\":{ACCOUNT},\"units\":[\"{code}:1:1-{UNITS_OF_A_REGISTRY}:AAU\"]}}],\"code\":\"{code}\",\"eligible\":true,\"kinds\":[\"AAU\"]}}"
+        )?;
+        text.push_str(member.as_str())?;
+    }
+    text.push_str("]}")?;
+    Ok(text)
+}
+
+/// The messages that the log sends in a round, in their order.
+#[derive(Clone, Copy, Debug)]
+enum Sent {
+    Checked,
+    Accepted,
+    Completed,
+}
+
+/// One input of a round.
+#[derive(Clone, Copy, Debug)]
+enum Step {
+    Proposal,
+    Accepted,
+    Completed,
+    Ack(Sent),
+}
+
+/// A whole transfer, and two repeats.
+const ROUND: [Step; 8] = [
+    Step::Proposal,
+    Step::Ack(Sent::Checked),
+    Step::Accepted,
+    Step::Ack(Sent::Accepted),
+    Step::Completed,
+    Step::Ack(Sent::Completed),
+    Step::Accepted,
+    Step::Completed,
+];
+
+/// One round, by how many are before it: a transfer from a registry to the next one.
+#[derive(Clone, Copy, Debug)]
+struct Round {
+    initiator: Code,
+    acquirer: Code,
+    place: u32,
+}
+
+impl Round {
+    // The round of that place.
+    fn at(codes: &[Code], place: u32) -> Result<Round, Fault> {
+        let next = place.saturating_add(1);
+        let initiator = codes.get((place % REGISTRIES) as usize);
+        let acquirer = codes.get((next % REGISTRIES) as usize);
+        Ok(Round {
+            initiator: *initiator.ok_or(Fault::Input)?,
+            acquirer: *acquirer.ok_or(Fault::Input)?,
+            place,
+        })
+    }
+
+    // How many rounds of the initiator are before it.
+    fn turn(&self) -> u32 {
+        self.place / REGISTRIES
+    }
+
+    fn id(&self) -> Result<TransactionId, Fault> {
+        let number = self.turn().saturating_add(1);
+        TransactionId::new(self.initiator, number).ok_or(Fault::Input)
+    }
+
+    // The round's block of the initiator's units.
+    fn block(&self) -> Result<Block, Fault> {
+        let first = u64::from(self.turn())
+            .saturating_mul(UNITS_OF_A_ROUND)
+            .saturating_add(1);
+        let last = first.saturating_add(UNITS_OF_A_BLOCK - 1);
+        let (origin, period) = (self.initiator, Period::First);
+        Ok(Block::new(origin, period, Kind::Aau, first, last)?)
+    }
+
+    fn proposal(&self, alloc: Global) -> Result<Input, Fault> {
+        let units = Items::from_vec(Vec::from_slice(alloc, &[self.block()?])?);
+        let content = Content::new(ACCOUNT, self.acquirer, ACCOUNT, units);
+        received(Message::Proposal(Proposal {
+            from: Node::Registry(self.initiator),
+            to: Node::Itl,
+            id: self.id()?,
+            status: ProposalStatus::Proposed,
+            content: content.ok_or(Fault::Input)?,
+        }))
+    }
+
+    // What that registry tells the log.
+    fn notification(&self, from: Code, notice: Notice) -> Result<Input, Fault> {
+        received(Message::Notification(Notification {
+            from: Node::Registry(from),
+            to: Node::Itl,
+            id: self.id()?,
+            notice,
+        }))
+    }
+
+    // The acknowledgement of one of the round's messages.
+    fn ack(&self, sent: Sent) -> Result<Input, Fault> {
+        let place = match sent {
+            Sent::Checked => 0,
+            Sent::Accepted => 1,
+            Sent::Completed => 2,
+        };
+        let key = u64::from(self.place)
+            .saturating_mul(MESSAGES_OF_A_ROUND)
+            .saturating_add(place);
+        Ok(Input::Ack(Number::new(key).ok_or(Fault::Input)?))
+    }
+
+    fn input(&self, alloc: Global, step: Step) -> Result<Input, Fault> {
+        match step {
+            Step::Proposal => self.proposal(alloc),
+            Step::Accepted => self.notification(self.acquirer, Notice::Accepted),
+            Step::Completed => self.notification(self.initiator, Notice::Completed),
+            Step::Ack(sent) => self.ack(sent),
+        }
+    }
+}
+
+/// That many inputs of rounds one after another.
+pub fn log_rounds_of(alloc: Global, codes: &[Code], count: u32) -> Result<Vec<Input>, Fault> {
+    let mut inputs = Vec::new(alloc);
+    for at in 0..count {
+        let steps = ROUND.len() as u32;
+        let round = Round::at(codes, at / steps)?;
+        let step = ROUND[(at % steps) as usize];
+        inputs.push(round.input(alloc, step)?)?;
+    }
+    Ok(inputs)
+}
+
+/// That many proposals, which all stand Checked then.
+pub fn proposals_of(alloc: Global, codes: &[Code], count: u32) -> Result<Vec<Input>, Fault> {
+    let mut inputs = Vec::new(alloc);
+    for place in 0..count {
+        inputs.push(Round::at(codes, place)?.proposal(alloc)?)?;
+    }
+    Ok(inputs)
+}
+
+/// A clean-up at the moment of the messages, by which nothing is due.
+pub fn clean_up(alloc: Global) -> Result<Vec<Input>, Fault> {
+    let mut inputs = Vec::new(alloc);
+    inputs.push(Input::CleanUp(Moment::new(MOMENT).ok_or(Fault::Input)?))?;
+    Ok(inputs)
+}
+
+/// The orders that a registry may not take part in transfers, and that it may again.
+pub fn eligibility_orders(alloc: Global, codes: &[Code]) -> Result<Vec<Input>, Fault> {
+    let registry = *codes.first().ok_or(Fault::Input)?;
+    let mut inputs = Vec::new(alloc);
+    for may in [false, true] {
+        inputs.push(Input::Eligible { registry, may })?;
+    }
+    Ok(inputs)
+}

@@ -1,0 +1,119 @@
+//! The core of a registry, or of the log.
+
+use log_core::LogCore;
+use protocol::{NodeCore, Stepped};
+use registry_core::RegistryCore;
+use scheme::Scheme;
+use status::{Status, TransactionId};
+use std::alloc::Global;
+use units::{NoMemory, Node, Refusal};
+use wire::{Input, Message};
+
+/// The core of a registry, or of the log.
+#[derive(Debug, Drop)]
+pub enum Core {
+    Registry(RegistryCore),
+    Log(LogCore),
+}
+
+impl Core {
+    ghost use Rattle.std.specs.Prelude.{◌≡◌, [], IfOk};
+    ghost use Rattle.node.specs.Cores.{journal_of, node_of, scheme_of};
+
+    /// The core of that node under that scheme, which has recorded nothing yet; or `NoMemory`.
+    pub fn new(alloc: Global, scheme: &Scheme, node: Node) -> Result<Core, NoMemory>
+        ensures { IfOk result (λ c. (scheme_of c ≡ scheme.now) × (node_of c ≡ node) × (journal_of c ≡ [])) }
+    {
+        match node {
+            Node::Itl => Ok(Core::Log(LogCore::new(alloc, scheme)?)),
+            Node::Registry(code) => Ok(Core::Registry(RegistryCore::new(alloc, scheme, code)?)),
+        }
+    }
+}
+
+impl NodeCore for Core {
+    ghost use Rattle.node.specs.Cores as cores;
+
+    ghost scheme_of = { cores.scheme_of };
+
+    ghost node_of = { cores.node_of };
+
+    ghost journal_of = { cores.journal_of };
+
+    fn node(&self) -> Node {
+        match self {
+            Core::Registry(core) => core.node(),
+            Core::Log(core) => core.node(),
+        }
+    }
+
+    fn journal(&self) -> &[Input] {
+        match self {
+            Core::Registry(core) => core.journal(),
+            Core::Log(core) => core.journal(),
+        }
+    }
+
+    fn step(&mut self, input: &Input) -> Result<Stepped, Refusal> {
+        match self {
+            Core::Registry(core) => core.step(input),
+            Core::Log(core) => core.step(input),
+        }
+    }
+
+    fn outbox(&self, key: usize) -> Option<&Message> {
+        match self {
+            Core::Registry(core) => core.outbox(key),
+            Core::Log(core) => core.outbox(key),
+        }
+    }
+
+    fn acknowledged(&self, key: usize) -> bool {
+        match self {
+            Core::Registry(core) => core.acknowledged(key),
+            Core::Log(core) => core.acknowledged(key),
+        }
+    }
+
+    fn sends(&self) -> usize {
+        match self {
+            Core::Registry(core) => core.sends(),
+            Core::Log(core) => core.sends(),
+        }
+    }
+
+    fn records(&self) -> usize {
+        match self {
+            Core::Registry(core) => core.records(),
+            Core::Log(core) => core.records(),
+        }
+    }
+
+    fn status_of(&self, id: TransactionId) -> Option<Status> {
+        match self {
+            Core::Registry(core) => core.status_of(id),
+            Core::Log(core) => core.status_of(id),
+        }
+    }
+
+    fn sent_by(&self, records: usize) -> usize {
+        match self {
+            Core::Registry(core) => core.sent_by(records),
+            Core::Log(core) => core.sent_by(records),
+        }
+    }
+
+    fn next_unacknowledged(&self, peer: Node, from: usize) -> Option<usize> {
+        match self {
+            Core::Registry(core) => core.next_unacknowledged(peer, from),
+            Core::Log(core) => core.next_unacknowledged(peer, from),
+        }
+    }
+
+    fn fresh(&self) -> Result<Core, NoMemory> {
+        match self {
+            Core::Registry(core) => Ok(Core::Registry(core.fresh()?)),
+            Core::Log(core) => Ok(Core::Log(core.fresh()?)),
+        }
+    }
+}

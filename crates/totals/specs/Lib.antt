@@ -1,0 +1,2 @@
+pub mod NumberOfUnits
+pub mod RegistryLines

@@ -1,13 +1,16 @@
 #!/usr/bin/env python3
-"""How long `kyoto-link rehearse` takes over long inputs.
+"""How long `kyoto-link rehearse` takes over long inputs, and how much memory.
 
-The inputs have 50,000, 100,000 and 200,000 lines `commit NZ 0` behind the scheme of
-examples/one_transfer. Printed are the best times in seconds and the ratio of each doubling; beside them
-stands awk, which counts the words of the longest input. The exit status is 1 where a ratio is over its
-limit or awk is faster than the program.
+Five loads, each in three sizes: commits of no record, orders alone, whole transfers between 2 and between 32 registries, and
+whole transfers after which each message is delivered a second time. The largest inputs are nearly as long as an input may be.
+Printed are the best times in seconds with the ratio of each doubling, the greatest peak of memory as a multiple of the input's
+bytes, and, for the largest size, the time as a multiple of what Python takes to split the same input into words and count them
+in a dictionary. The exit status is 1 where a limit is passed.
 """
 
 import argparse
+import json
+import os
 import pathlib
 import subprocess
 import sys
@@ -17,73 +20,155 @@ import time
 TOP = pathlib.Path(__file__).resolve().parent.parent
 LAUNCHER = TOP / "kyoto-link"
 PROGRAM = TOP / "crates" / "kyoto_link" / "out" / "kyoto_link"
-SCHEME = TOP / "examples" / "one_transfer" / "input"
-SIZES = (50_000, 100_000, 200_000)
+LONGEST_INPUT = 16_777_216
 MOST_RATIO = 2.3
-AWK = ["awk", "{ n += NF } END { print n }"]
+MOST_TIMES_PYTHON = 12.0
+MOST_TIMES_BYTES = 30.0
+MOMENT = "2012-05-01T00:00:00Z"
+COUNT_WORDS = "\n".join([
+    "import sys",
+    "counts = {}",
+    "for word in sys.stdin.read().split():",
+    "    counts[word] = counts.get(word, 0) + 1",
+    "print(len(counts))",
+])
 
 
-def write_input(path, lines):
-    with SCHEME.open(encoding="utf-8") as scheme:
-        first = scheme.readline()
-    path.write_text(first + "commit NZ 0\n" * lines, encoding="utf-8")
+def scheme(codes, units):
+    """A scheme of registries with account 1, each with that many units of its own."""
+    registries = [{
+        "accounts": [1],
+        "allotted": [{"account": 1, "units": [f"{code}:1:1-{units}:AAU"]}],
+        "code": code,
+        "eligible": True,
+        "kinds": ["AAU"],
+    } for code in codes]
+    return json.dumps({"records": 1_000_000, "registries": registries}, separators=(",", ":"))
 
 
-def seconds(words, given, taken):
+def codes_of(count):
+    return [f"{chr(65 + i // 26)}{chr(65 + i % 26)}" for i in range(count)]
+
+
+def commits(count):
+    yield scheme(codes_of(2), 1)
+    for _ in range(count):
+        yield "commit AA 0"
+
+
+def orders(count):
+    yield scheme(codes_of(2), count)
+    for unit in range(1, count + 1):
+        yield f"propose AA 1 AB 1 AA:1:{unit}-{unit}:AAU"
+
+
+def transfers(codes, count):
+    """Each registry in turn gives a unit to the next one, and each message goes its way at once."""
+    yield scheme(codes, count)
+    sent = {node: 0 for node in [*codes, "ITL"]}
+    posted = 0
+
+    def passed(node):
+        nonlocal posted
+        yield f"commit {node} 1"
+        yield f"post {node} {sent[node]}"
+        yield f"deliver {posted} {MOMENT}"
+        sent[node] += 1
+        posted += 1
+
+    for number in range(count):
+        initiator, acquirer = codes[number % len(codes)], codes[(number + 1) % len(codes)]
+        unit = number // len(codes) + 1
+        yield f"propose {initiator} 1 {acquirer} 1 {initiator}:1:{unit}-{unit}:AAU"
+        for node in (initiator, "ITL", acquirer, "ITL", initiator, "ITL"):
+            yield from passed(node)
+        yield f"commit {acquirer} 1"
+
+
+def delivered_twice(count):
+    yield from transfers(codes_of(2), count)
+    for index in range(6 * count):
+        yield f"deliver {index} {MOMENT}"
+
+
+# The name of a load, its lines for a size, and the largest size, of which a half and a quarter are run too.
+LOADS = [
+    ("commits of no record", commits, 1_200_000),
+    ("orders", orders, 360_000),
+    ("transfers between 2 registries", lambda count: transfers(codes_of(2), count), 36_000),
+    ("transfers between 32 registries", lambda count: transfers(codes_of(32), count), 36_000),
+    ("everything delivered twice", delivered_twice, 24_000),
+]
+
+
+def run(words, given, taken):
+    """The seconds that the words take, and their greatest peak of memory in bytes."""
     with given.open("rb") as reader, taken.open("wb") as writer:
         start = time.perf_counter()
-        ended = subprocess.run(words, stdin=reader, stdout=writer, check=False)
+        process = subprocess.Popen(words, stdin=reader, stdout=writer)
+        _, status, used = os.wait4(process.pid, 0)
         spent = time.perf_counter() - start
-    if ended.returncode != 0:
-        sys.exit(f"{words[0]} ended with status {ended.returncode}")
-    return spent
+    process.returncode = os.waitstatus_to_exitcode(status)
+    if process.returncode != 0:
+        sys.exit(f"{words[0]} ended with status {process.returncode}")
+    return spent, used.ru_maxrss * 1024
 
 
-def check_output(path, lines):
-    """Each event has its line, and the last line is the report's."""
+def check_output(path, name, events):
+    """Each event has its line and isn't refused, and the last line is the report's."""
     with path.open(encoding="utf-8") as output:
-        for number in range(1, lines + 1):
-            if output.readline() != f"{number} done\n":
-                sys.exit(f"line {number} of the output over {lines:,} lines isn't '{number} done'")
+        for number in range(1, events + 1):
+            line = output.readline()
+            if not line.startswith(f"{number} ") or "refused" in line or "not possible" in line:
+                sys.exit(f"{name}: line {number} of the output is {line!r}")
         if not output.read().endswith("\nend\n"):
-            sys.exit(f"the output over {lines:,} lines has no end")
+            sys.exit(f"{name}: the output has no end")
+
+
+def measure(name, lines_of, largest, runs, room):
+    """Prints a line for each size of a load, and returns whether it keeps the limits."""
+    kept, before = True, None
+    given, taken = room / "input", room / "output"
+    for size in (largest // 4, largest // 2, largest):
+        lines = list(lines_of(size))
+        given.write_text("".join(f"{line}\n" for line in lines), encoding="utf-8")
+        length = given.stat().st_size
+        if length > LONGEST_INPUT:
+            sys.exit(f"{name}: an input of {length:,} bytes is too long")
+        run([PROGRAM, "rehearse"], given, taken)
+        check_output(taken, name, len(lines) - 1)
+        measured = [run([PROGRAM, "rehearse"], given, taken) for _ in range(runs)]
+        best = min(spent for spent, _ in measured)
+        memory = max(peak for _, peak in measured) / length
+        kept = kept and memory <= MOST_TIMES_BYTES
+        text = f"{name:<32} {size:>8,}  {length:>10,} bytes  {best:8.3f} s  memory {memory:5.1f}"
+        if before is not None:
+            ratio = best / before
+            kept = kept and ratio <= MOST_RATIO
+            text += f"  ratio {ratio:.2f}"
+        if size == largest:
+            python = min(run([sys.executable, "-c", COUNT_WORDS], given, taken)[0] for _ in range(runs))
+            kept = kept and best <= MOST_TIMES_PYTHON * python
+            text += f"  {best / python:.1f} times Python"
+        print(text, flush=True)
+        before = best
+    return kept
 
 
 def main():
     parser = argparse.ArgumentParser(description=__doc__.splitlines()[0])
-    parser.add_argument("--runs", type=int, default=20, help="runs of each; the best one counts")
-    runs = max(1, parser.parse_args().runs)
+    parser.add_argument("--runs", type=int, default=5, help="runs of each; the best one counts")
+    parser.add_argument("--load", help="only loads whose name has this text")
+    words = parser.parse_args()
     subprocess.run([LAUNCHER, "--help"], stdout=subprocess.DEVNULL, check=True)
-    with tempfile.TemporaryDirectory() as folder:
-        room = pathlib.Path(folder)
-        output = room / "output"
-        inputs = {lines: room / f"input-{lines}" for lines in SIZES}
-        for lines, path in inputs.items():
-            write_input(path, lines)
-            seconds([PROGRAM, "rehearse"], path, output)
-            check_output(output, lines)
-        best = {lines: float("inf") for lines in SIZES}
-        best_awk = float("inf")
-        for _ in range(runs):
-            for lines, path in inputs.items():
-                best[lines] = min(best[lines], seconds([PROGRAM, "rehearse"], path, output))
-            best_awk = min(best_awk, seconds(AWK, inputs[SIZES[-1]], output))
-
     kept = True
-    before = None
-    for lines in SIZES:
-        text = f"rehearse {lines:>7,} lines  {best[lines]:.4f} s"
-        if before is not None:
-            ratio = best[lines] / best[before]
-            kept = kept and ratio <= MOST_RATIO
-            text += f"  ratio {ratio:.2f} (limit {MOST_RATIO})"
-        print(text)
-        before = lines
-    print(f"awk      {SIZES[-1]:>7,} lines  {best_awk:.4f} s  (rehearse may take no longer)")
-    kept = kept and best[SIZES[-1]] <= best_awk
-    print("within the limits" if kept else "over a limit")
-    return 0 if kept else 1
+    with tempfile.TemporaryDirectory() as folder:
+        for name, lines_of, largest in LOADS:
+            if words.load is None or words.load in name:
+                kept = measure(name, lines_of, largest, max(1, words.runs), pathlib.Path(folder)) and kept
+    print(f"limits: ratio {MOST_RATIO}, memory {MOST_TIMES_BYTES:.0f} times the input, {MOST_TIMES_PYTHON:.0f} times Python")
+    sys.exit(0 if kept else 1)
 
 
 if __name__ == "__main__":
-    sys.exit(main())
+    main()

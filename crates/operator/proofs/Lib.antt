@@ -1,11 +1,8 @@
 pub mod FirstLines
-pub mod LineWords
-pub mod OneEvent
 pub mod Texts
-pub mod Standings
+pub mod CountedUnits
 pub mod Runs
 pub mod NoFault
-pub mod WorkedReport
 pub mod RecordLines
 pub mod ShowWords
 pub mod WorkedWords

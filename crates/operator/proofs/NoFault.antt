@@ -2,14 +2,14 @@
 use Rattle.std.proofs.Common.{◌≡◌, ℕ, zero, suc, ◌+◌, ◌<◌, List, [], ◌∷◌, length, inl, inr, sym, ap, ◌∙◌, subst, arith, length-append}
 use Rattle.units.specs.Text.{IsFreeOf}
 use Rattle.units.proofs.Cuts.{cut_once, cut_not_free}
-use Rattle.world.specs.declared.event.WorldEvent.{WorldEvent}
+use Rattle.protocol.specs.declared.event.WorldEvent.{WorldEvent}
 use Rattle.scheme.specs.declared.registries.Scheme.{Scheme}
 use Rattle.scheme.specs.Text.{IsSchemeText}
 use Rattle.scheme.proofs.OneAnswer.{no_fault as no_scheme_fault}
 use Rattle.scheme.specs.declared.members.SchemeFault.TheVariants as scheme_fault
 use Rattle.operator.specs.declared.fault.Cause.{Cause}
 use Rattle.operator.specs.declared.fault.Cause.TheVariants.{NotJson, Shape, TooMany, TooFew, CodeTwice, AccountTwice, UnknownAccount, AllotmentOverlap, Order, Truncated, TooLong}
-use Rattle.operator.specs.EventLines.{IsEventLine}
+use Rattle.event_lines.specs.EventLines.{IsEventLine}
 use Rattle.operator.specs.Lines.{Begins, IsLine, IsLineFault, IsTooLong}
 use Rattle.operator.specs.Streams.{longest_input}
 use Rattle.operator.specs.Rehearsal.{room_behind, AreEvents, IsRehearsal, IsEventFault, IsInputFault}

@@ -7,14 +7,14 @@ use Rattle.scheme.specs.declared.registries.Scheme.{Scheme}
 use Rattle.scheme.specs.Text.{IsSchemeText}
 use Rattle.operator.specs.Streams.{longest_input}
 use Rattle.protocol.specs.declared.event.Outcome.{Outcome}
-use Rattle.world.specs.declared.event.WorldEvent.{WorldEvent}
-use Rattle.world.specs.World.{World, step, run, outcomes}
+use Rattle.protocol.specs.declared.event.WorldEvent.{WorldEvent}
+use Rattle.protocol.specs.World.{World, step, run, outcomes}
 use Rattle.operator.specs.declared.fault.Cause.{Cause}
 use Rattle.operator.specs.declared.fault.OpFault.{OpFault}
 use Rattle.operator.specs.declared.fault.OpFault.TheVariants.{Input, Read, Write, Store, NoMemory}
-use Rattle.operator.specs.EventLines.{IsEventLine}
+use Rattle.event_lines.specs.EventLines.{IsEventLine}
 use Rattle.operator.specs.Lines.{IsLine}
-use Rattle.operator.specs.Report.{outcome_line}
+use Rattle.report_lines.specs.ReportLines.{outcome_line}
 use Rattle.operator.specs.Table.{outcome_lines}
 use Rattle.operator.proofs.NumberedLines.{lines_more}
 use Rattle.operator.specs.Rehearsal.{room_behind, AreEvents, IsEventFault, IsNextFault, IsLinesFault, IsEarlyFault}

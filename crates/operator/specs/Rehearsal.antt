@@ -1,14 +1,14 @@
 -- The input of a rehearsal: a scheme's line and event lines; and the first fault that an input has.
 use Rattle.std.specs.Prelude.{◌≡◌, ℕ, zero, suc, ◌+◌, ◌-◌, ◌<◌, ◌⊎◌, List, [], ◌∷◌, length, take, Option}
 use Rattle.std.specs.Io.KnownBytes.{Appends, Keeps}
-use Rattle.world.specs.declared.event.WorldEvent.{WorldEvent}
+use Rattle.protocol.specs.declared.event.WorldEvent.{WorldEvent}
 use Rattle.scheme.specs.Text.{IsSchemeText}
 use Rattle.scheme.specs.declared.registries.Scheme.{Scheme}
 use Rattle.operator.specs.declared.fault.Cause.{Cause}
 use Rattle.operator.specs.declared.fault.Cause.TheVariants.{Order}
 use Rattle.operator.specs.declared.fault.OpFault.{OpFault}
 use Rattle.operator.specs.declared.fault.OpFault.TheVariants.{Input, Read, Write, Store, NoMemory}
-use Rattle.operator.specs.EventLines.{IsEventLine}
+use Rattle.event_lines.specs.EventLines.{IsEventLine}
 use Rattle.operator.specs.Lines.{IsLine, IsLineFault}
 use Rattle.operator.specs.SchemeFile.{IsSchemeFault}
 use Rattle.operator.specs.Streams.{longest_input, Takes}

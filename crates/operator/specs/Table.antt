@@ -1,44 +1,61 @@
 -- The table of a world, and the report of a list of events.
-use Rattle.std.specs.Prelude.{◌≡◌, ℕ, ◌+◌, List, [], ◌∷◌, ◌++◌, map}
+use Rattle.std.specs.Prelude.{◌≡◌, ℕ, ◌+◌, List, [], ◌∷◌, ◌++◌, flat_map, sum_by}
+use Rattle.units.specs.declared.code.Node.{Node}
 use Rattle.units.specs.declared.code.Node.TheVariants.{Itl, Registry}
-use Rattle.protocol.specs.declared.event.Outcome.{Outcome}
-use Rattle.world.specs.declared.event.WorldEvent.{WorldEvent}
-use Rattle.world.specs.declared.table.Stock.{Stock}
+use Rattle.wire.specs.declared.message.Proposal.{Proposal}
 use Rattle.scheme.specs.declared.registries.Scheme.{Scheme}
-use Rattle.world.specs.declared.thin.rules.Transition.{Transition}
-use Rattle.world.specs.World.{World, opening, run, outcomes}
-use Rattle.world.specs.Views.{status_at, transactions, due}
+use Rattle.protocol.specs.Claims.{live_of}
+use Rattle.protocol.specs.History.{stands, transitions_of}
+use Rattle.protocol.specs.Table.{due, transactions}
+use Rattle.protocol.specs.World.{World, opening, outcomes, run}
+use Rattle.protocol.specs.declared.event.Outcome.{Outcome}
+use Rattle.protocol.specs.declared.event.WorldEvent.{WorldEvent}
+use Rattle.totals.specs.NumberOfUnits.{allotted_units}
 use Rattle.world.specs.Stocks.{AreStocks}
-use Rattle.operator.specs.declared.report.Standing.{Standing}
-use Rattle.operator.specs.Report.{outcome_line, table_text}
+use Rattle.world.specs.declared.views.Stock.{Stock}
+use Rattle.report_lines.specs.ReportLines.{held_shown, outcome_line, owed_lines, owed_shown, registry_lines, transaction_line}
+use Rattle.report_lines.specs.declared.standing.Standing.{Standing}
 
--- how a transaction stands at its initiator, at the log and at its acquirer
-abbrev pub standing_of : World → Transition → Standing
-standing_of w x = record {
-  id = x.id;
-  acquirer = x.content.acquirer;
-  at_initiator = status_at w (Registry x.id.code) x.id;
-  at_log = status_at w Itl x.id;
-  at_acquirer = status_at w (Registry x.content.acquirer) x.id;
+-- ---- the table
+
+-- where a transfer stands at its initiator, at the log and at its acquirer
+abbrev pub standing_of : World → Proposal → Standing
+standing_of w p = record {
+  id = p.id;
+  acquirer = p.content.acquirer;
+  at_initiator = stands (transitions_of (live_of w (Registry p.id.code))) p.id;
+  at_log = stands (transitions_of (live_of w Itl)) p.id;
+  at_acquirer = stands (transitions_of (live_of w (Registry p.content.acquirer))) p.id;
 }
 
-abbrev pub standings : World → List Standing
-standings w = map (standing_of w) (transactions w)
+-- a line for each transfer, by code and then by number
+abbrev pub transaction_lines : World → List ℕ
+transaction_lines w = flat_map (λ p. transaction_line (standing_of w p)) (transactions w)
 
--- the text is the table of the world
+abbrev pub stock_lines : Stock → List ℕ
+stock_lines s = registry_lines s.code s.lines
+
+-- the transfers, what each registry holds, and what is owed
 pub record IsTable (w : World) (text : List ℕ) : Type 0 where
   pub stocks : List Stock
   pub are : AreStocks w w.scheme.members stocks
-  pub spelled : text ≡ table_text (standings w) stocks (due w)
+  pub spelled : text ≡ transaction_lines w ++ (flat_map stock_lines stocks ++ owed_lines (due w))
+
+-- the numbers after `held` of all registries and the one after `owed` are together the number of units that the scheme allots
+abbrev pub AddUp : Scheme → List Stock → List Proposal → Type 0
+AddUp scheme stocks owing = sum_by (λ s. held_shown s.lines) stocks + owed_shown owing ≡ allotted_units scheme
+
+-- ---- the report
 
 -- a line for each outcome, numbered from n on
 abbrev pub outcome_lines : ℕ → List Outcome → List ℕ
 outcome_lines n [] = []
 outcome_lines n (o ∷ os) = outcome_line n o ++ outcome_lines (n + 1) os
 
--- the text is the report of the events under the scheme: their outcomes, then the table of the world
--- that they reach
+-- the text is the report of the events under the scheme: their outcomes, then the table of the world that they lead to.
+-- The table counts every tonne once
 pub record IsReport (scheme : Scheme) (events : List WorldEvent) (text : List ℕ) : Type 0 where
   pub table : List ℕ
   pub is_table : IsTable (run (opening scheme) events) table
   pub spelled : text ≡ outcome_lines 1 (outcomes (opening scheme) events) ++ table
+  pub counted : AddUp scheme is_table.stocks (due (run (opening scheme) events))

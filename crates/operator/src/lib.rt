@@ -2,7 +2,6 @@
 #![tactic(auto)]
 
 mod calls;
-mod events;
 mod fault;
 mod rehearsal;
 mod report;

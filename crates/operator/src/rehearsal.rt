@@ -2,27 +2,30 @@
 
 ghost use Rattle.std.specs.Prelude.{◌≡◌, ◌<◌, ◌++◌, ℕ, List, length, Err, IfOk, IfErr, OnOk, string_bytes};
 ghost use Rattle.std.specs.Io.KnownBytes.{Appends};
-ghost use Rattle.world.specs.declared.event.WorldEvent.{WorldEvent};
 ghost use Rattle.scheme.specs.declared.registries.Scheme.{Scheme};
 ghost use Rattle.scheme.specs.Text.{IsSchemeText};
-ghost use Rattle.world.specs.World.{step, run, outcomes};
-ghost use Rattle.operator.specs.EventLines.{IsEventLine};
-ghost use Rattle.operator.specs.Report.{outcome_line};
+ghost use Rattle.protocol.specs.World.{outcomes, run, step};
+ghost use Rattle.protocol.specs.declared.event.WorldEvent.{WorldEvent};
+ghost use Rattle.event_lines.specs.EventLines.{IsEventLine};
+ghost use Rattle.report_lines.specs.ReportLines.{outcome_line};
 ghost use Rattle.operator.specs.Table.{IsReport, outcome_lines};
 ghost use Rattle.operator.specs.Rehearsal.{room_behind, AreEvents, IsRehearsal, IsNextFault, IsLinesFault, IsEarlyFault, Reports, FailsSo};
 ghost use Rattle.operator.specs.Lines.{IsLine, IsLineFault, IsTooLong, IsTruncated};
 
-use crate::events::{LineFault, event_of};
 use crate::fault::{Cause, OpFault};
-use crate::report::{push_outcome, push_table};
+use crate::report::push_table;
 use crate::scheme_file::scheme_of;
 use crate::streams::{LONGEST_LINE, ReadFault, read_input, write_text};
+use event_lines::{LineFault, event_of};
 use memchr::memchr;
+use protocol::WorldEvent;
+use report_lines::push_outcome;
 use scheme::Scheme;
 use std::alloc::Global;
 use std::io::{Read, Write};
+use totals::tonnes_add_up;
 use units::NoMemory;
-use world::{World, WorldEvent};
+use world::World;
 
 /// The greatest length of an input in bytes.
 const LONGEST_INPUT: usize = 16_777_216;
@@ -71,7 +74,6 @@ fn next_event(
 
 /// Applies an event, and adds the line of its outcome.
 fn run_event(
-    alloc: Global,
     world: &mut World,
     text: &mut String,
     number: u64,
@@ -80,7 +82,7 @@ fn run_event(
     ensures world { OnOk result (world.new ≡ (step world.old event).world) }
     ensures text { OnOk result (string_bytes text.new ≡ string_bytes text.old ++ outcome_line number (step world.old event).outcome) }
 {
-    let outcome = world.apply(alloc, event)?;
+    let outcome = world.apply(&event)?;
     push_outcome(text, number, outcome)?;
     Ok(())
 }
@@ -103,7 +105,7 @@ fn run_lines(
     while !rest.is_empty() {
         number += 1;
         let (event, behind, left) = next_event(alloc, rest, room, number + 1)?;
-        if run_event(alloc, world, text, number, event).is_err() {
+        if run_event(world, text, number, event).is_err() {
             return Err(OpFault::NoMemory);
         }
         rest = behind;
@@ -127,6 +129,7 @@ fn events_report(
     };
     let mut text = String::new(alloc);
     run_lines(alloc, &mut world, &mut text, lines, room)?;
+    tonnes_add_up();
     match push_table(alloc, &mut text, &world) {
         Ok(()) => Ok(text),
         Err(_) => Err(OpFault::NoMemory),

@@ -2,10 +2,12 @@
 use Rattle.std.proofs.Common.{◌≡◌, ℕ, ◌+◌, ◌<◌, List, [], ◌∷◌, ◌++◌, map, take, length, get_or, sym, ap, ◌∙◌}
 use Rattle.std.proofs.lemmas.List.{map-append, take_more}
 use Rattle.units.specs.declared.code.Node.TheVariants.{Itl, Registry}
+use Rattle.units.specs.declared.code.Node.{Node}
 use Rattle.scheme.specs.declared.members.Member.{Member}
-use Rattle.world.specs.declared.nodes.Station.{Station as Kept}
-use Rattle.world.specs.World.{Station, opening_station}
-use Rattle.world.specs.Kept.{seen}
+use Rattle.world.specs.declared.station.Station.{Station as Kept}
+use Rattle.protocol.specs.World.{Station, opening_station}
+use Rattle.node.specs.Cores.{node_of}
+use Rattle.world.specs.Stations.{seen}
 
 abbrev pub opens : List Member → List Station
 opens ms = opening_station Itl ∷ map (λ m. opening_station (Registry m.code)) ms
@@ -20,3 +22,17 @@ opens_more ss ms i m s h is old new =
     (ap (λ (x : Member). map (λ (m : Member). opening_station (Registry m.code)) (take i ms) ++ opening_station (Registry x.code) ∷ []) is
     ∙ sym (map-append (λ (m : Member). opening_station (Registry m.code)) (take i ms) (get_or ms i m ∷ []))
     ∙ sym (ap (map (λ (m : Member). opening_station (Registry m.code))) (take_more ms i m h)))
+
+abbrev pub all_nodes : List Member → List Node
+all_nodes ms = Itl ∷ map (λ m. Registry m.code) ms
+
+pub nodes_more : (ss : List Kept) (ms : List Member) (i : ℕ) (m : Member) (s : Kept) → i < length ms → m ≡ get_or ms i m → map (λ s. node_of s.core) ss ≡ all_nodes (take i ms)
+    → seen s ≡ opening_station (Registry m.code) → map (λ s. node_of s.core) (ss ++ s ∷ []) ≡ all_nodes (take (i + 1) ms)
+nodes_more ss ms i m s h is old new =
+    map-append (λ (s : Kept). node_of s.core) ss (s ∷ [])
+    ∙ ap (λ (l : List Node). l ++ node_of s.core ∷ []) old
+    ∙ ap (λ (x : Station). all_nodes (take i ms) ++ x.node ∷ []) new
+    ∙ ap (λ (l : List Node). Itl ∷ l)
+    (ap (λ (x : Member). map (λ (m : Member). Registry m.code) (take i ms) ++ Registry x.code ∷ []) is
+    ∙ sym (map-append (λ (m : Member). Registry m.code) (take i ms) (get_or ms i m ∷ []))
+    ∙ sym (ap (map (λ (m : Member). Registry m.code)) (take_more ms i m h)))

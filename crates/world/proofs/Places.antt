@@ -5,25 +5,26 @@ use Rattle.std.specs.List.{position_from}
 use Rattle.units.specs.Code.{same_node}
 use Rattle.units.specs.declared.code.Node.{Node}
 use Rattle.units.proofs.Same.{node_of_same}
-use Rattle.world.specs.declared.nodes.Station.{Station as Kept}
-use Rattle.world.specs.World.{Station, put_station}
-use Rattle.world.specs.Kept.{seen}
+use Rattle.world.specs.declared.station.Station.{Station as Kept}
+use Rattle.protocol.specs.World.{Station, put_station}
+use Rattle.node.specs.Cores.{node_of}
+use Rattle.world.specs.Stations.{seen}
 
 -- the first station of that node is the j-th
-pub StandsAt : List Kept → Node → ℕ → Type 0
+unfoldable pub StandsAt : List Kept → Node → ℕ → Type 0
 StandsAt [] n j = ⊥
-StandsAt (s ∷ ss) n zero = same_node s.node n ≡ true
-StandsAt (s ∷ ss) n (suc j) = (same_node s.node n ≡ false) × StandsAt ss n j
+StandsAt (s ∷ ss) n zero = same_node (node_of s.core) n ≡ true
+StandsAt (s ∷ ss) n (suc j) = (same_node (node_of s.core) n ≡ false) × StandsAt ss n j
 
 abbrev pub is_of : Node → Kept → Bool
-is_of n s = same_node s.node n
+is_of n s = same_node (node_of s.core) n
 
 place_from : (ss : List Kept) (n : Node) (k at : ℕ) → position_from (is_of n) k ss ≡ Some at → (j : ℕ) × (at ≡ k + j) × StandsAt ss n j
 unfolding StandsAt
 place_from [] n k at e = cc
-place_from (s ∷ ss) n k at e = pick (λ h. place_from ss n (k + 1) at h) (same_node s.node n) refl e
+place_from (s ∷ ss) n k at e = pick (λ h. place_from ss n (k + 1) at h) (same_node (node_of s.core) n) refl e
   where
-    pick : (position_from (is_of n) (k + 1) ss ≡ Some at → (j : ℕ) × (at ≡ k + 1 + j) × StandsAt ss n j) → (b : Bool) → same_node s.node n ≡ b
+    pick : (position_from (is_of n) (k + 1) ss ≡ Some at → (j : ℕ) × (at ≡ k + 1 + j) × StandsAt ss n j) → (b : Bool) → same_node (node_of s.core) n ≡ b
         → cond b (Some k) (position_from (is_of n) (k + 1) ss) ≡ Some at → (j : ℕ) × (at ≡ k + j) × StandsAt (s ∷ ss) n j
     pick rest true is h = let same : k ≡ at = cc in (0, omega (arith, same), is)
     pick rest false is h = let r = rest h in (suc r.0, omega (arith, r.1), (is, r.2))
@@ -43,13 +44,13 @@ within_from (s ∷ ss) n (suc j) h = let r = within_from ss n j h.1 in omega ari
 pub place_within : (ss : List Kept) (n : Node) (at : ℕ) → IsPlace ss n at → at < length ss
 place_within ss n at p = within_from ss n at p.stands
 
-node_from : (ss : List Kept) (n : Node) (j : ℕ) (d : Kept) → StandsAt ss n j → (get_or ss j d).node ≡ n
+node_from : (ss : List Kept) (n : Node) (j : ℕ) (d : Kept) → StandsAt ss n j → node_of (get_or ss j d).core ≡ n
 unfolding StandsAt
 node_from [] n j d h = absurd h
-node_from (s ∷ ss) n zero d h = node_of_same s.node n h
+node_from (s ∷ ss) n zero d h = node_of_same (node_of s.core) n h
 node_from (s ∷ ss) n (suc j) d h = node_from ss n j d h.1
 
-pub place_node : (ss : List Kept) (n : Node) (at : ℕ) (d : Kept) → IsPlace ss n at → (get_or ss at d).node ≡ n
+pub place_node : (ss : List Kept) (n : Node) (at : ℕ) (d : Kept) → IsPlace ss n at → node_of (get_or ss at d).core ≡ n
 place_node ss n at d p = node_from ss n at d p.stands
 
 find_from : (ss : List Kept) (n : Node) (j : ℕ) (d : Kept) → StandsAt ss n j → find (λ (s : Station). same_node s.node n) (map seen ss) ≡ Some (seen (get_or ss j d))
@@ -61,14 +62,14 @@ find_from (s ∷ ss) n (suc j) d h = rw h.0 (find_from ss n j d h.1)
 pub place_find : (ss : List Kept) (n : Node) (at : ℕ) (d : Kept) → IsPlace ss n at → find (λ (s : Station). same_node s.node n) (map seen ss) ≡ Some (seen (get_or ss at d))
 place_find ss n at d p = find_from ss n at d p.stands
 
-put_from : (ss : List Kept) (j : ℕ) (s : Kept) → StandsAt ss s.node j → put_station (seen s) (map seen ss) ≡ map seen (set ss j s)
+put_from : (ss : List Kept) (j : ℕ) (s : Kept) → StandsAt ss (node_of s.core) j → put_station (seen s) (map seen ss) ≡ map seen (set ss j s)
 unfolding StandsAt
 put_from [] j s h = absurd h
 put_from (x ∷ ss) zero s h = rw h refl
 put_from (x ∷ ss) (suc j) s h = rw h.0 (ap (λ (l : List Station). seen x ∷ l) (put_from ss j s h.1))
 
 -- a station put in the place of its node's
-pub place_put : (ss : List Kept) (n : Node) (at : ℕ) (s : Kept) → s.node ≡ n → IsPlace ss n at → put_station (seen s) (map seen ss) ≡ map seen (set ss at s)
+pub place_put : (ss : List Kept) (n : Node) (at : ℕ) (s : Kept) → node_of s.core ≡ n → IsPlace ss n at → put_station (seen s) (map seen ss) ≡ map seen (set ss at s)
 place_put ss n at s e p = put_from ss at s (subst (λ (m : Node). StandsAt ss m at) (sym e) p.stands)
 
 -- a node of which the same is seen
@@ -80,7 +81,7 @@ same_seen (x ∷ ss) (suc at) old new is e = ap (λ (l : List Station). seen x �
 -- no station of that node
 none_from : (ss : List Kept) (n : Node) (k : ℕ) → position_from (is_of n) k ss ≡ None → find (λ (s : Station). same_node s.node n) (map seen ss) ≡ None
 none_from [] n k e = refl
-none_from (s ∷ ss) n k e = pick (none_from ss n (k + 1)) (same_node s.node n) e
+none_from (s ∷ ss) n k e = pick (none_from ss n (k + 1)) (same_node (node_of s.core) n) e
   where
     pick : (position_from (is_of n) (k + 1) ss ≡ None → find (λ (s : Station). same_node s.node n) (map seen ss) ≡ None) → (b : Bool)
         → cond b (Some k) (position_from (is_of n) (k + 1) ss) ≡ None → cond b (Some (seen s)) (find (λ (s : Station). same_node s.node n) (map seen ss)) ≡ None

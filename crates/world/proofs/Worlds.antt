@@ -1,5 +1,5 @@
 -- A world after one of its nodes has done something.
-use Rattle.std.proofs.Common.{◌≡◌, ℕ, List, map, get_or, Option, Some, None, option_map, refl, sym, ap, ◌∙◌}
+use Rattle.std.proofs.Common.{◌≡◌, ℕ, List, get_or, Option, Some, None, option_map, refl, sym, ap, ◌∙◌}
 use Rattle.std.proofs.Math.ListN.{set}
 use Rattle.std.specs.List.{position_from}
 use Rattle.units.specs.declared.code.Node.{Node}
@@ -7,17 +7,16 @@ use Rattle.protocol.specs.declared.event.Outcome.{Outcome}
 use Rattle.protocol.specs.declared.event.Outcome.TheVariants.{NotPossible}
 use Rattle.scheme.specs.declared.registries.Scheme.{Scheme}
 use Rattle.status.specs.declared.moment.Moment.{Moment}
-use Rattle.world.specs.declared.thin.messages.Message.{Message}
-use Rattle.world.specs.declared.thin.messages.Input.TheVariants.{Received}
-use Rattle.world.specs.Messages.{receiver}
-use Rattle.world.specs.declared.nodes.Posted.{Posted}
-use Rattle.world.specs.declared.nodes.Station.{Station as Kept}
-use Rattle.world.specs.World.{Station, World, Turn, Stepped, station, put, at_node, stays, deliver, take_input}
-use Rattle.world.specs.Kept.{seen}
+use Rattle.wire.specs.declared.message.Message.{Message}
+use Rattle.wire.specs.declared.input.Input.TheVariants.{Received}
+use Rattle.wire.specs.Parties.{receiver}
+use Rattle.protocol.specs.declared.event.Posted.{Posted}
+use Rattle.world.specs.declared.station.Station.{Station as Kept}
+use Rattle.protocol.specs.World.{Station, World, Turn, Stepped, station, put, at_node, stays, deliver, take_input}
+use Rattle.node.specs.Cores.{node_of}
+use Rattle.world.specs.Kept.{whole}
+use Rattle.world.specs.Stations.{seen}
 use Rattle.world.proofs.Places.{is_of, IsPlace, place_find, place_put, place_node, place_none, same_seen}
-
-abbrev pub whole : Scheme → List Kept → List Posted → World
-whole scheme ss bag = record { scheme = scheme; stations = map seen ss; bag = bag }
 
 abbrev pub after : World → Outcome → Stepped
 after w o = record { world = w; outcome = o }
@@ -25,12 +24,12 @@ after w o = record { world = w; outcome = o }
 abbrev pub turn : Kept → Outcome → Turn
 turn s o = record { station = seen s; outcome = o }
 
-pub turned : (scheme : Scheme) (ss : List Kept) (bag : List Posted) (n : Node) (at : ℕ) (old new : Kept) (o : Outcome) (f : Station → Turn) → IsPlace ss n at → old ≡ get_or ss at old → new.node ≡ old.node
+pub turned : (scheme : Scheme) (ss : List Kept) (bag : List Posted) (n : Node) (at : ℕ) (old new : Kept) (o : Outcome) (f : Station → Turn) → IsPlace ss n at → old ≡ get_or ss at old → node_of new.core ≡ node_of old.core
     → turn new o ≡ f (seen old) → after (whole scheme (set ss at new) bag) o ≡ at_node (whole scheme ss bag) (station (whole scheme ss bag) n) f
 turned scheme ss bag n at old new o f place is node does =
     let w = whole scheme ss bag in
     let here : station w n ≡ Some (seen old) = place_find ss n at old place ∙ ap (λ (s : Kept). Some (seen s)) (sym is) in
-    let its : new.node ≡ n = node ∙ ap (λ (s : Kept). s.node) is ∙ place_node ss n at old place in
+    let its : node_of new.core ≡ n = node ∙ ap (λ (s : Kept). node_of s.core) is ∙ place_node ss n at old place in
     ap (λ (l : List Station). after (record w { stations = l }) o) (sym (place_put ss n at new its place))
     ∙ ap (λ (t : Turn). after (put w t.station) t.outcome) does
     ∙ sym (ap (λ (x : Option Station). at_node w x f) here)

@@ -1,23 +1,38 @@
--- What a node of the world keeps beside its journal, and what is seen of it.
-use Rattle.std.specs.Prelude.{◌≡◌, ◌≤◌, List, [], ◌∷◌, ◌++◌, map, take, drop, length}
+-- What a world keeps beside what the protocol's words see of it.
+use Rattle.std.specs.BTreeSet.{contains}
+use Rattle.std.specs.Ordering.{nat_cmp}
+use Rattle.std.specs.Prelude.{◌≡◌, ℕ, true, false, List, [], ◌∷◌, map, All}
+use Rattle.units.specs.declared.code.Node.{Node}
+use Rattle.units.specs.declared.code.Node.TheVariants.{Itl, Registry}
 use Rattle.scheme.specs.declared.registries.Scheme.{Scheme}
-use Rattle.world.specs.declared.nodes.Station.{Station as Kept}
-use Rattle.world.specs.declared.nodes.Outgoing.{Outgoing}
-use Rattle.world.specs.History.{Entry, transitions_of, messages_of}
-use Rattle.world.specs.Verdict.{history}
-use Rattle.world.specs.World.{Station}
+use Rattle.protocol.specs.Registries.{is_node}
+use Rattle.protocol.specs.World as worlds
+use Rattle.protocol.specs.World.{was_posted}
+use Rattle.protocol.specs.declared.event.Posted.{Posted}
+use Rattle.node.specs.Cores.{node_of, scheme_of}
+use Rattle.world.specs.Stations.{seen}
+use Rattle.world.specs.declared.station.Station.{Station}
 
--- the first `committed` records of the journal are committed, the others are the tail
-abbrev pub seen : Kept → Station
-seen s = record { node = s.node; committed = take s.committed s.journal.items; tail = drop s.committed s.journal.items; runs = s.running }
+-- the nodes of a scheme: the log, then the registries in byte order
+abbrev pub nodes : Scheme → List Node
+nodes scheme = Itl ∷ map (λ m. Registry m.code) scheme.members
 
--- the messages of the entries, in order, each with the place of its record
-abbrev pub outgoing : List Entry → List Outgoing
-outgoing [] = []
-outgoing (e ∷ es) = outgoing es ++ map (λ m. record { place = length es; message = m }) (messages_of e.transitions)
+-- a station of the scheme that posted nothing yet
+pub record IsFresh (scheme : Scheme) (s : Station) : Type 0 where
+  pub scheme_is : scheme_of s.core ≡ scheme
+  pub none : (key : ℕ) → contains nat_cmp s.posted key ≡ false
 
--- what a node keeps is read off its journal
-pub record IsKept (scheme : Scheme) (s : Kept) : Type 0 where
-  pub within : s.committed ≤ length s.journal.items
-  pub made : s.transitions.items ≡ transitions_of (history scheme s.node s.journal.items)
-  pub sent : s.outbox.items ≡ outgoing (history scheme s.node s.journal.items)
+-- the world that these stations and this bag make
+abbrev pub whole : Scheme → List Station → List Posted → worlds.World
+whole scheme stations bag = record { scheme = scheme; stations = map seen stations; bag = bag }
+
+-- the core goes by that scheme, and the station's keys are those of its messages in the bag
+pub record IsKept (scheme : Scheme) (bag : List Posted) (s : Station) : Type 0 where
+  pub scheme_is : scheme_of s.core ≡ scheme
+  pub marked : (key : ℕ) → contains nat_cmp s.posted key ≡ was_posted (whole scheme [] bag) (node_of s.core) key
+
+-- each node of the scheme has its station, and nodes of the scheme alone posted messages
+pub record AreKept (scheme : Scheme) (stations : List Station) (bag : List Posted) : Type 0 where
+  pub nodes_are : map (λ s. node_of s.core) stations ≡ nodes scheme
+  pub kept : All (IsKept scheme bag) stations
+  pub among : All (λ p. is_node scheme p.node ≡ true) bag

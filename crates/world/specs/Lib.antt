@@ -1,10 +1,4 @@
-pub mod Messages
-pub mod History
-pub mod Verdict
-pub mod World
+pub mod Outcomes
+pub mod Stations
 pub mod Kept
-pub mod Views
-pub mod Holdings
 pub mod Stocks
-pub mod Readings
-pub mod Stretches

@@ -1,25 +1,20 @@
 -- What the registries of a world hold.
-use Rattle.std.specs.Prelude.{◌≡◌, List, [], ◌∷◌, Option, Some, None}
-use Rattle.units.specs.declared.code.Node.TheVariants.{Registry}
+use Rattle.std.specs.Prelude.{◌≡◌, Bool, true, false, List, map, Option, Some, None}
+use Rattle.accounts.specs.declared.lot.Line.{Line}
 use Rattle.scheme.specs.declared.members.Member.{Member}
-use Rattle.world.specs.declared.table.Holding.{Holding}
-use Rattle.world.specs.declared.table.Stock.{Stock}
-use Rattle.world.specs.World.{World}
-use Rattle.world.specs.Views.{live}
-use Rattle.world.specs.Holdings.{AreHoldings}
+use Rattle.protocol.specs.World.{World}
+use Rattle.registry_core.specs.Registry.{Registry}
+use Rattle.registry_core.specs.Reported.{AreHoldings}
+use Rattle.totals.specs.RegistryLines.{AreLines}
+use Rattle.world.specs.declared.views.Stock.{Stock}
 
--- the holdings of a registry in a world, its tail included
-abbrev pub HoldsNow : World → Member → List Holding → Type 0
-HoldsNow w m hs = AreHoldings m (live w (Registry m.code)) hs
-
--- those of the registry of that code, and none where the scheme has no such registry
-abbrev pub HoldsIf : World → Option Member → Option (List Holding) → Type 0
-HoldsIf w None None = Unit {0}
-HoldsIf w (Some m) (Some hs) = HoldsNow w m hs
-HoldsIf w _ _ = ⊥
+-- the holdings of a registry that the scheme has, and none of another
+abbrev pub HoldsIf : Registry → Bool → Option (List Line) → Type 0
+HoldsIf r true (Some lines) = AreHoldings r lines
+HoldsIf r false None = Unit {0}
+HoldsIf r _ _ = ⊥
 
 -- what each registry holds, in the scheme's order
-abbrev pub AreStocks : World → List Member → List Stock → Type 0
-AreStocks w [] [] = Unit {0}
-AreStocks w (m ∷ ms) (s ∷ ss) = (s.code ≡ m.code) × (HoldsNow w m s.holdings × AreStocks w ms ss)
-AreStocks w _ _ = ⊥
+pub record AreStocks (w : World) (members : List Member) (stocks : List Stock) : Type 0 where
+  pub codes : map (λ s. s.code) stocks ≡ map (λ m. m.code) members
+  pub lines : AreLines w members (map (λ s. s.lines) stocks)

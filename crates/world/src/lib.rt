@@ -1,17 +1,11 @@
-//! All nodes and the bag of posted messages: one world, which moves by events.
+//! All nodes of a scheme and the bag of posted messages: one world, which moves by events.
 #![tactic(auto)]
 
-mod bag;
-mod event;
-mod nodes;
-mod table;
-#[cfg(test)]
-mod tests;
-pub mod thin;
+mod station;
+mod stations;
 mod views;
+mod world;
 
-pub use bag::World;
-pub use event::WorldEvent;
-pub use nodes::{Posted, Station};
-pub use protocol::Outcome;
-pub use table::{Debt, Holding, Stock};
+pub use protocol::{Outcome, Posted, WorldEvent};
+pub use views::Stock;
+pub use world::World;

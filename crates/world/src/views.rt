@@ -1,37 +1,37 @@
-//! What a world shows: of every node the committed journal and the tail after it.
-ghost use Rattle.std.specs.Prelude.{◌≡◌, ◌++◌, ◌&&◌, map, filter, slice_get, IfOk, IfSome, OnOk, option_map};
+//! What a world shows: of each node its journal with the tail, and what the tables of its core say.
+ghost use Rattle.std.specs.List.{filter, filter_map, list_any};
 ghost use Rattle.std.specs.Option.{option_copied, option_to_list};
-ghost use Rattle.units.specs.Code.{same_code};
-ghost use Rattle.units.specs.Unit.{covers};
-ghost use Rattle.status.specs.Status.{same_status};
-ghost use Rattle.protocol.specs.History.{is_status};
-ghost use Rattle.world.specs.History.{spendable};
-ghost use Rattle.world.specs.World.{station};
-ghost use Rattle.scheme.specs.Order.{member};
-ghost use Rattle.world.specs.Kept.{seen, IsKept};
-ghost use Rattle.world.specs.Stocks.{HoldsNow, HoldsIf, AreStocks};
-ghost use Rattle.world.specs.Views.{journal_of, committed_of, live, status_at, is_held, is_spendable, owes, owed, parties, proposals, proposes, transactions, debt_of, due};
+ghost use Rattle.std.specs.Prelude.{◌≡◌, ◌++◌, [], cond, map, is_some, slice_get, Some, None, option_map, option_and_then, IfOk, IfNone, IfSome, OnOk};
+ghost use Rattle.units.specs.Unit.{covers, have_unit};
+ghost use Rattle.node.specs.Cores.{node_of, scheme_of};
+ghost use Rattle.protocol.specs.Claims.{at_registry, live_of};
+ghost use Rattle.protocol.specs.History.{holds, is_status, spendable, stands, transitions_of};
+ghost use Rattle.protocol.specs.Registries.{has_member, is_node};
+ghost use Rattle.protocol.specs.Table.{due, is_due, proposal_in, proposed, transactions};
+ghost use Rattle.protocol.specs.World.{journal, station};
+ghost use Rattle.registry_core.specs.Registry.{past};
+ghost use Rattle.totals.specs.RegistryLines.{registry_at};
+ghost use Rattle.world.specs.Stations.{seen};
+ghost use Rattle.world.specs.Stocks.{AreStocks, HoldsIf};
 
-use crate::bag::{World, place_of};
-use crate::nodes::{Posted, Station};
-use crate::table::{Debt, Holding, Stock, covers, holdings_of, is_held, reserving};
-use crate::thin::{Input, Transition, is_proposal, newest, status_in};
-use scheme::{Member, Scheme};
+use crate::station::Station;
+use crate::stations::place_of;
+use crate::world::World;
+use accounts::Line;
+use node::Core;
+use protocol::{NodeCore, Posted};
+use registry_core::RegistryCore;
+use scheme::Scheme;
 use status::{Status, TransactionId};
-use std::alloc::{AllocError, Global};
-use std::collections::VecDeque;
-use units::{Code, Items, NoMemory, Node, Unit};
+use std::alloc::Global;
+use units::{Block, Code, Items, NoMemory, Node, Unit};
+use wire::{Input, Message, Proposal};
 
-fn is_spendable(member: &Member, transitions: &VecDeque<Transition>, unit: &Unit) -> bool
-    ensures { result ≡ spendable member.now transitions.now.items unit.now }
-{
-    is_held(member, transitions, unit) && reserving(member.code, transitions, unit).is_none()
-}
-
-fn completes_own(code: Code, transition: &Transition) -> bool
-    ensures { result ≡ (same_code transition.now.id.code code && same_status transition.now.new Status.Completed) }
-{
-    transition.id.code == code && transition.new == Status::Completed
+/// What a registry holds: lines by account and then in the order of units.
+#[derive(Debug, Drop)]
+pub struct Stock {
+    pub code: Code,
+    pub lines: Items<Line>,
 }
 
 fn is_completed(status: Option<Status>) -> bool
@@ -43,113 +43,88 @@ fn is_completed(status: Option<Status>) -> bool
     }
 }
 
-fn parties(transition: &Transition) -> (TransactionId, Code)
-    ensures { result ≡ parties transition.now }
+// Whether one of the blocks has the unit.
+fn has_unit_in(blocks: &[Block], unit: &Unit) -> bool
+    ensures { result ≡ covers blocks.now unit.now }
 {
-    (transition.id, transition.content.acquirer)
+    blocks.iter().any(|b| b.has(unit))
 }
 
-fn newest_proposals(
-    alloc: Global,
-    transitions: &VecDeque<Transition>,
-    code: Code,
-) -> Result<Vec<(TransactionId, Code)>, AllocError>
-    ensures { IfOk result (λ v. v.items ≡ map parties (filter (proposes code) transitions.now.items)) }
+// Whether the transfer has the unit.
+fn has_unit(proposal: &Proposal, unit: &Unit) -> bool
+    ensures { result ≡ have_unit proposal.now.content.units unit.now }
 {
-    transitions
-        .iter()
-        .filter(|t| is_proposal(t, code))
-        .map(parties)
-        .collect(alloc)
+    has_unit_in(proposal.content.units(), unit)
 }
 
-/// A registry's own proposals, the oldest first.
-fn proposals_in(
-    alloc: Global,
-    transitions: &VecDeque<Transition>,
-    code: Code,
-) -> Result<Vec<(TransactionId, Code)>, NoMemory>
-    ensures { IfOk result (λ v. v.items ≡ map parties (proposals code transitions.now.items)) }
+// Adds the message, if it is a proposal.
+fn add_proposal<'a>(
+    proposals: &mut Vec<&'a Proposal>,
+    message: Option<&'a Message>,
+) -> Result<(), NoMemory>
+    ensures { OnOk result (map (λ p. p.now) proposals.new.items ≡ map (λ p. p.now) proposals.old.items ++ option_to_list (option_and_then proposal_in (option_copied message.entry))) }
 {
-    let mut proposals = newest_proposals(alloc, transitions, code)?;
-    proposals.reverse();
-    Ok(proposals)
-}
-
-fn add_debt(due: &mut Vec<Debt>, debt: Option<Debt>) -> Result<(), NoMemory>
-    ensures { OnOk result (due.new.items ≡ due.old.items ++ option_to_list debt) }
-{
-    if let Some(debt) = debt {
-        due.push(debt)?;
+    if let Some(Message::Proposal(proposal)) = message {
+        proposals.push(proposal)?;
     }
     Ok(())
 }
 
-fn owes_unit(debt: &Debt, unit: &Unit) -> bool
-    ensures { result ≡ covers debt.now.units unit.now }
+// Adds the proposals that the registry sent, in the order of their keys.
+fn add_proposals<'a>(
+    proposals: &mut Vec<&'a Proposal>,
+    core: &'a RegistryCore,
+) -> Result<(), NoMemory>
+    ensures { OnOk result (map (λ p. p.now) proposals.new.items ≡ map (λ p. p.now) proposals.old.items ++ proposed (past core.now)) }
 {
-    covers(debt.units.as_slice(), unit)
-}
-
-fn owing(alloc: Global, due: &[Debt], unit: &Unit) -> Result<Vec<TransactionId>, NoMemory>
-    ensures { IfOk result (λ v. v.items ≡ map (λ d. d.id) (filter (λ d. covers d.units unit.now) due.now)) }
-{
-    let ids = due
-        .iter()
-        .filter(|d| owes_unit(d, unit))
-        .map(|d| d.id)
-        .collect(alloc)?;
-    Ok(ids)
+    for key in 0..core.sends() {
+        add_proposal(proposals, core.outbox(key))?;
+    }
+    Ok(())
 }
 
 impl World {
-    /// The scheme that the world opened with.
+    /// The scheme that the world goes by.
     pub fn scheme(&self) -> &Scheme
         ensures { result.now ≡ self.now.scheme }
     {
         &self.scheme
     }
 
+    // The station of that node, if the scheme has such a node.
     fn station(&self, node: Node) -> Option<&Station>
         ensures seen { option_map seen (option_copied result) ≡ station self.now node }
-        ensures kept { IfSome result (λ s. IsKept self.now.scheme s.now) }
+        ensures there { is_some result ≡ is_node self.now.scheme node }
+        ensures scheme { IfSome result (λ s. scheme_of s.now.core ≡ self.now.scheme) }
+        ensures node { IfSome result (λ s. node_of s.now.core ≡ node) }
+        ensures none { IfNone result (live_of self.now node ≡ []) }
     {
-        let at = place_of(self.stations.as_slice(), node)?;
+        let at = place_of(&self.scheme, node)?;
         Some(&self.stations[at])
     }
 
-    /// How a transaction stands at a node, `None` where it is not known there.
+    /// Where a transaction stands at a node, or `None` where the node has no record of it or the scheme no such node.
     pub fn status(&self, node: Node, id: TransactionId) -> Option<Status>
-        ensures { result ≡ status_at self.now node id }
+        ensures { result ≡ stands (transitions_of (live_of self.now node)) id }
     {
         let station = self.station(node)?;
-        status_in(&station.transitions, id)
+        station.core.status_of(id)
     }
 
-    /// Whether a registry holds a unit.
-    pub fn held(&self, registry: Code, unit: &Unit) -> bool
-        ensures { result ≡ is_held self.now registry unit.now }
+    /// A node's journal with its tail, or `None` where the scheme has no such node.
+    pub fn journal(&self, node: Node) -> Option<&[Input]>
+        ensures { option_copied result ≡ option_map journal (station self.now node) }
     {
-        let Some(member) = self.scheme.member(registry) else {
-            return false;
-        };
-        let Some(station) = self.station(Node::Registry(registry)) else {
-            return false;
-        };
-        is_held(member, &station.transitions, unit)
+        let station = self.station(node)?;
+        Some(station.core.journal())
     }
 
-    /// Whether a registry holds a unit and has not reserved it.
-    pub fn spendable(&self, registry: Code, unit: &Unit) -> bool
-        ensures { result ≡ is_spendable self.now registry unit.now }
+    /// A node's committed journal, or `None` where the scheme has no such node.
+    pub fn committed(&self, node: Node) -> Option<&[Input]>
+        ensures { option_copied result ≡ option_map (λ s. s.committed) (station self.now node) }
     {
-        let Some(member) = self.scheme.member(registry) else {
-            return false;
-        };
-        let Some(station) = self.station(Node::Registry(registry)) else {
-            return false;
-        };
-        is_spendable(member, &station.transitions, unit)
+        let station = self.station(node)?;
+        Some(&station.core.journal()[..station.committed])
     }
 
     /// The message at that place of the bag, with the node that posted it and its key there.
@@ -159,135 +134,112 @@ impl World {
         self.bag.get(index as usize)
     }
 
-    /// A node's journal, the tail included. `None` where the scheme has no such node.
-    pub fn journal(&self, node: Node) -> Option<&[Input]>
-        ensures { option_copied result ≡ journal_of self.now node }
+    // The core of the registry of that code, if the scheme has such a registry.
+    fn registry(&self, code: Code) -> Option<&RegistryCore>
+        ensures core { option_copied result ≡ cond (has_member self.now.scheme code) (Some (registry_at self.now code)) None }
+        ensures none { IfNone result (live_of self.now (Node.Registry code) ≡ []) }
     {
-        let station = self.station(node)?;
-        Some(station.journal.as_slice())
-    }
-
-    /// A node's committed journal. `None` where the scheme has no such node.
-    pub fn committed(&self, node: Node) -> Option<&[Input]>
-        ensures { option_copied result ≡ committed_of self.now node }
-    {
-        let station = self.station(node)?;
-        Some(&station.journal[..station.committed])
-    }
-
-    /// The transition completes its transaction at that initiator, and its acquirer has not
-    /// completed it.
-    fn owes(&self, code: Code, transition: &Transition) -> bool
-        ensures { result ≡ owes self.now code transition.now }
-    {
-        completes_own(code, transition)
-            && !is_completed(self.status(
-                Node::Registry(transition.content.acquirer),
-                transition.id,
-            ))
-    }
-
-    /// A registry's own transactions in the order of their numbers, each with its acquirer.
-    fn own_transactions(
-        &self,
-        alloc: Global,
-        code: Code,
-    ) -> Result<Vec<(TransactionId, Code)>, NoMemory>
-        ensures { IfOk result (λ v. v.items ≡ map parties (proposals code (live self.now (Node.Registry code)))) }
-    {
-        match self.station(Node::Registry(code)) {
-            Some(station) => proposals_in(alloc, &station.transitions, code),
-            None => Ok(Vec::new(alloc)),
+        match &self.station(Node::Registry(code))?.core {
+            Core::Registry(core) => Some(core),
+            Core::Log(_) => None,
         }
     }
 
-    /// The transactions in their initiators' journals, by code and then by number, each with its
-    /// acquirer.
-    pub fn transactions(&self, alloc: Global) -> Result<Vec<(TransactionId, Code)>, NoMemory>
-        ensures { IfOk result (λ v. v.items ≡ map parties (transactions self.now)) }
+    /// Whether a registry holds a unit.
+    pub fn held(&self, registry: Code, unit: &Unit) -> bool
+        ensures { result ≡ holds self.now.scheme registry (at_registry (live_of self.now) registry) unit.now }
     {
-        let mut all = Vec::new(alloc);
-        for member in self.scheme.members.as_slice() {
-            let own = self.own_transactions(alloc, member.code)?;
-            all.extend_from_slice(own.as_slice())?;
+        match self.registry(registry) {
+            Some(core) => core.held(unit),
+            None => false,
         }
-        Ok(all)
     }
 
-    /// What a transaction owes, if it is completed at its initiator and not at its acquirer.
-    fn debt(&self, id: TransactionId) -> Result<Option<Debt>, NoMemory>
-        ensures { IfOk result (λ d. d ≡ debt_of self.now id) }
+    /// Whether a registry holds a unit, and no transfer reserves it.
+    pub fn spendable(&self, registry: Code, unit: &Unit) -> bool
+        ensures { result ≡ spendable self.now.scheme registry (at_registry (live_of self.now) registry) unit.now }
     {
-        let Some(station) = self.station(Node::Registry(id.code)) else {
-            return Ok(None);
-        };
-        let Some(last) = newest(&station.transitions, id) else {
-            return Ok(None);
-        };
-        if !self.owes(id.code, last) {
-            return Ok(None);
+        match self.registry(registry) {
+            Some(core) => core.spendable(unit),
+            None => false,
         }
-        let units = last.content.units.copy()?;
-        Ok(Some(Debt { id, units }))
     }
 
-    /// The transactions that owe their units, by code and then by number.
-    pub fn due(&self, alloc: Global) -> Result<Vec<Debt>, NoMemory>
-        ensures { IfOk result (λ v. v.items ≡ due self.now) }
+    /// What a registry holds, as lines by account and then in the order of units; or `None` where the scheme has no such registry.
+    /// Fails with `NoMemory`.
+    pub fn holdings(&self, registry: Code) -> Result<Option<Vec<Line>>, NoMemory>
+        ensures { IfOk result (λ found. HoldsIf (registry_at self.now registry) (has_member self.now.scheme registry) (option_map (λ v. v.items) found)) }
     {
-        let transactions = self.transactions(alloc)?;
-        let mut due = Vec::new(alloc);
-        for (id, _) in transactions.as_slice() {
-            let debt = self.debt(*id)?;
-            add_debt(&mut due, debt)?;
-        }
-        Ok(due)
-    }
-
-    /// The transactions that owe a unit, by code and then by number.
-    pub fn owed(&self, alloc: Global, unit: &Unit) -> Result<Vec<TransactionId>, NoMemory>
-        ensures { IfOk result (λ v. v.items ≡ owed self.now unit.now) }
-    {
-        let due = self.due(alloc)?;
-        owing(alloc, due.as_slice(), unit)
-    }
-
-    fn held_at(&self, alloc: Global, member: &Member) -> Result<Items<Holding>, NoMemory>
-        ensures { IfOk result (HoldsNow self.now member.now) }
-    {
-        let holdings = match self.station(Node::Registry(member.code)) {
-            Some(station) => holdings_of(alloc, member, &station.transitions)?,
-            None => holdings_of(alloc, member, &VecDeque::new(alloc))?,
-        };
-        Ok(Items::from_vec(holdings))
-    }
-
-    /// What a registry holds as blocks in order. `None` where the scheme has no such registry.
-    pub fn holdings(
-        &self,
-        alloc: Global,
-        registry: Code,
-    ) -> Result<Option<Items<Holding>>, NoMemory>
-        ensures { IfOk result (HoldsIf self.now (member self.now.scheme.members registry)) }
-    {
-        match self.scheme.member(registry) {
-            Some(member) => {
-                let holdings = self.held_at(alloc, member)?;
-                Ok(Some(holdings))
-            }
+        match self.registry(registry) {
+            Some(core) => Ok(Some(core.lines()?)),
             None => Ok(None),
         }
     }
 
-    /// What each registry holds, in the scheme's order.
+    /// The transfers that registries proposed, by code and then by number. Or `NoMemory`.
+    pub fn transactions(&self, alloc: Global) -> Result<Vec<&Proposal>, NoMemory>
+        ensures { IfOk result (λ v. map (λ p. p.now) v.items ≡ transactions self.now) }
+    {
+        let mut proposals = Vec::new(alloc);
+        for member in self.scheme.registries() {
+            if let Some(core) = self.registry(member.code) {
+                add_proposals(&mut proposals, core)?;
+            }
+        }
+        Ok(proposals)
+    }
+
+    // Whether the transfer stands Completed at its initiator and not at its acquirer.
+    fn is_due(&self, proposal: &Proposal) -> bool
+        ensures { result ≡ is_due (live_of self.now) proposal.now }
+    {
+        let initiator = Node::Registry(proposal.id.code);
+        let acquirer = Node::Registry(proposal.content.acquirer());
+        is_completed(self.status(initiator, proposal.id))
+            && !is_completed(self.status(acquirer, proposal.id))
+    }
+
+    /// The transfers that owe their units, by code and then by number: Completed at their initiators and not at their acquirers.
+    /// Looks at each transfer once. Or `NoMemory`.
+    pub fn due(&self, alloc: Global) -> Result<Vec<&Proposal>, NoMemory>
+        ensures { IfOk result (λ v. map (λ p. p.now) v.items ≡ due self.now) }
+    {
+        let transactions = self.transactions(alloc)?;
+        let mut due = Vec::new(alloc);
+        for proposal in transactions.as_slice() {
+            if self.is_due(proposal) {
+                due.push(*proposal)?;
+            }
+        }
+        Ok(due)
+    }
+
+    /// The transfers that owe a unit, by code and then by number. Or `NoMemory`.
+    pub fn owed(&self, alloc: Global, unit: &Unit) -> Result<Vec<TransactionId>, NoMemory>
+        ensures { IfOk result (λ v. v.items ≡ map (λ p. p.id) (filter (λ p. have_unit p.content.units unit.now) (due self.now))) }
+    {
+        let due = self.due(alloc)?;
+        let mut owed = Vec::new(alloc);
+        for proposal in due.as_slice() {
+            if has_unit(proposal, unit) {
+                owed.push(proposal.id)?;
+            }
+        }
+        Ok(owed)
+    }
+
+    /// What each registry holds, in the scheme's order. Or `NoMemory`.
     pub fn stocks(&self, alloc: Global) -> Result<Vec<Stock>, NoMemory>
         ensures { IfOk result (λ v. AreStocks self.now self.now.scheme.members v.items) }
     {
         let mut stocks = Vec::new(alloc);
-        for member in self.scheme.members.as_slice() {
-            let holdings = self.held_at(alloc, member)?;
-            let code = member.code;
-            stocks.push(Stock { code, holdings })?;
+        for member in self.scheme.registries() {
+            if let Some(core) = self.registry(member.code) {
+                stocks.push(Stock {
+                    code: member.code,
+                    lines: Items::from_vec(core.lines()?),
+                })?;
+            }
         }
         Ok(stocks)
     }

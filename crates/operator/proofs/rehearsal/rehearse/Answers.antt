@@ -1,7 +1,7 @@
 use Rattle.std.proofs.Common.{◌≡◌, ◌<◌, ℕ, List, length, take, Option, subst, ◌∙◌, string_bytes}
 use Rattle.std.specs.Io.KnownBytes.{Appends}
 use Rattle.scheme.specs.declared.registries.Scheme.{Scheme}
-use Rattle.world.specs.declared.event.WorldEvent.{WorldEvent}
+use Rattle.protocol.specs.declared.event.WorldEvent.{WorldEvent}
 use Rattle.operator.specs.Rehearsal.{IsRehearsal, Reports}
 use Rattle.operator.specs.Streams.{Takes}
 use Rattle.operator.specs.Table.{IsReport}

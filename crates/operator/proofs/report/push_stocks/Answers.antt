@@ -1,4 +1,4 @@
-use Rattle.operator.specs.Report.{stock_lines}
+use Rattle.operator.specs.Table.{stock_lines}
 use Rattle.operator.proofs.Texts.{lines_more}
 use Rattle.operator.proofs.report.push_stocks.Goals as goal
 

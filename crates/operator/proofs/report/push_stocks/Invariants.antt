@@ -1,6 +1,6 @@
 use Rattle.std.proofs.Common.{◌≡◌, ◌++◌, take, string_bytes}
 use Rattle.std.specs.List.{flat_map}
-use Rattle.operator.specs.Report.{stock_lines}
+use Rattle.operator.specs.Table.{stock_lines}
 use Rattle.operator.proofs.report.push_stocks.Given as goal
 
 abbrev pub invariant-loop-stock : goal.invariant-loop-stock

@@ -1,0 +1,4 @@
+pub mod SpacedWords
+pub mod BlockWords
+pub mod Parties
+pub mod OneEvent

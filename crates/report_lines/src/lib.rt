@@ -1,0 +1,12 @@
+//! The lines of a report: one for each event's outcome, and those of a table.
+#![tactic(auto)]
+
+mod debts;
+mod holdings;
+mod outcomes;
+mod standing;
+
+pub use debts::push_owed;
+pub use holdings::push_registry;
+pub use outcomes::push_outcome;
+pub use standing::{Standing, push_standing};

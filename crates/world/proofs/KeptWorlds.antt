@@ -1,0 +1,220 @@
+-- What a world keeps beside what is seen of it: after a turn of one station, and after a message is posted.
+use Rattle.std.proofs.Common.{◌≡◌, ℕ, zero, suc, ◌+◌, Bool, true, false, List, [], ◌∷◌, ◌++◌, map, Option, Some, None, cond, get_or, inl, inr, refl, sym, ap, ◌∙◌, subst}
+use Rattle.std.specs.BTreeSet.{contains}
+use Rattle.std.specs.Ordering.{nat_cmp}
+use Rattle.std.specs.Prelude.{All, ◌==◌, ◌&&◌, ◌||◌, is_some, option_and_then}
+use Rattle.std.specs.List.{AllByRecursion, list_any, position_from}
+use Rattle.std.proofs.Math.ListN.{set}
+use Rattle.std.proofs.Math.Seq.{map-set_same}
+use Rattle.std.proofs.lemmas.Bool.{cases_Bool}
+use Rattle.std.proofs.lemmas.List.Elements.{All-nil, All-cons, All-head, All-tail, All-get_or, All-set, All-push, All-weaker}
+use Rattle.std.proofs.lemmas.List.Folds.{list_any-append, list_any_none}
+use Rattle.units.specs.Apart.{Pairwise}
+use Rattle.units.specs.Code.{same_code, same_node}
+use Rattle.units.specs.declared.code.Code.{Code}
+use Rattle.units.specs.declared.code.Node.{Node}
+use Rattle.units.specs.declared.code.Node.TheVariants.{Itl, Registry}
+use Rattle.units.proofs.Same.{node_of_same, same_node-refl}
+use Rattle.wire.specs.declared.message.Message.{Message}
+use Rattle.scheme.specs.Order.{member}
+use Rattle.scheme.specs.declared.members.Member.{Member}
+use Rattle.scheme.specs.declared.registries.Scheme.{Scheme}
+use Rattle.protocol.specs.Registries.{is_node}
+use Rattle.protocol.specs.World.{Station, posted, sent, station, was_posted}
+use Rattle.protocol.specs.declared.event.Outcome.TheVariants.{Done, NotPossible}
+use Rattle.protocol.specs.declared.event.Posted.{Posted}
+use Rattle.node.specs.Cores.{node_of, scheme_of}
+use Rattle.world.specs.Kept.{AreKept, IsFresh, IsKept, nodes, whole}
+use Rattle.world.specs.Stations.{seen}
+use Rattle.world.specs.declared.station.Station.{Station as Kept}
+use Rattle.world.proofs.Places.{StandsAt, is_of, IsPlace, place_find, place_found, place_node, place_none, place_within, same_seen}
+use Rattle.world.proofs.PlacedStations.{placed, unplaced}
+use Rattle.world.proofs.Registries.{Differ, has_code, later_place, nodes_differ}
+use Rattle.world.proofs.Worlds.{after}
+
+-- ---- where a node stands
+
+abbrev pub place : Scheme → Node → Option ℕ
+place scheme n = position_from (λ x. same_node x n) 0 (nodes scheme)
+
+members_there : (c : Code) (k : ℕ) (ms : List Member) → is_some (position_from (has_code c) k ms) ≡ is_some (member ms c)
+members_there c k [] = refl
+members_there c k (m ∷ ms) = pick (members_there c (k + 1) ms) (same_code m.code c)
+  where
+    pick : is_some (position_from (has_code c) (k + 1) ms) ≡ is_some (member ms c) → (b : Bool) → is_some (cond b (Some k) (position_from (has_code c) (k + 1) ms)) ≡ is_some (cond b (Some m) (member ms c))
+    pick rest true = refl
+    pick rest false = rest
+
+node_there : (scheme : Scheme) (n : Node) → is_some (place scheme n) ≡ is_node scheme n
+node_there scheme Itl = refl
+node_there scheme (Registry c) = ap is_some (later_place 1 c scheme.members) ∙ members_there c 1 scheme.members
+
+pub found : (scheme : Scheme) (ss : List Kept) (bag : List Posted) (n : Node) (at : ℕ) → AreKept scheme ss bag → Some at ≡ place scheme n → IsPlace ss n at
+found scheme ss bag n at k e = place_found ss n at (placed scheme ss n at k.nodes_are e)
+
+pub missing : (scheme : Scheme) (ss : List Kept) (bag : List Posted) (n : Node) → AreKept scheme ss bag → None ≡ place scheme n → position_from (is_of n) 0 ss ≡ None
+missing scheme ss bag n k e = unplaced scheme ss n k.nodes_are e
+
+pub at_place : (scheme : Scheme) (ss : List Kept) (bag : List Posted) (n : Node) (at : ℕ) (s : Kept) → AreKept scheme ss bag → Some at ≡ place scheme n → s ≡ get_or ss at s → IsKept scheme bag s
+at_place scheme ss bag n at s k e is = subst (IsKept scheme bag) (sym is) (All-get_or (IsKept scheme bag) ss at s (place_within ss n at (found scheme ss bag n at k e)) k.kept)
+
+-- ---- whether a message was posted
+
+pub marked_here : (scheme : Scheme) (ss : List Kept) (bag : List Posted) (n : Node) (at key : ℕ) (s : Kept) → AreKept scheme ss bag → Some at ≡ place scheme n → s ≡ get_or ss at s
+    → contains nat_cmp s.posted key ≡ was_posted (whole scheme ss bag) n key
+marked_here scheme ss bag n at key s k e is =
+    (at_place scheme ss bag n at s k e is).marked key
+    ∙ ap (λ m. was_posted (whole scheme ss bag) m key) (ap (λ (s : Kept). node_of s.core) is ∙ place_node ss n at s (found scheme ss bag n at k e))
+
+other_node : (scheme : Scheme) (n m : Node) (b : Bool) → is_node scheme n ≡ false → is_node scheme m ≡ true → (same_node m n && b) ≡ false
+other_node scheme n m b outside inside = pick (same_node m n) refl
+  where
+    clash : false ≡ true → ⊥
+    clash e = cc (e)
+
+    pick : (t : Bool) → same_node m n ≡ t → (t && b) ≡ false
+    pick true e = absurd (clash (sym outside ∙ ap (is_node scheme) (sym (node_of_same m n e)) ∙ inside))
+    pick false e = refl
+
+-- a node that isn't of the scheme posted nothing
+pub posted_nothing : (scheme : Scheme) (ss : List Kept) (bag : List Posted) (n : Node) (key : ℕ) → AreKept scheme ss bag → None ≡ place scheme n → false ≡ was_posted (whole scheme ss bag) n key
+posted_nothing scheme ss bag n key k e =
+    let outside : is_node scheme n ≡ false = sym (node_there scheme n) ∙ ap is_some (sym e) in
+    sym (list_any_none (λ (p : Posted). same_node p.node n && (p.key == key)) bag
+    (All-weaker (λ (p : Posted). is_node scheme p.node ≡ true) (λ (p : Posted). (same_node p.node n && (p.key == key)) ≡ false) (λ p inside. other_node scheme n p.node (p.key == key) outside inside) bag k.among))
+
+-- ---- a turn
+
+-- the scheme, the node and the keys of what it posted are as before
+pub record Stays (old new : Kept) : Type 0 where
+  pub scheme : scheme_of new.core ≡ scheme_of old.core
+  pub node : node_of new.core ≡ node_of old.core
+  pub posted : (key : ℕ) → contains nat_cmp new.posted key ≡ contains nat_cmp old.posted key
+
+pub stays_with : (old new : Kept) → scheme_of new.core ≡ scheme_of old.core → node_of new.core ≡ node_of old.core → new.posted ≡ old.posted → Stays old new
+stays_with old new scheme node keys = record { scheme = scheme; node = node; posted = λ key. ap (λ t. contains nat_cmp t key) keys }
+
+pub stays_core : (old new : Kept) → new.core ≡ old.core → new.posted ≡ old.posted → Stays old new
+stays_core old new core keys = stays_with old new (ap scheme_of core) (ap node_of core) keys
+
+kept_station : (scheme : Scheme) (bag : List Posted) (old new : Kept) → Stays old new → IsKept scheme bag old → IsKept scheme bag new
+kept_station scheme bag old new same k = record {
+  scheme_is = same.scheme ∙ k.scheme_is;
+  marked = λ key. same.posted key ∙ k.marked key ∙ ap (λ m. was_posted (whole scheme [] bag) m key) (sym same.node);
+}
+
+same_nodes : (ss : List Kept) (at : ℕ) (old new : Kept) → old ≡ get_or ss at old → node_of new.core ≡ node_of old.core → map (λ (s : Kept). node_of s.core) (set ss at new) ≡ map (λ (s : Kept). node_of s.core) ss
+same_nodes ss at old new is e = map-set_same (λ (s : Kept). node_of s.core) ss at new old (e ∙ ap (λ (s : Kept). node_of s.core) is)
+
+pub kept_turn : (scheme : Scheme) (ss : List Kept) (bag : List Posted) (n : Node) (at : ℕ) (old new : Kept) → AreKept scheme ss bag → Some at ≡ place scheme n → old ≡ get_or ss at old → Stays old new → AreKept scheme (set ss at new) bag
+kept_turn scheme ss bag n at old new k e is same = record {
+  nodes_are = same_nodes ss at old new is same.node ∙ k.nodes_are;
+  kept = All-set (IsKept scheme bag) ss at new (kept_station scheme bag old new same (at_place scheme ss bag n at old k e is)) k.kept;
+  among = k.among;
+}
+
+-- ---- a message posted
+
+or_false : (b : Bool) → (b || false) ≡ b
+or_false true = refl
+or_false false = refl
+
+pub one_more : (scheme : Scheme) (bag : List Posted) (p : Posted) (m : Node) (key : ℕ)
+    → was_posted (whole scheme [] (bag ++ p ∷ [])) m key ≡ (was_posted (whole scheme [] bag) m key || (same_node p.node m && (p.key == key)))
+one_more scheme bag p m key =
+    let q : Posted → Bool = λ p. same_node p.node m && (p.key == key) in
+    list_any-append q bag (p ∷ []) ∙ ap (λ b. list_any q bag || b) (or_false (q p))
+
+kept_other : (scheme : Scheme) (bag : List Posted) (p : Posted) (s : Kept) → same_node p.node (node_of s.core) ≡ false → IsKept scheme bag s → IsKept scheme (bag ++ p ∷ []) s
+kept_other scheme bag p s other k = record {
+  scheme_is = k.scheme_is;
+  marked = λ key.
+      k.marked key
+      ∙ sym (one_more scheme bag p (node_of s.core) key
+      ∙ ap (λ b. was_posted (whole scheme [] bag) (node_of s.core) key || (b && (p.key == key))) other
+      ∙ or_false (was_posted (whole scheme [] bag) (node_of s.core) key));
+}
+
+kept_others : (scheme : Scheme) (bag : List Posted) (p : Posted) (ss : List Kept) → AllByRecursion (Differ p.node) (map (λ (s : Kept). node_of s.core) ss) → All (IsKept scheme bag) ss → All (IsKept scheme (bag ++ p ∷ [])) ss
+kept_others scheme bag p [] differ k = All-nil (IsKept scheme (bag ++ p ∷ []))
+kept_others scheme bag p (s ∷ ss) differ k =
+    All-cons (IsKept scheme (bag ++ p ∷ [])) s ss (kept_other scheme bag p s differ.0 (All-head (IsKept scheme bag) s ss k))
+    (kept_others scheme bag p ss differ.1 (All-tail (IsKept scheme bag) s ss k))
+
+not_same : (a b : Node) → same_node a b ≡ false → same_node b a ≡ false
+not_same a b e =
+    elim (cases_Bool (same_node b a)) [
+      | inl y ↦ absurd (clash (sym e ∙ ap (λ x. same_node a x) (node_of_same b a y) ∙ same_node-refl a))
+      | inr other ↦ other
+    ]
+  where
+    clash : false ≡ true → ⊥
+    clash e = cc (e)
+
+kept_from : (scheme : Scheme) (bag : List Posted) (p : Posted) (ss : List Kept) (at : ℕ) (new : Kept) → StandsAt ss p.node at → Pairwise Differ (map (λ (s : Kept). node_of s.core) ss) → All (IsKept scheme bag) ss
+    → IsKept scheme (bag ++ p ∷ []) new → All (IsKept scheme (bag ++ p ∷ [])) (set ss at new)
+unfolding StandsAt
+kept_from scheme bag p [] at new stands differ k one = absurd stands
+kept_from scheme bag p (s ∷ ss) zero new stands differ k one =
+    All-cons (IsKept scheme (bag ++ p ∷ [])) new ss one
+    (kept_others scheme bag p ss (subst (λ m. AllByRecursion (Differ m) (map (λ (s : Kept). node_of s.core) ss)) (node_of_same (node_of s.core) p.node stands) differ.0) (All-tail (IsKept scheme bag) s ss k))
+kept_from scheme bag p (s ∷ ss) (suc at) new stands differ k one =
+    All-cons (IsKept scheme (bag ++ p ∷ [])) s (set ss at new)
+    (kept_other scheme bag p s (not_same (node_of s.core) p.node stands.0) (All-head (IsKept scheme bag) s ss k))
+    (kept_from scheme bag p ss at new stands.1 differ.1 (All-tail (IsKept scheme bag) s ss k) one)
+
+-- the station at that place has the key now
+pub kept_post : (scheme : Scheme) (ss : List Kept) (bag : List Posted) (at : ℕ) (p : Posted) (old new : Kept) → AreKept scheme ss bag → Some at ≡ place scheme p.node → old ≡ get_or ss at old → new.core ≡ old.core
+    → ((key : ℕ) → contains nat_cmp new.posted key ≡ (contains nat_cmp old.posted key || (p.key == key))) → AreKept scheme (set ss at new) (bag ++ p ∷ [])
+kept_post scheme ss bag at p old new k e is core marks =
+    let here = found scheme ss bag p.node at k e in
+    let one = at_place scheme ss bag p.node at old k e is in
+    let node : node_of new.core ≡ p.node = ap node_of core ∙ ap (λ (s : Kept). node_of s.core) is ∙ place_node ss p.node at old here in
+    let own : same_node p.node (node_of new.core) ≡ true = ap (same_node p.node) node ∙ same_node-refl p.node in
+    let inside : is_node scheme p.node ≡ true = sym (node_there scheme p.node) ∙ ap is_some (sym e) in
+    record {
+      nodes_are = same_nodes ss at old new is (ap node_of core) ∙ k.nodes_are;
+      kept =
+          kept_from scheme bag p ss at new here.stands (subst (Pairwise Differ) (sym k.nodes_are) (nodes_differ scheme)) k.kept
+          (record {
+            scheme_is = ap scheme_of core ∙ one.scheme_is;
+            marked = λ key.
+                marks key
+                ∙ ap (λ b. b || (p.key == key)) (one.marked key ∙ ap (λ m. was_posted (whole scheme [] bag) m key) (ap node_of (sym core)))
+                ∙ sym (one_more scheme bag p (node_of new.core) key ∙ ap (λ b. was_posted (whole scheme [] bag) (node_of new.core) key || (b && (p.key == key))) own);
+          });
+      among = All-push (λ (p : Posted). is_node scheme p.node ≡ true) bag p k.among inside;
+    }
+
+-- what the node of that place sends
+sends_from : (scheme : Scheme) (ss : List Kept) (bag : List Posted) (n : Node) (at key : ℕ) (s : Kept) (o : Option Message) → AreKept scheme ss bag → Some at ≡ place scheme n → s ≡ get_or ss at s
+    → o ≡ sent (scheme_of s.core) key (seen s) → option_and_then (sent scheme key) (station (whole scheme ss bag) n) ≡ o
+sends_from scheme ss bag n at key s o k e is so =
+    ap (option_and_then (sent scheme key)) (place_find ss n at s (found scheme ss bag n at k e) ∙ ap (λ (s : Kept). Some (seen s)) (sym is))
+    ∙ sym (so ∙ ap (λ z. sent z key (seen s)) (at_place scheme ss bag n at s k e is).scheme_is)
+
+pub posts : (scheme : Scheme) (ss : List Kept) (bag : List Posted) (n : Node) (at key : ℕ) (message : Message) (s old new : Kept) → AreKept scheme ss bag → Some at ≡ place scheme n → s ≡ get_or ss at s
+    → Some message ≡ sent (scheme_of s.core) key (seen s) → old ≡ get_or ss at old → seen new ≡ seen old
+    → after (whole scheme (set ss at new) (bag ++ record { node = n; key = key; message = message } ∷ [])) Done ≡ posted (whole scheme ss bag) n key (option_and_then (sent scheme key) (station (whole scheme ss bag) n))
+posts scheme ss bag n at key message s old new k e is some was same =
+    let w = whole scheme ss bag in
+    ap (λ (l : List Station). after (record w { stations = l; bag = bag ++ record { node = n; key = key; message = message } ∷ [] }) Done) (same_seen ss at old new was same)
+    ∙ sym (ap (posted w n key) (sends_from scheme ss bag n at key s (Some message) k e is some))
+
+pub posts_none : (scheme : Scheme) (ss : List Kept) (bag : List Posted) (n : Node) (at key : ℕ) (s : Kept) → AreKept scheme ss bag → Some at ≡ place scheme n → s ≡ get_or ss at s → None ≡ sent (scheme_of s.core) key (seen s)
+    → after (whole scheme ss bag) NotPossible ≡ posted (whole scheme ss bag) n key (option_and_then (sent scheme key) (station (whole scheme ss bag) n))
+posts_none scheme ss bag n at key s k e is none = sym (ap (posted (whole scheme ss bag) n key) (sends_from scheme ss bag n at key s None k e is none))
+
+pub posts_nowhere : (scheme : Scheme) (ss : List Kept) (bag : List Posted) (n : Node) (key : ℕ) → AreKept scheme ss bag → None ≡ place scheme n
+    → after (whole scheme ss bag) NotPossible ≡ posted (whole scheme ss bag) n key (option_and_then (sent scheme key) (station (whole scheme ss bag) n))
+posts_nowhere scheme ss bag n key k e =
+    sym (ap (λ o. posted (whole scheme ss bag) n key (option_and_then (sent scheme key) o)) (place_none ss n (missing scheme ss bag n k e)))
+
+-- ---- the opening world
+
+pub kept_opening : (scheme : Scheme) (ss : List Kept) → map (λ (s : Kept). node_of s.core) ss ≡ nodes scheme → All (IsFresh scheme) ss → AreKept scheme ss []
+kept_opening scheme ss nodes fresh = record {
+  nodes_are = nodes;
+  kept = All-weaker (IsFresh scheme) (IsKept scheme []) (λ s f. record { scheme_is = f.scheme_is; marked = λ key. f.none key }) ss fresh;
+  among = All-nil (λ (p : Posted). is_node scheme p.node ≡ true);
+}

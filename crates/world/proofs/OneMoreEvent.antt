@@ -1,0 +1,42 @@
+-- The laws of a world that events led to, after one more event and after all events.
+use Rattle.std.proofs.Common.{◌≡◌, ℕ, ◌≤◌, List, [], ◌∷◌, ◌++◌, drop, length, ap, sym, ◌∙◌, subst}
+use Rattle.std.proofs.Math.ListN.{drop_of_length-le}
+use Rattle.scheme.specs.declared.registries.Scheme.{Scheme}
+use Rattle.protocol.specs.Claims.{DeliversWelcome, committed_of, live_of}
+use Rattle.protocol.specs.Headline.{IsSafe}
+use Rattle.protocol.specs.Owner.{OwnersMove}
+use Rattle.protocol.specs.WayOut.{WayOut}
+use Rattle.protocol.specs.World.{Stepped, World, opening, run, step}
+use Rattle.protocol.specs.declared.event.Outcome.{Outcome}
+use Rattle.protocol.specs.declared.event.WorldEvent.{WorldEvent}
+use Rattle.safety.proofs.Headline as laws
+use Rattle.safety.proofs.WorldLemmas.QuietWorlds.{run_append}
+use Rattle.world.proofs.Worlds.{after}
+
+module _ (scheme : Scheme) (events : List WorldEvent) (event : WorldEvent) (w v : World) (o : Outcome) (was : w ≡ run (opening scheme) events) (does : after v o ≡ step w event) where
+  went : v ≡ (step (run (opening scheme) events) event).world
+  went = ap (λ (s : Stepped). s.world) does ∙ ap (λ (x : World). (step x event).world) was
+
+  led : run (opening scheme) (events ++ event ∷ []) ≡ v
+  led = run_append (opening scheme) events (event ∷ []) ∙ sym went
+
+  pub next_live : IsSafe scheme (live_of v)
+  next_live = subst (λ (x : World). IsSafe scheme (live_of x)) led (laws.safe_live scheme (events ++ event ∷ []))
+
+  pub next_committed : IsSafe scheme (committed_of v)
+  next_committed = subst (λ (x : World). IsSafe scheme (committed_of x)) led (laws.safe_committed scheme (events ++ event ∷ []))
+
+  pub next_welcome : DeliversWelcome v
+  next_welcome = subst DeliversWelcome led (laws.welcome scheme (events ++ event ∷ []))
+
+  pub next_owners_move : OwnersMove scheme (committed_of w) (committed_of v)
+  next_owners_move =
+      subst (λ (x : World). OwnersMove scheme (committed_of x) (committed_of v)) (sym was)
+      (subst (λ (x : World). OwnersMove scheme (committed_of (run (opening scheme) events)) (committed_of x)) (sym went) (laws.owners_move scheme events event))
+
+  pub next_way_out : WayOut v
+  next_way_out = subst WayOut led (laws.way_out scheme (events ++ event ∷ []))
+
+-- a loop over all events has ended: none is left out
+pub all_led : (scheme : Scheme) (events : List WorldEvent) (i : ℕ) (w : World) → length events ≤ i → run w (drop i events) ≡ run (opening scheme) events → run (opening scheme) events ≡ w
+all_led scheme events i w l e = sym e ∙ ap (run w) (drop_of_length-le events l)

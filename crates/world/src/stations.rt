@@ -1,0 +1,63 @@
+//! The nodes of a world, by the node that each is.
+ghost use Rattle.std.specs.List.{position_from};
+ghost use Rattle.std.specs.Prelude.{◌≡◌, ◌∷◌, map, All, IfOk};
+ghost use Rattle.std.specs.declared.cmp.Ordering.TheVariants.{Less};
+ghost use Rattle.units.specs.Apart.{Pairwise};
+ghost use Rattle.units.specs.Code.{same_code, same_node};
+ghost use Rattle.units.specs.Keys.{code_cmp};
+ghost use Rattle.node.specs.Cores.{node_of};
+ghost use Rattle.protocol.specs.World.{opening_station};
+ghost use Rattle.world.specs.Kept.{IsFresh, nodes};
+ghost use Rattle.world.specs.Stations.{seen};
+
+use crate::station::Station;
+use node::Core;
+use scheme::{Member, Scheme};
+use std::alloc::Global;
+use units::{Code, NoMemory, Node};
+
+// The place of the registry of that code.
+fn registry_place(members: &[Member], code: Code) -> Option<usize>
+    requires { Pairwise (λ a b. code_cmp a.code b.code ≡ Less) members.now }
+    ensures { result ≡ position_from (λ m. same_code m.code code) 0 members.now }
+{
+    members
+        .binary_search_by_key(&code, |member| member.code)
+        .ok()
+}
+
+/// The place of that node among the nodes of the scheme.
+pub(crate) fn place_of(scheme: &Scheme, node: Node) -> Option<usize>
+    ensures { result ≡ position_from (λ n. same_node n node) 0 (nodes scheme.now) }
+{
+    match node {
+        Node::Itl => Some(0),
+        Node::Registry(code) => {
+            let place = registry_place(scheme.registries(), code)?;
+            Some(place + 1)
+        }
+    }
+}
+
+// A station of that node, which has recorded nothing.
+fn opening_station(alloc: Global, scheme: &Scheme, node: Node) -> Result<Station, NoMemory>
+    ensures opens { IfOk result (λ s. seen s ≡ opening_station node) }
+    ensures fresh { IfOk result (IsFresh scheme.now) }
+{
+    let core = Core::new(alloc, scheme, node)?;
+    Ok(Station::new(alloc, core))
+}
+
+/// The stations of the opening world: the log, then the registries in the scheme's order.
+pub(crate) fn opening_stations(alloc: Global, scheme: &Scheme) -> Result<Vec<Station>, NoMemory>
+    ensures opens { IfOk result (λ v. map seen v.items ≡ opening_station Node.Itl ∷ map (λ m. opening_station (Node.Registry m.code)) scheme.now.members) }
+    ensures nodes { IfOk result (λ v. map (λ s. node_of s.core) v.items ≡ nodes scheme.now) }
+    ensures fresh { IfOk result (λ v. All (IsFresh scheme.now) v.items) }
+{
+    let mut stations = Vec::new(alloc);
+    stations.push(opening_station(alloc, scheme, Node::Itl)?)?;
+    for member in scheme.registries() {
+        stations.push(opening_station(alloc, scheme, Node::Registry(member.code))?)?;
+    }
+    Ok(stations)
+}

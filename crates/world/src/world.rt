@@ -1,0 +1,241 @@
+//! The world: all nodes, and the bag of all messages that were ever posted.
+ghost use Rattle.std.specs.Prelude.{◌≡◌, List, slice_get, option_map, option_and_then, option_copied, IfOk, OnErr, OnOk};
+ghost use Rattle.scheme.specs.declared.registries.Scheme.{Scheme};
+ghost use Rattle.protocol.specs.Claims.{DeliversWelcome, committed_of, live_of};
+ghost use Rattle.protocol.specs.Headline.{IsSafe};
+ghost use Rattle.protocol.specs.Owner.{OwnersMove};
+ghost use Rattle.protocol.specs.WayOut.{WayOut};
+ghost use Rattle.protocol.specs.World.{at_node, is_order, is_registry, opening, run, sent, station, step, take_input, was_posted};
+ghost use Rattle.protocol.specs.declared.event.WorldEvent.{WorldEvent};
+
+use crate::station::Station;
+use crate::stations::{opening_stations, place_of};
+use protocol::{Outcome, Posted, WorldEvent};
+use scheme::Scheme;
+use status::Moment;
+use std::alloc::Global;
+use std::marker::Model;
+use units::{NoMemory, Node};
+use wire::{Input, Message};
+
+/// All nodes of a scheme, the log first and then the registries in byte order, and the bag of all messages that were ever posted.
+/// In contracts it is the protocol's world.
+#[derive(Debug, Drop)]
+pub struct World {
+    alloc: Global,
+    pub(crate) scheme: Scheme,
+    pub(crate) stations: Vec<Station>,
+    pub(crate) bag: Vec<Posted>,
+}
+
+impl Model for World {
+    ghost use Rattle.std.specs.Coded.{codes};
+    ghost use Rattle.scheme.specs.contracts.registries.Scheme as kept_scheme;
+    ghost use Rattle.protocol.specs.World as protocol;
+    ghost use Rattle.world.specs.Kept.{AreKept, whole};
+
+    ghost Value = { protocol.World };
+
+    ghost coded = { Prim.hlevel (codes, kept_scheme.the_row.coded) };
+
+    ghost view = { λ w. whole w.scheme w.stations.items w.bag.items };
+
+    ghost invariant = { λ w. AreKept w.scheme w.stations.items w.bag.items };
+}
+
+fn copied(message: Option<&Message>) -> Result<Option<Message>, NoMemory>
+    ensures { IfOk result (λ m. m ≡ option_copied message.entry) }
+{
+    match message {
+        Some(message) => Ok(Some(message.copy()?)),
+        None => Ok(None),
+    }
+}
+
+fn message_at(bag: &[Posted], index: u64) -> Option<&Message>
+    ensures { option_copied result ≡ option_map (λ p. p.message) (slice_get bag.now index) }
+{
+    let posted = bag.get(index as usize)?;
+    Some(&posted.message)
+}
+
+fn is_registry(node: Node) -> bool
+    ensures { result ≡ is_registry node }
+{
+    match node {
+        Node::Registry(_) => true,
+        Node::Itl => false,
+    }
+}
+
+impl World {
+    /// The opening world of a scheme: empty journals, an empty bag, all nodes running. Or `NoMemory`.
+    pub fn new(alloc: Global, scheme: &Scheme) -> Result<World, NoMemory>
+        ensures { IfOk result (λ w. w ≡ opening scheme.now) }
+    {
+        let stations = opening_stations(alloc, scheme)?;
+        Ok(World {
+            alloc,
+            scheme: scheme.copy(alloc)?,
+            stations,
+            bag: Vec::new(alloc),
+        })
+    }
+
+    // Whether the node posted the message with that key.
+    fn was_posted(&self, node: Node, key: u64) -> bool
+        ensures { result ≡ was_posted self.now node key }
+    {
+        match place_of(&self.scheme, node) {
+            Some(at) => self.stations[at].posted.contains(&key),
+            None => false,
+        }
+    }
+
+    // Whether the node takes such inputs as orders, or the input acknowledges a message that it posted.
+    fn is_order(&self, node: Node, input: &Input) -> bool
+        ensures { result ≡ is_order self.now node input.now }
+    {
+        match input {
+            Input::Propose(_)
+            | Input::Request(_)
+            | Input::OpenAccount(_)
+            | Input::CloseAccount(_) => is_registry(node),
+            Input::CleanUp(_) | Input::Eligible { .. } => !is_registry(node),
+            Input::Ack(key) => self.was_posted(node, key.value),
+            Input::Received { .. } => false,
+        }
+    }
+
+    // The node takes an input.
+    fn take(&mut self, node: Node, input: &Input) -> Result<Outcome, NoMemory>
+        ensures ok { IfOk result (λ o. record { world = self.new; outcome = o } ≡ at_node self.old (station self.old node) (take_input self.old.scheme input.now)) }
+        ensures err { OnErr result (self.new ≡ self.old) }
+    {
+        match place_of(&self.scheme, node) {
+            Some(at) => self.stations[at].take(input),
+            None => Ok(Outcome::NotPossible),
+        }
+    }
+
+    // The node takes an order.
+    fn order(&mut self, node: Node, input: &Input) -> Result<Outcome, NoMemory>
+        ensures ok { IfOk result (λ o. record { world = self.new; outcome = o } ≡ step self.old (WorldEvent.Take node input.now)) }
+        ensures err { OnErr result (self.new ≡ self.old) }
+    {
+        if self.is_order(node, input) {
+            self.take(node, input)
+        } else {
+            Ok(Outcome::NotPossible)
+        }
+    }
+
+    fn commit(&mut self, node: Node, count: u64) -> Outcome
+        ensures { record { world = self.new; outcome = result } ≡ step self.old (WorldEvent.Commit node count) }
+    {
+        match place_of(&self.scheme, node) {
+            Some(at) => self.stations[at].commit(count),
+            None => Outcome::NotPossible,
+        }
+    }
+
+    fn crash(&mut self, node: Node, kept: u64) -> Result<Outcome, NoMemory>
+        ensures ok { IfOk result (λ o. record { world = self.new; outcome = o } ≡ step self.old (WorldEvent.Crash node kept)) }
+        ensures err { OnErr result (self.new ≡ self.old) }
+    {
+        match place_of(&self.scheme, node) {
+            Some(at) => self.stations[at].crash(kept),
+            None => Ok(Outcome::NotPossible),
+        }
+    }
+
+    fn restart(&mut self, node: Node) -> Outcome
+        ensures { record { world = self.new; outcome = result } ≡ step self.old (WorldEvent.Restart node) }
+    {
+        match place_of(&self.scheme, node) {
+            Some(at) => self.stations[at].restart(),
+            None => Outcome::NotPossible,
+        }
+    }
+
+    fn post(&mut self, node: Node, key: u64) -> Result<Outcome, NoMemory>
+        ensures ok { IfOk result (λ o. record { world = self.new; outcome = o } ≡ step self.old (WorldEvent.Post node key)) }
+        ensures err { OnErr result (self.new ≡ self.old) }
+    {
+        let Some(at) = place_of(&self.scheme, node) else {
+            return Ok(Outcome::NotPossible);
+        };
+        let Some(message) = copied(self.stations[at].sent(key))? else {
+            return Ok(Outcome::NotPossible);
+        };
+        self.bag.reserve(1)?;
+        self.stations[at].mark_posted(key)?;
+        self.bag.push_reserved(Posted { node, key, message });
+        Ok(Outcome::Done)
+    }
+
+    fn deliver(&mut self, index: u64, moment: Moment) -> Result<Outcome, NoMemory>
+        ensures ok { IfOk result (λ o. record { world = self.new; outcome = o } ≡ step self.old (WorldEvent.Deliver index moment)) }
+        ensures err { OnErr result (self.new ≡ self.old) }
+    {
+        match copied(message_at(self.bag.as_slice(), index))? {
+            Some(message) => {
+                let node = message.receiver();
+                self.take(node, &Input::Received { message, moment })
+            }
+            None => Ok(Outcome::NotPossible),
+        }
+    }
+
+    // Moves the world by an event.
+    fn move_by(&mut self, event: &WorldEvent) -> Result<Outcome, NoMemory>
+        ensures ok { IfOk result (λ o. record { world = self.new; outcome = o } ≡ step self.old event.now) }
+        ensures err { OnErr result (self.new ≡ self.old) }
+    {
+        match event {
+            WorldEvent::Take { node, input } => self.order(*node, input),
+            WorldEvent::Commit { node, count } => Ok(self.commit(*node, *count)),
+            WorldEvent::Post { node, key } => self.post(*node, *key),
+            WorldEvent::Deliver { message, moment } => self.deliver(*message, *moment),
+            WorldEvent::Crash { node, kept } => self.crash(*node, *kept),
+            WorldEvent::Restart { node } => Ok(self.restart(*node)),
+        }
+    }
+
+    /// Moves the world by an event, and returns what it came to. After `NoMemory` the world is as it was.
+    ///
+    /// Where events led to the world, no tonne is in two places after this one and none is lost, by journals with their tails and by
+    /// committed journals: see `run`. And the event moves a unit's owner only by committing Completed of a transfer with it.
+    pub fn apply(&mut self, event: &WorldEvent) -> Result<Outcome, NoMemory>
+        ensures ok { IfOk result (λ o. record { world = self.new; outcome = o } ≡ step self.old event.now) }
+        ensures err { OnErr result (self.new ≡ self.old) }
+        ensures live { (scheme : Scheme) (events : List WorldEvent) → self.old ≡ run (opening scheme) events → OnOk result (IsSafe scheme (live_of self.new)) }
+        ensures committed { (scheme : Scheme) (events : List WorldEvent) → self.old ≡ run (opening scheme) events → OnOk result (IsSafe scheme (committed_of self.new)) }
+        ensures welcome { (scheme : Scheme) (events : List WorldEvent) → self.old ≡ run (opening scheme) events → OnOk result (DeliversWelcome self.new) }
+        ensures owners_move { (scheme : Scheme) (events : List WorldEvent) → self.old ≡ run (opening scheme) events → OnOk result (OwnersMove scheme (committed_of self.old) (committed_of self.new)) }
+        ensures way_out { (scheme : Scheme) (events : List WorldEvent) → self.old ≡ run (opening scheme) events → OnOk result (WayOut self.new) }
+    {
+        self.move_by(event)
+    }
+
+    /// The world that all these events lead to from the opening one, one after another, none left out. Or `NoMemory`.
+    ///
+    /// By journals with their tails and by committed journals, no tonne is in two places and none is lost: an allotted unit is held
+    /// by one registry and owed by no transfer, or held by none and owed by exactly one completed transfer; no unit is spendable
+    /// in two registries; a registry that holds a unit is its owner in the log's book; and no node has Completed for a transaction
+    /// that another one has Rejected, Terminated or Cancelled. No delivery to such a world is refused but where a journal is full.
+    /// And starts, commits and messages alone lead from it to a world at rest, where each allotted unit is spendable.
+    pub fn run(alloc: Global, scheme: &Scheme, events: &[WorldEvent]) -> Result<World, NoMemory>
+        ensures world { IfOk result (λ w. w ≡ run (opening scheme.now) events.now) }
+        ensures live { IfOk result (λ w. IsSafe scheme.now (live_of w)) }
+        ensures committed { IfOk result (λ w. IsSafe scheme.now (committed_of w)) }
+        ensures welcome { IfOk result DeliversWelcome }
+        ensures way_out { IfOk result WayOut }
+    {
+        let mut world = World::new(alloc, scheme)?;
+        for event in events {
+            world.apply(event)?;
+        }
+        Ok(world)
+    }
+}

@@ -160,7 +160,7 @@ def main():
     parser.add_argument("--runs", type=int, default=5, help="runs of each; the best one counts")
     parser.add_argument("--load", help="only loads whose name has this text")
     words = parser.parse_args()
-    subprocess.run([LAUNCHER, "--help"], stdout=subprocess.DEVNULL, check=True)
+    subprocess.run([LAUNCHER, "help"], stdout=subprocess.DEVNULL, check=True)
     kept = True
     with tempfile.TemporaryDirectory() as folder:
         for name, lines_of, largest in LOADS:

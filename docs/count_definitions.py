@@ -5,6 +5,9 @@ Prints, of the repository that this file stands in or of the folder that is give
 crates/protocol/specs (no blank lines, comments and `use` lines), and, of all definitions in crates/*/specs that the
 headline's words cite, directly or through others, how many there are and how many lines they have; the names of limits
 and codes, which stand for a number alone, are counted apart. Types that the code declares are not counted.
+
+With --files it prints instead the tables of docs/DEFINITIONS.md: the files of definitions of each crate, in the order in
+which each needs only those before it, with the comment that each begins with.
 """
 import glob
 import os
@@ -46,8 +49,37 @@ def parts(path):
     return uses, found
 
 
+def heading(path):
+    """The comment that a file of definitions begins with, as one line."""
+    lines = []
+    with open(path, encoding="utf-8") as file:
+        for line in file:
+            if not line.startswith("-- "):
+                break
+            lines.append(line[3:].strip())
+    return " ".join(lines)
+
+
+def print_files(top):
+    with open(os.path.join(top, "crates.txt"), encoding="utf-8") as file:
+        crates = [line.split(":")[0].split()[0] for line in file if ":" in line and not line.startswith("#")]
+    for crate in crates:
+        names = os.path.join(top, "crates", crate, "specs", "Lib.antt")
+        if not os.path.exists(names):
+            continue
+        print("### %s\n\n| File | What it defines |\n|---|---|" % crate)
+        for line in open(names, encoding="utf-8"):
+            if line.startswith("pub mod "):
+                name = line.split()[2]
+                print("| `%s` | %s |" % (name, heading(os.path.join(top, "crates", crate, "specs", name + ".antt"))))
+        print()
+
+
 def main():
-    top = sys.argv[1] if len(sys.argv) > 1 else os.path.join(os.path.dirname(os.path.abspath(__file__)), "..")
+    words = [word for word in sys.argv[1:] if word != "--files"]
+    top = words[0] if words else os.path.join(os.path.dirname(os.path.abspath(__file__)), "..")
+    if "--files" in sys.argv:
+        return print_files(top)
     files = {}
     for path in sorted(glob.glob(os.path.join(top, "crates/*/specs/*.antt"))):
         crate = path.split(os.sep)[-3]

@@ -303,7 +303,7 @@ module _ (accounts : BTreeMap ℕ Account) (lots : Lots) (res : BTreeMap Transac
         ∙ ap (λ k. tally (is_share n q) (get lots s) + tally (λ (x : Kind). eqb a n && same_id id q) k) (sym (get_kinds blocks s)))
         ∙ ap (λ m. count (is_share n q) lots + m) (kinds_counted blocks apart (eqb a n && same_id id q))
 
-    -- the account has so many free units
+    -- the account has that many free units
     pub enough_free : Reserved → AreFree → units_in blocks ≤ free_at accounts a
     enough_free changed free =
         let split = free_reserved changed free a in

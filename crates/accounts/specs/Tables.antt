@@ -37,19 +37,19 @@ free_in account = option_map_or (λ a. a.free) account 0
 abbrev pub free_at : BTreeMap ℕ Account → ℕ → ℕ
 free_at accounts number = free_in (tree.get nat_cmp accounts number)
 
--- the account with so many more units, all free
+-- the account with `count` more units, all free
 abbrev pub with_units : ℕ → Account → Account
 with_units count a = record { standing = a.standing; held = a.held + count; free = a.free + count }
 
--- the account with so many fewer free units
+-- the account with `count` fewer free units
 abbrev pub with_fewer_free : ℕ → Account → Account
 with_fewer_free count a = record a { free = a.free - count }
 
--- the account with so many more free units
+-- the account with `count` more free units
 abbrev pub with_more_free : ℕ → Account → Account
 with_more_free count a = record a { free = a.free + count }
 
--- the account with so many fewer units, none of them free
+-- the account with `count` fewer units, none of them free
 abbrev pub with_fewer : ℕ → Account → Account
 with_fewer count a = record a { held = a.held - count }
 

@@ -48,7 +48,7 @@ pub(crate) fn set_standing(accounts: &mut BTreeMap<u64, Account>, number: u64, s
     }
 }
 
-/// The account of that number has so many more units, all free.
+/// The account of that number has `count` more units, all free.
 pub(crate) fn put_in(accounts: &mut BTreeMap<u64, Account>, number: u64, count: u64)
     requires held { held_at accounts.old number + count < 2 ^ 64 }
     requires free { free_at accounts.old number + count < 2 ^ 64 }
@@ -60,7 +60,7 @@ pub(crate) fn put_in(accounts: &mut BTreeMap<u64, Account>, number: u64, count: 
     }
 }
 
-/// So many of the account's free units are free no more.
+/// `count` of the account's free units are free no more.
 pub(crate) fn reserve(accounts: &mut BTreeMap<u64, Account>, number: u64, count: u64)
     requires { count ≤ free_at accounts.old number }
     ensures { (n : ℕ) → tree.get nat_cmp accounts.new n ≡ (if n == number then option_map (with_fewer_free count) (tree.get nat_cmp accounts.old n) else tree.get nat_cmp accounts.old n) }
@@ -70,7 +70,7 @@ pub(crate) fn reserve(accounts: &mut BTreeMap<u64, Account>, number: u64, count:
     }
 }
 
-// So many more of the account's units are free.
+// `count` more of the account's units are free.
 fn release(accounts: &mut BTreeMap<u64, Account>, number: u64, count: u64)
     requires { free_at accounts.old number + count < 2 ^ 64 }
     ensures { (n : ℕ) → tree.get nat_cmp accounts.new n ≡ (if n == number then option_map (with_more_free count) (tree.get nat_cmp accounts.old n) else tree.get nat_cmp accounts.old n) }
@@ -80,7 +80,7 @@ fn release(accounts: &mut BTreeMap<u64, Account>, number: u64, count: u64)
     }
 }
 
-// The account has so many fewer units.
+// The account has `count` fewer units.
 fn take_out(accounts: &mut BTreeMap<u64, Account>, number: u64, count: u64)
     requires { count ≤ held_at accounts.old number }
     ensures { (n : ℕ) → tree.get nat_cmp accounts.new n ≡ (if n == number then option_map (with_fewer count) (tree.get nat_cmp accounts.old n) else tree.get nat_cmp accounts.old n) }

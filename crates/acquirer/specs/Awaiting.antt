@@ -7,7 +7,7 @@ use Rattle.std.specs.Option.{option_map_or}
 use Rattle.std.specs.declared.cmp.Ordering.{Ordering}
 use Rattle.status.specs.Id.{id_cmp, same_id}
 use Rattle.status.specs.declared.id.TransactionId.{TransactionId}
-use Rattle.acquirer.specs.Transfers.{awaits}
+use Rattle.acquirer.specs.Transfers.{is_awaited_by}
 use Rattle.acquirer.specs.contracts.awaited.AwaitedOrd.TheImpl.{cmp-value as awaited-order}
 use Rattle.acquirer.specs.declared.awaited.Awaited.{Awaited}
 use Rattle.acquirer.specs.declared.transfer.Transfer.{Transfer}
@@ -18,8 +18,8 @@ awaited_cmp = awaited-order.it
 
 -- the set has the transfers that were accepted, each by its account
 abbrev pub AreAwaited : BTreeMap TransactionId Transfer → BTreeSet Awaited → Type 0
-AreAwaited transfers awaited = (q : Awaited) → contains awaited_cmp awaited q ≡ awaits q.account (tree.get id_cmp transfers q.id)
+AreAwaited transfers awaited = (q : Awaited) → contains awaited_cmp awaited q ≡ is_awaited_by q.account (tree.get id_cmp transfers q.id)
 
 -- the place is that one
-abbrev pub is_place : Awaited → Option Awaited → Bool
-is_place q place = option_map_or (λ p. (p.account == q.account) && same_id p.id q.id) place false
+abbrev pub is_awaited_place : Awaited → Option Awaited → Bool
+is_awaited_place q place = option_map_or (λ p. (p.account == q.account) && same_id p.id q.id) place false

@@ -23,21 +23,21 @@ pub record Acquiring : Type 0 where
 abbrev pub known_of : Transfer → Known
 known_of x = option_map_or (λ k. Stands x.status) x.content Bare
 
-abbrev pub known : Option Transfer → Known
-known x = option_map_or known_of x Unknown
+abbrev pub known_transfer : Option Transfer → Known
+known_transfer x = option_map_or known_of x Unknown
 
 -- its content, where it is known
-abbrev pub content_in : Option Transfer → Option Content
-content_in x = option_and_then (λ y. y.content) x
+abbrev pub kept_content : Option Transfer → Option Content
+kept_content x = option_and_then (λ y. y.content) x
 
 -- it was accepted, and its units are to go to that account
-abbrev pub awaits : ℕ → Option Transfer → Bool
-awaits account x = option_map_or (λ y. same_status y.status Accepted && option_map_or (λ k. k.to_account == account) y.content false) x false
+abbrev pub is_awaited_by : ℕ → Option Transfer → Bool
+is_awaited_by account x = option_map_or (λ y. same_status y.status Accepted && option_map_or (λ k. k.to_account == account) y.content false) x false
 
 -- the transfer when it has come to that status
 abbrev pub finished : Status → Transfer → Transfer
 finished new x = record x { status = new }
 
 -- the transfers by their identifiers
-unfoldable pub by_id : BTreeMap TransactionId Transfer → FinMap id_cmp Transfer
-by_id transfers = from_entries transfers.entries
+unfoldable pub transfers_by_id : BTreeMap TransactionId Transfer → FinMap id_cmp Transfer
+transfers_by_id transfers = from_entries transfers.entries

@@ -28,7 +28,7 @@ ghost use Rattle.protocol.specs.Pieces.{pieces};
 ghost use Rattle.checks.specs.Finding.{codes_in};
 ghost use Rattle.checks.specs.Knowing.{Knows};
 ghost use Rattle.acquirer.specs.Crediting.{MayCredit};
-ghost use Rattle.acquirer.specs.Transfers.{awaits, content_in, finished, known};
+ghost use Rattle.acquirer.specs.Transfers.{is_awaited_by, kept_content, finished, known_transfer};
 
 use crate::awaited::{Awaited, first_awaited};
 use crate::messages::on_proposal;
@@ -58,11 +58,11 @@ pub struct Acquirer {
 impl Model for Acquirer {
     ghost use Rattle.acquirer.specs.Awaiting.{AreAwaited};
     ghost use Rattle.acquirer.specs.Coding.{acquiring_code};
-    ghost use Rattle.acquirer.specs.Transfers.{Acquiring, by_id};
+    ghost use Rattle.acquirer.specs.Transfers.{Acquiring, transfers_by_id};
 
     ghost Value = { Acquiring };
 
-    ghost view = { λ s. record { code = s.code; transfers = by_id s.transfers } };
+    ghost view = { λ s. record { code = s.code; transfers = transfers_by_id s.transfers } };
 
     ghost coded = { acquiring_code };
 
@@ -118,7 +118,7 @@ impl Acquirer {
 
     /// The content of the transfer, or `None` where none is recorded.
     pub fn content(&self, id: TransactionId) -> Option<&Content>
-        ensures { option_copied result ≡ content_in (map.get self.now.transfers id) }
+        ensures { option_copied result ≡ kept_content (map.get self.now.transfers id) }
     {
         let transfer = self.transfer(id)?;
         transfer.content.as_ref()
@@ -126,7 +126,7 @@ impl Acquirer {
 
     // What the table asks of the transfer.
     fn known(&self, id: TransactionId) -> Known
-        ensures { result ≡ known (map.get self.now.transfers id) }
+        ensures { result ≡ known_transfer (map.get self.now.transfers id) }
     {
         match self.transfer(id) {
             Some(transfer) => transfer.known(),
@@ -145,7 +145,7 @@ impl Acquirer {
         id: TransactionId,
         content: &Content,
     ) -> Result<Decision, Refusal>
-        ensures { (known_so : Holding) (found : List ℕ) → Knows scheme.now self.now.code holdings.now known_so → found ≡ acquirer_findings scheme.now self.now.code known_so content.now → IsDueOrNoMemory result (decided (acquirer_row (known (map.get self.now.transfers id)) (offered (content_in (map.get self.now.transfers id)) found)) (acquirer_sends self.now.code id found (offered (content_in (map.get self.now.transfers id)) found))) }
+        ensures { (known_so : Holding) (found : List ℕ) → Knows scheme.now self.now.code holdings.now known_so → found ≡ acquirer_findings scheme.now self.now.code known_so content.now → IsDueOrNoMemory result (decided (acquirer_row (known_transfer (map.get self.now.transfers id)) (offered (kept_content (map.get self.now.transfers id)) found)) (acquirer_sends self.now.code id found (offered (kept_content (map.get self.now.transfers id)) found))) }
     {
         if self.content(id).is_some() {
             return self.equal_proposal(alloc, id);
@@ -164,7 +164,7 @@ impl Acquirer {
 
     // What the table says to a proposal equal to the one that is recorded.
     fn equal_proposal(&self, alloc: Global, id: TransactionId) -> Result<Decision, Refusal>
-        ensures { result ≡ decided (acquirer_row (known (map.get self.now.transfers id)) column.EqualProposal) [] }
+        ensures { result ≡ decided (acquirer_row (known_transfer (map.get self.now.transfers id)) column.EqualProposal) [] }
     {
         match row(Role::Acquirer, self.known(id), RowInput::EqualProposal) {
             Row::Move(new) => Ok(Decision::Moves {
@@ -179,7 +179,7 @@ impl Acquirer {
 
     // Whether one of the transfer's units is held.
     fn holds_some_of(&self, holdings: &Holdings, id: TransactionId) -> bool
-        ensures { (scheme : Scheme) (known_so : Holding) → Knows scheme self.now.code holdings.now known_so → result ≡ option_map_or (λ k. list_any (λ p. known_so.is_held p.unit) (pieces k.units)) (content_in (map.get self.now.transfers id)) false }
+        ensures { (scheme : Scheme) (known_so : Holding) → Knows scheme self.now.code holdings.now known_so → result ≡ option_map_or (λ k. list_any (λ p. known_so.is_held p.unit) (pieces k.units)) (kept_content (map.get self.now.transfers id)) false }
     {
         match self.content(id) {
             Some(content) => holds_some(holdings, content.units()),
@@ -196,7 +196,7 @@ impl Acquirer {
         id: TransactionId,
         told: Status,
     ) -> Result<Decision, Refusal>
-        ensures { (scheme : Scheme) (known_so : Holding) → Knows scheme self.now.code holdings.now known_so → result ≡ decided (unless_held (option_map_or (λ k. list_any (λ p. known_so.is_held p.unit) (pieces k.units)) (content_in (map.get self.now.transfers id)) false) (acquirer_row (known (map.get self.now.transfers id)) (column.Notified told))) [] }
+        ensures { (scheme : Scheme) (known_so : Holding) → Knows scheme self.now.code holdings.now known_so → result ≡ decided (unless_held (option_map_or (λ k. list_any (λ p. known_so.is_held p.unit) (pieces k.units)) (kept_content (map.get self.now.transfers id)) false) (acquirer_row (known_transfer (map.get self.now.transfers id)) (column.Notified told))) [] }
     {
         match row(Role::Acquirer, self.known(id), RowInput::Notified(told)) {
             Row::Move(Status::Completed) if self.holds_some_of(holdings, id) => {
@@ -215,8 +215,8 @@ impl Acquirer {
     /// Whether no transfer that goes to the account is awaited: refused with `TRANSFER_ACCEPTED` where one was accepted and hasn't
     /// ended. Takes no memory.
     pub fn may_close(&self, account: u64) -> Result<(), Refusal>
-        ensures ok { OnOk result ((t : TransactionId) → awaits account (map.get self.now.transfers t) ≡ false) }
-        ensures err { IfErr result (λ r. (r.code ≡ transfer_accepted) × ((t : TransactionId) × (awaits account (map.get self.now.transfers t) ≡ true))) }
+        ensures ok { OnOk result ((t : TransactionId) → is_awaited_by account (map.get self.now.transfers t) ≡ false) }
+        ensures err { IfErr result (λ r. (r.code ≡ transfer_accepted) × ((t : TransactionId) × (is_awaited_by account (map.get self.now.transfers t) ≡ true))) }
     {
         match first_awaited(&self.awaited, account) {
             None => Ok(()),
@@ -259,11 +259,11 @@ impl Acquirer {
 
     /// The transfer is Completed: its units are in the account that it goes to. After `NoMemory` nothing has changed.
     pub fn complete(&mut self, holdings: &mut Holdings, id: TransactionId) -> Result<(), NoMemory>
-        requires { (k : Terms) → content_in (map.get self.old.transfers id) ≡ Some k → MayCredit holdings.old k }
+        requires { (k : Terms) → kept_content (map.get self.old.transfers id) ≡ Some k → MayCredit holdings.old k }
         ensures transfers { OnOk result ((self.new.code ≡ self.old.code) × ((t : TransactionId) → map.get self.new.transfers t ≡ (if same_id id t then option_map (finished words.Completed) (map.get self.old.transfers t) else map.get self.old.transfers t))) }
         ensures accounts { holdings.new.accounts ≡ holdings.old.accounts }
-        ensures lots { (k : Terms) → content_in (map.get self.old.transfers id) ≡ Some k → OnOk result ((blocks : List Block) × (raws blocks ≡ k.units) × ((s : Serial) → map.get holdings.new.lots s ≡ option_or (option_map (held.free_lot k.to_account) (kind_in blocks s)) (map.get holdings.old.lots s))) }
-        ensures none { content_in (map.get self.old.transfers id) ≡ None → holdings.new ≡ holdings.old }
+        ensures lots { (k : Terms) → kept_content (map.get self.old.transfers id) ≡ Some k → OnOk result ((blocks : List Block) × (raws blocks ≡ k.units) × ((s : Serial) → map.get holdings.new.lots s ≡ option_or (option_map (held.free_lot k.to_account) (kind_in blocks s)) (map.get holdings.old.lots s))) }
+        ensures none { kept_content (map.get self.old.transfers id) ≡ None → holdings.new ≡ holdings.old }
         ensures err { OnErr result ((self.new ≡ self.old) × (holdings.new ≡ holdings.old)) }
     {
         if let Some(content) = self.content(id) {

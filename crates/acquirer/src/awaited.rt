@@ -1,8 +1,8 @@
 //! Transfers that accounts await.
 ghost use Rattle.std.specs.BTreeSet.{contains};
 ghost use Rattle.std.specs.Prelude.{◌≡◌, ◌||◌, ◌&&◌, not, ℕ, true, false, Some, IfSome, IfNone, OnOk, OnErr};
-ghost use Rattle.acquirer.specs.Awaiting.{awaited_cmp, is_place};
-ghost use Rattle.acquirer.specs.Transfers.{awaits};
+ghost use Rattle.acquirer.specs.Awaiting.{awaited_cmp, is_awaited_place};
+ghost use Rattle.acquirer.specs.Transfers.{is_awaited_by};
 ghost use Rattle.acquirer.specs.declared.awaited.Awaited.{Awaited};
 ghost use Rattle.status.specs.Id.{id_cmp, same_id};
 ghost use Rattle.std.specs.Ordering.{is_gt};
@@ -22,7 +22,7 @@ pub(crate) struct Awaited {
 
 /// The place of a transfer among those that are awaited, or `None` where it isn't.
 pub(crate) fn awaited_of(id: TransactionId, transfer: &Transfer) -> Option<Awaited>
-    ensures { (q : Awaited) → is_place q result ≡ (same_id id q.id && awaits q.account (Some transfer.now)) }
+    ensures { (q : Awaited) → is_awaited_place q result ≡ (same_id id q.id && is_awaited_by q.account (Some transfer.now)) }
 {
     let content = transfer.content.as_ref()?;
     if transfer.status != Status::Accepted {
@@ -39,7 +39,7 @@ pub(crate) fn remember(
     awaited: &mut BTreeSet<Awaited>,
     place: Option<Awaited>,
 ) -> Result<(), NoMemory>
-    ensures ok { OnOk result ((q : Awaited) → contains awaited_cmp awaited.new q ≡ (contains awaited_cmp awaited.old q || is_place q place)) }
+    ensures ok { OnOk result ((q : Awaited) → contains awaited_cmp awaited.new q ≡ (contains awaited_cmp awaited.old q || is_awaited_place q place)) }
     ensures err { OnErr result ((q : Awaited) → contains awaited_cmp awaited.new q ≡ contains awaited_cmp awaited.old q) }
 {
     if let Some(place) = place {
@@ -50,7 +50,7 @@ pub(crate) fn remember(
 
 /// The place isn't there any more.
 pub(crate) fn forget(awaited: &mut BTreeSet<Awaited>, place: Option<Awaited>)
-    ensures { (q : Awaited) → contains awaited_cmp awaited.new q ≡ (contains awaited_cmp awaited.old q && not (is_place q place)) }
+    ensures { (q : Awaited) → contains awaited_cmp awaited.new q ≡ (contains awaited_cmp awaited.old q && not (is_awaited_place q place)) }
 {
     if let Some(place) = place {
         awaited.remove(&place);

@@ -1,8 +1,8 @@
 //! The table of the transfers to an acquirer, and which of them are awaited.
 ghost use Rattle.std.specs.BTreeMap as tree;
 ghost use Rattle.std.specs.Prelude.{◌≡◌, ◌&&◌, false, None, Some, OnErr, OnOk, option_map, if◌then◌else◌};
-ghost use Rattle.acquirer.specs.Awaiting.{AreAwaited, is_place};
-ghost use Rattle.acquirer.specs.Transfers.{awaits, finished};
+ghost use Rattle.acquirer.specs.Awaiting.{AreAwaited, is_awaited_place};
+ghost use Rattle.acquirer.specs.Transfers.{is_awaited_by, finished};
 ghost use Rattle.acquirer.specs.declared.awaited.Awaited.{Awaited};
 ghost use Rattle.status.specs.Id.{id_cmp, same_id};
 ghost use Rattle.status.specs.Status.{same_status};
@@ -52,7 +52,7 @@ pub(crate) fn put(
 
 /// The place of the transfer with that identifier among those that are awaited, or `None` where it isn't.
 fn place_in(transfers: &BTreeMap<TransactionId, Transfer>, id: TransactionId) -> Option<Awaited>
-    ensures { (q : Awaited) → is_place q result ≡ (same_id id q.id && awaits q.account (tree.get id_cmp transfers.now id)) }
+    ensures { (q : Awaited) → is_awaited_place q result ≡ (same_id id q.id && is_awaited_by q.account (tree.get id_cmp transfers.now id)) }
 {
     match transfers.get(&id) {
         Some(transfer) => awaited_of(id, transfer),

@@ -18,7 +18,7 @@ use Rattle.sqlite.specs.Query.{IsAnswer, Output, output, output_cmp}
 use Rattle.sqlite.specs.Program.{overlay}
 use Rattle.sqlite.specs.Effect.{Database, Reads}
 use Rattle.sqlite_rules.specs.Edit.{id_in}
-use Rattle.durable.specs.Opening.{IsEntry, places_in, comes_before, IsEnd}
+use Rattle.durable.specs.Opening.{IsEntry, places_in, comes_before, IsLeastOrGreatest}
 use Rattle.durable.specs.Shown.{IsPlaceIn}
 use Rattle.durable.proofs.OpeningTexts.{first_row, shows}
 
@@ -105,7 +105,7 @@ outs [] h = tt
 outs (row ∷ rows) h = ((h.0.0, ap out_of h.0.2), outs rows h.1)
 
 at_end : (descending : Bool) (entries : List Row) (ordered : List Output) (rows : List Row) (found : Option ℤ) → AllByRecursion IsEntry entries → IsPermutation (map out_of entries) ordered
-    → IsSorted (output_cmp (first_row 1 descending)) ordered → rows ≡ take 1 (map (λ (o : Output). o.1) ordered) → IsPlaceIn rows found → IsEnd descending entries found
+    → IsSorted (output_cmp (first_row 1 descending)) ordered → rows ≡ take 1 (map (λ (o : Output). o.1) ordered) → IsPlaceIn rows found → IsLeastOrGreatest descending entries found
 at_end descending entries [] rows None are same sorted shown found = nil_from_length entries (sym (length_permutation (map out_of entries) [] same ∙ length-map entries out_of))
 at_end descending entries [] rows (Some place) are same sorted shown found = absurd (let never = rw shown at found.1 in cc)
 at_end descending entries (o ∷ more) rows None are same sorted shown found = absurd (let never : o.1 ∷ [] ≡ [] = sym shown ∙ found in cc)
@@ -119,7 +119,7 @@ at_end descending entries (o ∷ more) rows (Some place) are same sorted shown f
     let P : ℤ → Type 0 = λ n. comes_before descending n (key o) → ⊥ in
     let all = All-permutation P (map key (o ∷ more)) (map key (map out_of entries)) back (All-map P key (o ∷ more) (All-from_recursion (λ p. P (key p)) (o ∷ more) (none_before descending o more outputs_are sorted))) in
     let there = Contains-permutation (map key (o ∷ more)) (map key (map out_of entries)) (key o) back (0, omega arith, refl) in
-    subst (λ z. IsEnd descending entries (Some z)) is (subst (λ zs. Contains zs (key o) × All P zs) (keys entries) (there, all))
+    subst (λ z. IsLeastOrGreatest descending entries (Some z)) is (subst (λ zs. Contains zs (key o) × All P zs) (keys entries) (there, all))
 
-pub ended : (descending : Bool) (entries rows : List Row) (found : Option ℤ) → AllByRecursion IsEntry entries → IsByPlace descending entries rows → IsPlaceIn rows found → IsEnd descending entries found
+pub ended : (descending : Bool) (entries rows : List Row) (found : Option ℤ) → AllByRecursion IsEntry entries → IsByPlace descending entries rows → IsPlaceIn rows found → IsLeastOrGreatest descending entries found
 ended descending entries rows found are h place = at_end descending entries h.ordered rows found are h.same h.sorted h.shown place

@@ -6,7 +6,7 @@ use Rattle.std.proofs.lemmas.List.{map-append}
 use Rattle.wire.specs.Records.{IsRecordText, record_text}
 use Rattle.wire.specs.declared.input.Input.{Input}
 
--- records behind records
+-- records after records
 pub records-append : (places : Places) (inputs : List Input) (more : Places) (others : List Input) → AreRecords places inputs → AreRecords more others → AreRecords (places ++ more) (inputs ++ others)
 records-append [] [] more others are behind = behind
 records-append [] (i ∷ inputs) more others are behind = absurd are
@@ -51,7 +51,7 @@ whole-front (Some text ∷ places) (body ∷ bodies) e n =
     let more = whole-front places bodies rest (omega (arith, n)) in
     cc (same, more)
 
--- so many records, and then a body that is no record's
+-- that many records, and then a body that is no record's
 pub damaged-body : (places : Places) (front : List (List ℕ)) (inputs : List Input) (body : List ℕ) (rest : List (List ℕ)) → AreRecords (map (λ b. Some b) front) inputs → HasNoRecord (Some body) → unbroken places ≡ front ++ body ∷ rest → IsDamagedAt (length front) places
 damaged-body [] [] inputs body rest are not e = absurd cc
 damaged-body [] (b ∷ front) inputs body rest are not e = absurd cc
@@ -64,7 +64,7 @@ damaged-body (Some text ∷ places) (b ∷ front) (i ∷ inputs) body rest are n
     let more : unbroken places ≡ front ++ body ∷ rest = cc (e) in
     ((i, subst (λ t. IsRecordText t i) same are.0), damaged-body places front inputs body rest are.1 not more)
 
--- so many records, and then a place that is missing
+-- that many records, and then a place that is missing
 pub damaged-gap : (places : Places) (front : List (List ℕ)) (inputs : List Input) → AreRecords (map (λ b. Some b) front) inputs → unbroken places ≡ front → length front < length places → IsDamagedAt (length front) places
 damaged-gap [] front inputs are e n = absurd (omega (arith, n))
 damaged-gap (None ∷ places) [] inputs are e n = tt

@@ -25,7 +25,7 @@ use Rattle.durable.specs.declared.shown.Owner.TheVariants.{Nobody, OtherFormat, 
 use Rattle.durable.specs.Tables.{store_schema}
 use Rattle.durable.specs.Slots.{place_of, body_of, AreEntries}
 use Rattle.durable.specs.Shown.{IsOwnerIn}
-use Rattle.durable.specs.Opening.{owned, IsEntry, HasRows, IsEnd, places_in, IsNoStore, HasNegativePlace, IsOwner, IsNegative}
+use Rattle.durable.specs.Opening.{owned, IsEntry, HasRows, IsLeastOrGreatest, places_in, IsNoStore, HasNegativePlace, IsOwner, IsNegative}
 use Rattle.durable.proofs.Ends.{envs}
 use Rattle.durable.proofs.OpeningTexts.{shows, owner_query}
 
@@ -85,7 +85,7 @@ owner_told node names db rows owner has reads is = told node db rows owner has.0
 below : (x y : ℤ) → value_cmp (Int x) (Int y) ≡ Less → x <ℤ y
 below x y e = subst (λ o. MatchOrdering o (x <ℤ y) (x ≡ y) (y <ℤ x)) (sym (value_cmp-Int x y) ∙ e) (int_ranks x y)
 
--- rows behind a place are not below the next
+-- rows after a place are not below the next
 above : (n : ℕ) (rows : List Row) → AllByRecursion IsEntry rows → AllByRecursion (λ r. value_cmp (Int (pos n)) (rowid r) ≡ Less) rows → AllByRecursion (λ m. m <ℤ pos (n + 1) → ⊥) (places_in rows)
 above n [] are less = tt
 above n (r ∷ rows) are less =
@@ -121,7 +121,7 @@ row_with (row ∷ rows) (suc k) z are low is =
     let it = row_with rows k z are.1 (omega (arith, low)) is in
     (suc it.0, it.1, omega (arith, it.2), it.3, it.4)
 
-pub negative : (db : Database) (place : ℤ) → HasRows db → IsEnd false (db.trees 1) (Some place) → place <ℤ pos 0 → HasNegativePlace db
+pub negative : (db : Database) (place : ℤ) → HasRows db → IsLeastOrGreatest false (db.trees 1) (Some place) → place <ℤ pos 0 → HasNegativePlace db
 negative db (pos n) has end low = absurd (omega (arith, ints, low))
 negative db (negsuc n) has end low =
     let it = row_with (db.trees 1) end.0.0 (negsuc n) has.1.entries end.0.1 end.0.2 in
@@ -131,7 +131,7 @@ none_low : (rows : List ℤ) (place : ℤ) → (place <ℤ pos 0 → ⊥) → Al
 none_low [] place high all = tt
 none_low (n ∷ rows) place high all = (λ low. grind (arith, ints, high, all.0, low), none_low rows place high all.1)
 
-pub not_low : (db : Database) (least : Option ℤ) → (IsNegative least → ⊥) → IsEnd false (db.trees 1) least → AllByRecursion (λ n. n <ℤ pos 0 → ⊥) (places_in (db.trees 1))
+pub not_low : (db : Database) (least : Option ℤ) → (IsNegative least → ⊥) → IsLeastOrGreatest false (db.trees 1) least → AllByRecursion (λ n. n <ℤ pos 0 → ⊥) (places_in (db.trees 1))
 not_low db None high end = subst (λ rows. AllByRecursion (λ n. n <ℤ pos 0 → ⊥) (places_in rows)) (sym end) tt
 not_low db (Some place) high end = none_low (places_in (db.trees 1)) place high (recursion_from_All (λ n. n <ℤ place → ⊥) (places_in (db.trees 1)) end.1)
 
@@ -141,7 +141,7 @@ id_of (row ∷ rows) zero x all low is = subst (λ (r : Row). id_in (column r 0)
 id_of (row ∷ rows) (suc k) x all low is = id_of rows k x all.1 (omega (arith, low)) is
 
 -- with an owner, and no place below 0, it is a store
-pub some_store : (db : Database) (row : Row) (least : Option ℤ) → db.schema ≡ store_schema → db.trees 0 ≡ row ∷ [] → (IsNegative least → ⊥) → IsEnd false (db.trees 1) least → IsNoStore db → ⊥
+pub some_store : (db : Database) (row : Row) (least : Option ℤ) → db.schema ≡ store_schema → db.trees 0 ≡ row ∷ [] → (IsNegative least → ⊥) → IsLeastOrGreatest false (db.trees 1) least → IsNoStore db → ⊥
 some_store db row least has owner high end (inl others) = others.1 has
 some_store db row least has owner high end (inr (inl nobody)) = let never : [] ≡ row ∷ [] = sym nobody.1 ∙ owner in cc
 some_store db row least has owner high end (inr (inr low)) =

@@ -15,7 +15,7 @@ use Rattle.sqlite.specs.Listing.{understood}
 use Rattle.sqlite.specs.Order.{Row}
 use Rattle.sqlite.specs.State.{State, mode_of, text_of, store_error, HasCause, Fails, IsNoStatement, IsNotRun, IsMisplaced, IsStatement, Executes, ExecutesIn, ExecutesInside, shows_rows}
 use Rattle.durable.specs.Bodies.{items}
-use Rattle.durable.specs.Faults.{told}
+use Rattle.durable.specs.Faults.{store_fault_of}
 use Rattle.durable.specs.Held.{slots_in, IsInside}
 use Rattle.durable.specs.Rooms.{insert_text, given, enforced, IsRefused, IsRefusedAt}
 use Rattle.durable.specs.declared.fault.StoreFault.{StoreFault}
@@ -28,13 +28,13 @@ no-device : Device ≡ Full → ⊥
 no-device e = cc (e)
 
 -- an error that tells another fault
-other : (e f : Error) (fault : StoreFault) → e ≡ f → told f ≡ fault → (fault ≡ Full → ⊥) → told e ≡ Full → ⊥
-other e f fault is tells never full = never (sym tells ∙ ap told (sym is) ∙ full)
+other : (e f : Error) (fault : StoreFault) → e ≡ f → store_fault_of f ≡ fault → (fault ≡ Full → ⊥) → store_fault_of e ≡ Full → ⊥
+other e f fault is tells never full = never (sym tells ∙ ap store_fault_of (sym is) ∙ full)
 
 same-error : (e f : Error) → ◌≡◌ {A = Result ℕ Error} (Err e) (Err f) → e ≡ f
 same-error e f is = cc (is)
 
-by-cause : (old new : State) (TooBig : Type 0) (cause : StoreError) (e : Error) → e ≡ store_error cause → HasCause old new TooBig cause → told e ≡ Full → MoreFaults old.faults new.faults ⊎ TooBig
+by-cause : (old new : State) (TooBig : Type 0) (cause : StoreError) (e : Error) → e ≡ store_error cause → HasCause old new TooBig cause → store_fault_of e ≡ Full → MoreFaults old.faults new.faults ⊎ TooBig
 by-cause old new TooBig store.OutOfMemory e is has full = absurd (other e _ NoMemory is refl no-memory full)
 by-cause old new TooBig store.Io e is has full = inl has
 by-cause old new TooBig store.Corrupt e is has full = inl has
@@ -42,16 +42,16 @@ by-cause old new TooBig store.Full e is has full = inl has
 by-cause old new TooBig store.Broken e is has full = absurd (other e _ Device is refl no-device full)
 by-cause old new TooBig store.Unstorable e is has full = inr has
 
-fails : (old new : State) (TooBig : Type 0) (e : Error) → Fails old new TooBig e → told e ≡ Full → MoreFaults old.faults new.faults ⊎ TooBig
+fails : (old new : State) (TooBig : Type 0) (e : Error) → Fails old new TooBig e → store_fault_of e ≡ Full → MoreFaults old.faults new.faults ⊎ TooBig
 fails old new TooBig e h full = by-cause old new TooBig h.0 e h.1 h.2 full
 
-no-statement : (s : State) (sql : List ℕ) (params : Row) (e : Error) → IsNoStatement s sql params e → told e ≡ Full → ⊥
+no-statement : (s : State) (sql : List ℕ) (params : Row) (e : Error) → IsNoStatement s sql params e → store_fault_of e ≡ Full → ⊥
 no-statement s sql params e (inl fault) full = other e _ Device fault.2 refl no-device full
 no-statement s sql params e (inr (c, is, inl more)) full = other e _ Device more.1 refl no-device full
 no-statement s sql params e (inr (c, is, inr (inl count))) full = other e _ Device count.1 refl no-device full
 no-statement s sql params e (inr (c, is, inr (inr clock))) full = other e _ Device clock.1 refl no-device full
 
-misplaced : (s : State) (command : Command) (e : Error) → IsMisplaced s command e → told e ≡ Full → ⊥
+misplaced : (s : State) (command : Command) (e : Error) → IsMisplaced s command e → store_fault_of e ≡ Full → ⊥
 misplaced s command e (inl h) full = other e _ Device h.0 refl no-device full
 misplaced s command e (inr h) full = other e _ Device h.0 refl no-device full
 
@@ -60,7 +60,7 @@ abbrev Refuses : State → List ℕ → Row → Type 0
 Refuses s sql params =
     (c : Compiled) × (it : IsStatement s sql params c) × (stop : Option Error) × Does s.step_limit (mode_of s) (timed params c.formats it.now) s.now (text_of sql c) c.returning c.command (Err stop)
 
-executes : (sql : List ℕ) (params : Row) (old new : State) (e : Error) → Executes sql params old new (Err e) → told e ≡ Full → MoreFaults old.faults new.faults ⊎ Refuses old sql params
+executes : (sql : List ℕ) (params : Row) (old new : State) (e : Error) → Executes sql params old new (Err e) → store_fault_of e ≡ Full → MoreFaults old.faults new.faults ⊎ Refuses old sql params
 unfolding ExecutesIn IsNotRun
 executes sql params old new e (inl (inl none)) full = absurd (no-statement old sql params e none.0 full)
 executes sql params old new e (inl (inr h)) full = elim (fails old new ⊥ e h full) [ inl more ↦ inl more | inr never ↦ absurd never ]
@@ -75,11 +75,11 @@ executes sql params old new e (inr h) full = elim (cases_Bool (shows_rows false 
   ]
 ]
 
-inside : (sql : List ℕ) (params : Row) (old new : State) (e : Error) → ExecutesInside 0 sql params old new (Err e) → told e ≡ Full → MoreFaults old.faults new.faults ⊎ Refuses old sql params
+inside : (sql : List ℕ) (params : Row) (old new : State) (e : Error) → ExecutesInside 0 sql params old new (Err e) → store_fault_of e ≡ Full → MoreFaults old.faults new.faults ⊎ Refuses old sql params
 inside sql params old new e (inl h) full = executes sql params old new e h.0 full
 inside sql params old new e (inr h) full = absurd (other e _ Device h.1 refl no-device full)
 
-pub put-full : (old new : State) (params : Row) (body : List ℕ) (e : Error) → params ≡ given (length (slots_in old.now.trees)) body → IsInside old → ExecutesInside 0 insert_text params old new (Err e) → told e ≡ Full
+pub put-full : (old new : State) (params : Row) (body : List ℕ) (e : Error) → params ≡ given (length (slots_in old.now.trees)) body → IsInside old → ExecutesInside 0 insert_text params old new (Err e) → store_fault_of e ≡ Full
     → MoreFaults old.faults new.faults ⊎ IsRefused body
 put-full old new params body e is ready h full = elim (inside insert_text params old new e h full) [
   | inl more ↦ inl more

@@ -11,7 +11,7 @@ use Rattle.sqlite.specs.Listing.{understood}
 use Rattle.sqlite.specs.State.{State, HasCleanDisk, Survives, Executes, ExecutesInside, IsUnchanged, Shown, CommitsShowing}
 use Rattle.sqlite.proofs.Callers.{IsPlain, runs_as, reads_as, statement_of, never_commits}
 use Rattle.durable.specs.Tables.{store_schema, no_schema}
-use Rattle.durable.specs.Opening.{about_schema, IsOpened, IsWithin, IsBare, HasAbout, IsEmpty, HasFresh, HasRows, IsOwner, IsEnd}
+use Rattle.durable.specs.Opening.{about_schema, IsOpened, IsWithin, IsBare, HasAbout, IsEmpty, HasFresh, HasRows, IsOwner, IsLeastOrGreatest}
 use Rattle.durable.specs.Shown.{IsOwnerIn, IsPlaceIn}
 use Rattle.durable.specs.declared.shown.Owner.{Owner}
 use Rattle.durable.proofs.Texts.{about_text, entries_text}
@@ -64,13 +64,13 @@ owner_found node old new rows owner opened has shown is =
     let reads = reads_as owner_text [] old new store_schema (now_schema old opened has.0) (shows owner_query names) owner_is.0 owner_plain owner_is.1 rows shown in
     owner_told node names old.committed rows owner has (subst (λ db. Reads (shows owner_query names) db [] rows) opened.settled reads) is
 
-pub least_found : (old new : State) (rows : List Row) (found : Option ℤ) → IsOpened old → HasRows old.committed → Shown least_text [] old new rows → IsPlaceIn rows found → IsEnd false (old.committed.trees 1) found
+pub least_found : (old new : State) (rows : List Row) (found : Option ℤ) → IsOpened old → HasRows old.committed → Shown least_text [] old new rows → IsPlaceIn rows found → IsLeastOrGreatest false (old.committed.trees 1) found
 least_found old new rows found opened has shown is =
     let names = codes "place" ∷ [] in
     let reads = reads_as least_text [] old new store_schema (now_schema old opened has.0) (shows (first_row 1 false) names) least_is.0 least_plain least_is.1 rows shown in
     ended false (old.committed.trees 1) rows found has.1.entries (by_place false names old.committed rows (subst (λ db. Reads (shows (first_row 1 false) names) db [] rows) opened.settled reads)) is
 
-pub greatest_found : (old new : State) (rows : List Row) (found : Option ℤ) → IsOpened old → HasRows old.committed → Shown greatest_text [] old new rows → IsPlaceIn rows found → IsEnd true (old.committed.trees 1) found
+pub greatest_found : (old new : State) (rows : List Row) (found : Option ℤ) → IsOpened old → HasRows old.committed → Shown greatest_text [] old new rows → IsPlaceIn rows found → IsLeastOrGreatest true (old.committed.trees 1) found
 greatest_found old new rows found opened has shown is =
     let names = codes "place" ∷ [] in
     let reads = reads_as greatest_text [] old new store_schema (now_schema old opened has.0) (shows (first_row 1 true) names) greatest_is.0 greatest_plain greatest_is.1 rows shown in

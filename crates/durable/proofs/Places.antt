@@ -1,4 +1,4 @@
--- A row put behind rows of entries.
+-- A row put after rows of entries.
 use Rattle.std.proofs.Common.{◌≡◌, ℕ, ◌+◌, ◌-◌, ◌≤◌, ◌<◌, pos, List, [], ◌∷◌, ◌++◌, length, Some, refl, sym, ap, subst, ◌∙◌, arith, append_assoc}
 use Rattle.std.specs.Prelude.{Option, zero, suc}
 use Rattle.std.specs.declared.cmp.Ordering.TheVariants.{Less}
@@ -30,7 +30,7 @@ length-slots from row rows =
     let b = length-missing (place_of row - from) in
     omega arith
 
--- a row at the first place behind them is stored behind them, and the others stay
+-- a row at the first place behind them is stored after them, and the others stay
 pub record IsLast (from place : ℕ) (body : List ℕ) (rows : List Row) : Type 0 where
   pub put : put_row (entry place body) rows ≡ rows ++ entry place body ∷ []
   pub entries : AreEntries from (rows ++ entry place body ∷ [])

@@ -27,7 +27,7 @@ take-row first last row rows y = ap (map shown) (cond-true (is_within first last
 pass-row : (first last : ℕ) (row : Row) (rows : List Row) → is_within first last row ≡ false → rows_within first last (row ∷ rows) ≡ rows_within first last rows
 pass-row first last row rows n = ap (map shown) (cond-false (is_within first last row) (row ∷ filter (is_within first last) rows) (filter (is_within first last) rows) n)
 
--- rows behind the last place are none of it
+-- rows after the last place are none of it
 none-behind : (first last at : ℕ) (rows : List Row) → AreEntries at rows → last < at → rows_within first last rows ≡ []
 none-behind first last at [] h low = refl
 none-behind first last at (row ∷ rows) h low =

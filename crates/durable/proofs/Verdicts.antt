@@ -10,28 +10,28 @@ use Rattle.durable.specs.declared.fault.StoreFault.TheVariants.{Damaged, WrongNo
 use Rattle.durable.specs.declared.opening.Contents.TheVariants.{NoRow, OwnStore}
 use Rattle.durable.specs.declared.shown.Owner.TheVariants.{Nobody, OtherFormat, OtherNode, Asker}
 use Rattle.durable.specs.Slots.{place_of, slots_from, AreEntries}
-use Rattle.durable.specs.Opening.{HasRows, IsEnd, places_in, IsOwner, IsVerdict, IsNegative}
+use Rattle.durable.specs.Opening.{HasRows, IsLeastOrGreatest, places_in, IsOwner, IsVerdict, IsNegative}
 use Rattle.durable.proofs.Places.{length-slots}
 use Rattle.durable.proofs.Inserting.{store-of}
 use Rattle.durable.proofs.Judging.{negative, not_low, some_store, entries_from}
 
-pub below_zero : (node : List ℕ) (db : Database) (least : Option ℤ) → HasRows db → IsEnd false (db.trees 1) least → IsNegative least → IsVerdict node db (Err (Damaged 0))
+pub below_zero : (node : List ℕ) (db : Database) (least : Option ℤ) → HasRows db → IsLeastOrGreatest false (db.trees 1) least → IsNegative least → IsVerdict node db (Err (Damaged 0))
 below_zero node db None has end low = absurd low
 below_zero node db (Some place) has end low = (refl, inr (inr (negative db place has end low)))
 
-pub nobody : (node : List ℕ) (db : Database) (place : ℤ) → HasRows db → IsOwner node db Nobody → IsEnd false (db.trees 1) (Some place) → IsVerdict node db (Err (Damaged 0))
+pub nobody : (node : List ℕ) (db : Database) (place : ℤ) → HasRows db → IsOwner node db Nobody → IsLeastOrGreatest false (db.trees 1) (Some place) → IsVerdict node db (Err (Damaged 0))
 nobody node db place has owner end = (refl, inr (inl (has.0, owner, λ none. let never = subst (λ rows. end.0.0 < length (places_in rows)) none end.0.1 in omega (arith, never))))
 
-pub no_row : (node : List ℕ) (db : Database) → HasRows db → IsOwner node db Nobody → IsEnd false (db.trees 1) None → IsVerdict node db (Ok NoRow)
+pub no_row : (node : List ℕ) (db : Database) → HasRows db → IsOwner node db Nobody → IsLeastOrGreatest false (db.trees 1) None → IsVerdict node db (Ok NoRow)
 no_row node db has owner end = (has.0, owner, end)
 
-pub other_format : (node : List ℕ) (db : Database) (least : Option ℤ) → HasRows db → IsOwner node db OtherFormat → IsEnd false (db.trees 1) least → (IsNegative least → ⊥) → IsVerdict node db (Err WrongVersion)
+pub other_format : (node : List ℕ) (db : Database) (least : Option ℤ) → HasRows db → IsOwner node db OtherFormat → IsLeastOrGreatest false (db.trees 1) least → (IsNegative least → ⊥) → IsVerdict node db (Err WrongVersion)
 other_format node db least has owner end high = (some_store db owner.1 least has.0 owner.2 high end, owner)
 
-pub other_node : (node : List ℕ) (db : Database) (least : Option ℤ) → HasRows db → IsOwner node db OtherNode → IsEnd false (db.trees 1) least → (IsNegative least → ⊥) → IsVerdict node db (Err WrongNode)
+pub other_node : (node : List ℕ) (db : Database) (least : Option ℤ) → HasRows db → IsOwner node db OtherNode → IsLeastOrGreatest false (db.trees 1) least → (IsNegative least → ⊥) → IsVerdict node db (Err WrongNode)
 other_node node db least has owner end high = (some_store db owner.1.1 least has.0 owner.1.2 high end, owner.0, owner.1)
 
-pub a_store : (node : List ℕ) (db : Database) (least : Option ℤ) → HasRows db → IsOwner node db Asker → IsEnd false (db.trees 1) least → (IsNegative least → ⊥) → IsVerdict node db (Ok OwnStore)
+pub a_store : (node : List ℕ) (db : Database) (least : Option ℤ) → HasRows db → IsOwner node db Asker → IsLeastOrGreatest false (db.trees 1) least → (IsNegative least → ⊥) → IsVerdict node db (Ok OwnStore)
 a_store node db least has owner end high =
     let entries = entries_from 0 (db.trees 1) has.1.entries has.1.rise (not_low db least high end) in
     let it = store-of node (db.trees 1) db.trees owner refl entries in
@@ -61,7 +61,7 @@ abbrev pub IsCount : ℕ → Option ℤ → Type 0
 IsCount count None = count ≡ 0
 IsCount count (Some place) = (m : ℕ) × (place ≡ pos m) × (count ≡ m + 1)
 
-pub places_counted : (rows : List Row) (greatest : Option ℤ) → AreEntries 0 rows → IsEnd true rows greatest → IsCount (length (slots_from 0 rows)) greatest
+pub places_counted : (rows : List Row) (greatest : Option ℤ) → AreEntries 0 rows → IsLeastOrGreatest true rows greatest → IsCount (length (slots_from 0 rows)) greatest
 places_counted rows None are end = ap (λ all. length (slots_from 0 all)) end
 places_counted [] (Some place) are end = absurd (omega (arith, end.0.1))
 places_counted (row ∷ rows) (Some place) are end =

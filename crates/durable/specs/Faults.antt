@@ -18,7 +18,7 @@ is_judgement WrongNode = true
 is_judgement WrongVersion = true
 is_judgement _ = false
 
--- a fault that reading answers of a store that runs
+-- a fault with which reading a store that runs may fail
 abbrev pub IsReadFault : StoreFault → Type 0
 IsReadFault Device = Unit {0}
 IsReadFault Full = Unit {0}
@@ -27,11 +27,11 @@ IsReadFault NoMemory = Unit {0}
 IsReadFault _ = ⊥
 
 -- what an error of a statement tells
-abbrev pub told : Error → StoreFault
-told (SqliteFailure code.OutOfMemory) = NoMemory
-told (SqliteFailure code.DiskFull) = Full
-told (SqliteFailure code.TooBig) = Full
-told _ = Device
+abbrev pub store_fault_of : Error → StoreFault
+store_fault_of (SqliteFailure code.OutOfMemory) = NoMemory
+store_fault_of (SqliteFailure code.DiskFull) = Full
+store_fault_of (SqliteFailure code.TooBig) = Full
+store_fault_of _ = Device
 
 -- the count of failed calls of the device, this fault included; 0 follows the greatest number
 abbrev pub count_after : ℕ → StoreFault → ℕ

@@ -34,11 +34,11 @@ pub record IsInside (s : State) : Type 0 where
   pub schema : s.now.schema ≡ store_schema
   pub store : IsStore s.now.trees
 
--- the bodies stand behind what was there
+-- the bodies stand after what was there
 abbrev pub followed_by : List (Option (List ℕ)) → List (List ℕ) → List (Option (List ℕ))
 followed_by slots bodies = slots ++ map (λ body. Some body) bodies
 
--- a store of the same node, with the whole batch behind what was there
+-- a store of the same node, with the whole batch after what was there
 pub record HasMore (old : Trees) (batch : List (List ℕ)) (new : Trees) : Type 0 where
   pub store : IsStore new
   pub node : node_in new ≡ node_in old

@@ -38,7 +38,7 @@ abbrev pub part_of : Kept → List Input → List Input
 part_of kept.All batch = batch
 part_of kept.None batch = []
 
--- after an append that passed: the batch stands behind what was there
+-- after an append that passed: the batch stands after what was there
 abbrev pub passed : List Input → Memory → Memory
 passed batch m = record { node = m.node; inputs = m.inputs ++ batch; is_waiting = m.is_waiting; fuse = after_pass m.fuse batch; faults = m.faults }
 

@@ -91,9 +91,9 @@ comes_before true m n = n <ℤ m
 comes_before false m n = m <ℤ n
 
 -- the least of the places, or the greatest of them, where there is one
-abbrev pub IsEnd : Bool → List Row → Option ℤ → Type 0
-IsEnd greatest rows None = rows ≡ []
-IsEnd greatest rows (Some place) = Contains (places_in rows) place × All (λ n. comes_before greatest n place → ⊥) (places_in rows)
+abbrev pub IsLeastOrGreatest : Bool → List Row → Option ℤ → Type 0
+IsLeastOrGreatest greatest rows None = rows ≡ []
+IsLeastOrGreatest greatest rows (Some place) = Contains (places_in rows) place × All (λ n. comes_before greatest n place → ⊥) (places_in rows)
 
 -- the tables are others
 abbrev pub HasOtherTables : Database → Type 0

@@ -18,7 +18,7 @@ abbrev pub HasNoRecord : Option (List ℕ) → Type 0
 HasNoRecord None = Unit {0}
 HasNoRecord (Some text) = (input : Input) → IsRecordText text input → ⊥
 
--- so many places have records, and the next one has none
+-- that many places have records, and the next one has none
 abbrev pub IsDamagedAt : ℕ → Places → Type 0
 IsDamagedAt zero (place ∷ places) = HasNoRecord place
 IsDamagedAt (suc p) (Some text ∷ places) = ((input : Input) × IsRecordText text input) × IsDamagedAt p places
@@ -28,6 +28,6 @@ IsDamagedAt _ _ = ⊥
 abbrev pub written : List Input → Places
 written inputs = map (λ input. Some (record_text input)) inputs
 
--- the places as they were, or with the whole batch behind them
+-- the places as they were, or with the whole batch after them
 abbrev pub IsAllOrNone : Places → List Input → Places → Type 0
 IsAllOrNone old batch new = (new ≡ old) ⊎ (new ≡ old ++ written batch)

@@ -1,4 +1,4 @@
--- What the first row of an answer tells.
+-- What the first row that a query returns says.
 use Rattle.std.specs.Prelude.{◌≡◌, ℕ, ℤ, pos, List, [], slice_get, Option, Some, None}
 use Rattle.sqlite.specs.declared.types.Value.TheVariants.{Int, Text as Words}
 use Rattle.sqlite.specs.Order.{Row, column}

@@ -15,7 +15,7 @@ place_of row = whole_number (column row 0)
 abbrev pub body_of : Row → List ℕ
 body_of row = bytes (column row 2)
 
--- so many places without a body
+-- that many places without a body
 abbrev pub missing : ℕ → List (Option (List ℕ))
 missing zero = []
 missing (suc n) = None ∷ missing n

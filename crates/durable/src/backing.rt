@@ -6,7 +6,7 @@ ghost use Rattle.sqlite.specs.State.{HasCleanDisk, Opens};
 ghost use Rattle.sqlite.specs.Files.{file_state};
 ghost use Rattle.sqlite_wal.specs.Reads.{AreClean};
 ghost use Rattle.durable.specs.Backing.{IsFound, MayFind, Hold};
-ghost use Rattle.durable.specs.Faults.{is_device_fault, told};
+ghost use Rattle.durable.specs.Faults.{is_device_fault, store_fault_of};
 ghost use Rattle.durable.specs.Refusals.{IsFileFault};
 
 use crate::fault::{StoreFault, fault_of};
@@ -29,8 +29,8 @@ pub(crate) fn opening_fault(error: SqlError, before: Tally, now: Tally) -> Store
     ensures named { (result ≡ StoreFault.Damaged 0) ⊎ ((result ≡ StoreFault.NoMemory) ⊎ IsTrue (is_device_fault result)) }
     ensures no_database { error ≡ SqlError.SqliteFailure ErrorCode.NotADatabase → result ≡ StoreFault.Damaged 0 }
     ensures corrupt { error ≡ SqlError.SqliteFailure ErrorCode.DatabaseCorrupt → now.caught ≡ before.caught → result ≡ StoreFault.Damaged 0 }
-    ensures caught { error ≢ SqlError.SqliteFailure ErrorCode.NotADatabase → now.caught ≢ before.caught → result ≡ told error }
-    ensures other { error ≢ SqlError.SqliteFailure ErrorCode.NotADatabase → error ≢ SqlError.SqliteFailure ErrorCode.DatabaseCorrupt → result ≡ told error }
+    ensures caught { error ≢ SqlError.SqliteFailure ErrorCode.NotADatabase → now.caught ≢ before.caught → result ≡ store_fault_of error }
+    ensures other { error ≢ SqlError.SqliteFailure ErrorCode.NotADatabase → error ≢ SqlError.SqliteFailure ErrorCode.DatabaseCorrupt → result ≡ store_fault_of error }
     ensures damaged { (p : ℕ) → result ≡ StoreFault.Damaged p
         → (error ≡ SqlError.SqliteFailure ErrorCode.NotADatabase) ⊎ ((error ≡ SqlError.SqliteFailure ErrorCode.DatabaseCorrupt) × (now.caught ≡ before.caught)) }
 {

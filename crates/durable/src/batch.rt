@@ -4,7 +4,7 @@ ghost use Rattle.sqlite_disk.specs.Disk.{MoreFaults};
 ghost use Rattle.sqlite.specs.State.{HasCleanDisk, IsUnchanged, KeepsCommit, Survives};
 ghost use Rattle.sqlite.specs.Held.{state};
 ghost use Rattle.sqlite.specs.Tree.{Trees};
-ghost use Rattle.durable.specs.Faults.{is_device_fault, told};
+ghost use Rattle.durable.specs.Faults.{is_device_fault, store_fault_of};
 ghost use Rattle.durable.specs.Bodies.{items};
 ghost use Rattle.durable.specs.Rooms.{IsRefused, HasNoRoom};
 ghost use Rattle.durable.specs.Held.{slots_in, IsReady, IsInside, HasMore, HasAllOrNone};
@@ -13,7 +13,7 @@ use crate::fault::{StoreFault, fault_of};
 use sqlite::types::ValueRef;
 use sqlite::{Alter, Connection, Error as SqlError, Transaction};
 
-/// One more body, at the place behind the last one, within the transaction.
+/// One more body, at the place after the last one, within the transaction.
 fn put<S: Alter>(tx: &mut Transaction<'_, S>, place: u64, body: &[u8]) -> Result<(), SqlError>
     requires small { place < 2 ^ 63 }
     requires inside { HasCleanDisk (state S.Store tx.old.conn.now) → IsInside (state S.Store tx.old.conn.now) }
@@ -23,7 +23,7 @@ fn put<S: Alter>(tx: &mut Transaction<'_, S>, place: u64, body: &[u8]) -> Result
     ensures more { HasCleanDisk (state S.Store tx.new.conn.now) → OnOk result (HasMore (state S.Store tx.old.conn.now).now.trees (body.now ∷ []) (state S.Store tx.new.conn.now).now.trees) }
     ensures kept { HasCleanDisk (state S.Store tx.new.conn.now) → KeepsCommit (state S.Store tx.old.conn.now) (state S.Store tx.new.conn.now) }
     ensures survives { Survives (state S.Store tx.old.conn.now) (state S.Store tx.new.conn.now) (λ _. ⊥) }
-    ensures full { HasCleanDisk (state S.Store tx.new.conn.now) → IfErr result (λ e. told e ≡ StoreFault.Full → MoreFaults (state S.Store tx.old.conn.now).faults (state S.Store tx.new.conn.now).faults ⊎ IsRefused body.now) }
+    ensures full { HasCleanDisk (state S.Store tx.new.conn.now) → IfErr result (λ e. store_fault_of e ≡ StoreFault.Full → MoreFaults (state S.Store tx.old.conn.now).faults (state S.Store tx.new.conn.now).faults ⊎ IsRefused body.now) }
 {
     tx.execute(
         "INSERT INTO entries (place, body) VALUES (?1, ?2)",
@@ -46,7 +46,7 @@ fn put_all<S: Alter>(
     ensures more { HasCleanDisk (state S.Store tx.new.conn.now) → OnOk result (HasMore (state S.Store tx.old.conn.now).now.trees (map items batch.now) (state S.Store tx.new.conn.now).now.trees) }
     ensures kept { HasCleanDisk (state S.Store tx.new.conn.now) → KeepsCommit (state S.Store tx.old.conn.now) (state S.Store tx.new.conn.now) }
     ensures survives { Survives (state S.Store tx.old.conn.now) (state S.Store tx.new.conn.now) (λ _. ⊥) }
-    ensures full { HasCleanDisk (state S.Store tx.new.conn.now) → IfErr result (λ e. told e ≡ StoreFault.Full
+    ensures full { HasCleanDisk (state S.Store tx.new.conn.now) → IfErr result (λ e. store_fault_of e ≡ StoreFault.Full
         → HasNoRoom (state S.Store tx.old.conn.now).faults (state S.Store tx.new.conn.now).faults (map (λ body. Some body) (map items batch.now))) }
 {
     let mut at = place;
@@ -75,7 +75,7 @@ fn append_all<S: Alter>(
         → OnErr result (IsReady (state S.Store conn.new) × ((state S.Store conn.new).committed ≡ (state S.Store conn.old).committed)) }
     ensures crash { HasCleanDisk (state S.Store conn.new) → (db : Trees) → (state S.Store conn.new).may_leave db
         → HasAllOrNone (state S.Store conn.old).committed.trees (map items batch.now) db }
-    ensures full { HasCleanDisk (state S.Store conn.new) → IfErr result (λ e. told e ≡ StoreFault.Full
+    ensures full { HasCleanDisk (state S.Store conn.new) → IfErr result (λ e. store_fault_of e ≡ StoreFault.Full
         → HasNoRoom (state S.Store conn.old).faults (state S.Store conn.new).faults (map (λ body. Some body) (map items batch.now))) }
 {
     let mut tx = conn.transaction();
@@ -92,7 +92,7 @@ pub(crate) fn is_still_open<S: Alter>(conn: &mut Connection<S>) -> bool
     conn.prepare("SELECT 1").is_ok()
 }
 
-/// Appends the whole batch at `place`, the first place behind the content, in one transaction.
+/// Appends the whole batch at `place`, the first place after the content, in one transaction.
 ///
 /// After `Device` and `Full` the batch may be there as a whole or not at all, and the connection may be shut. After
 /// `NoMemory` it is not there, and the connection is as it was.

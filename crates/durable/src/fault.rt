@@ -1,6 +1,6 @@
 //! Why a store can't do what it was asked.
 ghost use Rattle.std.specs.Prelude.{◌≡◌};
-ghost use Rattle.durable.specs.Faults.{told};
+ghost use Rattle.durable.specs.Faults.{store_fault_of};
 
 use sqlite::{Error as SqlError, ErrorCode};
 use std::alloc::AllocFailed;
@@ -70,7 +70,7 @@ impl From<NoMemory> for StoreFault {
 
 /// What an error of a statement tells: out of memory, no room, or a fault of the device.
 pub(crate) fn fault_of(error: SqlError) -> StoreFault
-    ensures told { result ≡ told error }
+    ensures told { result ≡ store_fault_of error }
 {
     match error {
         SqlError::SqliteFailure(ErrorCode::OutOfMemory) => StoreFault::NoMemory,

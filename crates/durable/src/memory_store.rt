@@ -12,7 +12,7 @@ use std::marker::Model;
 use units::{NoMemory, Node};
 use wire::Input;
 
-/// What is kept of the batch of an append that answers `Device`.
+/// What is kept of the batch of an append that fails with `Device`.
 #[derive(Clone, Copy, Debug, PartialEq, Eq)]
 pub enum Kept {
     /// The whole batch.
@@ -21,7 +21,7 @@ pub enum Kept {
     None,
 }
 
-// Lets so many appends pass, and then burns, once.
+// Lets `passes` appends pass, and then burns, once.
 #[derive(Clone, Copy, Debug, PartialEq, Eq)]
 struct Fuse {
     passes: u64,
@@ -69,7 +69,7 @@ fn copies(alloc: Global, inputs: &[Input]) -> Result<Vec<Input>, NoMemory>
     Ok(copies)
 }
 
-// The batch behind the records, if each input of it has a text. After `NoMemory` the records are as they were.
+// Puts the batch after the records, if each input of it has a text. After `NoMemory` the records are as they were.
 fn grow(alloc: Global, records: &mut Vec<Input>, batch: &[Input]) -> Result<(), NoMemory>
     ensures ok { OnOk result (records.new.items ≡ records.old.items ++ batch.now) }
     ensures records { OnOk result (AreRecords (written batch.now) batch.now) }
@@ -97,7 +97,7 @@ impl MemoryStore {
         }
     }
 
-    /// An empty store that lets `passes` appends of at least one record pass. The next such append answers `Device`, and the
+    /// An empty store that lets `passes` appends of at least one record pass. The next such append fails with `Device`, and the
     /// whole batch is kept or none of it, as `keeps` says. The fuse burns once: after a reopening all appends pass.
     pub fn fused(alloc: Global, node: Node, passes: u64, keeps: Kept) -> MemoryStore
         ensures { result ≡ record { node = node; inputs = []; is_waiting = false; fuse = Some (record { passes = passes; keeps = keeps }); faults = 0 } }
@@ -120,7 +120,7 @@ impl MemoryStore {
         self.node
     }
 
-    // The batch behind the records, whatever the fuse. After `NoMemory` a fault waits, and all else is as it was.
+    // Puts the batch after the records, whatever the fuse. After `NoMemory` a fault waits, and all else is as it was.
     fn keep(&mut self, batch: &[Input]) -> Result<(), StoreFault>
         ensures ok { OnOk result (self.new ≡ record self.old { inputs = self.old.inputs ++ batch.now }) }
         ensures refused { OnErr result (self.new ≡ stopped self.old) }

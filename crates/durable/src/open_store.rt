@@ -71,7 +71,7 @@ fn total(count: u64, more: usize) -> Option<u64>
 }
 
 impl<S: Alter> OpenStore<S> {
-    /// A store over a connection whose last commit is one of so many places.
+    /// A store over a connection whose last commit has `count` places.
     pub(crate) fn new(alloc: Global, conn: Connection<S>, count: u64) -> OpenStore<S>
         requires idle { conn.in_transaction ≡ false }
         requires small { count ≤ 2 ^ 63 }
@@ -103,7 +103,7 @@ impl<S: Alter> OpenStore<S> {
         conn
     }
 
-    // The texts of a batch at the places behind the content.
+    // The texts of a batch at the places after the content.
     fn put(&mut self, texts: &[Vec<u8>]) -> Result<(), StoreFault>
         requires runs { self.old.is_waiting ≡ false }
         ensures named { IfErr result (λ e. (e ≡ NoMemory) ⊎ IsTrue (is_device_fault e)) }

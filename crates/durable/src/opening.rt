@@ -10,7 +10,7 @@ ghost use Rattle.sqlite.specs.Held.{state};
 ghost use Rattle.sqlite.specs.Tree.{Trees};
 ghost use Rattle.durable.specs.Tables.{store_schema};
 ghost use Rattle.durable.specs.Layout.{AreTables};
-ghost use Rattle.durable.specs.Opening.{IsOpened, IsWithin, IsBare, HasAbout, IsEmpty, HasFresh, IsMade, HoldsRows, HasRows, IsOwner, IsEnd, IsVerdict, IsNegative, IsNew, IsFresh, IsOpeningFault, Settles};
+ghost use Rattle.durable.specs.Opening.{IsOpened, IsWithin, IsBare, HasAbout, IsEmpty, HasFresh, IsMade, HoldsRows, HasRows, IsOwner, IsLeastOrGreatest, IsVerdict, IsNegative, IsNew, IsFresh, IsOpeningFault, Settles};
 
 use crate::fault::{StoreFault, fault_of};
 use crate::layout::{Tables, tables_of};
@@ -144,7 +144,7 @@ fn least_place<S: Alter>(conn: &mut Connection<S>) -> Result<Option<i64>, StoreF
     ensures idle { conn.old.in_transaction ≡ false → conn.new.in_transaction ≡ false }
     ensures clean { HasCleanDisk (state S.Store conn.new) → HasCleanDisk (state S.Store conn.old) }
     ensures same { HasCleanDisk (state S.Store conn.new) → OnOk result (IsUnchanged (state S.Store conn.old) (state S.Store conn.new)) }
-    ensures least { HasCleanDisk (state S.Store conn.new) → IfOk result (IsEnd false ((state S.Store conn.old).committed.trees 1)) }
+    ensures least { HasCleanDisk (state S.Store conn.new) → IfOk result (IsLeastOrGreatest false ((state S.Store conn.old).committed.trees 1)) }
     ensures crash { HasCleanDisk (state S.Store conn.new) → (db : Trees) → (state S.Store conn.new).may_leave db → db ≡ (state S.Store conn.old).committed.trees }
     ensures named { IfErr result (λ e. (e ≡ StoreFault.NoMemory) ⊎ IsTrue (is_device_fault e)) }
 {
@@ -158,7 +158,7 @@ fn greatest_place<S: Alter>(conn: &mut Connection<S>) -> Result<Option<i64>, Sto
     ensures idle { conn.old.in_transaction ≡ false → conn.new.in_transaction ≡ false }
     ensures clean { HasCleanDisk (state S.Store conn.new) → HasCleanDisk (state S.Store conn.old) }
     ensures same { HasCleanDisk (state S.Store conn.new) → OnOk result (IsUnchanged (state S.Store conn.old) (state S.Store conn.new)) }
-    ensures greatest { HasCleanDisk (state S.Store conn.new) → IfOk result (IsEnd true ((state S.Store conn.old).committed.trees 1)) }
+    ensures greatest { HasCleanDisk (state S.Store conn.new) → IfOk result (IsLeastOrGreatest true ((state S.Store conn.old).committed.trees 1)) }
     ensures crash { HasCleanDisk (state S.Store conn.new) → (db : Trees) → (state S.Store conn.new).may_leave db → db ≡ (state S.Store conn.old).committed.trees }
     ensures named { IfErr result (λ e. (e ≡ StoreFault.NoMemory) ⊎ IsTrue (is_device_fault e)) }
 {
@@ -193,7 +193,7 @@ fn verdict(owner: Owner, least: Option<i64>) -> Result<Contents, StoreFault>
     ensures never { IfErr result (λ e. e ≢ StoreFault.Reopen) }
     ensures places { IfErr result (λ e. (p : ℕ) → e ≡ StoreFault.Damaged p → p ≡ 0) }
     ensures judged { IfErr result (λ e. (e ≢ StoreFault.NoMemory) × (is_device_fault e ≡ false)) }
-    ensures verdict { (node : List ℕ) (db : Database) → HasRows db → IsOwner node db owner → IsEnd false (db.trees 1) least → IsVerdict node db result }
+    ensures verdict { (node : List ℕ) (db : Database) → HasRows db → IsOwner node db owner → IsLeastOrGreatest false (db.trees 1) least → IsVerdict node db result }
 {
     if is_negative(least) {
         return Err(StoreFault::Damaged(0));
@@ -223,8 +223,8 @@ fn examine<S: Alter>(conn: &mut Connection<S>, node: &str) -> Result<Contents, S
     verdict(owner, least)
 }
 
-/// The place behind this one, which is not below 0.
-fn behind(place: i64) -> u64
+/// The place after this one, which is not below 0.
+fn next_place(place: i64) -> u64
     ensures { (n : ℕ) → place ≡ pos n → result ≡ n + 1 }
 {
     place.unsigned_abs() + 1
@@ -242,7 +242,7 @@ fn count<S: Alter>(conn: &mut Connection<S>) -> Result<u64, StoreFault>
     ensures named { IfErr result (λ e. (e ≡ StoreFault.NoMemory) ⊎ IsTrue (is_device_fault e)) }
 {
     match greatest_place(conn)? {
-        Some(place) => Ok(behind(place)),
+        Some(place) => Ok(next_place(place)),
         None => Ok(0),
     }
 }
@@ -295,7 +295,7 @@ fn resume<S: Alter>(conn: &mut Connection<S>, node: &str) -> Result<u64, StoreFa
     }
 }
 
-/// Makes the file a store of the node where it has no row yet, or finds that it is one, and answers how many places its content has.
+/// Makes the file a store of the node where it has no row yet, or finds that it is one, and returns how many places its content has.
 ///
 /// Faults in this order: `Damaged(0)` where the file has other tables, records without an owner, or a place below 0; `WrongVersion`; `WrongNode`. `Device`, `Full` and
 /// `NoMemory` may come at any call of the database. A refused file is as it was, but that one that was new may have been made whole.

@@ -1,4 +1,4 @@
-//! What the rows of an answer tell.
+//! What the rows that a query returns say.
 ghost use Rattle.std.specs.Prelude.{◌≡◌, ◌⊎◌, ◌↔◌, pos, IfOk, IfErr, IsTrue};
 ghost use Rattle.sqlite.specs.Order.{column};
 ghost use Rattle.sqlite.specs.declared.types.Value.TheVariants.{Int, Text as Words};

@@ -4,7 +4,7 @@ ghost use Rattle.sqlite.specs.Tree.{Trees};
 ghost use Rattle.sqlite_wal.specs.Reads.{AreClean};
 ghost use Rattle.units.specs.Code.{node_text};
 ghost use Rattle.durable.specs.Backing.{IsFound, MayFind, Hold};
-ghost use Rattle.durable.specs.Faults.{is_device_fault, told};
+ghost use Rattle.durable.specs.Faults.{is_device_fault, store_fault_of};
 ghost use Rattle.durable.specs.Held.{slots_in, node_in};
 ghost use Rattle.durable.specs.Kept.{is_there};
 ghost use Rattle.durable.specs.Records.{Places};
@@ -102,9 +102,9 @@ impl<D: Disk + Drop> SqlStore<D> {
 
 // Why a connection to the files at a path could not be made, by what is left of them, where they were opened at all.
 fn path_fault(error: SqlError, left: Option<Leftover<File>>) -> StoreFault
-    ensures unopened { left ≡ None → result ≡ told error }
+    ensures unopened { left ≡ None → result ≡ store_fault_of error }
     ensures no_database { left ≢ None → error ≡ SqlError.SqliteFailure ErrorCode.NotADatabase → result ≡ StoreFault.Damaged 0 }
-    ensures other { error ≢ SqlError.SqliteFailure ErrorCode.NotADatabase → error ≢ SqlError.SqliteFailure ErrorCode.DatabaseCorrupt → result ≡ told error }
+    ensures other { error ≢ SqlError.SqliteFailure ErrorCode.NotADatabase → error ≢ SqlError.SqliteFailure ErrorCode.DatabaseCorrupt → result ≡ store_fault_of error }
     ensures named { (result ≡ StoreFault.Damaged 0) ⊎ ((result ≡ StoreFault.NoMemory) ⊎ IsTrue (is_device_fault result)) }
 {
     match left {

@@ -39,28 +39,28 @@ abbrev pub settled : Status → Transfer → Transfer
 settled new x = record x { status = new }
 
 -- what the table asks of a transfer: an initiator always has its content
-abbrev pub known : Option Transfer → Known
-known x = option_map_or (λ y. Stands y.status) x Unknown
+abbrev pub known_transfer : Option Transfer → Known
+known_transfer x = option_map_or (λ y. Stands y.status) x Unknown
 
 abbrev pub is_asked : Cancellation → Bool
 is_asked NotAsked = false
 is_asked Asked = true
 
 -- the column of an order to ask for cancellation: the first one for its transfer, or another
-abbrev pub request_column : Option Transfer → RowInput
-request_column x = cond (option_map_or (λ y. is_asked y.cancellation) x false) RepeatedRequestOrder RequestOrder
+abbrev pub column_of_request : Option Transfer → RowInput
+column_of_request x = cond (option_map_or (λ y. is_asked y.cancellation) x false) RepeatedRequestOrder RequestOrder
 
 -- stands Proposed
-abbrev pub is_proposed : Option Transfer → Bool
-is_proposed x = option_map_or (λ y. same_status y.status Proposed) x false
+abbrev pub is_still_proposed : Option Transfer → Bool
+is_still_proposed x = option_map_or (λ y. same_status y.status Proposed) x false
 
 -- the transfers by their identifiers
-unfoldable pub by_id : BTreeMap TransactionId Transfer → FinMap id_cmp Transfer
-by_id transfers = from_entries transfers.entries
+unfoldable pub transfers_by_id : BTreeMap TransactionId Transfer → FinMap id_cmp Transfer
+transfers_by_id transfers = from_entries transfers.entries
 
 -- why an order to ask for a transfer's cancellation is refused
-abbrev pub request_refusals : Initiating → TransactionId → Causes
-request_refusals i t =
+abbrev pub cancellation_refusals : Initiating → TransactionId → Causes
+cancellation_refusals i t =
     (not (same_code t.code i.code && is_some (get i.transfers t)), not_proposed_here)
-    ∷ (not (is_proposed (get i.transfers t)), no_longer_proposed)
+    ∷ (not (is_still_proposed (get i.transfers t)), no_longer_proposed)
     ∷ []

@@ -22,7 +22,7 @@ ghost use Rattle.protocol.specs.Decisions.{decided, unless};
 ghost use Rattle.protocol.specs.Effects.{initiator_sends};
 ghost use Rattle.checks.specs.Knowing.{Knows};
 ghost use Rattle.checks.specs.Refusing.{first_of, order_refusals};
-ghost use Rattle.initiator.specs.Transfers.{opened, asked, settled, known, request_column, request_refusals};
+ghost use Rattle.initiator.specs.Transfers.{opened, asked, settled, known_transfer, column_of_request, cancellation_refusals};
 
 use crate::messages::{on_notice, on_proposing, on_request};
 use crate::table::{ask, forget, open, settle};
@@ -48,11 +48,11 @@ pub struct Initiator {
 }
 
 impl Model for Initiator {
-    ghost use Rattle.initiator.specs.Transfers.{Initiating, by_id};
+    ghost use Rattle.initiator.specs.Transfers.{Initiating, transfers_by_id};
 
     ghost Value = { Initiating };
 
-    ghost view = { λ s. record { code = s.code; last = s.last; transfers = by_id s.transfers } };
+    ghost view = { λ s. record { code = s.code; last = s.last; transfers = transfers_by_id s.transfers } };
 
     ghost use Rattle.initiator.specs.Coding.{initiating_code};
 
@@ -106,7 +106,7 @@ impl Initiator {
     /// What the table says to an offer: a new transfer is to be Proposed to the log. Fails with `NO_ROW` where the registry has
     /// a transfer of that identifier, and with `OUT_OF_MEMORY`.
     pub fn propose(&self, alloc: Global, offer: &Offer) -> Result<Decision, Refusal>
-        ensures { IsDueOrNoMemory result (decided (initiator_row (known (map.get self.now.transfers offer.now.id)) column.Propose) (initiator_sends self.now.code offer.now.id (Some offer.now.content) column.Propose)) }
+        ensures { IsDueOrNoMemory result (decided (initiator_row (known_transfer (map.get self.now.transfers offer.now.id)) column.Propose) (initiator_sends self.now.code offer.now.id (Some offer.now.content) column.Propose)) }
     {
         match row(
             Role::Initiator,
@@ -127,7 +127,7 @@ impl Initiator {
     /// repeat. Fails with `NOT_PROPOSED_HERE` where this registry didn't propose the transfer, with `NO_LONGER_PROPOSED`
     /// where it has another status than Proposed, and with `OUT_OF_MEMORY`.
     pub fn request(&self, alloc: Global, id: TransactionId) -> Result<Decision, Refusal>
-        ensures { (content : Option Terms) → IsDueOrNoMemory result (unless (request_refusals self.now id) (decided (initiator_row (known (map.get self.now.transfers id)) (request_column (map.get self.now.transfers id))) (initiator_sends self.now.code id content (request_column (map.get self.now.transfers id))))) }
+        ensures { (content : Option Terms) → IsDueOrNoMemory result (unless (cancellation_refusals self.now id) (decided (initiator_row (known_transfer (map.get self.now.transfers id)) (column_of_request (map.get self.now.transfers id))) (initiator_sends self.now.code id content (column_of_request (map.get self.now.transfers id))))) }
     {
         let transfer = self.transfer(id);
         if id.code != self.code || transfer.is_none() {
@@ -160,7 +160,7 @@ impl Initiator {
         id: TransactionId,
         told: Status,
     ) -> Result<Decision, Refusal>
-        ensures { (content : Option Terms) → IsDueOrNoMemory result (decided (initiator_row (known (map.get self.now.transfers id)) (column.Notified told)) (initiator_sends self.now.code id content (column.Notified told))) }
+        ensures { (content : Option Terms) → IsDueOrNoMemory result (decided (initiator_row (known_transfer (map.get self.now.transfers id)) (column.Notified told)) (initiator_sends self.now.code id content (column.Notified told))) }
     {
         match row(
             Role::Initiator,

@@ -22,7 +22,7 @@ pub struct Transfer {
 
 /// What the table asks of a transfer.
 pub(crate) fn known(transfer: Option<Transfer>) -> Known
-    ensures { result ≡ transfers.known transfer }
+    ensures { result ≡ transfers.known_transfer transfer }
 {
     match transfer {
         Some(transfer) => Known::Stands(transfer.status),
@@ -32,7 +32,7 @@ pub(crate) fn known(transfer: Option<Transfer>) -> Known
 
 /// Whether it stands Proposed.
 pub(crate) fn is_proposed(transfer: Option<Transfer>) -> bool
-    ensures { result ≡ transfers.is_proposed transfer }
+    ensures { result ≡ transfers.is_still_proposed transfer }
 {
     match transfer {
         Some(transfer) => transfer.status == Status::Proposed,
@@ -42,7 +42,7 @@ pub(crate) fn is_proposed(transfer: Option<Transfer>) -> bool
 
 /// The column of an order to ask for its cancellation.
 pub(crate) fn request_column(transfer: Option<Transfer>) -> RowInput
-    ensures value { result ≡ transfers.request_column transfer }
+    ensures value { result ≡ transfers.column_of_request transfer }
     ensures either { (result ≡ words.RequestOrder) ⊎ (result ≡ words.RepeatedRequestOrder) }
 {
     match transfer {

@@ -4,19 +4,26 @@
 ghost use Rattle.std.specs.Prelude.{◌≡◌, ◌++◌, IfOk, codes, string_bytes};
 ghost use Rattle.units.specs.Code.{node_text};
 
+use clap::Error;
 use durable::SqlStore;
 use operator::{
     Action, OpFault, UsageFault, node_of, parse_words, read_scheme, rehearse, show, store_fault,
+    write_out,
 };
 use scheme::Scheme;
 use std::alloc::{AllocError, Global};
+use std::io::ErrorKind;
 use std::process::ExitCode;
 use std::{env, fs, io};
 use units::Node;
 
-fn report(rt: &impl Eprint, fault: OpFault) -> io::Result<ExitCode> {
-    eprintln!(rt; "kyoto-link: {fault}")?;
-    Ok(ExitCode::from(fault.status()))
+/// The exit status for words that are wrong.
+const WRONG_WORDS: u8 = 2;
+
+/// Writes the fault on standard error, and returns its exit status. Where the fault can't be written, the status alone tells of it.
+fn report(rt: &impl Eprint, fault: OpFault) -> ExitCode {
+    let _ = eprintln!(rt; "kyoto-link: {fault}");
+    ExitCode::from(fault.status())
 }
 
 fn scheme_at(rt: &HostRuntime, path: &str) -> Result<Scheme, OpFault> {
@@ -69,22 +76,58 @@ fn run(rt: &HostRuntime, action: &Action) -> Result<(), OpFault> {
     }
 }
 
-fn main(rt: HostRuntime) -> io::Result<ExitCode> {
-    let alloc = rt.alloc();
-    let words: Vec<String> = env::args(&rt)?.collect(alloc)?;
-    match parse_words(alloc, words.as_slice()) {
-        Ok(action) => match run(&rt, &action) {
-            Ok(()) => Ok(ExitCode::SUCCESS),
-            Err(fault) => report(&rt, fault),
-        },
-        Err(UsageFault::Usage(error)) => {
-            error.print(&rt)?;
-            Ok(ExitCode::from(2))
+/// Writes help or the version on standard output.
+fn write_help(rt: &HostRuntime, error: &Error) -> Result<(), OpFault> {
+    match format!(in rt.alloc(); "{error}") {
+        Ok(text) => write_out(&mut io::writer(rt), text.as_str()),
+        Err(_) => Err(OpFault::NoMemory),
+    }
+}
+
+/// Writes on standard error what is wrong with the words: `clap`'s lines, each after the program's name.
+fn refuse(rt: &HostRuntime, error: &Error) -> ExitCode {
+    let Ok(text) = format!(in rt.alloc(); "{error}") else {
+        return report(rt, OpFault::NoMemory);
+    };
+    for line in text.as_str().lines() {
+        if !line.is_empty() {
+            let _ = eprintln!(rt; "kyoto-link: {line}");
         }
-        Err(UsageFault::Help(error)) => {
-            error.print(&rt)?;
-            Ok(ExitCode::SUCCESS)
+    }
+    ExitCode::from(WRONG_WORDS)
+}
+
+fn ended(rt: &HostRuntime, result: Result<(), OpFault>) -> ExitCode {
+    match result {
+        Ok(()) => ExitCode::SUCCESS,
+        Err(fault) => report(rt, fault),
+    }
+}
+
+/// Does what the words ask for.
+fn obey(rt: &HostRuntime, words: &[String]) -> ExitCode {
+    match parse_words(rt.alloc(), words) {
+        Ok(action) => ended(rt, run(rt, &action)),
+        Err(UsageFault::Help(error)) => ended(rt, write_help(rt, &error)),
+        Err(UsageFault::Usage(error)) => refuse(rt, &error),
+        Err(UsageFault::NoMemory) => report(rt, OpFault::NoMemory),
+    }
+}
+
+/// The words of the command line. `InvalidData`: one of them isn't UTF-8.
+fn words(rt: &HostRuntime) -> io::Result<Vec<String>> {
+    Ok(env::args(rt)?.collect(rt.alloc())?)
+}
+
+fn main(rt: HostRuntime) -> ExitCode {
+    match words(&rt) {
+        Ok(words) => obey(&rt, words.as_slice()),
+        Err(error) if error.kind() == ErrorKind::OutOfMemory => report(&rt, OpFault::NoMemory),
+        Err(_) => {
+            let _ = eprintln!(rt;
+                "kyoto-link: a word isn't UTF-8, which each word must be, a path too"
+            );
+            ExitCode::from(WRONG_WORDS)
         }
-        Err(UsageFault::NoMemory) => report(&rt, OpFault::NoMemory),
     }
 }

@@ -12,7 +12,7 @@ use Rattle.protocol.specs.Effects.{log_sends}
 use Rattle.protocol.specs.History.{newest, transitions_of}
 use Rattle.protocol.specs.Verdict.{history}
 use Rattle.log_core.specs.Cleaning.{IsAged}
-use Rattle.log_core.specs.Effects.{content_of, standing_in}
+use Rattle.log_core.specs.Effects.{standing_content, standing_in}
 use Rattle.log_core.specs.Kept.{IsKept}
 use Rattle.log_core.specs.declared.tables.Tables.{Tables}
 use Rattle.log_core.proofs.DecidedMessages.{content_so}
@@ -41,6 +41,6 @@ some_listed (x ∷ xs) n e h = (x, xs, refl)
 
 -- ---- what is sent for each of them
 
-pub cancelled_sends : (scheme : Scheme) (tables : Tables) → IsKept scheme tables → (shown ids : List TransactionId) → shown ≡ ids → flat_map (λ t. log_sends t (content_of (standing_in tables t)) [] column.CleanUp) shown
+pub cancelled_sends : (scheme : Scheme) (tables : Tables) → IsKept scheme tables → (shown ids : List TransactionId) → shown ≡ ids → flat_map (λ t. log_sends t (standing_content (standing_in tables t)) [] column.CleanUp) shown
     ≡ flat_map (λ t. log_sends t (content_in (newest (transitions_of (history scheme Itl tables.journal.items)) t)) [] column.CleanUp) ids
 cancelled_sends scheme tables kept shown ids is = λ i. flat_map (λ t. log_sends t (content_so scheme tables kept t i) [] column.CleanUp) (is i)

@@ -121,7 +121,7 @@ flips a b = elim (cases_Bool (same_id a b)) [
   | inr n ↦ n ∙ sym (false_from_ne_true (same_id b a) (λ y. clash (same_id a b) (subst (λ u. same_id a u ≡ true) (sym (id_of_same b a y)) (same_id-refl a)) n))
 ]
 
--- sorted without repeats, each is below all behind it
+-- sorted without repeats, each is below all after it
 pub ids_ascending : (ids : List TransactionId) → IsSorted id_cmp ids → IsDistinct same_id ids → Pairwise (λ a b. id_cmp a b ≡ Less) ids
 ids_ascending ids sorted distinct =
     all_from_neighbours (λ a b. id_cmp a b ≡ Less) ids_total.trans ids
@@ -194,7 +194,7 @@ module _ (scheme : Scheme) (tables : Tables) (kept : IsKept scheme tables) where
         let w = In_map (λ (z : Waiting). z.id) t front i in
         subst (IsDue xs moment) w.2 (w.0.since.seconds, since_so w.0 (in_front w.0 w.1), all_in (IsAged moment) front w.0 aged w.1)
 
-    -- what stands behind the front has not stood so for a day
+    -- what stands after the front has not stood so for a day
     behind : (ws : List Waiting) → rest ≡ ws → IsStrictlySortedBy waiting_cmp ws → (w : Waiting) → In w ws → IsAged moment w → ⊥
     behind [] e sorted w i old = i
     behind (v ∷ vs) e sorted w (inl same) old = young v vs e (subst (IsAged moment) (sym same) old)

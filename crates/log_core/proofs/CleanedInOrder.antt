@@ -123,7 +123,7 @@ by_id_In x [] h = absurd h
 by_id_In x (q ∷ qs) (inl e) = put_In q x (by_id qs) (inl e)
 by_id_In x (q ∷ qs) (inr i) = put_In q x (by_id qs) (inr (by_id_In x qs i))
 
--- each identifier is less than those behind it
+-- each identifier is less than those after it
 abbrev pub Ascend : List Transition → Type 0
 Ascend [] = Unit {0}
 Ascend (x ∷ xs) = ((y : Transition) → In y xs → id_cmp x.id y.id ≡ Less) × Ascend xs

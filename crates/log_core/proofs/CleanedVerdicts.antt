@@ -16,7 +16,7 @@ use Rattle.safety.proofs.MovesAndHistories.NewestTransitions.{Made}
 use Rattle.log_core.specs.Effects.{IsEffect, standing_in}
 use Rattle.log_core.specs.Kept.{IsKept}
 use Rattle.log_core.specs.Readings.{of_transition}
-use Rattle.log_core.specs.Taking.{due}
+use Rattle.log_core.specs.Taking.{verdict_due}
 use Rattle.log_core.specs.Transfers.{IsOfKnown}
 use Rattle.log_core.specs.declared.effect.Effect.TheVariants.{Cancel}
 use Rattle.log_core.specs.declared.tables.Tables.{Tables}
@@ -39,15 +39,15 @@ module _ (scheme : Scheme) (tables : Tables) where
   abbrev past : List Entry
   past = history scheme Itl tables.journal.items
 
-  due_clean : (moment : Moment) → due scheme tables (CleanUp moment) ≡ log.clean_up scheme past (log.due (transitions_of past) moment.seconds)
+  due_clean : (moment : Moment) → verdict_due scheme tables (CleanUp moment) ≡ log.clean_up scheme past (log.due (transitions_of past) moment.seconds)
   unfolding verdict
   due_clean moment = refl
 
-  pub clean_up_repeats : (moment : Moment) → map (λ x. x.id) (log.due (transitions_of (history scheme Itl tables.journal.items)) moment.seconds) ≡ [] → due scheme tables (CleanUp moment) ≡ IsRepeat
+  pub clean_up_repeats : (moment : Moment) → map (λ x. x.id) (log.due (transitions_of (history scheme Itl tables.journal.items)) moment.seconds) ≡ [] → verdict_due scheme tables (CleanUp moment) ≡ IsRepeat
   clean_up_repeats moment none = due_clean moment ∙ none_cleaned scheme past (log.due (transitions_of past) moment.seconds) none
 
   pub clean_up_enters : (moment : Moment) (t : TransactionId) (ts : List TransactionId) → map (λ x. x.id) (log.due (transitions_of (history scheme Itl tables.journal.items)) moment.seconds) ≡ t ∷ ts
-      → due scheme tables (CleanUp moment) ≡ enters scheme (history scheme Itl tables.journal.items) (log.due (transitions_of (history scheme Itl tables.journal.items)) moment.seconds)
+      → verdict_due scheme tables (CleanUp moment) ≡ enters scheme (history scheme Itl tables.journal.items) (log.due (transitions_of (history scheme Itl tables.journal.items)) moment.seconds)
   clean_up_enters moment t ts some = due_clean moment ∙ some_cleaned scheme past (log.due (transitions_of past) moment.seconds) t ts some
 
   module _ (moment : ℕ) (ids : Vec TransactionId Global) (are : map (λ x. x.id) (log.due (transitions_of (history scheme Itl tables.journal.items)) moment) ≡ ids.items) where

@@ -60,9 +60,9 @@ module _ (scheme : Scheme) (tables : Tables) (kept : IsKept scheme tables) (l : 
   pub sends_so : length (sending.messages tables.outbox) ≡ length (sends (past l))
   sends_so = ap length messages_so
 
-  pub acknowledged_so : (key : ℕ) → sending.is_acknowledged tables.outbox key ≡ history.is_acknowledged (past l) key
+  pub acknowledged_so : (key : ℕ) → sending.is_key_acknowledged tables.outbox key ≡ history.is_acknowledged (past l) key
   acknowledged_so key =
-      ap (λ (o : List Sent). sending.is_acknowledged o key) kept.kept.sent
+      ap (λ (o : List Sent). sending.is_key_acknowledged o key) kept.kept.sent
       ∙ acknowledged_outgoing (past (seen scheme tables)) key
       ∙ ap (λ (q : Log). history.is_acknowledged (past q) key) is
 
@@ -73,7 +73,7 @@ module _ (scheme : Scheme) (tables : Tables) (kept : IsKept scheme tables) (l : 
       ∙ ap length (messages_outgoing scheme Itl (take count tables.journal.items))
       ∙ ap (λ (q : Log). length (sends (verdicts.history q.scheme Itl (take count q.journal)))) is
 
-  pub least_so : (peer : Node) (from : ℕ) (key : Option ℕ) → IsLeastFrom (awaits (sending.messages tables.outbox) (sending.is_acknowledged tables.outbox) peer) from key
+  pub least_so : (peer : Node) (from : ℕ) (key : Option ℕ) → IsLeastFrom (awaits (sending.messages tables.outbox) (sending.is_key_acknowledged tables.outbox) peer) from key
       → IsLeastFrom (awaits (sends (past l)) (history.is_acknowledged (past l)) peer) from key
   least_so peer from key h = subst (λ (passes : ℕ → Bool). IsLeastFrom passes from key) (λ i. awaits (messages_so i) (λ k. acknowledged_so k i) peer) h
 

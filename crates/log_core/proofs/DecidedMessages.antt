@@ -34,11 +34,11 @@ use Rattle.protocol.specs.Verdict.{history}
 use Rattle.protocol.specs.declared.decision.Decision.{Decision}
 use Rattle.protocol.specs.declared.decision.Decision.TheVariants as decision
 use Rattle.checks.specs.Refusing.{first_of}
-use Rattle.log_core.specs.Effects.{content_of, standing_in}
+use Rattle.log_core.specs.Effects.{standing_content, standing_in}
 use Rattle.log_core.specs.Kept.{IsKept}
 use Rattle.log_core.specs.Readings.{of_transition}
-use Rattle.log_core.specs.Taking.{due}
-use Rattle.log_core.specs.Transfers.{known}
+use Rattle.log_core.specs.Taking.{verdict_due}
+use Rattle.log_core.specs.Transfers.{known_standing}
 use Rattle.log_core.specs.declared.tables.Tables.{Tables}
 use Rattle.log_core.proofs.FirstCauses.{refuse_first, refuse_none}
 use Rattle.log_core.proofs.TakenInputs.{GivenUp, due_so}
@@ -58,14 +58,14 @@ module _ (scheme : Scheme) (tables : Tables) (input : Input) (to : Status → Tr
     pub messages : List Message
     pub sends : (new : Status) → (to new).messages ≡ messages
     pub is : IsDueOrNoMemory d (decided row messages)
-    pub due_is : due scheme tables input ≡ by_row scheme past to row
+    pub due_is : verdict_due scheme tables input ≡ by_row scheme past to row
 
   module _ (h : Decides) where
     by_decision : (x : Decision) → d ≡ Ok x → decided row h.messages ≡ Ok x
     by_decision x e = settled d (decided row h.messages) x h.is e
 
     -- a decision that moves: the row does, and its transition is to be recorded
-    pub moves : (new : Status) (ms : List Message) → d ≡ Ok (decision.Moves new ms) → (row ≡ rows.Move new) × (due scheme tables input ≡ enters scheme past (to new ∷ [])) × (ms ≡ messages_of (to new ∷ []))
+    pub moves : (new : Status) (ms : List Message) → d ≡ Ok (decision.Moves new ms) → (row ≡ rows.Move new) × (verdict_due scheme tables input ≡ enters scheme past (to new ∷ [])) × (ms ≡ messages_of (to new ∷ []))
     moves new ms e =
         let g = go row (by_decision (decision.Moves new ms) e) in
         (g.0, h.due_is ∙ ap (by_row scheme past to) g.0, g.1 ∙ sym (h.sends new) ∙ sym (append-nil (to new).messages))
@@ -76,7 +76,7 @@ module _ (scheme : Scheme) (tables : Tables) (input : Input) (to : Status → Tr
         go rows.Late i = absurd (cc (i))
         go rows.Refused i = absurd (cc (i))
 
-    pub repeats : d ≡ Ok decision.Repeat → due scheme tables input ≡ IsRepeat
+    pub repeats : d ≡ Ok decision.Repeat → verdict_due scheme tables input ≡ IsRepeat
     repeats e = h.due_is ∙ ap (by_row scheme past to) (go row (by_decision decision.Repeat e))
       where
         go : (r : Row) → decided r h.messages ≡ Ok decision.Repeat → r ≡ rows.Repeat
@@ -85,7 +85,7 @@ module _ (scheme : Scheme) (tables : Tables) (input : Input) (to : Status → Tr
         go rows.Late i = absurd (cc (i))
         go rows.Refused i = absurd (cc (i))
 
-    pub comes_late : d ≡ Ok decision.Late → due scheme tables input ≡ IsLate
+    pub comes_late : d ≡ Ok decision.Late → verdict_due scheme tables input ≡ IsLate
     comes_late e = h.due_is ∙ ap (by_row scheme past to) (go row (by_decision decision.Late e))
       where
         go : (r : Row) → decided r h.messages ≡ Ok decision.Late → r ≡ rows.Late
@@ -109,11 +109,11 @@ module _ (scheme : Scheme) (tables : Tables) (input : Input) (to : Status → Tr
 
 -- ---- what the tables say of a transaction is what its newest transition says
 
-known_of : (o : Option Transition) → known (option_map of_transition o) ≡ decide.known o
+known_of : (o : Option Transition) → known_standing (option_map of_transition o) ≡ decide.known o
 known_of None = refl
 known_of (Some x) = refl
 
-content_of_newest : (o : Option Transition) → content_of (option_map of_transition o) ≡ content_in o
+content_of_newest : (o : Option Transition) → standing_content (option_map of_transition o) ≡ content_in o
 content_of_newest None = refl
 content_of_newest (Some x) = refl
 
@@ -124,23 +124,23 @@ module _ (scheme : Scheme) (tables : Tables) (kept : IsKept scheme tables) where
   abbrev pub last : TransactionId → Option Transition
   last t = newest (transitions_of (history scheme Itl tables.journal.items)) t
 
-  pub known_so : (t : TransactionId) → known (standing_in tables t) ≡ decide.known (last t)
-  known_so t = ap known (kept.kept.transfers t) ∙ known_of (last t)
+  pub known_so : (t : TransactionId) → known_standing (standing_in tables t) ≡ decide.known (last t)
+  known_so t = ap known_standing (kept.kept.transfers t) ∙ known_of (last t)
 
-  pub content_so : (t : TransactionId) → content_of (standing_in tables t) ≡ content_in (last t)
-  content_so t = ap content_of (kept.kept.transfers t) ∙ content_of_newest (last t)
+  pub content_so : (t : TransactionId) → standing_content (standing_in tables t) ≡ content_in (last t)
+  content_so t = ap standing_content (kept.kept.transfers t) ∙ content_of_newest (last t)
 
   -- ---- a message that isn't refused for what it is
 
   abbrev pub IsWelcome : Message → Type 0
   IsWelcome m = first_of (log_refusals scheme (history scheme Itl tables.journal.items) m) ≡ None
 
-  answered : (m : Message) (moment : Moment) → IsWelcome m → due scheme tables (Received m moment) ≡ log_answer scheme (history scheme Itl tables.journal.items) moment.seconds m
+  answered : (m : Message) (moment : Moment) → IsWelcome m → verdict_due scheme tables (Received m moment) ≡ log_answer scheme (history scheme Itl tables.journal.items) moment.seconds m
   answered m moment welcome =
       let es = history scheme Itl tables.journal.items in
       due_so scheme tables (Received m moment) ∙ refuse_none (log_refusals scheme es m) (log_answer scheme es moment.seconds m) welcome
 
-  pub refused : (m : Message) (moment : Moment) (code : ℕ) → first_of (log_refusals scheme (history scheme Itl tables.journal.items) m) ≡ Some code → due scheme tables (Received m moment) ≡ IsRefused code
+  pub refused : (m : Message) (moment : Moment) (code : ℕ) → first_of (log_refusals scheme (history scheme Itl tables.journal.items) m) ≡ Some code → verdict_due scheme tables (Received m moment) ≡ IsRefused code
   refused m moment code first =
       let es = history scheme Itl tables.journal.items in
       due_so scheme tables (Received m moment) ∙ refuse_first (log_refusals scheme es m) (log_answer scheme es moment.seconds m) code first
@@ -159,27 +159,27 @@ module _ (scheme : Scheme) (tables : Tables) (kept : IsKept scheme tables) where
   proposal_column p = offered (content_in (last p.id)) (findings p)
 
   pub proposal_decided : (p : Proposal) (moment : Moment) (d : Result Decision Refusal) → IsWelcome (message.Proposal p)
-      → IsDueOrNoMemory d (decided (log_row (known (standing_in tables p.id)) (offered (content_of (standing_in tables p.id)) (findings p))) (log_sends p.id (Some p.content) (findings p) (offered (content_of (standing_in tables p.id)) (findings p))))
+      → IsDueOrNoMemory d (decided (log_row (known_standing (standing_in tables p.id)) (offered (standing_content (standing_in tables p.id)) (findings p))) (log_sends p.id (Some p.content) (findings p) (offered (standing_content (standing_in tables p.id)) (findings p))))
       → Decides scheme tables (Received (message.Proposal p) moment) (comes_to p.id (Some p.content) (findings p) moment (proposal_column p)) (row_at p.id (proposal_column p)) d
   proposal_decided p moment d welcome is =
       record {
         messages = log_sends p.id (Some p.content) (findings p) (proposal_column p);
         sends = λ new. refl;
         is = subst (λ k. IsDueOrNoMemory d (decided (log_row (decide.known (last p.id)) (offered k (findings p))) (log_sends p.id (Some p.content) (findings p) (offered k (findings p))))) (content_so p.id)
-            (subst (λ k. IsDueOrNoMemory d (decided (log_row k (offered (content_of (standing_in tables p.id)) (findings p))) (log_sends p.id (Some p.content) (findings p) (offered (content_of (standing_in tables p.id)) (findings p))))) (known_so p.id) is);
+            (subst (λ k. IsDueOrNoMemory d (decided (log_row k (offered (standing_content (standing_in tables p.id)) (findings p))) (log_sends p.id (Some p.content) (findings p) (offered (standing_content (standing_in tables p.id)) (findings p))))) (known_so p.id) is);
         due_is = answered (message.Proposal p) moment welcome;
       }
 
   told_decided : (t : TransactionId) (codes : List ℕ) (col : RowInput) (moment : Moment) (input : Input) (d : Result Decision Refusal)
-      → due scheme tables input ≡ by_row scheme (history scheme Itl tables.journal.items) (comes_to t (content_in (last t)) codes moment col) (row_at t col)
-      → IsDueOrNoMemory d (decided (log_row (known (standing_in tables t)) col) (log_sends t (content_of (standing_in tables t)) codes col))
+      → verdict_due scheme tables input ≡ by_row scheme (history scheme Itl tables.journal.items) (comes_to t (content_in (last t)) codes moment col) (row_at t col)
+      → IsDueOrNoMemory d (decided (log_row (known_standing (standing_in tables t)) col) (log_sends t (standing_content (standing_in tables t)) codes col))
       → Decides scheme tables input (comes_to t (content_in (last t)) codes moment col) (row_at t col) d
   told_decided t codes col moment input d due_is is =
       record {
         messages = log_sends t (content_in (last t)) codes col;
         sends = λ new. refl;
         is = subst (λ k. IsDueOrNoMemory d (decided (row_at t col) (log_sends t k codes col))) (content_so t)
-            (subst (λ k. IsDueOrNoMemory d (decided (log_row k col) (log_sends t (content_of (standing_in tables t)) codes col))) (known_so t) is);
+            (subst (λ k. IsDueOrNoMemory d (decided (log_row k col) (log_sends t (standing_content (standing_in tables t)) codes col))) (known_so t) is);
         due_is = due_is;
       }
 
@@ -187,13 +187,13 @@ module _ (scheme : Scheme) (tables : Tables) (kept : IsKept scheme tables) where
   notice_column n = column.Notified (notice_status n.notice)
 
   pub notice_decided : (n : Notification) (moment : Moment) (d : Result Decision Refusal) → IsWelcome (message.Notification n)
-      → IsDueOrNoMemory d (decided (log_row (known (standing_in tables n.id)) (notice_column n)) (log_sends n.id (content_of (standing_in tables n.id)) (notice_codes n.notice) (notice_column n)))
+      → IsDueOrNoMemory d (decided (log_row (known_standing (standing_in tables n.id)) (notice_column n)) (log_sends n.id (standing_content (standing_in tables n.id)) (notice_codes n.notice) (notice_column n)))
       → Decides scheme tables (Received (message.Notification n) moment) (comes_to n.id (content_in (last n.id)) (notice_codes n.notice) moment (notice_column n)) (row_at n.id (notice_column n)) d
   notice_decided n moment d welcome is =
       told_decided n.id (notice_codes n.notice) (notice_column n) moment (Received (message.Notification n) moment) d (answered (message.Notification n) moment welcome) is
 
   pub request_decided : (r : Request) (moment : Moment) (d : Result Decision Refusal) → IsWelcome (message.Request r)
-      → IsDueOrNoMemory d (decided (log_row (known (standing_in tables r.id)) column.Request) (log_sends r.id (content_of (standing_in tables r.id)) [] column.Request))
+      → IsDueOrNoMemory d (decided (log_row (known_standing (standing_in tables r.id)) column.Request) (log_sends r.id (standing_content (standing_in tables r.id)) [] column.Request))
       → Decides scheme tables (Received (message.Request r) moment) (comes_to r.id (content_in (last r.id)) [] moment column.Request) (row_at r.id column.Request) d
   request_decided r moment d welcome is =
       told_decided r.id [] column.Request moment (Received (message.Request r) moment) d (answered (message.Request r) moment welcome) is

@@ -36,10 +36,10 @@ use Rattle.safety.proofs.ListLemmas.TestsOfSameness.{status_of_same}
 use Rattle.safety.proofs.MovesAndHistories.LongerHistories.{made_history}
 use Rattle.safety.proofs.MovesAndHistories.NewestTransitions.{Made, made_log}
 use Rattle.safety.proofs.OneLog.OwnersInLog.{IsBusy, log_live}
-use Rattle.log_core.specs.Effects.{Carried, IsCancelledAt, IsEffect, IsSettled, came_to, content_of, handed_over, is_among, standing_in}
+use Rattle.log_core.specs.Effects.{Carried, IsCancelledAt, IsEffect, IsSettled, came_to, standing_content, handed_over, is_among, standing_in}
 use Rattle.log_core.specs.Kept.{AreKept, IsKept, waiting_cmp}
 use Rattle.log_core.specs.Readings.{Standing, last_order, of_transition, under_way}
-use Rattle.log_core.specs.Taking.{due}
+use Rattle.log_core.specs.Taking.{verdict_due}
 use Rattle.log_core.specs.Transfers.{IsOfKnown}
 use Rattle.log_core.specs.declared.effect.Effect.{Effect}
 use Rattle.log_core.specs.declared.effect.Effect.TheVariants.{Begin, Cancel, Settle}
@@ -69,7 +69,7 @@ as_moves _ h = absurd h
 
 -- ---- one record more
 
-pub kept_recorded : (scheme : Scheme) (tables tables' : Tables) (input : Input) (front : List Transition) → IsKept scheme tables → due scheme tables input ≡ Enters front → tables'.journal.items ≡ tables.journal.items ++ input ∷ []
+pub kept_recorded : (scheme : Scheme) (tables tables' : Tables) (input : Input) (front : List Transition) → IsKept scheme tables → verdict_due scheme tables input ≡ Enters front → tables'.journal.items ≡ tables.journal.items ++ input ∷ []
     → AreKept scheme (entry input front ∷ history scheme Itl tables.journal.items) tables' → IsKept scheme tables'
 kept_recorded scheme tables tables' input front kept enters journal more =
     let old = tables.journal.items in
@@ -131,7 +131,7 @@ module _ (scheme : Scheme) (es : List Entry) (tables tables' : Tables) (kept : A
           allotments = λ s. allotments_so carried.allotments s ∙ kept.allotments s;
           book = λ s.
               carried.book s
-              ∙ ap (λ (o : Option Standing). if same_status x.new Completed then handed_over (content_of o) s (finite.get tables.register.book s) else finite.get tables.register.book s)
+              ∙ ap (λ (o : Option Standing). if same_status x.new Completed then handed_over (standing_content o) s (finite.get tables.register.book s) else finite.get tables.register.book s)
               (kept.transfers x.id ∙ ap (option_map of_transition) was)
               ∙ (λ i. if same_status x.new Completed then handed_over (sym content i) s (kept.book s i) else kept.book s i)
               ∙ owner_handed scheme x xs s;
@@ -225,7 +225,7 @@ module _ (scheme : Scheme) (es : List Entry) (tables tables' : Tables) (kept : A
       (λ t i. all_in (λ u. is_some (standing_in tables u) ≡ true) ids.items t known i)
       sent carried.allotments carried.orders carried.transfers carried.under_way carried.book carried.checked
 
-pub kept_moved : (scheme : Scheme) (tables tables' : Tables) (input : Input) (xs : List Transition) (effect : Effect) (moment : ℕ) → IsKept scheme tables → due scheme tables input ≡ Enters xs → IsMessageOrCleanUp input
+pub kept_moved : (scheme : Scheme) (tables tables' : Tables) (input : Input) (xs : List Transition) (effect : Effect) (moment : ℕ) → IsKept scheme tables → verdict_due scheme tables input ≡ Enters xs → IsMessageOrCleanUp input
     → IsEffect xs moment effect → IsOfKnown (standing_in tables) effect → Carried effect moment tables tables' → tables'.journal.items ≡ tables.journal.items ++ input ∷ []
     → tables'.outbox ≡ tables.outbox ++ Sends (messages_of xs) ∷ [] → IsKept scheme tables'
 kept_moved scheme tables tables' input xs effect moment kept enters given h known carried journal sent =

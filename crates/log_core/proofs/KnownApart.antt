@@ -25,10 +25,10 @@ use Rattle.safety.proofs.MovesAndHistories.TableMoves.{LogMove, cancels, checks,
 use Rattle.safety.proofs.MovesAndHistories.TransitionForms.{checked_status}
 use Rattle.safety.proofs.OneLog.LogInputs.{each_log_move, none_stand}
 use Rattle.safety.proofs.OneLog.OwnersInLog.{IsBusy, log_live}
-use Rattle.log_core.specs.Effects.{IsEffect, IsSettled, content_of, standing_in}
+use Rattle.log_core.specs.Effects.{IsEffect, IsSettled, standing_content, standing_in}
 use Rattle.log_core.specs.Kept.{IsKept}
 use Rattle.log_core.specs.Readings.{of_transition}
-use Rattle.log_core.specs.Taking.{due}
+use Rattle.log_core.specs.Taking.{verdict_due}
 use Rattle.log_core.specs.Transfers.{AreApart}
 use Rattle.log_core.specs.declared.effect.Effect.{Effect}
 use Rattle.log_core.specs.declared.effect.Effect.TheVariants.{Begin, Cancel, Settle}
@@ -71,7 +71,7 @@ module _ (scheme : Scheme) where
       cancelled_more x xs ended old y k (inl e) busy known = absurd (ended (subst (λ (z : Transition). IsBusy z.new) (sym e) busy))
       cancelled_more x xs ended old y k (inr i) busy known = old y k i busy known
 
-module _ (scheme : Scheme) (tables : Tables) (input : Input) (xs : List Transition) (moment : ℕ) (enters : due scheme tables input ≡ Enters xs) where
+module _ (scheme : Scheme) (tables : Tables) (input : Input) (xs : List Transition) (moment : ℕ) (enters : verdict_due scheme tables input ≡ Enters xs) where
   abbrev past : List Entry
   past = history scheme Itl tables.journal.items
 
@@ -88,7 +88,7 @@ module _ (scheme : Scheme) (tables : Tables) (input : Input) (xs : List Transiti
       apart_repeats blocks (ap (λ us. repeats (pieces us)) units ∙ fine)
 
   -- a transfer that is Accepted, Rejected or Completed
-  pub settle_apart : (id : TransactionId) (new : Status) (k : Content) (blocks : List Block) → IsKept scheme tables → IsEffect xs moment (Settle id new) → content_of (standing_in tables id) ≡ Some k → raws blocks ≡ k.units
+  pub settle_apart : (id : TransactionId) (new : Status) (k : Content) (blocks : List Block) → IsKept scheme tables → IsEffect xs moment (Settle id new) → standing_content (standing_in tables id) ≡ Some k → raws blocks ≡ k.units
       → AllApart blocks
   settle_apart id new k blocks kept h known units =
       let x = h.0 in
@@ -96,7 +96,7 @@ module _ (scheme : Scheme) (tables : Tables) (input : Input) (xs : List Transiti
       let move = made_log scheme (entry input xs) past x made_so here in
       let q = settled_known scheme past input x move (subst IsSettled (sym h.3) h.5) in
       let content : q.0.content ≡ Some k =
-      sym (ap content_of (kept.kept.transfers id ∙ ap (λ t. option_map of_transition (newest (transitions_of past) t)) (sym h.2) ∙ ap (option_map of_transition) q.1)) ∙ known in
+      sym (ap standing_content (kept.kept.transfers id ∙ ap (λ t. option_map of_transition (newest (transitions_of past) t)) (sym h.2) ∙ ap (option_map of_transition) q.1)) ∙ known in
       let fine = contents_apart scheme past made_so.1 q.0 k (newest_id (transitions_of past) x.id q.0 q.1).0 (log_live scheme past input x q.0 move q.1) content in
       apart_repeats blocks (ap (λ us. repeats (pieces us)) units ∙ fine)
 

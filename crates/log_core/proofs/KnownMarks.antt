@@ -9,15 +9,15 @@ use Rattle.scheme.specs.declared.registries.Scheme.{Scheme}
 use Rattle.protocol.specs.History.{Transition, has_serial, newest, transitions_of}
 use Rattle.protocol.specs.Verdict.{history}
 use Rattle.safety.proofs.MovesAndHistories.LongerHistories.{made_history}
-use Rattle.log_core.specs.Effects.{content_of, standing_in}
+use Rattle.log_core.specs.Effects.{standing_content, standing_in}
 use Rattle.log_core.specs.Kept.{IsKept}
 use Rattle.log_core.specs.Readings.{of_transition}
-use Rattle.log_core.specs.Transfers.{AreMarked, AreWaiting, is_checked}
+use Rattle.log_core.specs.Transfers.{AreMarked, AreWaiting, stands_checked_since}
 use Rattle.log_core.specs.declared.tables.Tables.{Tables}
 use Rattle.log_core.proofs.KnownUnderWay.{under_way_busy}
 
 checked_standing : (since : ℕ) (o : Option Transition) → option_map_or (λ (x : Transition). same_status x.new Checked && (x.moment == since)) o false
-    ≡ is_checked since (option_map of_transition o)
+    ≡ stands_checked_since since (option_map of_transition o)
 checked_standing since None = refl
 checked_standing since (Some x) = refl
 
@@ -27,7 +27,7 @@ module _ (scheme : Scheme) (tables : Tables) (kept : IsKept scheme tables) where
   marked_so s u h =
       let es = history scheme Itl tables.journal.items in
       let b = under_way_busy scheme es (made_history scheme Itl tables.journal.items) s u (sym (kept.kept.under_way s) ∙ h) in
-      let content : content_of (standing_in tables u.id) ≡ b.last.content = ap content_of (kept.kept.transfers u.id ∙ ap (option_map of_transition) b.is) in
+      let content : standing_content (standing_in tables u.id) ≡ b.last.content = ap standing_content (kept.kept.transfers u.id ∙ ap (option_map of_transition) b.is) in
       subst (λ k. has_serial k s ≡ true) (sym content) b.has
 
   -- the set has a transaction at a moment exactly where it stands Checked since then
@@ -36,4 +36,4 @@ module _ (scheme : Scheme) (tables : Tables) (kept : IsKept scheme tables) where
       let xs = transitions_of (history scheme Itl tables.journal.items) in
       kept.kept.checked w
       ∙ checked_standing w.since.seconds (newest xs w.id)
-      ∙ ap (is_checked w.since.seconds) (sym (kept.kept.transfers w.id))
+      ∙ ap (stands_checked_since w.since.seconds) (sym (kept.kept.transfers w.id))

@@ -26,7 +26,7 @@ use Rattle.safety.proofs.OneLog.LogInputs.{each_log_move}
 use Rattle.safety.proofs.OneLog.OwnersInLog.{Busy, in_book, log_live}
 use Rattle.log_core.specs.Effects.{IsSettled}
 use Rattle.log_core.specs.Kept.{IsKept}
-use Rattle.log_core.specs.Readings.{is_with, last_order}
+use Rattle.log_core.specs.Readings.{is_under_way_with, last_order}
 use Rattle.log_core.specs.declared.tables.Tables.{Tables}
 use Rattle.log_core.proofs.KnownContents.{move_keeps}
 use Rattle.log_core.proofs.KnownEffects.{settled_known}
@@ -110,6 +110,6 @@ registers_so scheme tables kept =
       allotments = kept.kept.allotments;
       owner = λ s. owner_read (book_owner scheme xs s) ∙ ap (option_map (λ (w : Owner). w.registry)) (sym (kept.kept.book s));
       owned = λ s. owned_so scheme s es (made_history scheme Itl tables.journal.items);
-      is_busy = λ s. any_found (is_with xs s) (λ (x : Transition). record { id = x.id }) xs ∙ ap is_some (sym (kept.kept.under_way s));
+      is_busy = λ s. any_found (is_under_way_with xs s) (λ (x : Transition). record { id = x.id }) xs ∙ ap is_some (sym (kept.kept.under_way s));
       is_eligible = λ c. eligible_so scheme es c ∙ ap (λ o. unwrap_or o (starts_eligible scheme c)) (sym (kept.kept.orders c));
     }

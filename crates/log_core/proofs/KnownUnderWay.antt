@@ -17,7 +17,7 @@ use Rattle.lemmas.proofs.SomePass.{list_any_in}
 use Rattle.safety.proofs.MovesAndHistories.NewestTransitions.{Made, newest_id}
 use Rattle.safety.proofs.MovesAndHistories.TableMoves.{newest_some}
 use Rattle.safety.proofs.OneLog.OwnersInLog.{Busy, IsBusy, in_book}
-use Rattle.log_core.specs.Readings.{is_with, under_way}
+use Rattle.log_core.specs.Readings.{is_under_way_with, under_way}
 use Rattle.log_core.proofs.KnownContents.{ContentsKept, contents_kept}
 
 -- ---- the first element that passes a test
@@ -62,7 +62,7 @@ test_busy Completed h = absurd h
 abbrev stands_busy : Option Transition → Bool
 stands_busy o = is_status (option_map (λ (x : Transition). x.new) o) Checked || is_status (option_map (λ (x : Transition). x.new) o) Accepted
 
-with_busy : (xs : List Transition) (s : Serial) (x : Transition) → ContentsKept xs → In x xs → is_with xs s x ≡ true → Busy s xs x.id
+with_busy : (xs : List Transition) (s : Serial) (x : Transition) → ContentsKept xs → In x xs → is_under_way_with xs s x ≡ true → Busy s xs x.id
 with_busy xs s x contents i h =
     let parts = and_parts (stands_busy (newest xs x.id)) (carries x s) h in
     let last = newest_some xs x i in
@@ -77,13 +77,13 @@ busy_with : (xs : List Transition) (s : Serial) (t : TransactionId) → Busy s x
 busy_with xs s t b =
     let about = newest_id xs t b.last b.is in
     let here : newest xs b.last.id ≡ Some b.last = ap (newest xs) about.1 ∙ b.is in
-    let passes : is_with xs s b.last ≡ true = and_from (stands_busy (newest xs b.last.id)) (carries b.last s) (subst (λ o. stands_busy o ≡ true) (sym here) (test_busy b.last.new b.new)) b.has in
-    sym (any_found (is_with xs s) (λ (x : Transition). record { id = x.id }) xs) ∙ list_any_in (is_with xs s) xs b.last about.0 passes
+    let passes : is_under_way_with xs s b.last ≡ true = and_from (stands_busy (newest xs b.last.id)) (carries b.last s) (subst (λ o. stands_busy o ≡ true) (sym here) (test_busy b.last.new b.new)) b.has in
+    sym (any_found (is_under_way_with xs s) (λ (x : Transition). record { id = x.id }) xs) ∙ list_any_in (is_under_way_with xs s) xs b.last about.0 passes
 
 under_way_with : (xs : List Transition) (s : Serial) (u : UnderWay) → ContentsKept xs → under_way xs s ≡ Some u → Busy s xs u.id
 under_way_with xs s u contents h =
-    let x = mapped (λ (y : Transition). record { id = y.id }) (find (is_with xs s) xs) u h in
-    let g = In_find (is_with xs s) xs x.0 x.1 in
+    let x = mapped (λ (y : Transition). record { id = y.id }) (find (is_under_way_with xs s) xs) u h in
+    let g = In_find (is_under_way_with xs s) xs x.0 x.1 in
     subst (λ (w : UnderWay). Busy s xs w.id) x.2 (with_busy xs s x.0 contents g.0 g.1)
 
 module _ (scheme : Scheme) (es : List Entry) (made : Made scheme Itl es) (s : Serial) where

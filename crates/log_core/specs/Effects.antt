@@ -54,9 +54,9 @@ standing_in tables t = option_map of_transfer (tree.get id_cmp tables.transfers 
 abbrev pub came_to : Status → ℕ → Standing → Standing
 came_to new moment x = record x { status = new; since = moment }
 
-abbrev pub content_of : Option Standing → Option Content
-content_of (Some x) = x.content
-content_of None = None
+abbrev pub standing_content : Option Standing → Option Content
+standing_content (Some x) = x.content
+standing_content None = None
 
 -- the acquirer's, where the unit is in the transfer
 abbrev pub handed_over : Option Content → Serial → Option Owner → Option Owner
@@ -77,7 +77,7 @@ under_way_after (Cancel ids) s old = marks_that (λ u. not (is_among ids.items u
 
 -- who owns each unit
 abbrev pub owner_after : Effect → (TransactionId → Option Standing) → Serial → Option Owner → Option Owner
-owner_after (Settle id new) standing s old = if same_status new Completed then handed_over (content_of (standing id)) s old else old
+owner_after (Settle id new) standing s old = if same_status new Completed then handed_over (standing_content (standing id)) s old else old
 owner_after _ standing s old = old
 
 -- which transactions stand Checked, and since when

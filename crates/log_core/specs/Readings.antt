@@ -36,12 +36,12 @@ is_checked_since xs since t = option_map_or (λ x. same_status x.new Checked && 
 -- ---- a unit
 
 -- the transition's transfer has the unit, and stands Checked or Accepted
-abbrev pub is_with : List Transition → Serial → Transition → Bool
-is_with xs s x = (stands_at xs x.id Checked || stands_at xs x.id Accepted) && carries x s
+abbrev pub is_under_way_with : List Transition → Serial → Transition → Bool
+is_under_way_with xs s x = (stands_at xs x.id Checked || stands_at xs x.id Accepted) && carries x s
 
 -- the transfer that the unit is in
 abbrev pub under_way : List Transition → Serial → Option UnderWay
-under_way xs s = option_map (λ x. record { id = x.id }) (find (is_with xs s) xs)
+under_way xs s = option_map (λ x. record { id = x.id }) (find (is_under_way_with xs s) xs)
 
 -- who owns the unit
 abbrev pub owner : Scheme → List Transition → Serial → Option Owner

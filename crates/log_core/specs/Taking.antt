@@ -13,8 +13,8 @@ use Rattle.log_core.specs.Kept.{IsKept}
 use Rattle.log_core.specs.declared.tables.Tables.{Tables}
 
 -- the verdict on the input after the tables' journal
-abbrev pub due : Scheme → Tables → Input → Verdict
-due scheme tables input = verdict scheme Itl (history scheme Itl tables.journal.items) input
+abbrev pub verdict_due : Scheme → Tables → Input → Verdict
+verdict_due scheme tables input = verdict scheme Itl (history scheme Itl tables.journal.items) input
 
 -- an input that may make transitions: an acknowledgement and an order on eligibility make none, and each other one is refused
 abbrev pub IsMessageOrCleanUp : Input → Type 0

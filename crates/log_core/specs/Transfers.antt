@@ -22,7 +22,7 @@ use Rattle.status.specs.declared.words.Status.{Status}
 use Rattle.status.specs.declared.words.Status.TheVariants.{Cancelled, Checked, Completed}
 use Rattle.checks.specs.declared.register.UnderWay.{UnderWay}
 use Rattle.protocol.specs.History.{has_serial}
-use Rattle.log_core.specs.Effects.{content_of, standing_in}
+use Rattle.log_core.specs.Effects.{standing_content, standing_in}
 use Rattle.log_core.specs.Kept.{waiting_cmp}
 use Rattle.log_core.specs.Readings.{Standing, of_transfer}
 use Rattle.log_core.specs.declared.effect.Effect.{Effect}
@@ -40,24 +40,24 @@ abbrev pub came_at : Status → Moment → Transfer → Transfer
 came_at new moment x = record x { status = new; since = moment }
 
 -- what the status table asks of a transaction
-abbrev pub known : Option Standing → Known
-known x = option_map_or (λ y. option_map_or (λ k. Stands y.status) y.content Bare) x Unknown
+abbrev pub known_standing : Option Standing → Known
+known_standing x = option_map_or (λ y. option_map_or (λ k. Stands y.status) y.content Bare) x Unknown
 
 -- it stands Checked since that second
-abbrev pub is_checked : ℕ → Option Standing → Bool
-is_checked since x = option_map_or (λ y. same_status y.status Checked && (y.since == since)) x false
+abbrev pub stands_checked_since : ℕ → Option Standing → Bool
+stands_checked_since since x = option_map_or (λ y. same_status y.status Checked && (y.since == since)) x false
 
 -- the place is that one
-abbrev pub is_place : Waiting → Waiting → Bool
-is_place w p = (p.since.seconds == w.since.seconds) && same_id p.id w.id
+abbrev pub is_waiting_place : Waiting → Waiting → Bool
+is_waiting_place w p = (p.since.seconds == w.since.seconds) && same_id p.id w.id
 
 -- the set has the transactions that stand Checked, each by its moment
 abbrev pub AreWaiting : BTreeMap TransactionId Transfer → BTreeSet Waiting → Type 0
-AreWaiting transfers checked = (w : Waiting) → contains waiting_cmp checked w ≡ is_checked w.since.seconds (standing_of transfers w.id)
+AreWaiting transfers checked = (w : Waiting) → contains waiting_cmp checked w ≡ stands_checked_since w.since.seconds (standing_of transfers w.id)
 
 -- a unit that is under way is one of its transfer's
 abbrev pub AreMarked : BTreeMap TransactionId Transfer → finite.FinMap unit_cmp UnderWay → Type 0
-AreMarked transfers under_way = (s : Serial) (u : UnderWay) → finite.get under_way s ≡ Some u → has_serial (content_of (standing_of transfers u.id)) s ≡ true
+AreMarked transfers under_way = (s : Serial) (u : UnderWay) → finite.get under_way s ≡ Some u → has_serial (standing_content (standing_of transfers u.id)) s ≡ true
 
 -- ---- what an effect may be carried out on
 
@@ -80,7 +80,7 @@ IsApart content = (k : Content) (blocks : List Block) → content ≡ Some k →
 -- units that come under way, or that are handed over, are each in one block
 abbrev pub AreApart : (TransactionId → Option Standing) → Effect → Type 0
 AreApart old (Begin id new content) = same_status new Checked ≡ true → IsApart content
-AreApart old (Settle id new) = (same_status new Checked ≡ false) × (same_status new Completed ≡ true → IsApart (content_of (old id)))
+AreApart old (Settle id new) = (same_status new Checked ≡ false) × (same_status new Completed ≡ true → IsApart (standing_content (old id)))
 AreApart old (Cancel ids) = Unit {0}
 
 -- tables that say the same

@@ -8,7 +8,7 @@ ghost use Rattle.status.specs.declared.words.RowInput.TheVariants as column;
 ghost use Rattle.wire.specs.declared.input.Input.TheVariants as inputs;
 ghost use Rattle.protocol.specs.Effects.{log_sends};
 ghost use Rattle.log_core.specs.Cleaning.{AreAged};
-ghost use Rattle.log_core.specs.Effects.{content_of};
+ghost use Rattle.log_core.specs.Effects.{standing_content};
 ghost use Rattle.log_core.specs.Kept.{IsKept, waiting_cmp};
 ghost use Rattle.log_core.specs.Taking.{Takes};
 ghost use Rattle.log_core.specs.Transfers.{standing_of};
@@ -69,7 +69,7 @@ fn cancellations(
     transfers: &BTreeMap<TransactionId, Transfer>,
     ids: &[TransactionId],
 ) -> Result<Items<Message>, NoMemory>
-    ensures { IfOk result (λ messages. messages ≡ flat_map (λ t. log_sends t (content_of (standing_of transfers.now t)) [] column.CleanUp) ids.now) }
+    ensures { IfOk result (λ messages. messages ≡ flat_map (λ t. log_sends t (standing_content (standing_of transfers.now t)) [] column.CleanUp) ids.now) }
 {
     let mut messages = Vec::new(alloc);
     for id in ids {

@@ -10,8 +10,8 @@ ghost use Rattle.protocol.specs.Decisions.{decided};
 ghost use Rattle.protocol.specs.Effects.{log_sends};
 ghost use Rattle.checks.specs.Finding.{codes_in};
 ghost use Rattle.checks.specs.Knowing.{Registers};
-ghost use Rattle.log_core.specs.Effects.{content_of, standing_in};
-ghost use Rattle.log_core.specs.Transfers.{known};
+ghost use Rattle.log_core.specs.Effects.{standing_content, standing_in};
+ghost use Rattle.log_core.specs.Transfers.{known_standing};
 
 use crate::messages::{on_notice, on_proposal, on_request};
 use crate::tables::Tables;
@@ -56,7 +56,7 @@ impl Tables {
         id: TransactionId,
         offer: &Content,
     ) -> Result<Decision, Refusal>
-        ensures { (known_so : Ledger) (found : List ℕ) → Registers scheme.now self.now.register known_so → found ≡ log_findings scheme.now known_so id.code offer.now → IsDueOrNoMemory result (decided (log_row (known (standing_in self.now id)) (offered (content_of (standing_in self.now id)) found)) (log_sends id (Some offer.now) found (offered (content_of (standing_in self.now id)) found))) }
+        ensures { (known_so : Ledger) (found : List ℕ) → Registers scheme.now self.now.register known_so → found ≡ log_findings scheme.now known_so id.code offer.now → IsDueOrNoMemory result (decided (log_row (known_standing (standing_in self.now id)) (offered (standing_content (standing_in self.now id)) found)) (log_sends id (Some offer.now) found (offered (standing_content (standing_in self.now id)) found))) }
     {
         if content(&self.transfers, id).is_some() {
             return self.on_equal_proposal(alloc, id);
@@ -79,7 +79,7 @@ impl Tables {
 
     // What the table says to a proposal equal to the one that is recorded.
     fn on_equal_proposal(&self, alloc: Global, id: TransactionId) -> Result<Decision, Refusal>
-        ensures { result ≡ decided (log_row (known (standing_in self.now id)) column.EqualProposal) [] }
+        ensures { result ≡ decided (log_row (known_standing (standing_in self.now id)) column.EqualProposal) [] }
     {
         match row(
             Role::Itl,
@@ -103,7 +103,7 @@ impl Tables {
         id: TransactionId,
         notice: &Notice,
     ) -> Result<Decision, Refusal>
-        ensures { IsDueOrNoMemory result (decided (log_row (known (standing_in self.now id)) (column.Notified (notice_status notice.now))) (log_sends id (content_of (standing_in self.now id)) (notice_codes notice.now) (column.Notified (notice_status notice.now)))) }
+        ensures { IsDueOrNoMemory result (decided (log_row (known_standing (standing_in self.now id)) (column.Notified (notice_status notice.now))) (log_sends id (standing_content (standing_in self.now id)) (notice_codes notice.now) (column.Notified (notice_status notice.now)))) }
     {
         match row(
             Role::Itl,
@@ -122,7 +122,7 @@ impl Tables {
 
     /// What the table says to a request. Fails with `NO_ROW` where the table has no such row, and with `OUT_OF_MEMORY`.
     pub(crate) fn on_request(&self, alloc: Global, id: TransactionId) -> Result<Decision, Refusal>
-        ensures { IsDueOrNoMemory result (decided (log_row (known (standing_in self.now id)) column.Request) (log_sends id (content_of (standing_in self.now id)) [] column.Request)) }
+        ensures { IsDueOrNoMemory result (decided (log_row (known_standing (standing_in self.now id)) column.Request) (log_sends id (standing_content (standing_in self.now id)) [] column.Request)) }
     {
         match row(Role::Itl, known(&self.transfers, id), RowInput::Request) {
             Row::Move(new) => {

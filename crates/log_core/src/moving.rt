@@ -10,9 +10,9 @@ ghost use Rattle.status.specs.Status.{same_status};
 ghost use Rattle.status.specs.declared.id.TransactionId as declared_id;
 ghost use Rattle.status.specs.declared.words.Status.TheVariants as words;
 ghost use Rattle.protocol.specs.History.{has_serial};
-ghost use Rattle.log_core.specs.Effects.{content_of, handed_over, is_among};
+ghost use Rattle.log_core.specs.Effects.{standing_content, handed_over, is_among};
 ghost use Rattle.log_core.specs.Kept.{waiting_cmp};
-ghost use Rattle.log_core.specs.Transfers.{AreMarked, AreWaiting, IsApart, came_at, is_place, standing_of};
+ghost use Rattle.log_core.specs.Transfers.{AreMarked, AreWaiting, IsApart, came_at, is_waiting_place, standing_of};
 ghost use Rattle.log_core.specs.declared.waiting.Waiting as declared;
 
 use crate::register;
@@ -32,9 +32,9 @@ fn start(
     place: Waiting,
 ) -> Result<(), NoMemory>
     requires apart { IsApart (option_copied content) }
-    requires absent { (w : declared.Waiting) → is_place w place ≡ true → contains waiting_cmp checked.old w ≡ false }
+    requires absent { (w : declared.Waiting) → is_waiting_place w place ≡ true → contains waiting_cmp checked.old w ≡ false }
     ensures units { OnOk result ((s : Serial) → map.get under_way.new s ≡ (if has_serial (option_copied content.entry) s then Some (record { id = place.id }) else map.get under_way.old s)) }
-    ensures waits { OnOk result ((w : declared.Waiting) → contains waiting_cmp checked.new w ≡ (contains waiting_cmp checked.old w || is_place w place)) }
+    ensures waits { OnOk result ((w : declared.Waiting) → contains waiting_cmp checked.new w ≡ (contains waiting_cmp checked.old w || is_waiting_place w place)) }
     ensures err { OnErr result ((under_way.new ≡ under_way.old) × ((w : declared.Waiting) → contains waiting_cmp checked.new w ≡ contains waiting_cmp checked.old w)) }
 {
     remember(checked, place)?;
@@ -59,7 +59,7 @@ pub(crate) fn begin(
     requires apart { same_status transfer.status words.Checked ≡ true → IsApart transfer.content }
     ensures transfers { OnOk result ((t : declared_id.TransactionId) → tree.get id_cmp transfers.new t ≡ (if same_id id t then Some transfer else tree.get id_cmp transfers.old t)) }
     ensures units { OnOk result ((s : Serial) → map.get under_way.new s ≡ (if same_status transfer.status words.Checked && has_serial transfer.content s then Some (record { id = id }) else map.get under_way.old s)) }
-    ensures waits { OnOk result ((w : declared.Waiting) → contains waiting_cmp checked.new w ≡ (contains waiting_cmp checked.old w || (same_status transfer.status words.Checked && is_place w (record { since = transfer.since; id = id })))) }
+    ensures waits { OnOk result ((w : declared.Waiting) → contains waiting_cmp checked.new w ≡ (contains waiting_cmp checked.old w || (same_status transfer.status words.Checked && is_waiting_place w (record { since = transfer.since; id = id })))) }
     ensures err { OnErr result ((under_way.new ≡ under_way.old) × ((t : declared_id.TransactionId) → tree.get id_cmp transfers.new t ≡ tree.get id_cmp transfers.old t) × ((w : declared.Waiting) → contains waiting_cmp checked.new w ≡ contains waiting_cmp checked.old w)) }
 {
     let (status, since) = (transfer.status, transfer.since);
@@ -142,10 +142,10 @@ pub(crate) fn settle(
     moment: Moment,
 ) -> Result<(), NoMemory>
     requires over { same_status new words.Checked ≡ false }
-    requires apart { same_status new words.Completed ≡ true → IsApart (content_of (standing_of transfers.old id)) }
+    requires apart { same_status new words.Completed ≡ true → IsApart (standing_content (standing_of transfers.old id)) }
     requires waiting { AreWaiting transfers.old checked.old }
     requires marked { AreMarked transfers.old under_way.old }
-    ensures book { OnOk result ((s : Serial) → map.get book.new s ≡ (if same_status new words.Completed then handed_over (content_of (standing_of transfers.old id)) s (map.get book.old s) else map.get book.old s)) }
+    ensures book { OnOk result ((s : Serial) → map.get book.new s ≡ (if same_status new words.Completed then handed_over (standing_content (standing_of transfers.old id)) s (map.get book.old s) else map.get book.old s)) }
     ensures transfers { OnOk result ((t : declared_id.TransactionId) → tree.get id_cmp transfers.new t ≡ (if same_id id t then option_map (came_at new moment) (tree.get id_cmp transfers.old t) else tree.get id_cmp transfers.old t)) }
     ensures units { OnOk result ((s : Serial) → map.get under_way.new s ≡ (if same_status new words.Accepted then map.get under_way.old s else marks_that (λ u. not (same_id u.id id)) (map.get under_way.old s))) }
     ensures waits { OnOk result ((w : declared.Waiting) → contains waiting_cmp checked.new w ≡ (not (same_id id w.id) && contains waiting_cmp checked.old w)) }

@@ -8,7 +8,7 @@ ghost use Rattle.units.specs.declared.code.Node.TheVariants.{Itl};
 ghost use Rattle.wire.specs.declared.input.Input.TheVariants as inputs;
 ghost use Rattle.log_core.specs.Effects.{IsEffect, standing_in};
 ghost use Rattle.log_core.specs.Kept.{IsKept};
-ghost use Rattle.log_core.specs.Taking.{IsMessageOrCleanUp, Takes, due};
+ghost use Rattle.log_core.specs.Taking.{IsMessageOrCleanUp, Takes, verdict_due};
 ghost use Rattle.log_core.specs.Transfers.{IsOfKnown};
 
 use crate::effect::Effect;
@@ -62,7 +62,7 @@ impl Tables {
     ) -> Result<Stepped, Refusal>
         requires kept { IsKept scheme.now self.old }
         requires input { IsMessageOrCleanUp input.now }
-        requires transitions { (xs : List Transition) × (due scheme.now self.old input.now ≡ enters scheme.now (history scheme.now Itl self.old.journal.items) xs) × (messages ≡ messages_of xs) × IsEffect xs moment.seconds effect }
+        requires transitions { (xs : List Transition) × (verdict_due scheme.now self.old input.now ≡ enters scheme.now (history scheme.now Itl self.old.journal.items) xs) × (messages ≡ messages_of xs) × IsEffect xs moment.seconds effect }
         requires known { IsOfKnown (standing_in self.old) effect }
         ensures { Takes scheme.now self.old self.new input.now result }
     {

@@ -16,7 +16,7 @@ pub(crate) struct Transfer {
 impl Transfer {
     /// What the status table asks of it.
     pub(crate) fn known(&self) -> Known
-        ensures { result ≡ transfers.known (Some (of_transfer self.now)) }
+        ensures { result ≡ transfers.known_standing (Some (of_transfer self.now)) }
     {
         match self.content {
             Some(_) => Known::Stands(self.status),

@@ -3,7 +3,7 @@ ghost use Rattle.std.specs.BTreeMap as tree;
 ghost use Rattle.std.specs.Prelude.{◌≡◌, None, Some, OnErr, OnOk, option_map, option_copied, if◌then◌else◌};
 ghost use Rattle.log_core.specs.Transfers as asked;
 ghost use Rattle.log_core.specs.Transfers.{came_at, standing_of};
-ghost use Rattle.log_core.specs.Effects.{content_of};
+ghost use Rattle.log_core.specs.Effects.{standing_content};
 ghost use Rattle.status.specs.Id.{id_cmp, same_id};
 ghost use Rattle.status.specs.declared.id.TransactionId.{TransactionId};
 
@@ -49,7 +49,7 @@ pub(crate) fn set_status(
 
 /// What the status table asks of the transaction.
 pub(crate) fn known(transfers: &BTreeMap<TransactionId, Transfer>, id: TransactionId) -> Known
-    ensures { result ≡ asked.known (standing_of transfers.now id) }
+    ensures { result ≡ asked.known_standing (standing_of transfers.now id) }
 {
     match transfers.get(&id) {
         Some(transfer) => transfer.known(),
@@ -62,7 +62,7 @@ pub(crate) fn content(
     transfers: &BTreeMap<TransactionId, Transfer>,
     id: TransactionId,
 ) -> Option<&Content>
-    ensures { option_copied result ≡ content_of (standing_of transfers.now id) }
+    ensures { option_copied result ≡ standing_content (standing_of transfers.now id) }
 {
     let transfer = transfers.get(&id)?;
     transfer.content.as_ref()

@@ -2,7 +2,7 @@
 ghost use Rattle.std.specs.BTreeSet.{contains};
 ghost use Rattle.std.specs.Prelude.{◌≡◌, ◌||◌, ◌&&◌, not, OnOk, OnErr};
 ghost use Rattle.log_core.specs.Kept.{waiting_cmp};
-ghost use Rattle.log_core.specs.Transfers.{is_place};
+ghost use Rattle.log_core.specs.Transfers.{is_waiting_place};
 ghost use Rattle.log_core.specs.declared.waiting.Waiting as declared;
 
 use status::{Moment, TransactionId};
@@ -18,7 +18,7 @@ pub(crate) struct Waiting {
 
 /// The place is there. After `NoMemory` nothing has changed.
 pub(crate) fn remember(checked: &mut BTreeSet<Waiting>, place: Waiting) -> Result<(), NoMemory>
-    ensures ok { OnOk result ((w : declared.Waiting) → contains waiting_cmp checked.new w ≡ (contains waiting_cmp checked.old w || is_place w place)) }
+    ensures ok { OnOk result ((w : declared.Waiting) → contains waiting_cmp checked.new w ≡ (contains waiting_cmp checked.old w || is_waiting_place w place)) }
     ensures err { OnErr result ((w : declared.Waiting) → contains waiting_cmp checked.new w ≡ contains waiting_cmp checked.old w) }
 {
     checked.insert(place)?;
@@ -27,7 +27,7 @@ pub(crate) fn remember(checked: &mut BTreeSet<Waiting>, place: Waiting) -> Resul
 
 /// The place isn't there any more.
 pub(crate) fn forget(checked: &mut BTreeSet<Waiting>, place: Waiting)
-    ensures { (w : declared.Waiting) → contains waiting_cmp checked.new w ≡ (contains waiting_cmp checked.old w && not (is_place w place)) }
+    ensures { (w : declared.Waiting) → contains waiting_cmp checked.new w ≡ (contains waiting_cmp checked.old w && not (is_waiting_place w place)) }
 {
     checked.remove(&place);
 }

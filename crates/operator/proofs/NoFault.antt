@@ -12,7 +12,7 @@ use Rattle.operator.specs.declared.fault.Cause.TheVariants.{NotJson, Shape, TooM
 use Rattle.event_lines.specs.EventLines.{IsEventLine}
 use Rattle.operator.specs.Lines.{Begins, IsLine, IsLineFault, IsTooLong}
 use Rattle.operator.specs.Streams.{longest_input}
-use Rattle.operator.specs.Rehearsal.{room_behind, AreEvents, IsRehearsal, IsEventFault, IsInputFault}
+use Rattle.operator.specs.Rehearsal.{room_after, AreEvents, IsRehearsal, IsEventFault, IsInputFault}
 use Rattle.operator.specs.SchemeFile.{IsSchemeFault}
 
 -- the bytes have one first line
@@ -60,9 +60,9 @@ events_no_fault (e ∷ es) bytes room zero cause are f =
     ]
 events_no_fault (e ∷ es) bytes room (suc good) cause are f =
     let same = line_once bytes are.0 are.1 f.0 f.1 are.2.begins f.3.begins in
-    let left : AreEvents f.1 (room_behind room f.0) es =
-    subst (λ rest. AreEvents rest (room_behind room f.0) es) same.1 (subst (λ line. AreEvents are.1 (room_behind room line) es) same.0 are.4) in
-    events_no_fault es f.1 (room_behind room f.0) good cause left f.5
+    let left : AreEvents f.1 (room_after room f.0) es =
+    subst (λ rest. AreEvents rest (room_after room f.0) es) same.1 (subst (λ line. AreEvents are.1 (room_after room line) es) same.0 are.4) in
+    events_no_fault es f.1 (room_after room f.0) good cause left f.5
 
 scheme_no_fault : (line : List ℕ) (s : Scheme) (cause : Cause) → IsSchemeText line s → IsSchemeFault line cause → ⊥
 scheme_no_fault line s NotJson is f = let no = no_scheme_fault line s scheme_fault.NotJson is f in cc (no)
@@ -86,7 +86,7 @@ no_fault input scheme events line cause is (inl f) =
     ]
 no_fault input scheme events line cause is (inr f) =
     let same = line_once input is.first is.lines f.first f.lines is.begins.begins f.begins.begins in
-    let left : AreEvents f.lines (room_behind longest_input f.first) events =
-    subst (λ rest. AreEvents rest (room_behind longest_input f.first) events) same.1
-    (subst (λ l. AreEvents is.lines (room_behind longest_input l) events) same.0 is.events_are) in
-    events_no_fault events f.lines (room_behind longest_input f.first) f.good cause left f.fault
+    let left : AreEvents f.lines (room_after longest_input f.first) events =
+    subst (λ rest. AreEvents rest (room_after longest_input f.first) events) same.1
+    (subst (λ l. AreEvents is.lines (room_after longest_input l) events) same.0 is.events_are) in
+    events_no_fault events f.lines (room_after longest_input f.first) f.good cause left f.fault

@@ -17,7 +17,7 @@ use Rattle.operator.specs.Lines.{IsLine}
 use Rattle.report_lines.specs.ReportLines.{outcome_line}
 use Rattle.operator.specs.Table.{outcome_lines}
 use Rattle.operator.proofs.NumberedLines.{lines_more}
-use Rattle.operator.specs.Rehearsal.{room_behind, AreEvents, IsEventFault, IsNextFault, IsLinesFault, IsEarlyFault}
+use Rattle.operator.specs.Rehearsal.{room_after, AreEvents, IsEventFault, IsNextFault, IsLinesFault, IsEarlyFault}
 
 -- what the loop has done: the events so far, the world that they reach, their outcomes' lines, and
 -- that what the rest writes, or lacks, the whole does
@@ -58,13 +58,13 @@ lines-snoc w es e =
 length_line : (bytes line rest : List ℕ) → bytes ≡ line ++ 10 ∷ rest → length bytes ≡ length line + (1 + length rest)
 length_line bytes line rest e = let all = ap length e in let sum : length (line ++ 10 ∷ rest) ≡ length line + length (10 ∷ rest) = length-append line (10 ∷ rest) in omega arith
 
-pub ran_more : (opened : World) (before lines : List ℕ) (all : ℕ) (w new : World) (text longer rest : List ℕ) (room number : ℕ) (words behind : List ℕ) (left : ℕ) (e : WorldEvent)
-    → Ran opened before lines all w text rest room number → IsLine rest room words behind → IsEventLine words e → left ≡ room_behind room words
-    → new ≡ (step w e).world → longer ≡ text ++ outcome_line (number + 1) (step w e).outcome → Ran opened before lines all new longer behind left (number + 1)
-ran_more opened before lines all w new text longer rest room number words behind left e ran line event is stepped told = record {
+pub ran_more : (opened : World) (before lines : List ℕ) (all : ℕ) (w new : World) (text longer rest : List ℕ) (room number : ℕ) (words others : List ℕ) (left : ℕ) (e : WorldEvent)
+    → Ran opened before lines all w text rest room number → IsLine rest room words others → IsEventLine words e → left ≡ room_after room words
+    → new ≡ (step w e).world → longer ≡ text ++ outcome_line (number + 1) (step w e).outcome → Ran opened before lines all new longer others left (number + 1)
+ran_more opened before lines all w new text longer rest room number words others left e ran line event is stepped told = record {
   done = ran.done ++ e ∷ [];
   count = let sum = length-append ran.done (e ∷ []) in omega (arith, ran.count);
-  few = omega (arith, ran.few, length_line rest words behind line.begins.spelled);
+  few = omega (arith, ran.few, length_line rest words others line.begins.spelled);
   world = stepped ∙ ap (λ (v : World). (step v e).world) ran.world ∙ sym (run-snoc opened ran.done e);
   spelled =
       told
@@ -75,11 +75,11 @@ ran_more opened before lines all w new text longer rest room number words behind
       ∙ ap (λ (l : List ℕ). before ++ l) (sym (lines-snoc opened ran.done e));
   more = λ es are.
       subst (λ (l : List WorldEvent). AreEvents lines all l) (sym (append_assoc ran.done (e ∷ []) es))
-      (ran.more (e ∷ es) (words, behind, line, event, subst (λ (r : ℕ). AreEvents behind r es) is are));
+      (ran.more (e ∷ es) (words, others, line, event, subst (λ (r : ℕ). AreEvents others r es) is are));
   fault = λ good cause wrong.
       let same : length ran.done + suc good ≡ length (ran.done ++ e ∷ []) + good = omega (arith, length-append ran.done (e ∷ [])) in
       subst (λ (k : ℕ). IsEventFault lines all k cause) same
-      (ran.fault (suc good) cause (words, behind, e, line, event, subst (λ (r : ℕ). IsEventFault behind r good cause) is wrong));
+      (ran.fault (suc good) cause (words, others, e, line, event, subst (λ (r : ℕ). IsEventFault others r good cause) is wrong));
 }
 
 -- ---- the end
@@ -120,7 +120,7 @@ stops_so lines room f (Err e) same wrong = subst (IsLinesFault lines room) (sym 
 -- ---- the whole input
 
 pub early : (input first lines : List ℕ) (scheme : Scheme) (f : OpFault) → IsLine input longest_input first lines → IsSchemeText first scheme
-    → IsLinesFault lines (room_behind longest_input first) f → IsEarlyFault input f
+    → IsLinesFault lines (room_after longest_input first) f → IsEarlyFault input f
 early input first lines scheme (Input line cause) begins is wrong =
     inr (record { first = first; lines = lines; scheme = scheme; good = wrong.0; begins = begins; scheme_is = is; number = wrong.1; fault = wrong.2 })
 early input first lines scheme NoMemory begins is wrong = tt
@@ -129,6 +129,6 @@ early input first lines scheme (Write count) begins is wrong = absurd wrong
 early input first lines scheme (Store node fault) begins is wrong = absurd wrong
 
 pub early_too : {T : Type 0} (input first lines : List ℕ) (scheme : Scheme) (r : Result T OpFault) → IsLine input longest_input first lines → IsSchemeText first scheme
-    → IfErr r (IsLinesFault lines (room_behind longest_input first)) → IfErr r (IsEarlyFault input)
+    → IfErr r (IsLinesFault lines (room_after longest_input first)) → IfErr r (IsEarlyFault input)
 early_too input first lines scheme (Ok t) begins is wrong = tt
 early_too input first lines scheme (Err f) begins is wrong = early input first lines scheme f begins is wrong

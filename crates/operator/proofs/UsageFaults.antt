@@ -2,9 +2,9 @@
 use Rattle.std.proofs.Common.{◌≡◌, ◌∙◌, ℕ, List, [], true, refl, sym, ap, subst, inl, inr}
 use Rattle.clap.specs.Words.{App, HasKind, IsAmong, fault_of, is_simple_and_free, kind_of}
 use Rattle.clap.specs.declared.error.Error.{Error}
-use Rattle.clap.specs.declared.error.kind.ErrorKind.TheVariants.{OutOfMemory, DisplayHelp}
+use Rattle.clap.specs.declared.error.kind.ErrorKind.TheVariants.{OutOfMemory, DisplayHelp, DisplayVersion}
 use Rattle.clap.proofs.OnLiterals.{clap_on_literals}
-use Rattle.operator.specs.Words.{IsFaultOf, IsUsageFault, faults_in, kyoto_link}
+use Rattle.operator.specs.Words.{IsAskedFor, IsFaultOf, IsUsageFault, faults_in, kyoto_link}
 use Rattle.operator.specs.declared.words.UsageFault.{UsageFault}
 use Rattle.operator.specs.declared.words.UsageFault.TheVariants.{Usage, Help, NoMemory}
 
@@ -23,11 +23,19 @@ has_none a words same told = ap (λ b. fault_of b words) (sym same) ∙ told (ap
 memory_is_not_help : OutOfMemory ≡ DisplayHelp → ⊥
 memory_is_not_help e = cc
 
+memory_is_no_version : OutOfMemory ≡ DisplayVersion → ⊥
+memory_is_no_version e = cc
+
+memory_is_not_asked_for : IsAskedFor OutOfMemory → ⊥
+memory_is_not_asked_for (inl help) = memory_is_not_help help
+memory_is_not_asked_for (inr version) = memory_is_no_version version
+
 pub told : (words : List (List ℕ)) (error : Error) (fault : UsageFault) → HasKind (faults_in words) error → IsFaultOf error fault → IsUsageFault words fault
 told words error NoMemory has is = tt
-told words error (Help e) (inl memory) is = absurd (memory_is_not_help (sym memory ∙ is.1))
-told words error (Help e) (inr among) is = (ap kind_of is.0 ∙ is.1, subst (λ k. IsAmong k (faults_in words)) is.1 among)
+told words error (Help e) (inl memory) is = absurd (memory_is_not_asked_for (subst IsAskedFor memory is.1))
+told words error (Help e) (inr among) is =
+    let same = ap kind_of is.0 in (subst IsAskedFor (sym same) is.1, subst (λ k. IsAmong k (faults_in words)) (sym same) among)
 told words error (Usage e) (inl memory) is = absurd (is.1 memory)
 told words error (Usage e) (inr among) is =
     let same = ap kind_of is.0 in
-    ((λ memory. is.1 (sym same ∙ memory)), (λ help. is.2 (sym same ∙ help)), subst (λ k. IsAmong k (faults_in words)) (sym same) among)
+    ((λ memory. is.1 (sym same ∙ memory)), (λ asked. is.2 (subst IsAskedFor same asked)), subst (λ k. IsAmong k (faults_in words)) (sym same) among)

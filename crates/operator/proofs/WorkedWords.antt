@@ -1,6 +1,6 @@
 -- The words that show a store, and words that ask for help or are wrong, computed from the definitions alone.
 use Rattle.std.proofs.Common.{◌≡◌, ℕ, List, [], ◌∷◌, Option, Some, true, refl, codes, option_and_then}
-use Rattle.clap.specs.declared.error.kind.ErrorKind.TheVariants.{DisplayHelp, InvalidSubcommand, MissingRequiredArgument, MissingSubcommand, UnknownArgument}
+use Rattle.clap.specs.declared.error.kind.ErrorKind.TheVariants.{DisplayHelp, DisplayVersion, InvalidSubcommand, MissingRequiredArgument, MissingSubcommand, UnknownArgument}
 use Rattle.clap.specs.Words.{first_of, is_simple, subcommand_of, takes}
 use Rattle.clap.proofs.OnLiterals.{clap_on_literals}
 use Rattle.operator.specs.Words.{faults_in, kyoto_link}
@@ -36,7 +36,7 @@ pub no_fault : faults_in words ≡ []
 unfolding clap_on_literals
 no_fault = refl
 
--- ---- words that ask for help
+-- ---- words that ask for help or for the version
 
 pub help_flag : faults_in (codes "kyoto-link" ∷ codes "--help" ∷ []) ≡ DisplayHelp ∷ []
 unfolding clap_on_literals
@@ -45,6 +45,10 @@ help_flag = refl
 pub short_help_flag : faults_in (codes "kyoto-link" ∷ codes "-h" ∷ []) ≡ DisplayHelp ∷ []
 unfolding clap_on_literals
 short_help_flag = refl
+
+pub version_flag : faults_in (codes "kyoto-link" ∷ codes "--version" ∷ []) ≡ DisplayVersion ∷ []
+unfolding clap_on_literals
+version_flag = refl
 
 -- ---- words that are wrong
 

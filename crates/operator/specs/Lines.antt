@@ -8,7 +8,7 @@ use Rattle.operator.specs.declared.fault.Cause.TheVariants.{Truncated, TooLong}
 abbrev pub longest_line : ℕ
 longest_line = 1_048_576
 
--- up to their first newline the bytes are `line`, and behind it `rest`
+-- up to their first newline the bytes are `line`, and after it `rest`
 pub record Begins (bytes line rest : List ℕ) : Type 0 where
   pub spelled : bytes ≡ line ++ 10 ∷ rest
   pub free : IsFreeOf 10 line

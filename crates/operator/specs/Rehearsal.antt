@@ -14,16 +14,16 @@ use Rattle.operator.specs.SchemeFile.{IsSchemeFault}
 use Rattle.operator.specs.Streams.{longest_input, Takes}
 use Rattle.operator.specs.Table.{IsReport}
 
--- how many more bytes an input may have behind a line
-abbrev pub room_behind : ℕ → List ℕ → ℕ
-room_behind room line = room - (length line + 1)
+-- how many more bytes an input may have after a line
+abbrev pub room_after : ℕ → List ℕ → ℕ
+room_after room line = room - (length line + 1)
 
 -- ---- an input without a fault
 
 -- the bytes are lines that write the events, one each
 abbrev pub AreEvents : List ℕ → ℕ → List WorldEvent → Type 0
 AreEvents bytes room [] = bytes ≡ []
-AreEvents bytes room (e ∷ es) = (line : List ℕ) × (rest : List ℕ) × IsLine bytes room line rest × IsEventLine line e × AreEvents rest (room_behind room line) es
+AreEvents bytes room (e ∷ es) = (line : List ℕ) × (rest : List ℕ) × IsLine bytes room line rest × IsEventLine line e × AreEvents rest (room_after room line) es
 
 -- the scheme's line, then the lines of the events
 pub record IsRehearsal (input : List ℕ) (scheme : Scheme) (events : List WorldEvent) : Type 0 where
@@ -31,7 +31,7 @@ pub record IsRehearsal (input : List ℕ) (scheme : Scheme) (events : List World
   pub lines : List ℕ
   pub begins : IsLine input longest_input first lines
   pub scheme_is : IsSchemeText first scheme
-  pub events_are : AreEvents lines (room_behind longest_input first) events
+  pub events_are : AreEvents lines (room_after longest_input first) events
 
 -- ---- the first fault of an input
 
@@ -43,14 +43,14 @@ pub record IsNoEvent (bytes : List ℕ) (room : ℕ) (cause : Cause) : Type 0 wh
   pub order : cause ≡ Order
   pub none : (e : WorldEvent) → IsEventLine line e → ⊥
 
--- behind so many lines of events comes the first with a fault
+-- after that many lines of events comes the first with a fault
 abbrev pub IsEventFault : List ℕ → ℕ → ℕ → Cause → Type 0
 IsEventFault bytes room zero cause = (0 < length bytes) × (IsLineFault bytes room cause ⊎ IsNoEvent bytes room cause)
 IsEventFault bytes room (suc good) cause =
-    (line : List ℕ) × (rest : List ℕ) × (e : WorldEvent) × IsLine bytes room line rest × IsEventLine line e × IsEventFault rest (room_behind room line) good cause
+    (line : List ℕ) × (rest : List ℕ) × (e : WorldEvent) × IsLine bytes room line rest × IsEventLine line e × IsEventFault rest (room_after room line) good cause
 
--- the fault stands in line 1, or behind the scheme's line and so many lines of events
-pub record IsFaultBehind (input : List ℕ) (line : ℕ) (cause : Cause) : Type 0 where
+-- the fault stands in line 1, or after the scheme's line and `good` lines of events
+pub record IsFaultAfterEvents (input : List ℕ) (line : ℕ) (cause : Cause) : Type 0 where
   pub first : List ℕ
   pub lines : List ℕ
   pub scheme : Scheme
@@ -58,7 +58,7 @@ pub record IsFaultBehind (input : List ℕ) (line : ℕ) (cause : Cause) : Type 
   pub begins : IsLine input longest_input first lines
   pub scheme_is : IsSchemeText first scheme
   pub number : line ≡ good + 2
-  pub fault : IsEventFault lines (room_behind longest_input first) good cause
+  pub fault : IsEventFault lines (room_after longest_input first) good cause
 
 pub record IsFirstFault (input : List ℕ) (line : ℕ) (cause : Cause) : Type 0 where
   pub number : line ≡ 1
@@ -66,7 +66,7 @@ pub record IsFirstFault (input : List ℕ) (line : ℕ) (cause : Cause) : Type 0
 
 -- the first line of the input that has a fault, and its fault
 abbrev pub IsInputFault : List ℕ → ℕ → Cause → Type 0
-IsInputFault input line cause = IsFirstFault input line cause ⊎ IsFaultBehind input line cause
+IsInputFault input line cause = IsFirstFault input line cause ⊎ IsFaultAfterEvents input line cause
 
 -- ---- what a rehearsal comes to
 

@@ -1,20 +1,21 @@
 -- What the words of a command line name, by the matches that clap gives of them.
-use Rattle.std.specs.Prelude.{◌≡◌, ◌≢◌, ℕ, List, [], ◌∷◌, Option, Some, true, false, codes, option_and_then, option_map, string_bytes}
+use Rattle.std.specs.Prelude.{◌≡◌, ◌≢◌, ◌⊎◌, ℕ, List, [], ◌∷◌, Option, Some, true, false, codes, option_and_then, option_map, string_bytes}
 use Rattle.clap.specs.Words.{App, IsAmong, Kinds, Rule, Shape, fault_of, kind_of, new_app, new_rule, with_subcommand, shape_of, subcommand_name_of, subcommand_rows_of, first_of, app_of}
 use Rattle.clap.specs.declared.builder.command.Command.TheViews.{out-Command}
 use Rattle.clap.specs.Simple.{new_shape}
 use Rattle.clap.specs.declared.builder.command.Command.{Command}
 use Rattle.clap.specs.declared.error.Error.{Error}
-use Rattle.clap.specs.declared.error.kind.ErrorKind.TheVariants.{OutOfMemory, DisplayHelp}
+use Rattle.clap.specs.declared.error.kind.ErrorKind.{ErrorKind}
+use Rattle.clap.specs.declared.error.kind.ErrorKind.TheVariants.{OutOfMemory, DisplayHelp, DisplayVersion}
 use Rattle.clap.specs.declared.parser.matches.ArgMatches.{ArgMatches}
 use Rattle.operator.specs.declared.words.Action.{Action}
 use Rattle.operator.specs.declared.words.Action.TheVariants.{Rehearse, Show}
 use Rattle.operator.specs.declared.words.UsageFault.{UsageFault}
 use Rattle.operator.specs.declared.words.UsageFault.TheVariants.{Usage, Help, NoMemory}
 
--- the program, which demands a subcommand
+-- the program, which has a version and demands a subcommand
 abbrev pub program : App
-program = record (new_app (codes "kyoto-link")) { top = record (new_shape (codes "kyoto-link")) { subcommand_required = true } }
+program = record (new_app (codes "kyoto-link")) { top = record (new_shape (codes "kyoto-link")) { subcommand_required = true; has_version = true } }
 
 -- an argument without a flag, which must be given
 abbrev pub positional : List ℕ → Rule
@@ -31,17 +32,21 @@ kyoto_link = with_subcommand (with_subcommand program (new_shape (codes "rehears
 abbrev pub faults_in : List (List ℕ) → Kinds
 faults_in words = fault_of kyoto_link words
 
+-- help or the version was asked for
+abbrev pub IsAskedFor : ErrorKind → Type 0
+IsAskedFor kind = (kind ≡ DisplayHelp) ⊎ (kind ≡ DisplayVersion)
+
 -- the fault is what the error of clap is to the program
 abbrev pub IsFaultOf : Error → UsageFault → Type 0
 IsFaultOf error NoMemory = kind_of error ≡ OutOfMemory
-IsFaultOf error (Help e) = (e ≡ error) × (kind_of error ≡ DisplayHelp)
-IsFaultOf error (Usage e) = (e ≡ error) × (kind_of error ≢ OutOfMemory) × (kind_of error ≢ DisplayHelp)
+IsFaultOf error (Help e) = (e ≡ error) × IsAskedFor (kind_of error)
+IsFaultOf error (Usage e) = (e ≡ error) × (kind_of error ≢ OutOfMemory) × (IsAskedFor (kind_of error) → ⊥)
 
--- help comes only of words that may ask for it, and wrong words have another fault
+-- help and the version come only of words that may ask for them, and wrong words have another fault
 abbrev pub IsUsageFault : List (List ℕ) → UsageFault → Type 0
 IsUsageFault words NoMemory = Unit {0}
-IsUsageFault words (Help e) = (kind_of e ≡ DisplayHelp) × IsAmong DisplayHelp (faults_in words)
-IsUsageFault words (Usage e) = (kind_of e ≢ OutOfMemory) × (kind_of e ≢ DisplayHelp) × IsAmong (kind_of e) (faults_in words)
+IsUsageFault words (Help e) = IsAskedFor (kind_of e) × IsAmong (kind_of e) (faults_in words)
+IsUsageFault words (Usage e) = (kind_of e ≢ OutOfMemory) × (IsAskedFor (kind_of e) → ⊥) × IsAmong (kind_of e) (faults_in words)
 
 abbrev pub IsCommand : App → Command → Type 0
 IsCommand a c = (app_of c ≡ a) × ((out-Command c).has_globals ≡ false)

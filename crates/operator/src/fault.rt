@@ -1,4 +1,4 @@
-//! What a command answers where it does not do its work.
+//! The faults with which a command fails.
 
 ghost use Rattle.std.specs.Prelude.{◌≡◌};
 ghost use Rattle.operator.specs.Faults.{exit_status, of_store};

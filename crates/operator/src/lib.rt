@@ -14,4 +14,5 @@ pub use fault::{Cause, OpFault, store_fault};
 pub use rehearsal::rehearse;
 pub use scheme_file::{node_of, read_scheme};
 pub use showing::show;
+pub use streams::write_out;
 pub use words::{Action, UsageFault, parse_words};

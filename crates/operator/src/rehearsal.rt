@@ -9,7 +9,7 @@ ghost use Rattle.protocol.specs.declared.event.WorldEvent.{WorldEvent};
 ghost use Rattle.event_lines.specs.EventLines.{IsEventLine};
 ghost use Rattle.report_lines.specs.ReportLines.{outcome_line};
 ghost use Rattle.operator.specs.Table.{IsReport, outcome_lines};
-ghost use Rattle.operator.specs.Rehearsal.{room_behind, AreEvents, IsRehearsal, IsNextFault, IsLinesFault, IsEarlyFault, Reports, FailsSo};
+ghost use Rattle.operator.specs.Rehearsal.{room_after, AreEvents, IsRehearsal, IsNextFault, IsLinesFault, IsEarlyFault, Reports, FailsSo};
 ghost use Rattle.operator.specs.Lines.{IsLine, IsLineFault, IsTooLong, IsTruncated};
 
 use crate::fault::{Cause, OpFault};
@@ -30,7 +30,7 @@ use world::World;
 /// The greatest length of an input in bytes.
 const LONGEST_INPUT: usize = 16_777_216;
 
-/// The first line of `bytes`, and what is behind its newline. `room` is how many more bytes the
+/// The first line of `bytes`, and what comes after its newline. `room` is how many more bytes the
 /// input may have.
 fn first_line(bytes: &[u8], room: usize) -> Result<(&[u8], &[u8]), Cause>
     ensures ok { IfOk result (λ p. IsLine bytes.now room p.0.now p.1.now) }
@@ -48,14 +48,14 @@ fn first_line(bytes: &[u8], room: usize) -> Result<(&[u8], &[u8]), Cause>
     }
 }
 
-/// The event of the first line, and what is behind that line. The line's number is for its fault.
+/// The event of the first line, and what comes after that line. The line's number is for its fault.
 fn next_event(
     alloc: Global,
     lines: &[u8],
     room: usize,
     line: u64,
 ) -> Result<(WorldEvent, &[u8], usize), OpFault>
-    ensures ok { IfOk result (λ p. (words : List ℕ) × IsLine lines.now room words p.1.now × IsEventLine words p.0 × (p.2 ≡ room_behind room words)) }
+    ensures ok { IfOk result (λ p. (words : List ℕ) × IsLine lines.now room words p.1.now × IsEventLine words p.0 × (p.2 ≡ room_after room words)) }
     ensures err { IfErr result (IsNextFault lines.now room line) }
 {
     let (words, rest) = match first_line(lines, room) {
@@ -104,11 +104,11 @@ fn run_lines(
     let mut number = 0u64;
     while !rest.is_empty() {
         number += 1;
-        let (event, behind, left) = next_event(alloc, rest, room, number + 1)?;
+        let (event, others, left) = next_event(alloc, rest, room, number + 1)?;
         if run_event(world, text, number, event).is_err() {
             return Err(OpFault::NoMemory);
         }
-        rest = behind;
+        rest = others;
         room = left;
     }
     Ok(())

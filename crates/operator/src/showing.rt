@@ -45,7 +45,7 @@ fn shown(alloc: Global, inputs: &[Input]) -> Result<Vec<u8>, NoMemory>
 
 /// Writes the records of the node's store, each as place, space and text, and then `end`.
 ///
-/// `Store`: the store could not be loaded; nothing is written. `Write`: so many of the first bytes are written. `NoMemory`:
+/// `Store`: the store could not be loaded; nothing is written. `Write`: the writer failed, after the number of bytes that the fault tells. `NoMemory`:
 /// memory was refused; nothing is written.
 pub fn show<S: NodeStore, W: Write>(
     alloc: Global,

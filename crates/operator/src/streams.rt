@@ -1,10 +1,11 @@
 //! All of a reader, and all of a text to a writer.
-ghost use Rattle.std.specs.Prelude.{◌<◌, length, take, IfOk, IfErr, OnOk};
+ghost use Rattle.std.specs.Prelude.{◌≡◌, ◌<◌, ℕ, length, take, IfOk, IfErr, OnOk};
 ghost use Rattle.std.specs.Io.KnownBytes.{Appends};
 ghost use Rattle.operator.specs.Calls.{IsReadingFault, StopsWriting};
 ghost use Rattle.operator.specs.Streams.{Takes};
 
 use crate::calls::Calls;
+use crate::fault::OpFault;
 use std::alloc::Global;
 use std::io::{ErrorKind, Read, Write};
 
@@ -101,4 +102,17 @@ pub fn write_text<W: Write>(writer: &mut W, bytes: &[u8]) -> Result<(), WriteFau
         }
     }
     Ok(())
+}
+
+/// Writes the text.
+///
+/// `Write`: the writer failed, after the number of bytes that the fault tells.
+pub fn write_out<W: Write>(writer: &mut W, text: &str) -> Result<(), OpFault>
+    ensures ok { OnOk result (Appends (W.contents writer.old) (W.contents writer.new) text.now) }
+    ensures err { IfErr result (λ e. (count : ℕ) × (e ≡ OpFault.Write count) × (count < length text.now) × Appends (W.contents writer.old) (W.contents writer.new) (take count text.now)) }
+{
+    match write_text(writer, text.as_bytes()) {
+        Ok(()) => Ok(()),
+        Err(fault) => Err(OpFault::Write(fault.written as u64)),
+    }
 }

@@ -13,6 +13,53 @@ use clap::{Arg, ArgMatches, Command, Error};
 use std::alloc::{AllocError, Global};
 use std::convert::AsStr;
 
+/// What `--version` writes after the program's name.
+const VERSION: &str = "0.1.0";
+
+/// The end of the program's help.
+const NOTES: &str = "Example:
+  kyoto-link rehearse < examples/one_transfer/input
+
+Exit status:
+  0  done
+  2  the words are wrong
+  3  the input has a fault, or could not be read, or the output could not be written
+  4  a node's store has a fault
+  5  out of memory
+
+A fault is one line on standard error. docs/FORMATS.md describes the texts that are read and written,
+and each fault; docs/PROTOCOL.md describes the protocol, with all codes.";
+
+/// The end of the help of `rehearse`.
+const REHEARSE_NOTES: &str =
+    "The first line of standard input is the scheme, and each other line an event; nothing is written before
+all of it was read and has no fault.
+
+Example:
+  kyoto-link rehearse < examples/one_transfer/input
+
+Exit status:
+  0  done
+  3  a line has a fault (kyoto-link: line 2: order), or the input could not be read or the output written
+  5  out of memory
+
+docs/FORMATS.md describes schemes, events and the table; docs/PROTOCOL.md tells what each outcome means.";
+
+/// The end of the help of `show`.
+const SHOW_NOTES: &str =
+    "The store of a node is the file DIR/NODE.db. A missing store is made, and is empty.
+
+Example:
+  kyoto-link show scheme.json stores NZ
+
+Exit status:
+  0  done
+  3  SCHEME has a fault, SCHEME or DIR could not be read, or the output could not be written
+  4  the store has a fault (kyoto-link: store NZ: device)
+  5  out of memory
+
+docs/FORMATS.md describes schemes, records and stores.";
+
 /// What the words ask for.
 #[derive(Debug, Drop)]
 pub enum Action {
@@ -31,7 +78,7 @@ pub enum Action {
 pub enum UsageFault {
     /// The words are wrong.
     Usage(Error),
-    /// The words ask for help.
+    /// The words ask for help or for the version.
     Help(Error),
     /// Out of memory.
     NoMemory,
@@ -40,9 +87,11 @@ pub enum UsageFault {
 fn rehearse_command<'a>(alloc: Global) -> Command<'a>
     ensures { IsSubcommand (new_shape (codes "rehearse")) result }
 {
-    Command::new(alloc, "rehearse").about(
-        "Run a scheme and its events, read from standard input, and write what each event came to and the table that they lead to",
-    )
+    Command::new(alloc, "rehearse")
+        .about(
+            "Run a scheme and its events, read from standard input, and write what each event came to and the table that they lead to",
+        )
+        .after_help(REHEARSE_NOTES)
 }
 
 fn positional<'a>(alloc: Global, name: &'a str, help: &'a str) -> Arg<'a>
@@ -64,6 +113,7 @@ fn show_command<'a>(alloc: Global) -> Result<Command<'a>, AllocError>
     );
     Command::new(alloc, "show")
         .about("Write the records of a node's store, each with its place")
+        .after_help(SHOW_NOTES)
         .arg(scheme)?
         .arg(folder)?
         .arg(node)
@@ -76,6 +126,8 @@ fn command<'a>(alloc: Global) -> Result<Command<'a>, AllocError>
         .about(
             "The external transfer of emission units between national registries and their transaction log",
         )
+        .version(VERSION)
+        .after_help(NOTES)
         .subcommand_required(true);
     program
         .subcommand(rehearse_command(alloc))?
@@ -124,14 +176,14 @@ fn fault_of(error: Error) -> UsageFault
 {
     match error.kind() {
         ErrorKind::OutOfMemory => UsageFault::NoMemory,
-        ErrorKind::DisplayHelp => UsageFault::Help(error),
+        ErrorKind::DisplayHelp | ErrorKind::DisplayVersion => UsageFault::Help(error),
         _ => UsageFault::Usage(error),
     }
 }
 
 /// The action that the words name, the first word being the program's own name.
 ///
-/// `Help`: the words ask for help. `Usage`: the words are wrong. `NoMemory`: out of memory; where `clap` takes the words,
+/// `Help`: the words ask for help or for the version. `Usage`: the words are wrong. `NoMemory`: out of memory; where `clap` takes the words,
 /// this is the only fault.
 pub fn parse_words<S: AsStr>(alloc: Global, words: &[S]) -> Result<Action, UsageFault>
     ensures ok { IfOk result (λ a. (m : ArgMatches) × HasMatchesOf kyoto_link (map S.text words.now) m × NamesAction m a) }

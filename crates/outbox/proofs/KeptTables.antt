@@ -17,7 +17,7 @@ use Rattle.wire.specs.declared.message.Message.{Message}
 use Rattle.protocol.specs.Unacknowledged.{awaits}
 use Rattle.outbox.specs.Kept.{AreCounts, IsKept, IsSentBefore, act, sent_in}
 use Rattle.outbox.specs.Places.{among, peer_of, place_cmp, place_of}
-use Rattle.outbox.specs.Sending.{Sent, Sends, Acknowledges, acknowledges, is_acknowledged}
+use Rattle.outbox.specs.Sending.{Sent, Sends, Acknowledges, acknowledges_key, is_key_acknowledged}
 use Rattle.outbox.specs.Totals.{total}
 use Rattle.outbox.specs.declared.place.Place.{Place}
 use Rattle.outbox.specs.declared.record.Record.{Record}
@@ -30,11 +30,11 @@ or_false : (b : Bool) → (b || false) ≡ b
 or_false true = refl
 or_false false = refl
 
-pub acknowledged_more : (S : List Sent) (x : Sent) (key : ℕ) → is_acknowledged (S ++ x ∷ []) key ≡ (is_acknowledged S key || acknowledges key x)
-acknowledged_more S x key = list_any-append (acknowledges key) S (x ∷ []) ∙ ap (λ (b : Bool). is_acknowledged S key || b) (or_false (acknowledges key x))
+pub acknowledged_more : (S : List Sent) (x : Sent) (key : ℕ) → is_key_acknowledged (S ++ x ∷ []) key ≡ (is_key_acknowledged S key || acknowledges_key key x)
+acknowledged_more S x key = list_any-append (acknowledges_key key) S (x ∷ []) ∙ ap (λ (b : Bool). is_key_acknowledged S key || b) (or_false (acknowledges_key key x))
 
-acknowledged_sends : (S : List Sent) (ms : List Message) (key : ℕ) → is_acknowledged (S ++ Sends ms ∷ []) key ≡ is_acknowledged S key
-acknowledged_sends S ms key = acknowledged_more S (Sends ms) key ∙ or_false (is_acknowledged S key)
+acknowledged_sends : (S : List Sent) (ms : List Message) (key : ℕ) → is_key_acknowledged (S ++ Sends ms ∷ []) key ≡ is_key_acknowledged S key
+acknowledged_sends S ms key = acknowledged_more S (Sends ms) key ∙ or_false (is_key_acknowledged S key)
 
 -- what isn't so is false
 pub not_true : (b : Bool) → (b ≡ true → ⊥) → b ≡ false
@@ -85,18 +85,18 @@ sends_kept rs r ms new ps qs kept none count added =
     let both : length (ms ++ new) ≡ length ms + length new = length-append ms new in
     let view : sent_in 0 (rs ++ r ∷ []) (ms ++ new) ≡ S ++ Sends new ∷ [] =
     sent_in_snoc 0 rs r ms new (from_zero rs ms kept.counted) (omega arith) ∙ ap (λ (a : Option ℕ). S ++ act a new ∷ []) none in
-    let later : (q : Place) → among (length ms) new q ≡ true → is_acknowledged S q.key ≡ false =
-    λ q h. let from : length ms ≤ q.key = among_from (length ms) new q h in not_true (is_acknowledged S q.key) (λ e. let before : q.key < length ms = acknowledged_below 0 rs ms (length ms) q.key kept.counted e in absurd (omega arith)) in
+    let later : (q : Place) → among (length ms) new q ≡ true → is_key_acknowledged S q.key ≡ false =
+    λ q h. let from : length ms ≤ q.key = among_from (length ms) new q h in not_true (is_key_acknowledged S q.key) (λ e. let before : q.key < length ms = acknowledged_below 0 rs ms (length ms) q.key kept.counted e in absurd (omega arith)) in
     record {
       view = view;
       kept = subst (λ (l : List Sent). IsKept l (rs ++ r ∷ []) (ms ++ new) qs) (sym view) (record {
         counted = subst (AreCounts 0 (rs ++ r ∷ [])) count (counts_snoc 0 rs r (length ms) kept.counted (omega arith) (subst (λ (a : Option ℕ). IsSentBefore a (length ms) r.sends) (sym none) tt));
         awaited = λ q.
-            added q ∙ ap (λ (b : Bool). b || among (length ms) new q) (kept.awaited q ∙ awaits_all ms (is_acknowledged S) q)
-            ∙ joined (among 0 ms q) (among (length ms) new q) (is_acknowledged S q.key) (later q)
-            ∙ ap (λ (b : Bool). b && not (is_acknowledged S q.key)) (ap (λ (n : ℕ). among 0 ms q || among n new q) (sym (zero-add (length ms))) ∙ sym (among_append 0 ms new q))
+            added q ∙ ap (λ (b : Bool). b || among (length ms) new q) (kept.awaited q ∙ awaits_all ms (is_key_acknowledged S) q)
+            ∙ joined (among 0 ms q) (among (length ms) new q) (is_key_acknowledged S q.key) (later q)
+            ∙ ap (λ (b : Bool). b && not (is_key_acknowledged S q.key)) (ap (λ (n : ℕ). among 0 ms q || among n new q) (sym (zero-add (length ms))) ∙ sym (among_append 0 ms new q))
             ∙ ap (λ (b : Bool). among 0 (ms ++ new) q && not b) (sym (acknowledged_sends S new q.key))
-            ∙ sym (awaits_all (ms ++ new) (is_acknowledged (S ++ Sends new ∷ [])) q);
+            ∙ sym (awaits_all (ms ++ new) (is_key_acknowledged (S ++ Sends new ∷ [])) q);
       });
     }
 
@@ -140,11 +140,11 @@ next_acknowledges rs rs' n key ms m ps qs kept records count here taken =
         awaited = λ q.
             taken q
             ∙ ap (λ (b : Bool). cond b false (contains place_cmp ps q)) (same_place (receiver m) key q)
-            ∙ ap (λ (b : Bool). cond (same_node (receiver m) (peer_of q.registry) && (key == q.key)) false b) (kept.awaited q ∙ awaits_all ms (is_acknowledged S) q)
-            ∙ removed (same_node (receiver m) (peer_of q.registry)) (key == q.key) (among 0 ms q) (is_acknowledged S q.key)
+            ∙ ap (λ (b : Bool). cond (same_node (receiver m) (peer_of q.registry) && (key == q.key)) false b) (kept.awaited q ∙ awaits_all ms (is_key_acknowledged S) q)
+            ∙ removed (same_node (receiver m) (peer_of q.registry)) (key == q.key) (among 0 ms q) (is_key_acknowledged S q.key)
             (λ at other. among_one ms m q (subst (λ (k : ℕ). slice_get ms k ≡ Some m) (eqb-true key q.key at) here) ∙ other)
             ∙ ap (λ (b : Bool). among 0 ms q && not b) (sym (acknowledged_more S (Acknowledges key) q.key))
-            ∙ sym (awaits_all ms (is_acknowledged (S ++ Acknowledges key ∷ [])) q);
+            ∙ sym (awaits_all ms (is_key_acknowledged (S ++ Acknowledges key ∷ [])) q);
       });
     })
 
@@ -202,20 +202,20 @@ taken_back rs' rs (Some r) ms ps qs earlier last kept records empty ends out =
     ap (λ (l : List Record). sent_in 0 l ms) records ∙ ap (sent_in 0 (rs' ++ r ∷ [])) (sym whole) ∙ sent_in_snoc 0 rs' r front rest (from_zero rs' front counted) (omega arith) in
     let same = last_equal (sent_in 0 rs' front) earlier (act r.acknowledges rest) (Sends last) (sym snoc ∙ ends) in
     let S = sent_in 0 rs ms in
-    let acked : (key : ℕ) → is_acknowledged S key ≡ is_acknowledged (sent_in 0 rs' front) key =
-    λ key. ap (λ (l : List Sent). is_acknowledged l key) (ends ∙ ap (λ (l : List Sent). l ++ Sends last ∷ []) (sym same.0)) ∙ acknowledged_sends (sent_in 0 rs' front) last key in
+    let acked : (key : ℕ) → is_key_acknowledged S key ≡ is_key_acknowledged (sent_in 0 rs' front) key =
+    λ key. ap (λ (l : List Sent). is_key_acknowledged l key) (ends ∙ ap (λ (l : List Sent). l ++ Sends last ∷ []) (sym same.0)) ∙ acknowledged_sends (sent_in 0 rs' front) last key in
     record {
       view = same.0;
       kept = record {
         counted = counted;
         awaited = λ q.
             out q
-            ∙ ap (λ (b : Bool). b && not (among start rest q)) (kept.awaited q ∙ awaits_all ms (is_acknowledged S) q
-            ∙ ap (λ (b : Bool). b && not (is_acknowledged S q.key))
+            ∙ ap (λ (b : Bool). b && not (among start rest q)) (kept.awaited q ∙ awaits_all ms (is_key_acknowledged S) q
+            ∙ ap (λ (b : Bool). b && not (is_key_acknowledged S q.key))
             (ap (λ (l : List Message). among 0 l q) (sym whole) ∙ among_append 0 front rest q ∙ ap (λ (k : ℕ). among 0 front q || among k rest q) (zero-add (length front) ∙ count)))
-            ∙ taken_out (among 0 front q) (among start rest q) (is_acknowledged S q.key) (λ h. let until : q.key < length front = among_until front q h in among_below start rest q (omega arith))
+            ∙ taken_out (among 0 front q) (among start rest q) (is_key_acknowledged S q.key) (λ h. let until : q.key < length front = among_until front q h in among_below start rest q (omega arith))
             ∙ ap (λ (b : Bool). among 0 front q && not b) (acked q.key)
-            ∙ sym (awaits_all front (is_acknowledged (sent_in 0 rs' front)) q);
+            ∙ sym (awaits_all front (is_key_acknowledged (sent_in 0 rs' front)) q);
       };
     }
 
@@ -253,10 +253,10 @@ none_past_records (x ∷ rs) (suc k) e = let rest = none_past_records rs k e in 
 
 -- the message at a key is acknowledged where its place isn't kept
 pub acknowledged_at : (rs : List Record) (ms : List Message) (ps : BTreeSet Place) (key : ℕ) (m : Message) → IsKept (sent_in 0 rs ms) rs ms ps → slice_get ms key ≡ Some m
-    → not (contains place_cmp ps (place_of (receiver m) key)) ≡ is_acknowledged (sent_in 0 rs ms) key
+    → not (contains place_cmp ps (place_of (receiver m) key)) ≡ is_key_acknowledged (sent_in 0 rs ms) key
 acknowledged_at rs ms ps key m kept at =
-    let acked = is_acknowledged (sent_in 0 rs ms) key in
-    ap not (at_place ps ms (is_acknowledged (sent_in 0 rs ms)) (receiver m) key kept.awaited
+    let acked = is_key_acknowledged (sent_in 0 rs ms) key in
+    ap not (at_place ps ms (is_key_acknowledged (sent_in 0 rs ms)) (receiver m) key kept.awaited
     ∙ ap (λ (o : Option Message). option_map_or (λ x. same_node (receiver x) (receiver m)) o false && not acked) at
     ∙ ap (λ (b : Bool). b && not acked) (same_node-refl (receiver m)))
     ∙ not_not acked
@@ -265,7 +265,7 @@ acknowledged_at rs ms ps key m kept at =
     not_not true = refl
     not_not false = refl
 
-pub unacknowledged_past : (rs : List Record) (ms : List Message) (key : ℕ) → AreCounts 0 rs (length ms) → slice_get ms key ≡ None → false ≡ is_acknowledged (sent_in 0 rs ms) key
+pub unacknowledged_past : (rs : List Record) (ms : List Message) (key : ℕ) → AreCounts 0 rs (length ms) → slice_get ms key ≡ None → false ≡ is_key_acknowledged (sent_in 0 rs ms) key
 unacknowledged_past rs ms key counted at =
     let past : length ms ≤ key = none_past ms key at in
-    sym (not_true (is_acknowledged (sent_in 0 rs ms) key) (λ e. let below : key < length ms = acknowledged_below 0 rs ms (length ms) key counted e in absurd (omega arith)))
+    sym (not_true (is_key_acknowledged (sent_in 0 rs ms) key) (λ e. let below : key < length ms = acknowledged_below 0 rs ms (length ms) key counted e in absurd (omega arith)))

@@ -12,7 +12,7 @@ use Rattle.protocol.specs.Unacknowledged.{IsLeastFrom, awaits}
 use Rattle.outbox.specs.Places.{peer_of, place_cmp, place_of}
 use Rattle.outbox.specs.declared.place.Place.{Place}
 use Rattle.outbox.specs.Kept.{AreCounts, IsKept, sent_in}
-use Rattle.outbox.specs.Sending.{Sent, messages, is_acknowledged}
+use Rattle.outbox.specs.Sending.{Sent, messages, is_key_acknowledged}
 use Rattle.outbox.specs.declared.record.Record.{Record}
 use Rattle.outbox.proofs.KeptTables.{at_place, not_true}
 use Rattle.outbox.proofs.Sendings.{all_messages}
@@ -53,10 +53,10 @@ module _ (ps : BTreeSet Place) (ms : List Message) (acked : ℕ → Bool) (n : N
 
 -- by what each record did
 pub seen : (rs : List Record) (ms : List Message) (S : List Sent) (n : Node) (from : ℕ) (o : Option ℕ) → sent_in 0 rs ms ≡ S → AreCounts 0 rs (length ms)
-    → IsLeastFrom (awaits ms (is_acknowledged (sent_in 0 rs ms)) n) from o → IsLeastFrom (awaits (messages S) (is_acknowledged S) n) from o
+    → IsLeastFrom (awaits ms (is_key_acknowledged (sent_in 0 rs ms)) n) from o → IsLeastFrom (awaits (messages S) (is_key_acknowledged S) n) from o
 seen rs ms S n from o view counted least =
-    subst (λ (l : List Sent). IsLeastFrom (awaits (messages l) (is_acknowledged l) n) from o) view
-    (subst (λ (l : List Message). IsLeastFrom (awaits l (is_acknowledged (sent_in 0 rs ms)) n) from o) (sym (all_messages rs ms counted)) least)
+    subst (λ (l : List Sent). IsLeastFrom (awaits (messages l) (is_key_acknowledged l) n) from o) view
+    (subst (λ (l : List Message). IsLeastFrom (awaits l (is_key_acknowledged (sent_in 0 rs ms)) n) from o) (sym (all_messages rs ms counted)) least)
 
 -- what the comparison of two places' registries tells
 pub same_registry : (r s : Option Code) → option_eq same_code r s ≡ true → r ≡ s
@@ -73,7 +73,7 @@ other_registry (Some c) s e same = true≢false (sym (same_code-refl c) ∙ subs
 
 -- the least key, by what the records did
 abbrev pub Least : List Sent → Node → ℕ → Option ℕ → Type 0
-Least S n from o = IsLeastFrom (awaits (messages S) (is_acknowledged S) n) from o
+Least S n from o = IsLeastFrom (awaits (messages S) (is_key_acknowledged S) n) from o
 
 -- the outbox keeps these tables, and this is the range of its places from the place of the first key on
 pub record Ranges (rs : List Record) (ms : List Message) (ps : BTreeSet Place) (S : List Sent) (n : Node) (from : ℕ) (p : Place) (r : List Place) : Type 0 where
@@ -87,16 +87,16 @@ module _ (rs : List Record) (ms : List Message) (ps : BTreeSet Place) (S : List 
   from_place = subst (λ (q : Place). IsKeyRangeOf place_cmp (Included q) Unbounded ps r) h.start h.range
 
   pub shown_none : r ≡ [] → Least S n from None
-  shown_none nothing = seen rs ms S n from None h.view h.kept.counted (least_none ps ms (is_acknowledged (sent_in 0 rs ms)) n from h.kept.awaited r from_place nothing)
+  shown_none nothing = seen rs ms S n from None h.view h.kept.counted (least_none ps ms (is_key_acknowledged (sent_in 0 rs ms)) n from h.kept.awaited r from_place nothing)
 
   pub shown_some : (found : Place) (rest : List Place) → r ≡ found ∷ rest → option_eq same_code found.registry p.registry ≡ true → Least S n from (Some found.key)
   shown_some found rest first same =
       seen rs ms S n from (Some found.key) h.view h.kept.counted
-      (least_some ps ms (is_acknowledged (sent_in 0 rs ms)) n from h.kept.awaited found rest (subst (IsRange n from ps) first from_place)
+      (least_some ps ms (is_key_acknowledged (sent_in 0 rs ms)) n from h.kept.awaited found rest (subst (IsRange n from ps) first from_place)
       (same_registry found.registry p.registry same ∙ ap (λ (q : Place). q.registry) h.start))
 
   pub shown_other : (found : Place) (rest : List Place) → r ≡ found ∷ rest → option_eq same_code found.registry p.registry ≡ false → Least S n from None
   shown_other found rest first other =
       seen rs ms S n from None h.view h.kept.counted
-      (least_other ps ms (is_acknowledged (sent_in 0 rs ms)) n from h.kept.awaited found rest (subst (IsRange n from ps) first from_place)
+      (least_other ps ms (is_key_acknowledged (sent_in 0 rs ms)) n from h.kept.awaited found rest (subst (IsRange n from ps) first from_place)
       (λ same. other_registry found.registry p.registry other (same ∙ sym (ap (λ (q : Place). q.registry) h.start))))

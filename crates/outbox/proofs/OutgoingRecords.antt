@@ -18,7 +18,7 @@ use Rattle.protocol.specs.History.{Entry, messages_of, sends}
 use Rattle.protocol.specs.Verdict as verdicts
 use Rattle.protocol.specs.Verdict.{verdict, made, extend, history_from}
 use Rattle.outbox.specs.Outgoing.{did, outgoing}
-use Rattle.outbox.specs.Sending.{Sent, sent_by_one, messages, acknowledges, is_acknowledged}
+use Rattle.outbox.specs.Sending.{Sent, sent_by_one, messages, acknowledges_key, is_key_acknowledged}
 use Rattle.outbox.proofs.KeptTables.{acknowledged_more}
 
 messages_snoc : (S : List Sent) (x : Sent) → messages (S ++ x ∷ []) ≡ messages S ++ sent_by_one x
@@ -59,7 +59,7 @@ messages_from scheme n es (x ∷ xs) h =
 pub messages_outgoing : (scheme : Scheme) (n : Node) (journal : List Input) → messages (outgoing (verdicts.history scheme n journal)) ≡ sends (verdicts.history scheme n journal)
 messages_outgoing scheme n journal = messages_from scheme n [] journal refl
 
-acknowledged_by : (key : ℕ) (i : Input) (ms : List Message) → acknowledges key (did i ms) ≡ history.acknowledges key i
+acknowledged_by : (key : ℕ) (i : Input) (ms : List Message) → acknowledges_key key (did i ms) ≡ history.acknowledges key i
 acknowledged_by key (Ack k) ms = refl
 acknowledged_by key (Propose o) ms = refl
 acknowledged_by key (Request t) ms = refl
@@ -76,11 +76,11 @@ or_comm false true = refl
 or_comm false false = refl
 
 -- what is acknowledged
-pub acknowledged_outgoing : (es : List Entry) (key : ℕ) → is_acknowledged (outgoing es) key ≡ history.is_acknowledged es key
+pub acknowledged_outgoing : (es : List Entry) (key : ℕ) → is_key_acknowledged (outgoing es) key ≡ history.is_acknowledged es key
 acknowledged_outgoing [] key = refl
 acknowledged_outgoing (e ∷ es) key =
     acknowledged_more (outgoing es) (did e.input (messages_of e.transitions)) key
-    ∙ ap (λ (b : Bool). b || acknowledges key (did e.input (messages_of e.transitions))) (acknowledged_outgoing es key)
+    ∙ ap (λ (b : Bool). b || acknowledges_key key (did e.input (messages_of e.transitions))) (acknowledged_outgoing es key)
     ∙ ap (λ (b : Bool). history.is_acknowledged es key || b) (acknowledged_by key e.input (messages_of e.transitions))
     ∙ or_comm (history.is_acknowledged es key) (history.acknowledges key e.input)
 

@@ -8,7 +8,7 @@ use Rattle.std.proofs.Math.Seq.{take-append_seam}
 use Rattle.wire.specs.declared.message.Message.{Message}
 use Rattle.outbox.specs.Kept.{act, sent_in, AreCounts, IsSentBefore}
 use Rattle.outbox.specs.Totals.{total}
-use Rattle.outbox.specs.Sending.{Sent, sent_by_one, messages, acknowledges, is_acknowledged}
+use Rattle.outbox.specs.Sending.{Sent, sent_by_one, messages, acknowledges_key, is_key_acknowledged}
 use Rattle.outbox.specs.declared.record.Record.{Record}
 
 -- counts never go down
@@ -90,17 +90,17 @@ pub counts_snoc : (before : ℕ) (rs : List Record) (r : Record) (all : ℕ) →
 counts_snoc before [] r all h up sent = (omega arith, subst (λ (n : ℕ). IsSentBefore r.acknowledges n r.sends) (sym h) sent, refl)
 counts_snoc before (x ∷ rs) r all h up sent = (h.0, h.1, counts_snoc x.sends rs r all h.2 up sent)
 
-act_below : (a : Option ℕ) (before sends : ℕ) (ms : List Message) (key : ℕ) → IsSentBefore a before sends → acknowledges key (act a ms) ≡ true → key < before
+act_below : (a : Option ℕ) (before sends : ℕ) (ms : List Message) (key : ℕ) → IsSentBefore a before sends → acknowledges_key key (act a ms) ≡ true → key < before
 act_below None before sends ms key h e = absurd (true≢false (sym e))
 act_below (Some k) before sends ms key h e = subst (λ (n : ℕ). n < before) (eqb-true k key e) h.1
 
 -- what is acknowledged was sent
-pub acknowledged_below : (before : ℕ) (rs : List Record) (ms : List Message) (all key : ℕ) → AreCounts before rs all → is_acknowledged (sent_in before rs ms) key ≡ true → key < all
+pub acknowledged_below : (before : ℕ) (rs : List Record) (ms : List Message) (all key : ℕ) → AreCounts before rs all → is_key_acknowledged (sent_in before rs ms) key ≡ true → key < all
 acknowledged_below before [] ms all key h e = absurd (true≢false (sym e))
 acknowledged_below before (r ∷ rs) ms all key h e =
     let up : r.sends ≤ all = counts_up r.sends rs all h.2 in
     let first : before ≤ r.sends = h.0 in
-    either (acknowledges key (act r.acknowledges (take (r.sends - before) ms))) (is_acknowledged (sent_in r.sends rs (drop (r.sends - before) ms)) key) e
+    either (acknowledges_key key (act r.acknowledges (take (r.sends - before) ms))) (is_key_acknowledged (sent_in r.sends rs (drop (r.sends - before) ms)) key) e
     (λ a. let below : key < before = act_below r.acknowledges before r.sends (take (r.sends - before) ms) key h.1 a in omega arith)
     (λ a. acknowledged_below r.sends rs (drop (r.sends - before) ms) all key h.2 a)
   where

@@ -4,7 +4,7 @@ use Rattle.std.specs.BTreeSet.{BTreeSet, contains}
 use Rattle.protocol.specs.Unacknowledged.{awaits}
 use Rattle.wire.specs.declared.message.Message.{Message}
 use Rattle.outbox.specs.Places.{peer_of, place_cmp}
-use Rattle.outbox.specs.Sending.{Sent, Sends, Acknowledges, is_acknowledged}
+use Rattle.outbox.specs.Sending.{Sent, Sends, Acknowledges, is_key_acknowledged}
 use Rattle.outbox.specs.declared.place.Place.{Place}
 use Rattle.outbox.specs.declared.record.Record.{Record}
 
@@ -30,4 +30,4 @@ AreCounts before (r ∷ rs) all = (before ≤ r.sends) × IsSentBefore r.acknowl
 -- the tables fit together
 pub record IsKept (sent : List Sent) (records : List Record) (ms : List Message) (places : BTreeSet Place) : Type 0 where
   pub counted : AreCounts 0 records (length ms)
-  pub awaited : (q : Place) → contains place_cmp places q ≡ awaits ms (is_acknowledged sent) (peer_of q.registry) q.key
+  pub awaited : (q : Place) → contains place_cmp places q ≡ awaits ms (is_key_acknowledged sent) (peer_of q.registry) q.key

@@ -16,12 +16,12 @@ sent_by_one (Acknowledges key) = []
 abbrev pub messages : List Sent → List Message
 messages records = flat_map sent_by_one records
 
-abbrev pub acknowledges : ℕ → Sent → Bool
-acknowledges key (Sends messages) = false
-acknowledges key (Acknowledges k) = k == key
+abbrev pub acknowledges_key : ℕ → Sent → Bool
+acknowledges_key key (Sends messages) = false
+acknowledges_key key (Acknowledges k) = k == key
 
-abbrev pub is_acknowledged : List Sent → ℕ → Bool
-is_acknowledged records key = list_any (acknowledges key) records
+abbrev pub is_key_acknowledged : List Sent → ℕ → Bool
+is_key_acknowledged records key = list_any (acknowledges_key key) records
 
 -- the last record sends messages
 abbrev pub EndsWithMessages : List Sent → Type 0

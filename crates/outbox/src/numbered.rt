@@ -112,7 +112,7 @@ impl Outbox {
 
     /// Whether a record acknowledges the message with that key.
     pub fn is_acknowledged(&self, key: usize) -> bool
-        ensures { result ≡ sending.is_acknowledged self.now key }
+        ensures { result ≡ sending.is_key_acknowledged self.now key }
     {
         match message_at(self.messages.as_slice(), key) {
             Some(message) => !self.places.contains(&place(message.receiver(), key)),
@@ -150,7 +150,7 @@ impl Outbox {
     /// The least key, from that one on, of a message that goes to `peer` and isn't acknowledged; or `None` where there is
     /// no such message.
     pub fn next_unacknowledged(&self, peer: Node, from: usize) -> Option<usize>
-        ensures { IsLeastFrom (awaits (sending.messages self.now) (sending.is_acknowledged self.now) peer) from result }
+        ensures { IsLeastFrom (awaits (sending.messages self.now) (sending.is_key_acknowledged self.now) peer) from result }
     {
         let first = place(peer, from);
         let found = self.places.range(first..).next()?;

@@ -31,7 +31,7 @@ slice_get_append_left [] ys k x e = absurd cc
 slice_get_append_left (a ∷ xs) ys zero x e = e
 slice_get_append_left (a ∷ xs) ys (suc k) x e = slice_get_append_left xs ys k x e
 
--- the element right behind a list
+-- the element right after a list
 pub slice_get_seam : {X : Type 0} (xs : List X) (y : X) (ys : List X) → slice_get (xs ++ y ∷ ys) (length xs) ≡ Some y
 slice_get_seam [] y ys = refl
 slice_get_seam (x ∷ xs) y ys = slice_get_seam xs y ys

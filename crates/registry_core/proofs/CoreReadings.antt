@@ -83,9 +83,9 @@ module _ (scheme : Scheme) (c : Code) (tables : Tables) (kept : IsKept scheme c 
   pub sends_so : length (sending.messages tables.outbox) ≡ length (sends (past r))
   sends_so = ap length messages_so
 
-  pub acknowledged_so : (key : ℕ) → sending.is_acknowledged tables.outbox key ≡ history.is_acknowledged (past r) key
+  pub acknowledged_so : (key : ℕ) → sending.is_key_acknowledged tables.outbox key ≡ history.is_acknowledged (past r) key
   acknowledged_so key =
-      ap (λ (o : List Sent). sending.is_acknowledged o key) kept.kept.sent
+      ap (λ (o : List Sent). sending.is_key_acknowledged o key) kept.kept.sent
       ∙ acknowledged_outgoing (past (seen scheme c tables)) key
       ∙ ap (λ (q : Core). history.is_acknowledged (past q) key) is
 
@@ -96,7 +96,7 @@ module _ (scheme : Scheme) (c : Code) (tables : Tables) (kept : IsKept scheme c 
       ∙ ap length (messages_outgoing scheme (Registry c) (take count tables.journal.items))
       ∙ ap (λ (q : Core). length (sends (verdicts.history q.scheme (Registry q.code) (take count q.journal)))) is
 
-  pub least_so : (peer : Node) (from : ℕ) (key : Option ℕ) → IsLeastFrom (awaits (sending.messages tables.outbox) (sending.is_acknowledged tables.outbox) peer) from key
+  pub least_so : (peer : Node) (from : ℕ) (key : Option ℕ) → IsLeastFrom (awaits (sending.messages tables.outbox) (sending.is_key_acknowledged tables.outbox) peer) from key
       → IsLeastFrom (awaits (sends (past r)) (history.is_acknowledged (past r)) peer) from key
   least_so peer from key h = subst (λ (passes : ℕ → Bool). IsLeastFrom passes from key) (λ i. awaits (messages_so i) (λ k. acknowledged_so k i) peer) h
 

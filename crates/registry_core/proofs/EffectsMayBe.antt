@@ -67,9 +67,9 @@ module _ (scheme : Scheme) (c : Code) (es : List Entry) (tables : Tables) (kept 
   new_foreign t e = kept.foreign t ∙ row_none (is_foreign c) foreign_row (transitions_of es) t e
 
   -- the content of a row
-  pub row_content : (t : TransactionId) (q : Transition) → newest (transitions_of es) t ≡ Some q → same_code t.code c ≡ false → acquirer.content_in (map.get tables.acquirer.transfers t) ≡ q.content
+  pub row_content : (t : TransactionId) (q : Transition) → newest (transitions_of es) t ≡ Some q → same_code t.code c ≡ false → acquirer.kept_content (map.get tables.acquirer.transfers t) ≡ q.content
   row_content t q was other =
-      ap acquirer.content_in
+      ap acquirer.kept_content
       (kept.foreign t
       ∙ cond-true (not (same_code t.code c)) (option_map (foreign_row t) (newest (transitions_of es) t)) None (ap not other)
       ∙ ap (option_map (foreign_row t)) was)
@@ -98,7 +98,7 @@ module _ (scheme : Scheme) (c : Code) (es : List Entry) (tables : Tables) (kept 
   forestall_may input x id (asks t q was own stood) h = absurd h
   forestall_may input x id (arrives p moment found f s is none foreign mine) h = absurd h
 
-  complete_may : (input : Input) (x : Transition) (id : TransactionId) → RegistryMove scheme c es input x → IsEffect c es input x (Complete id) → (k : Content) → acquirer.content_in (map.get tables.acquirer.transfers id) ≡ Some k
+  complete_may : (input : Input) (x : Transition) (id : TransactionId) → RegistryMove scheme c es input x → IsEffect c es input x (Complete id) → (k : Content) → acquirer.kept_content (map.get tables.acquirer.transfers id) ≡ Some k
       → MayCredit tables.holdings k
   complete_may input x id (finishes n moment q new f was foreign move none) h k known =
       let here : newest (transitions_of es) id ≡ Some q = subst (λ u. newest (transitions_of es) u ≡ Some q) h.0 was in

@@ -296,8 +296,8 @@ module _ (scheme : Scheme) (c : Code) (es : List Entry) (tables tables' : Tables
       let e = entry input (x ∷ []) in
       let theirs : same_code q.id.code c ≡ false = ap (λ (u : TransactionId). same_code u.code c) (newest_id (transitions_of es) n.id q was).1 ∙ other in
       let k = ended_content n q told was other move in
-      let row : acquirer.content_in (map.get tables.acquirer.transfers id) ≡ Some k.0 =
-      ap (λ t. acquirer.content_in (map.get tables.acquirer.transfers t)) (sym same) ∙ row_content scheme c es tables kept entered n.id q was other ∙ k.1 in
+      let row : acquirer.kept_content (map.get tables.acquirer.transfers id) ≡ Some k.0 =
+      ap (λ t. acquirer.kept_content (map.get tables.acquirer.transfers t)) (sym same) ∙ row_content scheme c es tables kept entered n.id q was other ∙ k.1 in
       let blocks = carried.4 k.0 row in
       record {
         lots = λ s.

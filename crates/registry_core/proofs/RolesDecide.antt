@@ -48,7 +48,7 @@ use Rattle.acquirer.specs.Transfers as acquirer
 use Rattle.safety.proofs.OneRegistry.TransactionEnds.{own_code}
 use Rattle.registry_core.specs.Effects.{IsEffect, ending}
 use Rattle.registry_core.specs.Kept.{IsKept}
-use Rattle.registry_core.specs.Taking.{Takes, due}
+use Rattle.registry_core.specs.Taking.{Takes, verdict_due}
 use Rattle.registry_core.specs.declared.effect.Effect.{Effect}
 use Rattle.registry_core.specs.declared.tables.Tables.{Tables}
 use Rattle.registry_core.proofs.DecidedInputs.{comes_late, ending_effect, given_up, knows_so, moves, repeats, row_moves, sends, welcome_foreign}
@@ -67,7 +67,7 @@ pub record Decided (scheme : Scheme) (c : Code) (tables : Tables) (input : Input
   pub row : Row
   pub messages : List Message
   pub is : IsDueOrNoMemory d (unless causes (decided row messages))
-  pub row_is : due scheme c tables input ≡ refuse causes (by_row scheme (past scheme c tables) to row)
+  pub row_is : verdict_due scheme c tables input ≡ refuse causes (by_row scheme (past scheme c tables) to row)
   pub sent : (new : Status) → (to new).messages ≡ messages
 
 -- ---- what the tables do
@@ -84,7 +84,7 @@ module _ {scheme : Scheme} {c : Code} {tables : Tables} {input : Input} {to : St
   takes_too_late h = takes_late scheme c tables input kept (comes_late scheme c tables input to by.causes by.row by.messages d by.is by.row_is h)
 
   pub moves_so : (effect : Effect) {given : Input} {new : Status} {ms : List Message} → input ≡ given → d ≡ Ok (decision.Moves new ms) → IsEffect c (past scheme c tables) given (to new) effect
-      → (x : Transition) × (due scheme c tables input ≡ enters scheme (past scheme c tables) (x ∷ [])) × (ms ≡ x.messages) × IsEffect c (past scheme c tables) input x effect
+      → (x : Transition) × (verdict_due scheme c tables input ≡ enters scheme (past scheme c tables) (x ∷ [])) × (ms ≡ x.messages) × IsEffect c (past scheme c tables) input x effect
   moves_so effect {given} {new} {ms} is h e = (
     to new,
     moves scheme c tables input to by.causes by.row by.messages d by.is by.row_is new ms h,
@@ -111,7 +111,7 @@ module _ {scheme : Scheme} {c : Code} {tables : Tables} (kept : IsKept scheme c 
       elim (subst (λ l. (code ≡ out_of_memory) ⊎ (first_of (order_refusals scheme c h l o) ≡ Some code)) kept.kept.last
       (subst (λ e. Knows scheme e tables.holdings h → (code ≡ out_of_memory) ⊎ (first_of (order_refusals scheme e h tables.initiator.last o) ≡ Some code)) kept.kept.initiator (why h) (knows_so scheme c tables kept))) [
         | inl memory ↦ inl memory
-        | inr first ↦ inr (ap (due scheme c tables) given ∙ due_so scheme c tables (Propose o) ∙ order_refused scheme c (past scheme c tables) o code first)
+        | inr first ↦ inr (ap (verdict_due scheme c tables) given ∙ due_so scheme c tables (Propose o) ∙ order_refused scheme c (past scheme c tables) o code first)
       ]
 
   abbrev pub to_propose : Order → TransactionId → Status → Transition
@@ -119,37 +119,37 @@ module _ {scheme : Scheme} {c : Code} {tables : Tables} (kept : IsKept scheme c 
 
   pub proposed : {input : Input} {d : Result Decision Refusal} {o : Order} {t : TransactionId} {k : Content} → input ≡ Propose o → ((q : Holding) → Knows scheme tables.initiator.code tables.holdings q → first_of (order_refusals scheme tables.initiator.code q tables.initiator.last o) ≡ None)
       → id_at tables.initiator.code (tables.initiator.last + 1) ≡ Some t → k ≡ content_of o
-      → IsDueOrNoMemory d (decided (initiator_row (initiator.known (get tables.initiator.transfers t)) column.Propose) (initiator_sends tables.initiator.code t (Some k) column.Propose)) → Decided scheme c tables input (to_propose o t) d
+      → IsDueOrNoMemory d (decided (initiator_row (initiator.known_transfer (get tables.initiator.transfers t)) column.Propose) (initiator_sends tables.initiator.code t (Some k) column.Propose)) → Decided scheme c tables input (to_propose o t) d
   proposed {input} {d} {o} {t} {k} given passes number content decides =
       let at = subst (λ l. id_at c (l + 1) ≡ Some t) kept.kept.last (subst (λ e. id_at e (tables.initiator.last + 1) ≡ Some t) kept.kept.initiator number) in
-      let row = initiator_row (initiator.known (get tables.initiator.transfers t)) column.Propose in
+      let row = initiator_row (initiator.known_transfer (get tables.initiator.transfers t)) column.Propose in
       record {
         causes = [];
         row = row;
         messages = initiator_sends c t (Some (content_of o)) column.Propose;
         is = subst (λ x. IsDueOrNoMemory d (decided row (initiator_sends c t (Some x) column.Propose))) content (subst (λ e. IsDueOrNoMemory d (decided row (initiator_sends e t (Some k) column.Propose))) kept.kept.initiator decides);
-        row_is = ap (due scheme c tables) given ∙ propose_row scheme c tables kept o t (order_passes o passes) at (own_code scheme c (proposals (past scheme c tables) + 1) t at);
+        row_is = ap (verdict_due scheme c tables) given ∙ propose_row scheme c tables kept o t (order_passes o passes) at (own_code scheme c (proposals (past scheme c tables) + 1) t at);
         sent = λ new. refl;
       }
 
   -- an order to ask for a transfer's cancellation
   abbrev pub to_ask : TransactionId → Status → Transition
-  to_ask t = moved t (content_in (newest (transitions_of (past scheme c tables)) t)) 0 (initiator_sends c t (content_in (newest (transitions_of (past scheme c tables)) t)) (initiator.request_column (get tables.initiator.transfers t)))
+  to_ask t = moved t (content_in (newest (transitions_of (past scheme c tables)) t)) 0 (initiator_sends c t (content_in (newest (transitions_of (past scheme c tables)) t)) (initiator.column_of_request (get tables.initiator.transfers t)))
 
   pub requested : {input : Input} {d : Result Decision Refusal} {t : TransactionId} → input ≡ Request t
-      → ((k : Option Content) → IsDueOrNoMemory d (unless (initiator.request_refusals tables.initiator t)
-      (decided (initiator_row (initiator.known (get tables.initiator.transfers t)) (initiator.request_column (get tables.initiator.transfers t))) (initiator_sends tables.initiator.code t k (initiator.request_column (get tables.initiator.transfers t))))))
+      → ((k : Option Content) → IsDueOrNoMemory d (unless (initiator.cancellation_refusals tables.initiator t)
+      (decided (initiator_row (initiator.known_transfer (get tables.initiator.transfers t)) (initiator.column_of_request (get tables.initiator.transfers t))) (initiator_sends tables.initiator.code t k (initiator.column_of_request (get tables.initiator.transfers t))))))
       → Decided scheme c tables input (to_ask t) d
   requested {input} {d} {t} given decides =
       let last = content_in (newest (transitions_of (past scheme c tables)) t) in
-      let asks = initiator.request_column (get tables.initiator.transfers t) in
-      let row = initiator_row (initiator.known (get tables.initiator.transfers t)) asks in
+      let asks = initiator.column_of_request (get tables.initiator.transfers t) in
+      let row = initiator_row (initiator.known_transfer (get tables.initiator.transfers t)) asks in
       record {
-        causes = initiator.request_refusals tables.initiator t;
+        causes = initiator.cancellation_refusals tables.initiator t;
         row = row;
         messages = initiator_sends c t last asks;
-        is = subst (λ e. IsDueOrNoMemory d (unless (initiator.request_refusals tables.initiator t) (decided row (initiator_sends e t last asks)))) kept.kept.initiator (decides last);
-        row_is = ap (due scheme c tables) given ∙ request_row scheme c tables kept t;
+        is = subst (λ e. IsDueOrNoMemory d (unless (initiator.cancellation_refusals tables.initiator t) (decided row (initiator_sends e t last asks)))) kept.kept.initiator (decides last);
+        row_is = ap (verdict_due scheme c tables) given ∙ request_row scheme c tables kept t;
         sent = λ new. refl;
       }
 
@@ -157,24 +157,24 @@ module _ {scheme : Scheme} {c : Code} {tables : Tables} (kept : IsKept scheme c 
   abbrev pub to_arrive : Proposal → Moment → Status → Transition
   to_arrive p moment =
       let found = acquirer_findings scheme c (holding scheme c (past scheme c tables)) p.content in
-      moved p.id (Some p.content) moment.seconds (acquirer_sends c p.id found (offered (acquirer.content_in (get tables.acquirer.transfers p.id)) found))
+      moved p.id (Some p.content) moment.seconds (acquirer_sends c p.id found (offered (acquirer.kept_content (get tables.acquirer.transfers p.id)) found))
 
   pub arrived : {input : Input} {d : Result Decision Refusal} {p : Proposal} {moment : Moment} → input ≡ Received (message.Proposal p) moment → first_of (registry_refusals c (past scheme c tables) (message.Proposal p)) ≡ None
       → ((q : Holding) (found : List ℕ) → Knows scheme tables.acquirer.code tables.holdings q → found ≡ acquirer_findings scheme tables.acquirer.code q p.content
-      → IsDueOrNoMemory d (decided (acquirer_row (acquirer.known (get tables.acquirer.transfers p.id)) (offered (acquirer.content_in (get tables.acquirer.transfers p.id)) found))
-      (acquirer_sends tables.acquirer.code p.id found (offered (acquirer.content_in (get tables.acquirer.transfers p.id)) found))))
+      → IsDueOrNoMemory d (decided (acquirer_row (acquirer.known_transfer (get tables.acquirer.transfers p.id)) (offered (acquirer.kept_content (get tables.acquirer.transfers p.id)) found))
+      (acquirer_sends tables.acquirer.code p.id found (offered (acquirer.kept_content (get tables.acquirer.transfers p.id)) found))))
       → Decided scheme c tables input (to_arrive p moment) d
   arrived {input} {d} {p} {moment} given welcome decides =
       let h = holding scheme c (past scheme c tables) in
       let found = acquirer_findings scheme c h p.content in
-      let finds = offered (acquirer.content_in (get tables.acquirer.transfers p.id)) found in
-      let row = acquirer_row (acquirer.known (get tables.acquirer.transfers p.id)) finds in
+      let finds = offered (acquirer.kept_content (get tables.acquirer.transfers p.id)) found in
+      let row = acquirer_row (acquirer.known_transfer (get tables.acquirer.transfers p.id)) finds in
       record {
         causes = [];
         row = row;
         messages = acquirer_sends c p.id found finds;
         is = subst (λ e. Knows scheme e tables.holdings h → found ≡ acquirer_findings scheme e h p.content → IsDueOrNoMemory d (decided row (acquirer_sends e p.id found finds))) kept.kept.acquirer (decides h found) (knows_so scheme c tables kept) refl;
-        row_is = ap (due scheme c tables) given ∙ arrive_row scheme c tables kept p moment found welcome (welcome_foreign c (past scheme c tables) p welcome) refl;
+        row_is = ap (verdict_due scheme c tables) given ∙ arrive_row scheme c tables kept p moment found welcome (welcome_foreign c (past scheme c tables) p welcome) refl;
         sent = λ new. refl;
       }
 
@@ -184,18 +184,18 @@ module _ {scheme : Scheme} {c : Code} {tables : Tables} (kept : IsKept scheme c 
 
   pub settled : {input : Input} {d : Result Decision Refusal} {n : Notification} {moment : Moment} {told : Status} → input ≡ Received (message.Notification n) moment → first_of (registry_refusals c (past scheme c tables) (message.Notification n)) ≡ None → same_code n.id.code c ≡ true
       → told ≡ notice_status n.notice
-      → ((k : Option Content) → IsDueOrNoMemory d (decided (initiator_row (initiator.known (get tables.initiator.transfers n.id)) (Notified told)) (initiator_sends tables.initiator.code n.id k (Notified told))))
+      → ((k : Option Content) → IsDueOrNoMemory d (decided (initiator_row (initiator.known_transfer (get tables.initiator.transfers n.id)) (Notified told)) (initiator_sends tables.initiator.code n.id k (Notified told))))
       → Decided scheme c tables input (to_settle n moment) d
   settled {input} {d} {n} {moment} {told} given welcome own is decides =
       let last = content_in (newest (transitions_of (past scheme c tables)) n.id) in
-      let row = initiator_row (initiator.known (get tables.initiator.transfers n.id)) (Notified (notice_status n.notice)) in
+      let row = initiator_row (initiator.known_transfer (get tables.initiator.transfers n.id)) (Notified (notice_status n.notice)) in
       record {
         causes = [];
         row = row;
         messages = initiator_sends c n.id last (Notified (notice_status n.notice));
         is = subst (λ e. IsDueOrNoMemory d (decided row (initiator_sends e n.id last (Notified (notice_status n.notice))))) kept.kept.initiator
-            (subst (λ s. IsDueOrNoMemory d (decided (initiator_row (initiator.known (get tables.initiator.transfers n.id)) (Notified s)) (initiator_sends tables.initiator.code n.id last (Notified s)))) is (decides last));
-        row_is = ap (due scheme c tables) given ∙ settle_row scheme c tables kept n moment welcome own;
+            (subst (λ s. IsDueOrNoMemory d (decided (initiator_row (initiator.known_transfer (get tables.initiator.transfers n.id)) (Notified s)) (initiator_sends tables.initiator.code n.id last (Notified s)))) is (decides last));
+        row_is = ap (verdict_due scheme c tables) given ∙ settle_row scheme c tables kept n moment welcome own;
         sent = λ new. refl;
       }
 
@@ -204,22 +204,22 @@ module _ {scheme : Scheme} {c : Code} {tables : Tables} (kept : IsKept scheme c 
   to_finish n moment = moved n.id (content_in (newest (transitions_of (past scheme c tables)) n.id)) moment.seconds []
 
   abbrev pub is_held : Holding → Notification → Bool
-  is_held q n = option_map_or (λ x. list_any (λ p. q.is_held p.unit) (pieces x.units)) (acquirer.content_in (get tables.acquirer.transfers n.id)) false
+  is_held q n = option_map_or (λ x. list_any (λ p. q.is_held p.unit) (pieces x.units)) (acquirer.kept_content (get tables.acquirer.transfers n.id)) false
 
   abbrev finish_row_of : Notification → Row
-  finish_row_of n = unless_held (is_held (holding scheme c (past scheme c tables)) n) (acquirer_row (acquirer.known (get tables.acquirer.transfers n.id)) (Notified (notice_status n.notice)))
+  finish_row_of n = unless_held (is_held (holding scheme c (past scheme c tables)) n) (acquirer_row (acquirer.known_transfer (get tables.acquirer.transfers n.id)) (Notified (notice_status n.notice)))
 
   finish_decides : {d : Result Decision Refusal} (n : Notification) {told : Status} → told ≡ notice_status n.notice
-      → ((q : Holding) → Knows scheme tables.acquirer.code tables.holdings q → d ≡ decided (unless_held (is_held q n) (acquirer_row (acquirer.known (get tables.acquirer.transfers n.id)) (Notified told))) [])
+      → ((q : Holding) → Knows scheme tables.acquirer.code tables.holdings q → d ≡ decided (unless_held (is_held q n) (acquirer_row (acquirer.known_transfer (get tables.acquirer.transfers n.id)) (Notified told))) [])
       → d ≡ decided (finish_row_of n) []
   finish_decides {d} n {told} is decides =
       let h = holding scheme c (past scheme c tables) in
-      subst (λ e. Knows scheme e tables.holdings h → d ≡ decided (unless_held (is_held h n) (acquirer_row (acquirer.known (get tables.acquirer.transfers n.id)) (Notified told))) []) kept.kept.acquirer (decides h) (knows_so scheme c tables kept)
-      ∙ ap (λ t. decided (unless_held (is_held h n) (acquirer_row (acquirer.known (get tables.acquirer.transfers n.id)) (Notified t))) []) is
+      subst (λ e. Knows scheme e tables.holdings h → d ≡ decided (unless_held (is_held h n) (acquirer_row (acquirer.known_transfer (get tables.acquirer.transfers n.id)) (Notified told))) []) kept.kept.acquirer (decides h) (knows_so scheme c tables kept)
+      ∙ ap (λ t. decided (unless_held (is_held h n) (acquirer_row (acquirer.known_transfer (get tables.acquirer.transfers n.id)) (Notified t))) []) is
 
   pub finished : {input : Input} {d : Result Decision Refusal} {n : Notification} {moment : Moment} {told : Status} → input ≡ Received (message.Notification n) moment
       → first_of (registry_refusals c (past scheme c tables) (message.Notification n)) ≡ None → same_code n.id.code c ≡ false → told ≡ notice_status n.notice
-      → ((q : Holding) → Knows scheme tables.acquirer.code tables.holdings q → d ≡ decided (unless_held (is_held q n) (acquirer_row (acquirer.known (get tables.acquirer.transfers n.id)) (Notified told))) [])
+      → ((q : Holding) → Knows scheme tables.acquirer.code tables.holdings q → d ≡ decided (unless_held (is_held q n) (acquirer_row (acquirer.known_transfer (get tables.acquirer.transfers n.id)) (Notified told))) [])
       → Decided scheme c tables input (to_finish n moment) d
   finished {input} {d} {n} {moment} {told} given welcome foreign is decides =
       record {
@@ -227,14 +227,14 @@ module _ {scheme : Scheme} {c : Code} {tables : Tables} (kept : IsKept scheme c 
         row = finish_row_of n;
         messages = [];
         is = inl (finish_decides n is decides);
-        row_is = ap (due scheme c tables) given ∙ finish_row scheme c tables kept n moment welcome foreign;
+        row_is = ap (verdict_due scheme c tables) given ∙ finish_row scheme c tables kept n moment welcome foreign;
         sent = λ new. refl;
       }
 
   -- what ends the transfer is the effect
   pub finish_effect : {d : Result Decision Refusal} (n : Notification) (moment : Moment) {told new : Status} {ms : List Message} {effect : Effect} → first_of (registry_refusals c (past scheme c tables) (message.Notification n)) ≡ None
       → same_code n.id.code c ≡ false → told ≡ notice_status n.notice
-      → ((q : Holding) → Knows scheme tables.acquirer.code tables.holdings q → d ≡ decided (unless_held (is_held q n) (acquirer_row (acquirer.known (get tables.acquirer.transfers n.id)) (Notified told))) [])
+      → ((q : Holding) → Knows scheme tables.acquirer.code tables.holdings q → d ≡ decided (unless_held (is_held q n) (acquirer_row (acquirer.known_transfer (get tables.acquirer.transfers n.id)) (Notified told))) [])
       → d ≡ Ok (decision.Moves new ms) → effect ≡ ending (is_some (get tables.acquirer.transfers n.id)) n.id new → IsEffect c (past scheme c tables) (Received (message.Notification n) moment) (to_finish n moment new) effect
   finish_effect {d} n moment {told} {new} {ms} {effect} welcome foreign is decides h ends =
       let row = row_moves scheme c tables (Received (message.Notification n) moment) (to_finish n moment) [] (finish_row_of n) [] d (inl (finish_decides n is decides)) (finish_row scheme c tables kept n moment welcome foreign) new ms h in

@@ -38,15 +38,15 @@ past scheme c tables = history scheme (Registry c) tables.journal.items
 
 -- ---- what each role is asked, of any transition
 
-own_known_of : (es : List Entry) (t : TransactionId) (o : Option Transition) → initiator.known (option_map (own_row es t) o) ≡ option_map_or (λ (x : Transition). Stands x.new) o Unknown
+own_known_of : (es : List Entry) (t : TransactionId) (o : Option Transition) → initiator.known_transfer (option_map (own_row es t) o) ≡ option_map_or (λ (x : Transition). Stands x.new) o Unknown
 own_known_of es t None = refl
 own_known_of es t (Some x) = refl
 
-foreign_known_of : (t : TransactionId) (o : Option Transition) → acquirer.known (option_map (foreign_row t) o) ≡ decide.known o
+foreign_known_of : (t : TransactionId) (o : Option Transition) → acquirer.known_transfer (option_map (foreign_row t) o) ≡ decide.known o
 foreign_known_of t None = refl
 foreign_known_of t (Some x) = refl
 
-foreign_content_of : (t : TransactionId) (o : Option Transition) → acquirer.content_in (option_map (foreign_row t) o) ≡ decide.content_in o
+foreign_content_of : (t : TransactionId) (o : Option Transition) → acquirer.kept_content (option_map (foreign_row t) o) ≡ decide.content_in o
 foreign_content_of t None = refl
 foreign_content_of t (Some x) = refl
 
@@ -54,7 +54,7 @@ asked_so : (b : Bool) → initiator.is_asked (cond b Asked NotAsked) ≡ b
 asked_so true = refl
 asked_so false = refl
 
-own_stands_of : (es : List Entry) (xs : List Transition) (t : TransactionId) (o : Option Transition) → newest xs t ≡ o → initiator.is_proposed (option_map (own_row es t) o) ≡ stands_at xs t Proposed
+own_stands_of : (es : List Entry) (xs : List Transition) (t : TransactionId) (o : Option Transition) → newest xs t ≡ o → initiator.is_still_proposed (option_map (own_row es t) o) ≡ stands_at xs t Proposed
 own_stands_of es xs t None e = ap (λ (o : Option Transition). option_map_or (λ s. same_status s Proposed) (option_map (λ (x : Transition). x.new) o) false) (sym e)
 own_stands_of es xs t (Some x) e = ap (λ (o : Option Transition). option_map_or (λ s. same_status s Proposed) (option_map (λ (x : Transition). x.new) o) false) (sym e)
 
@@ -93,15 +93,15 @@ module _ (scheme : Scheme) (c : Code) (tables : Tables) (kept : IsKept scheme c 
   foreign_not_own t other = kept.kept.own t ∙ cond-false (same_code t.code c) (option_map (own_row (past scheme c tables) t) (newest (transitions_of (past scheme c tables)) t)) None other
 
   -- what the status tables ask
-  pub own_known_so : (t : TransactionId) → same_code t.code c ≡ true → initiator.known (map.get tables.initiator.transfers t) ≡ decide.known (newest (transitions_of (past scheme c tables)) t)
+  pub own_known_so : (t : TransactionId) → same_code t.code c ≡ true → initiator.known_transfer (map.get tables.initiator.transfers t) ≡ decide.known (newest (transitions_of (past scheme c tables)) t)
   own_known_so t own =
-      ap initiator.known (own_row_so t own) ∙ own_known_of (past scheme c tables) t (newest (transitions_of (past scheme c tables)) t) ∙ sym (own_known scheme c (past scheme c tables) made_so t own)
+      ap initiator.known_transfer (own_row_so t own) ∙ own_known_of (past scheme c tables) t (newest (transitions_of (past scheme c tables)) t) ∙ sym (own_known scheme c (past scheme c tables) made_so t own)
 
-  pub foreign_known_so : (t : TransactionId) → same_code t.code c ≡ false → acquirer.known (map.get tables.acquirer.transfers t) ≡ decide.known (newest (transitions_of (past scheme c tables)) t)
-  foreign_known_so t other = ap acquirer.known (foreign_row_so t other) ∙ foreign_known_of t (newest (transitions_of (past scheme c tables)) t)
+  pub foreign_known_so : (t : TransactionId) → same_code t.code c ≡ false → acquirer.known_transfer (map.get tables.acquirer.transfers t) ≡ decide.known (newest (transitions_of (past scheme c tables)) t)
+  foreign_known_so t other = ap acquirer.known_transfer (foreign_row_so t other) ∙ foreign_known_of t (newest (transitions_of (past scheme c tables)) t)
 
-  pub foreign_content_so : (t : TransactionId) → same_code t.code c ≡ false → acquirer.content_in (map.get tables.acquirer.transfers t) ≡ decide.content_in (newest (transitions_of (past scheme c tables)) t)
-  foreign_content_so t other = ap acquirer.content_in (foreign_row_so t other) ∙ foreign_content_of t (newest (transitions_of (past scheme c tables)) t)
+  pub foreign_content_so : (t : TransactionId) → same_code t.code c ≡ false → acquirer.kept_content (map.get tables.acquirer.transfers t) ≡ decide.content_in (newest (transitions_of (past scheme c tables)) t)
+  foreign_content_so t other = ap acquirer.kept_content (foreign_row_so t other) ∙ foreign_content_of t (newest (transitions_of (past scheme c tables)) t)
 
   -- the column of an order to ask for cancellation
   own_asked : (t : TransactionId) (o : Option Transition) → newest (transitions_of (past scheme c tables)) t ≡ o
@@ -109,14 +109,14 @@ module _ (scheme : Scheme) (c : Code) (tables : Tables) (kept : IsKept scheme c 
   own_asked t None e = sym (unknown_unrequested scheme c (past scheme c tables) recorded t e)
   own_asked t (Some x) e = asked_so (is_requested (past scheme c tables) t)
 
-  pub own_column_so : (t : TransactionId) → same_code t.code c ≡ true → initiator.request_column (map.get tables.initiator.transfers t) ≡ registry.request_column (past scheme c tables) t
+  pub own_column_so : (t : TransactionId) → same_code t.code c ≡ true → initiator.column_of_request (map.get tables.initiator.transfers t) ≡ registry.request_column (past scheme c tables) t
   own_column_so t own =
-      ap initiator.request_column (own_row_so t own)
+      ap initiator.column_of_request (own_row_so t own)
       ∙ ap (λ (b : Bool). cond b column.RepeatedRequestOrder column.RequestOrder) (own_asked t (newest (transitions_of (past scheme c tables)) t) refl)
 
-  pub own_stands_so : (t : TransactionId) → same_code t.code c ≡ true → initiator.is_proposed (map.get tables.initiator.transfers t) ≡ stands_at (transitions_of (past scheme c tables)) t Proposed
+  pub own_stands_so : (t : TransactionId) → same_code t.code c ≡ true → initiator.is_still_proposed (map.get tables.initiator.transfers t) ≡ stands_at (transitions_of (past scheme c tables)) t Proposed
   own_stands_so t own =
-      ap initiator.is_proposed (own_row_so t own) ∙ own_stands_of (past scheme c tables) (transitions_of (past scheme c tables)) t (newest (transitions_of (past scheme c tables)) t) refl
+      ap initiator.is_still_proposed (own_row_so t own) ∙ own_stands_of (past scheme c tables) (transitions_of (past scheme c tables)) t (newest (transitions_of (past scheme c tables)) t) refl
 
   -- whether it is known
   pub own_there_so : (t : TransactionId) → same_code t.code c ≡ true → is_known (transitions_of (past scheme c tables)) t ≡ is_some (map.get tables.initiator.transfers t)
@@ -133,19 +133,19 @@ module _ (scheme : Scheme) (c : Code) (tables : Tables) (kept : IsKept scheme c 
   foreign_status_so t other = foreign_status_of t (newest (transitions_of (past scheme c tables)) t) ∙ ap (option_map (λ (y : Incoming). y.status)) (sym (foreign_row_so t other))
 
   -- the accounts that are awaited
-  pub awaited_has_row : (n : ℕ) → is_awaited c (transitions_of (past scheme c tables)) n ≡ true → (t : TransactionId) × (acquirer.awaits n (map.get tables.acquirer.transfers t) ≡ true)
+  pub awaited_has_row : (n : ℕ) → is_awaited c (transitions_of (past scheme c tables)) n ≡ true → (t : TransactionId) × (acquirer.is_awaited_by n (map.get tables.acquirer.transfers t) ≡ true)
   awaited_has_row n h =
       let a = awaited_row scheme c (transitions_of (past scheme c tables)) n (sound_history scheme c (past scheme c tables) made_so) h in
-      (a.0, ap (acquirer.awaits n) (foreign_row_so a.0 a.1.1 ∙ ap (option_map (foreign_row a.0)) a.1.2) ∙ a.1.3)
+      (a.0, ap (acquirer.is_awaited_by n) (foreign_row_so a.0 a.1.1 ∙ ap (option_map (foreign_row a.0)) a.1.2) ∙ a.1.3)
 
-  awaiting : (n : ℕ) (t : TransactionId) (o : Option Transition) → same_code t.code c ≡ false → newest (transitions_of (past scheme c tables)) t ≡ o → acquirer.awaits n (option_map (foreign_row t) o) ≡ true
+  awaiting : (n : ℕ) (t : TransactionId) (o : Option Transition) → same_code t.code c ≡ false → newest (transitions_of (past scheme c tables)) t ≡ o → acquirer.is_awaited_by n (option_map (foreign_row t) o) ≡ true
       → is_awaited c (transitions_of (past scheme c tables)) n ≡ true
   awaiting n t None other e h = absurd (cc (h))
   awaiting n t (Some x) other e h = row_awaited c (transitions_of (past scheme c tables)) n t x other e h
 
-  pub row_is_awaited : (n : ℕ) (t : TransactionId) → acquirer.awaits n (map.get tables.acquirer.transfers t) ≡ true → is_awaited c (transitions_of (past scheme c tables)) n ≡ true
+  pub row_is_awaited : (n : ℕ) (t : TransactionId) → acquirer.is_awaited_by n (map.get tables.acquirer.transfers t) ≡ true → is_awaited c (transitions_of (past scheme c tables)) n ≡ true
   row_is_awaited n t h =
       elim (cases_Bool (same_code t.code c)) [
-        | inl own ↦ let none : false ≡ true = ap (acquirer.awaits n) (sym (own_not_foreign t own)) ∙ h in absurd (cc (none))
-        | inr other ↦ awaiting n t (newest (transitions_of (past scheme c tables)) t) other refl (ap (acquirer.awaits n) (sym (foreign_row_so t other)) ∙ h)
+        | inl own ↦ let none : false ≡ true = ap (acquirer.is_awaited_by n) (sym (own_not_foreign t own)) ∙ h in absurd (cc (none))
+        | inr other ↦ awaiting n t (newest (transitions_of (past scheme c tables)) t) other refl (ap (acquirer.is_awaited_by n) (sym (foreign_row_so t other)) ∙ h)
       ]

@@ -55,7 +55,7 @@ abbrev pub MayCarry : Effect → Initiating → Acquiring → Held → Type 0
 MayCarry (Open offer) i a held = (map.get i.transfers offer.id ≡ None) × ((blocks : List Block) → raws blocks ≡ offer.content.units → MayReserve held offer.content.account blocks)
 MayCarry (Arrive id new content) i a held = map.get a.transfers id ≡ None
 MayCarry (Forestall id) i a held = map.get a.transfers id ≡ None
-MayCarry (Complete id) i a held = (k : Content) → acquirer.content_in (map.get a.transfers id) ≡ Some k → MayCredit held k
+MayCarry (Complete id) i a held = (k : Content) → acquirer.kept_content (map.get a.transfers id) ≡ Some k → MayCredit held k
 MayCarry _ i a held = Unit {0}
 
 -- ---- what an effect leaves
@@ -82,5 +82,5 @@ Carried (Forestall id) i i' a a' held held' =
     (i' ≡ i) × (a'.code ≡ a.code) × ChangedAt id (λ x. Some (record { status = Cancelled; content = None })) a.transfers a'.transfers × (held' ≡ held)
 Carried (Complete id) i i' a a' held held' =
     (i' ≡ i) × (a'.code ≡ a.code) × ChangedAt id (option_map (acquirer.finished Completed)) a.transfers a'.transfers × (held'.accounts ≡ held.accounts)
-    × ((k : Content) → acquirer.content_in (map.get a.transfers id) ≡ Some k → (blocks : List Block) × (raws blocks ≡ k.units) × ((s : Serial) → map.get held'.lots s ≡ option_or (option_map (free_lot k.to_account) (kind_in blocks s)) (map.get held.lots s)))
+    × ((k : Content) → acquirer.kept_content (map.get a.transfers id) ≡ Some k → (blocks : List Block) × (raws blocks ≡ k.units) × ((s : Serial) → map.get held'.lots s ≡ option_or (option_map (free_lot k.to_account) (kind_in blocks s)) (map.get held.lots s)))
 Carried (Cancel id) i i' a a' held held' = (i' ≡ i) × (a'.code ≡ a.code) × ChangedAt id (option_map (acquirer.finished Cancelled)) a.transfers a'.transfers × (held' ≡ held)

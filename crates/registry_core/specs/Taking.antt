@@ -13,8 +13,8 @@ use Rattle.registry_core.specs.Kept.{IsKept}
 use Rattle.registry_core.specs.declared.tables.Tables.{Tables}
 
 -- the verdict on the input after the tables' journal
-abbrev pub due : Scheme → Code → Tables → Input → Verdict
-due scheme c tables input = verdict scheme (Registry c) (history scheme (Registry c) tables.journal.items) input
+abbrev pub verdict_due : Scheme → Code → Tables → Input → Verdict
+verdict_due scheme c tables input = verdict scheme (Registry c) (history scheme (Registry c) tables.journal.items) input
 
 -- the result is what is due, the journal has the input where it was recorded, and the tables follow the journal
 pub record Takes (scheme : Scheme) (c : Code) (tables tables' : Tables) (input : Input) (result : Result Stepped Refusal) : Type 0 where

@@ -8,7 +8,7 @@ ghost use Rattle.units.specs.declared.code.Node.TheVariants.{Registry};
 ghost use Rattle.wire.specs.declared.input.Input.TheVariants as inputs;
 ghost use Rattle.registry_core.specs.Effects.{IsEffect, IsReservable};
 ghost use Rattle.registry_core.specs.Kept.{IsKept};
-ghost use Rattle.registry_core.specs.Taking.{Takes, due};
+ghost use Rattle.registry_core.specs.Taking.{Takes, verdict_due};
 
 use crate::effect::{Effect, carry_out};
 use accounts::Holdings;
@@ -57,7 +57,7 @@ impl Tables {
         messages: Items<Message>,
     ) -> Result<Stepped, Refusal>
         requires kept { IsKept scheme.now code self.old }
-        requires row { (x : Transition) × (due scheme.now code self.old input.now ≡ enters scheme.now (history scheme.now (Registry code) self.old.journal.items) (x ∷ [])) × (messages ≡ x.messages) × IsEffect code (history scheme.now (Registry code) self.old.journal.items) input.now x effect }
+        requires row { (x : Transition) × (verdict_due scheme.now code self.old input.now ≡ enters scheme.now (history scheme.now (Registry code) self.old.journal.items) (x ∷ [])) × (messages ≡ x.messages) × IsEffect code (history scheme.now (Registry code) self.old.journal.items) input.now x effect }
         requires reservable { IsReservable effect self.old.holdings }
         ensures { Takes scheme.now code self.old self.new input.now result }
     {

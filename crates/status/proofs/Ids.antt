@@ -17,14 +17,14 @@ use Rattle.std.proofs.lemmas.Bool.{le-leb, and_parts, and_from, eq-eqb, eqb-true
 use Rattle.status.specs.Id.{id_text, is_number, number_from, id_if, id_at, same_id}
 use Rattle.status.specs.declared.id.TransactionId.{TransactionId}
 
--- behind the code of an identifier a text can be cut
+-- after the code of an identifier a text can be cut
 boundary : (t : TransactionId) → IsCharBoundary (id_text t) 2
 boundary t = let range = t.in_range in IsCharBoundary-from_drop (id_text t) 2 (omega arith) (IsUtf8-from_ascii (decimal t.number) (IsAscii-decimal t.number (omega arith)))
 
 pub no_boundary : (text : List ℕ) → (IsCharBoundary text 2 → ⊥) → (t : TransactionId) → text ≡ id_text t → ⊥
 no_boundary text never t e = never (subst (λ s. IsCharBoundary s 2) (sym e) (boundary t))
 
--- the number that stands behind the code
+-- the number that stands after the code
 pub number_behind : (text rest : List ℕ) (n : ℕ) → rest ≡ drop 2 text → IsNumberText rest n → (t : TransactionId) → text ≡ id_text t → n ≡ t.number
 number_behind text rest n behind is t e =
     let range = t.in_range in

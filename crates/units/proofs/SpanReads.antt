@@ -69,7 +69,7 @@ module _ {M : Type 0} where
       let s = line_numbered b n in
       told_none m parted ordered u (λ q up. none q (record { line = (let x = up.line in let y = j.line in omega arith); number = λ e. (let k = up.number (let y = j.line in omega arith) in omega arith) }))
 
-  -- a span that begins in the block, behind one of its units, meets it
+  -- a span that begins in the block, after one of its units, meets it
   pub meets_behind : (b : RawBlock) (at : Serial) (span : Span M) (u : Serial) (n : ℕ) → IsRange at.number span.last → has_unit b u ≡ true → u.number < at.number → line_of at ≡ line_of u → UpTo at (unit_numbered b n) → n ≤ b.last → meets b (interval_at at span) ≡ true
   meets_behind b at span u n range here lt lines up to =
       let j = block_true b u here in

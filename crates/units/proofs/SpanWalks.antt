@@ -42,7 +42,7 @@ up_to_one a b p q =
     let n = q.number (omega arith) in
     same_unit a b (omega arith) (omega arith)
 
--- what comes before the unit behind a unit is up to that one
+-- what comes before the unit after a unit is up to that one
 pub before_after : (q k : Serial) → Before q (after_unit k) → UpTo q k
 before_after q k p =
     let same = line_after k in

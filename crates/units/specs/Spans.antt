@@ -66,11 +66,11 @@ IsCutAt {M} held v = (k : Serial) (s : Span M) → held k ≡ Some s → has (in
 abbrev pub is_between : Serial → Serial → Serial → Bool
 is_between from to u = not (is_lt (unit_cmp u from)) && not (is_lt (unit_cmp to u))
 
--- the unit behind it
+-- the unit after it
 abbrev pub after_unit : Serial → Serial
 after_unit u = record { origin = u.origin; period = u.period; number = u.number + 1 }
 
--- the unit behind the block's last
+-- the unit after the block's last
 abbrev pub end_unit : RawBlock → Serial
 end_unit b = unit_numbered b (b.last + 1)
 

@@ -193,7 +193,7 @@ impl fmt::Display for RawBlock {
 impl Unit {
     ghost use Rattle.units.specs.Spans.{after_unit};
 
-    // The unit behind it.
+    // The unit after it.
     pub(crate) fn after(&self) -> Unit
         requires { self.now.number ≤ last_unit }
         ensures { result ≡ after_unit self.now }

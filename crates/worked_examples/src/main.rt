@@ -1,11 +1,13 @@
 //! Runs the examples that its words name, and tells of each whether it comes to what its folder has.
 //!
-//! An example is a folder with the file `input`, and beside it `output`, what `rehearse` writes of it, or `error`, the line of its fault.
+//! An example is a folder with the file `input`, and beside it `output`, what `rehearse` writes of it, or `error`, the line of its fault;
+//! or with the file `words`, words of a command line, and beside it `output`, the help or the version that they ask for, or `error`, what is
+//! written of wrong words, before each line gets the program's name.
 #![tactic(auto)]
 
-use operator::{OpFault, rehearse};
+use operator::{OpFault, UsageFault, parse_words, rehearse};
 use std::io::{self, Read};
-use std::{env, fs};
+use std::{env, fs, str};
 
 fn file_in(rt: &HostRuntime, folder: &str, name: &str) -> io::Result<Vec<u8>> {
     let path = format!(in rt.alloc(); "{folder}/{name}")?;
@@ -31,13 +33,44 @@ fn is_so(rt: &HostRuntime, folder: &str) -> io::Result<bool> {
     }
 }
 
+/// Whether the words, one a line, come to what the folder has.
+fn is_told(rt: &HostRuntime, folder: &str, lines: &str) -> io::Result<bool> {
+    let alloc = rt.alloc();
+    let mut words = Vec::new(alloc);
+    words.push("kyoto-link")?;
+    for word in lines.lines() {
+        words.push(word)?;
+    }
+    match parse_words(alloc, words.as_slice()) {
+        Err(UsageFault::Help(error)) => {
+            let text = format!(in alloc; "{error}")?;
+            Ok(text.as_str().as_bytes() == file_in(rt, folder, "output")?.as_slice())
+        }
+        Err(UsageFault::Usage(error)) => {
+            let text = format!(in alloc; "{error}")?;
+            Ok(text.as_str().as_bytes() == file_in(rt, folder, "error")?.as_slice())
+        }
+        _ => Ok(false),
+    }
+}
+
+fn is_as_written(rt: &HostRuntime, folder: &str) -> io::Result<bool> {
+    match file_in(rt, folder, "words") {
+        Ok(bytes) => match str::from_utf8(bytes.as_slice()) {
+            Ok(lines) => is_told(rt, folder, lines),
+            Err(_) => Ok(false),
+        },
+        Err(_) => is_so(rt, folder),
+    }
+}
+
 fn main(rt: HostRuntime) -> io::Result<()> {
     let words: Vec<String> = env::args(&rt)?.collect(rt.alloc())?;
     let Some((_, folders)) = words.as_slice().split_first() else {
         return Ok(());
     };
     for folder in folders {
-        let comes = if is_so(&rt, folder.as_str())? {
+        let comes = if is_as_written(&rt, folder.as_str())? {
             "as written"
         } else {
             "otherwise"

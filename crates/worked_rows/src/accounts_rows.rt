@@ -47,7 +47,7 @@ fn assert_refused(rt: &impl Abort, holdings: &mut Holdings, account: u64, text: 
     assert_eq!(rt; (checked, reserved), (refusal(code), refusal(code)));
 }
 
-// The transaction reserves the blocks of account 1, in which so many units are free then.
+// The transaction reserves the blocks of account 1, in which that many units are free then.
 fn assert_reserved(
     rt: &impl Abort,
     holdings: &mut Holdings,
@@ -59,13 +59,13 @@ fn assert_reserved(
     assert_eq!(rt; (reserved, holdings.free_count(1)), (Ok(()), free));
 }
 
-// After the transaction's release so many units of account 1 are free.
+// After the transaction's release that many units of account 1 are free.
 fn assert_released(rt: &impl Abort, holdings: &mut Holdings, id: TransactionId, free: u64) {
     holdings.release(id);
     assert_eq!(rt; holdings.free_count(1), free);
 }
 
-// After the transaction's removal so many units of account 1 are free.
+// After the transaction's removal that many units of account 1 are free.
 fn assert_removed(rt: &impl Abort, holdings: &mut Holdings, id: TransactionId, free: u64) {
     holdings.remove(id);
     assert_eq!(rt; holdings.free_count(1), free);

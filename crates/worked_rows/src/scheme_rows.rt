@@ -37,14 +37,14 @@ fn fault_beside_jp(
     fault(alloc, both.as_str())
 }
 
-/// The texts of that many numbers from 1 on, between `before` and `behind`.
-fn repeated(alloc: Global, count: u64, before: &str, behind: &str) -> Result<String, Fail> {
+/// The texts of that many numbers from 1 on, between `before` and `after`.
+fn repeated(alloc: Global, count: u64, before: &str, after: &str) -> Result<String, Fail> {
     let mut text = String::new(alloc);
     for i in 1..=count {
         if i > 1 {
             text.push_str(",")?;
         }
-        let next = format!(in alloc; "{before}{i}{behind}")?;
+        let next = format!(in alloc; "{before}{i}{after}")?;
         text.push_str(next.as_str())?;
     }
     Ok(text)
@@ -124,7 +124,7 @@ fn a_holder_is_found(rt: HostRuntime) -> Result<(), Fail> {
         period: Period::First,
         number: 100,
     };
-    let behind = Unit {
+    let next = Unit {
         origin: nz,
         period: Period::First,
         number: 101,
@@ -136,7 +136,7 @@ fn a_holder_is_found(rt: HostRuntime) -> Result<(), Fail> {
     };
     let scheme = worked(alloc)?;
     assert_eq!(rt; scheme.allotted(&last), Some(holder));
-    assert_eq!(rt; scheme.allotted(&behind), None);
+    assert_eq!(rt; scheme.allotted(&next), None);
     let allotments = scheme.allotments(alloc)?;
     assert_eq!(rt; allotments.get(&last), Some(holder));
     assert_eq!(rt; allotments.count_where(|_| true), 100);

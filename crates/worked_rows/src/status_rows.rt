@@ -130,7 +130,7 @@ fn the_name_of_each_status(rt: HostRuntime) {
     }
 }
 
-/// The content is for JP, and has these accounts and so many blocks.
+/// The content is for JP, and has these accounts and that many blocks.
 fn assert_content(rt: &impl Abort, content: &Content, account: u64, to_account: u64, count: usize) {
     let accounts = (content.account(), content.to_account());
     assert_eq!(rt; accounts, (account, to_account));

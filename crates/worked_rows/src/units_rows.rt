@@ -77,7 +77,7 @@ fn hundred(rt: &impl Abort, alloc: Global) -> BlockSet {
     set
 }
 
-// The set is these blocks, and has so many units.
+// The set is these blocks, and has `count` units.
 fn assert_set(rt: &impl Abort, set: &BlockSet, alloc: Global, wanted: &[Block], count: u64) {
     assert_eq!(rt; set.count(), count);
     let blocks = set.canonical(alloc).expect(rt, "memory");
@@ -117,7 +117,7 @@ fn blocks_of_a_set(rt: HostRuntime) {
     }
 }
 
-// The set has so many units, in so many intervals.
+// The set has that many units, in that many intervals.
 fn assert_size(rt: &impl Abort, set: &BlockSet, units: u64, intervals: usize) {
     assert_eq!(rt; (set.count(), set.pieces().len()), (units, intervals));
 }

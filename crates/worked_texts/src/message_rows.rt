@@ -26,13 +26,13 @@ const SIXTEEN: &str =
 /// The text with another in place of the one place where `old` stands, or `None` where it stands
 /// nowhere or more than once.
 fn changed(alloc: Global, text: &str, old: &str, new: &str) -> Result<Option<String>, Fail> {
-    let Some((before, behind)) = text.split_once(old) else {
+    let Some((before, after)) = text.split_once(old) else {
         return Ok(None);
     };
-    if behind.contains(old) {
+    if after.contains(old) {
         return Ok(None);
     }
-    Ok(Some(format!(in alloc; "{before}{new}{behind}")?))
+    Ok(Some(format!(in alloc; "{before}{new}{after}")?))
 }
 
 fn code(text: &str) -> Result<Code, Fail> {

@@ -24,8 +24,8 @@ use Rattle.protocol.specs.World.{Station, posted, sent, station, was_posted}
 use Rattle.protocol.specs.declared.event.Outcome.TheVariants.{Done, NotPossible}
 use Rattle.protocol.specs.declared.event.Posted.{Posted}
 use Rattle.node.specs.Cores.{node_of, scheme_of}
-use Rattle.world.specs.Kept.{AreKept, IsFresh, IsKept, nodes, whole}
-use Rattle.world.specs.Stations.{seen}
+use Rattle.world.specs.Kept.{AreKept, IsFresh, IsKept, nodes, world_of}
+use Rattle.world.specs.Stations.{station_of}
 use Rattle.world.specs.declared.station.Station.{Station as Kept}
 use Rattle.world.proofs.Places.{StandsAt, is_of, IsPlace, place_find, place_found, place_node, place_none, place_within, same_seen}
 use Rattle.world.proofs.PlacedStations.{placed, unplaced}
@@ -61,10 +61,10 @@ at_place scheme ss bag n at s k e is = subst (IsKept scheme bag) (sym is) (All-g
 -- ---- whether a message was posted
 
 pub marked_here : (scheme : Scheme) (ss : List Kept) (bag : List Posted) (n : Node) (at key : ℕ) (s : Kept) → AreKept scheme ss bag → Some at ≡ place scheme n → s ≡ get_or ss at s
-    → contains nat_cmp s.posted key ≡ was_posted (whole scheme ss bag) n key
+    → contains nat_cmp s.posted key ≡ was_posted (world_of scheme ss bag) n key
 marked_here scheme ss bag n at key s k e is =
     (at_place scheme ss bag n at s k e is).marked key
-    ∙ ap (λ m. was_posted (whole scheme ss bag) m key) (ap (λ (s : Kept). node_of s.core) is ∙ place_node ss n at s (found scheme ss bag n at k e))
+    ∙ ap (λ m. was_posted (world_of scheme ss bag) m key) (ap (λ (s : Kept). node_of s.core) is ∙ place_node ss n at s (found scheme ss bag n at k e))
 
 other_node : (scheme : Scheme) (n m : Node) (b : Bool) → is_node scheme n ≡ false → is_node scheme m ≡ true → (same_node m n && b) ≡ false
 other_node scheme n m b outside inside = pick (same_node m n) refl
@@ -77,7 +77,7 @@ other_node scheme n m b outside inside = pick (same_node m n) refl
     pick false e = refl
 
 -- a node that isn't of the scheme posted nothing
-pub posted_nothing : (scheme : Scheme) (ss : List Kept) (bag : List Posted) (n : Node) (key : ℕ) → AreKept scheme ss bag → None ≡ place scheme n → false ≡ was_posted (whole scheme ss bag) n key
+pub posted_nothing : (scheme : Scheme) (ss : List Kept) (bag : List Posted) (n : Node) (key : ℕ) → AreKept scheme ss bag → None ≡ place scheme n → false ≡ was_posted (world_of scheme ss bag) n key
 posted_nothing scheme ss bag n key k e =
     let outside : is_node scheme n ≡ false = sym (node_there scheme n) ∙ ap is_some (sym e) in
     sym (list_any_none (λ (p : Posted). same_node p.node n && (p.key == key)) bag
@@ -100,7 +100,7 @@ stays_core old new core keys = stays_with old new (ap scheme_of core) (ap node_o
 kept_station : (scheme : Scheme) (bag : List Posted) (old new : Kept) → Stays old new → IsKept scheme bag old → IsKept scheme bag new
 kept_station scheme bag old new same k = record {
   scheme_is = same.scheme ∙ k.scheme_is;
-  marked = λ key. same.posted key ∙ k.marked key ∙ ap (λ m. was_posted (whole scheme [] bag) m key) (sym same.node);
+  marked = λ key. same.posted key ∙ k.marked key ∙ ap (λ m. was_posted (world_of scheme [] bag) m key) (sym same.node);
 }
 
 same_nodes : (ss : List Kept) (at : ℕ) (old new : Kept) → old ≡ get_or ss at old → node_of new.core ≡ node_of old.core → map (λ (s : Kept). node_of s.core) (set ss at new) ≡ map (λ (s : Kept). node_of s.core) ss
@@ -120,7 +120,7 @@ or_false true = refl
 or_false false = refl
 
 pub one_more : (scheme : Scheme) (bag : List Posted) (p : Posted) (m : Node) (key : ℕ)
-    → was_posted (whole scheme [] (bag ++ p ∷ [])) m key ≡ (was_posted (whole scheme [] bag) m key || (same_node p.node m && (p.key == key)))
+    → was_posted (world_of scheme [] (bag ++ p ∷ [])) m key ≡ (was_posted (world_of scheme [] bag) m key || (same_node p.node m && (p.key == key)))
 one_more scheme bag p m key =
     let q : Posted → Bool = λ p. same_node p.node m && (p.key == key) in
     list_any-append q bag (p ∷ []) ∙ ap (λ b. list_any q bag || b) (or_false (q p))
@@ -131,8 +131,8 @@ kept_other scheme bag p s other k = record {
   marked = λ key.
       k.marked key
       ∙ sym (one_more scheme bag p (node_of s.core) key
-      ∙ ap (λ b. was_posted (whole scheme [] bag) (node_of s.core) key || (b && (p.key == key))) other
-      ∙ or_false (was_posted (whole scheme [] bag) (node_of s.core) key));
+      ∙ ap (λ b. was_posted (world_of scheme [] bag) (node_of s.core) key || (b && (p.key == key))) other
+      ∙ or_false (was_posted (world_of scheme [] bag) (node_of s.core) key));
 }
 
 kept_others : (scheme : Scheme) (bag : List Posted) (p : Posted) (ss : List Kept) → AllByRecursion (Differ p.node) (map (λ (s : Kept). node_of s.core) ss) → All (IsKept scheme bag) ss → All (IsKept scheme (bag ++ p ∷ [])) ss
@@ -180,35 +180,35 @@ kept_post scheme ss bag at p old new k e is core marks =
             scheme_is = ap scheme_of core ∙ one.scheme_is;
             marked = λ key.
                 marks key
-                ∙ ap (λ b. b || (p.key == key)) (one.marked key ∙ ap (λ m. was_posted (whole scheme [] bag) m key) (ap node_of (sym core)))
-                ∙ sym (one_more scheme bag p (node_of new.core) key ∙ ap (λ b. was_posted (whole scheme [] bag) (node_of new.core) key || (b && (p.key == key))) own);
+                ∙ ap (λ b. b || (p.key == key)) (one.marked key ∙ ap (λ m. was_posted (world_of scheme [] bag) m key) (ap node_of (sym core)))
+                ∙ sym (one_more scheme bag p (node_of new.core) key ∙ ap (λ b. was_posted (world_of scheme [] bag) (node_of new.core) key || (b && (p.key == key))) own);
           });
       among = All-push (λ (p : Posted). is_node scheme p.node ≡ true) bag p k.among inside;
     }
 
 -- what the node of that place sends
 sends_from : (scheme : Scheme) (ss : List Kept) (bag : List Posted) (n : Node) (at key : ℕ) (s : Kept) (o : Option Message) → AreKept scheme ss bag → Some at ≡ place scheme n → s ≡ get_or ss at s
-    → o ≡ sent (scheme_of s.core) key (seen s) → option_and_then (sent scheme key) (station (whole scheme ss bag) n) ≡ o
+    → o ≡ sent (scheme_of s.core) key (station_of s) → option_and_then (sent scheme key) (station (world_of scheme ss bag) n) ≡ o
 sends_from scheme ss bag n at key s o k e is so =
-    ap (option_and_then (sent scheme key)) (place_find ss n at s (found scheme ss bag n at k e) ∙ ap (λ (s : Kept). Some (seen s)) (sym is))
-    ∙ sym (so ∙ ap (λ z. sent z key (seen s)) (at_place scheme ss bag n at s k e is).scheme_is)
+    ap (option_and_then (sent scheme key)) (place_find ss n at s (found scheme ss bag n at k e) ∙ ap (λ (s : Kept). Some (station_of s)) (sym is))
+    ∙ sym (so ∙ ap (λ z. sent z key (station_of s)) (at_place scheme ss bag n at s k e is).scheme_is)
 
 pub posts : (scheme : Scheme) (ss : List Kept) (bag : List Posted) (n : Node) (at key : ℕ) (message : Message) (s old new : Kept) → AreKept scheme ss bag → Some at ≡ place scheme n → s ≡ get_or ss at s
-    → Some message ≡ sent (scheme_of s.core) key (seen s) → old ≡ get_or ss at old → seen new ≡ seen old
-    → after (whole scheme (set ss at new) (bag ++ record { node = n; key = key; message = message } ∷ [])) Done ≡ posted (whole scheme ss bag) n key (option_and_then (sent scheme key) (station (whole scheme ss bag) n))
+    → Some message ≡ sent (scheme_of s.core) key (station_of s) → old ≡ get_or ss at old → station_of new ≡ station_of old
+    → after (world_of scheme (set ss at new) (bag ++ record { node = n; key = key; message = message } ∷ [])) Done ≡ posted (world_of scheme ss bag) n key (option_and_then (sent scheme key) (station (world_of scheme ss bag) n))
 posts scheme ss bag n at key message s old new k e is some was same =
-    let w = whole scheme ss bag in
+    let w = world_of scheme ss bag in
     ap (λ (l : List Station). after (record w { stations = l; bag = bag ++ record { node = n; key = key; message = message } ∷ [] }) Done) (same_seen ss at old new was same)
     ∙ sym (ap (posted w n key) (sends_from scheme ss bag n at key s (Some message) k e is some))
 
-pub posts_none : (scheme : Scheme) (ss : List Kept) (bag : List Posted) (n : Node) (at key : ℕ) (s : Kept) → AreKept scheme ss bag → Some at ≡ place scheme n → s ≡ get_or ss at s → None ≡ sent (scheme_of s.core) key (seen s)
-    → after (whole scheme ss bag) NotPossible ≡ posted (whole scheme ss bag) n key (option_and_then (sent scheme key) (station (whole scheme ss bag) n))
-posts_none scheme ss bag n at key s k e is none = sym (ap (posted (whole scheme ss bag) n key) (sends_from scheme ss bag n at key s None k e is none))
+pub posts_none : (scheme : Scheme) (ss : List Kept) (bag : List Posted) (n : Node) (at key : ℕ) (s : Kept) → AreKept scheme ss bag → Some at ≡ place scheme n → s ≡ get_or ss at s → None ≡ sent (scheme_of s.core) key (station_of s)
+    → after (world_of scheme ss bag) NotPossible ≡ posted (world_of scheme ss bag) n key (option_and_then (sent scheme key) (station (world_of scheme ss bag) n))
+posts_none scheme ss bag n at key s k e is none = sym (ap (posted (world_of scheme ss bag) n key) (sends_from scheme ss bag n at key s None k e is none))
 
 pub posts_nowhere : (scheme : Scheme) (ss : List Kept) (bag : List Posted) (n : Node) (key : ℕ) → AreKept scheme ss bag → None ≡ place scheme n
-    → after (whole scheme ss bag) NotPossible ≡ posted (whole scheme ss bag) n key (option_and_then (sent scheme key) (station (whole scheme ss bag) n))
+    → after (world_of scheme ss bag) NotPossible ≡ posted (world_of scheme ss bag) n key (option_and_then (sent scheme key) (station (world_of scheme ss bag) n))
 posts_nowhere scheme ss bag n key k e =
-    sym (ap (λ o. posted (whole scheme ss bag) n key (option_and_then (sent scheme key) o)) (place_none ss n (missing scheme ss bag n k e)))
+    sym (ap (λ o. posted (world_of scheme ss bag) n key (option_and_then (sent scheme key) o)) (place_none ss n (missing scheme ss bag n k e)))
 
 -- ---- the opening world
 

@@ -13,7 +13,7 @@ use Rattle.protocol.specs.Registries.{is_node}
 use Rattle.protocol.specs.World as worlds
 use Rattle.world.specs.declared.station.Station.{Station}
 use Rattle.world.specs.Kept.{nodes}
-use Rattle.world.specs.Stations.{seen}
+use Rattle.world.specs.Stations.{station_of}
 use Rattle.world.proofs.Places.{is_of}
 use Rattle.world.proofs.Registries.{position_map}
 
@@ -32,12 +32,12 @@ unplaced scheme ss n are e = position scheme ss n are ∙ sym e
 
 -- ---- which nodes have a station
 
-found_seen : (n : Node) (ss : List Station) → is_some (find (λ (s : worlds.Station). same_node s.node n) (map seen ss)) ≡ is_some (find (λ x. same_node x n) (map (λ s. node_of s.core) ss))
+found_seen : (n : Node) (ss : List Station) → is_some (find (λ (s : worlds.Station). same_node s.node n) (map station_of ss)) ≡ is_some (find (λ x. same_node x n) (map (λ s. node_of s.core) ss))
 found_seen n [] = refl
 found_seen n (s ∷ ss) = pick (found_seen n ss) (same_node (node_of s.core) n)
   where
-    pick : is_some (find (λ (s : worlds.Station). same_node s.node n) (map seen ss)) ≡ is_some (find (λ x. same_node x n) (map (λ s. node_of s.core) ss)) → (b : Bool)
-        → is_some (cond b (Some (seen s)) (find (λ (s : worlds.Station). same_node s.node n) (map seen ss))) ≡ is_some (cond b (Some (node_of s.core)) (find (λ x. same_node x n) (map (λ s. node_of s.core) ss)))
+    pick : is_some (find (λ (s : worlds.Station). same_node s.node n) (map station_of ss)) ≡ is_some (find (λ x. same_node x n) (map (λ s. node_of s.core) ss)) → (b : Bool)
+        → is_some (cond b (Some (station_of s)) (find (λ (s : worlds.Station). same_node s.node n) (map station_of ss))) ≡ is_some (cond b (Some (node_of s.core)) (find (λ x. same_node x n) (map (λ s. node_of s.core) ss)))
     pick rest true = refl
     pick rest false = rest
 
@@ -55,5 +55,5 @@ found_node scheme Itl = refl
 found_node scheme (Registry c) = found_code c scheme.members
 
 -- each node of the scheme has its station, and no other has one
-pub there : (scheme : Scheme) (ss : List Station) (n : Node) → AreNodes scheme ss → is_some (find (λ (s : worlds.Station). same_node s.node n) (map seen ss)) ≡ is_node scheme n
+pub there : (scheme : Scheme) (ss : List Station) (n : Node) → AreNodes scheme ss → is_some (find (λ (s : worlds.Station). same_node s.node n) (map station_of ss)) ≡ is_node scheme n
 there scheme ss n are = found_seen n ss ∙ ap (λ (l : List Node). is_some (find (λ x. same_node x n) l)) are ∙ found_node scheme n

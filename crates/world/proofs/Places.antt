@@ -8,7 +8,7 @@ use Rattle.units.proofs.Same.{node_of_same}
 use Rattle.world.specs.declared.station.Station.{Station as Kept}
 use Rattle.protocol.specs.World.{Station, put_station}
 use Rattle.node.specs.Cores.{node_of}
-use Rattle.world.specs.Stations.{seen}
+use Rattle.world.specs.Stations.{station_of}
 
 -- the first station of that node is the j-th
 unfoldable pub StandsAt : List Kept → Node → ℕ → Type 0
@@ -53,40 +53,40 @@ node_from (s ∷ ss) n (suc j) d h = node_from ss n j d h.1
 pub place_node : (ss : List Kept) (n : Node) (at : ℕ) (d : Kept) → IsPlace ss n at → node_of (get_or ss at d).core ≡ n
 place_node ss n at d p = node_from ss n at d p.stands
 
-find_from : (ss : List Kept) (n : Node) (j : ℕ) (d : Kept) → StandsAt ss n j → find (λ (s : Station). same_node s.node n) (map seen ss) ≡ Some (seen (get_or ss j d))
+find_from : (ss : List Kept) (n : Node) (j : ℕ) (d : Kept) → StandsAt ss n j → find (λ (s : Station). same_node s.node n) (map station_of ss) ≡ Some (station_of (get_or ss j d))
 unfolding StandsAt
 find_from [] n j d h = absurd h
 find_from (s ∷ ss) n zero d h = rw h refl
 find_from (s ∷ ss) n (suc j) d h = rw h.0 (find_from ss n j d h.1)
 
-pub place_find : (ss : List Kept) (n : Node) (at : ℕ) (d : Kept) → IsPlace ss n at → find (λ (s : Station). same_node s.node n) (map seen ss) ≡ Some (seen (get_or ss at d))
+pub place_find : (ss : List Kept) (n : Node) (at : ℕ) (d : Kept) → IsPlace ss n at → find (λ (s : Station). same_node s.node n) (map station_of ss) ≡ Some (station_of (get_or ss at d))
 place_find ss n at d p = find_from ss n at d p.stands
 
-put_from : (ss : List Kept) (j : ℕ) (s : Kept) → StandsAt ss (node_of s.core) j → put_station (seen s) (map seen ss) ≡ map seen (set ss j s)
+put_from : (ss : List Kept) (j : ℕ) (s : Kept) → StandsAt ss (node_of s.core) j → put_station (station_of s) (map station_of ss) ≡ map station_of (set ss j s)
 unfolding StandsAt
 put_from [] j s h = absurd h
 put_from (x ∷ ss) zero s h = rw h refl
-put_from (x ∷ ss) (suc j) s h = rw h.0 (ap (λ (l : List Station). seen x ∷ l) (put_from ss j s h.1))
+put_from (x ∷ ss) (suc j) s h = rw h.0 (ap (λ (l : List Station). station_of x ∷ l) (put_from ss j s h.1))
 
 -- a station put in the place of its node's
-pub place_put : (ss : List Kept) (n : Node) (at : ℕ) (s : Kept) → node_of s.core ≡ n → IsPlace ss n at → put_station (seen s) (map seen ss) ≡ map seen (set ss at s)
+pub place_put : (ss : List Kept) (n : Node) (at : ℕ) (s : Kept) → node_of s.core ≡ n → IsPlace ss n at → put_station (station_of s) (map station_of ss) ≡ map station_of (set ss at s)
 place_put ss n at s e p = put_from ss at s (subst (λ (m : Node). StandsAt ss m at) (sym e) p.stands)
 
 -- a node of which the same is seen
-pub same_seen : (ss : List Kept) (at : ℕ) (old new : Kept) → old ≡ get_or ss at old → seen new ≡ seen old → map seen (set ss at new) ≡ map seen ss
+pub same_seen : (ss : List Kept) (at : ℕ) (old new : Kept) → old ≡ get_or ss at old → station_of new ≡ station_of old → map station_of (set ss at new) ≡ map station_of ss
 same_seen [] at old new is e = refl
-same_seen (x ∷ ss) zero old new is e = ap (λ (s : Station). s ∷ map seen ss) (e ∙ ap seen is)
-same_seen (x ∷ ss) (suc at) old new is e = ap (λ (l : List Station). seen x ∷ l) (same_seen ss at old new is e)
+same_seen (x ∷ ss) zero old new is e = ap (λ (s : Station). s ∷ map station_of ss) (e ∙ ap station_of is)
+same_seen (x ∷ ss) (suc at) old new is e = ap (λ (l : List Station). station_of x ∷ l) (same_seen ss at old new is e)
 
 -- no station of that node
-none_from : (ss : List Kept) (n : Node) (k : ℕ) → position_from (is_of n) k ss ≡ None → find (λ (s : Station). same_node s.node n) (map seen ss) ≡ None
+none_from : (ss : List Kept) (n : Node) (k : ℕ) → position_from (is_of n) k ss ≡ None → find (λ (s : Station). same_node s.node n) (map station_of ss) ≡ None
 none_from [] n k e = refl
 none_from (s ∷ ss) n k e = pick (none_from ss n (k + 1)) (same_node (node_of s.core) n) e
   where
-    pick : (position_from (is_of n) (k + 1) ss ≡ None → find (λ (s : Station). same_node s.node n) (map seen ss) ≡ None) → (b : Bool)
-        → cond b (Some k) (position_from (is_of n) (k + 1) ss) ≡ None → cond b (Some (seen s)) (find (λ (s : Station). same_node s.node n) (map seen ss)) ≡ None
+    pick : (position_from (is_of n) (k + 1) ss ≡ None → find (λ (s : Station). same_node s.node n) (map station_of ss) ≡ None) → (b : Bool)
+        → cond b (Some k) (position_from (is_of n) (k + 1) ss) ≡ None → cond b (Some (station_of s)) (find (λ (s : Station). same_node s.node n) (map station_of ss)) ≡ None
     pick rest true h = cc
     pick rest false h = rest h
 
-pub place_none : (ss : List Kept) (n : Node) → position_from (is_of n) 0 ss ≡ None → find (λ (s : Station). same_node s.node n) (map seen ss) ≡ None
+pub place_none : (ss : List Kept) (n : Node) → position_from (is_of n) 0 ss ≡ None → find (λ (s : Station). same_node s.node n) (map station_of ss) ≡ None
 place_none ss n e = none_from ss n 0 e

@@ -10,7 +10,7 @@ use Rattle.protocol.specs.World as worlds
 use Rattle.protocol.specs.World.{was_posted}
 use Rattle.protocol.specs.declared.event.Posted.{Posted}
 use Rattle.node.specs.Cores.{node_of, scheme_of}
-use Rattle.world.specs.Stations.{seen}
+use Rattle.world.specs.Stations.{station_of}
 use Rattle.world.specs.declared.station.Station.{Station}
 
 -- the nodes of a scheme: the log, then the registries in byte order
@@ -23,13 +23,13 @@ pub record IsFresh (scheme : Scheme) (s : Station) : Type 0 where
   pub none : (key : ℕ) → contains nat_cmp s.posted key ≡ false
 
 -- the world that these stations and this bag make
-abbrev pub whole : Scheme → List Station → List Posted → worlds.World
-whole scheme stations bag = record { scheme = scheme; stations = map seen stations; bag = bag }
+abbrev pub world_of : Scheme → List Station → List Posted → worlds.World
+world_of scheme stations bag = record { scheme = scheme; stations = map station_of stations; bag = bag }
 
 -- the core goes by that scheme, and the station's keys are those of its messages in the bag
 pub record IsKept (scheme : Scheme) (bag : List Posted) (s : Station) : Type 0 where
   pub scheme_is : scheme_of s.core ≡ scheme
-  pub marked : (key : ℕ) → contains nat_cmp s.posted key ≡ was_posted (whole scheme [] bag) (node_of s.core) key
+  pub marked : (key : ℕ) → contains nat_cmp s.posted key ≡ was_posted (world_of scheme [] bag) (node_of s.core) key
 
 -- each node of the scheme has its station, and nodes of the scheme alone posted messages
 pub record AreKept (scheme : Scheme) (stations : List Station) (bag : List Posted) : Type 0 where

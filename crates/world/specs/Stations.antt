@@ -5,5 +5,5 @@ use Rattle.node.specs.Cores.{journal_of, node_of}
 use Rattle.world.specs.declared.station.Station.{Station}
 
 -- its node, its journal, of which the first records are committed, and whether it runs
-abbrev pub seen : Station → worlds.Station
-seen s = record { node = node_of s.core; committed = take s.committed (journal_of s.core); tail = drop s.committed (journal_of s.core); runs = s.runs }
+abbrev pub station_of : Station → worlds.Station
+station_of s = record { node = node_of s.core; committed = take s.committed (journal_of s.core); tail = drop s.committed (journal_of s.core); runs = s.runs }

@@ -51,12 +51,12 @@ fn core_before(core: &Core, records: usize) -> Result<Core, NoMemory>
 }
 
 impl Station {
-    ghost use Rattle.world.specs.Stations.{seen};
+    ghost use Rattle.world.specs.Stations.{station_of};
 
     /// A running node with that core, which has recorded nothing. Takes no memory.
     pub(crate) fn new(alloc: Global, core: Core) -> Station
         requires { journal_of core ≡ [] }
-        ensures opens { seen result ≡ worlds.opening_station (node_of core) }
+        ensures opens { station_of result ≡ worlds.opening_station (node_of core) }
         ensures core { result.core ≡ core }
         ensures posted { (key : ℕ) → contains nat_cmp result.posted key ≡ false }
     {
@@ -70,8 +70,8 @@ impl Station {
 
     /// Takes an input, which gives the protocol's outcome. After `NoMemory` the node is as it was.
     pub(crate) fn take(&mut self, input: &Input) -> Result<Outcome, NoMemory>
-        ensures ok { IfOk result (λ o. record { station = seen self.new; outcome = o } ≡ worlds.take_input (scheme_of self.old.core) input.now (seen self.old)) }
-        ensures err { OnErr result (seen self.new ≡ seen self.old) }
+        ensures ok { IfOk result (λ o. record { station = station_of self.new; outcome = o } ≡ worlds.take_input (scheme_of self.old.core) input.now (station_of self.old)) }
+        ensures err { OnErr result (station_of self.new ≡ station_of self.old) }
         ensures scheme { scheme_of self.new.core ≡ scheme_of self.old.core }
         ensures node { node_of self.new.core ≡ node_of self.old.core }
         ensures posted { self.new.posted ≡ self.old.posted }
@@ -88,7 +88,7 @@ impl Station {
 
     /// Commits the first `count` records of the tail, where the node runs and its tail has that many.
     pub(crate) fn commit(&mut self, count: u64) -> Outcome
-        ensures value { record { station = seen self.new; outcome = result } ≡ worlds.commit count (seen self.old) }
+        ensures value { record { station = station_of self.new; outcome = result } ≡ worlds.commit count (station_of self.old) }
         ensures core { self.new.core ≡ self.old.core }
         ensures posted { self.new.posted ≡ self.old.posted }
     {
@@ -104,8 +104,8 @@ impl Station {
     /// Stops the node, where it runs and its tail has `kept` records: these are committed, and the others are lost. Only where
     /// records are lost is the journal that is left replayed. After `NoMemory` the node is as it was.
     pub(crate) fn crash(&mut self, kept: u64) -> Result<Outcome, NoMemory>
-        ensures ok { IfOk result (λ o. record { station = seen self.new; outcome = o } ≡ worlds.crash kept (seen self.old)) }
-        ensures err { OnErr result (seen self.new ≡ seen self.old) }
+        ensures ok { IfOk result (λ o. record { station = station_of self.new; outcome = o } ≡ worlds.crash kept (station_of self.old)) }
+        ensures err { OnErr result (station_of self.new ≡ station_of self.old) }
         ensures scheme { scheme_of self.new.core ≡ scheme_of self.old.core }
         ensures node { node_of self.new.core ≡ node_of self.old.core }
         ensures posted { self.new.posted ≡ self.old.posted }
@@ -126,7 +126,7 @@ impl Station {
 
     /// Starts a stopped node.
     pub(crate) fn restart(&mut self) -> Outcome
-        ensures value { record { station = seen self.new; outcome = result } ≡ worlds.restart (seen self.old) }
+        ensures value { record { station = station_of self.new; outcome = result } ≡ worlds.restart (station_of self.old) }
         ensures core { self.new.core ≡ self.old.core }
         ensures posted { self.new.posted ≡ self.old.posted }
     {
@@ -140,7 +140,7 @@ impl Station {
 
     /// The message with that key, of a running node where its record is committed.
     pub(crate) fn sent(&self, key: u64) -> Option<&Message>
-        ensures { option_copied result ≡ worlds.sent (scheme_of self.now.core) key (seen self.now) }
+        ensures { option_copied result ≡ worlds.sent (scheme_of self.now.core) key (station_of self.now) }
     {
         let key = key as usize;
         if self.runs && key < self.core.sent_by(self.committed) {
@@ -152,7 +152,7 @@ impl Station {
 
     /// The message with that key was posted. Fails with `NoMemory`, and nothing has changed.
     pub(crate) fn mark_posted(&mut self, key: u64) -> Result<(), NoMemory>
-        ensures seen { seen self.new ≡ seen self.old }
+        ensures seen { station_of self.new ≡ station_of self.old }
         ensures core { self.new.core ≡ self.old.core }
         ensures ok { OnOk result ((k : ℕ) → contains nat_cmp self.new.posted k ≡ (contains nat_cmp self.old.posted k || (key == k))) }
         ensures err { OnErr result ((k : ℕ) → contains nat_cmp self.new.posted k ≡ contains nat_cmp self.old.posted k) }

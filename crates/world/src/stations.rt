@@ -8,7 +8,7 @@ ghost use Rattle.units.specs.Keys.{code_cmp};
 ghost use Rattle.node.specs.Cores.{node_of};
 ghost use Rattle.protocol.specs.World.{opening_station};
 ghost use Rattle.world.specs.Kept.{IsFresh, nodes};
-ghost use Rattle.world.specs.Stations.{seen};
+ghost use Rattle.world.specs.Stations.{station_of};
 
 use crate::station::Station;
 use node::Core;
@@ -41,7 +41,7 @@ pub(crate) fn place_of(scheme: &Scheme, node: Node) -> Option<usize>
 
 // A station of that node, which has recorded nothing.
 fn opening_station(alloc: Global, scheme: &Scheme, node: Node) -> Result<Station, NoMemory>
-    ensures opens { IfOk result (λ s. seen s ≡ opening_station node) }
+    ensures opens { IfOk result (λ s. station_of s ≡ opening_station node) }
     ensures fresh { IfOk result (IsFresh scheme.now) }
 {
     let core = Core::new(alloc, scheme, node)?;
@@ -50,7 +50,7 @@ fn opening_station(alloc: Global, scheme: &Scheme, node: Node) -> Result<Station
 
 /// The stations of the opening world: the log, then the registries in the scheme's order.
 pub(crate) fn opening_stations(alloc: Global, scheme: &Scheme) -> Result<Vec<Station>, NoMemory>
-    ensures opens { IfOk result (λ v. map seen v.items ≡ opening_station Node.Itl ∷ map (λ m. opening_station (Node.Registry m.code)) scheme.now.members) }
+    ensures opens { IfOk result (λ v. map station_of v.items ≡ opening_station Node.Itl ∷ map (λ m. opening_station (Node.Registry m.code)) scheme.now.members) }
     ensures nodes { IfOk result (λ v. map (λ s. node_of s.core) v.items ≡ nodes scheme.now) }
     ensures fresh { IfOk result (λ v. All (IsFresh scheme.now) v.items) }
 {

@@ -11,7 +11,7 @@ ghost use Rattle.protocol.specs.Table.{due, is_due, proposal_in, proposed, trans
 ghost use Rattle.protocol.specs.World.{journal, station};
 ghost use Rattle.registry_core.specs.Registry.{past};
 ghost use Rattle.totals.specs.RegistryLines.{registry_at};
-ghost use Rattle.world.specs.Stations.{seen};
+ghost use Rattle.world.specs.Stations.{station_of};
 ghost use Rattle.world.specs.Stocks.{AreStocks, HoldsIf};
 
 use crate::station::Station;
@@ -93,7 +93,7 @@ impl World {
 
     // The station of that node, if the scheme has such a node.
     fn station(&self, node: Node) -> Option<&Station>
-        ensures seen { option_map seen (option_copied result) ≡ station self.now node }
+        ensures seen { option_map station_of (option_copied result) ≡ station self.now node }
         ensures there { is_some result ≡ is_node self.now.scheme node }
         ensures scheme { IfSome result (λ s. scheme_of s.now.core ≡ self.now.scheme) }
         ensures node { IfSome result (λ s. node_of s.now.core ≡ node) }

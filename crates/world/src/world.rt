@@ -32,13 +32,13 @@ impl Model for World {
     ghost use Rattle.std.specs.Coded.{codes};
     ghost use Rattle.scheme.specs.contracts.registries.Scheme as kept_scheme;
     ghost use Rattle.protocol.specs.World as protocol;
-    ghost use Rattle.world.specs.Kept.{AreKept, whole};
+    ghost use Rattle.world.specs.Kept.{AreKept, world_of};
 
     ghost Value = { protocol.World };
 
     ghost coded = { Prim.hlevel (codes, kept_scheme.the_row.coded) };
 
-    ghost view = { λ w. whole w.scheme w.stations.items w.bag.items };
+    ghost view = { λ w. world_of w.scheme w.stations.items w.bag.items };
 
     ghost invariant = { λ w. AreKept w.scheme w.stations.items w.bag.items };
 }

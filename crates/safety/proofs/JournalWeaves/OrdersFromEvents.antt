@@ -1,6 +1,6 @@
 -- What events lead to has an order of its records in which each is next in its turn. The order is that in which
 -- the records were committed. The invariant `Ordered` also covers the records that are not committed yet: each was
--- entered by the verdict after the earlier ones of its node. A commit puts some of them behind the order. Their
+-- entered by the verdict after the earlier ones of its node. A commit puts some of them after the order. Their
 -- messages were delivered from the bag, so they were sent by committed records.
 use Rattle.std.proofs.Common.{◌≡◌, ℕ, List, [], ◌∷◌, ◌++◌, Bool, true, false, cond, Option, Some, None, ◌⊎◌, inl, inr, refl, sym, ap, subst, ◌∙◌, append_assoc, take, drop, length, take-append-drop}
 use Rattle.std.specs.Prelude.{nat_le, is_some, option_and_then, slice_get}

@@ -43,7 +43,7 @@ use Rattle.safety.proofs.OwnersOfUnits.SumsOverRegistries.{one_or_none}
 use Rattle.safety.proofs.WayToRest.TakenMessages.{Last, Room, causal}
 use Rattle.safety.proofs.WayToRest.WakingNodes.{Reaches, reaches_on}
 
--- the transfer was brought to its end, by so many records at most at the log and at each registry, and no other was touched
+-- the transfer was brought to its end, by a limited number of records at the log and at each registry, and no other was touched
 pub record Closes (scheme : Scheme) (w : World) (t : TransactionId) (i j : ℕ) : Type 0 where
   pub world : World
   pub reaches : Reaches w world

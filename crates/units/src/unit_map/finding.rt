@@ -1,4 +1,4 @@
-//! Which interval begins before a unit, which one behind it, and which one has it.
+//! Which interval begins before a unit, which one after it, and which one has it.
 ghost use Rattle.std.specs.Prelude.{◌≡◌, true, false, Some, None, IsSome, IfSome, IfNone};
 ghost use Rattle.std.specs.BTreeMap as tree;
 ghost use Rattle.std.specs.BTreeMap.{IsOrdered};
@@ -24,7 +24,7 @@ pub(super) fn floor<M: Copy>(spans: &BTreeMap<Unit, Span<M>>, unit: Unit) -> Opt
     Some((*at, *span))
 }
 
-// The interval that begins first, of those that begin at the unit or behind it.
+// The interval that begins first, of those that begin at the unit or after it.
 pub(super) fn next<M: Copy>(spans: &BTreeMap<Unit, Span<M>>, unit: Unit) -> Option<(Unit, Span<M>)>
     ensures found { IfSome result (λ e. (tree.get unit_cmp spans.now e.0 ≡ Some e.1) × IsLeBy unit_cmp unit e.0) }
     ensures first { IfSome result (λ e. (q : Serial) → IsLeBy unit_cmp unit q → IsSome (tree.get unit_cmp spans.now q) → IsLeBy unit_cmp e.0 q) }
@@ -53,7 +53,7 @@ pub(super) fn interval_with<M: Copy>(
     }
 }
 
-// Whether the unit comes behind another one.
+// Whether the unit comes after another one.
 pub(super) fn is_past(unit: &Unit, other: &Unit) -> bool
     ensures { result ≡ is_lt (unit_cmp other.now unit.now) }
 {

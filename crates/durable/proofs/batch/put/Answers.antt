@@ -6,7 +6,7 @@ use Rattle.sqlite.specs.declared.types.Value.TheVariants.{Int, Text}
 use Rattle.durable.specs.Held.{IsInside, HasMore}
 use Rattle.durable.proofs.Steps.{put_ok, was_clean, inside_keeps}
 use Rattle.sqlite_disk.specs.Disk.{MoreFaults}
-use Rattle.durable.specs.Faults.{told}
+use Rattle.durable.specs.Faults.{store_fault_of}
 use Rattle.durable.specs.Rooms.{IsRefused}
 use Rattle.durable.specs.declared.fault.StoreFault.TheVariants.{Full}
 use Rattle.durable.proofs.NoRoom.{put-full}
@@ -45,7 +45,7 @@ returns-in_err-execute-clause-full g c clean =
     let early = was_clean was is _ c.execute.ensures.survives clean in
     let ready = c.requires.inside early in
     let same : c.from_residual.result ≡ Err c.in_err-execute.field-0.0 = search rules in
-    subst (λ r. IfErr r (λ e. told e ≡ Full → MoreFaults was.faults is.faults ⊎ IsRefused c.args.body.now)) (sym same)
+    subst (λ r. IfErr r (λ e. store_fault_of e ≡ Full → MoreFaults was.faults is.faults ⊎ IsRefused c.args.body.now)) (sym same)
     (put-full was is _ c.args.body.now c.in_err-execute.field-0.0
     (ap (λ z. Int z ∷ Text c.args.body.now ∷ []) (grind (arith, ints, c.requires.small) ∙ ap pos (c.requires.place early)))
     ready (c.in_err-execute.ensures.runs clean ready.inside))

@@ -6,7 +6,7 @@ use Rattle.sqlite.proofs.InsideLemmas.{keeps_then}
 use Rattle.durable.specs.Bodies.{items}
 use Rattle.durable.specs.Held.{HasMore}
 use Rattle.durable.proofs.Steps.{was_clean, more_then}
-use Rattle.durable.specs.Faults.{told}
+use Rattle.durable.specs.Faults.{store_fault_of}
 use Rattle.durable.specs.Rooms.{HasNoRoom, IsRefused}
 use Rattle.durable.specs.declared.fault.StoreFault.TheVariants.{Full}
 use Rattle.durable.proofs.NoRoom.{bodies_of, refused-at}
@@ -38,7 +38,7 @@ returns-in_err-put-clause-full g c clean =
     let new = state g.S.Store c.put.new.tx.conn.now in
     let up = c.loop-body.invariant.survives.counts in
     let same : c.from_residual.result ≡ Err c.in_err-put.field-0.0 = search rules in
-    subst (λ r. IfErr r (λ e. told e ≡ Full → HasNoRoom old.faults new.faults (bodies_of c.args.batch.now))) (sym same) (λ full. elim (c.in_err-put.ensures.full clean full) [
+    subst (λ r. IfErr r (λ e. store_fault_of e ≡ Full → HasNoRoom old.faults new.faults (bodies_of c.args.batch.now))) (sym same) (λ full. elim (c.in_err-put.ensures.full clean full) [
       | inl more ↦ inl (omega (arith, up, more))
       | inr refused ↦ inr (refused-at c.args.batch.now c.loop-body.body-index c.body-item.result (omega arith) (subst IsRefused (c.deref.ensures.value ∙ ap items c.body-item.is) refused))
     ])

@@ -11,4 +11,4 @@ returns-in-Some-clause-count g c clean =
     let counted = places_counted rows c.in_ok-place.field-0 store.entries (c.in_ok-place.ensures.greatest clean) in
     let it = subst (IsCount (length (slots_from 0 rows))) c.in-Some.is counted in
     let same : to_z w64 (of_z w64 c.in-Some.place) ≡ c.in-Some.place = search rules in
-    c.behind.ensures it.0 (same ∙ it.1) ∙ sym it.2
+    c.next_place.ensures it.0 (same ∙ it.1) ∙ sym it.2

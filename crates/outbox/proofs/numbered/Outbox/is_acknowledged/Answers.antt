@@ -3,7 +3,7 @@ use Rattle.std.specs.BTreeSet.{contains}
 use Rattle.std.specs.List.{slice_get}
 use Rattle.std.specs.Option.{option_copied}
 use Rattle.outbox.specs.Places.{place_cmp, place_of}
-use Rattle.outbox.specs.Sending.{is_acknowledged, Sent}
+use Rattle.outbox.specs.Sending.{is_key_acknowledged, Sent}
 use Rattle.outbox.specs.declared.place.Place.{Place}
 use Rattle.units.specs.declared.code.Node.{Node}
 use Rattle.wire.specs.declared.message.Message.{Message}
@@ -15,10 +15,10 @@ returns-in-Some c =
     ap not (c.contains.ensures ∙ ap (λ (p : Place). contains place_cmp c.self.inside.places p) (c.place.ensures ∙ ap (λ (n : Node). place_of n c.args.key) c.receiver.ensures))
     ∙ acknowledged_at c.self.inside.records.items c.self.inside.messages.items c.self.inside.places c.args.key c.in-Some.message.now c.self.invariant
     (ap (λ (l : List Message). slice_get l c.args.key) (sym c.as_slice.ensures.value) ∙ sym c.message_at.ensures ∙ ap option_copied c.in-Some.is)
-    ∙ ap (λ (l : List Sent). is_acknowledged l c.args.key) c.self.view_is
+    ∙ ap (λ (l : List Sent). is_key_acknowledged l c.args.key) c.self.view_is
 
 pub returns-in-None : goal.returns-in-None
 returns-in-None c =
     unacknowledged_past c.self.inside.records.items c.self.inside.messages.items c.args.key c.self.invariant.counted
     (ap (λ (l : List Message). slice_get l c.args.key) (sym c.as_slice.ensures.value) ∙ sym c.message_at.ensures ∙ ap option_copied c.in-None.is)
-    ∙ ap (λ (l : List Sent). is_acknowledged l c.args.key) c.self.view_is
+    ∙ ap (λ (l : List Sent). is_key_acknowledged l c.args.key) c.self.view_is

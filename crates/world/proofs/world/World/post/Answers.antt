@@ -5,7 +5,7 @@ use Rattle.protocol.specs.World.{step}
 use Rattle.protocol.specs.declared.event.Outcome.TheVariants.{Done}
 use Rattle.protocol.specs.declared.event.Posted.{Posted}
 use Rattle.node.specs.Cores.{node_of, scheme_of}
-use Rattle.world.specs.Kept.{AreKept, whole}
+use Rattle.world.specs.Kept.{AreKept, world_of}
 use Rattle.world.proofs.KeptWorlds.{found, kept_post, kept_turn, posts, posts_none, posts_nowhere}
 use Rattle.world.proofs.Places.{place_within}
 use Rattle.world.proofs.Worlds.{after, still}
@@ -41,7 +41,7 @@ pub returns-in_err-mark_posted-clause-err : goal.returns-in_err-mark_posted-clau
 returns-in_err-mark_posted-clause-err c =
     rw (← c.self.view_is)
     (on_err c.from_residual-in_err-mark_posted.result
-    (ap (whole c.self.inside.scheme (set c.self.inside.stations.items c.in-Some.at c.mark_posted.new.self)) c.in_ok-reserve.ensures.items
+    (ap (world_of c.self.inside.scheme (set c.self.inside.stations.items c.in-Some.at c.mark_posted.new.self)) c.in_ok-reserve.ensures.items
     ∙ still c.self.inside.scheme c.self.inside.stations.items c.self.inside.bag.items c.in-Some.at c.index_mut.result.now c.mark_posted.new.self c.index_mut.ensures.value c.mark_posted.ensures.seen))
 
 pub invariant_of-self-2 : goal.invariant_of-self-2
@@ -56,6 +56,6 @@ unfolding step
 returns-clause-ok c =
     let p : Posted = record { node = c.args.node; key = c.args.key; message = c.in-Some-2.message } in
     rw (← c.self.view_is)
-    (ap (λ (bag : List Posted). after (whole c.self.inside.scheme (set c.self.inside.stations.items c.in-Some.at c.mark_posted.new.self) bag) Done) (c.push_reserved.ensures.items ∙ ap (λ (l : List Posted). l ++ p ∷ []) c.in_ok-reserve.ensures.items)
+    (ap (λ (bag : List Posted). after (world_of c.self.inside.scheme (set c.self.inside.stations.items c.in-Some.at c.mark_posted.new.self) bag) Done) (c.push_reserved.ensures.items ∙ ap (λ (l : List Posted). l ++ p ∷ []) c.in_ok-reserve.ensures.items)
     ∙ posts c.self.inside.scheme c.self.inside.stations.items c.self.inside.bag.items c.args.node c.in-Some.at c.args.key c.in-Some-2.message c.index.result.now c.index_mut.result.now c.mark_posted.new.self c.self.invariant c.in-Some.ensures c.index.ensures (sym c.in-Some-2.is ∙ c.in_ok-message.ensures ∙ c.sent.ensures)
     c.index_mut.ensures.value c.mark_posted.ensures.seen)

@@ -1,8 +1,8 @@
 use Rattle.std.proofs.Common.{Some, is_some, arith, sym, ap, ◌∙◌}
 use Rattle.std.proofs.lemmas.List.Elements.{All-get_or}
 use Rattle.node.specs.Cores.{node_of, scheme_of}
-use Rattle.world.specs.Kept.{IsKept, whole}
-use Rattle.world.specs.Stations.{seen}
+use Rattle.world.specs.Kept.{IsKept, world_of}
+use Rattle.world.specs.Stations.{station_of}
 use Rattle.world.proofs.PlacedStations.{placed, there, unplaced}
 use Rattle.world.proofs.Places.{place_find, place_found, place_node, place_none, place_within}
 use Rattle.world.proofs.RegistriesInWorlds.{live_none}
@@ -23,7 +23,7 @@ pub returns-in_err-at-clause-none : goal.returns-in_err-at-clause-none
 returns-in_err-at-clause-none c =
     let inside = c.self.inside in
     let none = place_none inside.stations.items c.args.node (unplaced inside.scheme inside.stations.items c.args.node c.self.invariant.nodes_are c.in_err-at.ensures) in
-    rw (← c.self.view_is, c.from_residual.ensures) (live_none (whole inside.scheme inside.stations.items inside.bag.items) c.args.node none)
+    rw (← c.self.view_is, c.from_residual.ensures) (live_none (world_of inside.scheme inside.stations.items inside.bag.items) c.args.node none)
 
 pub index-requires : goal.index-requires
 index-requires c =
@@ -35,7 +35,7 @@ pub returns-clause-seen : goal.returns-clause-seen
 returns-clause-seen c =
     let inside = c.self.inside in
     let place = place_found inside.stations.items c.args.node c.in_ok-at.at (placed inside.scheme inside.stations.items c.args.node c.in_ok-at.at c.self.invariant.nodes_are c.in_ok-at.ensures) in
-    rw (← c.self.view_is) (ap (λ s. Some (seen s)) c.index.ensures ∙ sym (place_find inside.stations.items c.args.node c.in_ok-at.at c.index.result.now place))
+    rw (← c.self.view_is) (ap (λ s. Some (station_of s)) c.index.ensures ∙ sym (place_find inside.stations.items c.args.node c.in_ok-at.at c.index.result.now place))
 
 pub returns-clause-there : goal.returns-clause-there
 returns-clause-there c =

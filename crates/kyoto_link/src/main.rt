@@ -97,8 +97,9 @@ fn refuse(rt: &HostRuntime, error: &Error) -> ExitCode {
     ExitCode::from(WRONG_WORDS)
 }
 
-fn ended(rt: &HostRuntime, result: Result<(), OpFault>) -> ExitCode {
-    match result {
+/// The exit status of an action, whose fault is written on standard error.
+fn ended(rt: &HostRuntime, done: Result<(), OpFault>) -> ExitCode {
+    match done {
         Ok(()) => ExitCode::SUCCESS,
         Err(fault) => report(rt, fault),
     }

@@ -114,6 +114,17 @@ def run(words, given, taken):
     return spent, used.ru_maxrss * 1024
 
 
+def write_lines(path, lines):
+    """Writes the lines one by one, so that this process stays small: what a process peaked at before it became another program
+    counts for that one too."""
+    count = 0
+    with path.open("w", encoding="utf-8") as output:
+        for line in lines:
+            output.write(f"{line}\n")
+            count += 1
+    return count
+
+
 def check_output(path, name, events):
     """Each event has its line and isn't refused, and the last line is the report's."""
     with path.open(encoding="utf-8") as output:
@@ -130,13 +141,12 @@ def measure(name, lines_of, largest, runs, room):
     kept, before = True, None
     given, taken = room / "input", room / "output"
     for size in (largest // 4, largest // 2, largest):
-        lines = list(lines_of(size))
-        given.write_text("".join(f"{line}\n" for line in lines), encoding="utf-8")
+        count = write_lines(given, lines_of(size))
         length = given.stat().st_size
         if length > LONGEST_INPUT:
             sys.exit(f"{name}: an input of {length:,} bytes is too long")
         run([PROGRAM, "rehearse"], given, taken)
-        check_output(taken, name, len(lines) - 1)
+        check_output(taken, name, count - 1)
         measured = [run([PROGRAM, "rehearse"], given, taken) for _ in range(runs)]
         best = min(spent for spent, _ in measured)
         memory = max(peak for _, peak in measured) / length

@@ -1,4 +1,5 @@
--- How many entries of maps pass tests: if at each key one map's entry counts as much as those of two others together, so do all.
+-- How many entries of maps pass tests: if at each key one map's entry counts as much as those of two others together,
+-- so do all.
 use Rattle.std.proofs.Common.{◌≡◌, ℕ, ◌+◌, ◌<◌, List, [], ◌∷◌, ◌++◌, map, Bool, true, false, true≢false, is_some, ◌&&◌, not, cond, T, Option, Some, None, refl, sym, ap, ◌∙◌, subst, arith, inl, inr}
 use Rattle.std.specs.declared.cmp.Ordering.{Ordering}
 use Rattle.std.specs.declared.cmp.Ordering.TheVariants.{Less, Equal, Greater}

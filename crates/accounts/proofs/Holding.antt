@@ -1,4 +1,4 @@
--- How units are held, by tests of their lots.
+-- How units are held, by tests of their unit holdings.
 use Rattle.std.proofs.Common.{◌≡◌, ◌≢◌, ℕ, ◌<◌, List, Bool, true, true≢false, ◌&&◌, eqb, Option, Some, None, IsSome, is_none, refl, sym, ap, ◌∙◌, eq-eqb}
 use Rattle.std.specs.FinMap.{FinMap, get, get-entries, entries, entries_sorted}
 use Rattle.std.specs.Option.{option_map}
@@ -14,31 +14,31 @@ use Rattle.units.specs.declared.block.Unit.{Unit as Serial}
 use Rattle.status.specs.declared.id.TransactionId.{TransactionId}
 use Rattle.accounts.specs.Holdings.{Held}
 use Rattle.accounts.specs.Refusals.{IsHeldAs, AreHeld, IsReserved, HasUnits}
-use Rattle.accounts.specs.declared.lot.Lot.{Lot}
+use Rattle.accounts.specs.declared.unit_holding.UnitHolding.{UnitHolding}
 use Rattle.units.proofs.BlockLists.{kind_from, passed}
 use Rattle.units.proofs.UnitKeys.{units_total, exact_units}
 use Rattle.accounts.specs.Tables.{is_in}
 use Rattle.accounts.proofs.Blocks.{covered}
 use Rattle.accounts.proofs.Counts.{count_of, some_counted, counted_some}
 
-abbrev pub is_held_as : ℕ → Kind → Lot → Bool
-is_held_as account k lot = eqb lot.account account && sameb kind.the_type lot.kind k
+abbrev pub is_held_as : ℕ → Kind → UnitHolding → Bool
+is_held_as account k unit_holding = eqb unit_holding.account account && sameb kind.the_type unit_holding.kind k
 
-pub held_as : (held : Held) (account : ℕ) (k : Kind) (s : Serial) → option_map (is_held_as account k) (get held.lots s) ≡ Some true → IsHeldAs held account k s
+pub held_as : (held : Held) (account : ℕ) (k : Kind) (s : Serial) → option_map (is_held_as account k) (get held.unit_holdings s) ≡ Some true → IsHeldAs held account k s
 held_as held account k s e =
-    let h = passed (is_held_as account k) (get held.lots s) e in
+    let h = passed (is_held_as account k) (get held.unit_holdings s) e in
     let two = and_parts (eqb h.0.account account) (sameb kind.the_type h.0.kind k) h.2 in
-    record { lot = h.0; is = h.1; account_is = eqb-true h.0.account account two.0; kind_is = kind_from h.0.kind k two.1 }
+    record { unit_holding = h.0; is = h.1; account_is = eqb-true h.0.account account two.0; kind_is = kind_from h.0.kind k two.1 }
 
-passes_held : (held : Held) (account : ℕ) (k : Kind) (s : Serial) → IsHeldAs held account k s → option_map (is_held_as account k) (get held.lots s) ≡ Some true
+passes_held : (held : Held) (account : ℕ) (k : Kind) (s : Serial) → IsHeldAs held account k s → option_map (is_held_as account k) (get held.unit_holdings s) ≡ Some true
 passes_held held account k s h =
-    ap (option_map (is_held_as account k)) h.is ∙ ap Some (and_from (eqb h.lot.account account) (sameb kind.the_type h.lot.kind k) (eq-eqb h.lot.account account h.account_is) (true_same kind.the_type h.lot.kind k h.kind_is))
+    ap (option_map (is_held_as account k)) h.is ∙ ap Some (and_from (eqb h.unit_holding.account account) (sameb kind.the_type h.unit_holding.kind k) (eq-eqb h.unit_holding.account account h.account_is) (true_same kind.the_type h.unit_holding.kind k h.kind_is))
 
-pub not_held : (held : Held) (account : ℕ) (k : Kind) (s : Serial) (lots : FinMap unit_cmp Lot) → lots ≡ held.lots → option_map (is_held_as account k) (get lots s) ≢ Some true → IsHeldAs held account k s → ⊥
-not_held held account k s lots same no' h = no' (ap (λ m. option_map (is_held_as account k) (get m s)) same ∙ passes_held held account k s h)
+pub not_held : (held : Held) (account : ℕ) (k : Kind) (s : Serial) (unit_holdings : FinMap unit_cmp UnitHolding) → unit_holdings ≡ held.unit_holdings → option_map (is_held_as account k) (get unit_holdings s) ≢ Some true → IsHeldAs held account k s → ⊥
+not_held held account k s unit_holdings same no' h = no' (ap (λ m. option_map (is_held_as account k) (get m s)) same ∙ passes_held held account k s h)
 
-abbrev pub is_unreserved : Lot → Bool
-is_unreserved lot = is_none lot.reserving
+abbrev pub is_unreserved : UnitHolding → Bool
+is_unreserved unit_holding = is_none unit_holding.reserving
 
 none_of : (o : Option TransactionId) → is_none o ≡ true → o ≡ None
 none_of None e = refl
@@ -48,23 +48,23 @@ some_of : (o : Option TransactionId) → (is_none o ≡ true → ⊥) → IsSome
 some_of None no' = absurd (no' refl)
 some_of (Some x) no' = refl
 
--- a lot whose unit passes is free
-pub free_from : (held : Held) (s : Serial) (lot : Lot) → option_map is_unreserved (get held.lots s) ≡ Some true → get held.lots s ≡ Some lot → lot.reserving ≡ None
-free_from held s lot e is = none_of lot.reserving (same_Some (is_none lot.reserving) true (ap (option_map is_unreserved) (sym is) ∙ e))
+-- a unit holding whose unit passes is free
+pub free_from : (held : Held) (s : Serial) (unit_holding : UnitHolding) → option_map is_unreserved (get held.unit_holdings s) ≡ Some true → get held.unit_holdings s ≡ Some unit_holding → unit_holding.reserving ≡ None
+free_from held s unit_holding e is = none_of unit_holding.reserving (same_Some (is_none unit_holding.reserving) true (ap (option_map is_unreserved) (sym is) ∙ e))
 
 -- a held unit that doesn't pass is reserved
-pub reserved_from : (held : Held) (account : ℕ) (blocks : List Block) → AreHeld held account blocks → (s : Serial) → covers blocks s ≡ true → option_map is_unreserved (get held.lots s) ≢ Some true → IsReserved held blocks
+pub reserved_from : (held : Held) (account : ℕ) (blocks : List Block) → AreHeld held account blocks → (s : Serial) → covers blocks s ≡ true → option_map is_unreserved (get held.unit_holdings s) ≢ Some true → IsReserved held blocks
 reserved_from held account blocks all s h no' =
     let b = covered blocks s h in
-    let lot = all b.0 s b.1 in
-    record { unit = s; lot = lot.lot; of = h; is = lot.is; reserved = some_of lot.lot.reserving (λ e. no' (ap (option_map is_unreserved) lot.is ∙ ap Some e)) }
+    let unit_holding = all b.0 s b.1 in
+    record { unit = s; unit_holding = unit_holding.unit_holding; of = h; is = unit_holding.is; reserved = some_of unit_holding.unit_holding.reserving (λ e. no' (ap (option_map is_unreserved) unit_holding.is ∙ ap Some e)) }
 
 -- an account has units where some are counted
-pub units_counted : (held : Held) (account : ℕ) → 0 < count_of (is_in account) (entries held.lots) → HasUnits held account
+pub units_counted : (held : Held) (account : ℕ) → 0 < count_of (is_in account) (entries held.unit_holdings) → HasUnits held account
 units_counted held account lt =
-    let w = some_counted unit_cmp units_total exact_units (is_in account) (entries held.lots) (entries_sorted held.lots) lt in
-    record { unit = w.0; lot = w.1; is = get-entries held.lots w.0 ∙ w.2; account_is = eqb-true w.1.account account w.3 }
+    let w = some_counted unit_cmp units_total exact_units (is_in account) (entries held.unit_holdings) (entries_sorted held.unit_holdings) lt in
+    record { unit = w.0; unit_holding = w.1; is = get-entries held.unit_holdings w.0 ∙ w.2; account_is = eqb-true w.1.account account w.3 }
 
-pub counted_units : (held : Held) (account : ℕ) → HasUnits held account → 0 < count_of (is_in account) (entries held.lots)
+pub counted_units : (held : Held) (account : ℕ) → HasUnits held account → 0 < count_of (is_in account) (entries held.unit_holdings)
 counted_units held account h =
-    counted_some unit_cmp units_total exact_units (is_in account) h.unit h.lot (entries held.lots) (entries_sorted held.lots) (sym (get-entries held.lots h.unit) ∙ h.is) (eq-eqb h.lot.account account h.account_is)
+    counted_some unit_cmp units_total exact_units (is_in account) h.unit h.unit_holding (entries held.unit_holdings) (entries_sorted held.unit_holdings) (sym (get-entries held.unit_holdings h.unit) ∙ h.is) (eq-eqb h.unit_holding.account account h.account_is)

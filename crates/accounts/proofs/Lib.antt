@@ -1,5 +1,5 @@
 pub mod Same
-pub mod Standings
+pub mod AccountStatuses
 pub mod Reserving
 pub mod Blocks
 pub mod Holding
@@ -8,4 +8,4 @@ pub mod Parts
 pub mod Shares
 pub mod OneUnit
 pub mod InStep
-pub mod LotCounts
+pub mod UnitHoldingCounts

@@ -8,14 +8,14 @@ use Rattle.std.proofs.lemmas.Option.{same_Some}
 use Rattle.std.proofs.lemmas.List.Sums.{sum_by-cons}
 use Rattle.units.specs.Apart.{AllApart, AreApart}
 use Rattle.units.specs.Canonical.{interval_of}
-use Rattle.units.specs.Intervals.{AreKept, mark_at, marks_of, size}
+use Rattle.units.specs.Intervals.{AreKept, label_at, labels_of, size}
 use Rattle.units.specs.Unit.{has_unit, covers}
 use Rattle.units.specs.declared.block.Block.{Block}
 use Rattle.units.specs.declared.block.Kind.{Kind}
 use Rattle.units.specs.declared.block.Unit.{Unit as Serial}
 use Rattle.units.specs.declared.interval.Interval.{Interval}
-use Rattle.units.proofs.CountingUnits.{weight, passing_marks, sizes_bound}
-use Rattle.units.proofs.Marks.{get-marks_of}
+use Rattle.units.proofs.CountingUnits.{weight, passing_labels, sizes_bound}
+use Rattle.units.proofs.Labels.{get-labels_of}
 use Rattle.accounts.specs.Holdings.{kind_in}
 use Rattle.accounts.specs.Refusals.{IsUnitOf}
 use Rattle.accounts.specs.Tables.{units_in}
@@ -30,23 +30,23 @@ Others b bs = AllByRecursion (λ (c : Block). AreApart b.raw c.raw) bs
 
 -- ---- blocks that share no unit, and intervals that don't
 
-none_marked : (b : Block) (bs : List Block) (s : Serial) → Others b bs → has_unit b.raw s ≡ true → mark_at (intervals_of bs) s ≡ None
-none_marked b [] s apart h = refl
-none_marked b (c ∷ bs) s apart h = rw (false_from_ne_true (has_unit c.raw s) (apart.0 s h)) (none_marked b bs s apart.1 h)
+none_labelled : (b : Block) (bs : List Block) (s : Serial) → Others b bs → has_unit b.raw s ≡ true → label_at (intervals_of bs) s ≡ None
+none_labelled b [] s apart h = refl
+none_labelled b (c ∷ bs) s apart h = rw (false_from_ne_true (has_unit c.raw s) (apart.0 s h)) (none_labelled b bs s apart.1 h)
 
 pub kept_from_apart : (bs : List Block) → AllApart bs → AreKept (intervals_of bs)
 kept_from_apart [] apart = tt
-kept_from_apart (b ∷ bs) apart = (b.in_range, λ s h. none_marked b bs s apart.0 h, kept_from_apart bs apart.1)
+kept_from_apart (b ∷ bs) apart = (b.in_range, λ s h. none_labelled b bs s apart.0 h, kept_from_apart bs apart.1)
 
 first_none : (t : Bool) (k : Kind) (o : Option Kind) → cond t (Some k) o ≡ None → (t ≡ false) × (o ≡ None)
 first_none true k o e = absurd (cc (e))
 first_none false k o e = (refl, e)
 
-others_from : (b : Block) (bs : List Block) → ((s : Serial) → has_unit b.raw s ≡ true → mark_at (intervals_of bs) s ≡ None) → Others b bs
+others_from : (b : Block) (bs : List Block) → ((s : Serial) → has_unit b.raw s ≡ true → label_at (intervals_of bs) s ≡ None) → Others b bs
 others_from b [] none = tt
 others_from b (c ∷ bs) none = (
-  λ s h k. true≢false (sym k ∙ (first_none (has_unit c.raw s) c.raw.kind (mark_at (intervals_of bs) s) (none s h)).0),
-  others_from b bs (λ s h. (first_none (has_unit c.raw s) c.raw.kind (mark_at (intervals_of bs) s) (none s h)).1),
+  λ s h k. true≢false (sym k ∙ (first_none (has_unit c.raw s) c.raw.kind (label_at (intervals_of bs) s) (none s h)).0),
+  others_from b bs (λ s h. (first_none (has_unit c.raw s) c.raw.kind (label_at (intervals_of bs) s) (none s h)).1),
 )
 
 pub apart_from_kept : (bs : List Block) → AreKept (intervals_of bs) → AllApart bs
@@ -55,14 +55,14 @@ apart_from_kept (b ∷ bs) kept = (others_from b bs kept.1, apart_from_kept bs k
 
 -- ---- the kinds of their units
 
-pub kind_marked : (bs : List Block) (s : Serial) → mark_at (intervals_of bs) s ≡ kind_in bs s
-kind_marked [] s = refl
-kind_marked (b ∷ bs) s = elim (cases_Bool (has_unit b.raw s)) [
+pub kind_labelled : (bs : List Block) (s : Serial) → label_at (intervals_of bs) s ≡ kind_in bs s
+kind_labelled [] s = refl
+kind_labelled (b ∷ bs) s = elim (cases_Bool (has_unit b.raw s)) [
   | inl yes' ↦ rw yes' refl
-  | inr no' ↦ rw no' (kind_marked bs s)
+  | inr no' ↦ rw no' (kind_labelled bs s)
 ]
 
-pub there_covered : (bs : List Block) (s : Serial) → is_some (mark_at (intervals_of bs) s) ≡ covers bs s
+pub there_covered : (bs : List Block) (s : Serial) → is_some (label_at (intervals_of bs) s) ≡ covers bs s
 there_covered [] s = refl
 there_covered (b ∷ bs) s = elim (cases_Bool (has_unit b.raw s)) [
   | inl yes' ↦ rw yes' refl
@@ -74,15 +74,15 @@ at P [] i x all lt is = absurd (omega arith)
 at P (y ∷ ys) zero x all lt is = subst P (sym is) all.0
 at P (y ∷ ys) (suc i) x all lt is = at P ys i x all.1 (omega arith) is
 
-marked_at : (bs : List Block) (b : Block) (s : Serial) → AllApart bs → (m : IsAmong bs b) → has_unit b.raw s ≡ true → mark_at (intervals_of bs) s ≡ Some b.raw.kind
-marked_at [] b s apart m h = absurd (omega (arith, m.1.0))
-marked_at (a ∷ bs) b s apart (zero, (lt, e)) h = rw (ap (λ (c : Block). has_unit c.raw s) (sym e) ∙ h) (ap (λ (c : Block). Some c.raw.kind) (sym e))
-marked_at (a ∷ bs) b s apart (suc i, (lt, e)) h =
-    rw (false_from_ne_true (has_unit a.raw s) (λ y. at (λ (c : Block). AreApart a.raw c.raw) bs i b apart.0 (omega (arith, lt)) e s y h)) (marked_at bs b s apart.1 (i, (omega (arith, lt), e)) h)
+labelled_at : (bs : List Block) (b : Block) (s : Serial) → AllApart bs → (m : IsAmong bs b) → has_unit b.raw s ≡ true → label_at (intervals_of bs) s ≡ Some b.raw.kind
+labelled_at [] b s apart m h = absurd (omega (arith, m.1.0))
+labelled_at (a ∷ bs) b s apart (zero, (lt, e)) h = rw (ap (λ (c : Block). has_unit c.raw s) (sym e) ∙ h) (ap (λ (c : Block). Some c.raw.kind) (sym e))
+labelled_at (a ∷ bs) b s apart (suc i, (lt, e)) h =
+    rw (false_from_ne_true (has_unit a.raw s) (λ y. at (λ (c : Block). AreApart a.raw c.raw) bs i b apart.0 (omega (arith, lt)) e s y h)) (labelled_at bs b s apart.1 (i, (omega (arith, lt), e)) h)
 
 -- the kind of a unit is that of its block
-pub marked : (bs : List Block) (b : Block) (s : Serial) → AllApart bs → IsUnitOf bs b s → mark_at (intervals_of bs) s ≡ Some b.raw.kind
-marked bs b s apart of = marked_at bs b s apart of.among of.has
+pub labelled : (bs : List Block) (b : Block) (s : Serial) → AllApart bs → IsUnitOf bs b s → label_at (intervals_of bs) s ≡ Some b.raw.kind
+labelled bs b s apart of = labelled_at bs b s apart of.among of.has
 
 -- ---- how many units they have
 
@@ -98,12 +98,12 @@ no_weight [] = refl
 no_weight (i ∷ is) = let one = sum_by-cons (weight (λ (k : Kind). false)) i is in let rest = no_weight is in omega (arith, one, rest)
 
 -- all units of the blocks, or none, by the map from units to kinds that they mean
-pub kinds_counted : (bs : List Block) → AllApart bs → (b : Bool) → count_of (λ (k : Kind). b) (entries (marks_of (intervals_of bs))) ≡ cond b (units_in bs) 0
-kinds_counted bs apart true = passing_marks (λ (k : Kind). true) (intervals_of bs) (kept_from_apart bs apart) ∙ units_sum bs
-kinds_counted bs apart false = passing_marks (λ (k : Kind). false) (intervals_of bs) (kept_from_apart bs apart) ∙ no_weight (intervals_of bs)
+pub kinds_counted : (bs : List Block) → AllApart bs → (b : Bool) → count_of (λ (k : Kind). b) (entries (labels_of (intervals_of bs))) ≡ cond b (units_in bs) 0
+kinds_counted bs apart true = passing_labels (λ (k : Kind). true) (intervals_of bs) (kept_from_apart bs apart) ∙ units_sum bs
+kinds_counted bs apart false = passing_labels (λ (k : Kind). false) (intervals_of bs) (kept_from_apart bs apart) ∙ no_weight (intervals_of bs)
 
-pub get_kinds : (bs : List Block) (s : Serial) → get (marks_of (intervals_of bs)) s ≡ kind_in bs s
-get_kinds bs s = get-marks_of (intervals_of bs) s ∙ kind_marked bs s
+pub get_kinds : (bs : List Block) (s : Serial) → get (labels_of (intervals_of bs)) s ≡ kind_in bs s
+get_kinds bs s = get-labels_of (intervals_of bs) s ∙ kind_labelled bs s
 
 -- ---- one block more
 
@@ -129,7 +129,7 @@ kind_found (b ∷ bs) s k e = elim (cases_Bool (has_unit b.raw s)) [
 ]
 
 pub kind_covered : (bs : List Block) (s : Serial) → is_some (kind_in bs s) ≡ covers bs s
-kind_covered bs s = ap is_some (sym (kind_marked bs s)) ∙ there_covered bs s
+kind_covered bs s = ap is_some (sym (kind_labelled bs s)) ∙ there_covered bs s
 
 -- ---- blocks of two lists
 

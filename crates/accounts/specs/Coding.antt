@@ -6,12 +6,12 @@ use Rattle.std.specs.Ordering.{nat_cmp}
 use Rattle.units.specs.Keys.{unit_cmp}
 use Rattle.units.specs.contracts.block.Unit as serial
 use Rattle.accounts.specs.Holdings.{Held}
-use Rattle.accounts.specs.contracts.lot.Lot as lot
-use Rattle.accounts.specs.contracts.lot.Standing as standing
-use Rattle.accounts.specs.declared.lot.Lot.{Lot}
-use Rattle.accounts.specs.declared.lot.Standing.{Standing}
+use Rattle.accounts.specs.contracts.unit_holding.UnitHolding as unit_holding
+use Rattle.accounts.specs.contracts.unit_holding.AccountStatus as account_status
+use Rattle.accounts.specs.declared.unit_holding.UnitHolding.{UnitHolding}
+use Rattle.accounts.specs.declared.unit_holding.AccountStatus.{AccountStatus}
 
 -- as the pair of the two maps
 abbrev pub held_code : Coded Held
 held_code =
-    code_by (map.FinMap nat_cmp Standing × map.FinMap unit_cmp Lot) (coded× (map.code coded_ℕ standing.the_row.coded) (map.code serial.the_row.coded lot.the_row.coded)) (λ h. (h.accounts, h.lots)) (λ p. record { accounts = p.0; lots = p.1 }) (λ _. refl)
+    code_by (map.FinMap nat_cmp AccountStatus × map.FinMap unit_cmp UnitHolding) (coded× (map.code coded_ℕ account_status.the_row.coded) (map.code serial.the_row.coded unit_holding.the_row.coded)) (λ h. (h.accounts, h.unit_holdings)) (λ p. record { accounts = p.0; unit_holdings = p.1 }) (λ _. refl)

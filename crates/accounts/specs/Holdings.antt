@@ -10,45 +10,45 @@ use Rattle.units.specs.declared.block.Kind.{Kind}
 use Rattle.units.specs.declared.block.Unit.{Unit as Serial}
 use Rattle.status.specs.Id.{same_id}
 use Rattle.status.specs.declared.id.TransactionId.{TransactionId}
-use Rattle.accounts.specs.declared.lot.Lot.{Lot}
-use Rattle.accounts.specs.declared.lot.Standing.{Standing}
-use Rattle.accounts.specs.declared.lot.Standing.TheVariants.{Open, Closed}
+use Rattle.accounts.specs.declared.unit_holding.UnitHolding.{UnitHolding}
+use Rattle.accounts.specs.declared.unit_holding.AccountStatus.{AccountStatus}
+use Rattle.accounts.specs.declared.unit_holding.AccountStatus.TheVariants.{Open, Closed}
 
 -- the accounts, each open or closed, and what each unit that is held is held as
 pub record Held : Type 0 where
-  pub accounts : map.FinMap nat_cmp Standing
-  pub lots : map.FinMap unit_cmp Lot
+  pub accounts : map.FinMap nat_cmp AccountStatus
+  pub unit_holdings : map.FinMap unit_cmp UnitHolding
 
 -- held in the account, of the kind, and reserved by none
-abbrev pub free_lot : ℕ → Kind → Lot
-free_lot account kind = record { account = account; kind = kind; reserving = None }
+abbrev pub free_unit_holding : ℕ → Kind → UnitHolding
+free_unit_holding account kind = record { account = account; kind = kind; reserving = None }
 
 -- the transaction is the one
 abbrev pub is_the : TransactionId → Option TransactionId → Bool
 is_the id None = false
 is_the id (Some other) = same_id other id
 
--- the transaction reserves the lot
-abbrev pub is_reserved_by : TransactionId → Lot → Bool
-is_reserved_by id lot = is_the id lot.reserving
+-- the transaction reserves the unit holding
+abbrev pub is_reserved_by : TransactionId → UnitHolding → Bool
+is_reserved_by id unit_holding = is_the id unit_holding.reserving
 
--- the lot as the transaction reserves it
-abbrev pub reserved : TransactionId → Lot → Lot
-reserved id lot = record lot { reserving = Some id }
+-- the unit holding as the transaction reserves it
+abbrev pub reserved : TransactionId → UnitHolding → UnitHolding
+reserved id unit_holding = record unit_holding { reserving = Some id }
 
--- the lot when the transaction has let it go
-abbrev pub released : TransactionId → Lot → Lot
-released id lot = if is_reserved_by id lot then record lot { reserving = None } else lot
+-- the unit holding when the transaction has let it go
+abbrev pub released : TransactionId → UnitHolding → UnitHolding
+released id unit_holding = if is_reserved_by id unit_holding then record unit_holding { reserving = None } else unit_holding
 
 -- in the account, and reserved by none
-abbrev pub is_free_in : ℕ → Lot → Bool
-is_free_in account lot = lot.account == account && is_none lot.reserving
+abbrev pub is_free_in : ℕ → UnitHolding → Bool
+is_free_in account unit_holding = unit_holding.account == account && is_none unit_holding.reserving
 
 -- the kind that the first of the blocks with the unit gives it
 abbrev pub kind_in : List Block → Serial → Option Kind
 kind_in blocks unit = option_map (λ b. b.raw.kind) (find (λ b. has_unit b.raw unit) blocks)
 
 -- an account so may take part in transfers
-abbrev pub is_open : Standing → Bool
+abbrev pub is_open : AccountStatus → Bool
 is_open Open = true
 is_open Closed = false

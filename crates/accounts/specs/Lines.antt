@@ -1,26 +1,27 @@
--- The holdings as lines: blocks of an account with one mark.
+-- The holdings as lines: blocks of an account with one label.
 use Rattle.std.specs.Prelude.{◌≡◌, List, map}
 use Rattle.std.specs.FinMap.{get}
 use Rattle.units.specs.Canonical.{AreCanonical}
-use Rattle.units.specs.Intervals.{mark_at, AreKept}
+use Rattle.units.specs.Intervals.{label_at, AreKept}
 use Rattle.units.specs.declared.block.Unit.{Unit as Serial}
 use Rattle.units.specs.declared.interval.Interval.{Interval}
 use Rattle.accounts.specs.Holdings.{Held}
-use Rattle.accounts.specs.declared.lot.Lot.{Lot}
-use Rattle.accounts.specs.declared.lot.Line.{Line}
+use Rattle.accounts.specs.declared.unit_holding.UnitHolding.{UnitHolding}
+use Rattle.accounts.specs.declared.unit_holding.HeldBlock.{HeldBlock}
 
 -- a line as an interval of units that are held so
-abbrev pub lot_interval : Line → Interval Lot
-lot_interval l = record {
+abbrev pub unit_holding_interval : HeldBlock → Interval UnitHolding
+unit_holding_interval l = record {
   origin = l.block.raw.origin;
   period = l.block.raw.period;
   first = l.block.raw.first;
   last = l.block.raw.last;
-  mark = record { account = l.account; kind = l.block.raw.kind; reserving = l.reserving };
+  label = record { account = l.account; kind = l.block.raw.kind; reserving = l.reserving };
 }
 
--- by account and then in the order of units, neighbours with one account, kind and mark joined; each unit that is held is in one line, which says how
-pub record AreLines (held : Held) (lines : List Line) : Type 0 where
-  pub ordered : AreCanonical (λ (lot : Lot). lot.account) (map lot_interval lines)
-  pub apart : AreKept (map lot_interval lines)
-  pub same : (unit : Serial) → mark_at (map lot_interval lines) unit ≡ get held.lots unit
+-- by account and then in the order of units, neighbours with one account, kind and label joined; each unit that is
+-- held is in one line, which says how
+pub record AreLines (held : Held) (lines : List HeldBlock) : Type 0 where
+  pub ordered : AreCanonical (λ (unit_holding : UnitHolding). unit_holding.account) (map unit_holding_interval lines)
+  pub apart : AreKept (map unit_holding_interval lines)
+  pub same : (unit : Serial) → label_at (map unit_holding_interval lines) unit ≡ get held.unit_holdings unit

@@ -8,8 +8,8 @@ use Rattle.units.specs.declared.block.Block.{Block}
 use Rattle.units.specs.declared.block.Kind.{Kind}
 use Rattle.units.specs.declared.block.Unit.{Unit as Serial}
 use Rattle.accounts.specs.Holdings.{Held}
-use Rattle.accounts.specs.declared.lot.Lot.{Lot}
-use Rattle.accounts.specs.declared.lot.Standing.TheVariants.{Open, Closed}
+use Rattle.accounts.specs.declared.unit_holding.UnitHolding.{UnitHolding}
+use Rattle.accounts.specs.declared.unit_holding.AccountStatus.TheVariants.{Open, Closed}
 
 -- an account of the registry that is open
 abbrev pub IsOpen : Held → ℕ → Type 0
@@ -17,10 +17,10 @@ IsOpen held account = map.get held.accounts account ≡ Some Open
 
 -- the unit is held in that account with that kind
 pub record IsHeldAs (held : Held) (account : ℕ) (kind : Kind) (unit : Serial) : Type 0 where
-  pub lot : Lot
-  pub is : map.get held.lots unit ≡ Some lot
-  pub account_is : lot.account ≡ account
-  pub kind_is : lot.kind ≡ kind
+  pub unit_holding : UnitHolding
+  pub is : map.get held.unit_holdings unit ≡ Some unit_holding
+  pub account_is : unit_holding.account ≡ account
+  pub kind_is : unit_holding.kind ≡ kind
 
 -- a unit of one of the blocks
 pub record IsUnitOf (blocks : List Block) (block : Block) (unit : Serial) : Type 0 where
@@ -33,7 +33,7 @@ AreHeld held account blocks = (b : Block) (s : Serial) → IsUnitOf blocks b s �
 
 -- no unit of the blocks is reserved
 abbrev pub AreFree : Held → List Block → Type 0
-AreFree held blocks = (s : Serial) (lot : Lot) → IsTrue (covers blocks s) → map.get held.lots s ≡ Some lot → lot.reserving ≡ None
+AreFree held blocks = (s : Serial) (unit_holding : UnitHolding) → IsTrue (covers blocks s) → map.get held.unit_holdings s ≡ Some unit_holding → unit_holding.reserving ≡ None
 
 -- a unit of a block that isn't held so
 pub record IsLacking (held : Held) (account : ℕ) (blocks : List Block) : Type 0 where
@@ -45,10 +45,10 @@ pub record IsLacking (held : Held) (account : ℕ) (blocks : List Block) : Type 
 -- a unit of the blocks that is reserved
 pub record IsReserved (held : Held) (blocks : List Block) : Type 0 where
   pub unit : Serial
-  pub lot : Lot
+  pub unit_holding : UnitHolding
   pub of : IsTrue (covers blocks unit)
-  pub is : map.get held.lots unit ≡ Some lot
-  pub reserved : IsSome lot.reserving
+  pub is : map.get held.unit_holdings unit ≡ Some unit_holding
+  pub reserved : IsSome unit_holding.reserving
 
 -- what may be reserved
 pub record MayReserve (held : Held) (account : ℕ) (blocks : List Block) : Type 0 where
@@ -72,9 +72,9 @@ IsOpenRefusal held account code =
 -- a unit in the account
 pub record HasUnits (held : Held) (account : ℕ) : Type 0 where
   pub unit : Serial
-  pub lot : Lot
-  pub is : map.get held.lots unit ≡ Some lot
-  pub account_is : lot.account ≡ account
+  pub unit_holding : UnitHolding
+  pub is : map.get held.unit_holdings unit ≡ Some unit_holding
+  pub account_is : unit_holding.account ≡ account
 
 -- the registry has no such account; it is closed already; it holds units
 abbrev pub IsCloseRefusal : Held → ℕ → ℕ → Type 0

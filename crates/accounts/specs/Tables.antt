@@ -1,4 +1,5 @@
--- What holdings keep beside their lots: each account's counts, and what each transaction reserves. No public contract cites it.
+-- What holdings keep beside their unit holdings: each account's counts, and what each transaction reserves. No public
+-- contract cites it.
 use Rattle.std.specs.Prelude.{◌≡◌, ℕ, ◌+◌, ◌-◌, ◌≤◌, cond, List, [], Bool, false, ◌==◌, ◌&&◌, Option, Some, None, IsSome, count_by}
 use Rattle.std.specs.BTreeMap as tree
 use Rattle.std.specs.BTreeMap.{BTreeMap}
@@ -19,7 +20,7 @@ use Rattle.status.specs.Id.{id_cmp}
 use Rattle.status.specs.declared.id.TransactionId.{TransactionId}
 use Rattle.accounts.specs.Holdings.{is_free_in, is_reserved_by}
 use Rattle.accounts.specs.declared.account.Account.{Account}
-use Rattle.accounts.specs.declared.lot.Lot.{Lot}
+use Rattle.accounts.specs.declared.unit_holding.UnitHolding.{UnitHolding}
 use Rattle.accounts.specs.declared.reservation.Reservation.{Reservation}
 use Rattle.accounts.specs.declared.reservation.Share.{Share}
 
@@ -39,7 +40,7 @@ free_at accounts number = free_in (tree.get nat_cmp accounts number)
 
 -- the account with `count` more units, all free
 abbrev pub with_units : ℕ → Account → Account
-with_units count a = record { standing = a.standing; held = a.held + count; free = a.free + count }
+with_units count a = record { account_status = a.account_status; held = a.held + count; free = a.free + count }
 
 -- the account with `count` fewer free units
 abbrev pub with_fewer_free : ℕ → Account → Account
@@ -76,42 +77,43 @@ abbrev pub shares_of : BTreeMap TransactionId Reservation → TransactionId → 
 shares_of reservations id = shares_in (tree.get id_cmp reservations id)
 
 -- held in the account, of the kind, and so reserved
-abbrev pub lot_in : ℕ → Option TransactionId → Kind → Lot
-lot_in account reserving kind = record { account = account; kind = kind; reserving = reserving }
+abbrev pub unit_holding_in : ℕ → Option TransactionId → Kind → UnitHolding
+unit_holding_in account reserving kind = record { account = account; kind = kind; reserving = reserving }
 
-abbrev pub Lots : Type 0
-Lots = map.FinMap unit_cmp Lot
+abbrev pub UnitHoldings : Type 0
+UnitHoldings = map.FinMap unit_cmp UnitHolding
 
 -- in the account
-abbrev pub is_in : ℕ → Lot → Bool
-is_in account lot = lot.account == account
+abbrev pub is_in : ℕ → UnitHolding → Bool
+is_in account unit_holding = unit_holding.account == account
 
 -- in the account, and reserved by the transaction
-abbrev pub is_share : ℕ → TransactionId → Lot → Bool
-is_share account id lot = lot.account == account && is_reserved_by id lot
+abbrev pub is_share : ℕ → TransactionId → UnitHolding → Bool
+is_share account id unit_holding = unit_holding.account == account && is_reserved_by id unit_holding
 
 -- each account's counts are those of its units
-pub record AreCounted (accounts : BTreeMap ℕ Account) (lots : Lots) : Type 0 where
-  pub held : (n : ℕ) → held_at accounts n ≡ count_by (λ e. is_in n e.1) (map.entries lots)
-  pub free : (n : ℕ) → free_at accounts n ≡ count_by (λ e. is_free_in n e.1) (map.entries lots)
+pub record AreCounted (accounts : BTreeMap ℕ Account) (unit_holdings : UnitHoldings) : Type 0 where
+  pub held : (n : ℕ) → held_at accounts n ≡ count_by (λ e. is_in n e.1) (map.entries unit_holdings)
+  pub free : (n : ℕ) → free_at accounts n ≡ count_by (λ e. is_free_in n e.1) (map.entries unit_holdings)
 
 -- the unit is held, and the transaction reserves it
-abbrev pub reserves : TransactionId → Option Lot → Bool
+abbrev pub reserves : TransactionId → Option UnitHolding → Bool
 reserves id None = false
-reserves id (Some lot) = is_reserved_by id lot
+reserves id (Some unit_holding) = is_reserved_by id unit_holding
 
--- the blocks have the units that the transaction reserves, each in one block, and the shares say how many of them are of which account
-pub record IsListed (lots : Lots) (id : TransactionId) (blocks : List Block) (shares : List Share) : Type 0 where
-  pub exact : (s : Serial) → reserves id (map.get lots s) ≡ covers blocks s
+-- the blocks have the units that the transaction reserves, each in one block, and the shares say how many of them are
+-- of which account
+pub record IsListed (unit_holdings : UnitHoldings) (id : TransactionId) (blocks : List Block) (shares : List Share) : Type 0 where
+  pub exact : (s : Serial) → reserves id (map.get unit_holdings s) ≡ covers blocks s
   pub apart : AllApart blocks
-  pub shared : (n : ℕ) → share_of shares n ≡ count_by (λ e. is_share n id e.1) (map.entries lots)
+  pub shared : (n : ℕ) → share_of shares n ≡ count_by (λ e. is_share n id e.1) (map.entries unit_holdings)
 
 -- the numbers of units are in range
-abbrev pub AreInRange : Lots → Type 0
-AreInRange lots = (s : Serial) → IsSome (map.get lots s) → s.number ≤ last_unit
+abbrev pub AreInRange : UnitHoldings → Type 0
+AreInRange unit_holdings = (s : Serial) → IsSome (map.get unit_holdings s) → s.number ≤ last_unit
 
--- the tables are in step with the lots
-pub record AreInStep (accounts : BTreeMap ℕ Account) (lots : Lots) (reservations : BTreeMap TransactionId Reservation) : Type 0 where
-  pub counted : AreCounted accounts lots
-  pub listed : (id : TransactionId) → IsListed lots id (blocks_of reservations id) (shares_of reservations id)
-  pub in_range : AreInRange lots
+-- the tables are in step with the unit holdings
+pub record AreInStep (accounts : BTreeMap ℕ Account) (unit_holdings : UnitHoldings) (reservations : BTreeMap TransactionId Reservation) : Type 0 where
+  pub counted : AreCounted accounts unit_holdings
+  pub listed : (id : TransactionId) → IsListed unit_holdings id (blocks_of reservations id) (shares_of reservations id)
+  pub in_range : AreInRange unit_holdings

@@ -3,11 +3,11 @@ ghost use Rattle.std.specs.BTreeMap as tree;
 ghost use Rattle.std.specs.List.{list_any};
 ghost use Rattle.std.specs.Ordering.{nat_cmp};
 ghost use Rattle.std.specs.Prelude.{◌≡◌, ◌==◌, ◌+◌, ◌<◌, ◌≤◌, ◌^◌, ℕ, Some, None, option_map, IfOk, if◌then◌else◌};
-ghost use Rattle.accounts.specs.Accounts.{opened, with_standing};
+ghost use Rattle.accounts.specs.Accounts.{opened, with_account_status};
 ghost use Rattle.accounts.specs.Tables.{held_at, free_at, with_units, with_fewer_free, with_more_free, with_fewer, share_of};
 
-use crate::lot::Standing;
 use crate::reservation::Share;
+use crate::unit_holding::AccountStatus;
 use std::alloc::Global;
 use std::collections::BTreeMap;
 use units::NoMemory;
@@ -15,7 +15,7 @@ use units::NoMemory;
 /// An account of the registry: how many units it has, and how many of these are free.
 #[derive(Clone, Copy, Debug, PartialEq, Eq)]
 pub(crate) struct Account {
-    pub standing: Standing,
+    pub account_status: AccountStatus,
     pub held: u64,
     pub free: u64,
 }
@@ -30,7 +30,7 @@ pub(crate) fn open_accounts(
     let mut accounts = BTreeMap::new(alloc);
     for number in numbers {
         let account = Account {
-            standing: Standing::Open,
+            account_status: AccountStatus::Open,
             held: 0,
             free: 0,
         };
@@ -39,12 +39,16 @@ pub(crate) fn open_accounts(
     Ok(accounts)
 }
 
-/// Gives the account of that number the standing, if there is one.
-pub(crate) fn set_standing(accounts: &mut BTreeMap<u64, Account>, number: u64, standing: Standing)
-    ensures { (n : ℕ) → tree.get nat_cmp accounts.new n ≡ (if n == number then option_map (with_standing standing) (tree.get nat_cmp accounts.old n) else tree.get nat_cmp accounts.old n) }
+/// Gives the account of that number the status, if there is one.
+pub(crate) fn set_account_status(
+    accounts: &mut BTreeMap<u64, Account>,
+    number: u64,
+    account_status: AccountStatus,
+)
+    ensures { (n : ℕ) → tree.get nat_cmp accounts.new n ≡ (if n == number then option_map (with_account_status account_status) (tree.get nat_cmp accounts.old n) else tree.get nat_cmp accounts.old n) }
 {
     if let Some(account) = accounts.get_mut(&number) {
-        account.standing = standing;
+        account.account_status = account_status;
     }
 }
 

@@ -6,24 +6,24 @@ ghost use Rattle.std.specs.FinMap as map;
 ghost use Rattle.std.specs.List.{list_any};
 ghost use Rattle.units.specs.Apart.{AllApart};
 ghost use Rattle.units.specs.Canonical.{AreCanonical};
-ghost use Rattle.units.specs.Intervals.{AreKept, mark_at, marks_that};
+ghost use Rattle.units.specs.Intervals.{AreKept, label_at, labels_that};
 ghost use Rattle.units.specs.RefusalCodes.{out_of_memory};
 ghost use Rattle.units.specs.Spans.{intervals_of};
 ghost use Rattle.units.specs.Unit.{has_unit, covers};
 ghost use Rattle.units.specs.declared.block.Unit.{Unit as Serial};
-ghost use Rattle.accounts.specs.Holdings.{is_open, is_reserved_by, is_free_in, reserved, released, free_lot, kind_in};
+ghost use Rattle.accounts.specs.Holdings.{is_open, is_reserved_by, is_free_in, reserved, released, free_unit_holding, kind_in};
 ghost use Rattle.accounts.specs.Lines.{AreLines};
-ghost use Rattle.accounts.specs.Tables.{is_in, lot_in};
+ghost use Rattle.accounts.specs.Tables.{is_in, unit_holding_in};
 ghost use Rattle.accounts.specs.Refusals.{IsOpen, IsHeldAs, AreHeld, AreFree, IsLacking, MayReserve, IsReserveRefusal, IsOpenRefusal, IsCloseRefusal, HasUnits};
-ghost use Rattle.accounts.specs.declared.lot.Standing.TheVariants.{Open, Closed};
+ghost use Rattle.accounts.specs.declared.unit_holding.AccountStatus.TheVariants.{Open, Closed};
 
 use crate::account::{
-    Account, open_accounts, put_in, release_all, reserve, set_standing, take_out_all,
+    Account, open_accounts, put_in, release_all, reserve, set_account_status, take_out_all,
 };
 use crate::apart::{apart, count};
 use crate::lines::lines;
-use crate::lot::{Line, Lot, Standing};
 use crate::reservation::{Reservation, Share, extend, shorten, take};
+use crate::unit_holding::{AccountStatus, HeldBlock, UnitHolding};
 use status::TransactionId;
 use std::alloc::Global;
 use std::collections::BTreeMap;
@@ -38,13 +38,13 @@ use units::{Block, NoMemory, Refusal, Span, Unit, UnitMap};
 pub struct Holdings {
     alloc: Global,
     accounts: BTreeMap<u64, Account>,
-    lots: UnitMap<Lot>,
+    unit_holdings: UnitMap<UnitHolding>,
     reservations: BTreeMap<TransactionId, Reservation>,
 }
 
 impl Model for Holdings {
     ghost use Rattle.accounts.specs.Holdings.{Held};
-    ghost use Rattle.accounts.specs.Accounts.{standings};
+    ghost use Rattle.accounts.specs.Accounts.{account_statuses};
     ghost use Rattle.accounts.specs.Coding.{held_code};
     ghost use Rattle.accounts.specs.Tables.{AreInStep};
 
@@ -52,45 +52,45 @@ impl Model for Holdings {
 
     ghost coded = { held_code };
 
-    ghost view = { λ h. record { accounts = standings h.accounts; lots = h.lots } };
+    ghost view = { λ h. record { accounts = account_statuses h.accounts; unit_holdings = h.unit_holdings } };
 
-    ghost invariant = { λ h. AreInStep h.accounts h.lots h.reservations };
+    ghost invariant = { λ h. AreInStep h.accounts h.unit_holdings h.reservations };
 }
 
-// Whether the transaction reserves the lot.
-fn is_reserved_by(lot: &Lot, id: TransactionId) -> bool
-    ensures { result ≡ is_reserved_by id lot.now }
+// Whether the transaction reserves the unit holding.
+fn is_reserved_by(unit_holding: &UnitHolding, id: TransactionId) -> bool
+    ensures { result ≡ is_reserved_by id unit_holding.now }
 {
-    lot.reserving == Some(id)
+    unit_holding.reserving == Some(id)
 }
 
-// The lot when the transaction has let it go.
-fn released(lot: Lot, id: TransactionId) -> Lot
-    ensures { result ≡ released id lot }
+// The unit holding when the transaction has let it go.
+fn released(unit_holding: UnitHolding, id: TransactionId) -> UnitHolding
+    ensures { result ≡ released id unit_holding }
 {
-    if is_reserved_by(&lot, id) {
-        Lot {
+    if is_reserved_by(&unit_holding, id) {
+        UnitHolding {
             reserving: None,
-            ..lot
+            ..unit_holding
         }
     } else {
-        lot
+        unit_holding
     }
 }
 
 // Puts the units of each block into the account, with their block's kind, so reserved.
-fn set_lots(
-    lots: &mut UnitMap<Lot>,
+fn set_unit_holdings(
+    unit_holdings: &mut UnitMap<UnitHolding>,
     account: u64,
     blocks: &[Block],
     reserving: Option<TransactionId>,
 ) -> Result<(), NoMemory>
     requires { AllApart blocks.now }
-    ensures ok { OnOk result ((s : Serial) → map.get lots.new s ≡ option_or (option_map (lot_in account reserving) (kind_in blocks.now s)) (map.get lots.old s)) }
-    ensures err { OnErr result (lots.new ≡ lots.old) }
+    ensures ok { OnOk result ((s : Serial) → map.get unit_holdings.new s ≡ option_or (option_map (unit_holding_in account reserving) (kind_in blocks.now s)) (map.get unit_holdings.old s)) }
+    ensures err { OnErr result (unit_holdings.new ≡ unit_holdings.old) }
 {
-    lots.set_all(blocks, |block| {
-        Some(Lot {
+    unit_holdings.set_all(blocks, |block| {
+        Some(UnitHolding {
             account,
             kind: block.raw.kind,
             reserving,
@@ -103,13 +103,13 @@ impl Holdings {
     /// account. Or `NoMemory`.
     pub fn new(alloc: Global, accounts: &[u64]) -> Result<Holdings, NoMemory>
         ensures accounts { IfOk result (λ h. (n : ℕ) → map.get h.accounts n ≡ (if list_any (λ a. a == n) accounts.now then Some Open else None)) }
-        ensures lots { IfOk result (λ h. h.lots ≡ map.empty) }
+        ensures unit_holdings { IfOk result (λ h. h.unit_holdings ≡ map.empty) }
     {
         let accounts = open_accounts(alloc, accounts)?;
         Ok(Holdings {
             alloc,
             accounts,
-            lots: UnitMap::new(alloc),
+            unit_holdings: UnitMap::new(alloc),
             reservations: BTreeMap::new(alloc),
         })
     }
@@ -118,25 +118,25 @@ impl Holdings {
     pub fn is_open(&self, account: u64) -> Option<bool>
         ensures { result ≡ option_map is_open (map.get self.now.accounts account) }
     {
-        let standing = self.standing(account)?;
-        Some(matches!(standing, Standing::Open))
+        let account_status = self.account_status(account)?;
+        Some(matches!(account_status, AccountStatus::Open))
     }
 
-    // The standing of the account.
-    fn standing(&self, account: u64) -> Option<Standing>
+    // The status of the account.
+    fn account_status(&self, account: u64) -> Option<AccountStatus>
         ensures { result ≡ map.get self.now.accounts account }
     {
         let account = self.accounts.get(&account)?;
-        Some(account.standing)
+        Some(account.account_status)
     }
 
-    // Gives an account of the registry the standing.
-    fn set_standing(&mut self, account: u64, standing: Standing)
+    // Gives an account of the registry the status.
+    fn set_account_status(&mut self, account: u64, account_status: AccountStatus)
         requires { IsSome (map.get self.old.accounts account) }
-        ensures accounts { (n : ℕ) → map.get self.new.accounts n ≡ (if n == account then Some standing else map.get self.old.accounts n) }
-        ensures lots { self.new.lots ≡ self.old.lots }
+        ensures accounts { (n : ℕ) → map.get self.new.accounts n ≡ (if n == account then Some account_status else map.get self.old.accounts n) }
+        ensures unit_holdings { self.new.unit_holdings ≡ self.old.unit_holdings }
     {
-        set_standing(&mut self.accounts, account, standing);
+        set_account_status(&mut self.accounts, account, account_status);
     }
 
     // Whether each of the block's units is in the account, with the block's kind.
@@ -145,8 +145,10 @@ impl Holdings {
         ensures lacking { OnFalse result ((s : Serial) × IsTrue (has_unit block.now.raw s) × (IsHeldAs self.now account block.now.raw.kind s → ⊥)) }
     {
         let kind = block.raw.kind;
-        self.lots
-            .has_all_of(block, |lot| lot.account == account && lot.kind == kind)
+        self.unit_holdings.has_all_of(
+            block,
+            |unit_holding| unit_holding.account == account && unit_holding.kind == kind,
+        )
     }
 
     // Whether each unit of the blocks is in the account, with its block's kind.
@@ -159,16 +161,17 @@ impl Holdings {
 
     // Whether each of the block's units is there, reserved by none.
     fn is_free(&self, block: &Block) -> bool
-        ensures all { OnTrue result ((s : Serial) → IsTrue (has_unit block.now.raw s) → option_map (λ lot. is_none lot.reserving) (map.get self.now.lots s) ≡ Some true) }
-        ensures lacking { OnFalse result ((s : Serial) × IsTrue (has_unit block.now.raw s) × (option_map (λ lot. is_none lot.reserving) (map.get self.now.lots s) ≢ Some true)) }
+        ensures all { OnTrue result ((s : Serial) → IsTrue (has_unit block.now.raw s) → option_map (λ unit_holding. is_none unit_holding.reserving) (map.get self.now.unit_holdings s) ≡ Some true) }
+        ensures lacking { OnFalse result ((s : Serial) × IsTrue (has_unit block.now.raw s) × (option_map (λ unit_holding. is_none unit_holding.reserving) (map.get self.now.unit_holdings s) ≢ Some true)) }
     {
-        self.lots.has_all_of(block, |lot| lot.reserving.is_none())
+        self.unit_holdings
+            .has_all_of(block, |unit_holding| unit_holding.reserving.is_none())
     }
 
     // Whether each unit of the blocks is there, reserved by none.
     fn is_each_free(&self, blocks: &[Block]) -> bool
         ensures all { OnTrue result (AreFree self.now blocks.now) }
-        ensures lacking { OnFalse result ((s : Serial) × IsTrue (covers blocks.now s) × (option_map (λ lot. is_none lot.reserving) (map.get self.now.lots s) ≢ Some true)) }
+        ensures lacking { OnFalse result ((s : Serial) × IsTrue (covers blocks.now s) × (option_map (λ unit_holding. is_none unit_holding.reserving) (map.get self.now.unit_holdings s) ≢ Some true)) }
     {
         blocks.iter().all(|block| self.is_free(block))
     }
@@ -207,7 +210,7 @@ impl Holdings {
         id: TransactionId,
     ) -> Result<(), Refusal>
         ensures may { OnOk result (MayReserve self.old account blocks.now) }
-        ensures ok { OnOk result ((self.new.accounts ≡ self.old.accounts) × ((s : Serial) → map.get self.new.lots s ≡ (if covers blocks.now s then option_map (reserved id) (map.get self.old.lots s) else map.get self.old.lots s))) }
+        ensures ok { OnOk result ((self.new.accounts ≡ self.old.accounts) × ((s : Serial) → map.get self.new.unit_holdings s ≡ (if covers blocks.now s then option_map (reserved id) (map.get self.old.unit_holdings s) else map.get self.old.unit_holdings s))) }
         ensures refused { IfErr result (λ r. ((r.code ≡ out_of_memory) × MayReserve self.old account blocks.now) ⊎ IsReserveRefusal self.old account blocks.now r.code) }
         ensures err { OnErr result (self.new ≡ self.old) }
     {
@@ -218,7 +221,12 @@ impl Holdings {
             count: count(&parts),
         };
         extend(self.alloc, &mut self.reservations, id, &parts, share)?;
-        if let Err(refused) = set_lots(&mut self.lots, account, &parts, Some(id)) {
+        if let Err(refused) = set_unit_holdings(
+            &mut self.unit_holdings,
+            account,
+            &parts,
+            Some(id),
+        ) {
             shorten(&mut self.reservations, id, &parts);
             return Err(refused.into());
         }
@@ -229,16 +237,16 @@ impl Holdings {
     /// Frees the units that the transaction reserves. Takes no memory.
     pub fn release(&mut self, id: TransactionId)
         ensures accounts { self.new.accounts ≡ self.old.accounts }
-        ensures lots { (s : Serial) → map.get self.new.lots s ≡ option_map (released id) (map.get self.old.lots s) }
+        ensures unit_holdings { (s : Serial) → map.get self.new.unit_holdings s ≡ option_map (released id) (map.get self.old.unit_holdings s) }
     {
         let Some(reservation) = take(&mut self.reservations, id) else {
             return;
         };
-        self.lots.remark_in(
+        self.unit_holdings.relabel_in(
             &reservation.blocks,
-            |lot|
-                ensures { result ≡ released id lot }
-            { released(lot, id) },
+            |unit_holding|
+                ensures { result ≡ released id unit_holding }
+            { released(unit_holding, id) },
         );
         release_all(&mut self.accounts, &reservation.shares);
     }
@@ -246,16 +254,16 @@ impl Holdings {
     /// Takes out what the transaction reserves. Takes no memory.
     pub fn remove(&mut self, id: TransactionId)
         ensures accounts { self.new.accounts ≡ self.old.accounts }
-        ensures lots { (s : Serial) → map.get self.new.lots s ≡ marks_that (λ lot. not (is_reserved_by id lot)) (map.get self.old.lots s) }
+        ensures unit_holdings { (s : Serial) → map.get self.new.unit_holdings s ≡ labels_that (λ unit_holding. not (is_reserved_by id unit_holding)) (map.get self.old.unit_holdings s) }
     {
         let Some(reservation) = take(&mut self.reservations, id) else {
             return;
         };
-        self.lots.remove_in(
+        self.unit_holdings.remove_in(
             &reservation.blocks,
-            |lot|
-                ensures { result ≡ is_reserved_by id lot }
-            { is_reserved_by(&lot, id) },
+            |unit_holding|
+                ensures { result ≡ is_reserved_by id unit_holding }
+            { is_reserved_by(&unit_holding, id) },
         );
         take_out_all(&mut self.accounts, &reservation.shares);
     }
@@ -265,11 +273,11 @@ impl Holdings {
     pub fn credit(&mut self, account: u64, blocks: &[Block]) -> Result<(), NoMemory>
         requires open_account { IsOpen self.old account }
         requires apart { AllApart blocks.now }
-        requires absent { (s : Serial) → IsTrue (covers blocks.now s) → map.get self.old.lots s ≡ None }
-        ensures ok { OnOk result ((self.new.accounts ≡ self.old.accounts) × ((s : Serial) → map.get self.new.lots s ≡ option_or (option_map (free_lot account) (kind_in blocks.now s)) (map.get self.old.lots s))) }
+        requires absent { (s : Serial) → IsTrue (covers blocks.now s) → map.get self.old.unit_holdings s ≡ None }
+        ensures ok { OnOk result ((self.new.accounts ≡ self.old.accounts) × ((s : Serial) → map.get self.new.unit_holdings s ≡ option_or (option_map (free_unit_holding account) (kind_in blocks.now s)) (map.get self.old.unit_holdings s))) }
         ensures err { OnErr result (self.new ≡ self.old) }
     {
-        set_lots(&mut self.lots, account, blocks, None)?;
+        set_unit_holdings(&mut self.unit_holdings, account, blocks, None)?;
         put_in(&mut self.accounts, account, count(blocks));
         Ok(())
     }
@@ -279,10 +287,10 @@ impl Holdings {
         ensures ok { OnOk result (map.get self.now.accounts account ≡ Some Closed) }
         ensures err { IfErr result (λ r. IsOpenRefusal self.now account r.code) }
     {
-        let code = match self.standing(account) {
+        let code = match self.account_status(account) {
             None => UNKNOWN_ACCOUNT,
-            Some(Standing::Open) => ALREADY_SO,
-            Some(Standing::Closed) => return Ok(()),
+            Some(AccountStatus::Open) => ALREADY_SO,
+            Some(AccountStatus::Closed) => return Ok(()),
         };
         Err(Refusal { code })
     }
@@ -290,12 +298,12 @@ impl Holdings {
     /// Opens a closed account. Refused with `UNKNOWN_ACCOUNT`: the registry has no such account;
     /// `ALREADY_SO`: it is open already. After a refusal nothing has changed. Takes no memory.
     pub fn open_account(&mut self, account: u64) -> Result<(), Refusal>
-        ensures ok { OnOk result ((map.get self.old.accounts account ≡ Some Closed) × (self.new.lots ≡ self.old.lots) × ((n : ℕ) → map.get self.new.accounts n ≡ (if n == account then Some Open else map.get self.old.accounts n))) }
+        ensures ok { OnOk result ((map.get self.old.accounts account ≡ Some Closed) × (self.new.unit_holdings ≡ self.old.unit_holdings) × ((n : ℕ) → map.get self.new.accounts n ≡ (if n == account then Some Open else map.get self.old.accounts n))) }
         ensures refused { IfErr result (λ r. IsOpenRefusal self.old account r.code) }
         ensures err { OnErr result (self.new ≡ self.old) }
     {
         self.may_open(account)?;
-        self.set_standing(account, Standing::Open);
+        self.set_account_status(account, AccountStatus::Open);
         Ok(())
     }
 
@@ -304,19 +312,21 @@ impl Holdings {
         ensures ok { OnOk result ((map.get self.now.accounts account ≡ Some Open) × (HasUnits self.now account → ⊥)) }
         ensures err { IfErr result (λ r. IsCloseRefusal self.now account r.code) }
     {
-        match self.standing(account) {
+        match self.account_status(account) {
             None => Err(Refusal {
                 code: UNKNOWN_ACCOUNT,
             }),
-            Some(Standing::Closed) => Err(Refusal { code: ALREADY_SO }),
-            Some(Standing::Open) if self.has_units(account) => Err(Refusal { code: HOLDS_UNITS }),
-            Some(Standing::Open) => Ok(()),
+            Some(AccountStatus::Closed) => Err(Refusal { code: ALREADY_SO }),
+            Some(AccountStatus::Open) if self.has_units(account) => Err(Refusal {
+                code: HOLDS_UNITS,
+            }),
+            Some(AccountStatus::Open) => Ok(()),
         }
     }
 
     // How many units the account has.
     fn held_count(&self, account: u64) -> u64
-        ensures { result ≡ count_by (λ e. is_in account e.1) (map.entries self.now.lots) }
+        ensures { result ≡ count_by (λ e. is_in account e.1) (map.entries self.now.unit_holdings) }
     {
         match self.accounts.get(&account) {
             Some(account) => account.held,
@@ -336,51 +346,51 @@ impl Holdings {
     /// no such account; `ALREADY_SO`: it is closed already; `HOLDS_UNITS`. After a refusal nothing
     /// has changed. Takes no memory.
     pub fn close_account(&mut self, account: u64) -> Result<(), Refusal>
-        ensures ok { OnOk result ((map.get self.old.accounts account ≡ Some Open) × (HasUnits self.old account → ⊥) × (self.new.lots ≡ self.old.lots) × ((n : ℕ) → map.get self.new.accounts n ≡ (if n == account then Some Closed else map.get self.old.accounts n))) }
+        ensures ok { OnOk result ((map.get self.old.accounts account ≡ Some Open) × (HasUnits self.old account → ⊥) × (self.new.unit_holdings ≡ self.old.unit_holdings) × ((n : ℕ) → map.get self.new.accounts n ≡ (if n == account then Some Closed else map.get self.old.accounts n))) }
         ensures refused { IfErr result (λ r. IsCloseRefusal self.old account r.code) }
         ensures err { OnErr result (self.new ≡ self.old) }
     {
         self.may_close(account)?;
-        self.set_standing(account, Standing::Closed);
+        self.set_account_status(account, AccountStatus::Closed);
         Ok(())
     }
 
     /// How the unit is held, or `None`. Takes no memory.
-    pub fn lot(&self, unit: &Unit) -> Option<Lot>
-        ensures { result ≡ map.get self.now.lots unit.now }
+    pub fn unit_holding(&self, unit: &Unit) -> Option<UnitHolding>
+        ensures { result ≡ map.get self.now.unit_holdings unit.now }
     {
-        self.lots.get(unit)
+        self.unit_holdings.get(unit)
     }
 
     /// The intervals of units that are held in one way, by their first units: none shares a unit with another, and
     /// neighbours that are held in the same way are one. Takes no memory.
-    pub fn pieces(&self) -> &BTreeMap<Unit, Span<Lot>>
+    pub fn pieces(&self) -> &BTreeMap<Unit, Span<UnitHolding>>
         ensures kept { AreKept (intervals_of result.now.entries) }
         ensures joined { AreCanonical (λ _. 0) (intervals_of result.now.entries) }
-        ensures means { (s : Serial) → mark_at (intervals_of result.now.entries) s ≡ map.get self.now.lots s }
+        ensures means { (s : Serial) → label_at (intervals_of result.now.entries) s ≡ map.get self.now.unit_holdings s }
     {
-        self.lots.pieces()
+        self.unit_holdings.pieces()
     }
 
     // Whether one of the block's units is held.
     fn holds_some_of(&self, block: &Block) -> bool
-        ensures some { OnTrue result ((s : Serial) × IsTrue (has_unit block.now.raw s) × IsSome (map.get self.now.lots s)) }
-        ensures none { OnFalse result ((s : Serial) → IsTrue (has_unit block.now.raw s) → map.get self.now.lots s ≡ None) }
+        ensures some { OnTrue result ((s : Serial) × IsTrue (has_unit block.now.raw s) × IsSome (map.get self.now.unit_holdings s)) }
+        ensures none { OnFalse result ((s : Serial) → IsTrue (has_unit block.now.raw s) → map.get self.now.unit_holdings s ≡ None) }
     {
-        !self.lots.has_none_of(block)
+        !self.unit_holdings.has_none_of(block)
     }
 
     /// Whether one of the blocks' units is held. Takes no memory.
     pub fn holds_any(&self, blocks: &[Block]) -> bool
-        ensures some { OnTrue result ((s : Serial) × IsTrue (covers blocks.now s) × IsSome (map.get self.now.lots s)) }
-        ensures none { OnFalse result ((s : Serial) → IsTrue (covers blocks.now s) → map.get self.now.lots s ≡ None) }
+        ensures some { OnTrue result ((s : Serial) × IsTrue (covers blocks.now s) × IsSome (map.get self.now.unit_holdings s)) }
+        ensures none { OnFalse result ((s : Serial) → IsTrue (covers blocks.now s) → map.get self.now.unit_holdings s ≡ None) }
     {
         blocks.iter().any(|block| self.holds_some_of(block))
     }
 
     /// How many units the account has that no transaction reserves. Takes no memory.
     pub fn free_count(&self, account: u64) -> u64
-        ensures { result ≡ count_by (λ e. is_free_in account e.1) (map.entries self.now.lots) }
+        ensures { result ≡ count_by (λ e. is_free_in account e.1) (map.entries self.now.unit_holdings) }
     {
         match self.accounts.get(&account) {
             Some(account) => account.free,
@@ -390,10 +400,10 @@ impl Holdings {
 
     /// What is held, as lines by account and then in the order of units, neighbours with one
     /// account, kind and reserving transaction joined. Or `NoMemory`.
-    pub fn lines(&self, alloc: Global) -> Result<Vec<Line>, NoMemory>
+    pub fn lines(&self, alloc: Global) -> Result<Vec<HeldBlock>, NoMemory>
         ensures { IfOk result (λ v. AreLines self.now v.items) }
     {
-        let intervals = self.lots.in_order()?;
+        let intervals = self.unit_holdings.in_order()?;
         Ok(lines(alloc, &intervals)?)
     }
 }

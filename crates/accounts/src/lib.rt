@@ -5,8 +5,8 @@ mod account;
 mod apart;
 mod holdings;
 mod lines;
-mod lot;
 mod reservation;
+mod unit_holding;
 
 pub use holdings::Holdings;
-pub use lot::{Line, Lot, Standing};
+pub use unit_holding::{AccountStatus, HeldBlock, UnitHolding};

@@ -50,7 +50,8 @@ impl Reservation {
     }
 }
 
-/// Adds blocks and a share to what the transaction reserves, in its own lists. After `NoMemory` each transaction reserves what it did.
+/// Adds blocks and a share to what the transaction reserves, in its own lists. After `NoMemory` each transaction
+/// reserves what it did.
 pub(crate) fn extend(
     alloc: Global,
     reservations: &mut BTreeMap<TransactionId, Reservation>,

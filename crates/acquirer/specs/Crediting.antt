@@ -13,4 +13,4 @@ use Rattle.accounts.specs.Refusals.{IsOpen}
 pub record MayCredit (held : Held) (k : Content) : Type 0 where
   pub open_account : IsOpen held k.to_account
   pub apart : (blocks : List Block) → raws blocks ≡ k.units → AllApart blocks
-  pub absent : (s : Serial) → have_unit k.units s ≡ true → map.get held.lots s ≡ None
+  pub absent : (s : Serial) → have_unit k.units s ≡ true → map.get held.unit_holdings s ≡ None

@@ -8,10 +8,10 @@ use Rattle.status.specs.Content.{Content}
 use Rattle.status.specs.Id.{id_cmp}
 use Rattle.status.specs.Status.{same_status}
 use Rattle.status.specs.declared.id.TransactionId.{TransactionId}
-use Rattle.status.specs.declared.words.Known.{Known}
-use Rattle.status.specs.declared.words.Known.TheVariants.{Unknown, Bare, Stands}
-use Rattle.status.specs.declared.words.Status.{Status}
-use Rattle.status.specs.declared.words.Status.TheVariants.{Accepted}
+use Rattle.status.specs.declared.rows.RecordedStatus.{RecordedStatus}
+use Rattle.status.specs.declared.rows.RecordedStatus.TheVariants.{Unknown, Bare, Stands}
+use Rattle.status.specs.declared.status.Status.{Status}
+use Rattle.status.specs.declared.status.Status.TheVariants.{Accepted}
 use Rattle.acquirer.specs.declared.transfer.Transfer.{Transfer}
 
 -- the registry, and the transfers to it
@@ -20,10 +20,10 @@ pub record Acquiring : Type 0 where
   pub transfers : FinMap id_cmp Transfer
 
 -- what the table asks of a transfer
-abbrev pub known_of : Transfer → Known
+abbrev pub known_of : Transfer → RecordedStatus
 known_of x = option_map_or (λ k. Stands x.status) x.content Bare
 
-abbrev pub known_transfer : Option Transfer → Known
+abbrev pub known_transfer : Option Transfer → RecordedStatus
 known_transfer x = option_map_or known_of x Unknown
 
 -- its content, where it is known

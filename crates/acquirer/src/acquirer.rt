@@ -13,15 +13,15 @@ ghost use Rattle.status.specs.Id.{same_id};
 ghost use Rattle.status.specs.Rows.{acquirer_row};
 ghost use Rattle.status.specs.Status.{same_status};
 ghost use Rattle.status.specs.declared.id.TransactionId.{TransactionId};
-ghost use Rattle.status.specs.declared.words.RowInput.TheVariants as column;
-ghost use Rattle.status.specs.declared.words.Status.TheVariants as words;
+ghost use Rattle.status.specs.declared.rows.RowInput.TheVariants as column;
+ghost use Rattle.status.specs.declared.status.Status.TheVariants as words;
 ghost use Rattle.accounts.specs.Holdings as held;
 ghost use Rattle.accounts.specs.Holdings.{kind_in};
 ghost use Rattle.scheme.specs.declared.registries.Scheme.{Scheme};
 ghost use Rattle.protocol.specs.AtRegistry.{unless_held};
 ghost use Rattle.protocol.specs.Checks.{Holding, acquirer_findings};
 ghost use Rattle.protocol.specs.Cores.{IsDueOrNoMemory};
-ghost use Rattle.protocol.specs.Deciding.{offered};
+ghost use Rattle.protocol.specs.Deciding.{column_of_proposal};
 ghost use Rattle.protocol.specs.Decisions.{decided};
 ghost use Rattle.protocol.specs.Effects.{acquirer_sends};
 ghost use Rattle.protocol.specs.Pieces.{pieces};
@@ -38,7 +38,7 @@ use accounts::Holdings;
 use checks::{acquirer_findings, holds_some};
 use protocol::Decision;
 use scheme::Scheme;
-use status::{Content, Known, Role, Row, RowInput, Status, TransactionId, row};
+use status::{Content, RecordedStatus, Role, Row, RowInput, Status, TransactionId, row};
 use std::alloc::Global;
 use std::collections::{BTreeMap, BTreeSet};
 use std::marker::Model;
@@ -46,8 +46,8 @@ use units::refusal_code::{NO_ROW, TRANSFER_ACCEPTED};
 use units::{Code, Items, NoMemory, Refusal};
 use wire::AcquirerCodes;
 
-/// The transfers to a registry, by their identifiers. It decides what the acquirer's table says to an input, without any change,
-/// and does then what a decision that moves a transfer asks for.
+/// The transfers to a registry, by their identifiers. It decides what the acquirer's table says to an input, without
+/// any change, and does then what a decision that moves a transfer asks for.
 #[derive(Debug, Drop)]
 pub struct Acquirer {
     code: Code,
@@ -80,8 +80,8 @@ fn codes_in(found: &Option<AcquirerCodes>) -> &[u16]
 }
 
 // The column of a proposal in which these codes were found, and of which no content is recorded.
-fn offered(codes: &[u16]) -> RowInput
-    ensures { result ≡ offered None codes.now }
+fn column_of_proposal(codes: &[u16]) -> RowInput
+    ensures { result ≡ column_of_proposal None codes.now }
 {
     match codes {
         [] => RowInput::ProposalWithoutFinding,
@@ -125,18 +125,18 @@ impl Acquirer {
     }
 
     // What the table asks of the transfer.
-    fn known(&self, id: TransactionId) -> Known
+    fn known(&self, id: TransactionId) -> RecordedStatus
         ensures { result ≡ known_transfer (map.get self.now.transfers id) }
     {
         match self.transfer(id) {
             Some(transfer) => transfer.known(),
-            None => Known::Unknown,
+            None => RecordedStatus::Unknown,
         }
     }
 
-    /// What the table says to a proposal that the log passes on, equal to the one whose content is recorded, if one is. Where none is,
-    /// Accepted or Rejected is to be sent, by what is found in it. Fails with `NO_ROW` where the table has no such row, and with
-    /// `OUT_OF_MEMORY`.
+    /// What the table says to a proposal that the log passes on, equal to the one whose content is recorded, if one
+    /// is. Where none is, Accepted or Rejected is to be sent, by what is found in it. Fails with `NO_ROW` where the
+    /// table has no such row, and with `OUT_OF_MEMORY`.
     pub fn proposal(
         &self,
         alloc: Global,
@@ -145,13 +145,17 @@ impl Acquirer {
         id: TransactionId,
         content: &Content,
     ) -> Result<Decision, Refusal>
-        ensures { (known_so : Holding) (found : List ℕ) → Knows scheme.now self.now.code holdings.now known_so → found ≡ acquirer_findings scheme.now self.now.code known_so content.now → IsDueOrNoMemory result (decided (acquirer_row (known_transfer (map.get self.now.transfers id)) (offered (kept_content (map.get self.now.transfers id)) found)) (acquirer_sends self.now.code id found (offered (kept_content (map.get self.now.transfers id)) found))) }
+        ensures { (known_so : Holding) (found : List ℕ) → Knows scheme.now self.now.code holdings.now known_so → found ≡ acquirer_findings scheme.now self.now.code known_so content.now → IsDueOrNoMemory result (decided (acquirer_row (known_transfer (map.get self.now.transfers id)) (column_of_proposal (kept_content (map.get self.now.transfers id)) found)) (acquirer_sends self.now.code id found (column_of_proposal (kept_content (map.get self.now.transfers id)) found))) }
     {
         if self.content(id).is_some() {
             return self.equal_proposal(alloc, id);
         }
         let found = acquirer_findings(alloc, scheme, self.code, holdings, content)?;
-        match row(Role::Acquirer, self.known(id), offered(codes_in(&found))) {
+        match row(
+            Role::Acquirer,
+            self.known(id),
+            column_of_proposal(codes_in(&found)),
+        ) {
             Row::Move(new) => {
                 let messages = on_proposal(alloc, self.code, id, found)?;
                 Ok(Decision::Moves { new, messages })
@@ -187,8 +191,8 @@ impl Acquirer {
         }
     }
 
-    /// What the table says to the log's notification of that status. A transfer isn't Completed while the registry holds one of its
-    /// units. Fails with `NO_ROW` where the table has no such row. Takes no memory.
+    /// What the table says to the log's notification of that status. A transfer isn't Completed while the registry
+    /// holds one of its units. Fails with `NO_ROW` where the table has no such row. Takes no memory.
     pub fn notice(
         &self,
         alloc: Global,
@@ -212,8 +216,8 @@ impl Acquirer {
         }
     }
 
-    /// Whether no transfer that goes to the account is awaited: refused with `TRANSFER_ACCEPTED` where one was accepted and hasn't
-    /// ended. Takes no memory.
+    /// Whether no transfer that goes to the account is awaited: refused with `TRANSFER_ACCEPTED` where one was
+    /// accepted and hasn't ended. Takes no memory.
     pub fn may_close(&self, account: u64) -> Result<(), Refusal>
         ensures ok { OnOk result ((t : TransactionId) → is_awaited_by account (map.get self.now.transfers t) ≡ false) }
         ensures err { IfErr result (λ r. (r.code ≡ transfer_accepted) × ((t : TransactionId) × (is_awaited_by account (map.get self.now.transfers t) ≡ true))) }
@@ -262,7 +266,7 @@ impl Acquirer {
         requires { (k : Terms) → kept_content (map.get self.old.transfers id) ≡ Some k → MayCredit holdings.old k }
         ensures transfers { OnOk result ((self.new.code ≡ self.old.code) × ((t : TransactionId) → map.get self.new.transfers t ≡ (if same_id id t then option_map (finished words.Completed) (map.get self.old.transfers t) else map.get self.old.transfers t))) }
         ensures accounts { holdings.new.accounts ≡ holdings.old.accounts }
-        ensures lots { (k : Terms) → kept_content (map.get self.old.transfers id) ≡ Some k → OnOk result ((blocks : List Block) × (raws blocks ≡ k.units) × ((s : Serial) → map.get holdings.new.lots s ≡ option_or (option_map (held.free_lot k.to_account) (kind_in blocks s)) (map.get holdings.old.lots s))) }
+        ensures unit_holdings { (k : Terms) → kept_content (map.get self.old.transfers id) ≡ Some k → OnOk result ((blocks : List Block) × (raws blocks ≡ k.units) × ((s : Serial) → map.get holdings.new.unit_holdings s ≡ option_or (option_map (held.free_unit_holding k.to_account) (kind_in blocks s)) (map.get holdings.old.unit_holdings s))) }
         ensures none { kept_content (map.get self.old.transfers id) ≡ None → holdings.new ≡ holdings.old }
         ensures err { OnErr result ((self.new ≡ self.old) × (holdings.new ≡ holdings.old)) }
     {

@@ -1,6 +1,6 @@
 //! What an acquirer sends.
 ghost use Rattle.std.specs.Prelude.{◌≡◌, [], ◌∷◌, IfOk};
-ghost use Rattle.protocol.specs.Deciding.{offered};
+ghost use Rattle.protocol.specs.Deciding.{column_of_proposal};
 ghost use Rattle.protocol.specs.Effects.{acquirer_sends};
 ghost use Rattle.checks.specs.Finding.{codes_in};
 ghost use Rattle.std.specs.Prelude.{None};
@@ -8,7 +8,7 @@ ghost use Rattle.std.specs.Prelude.{None};
 use status::TransactionId;
 use std::alloc::Global;
 use units::{Code, Items, NoMemory, Node};
-use wire::{AcquirerCodes, Message, Notice, Notification};
+use wire::{AcquirerCodes, Message, Notification, NotifiedStatus};
 
 /// What follows a proposal, by what was found in it: Accepted to the log, or Rejected with the codes.
 pub(crate) fn on_proposal(
@@ -17,17 +17,17 @@ pub(crate) fn on_proposal(
     id: TransactionId,
     found: Option<AcquirerCodes>,
 ) -> Result<Items<Message>, NoMemory>
-    ensures { IfOk result (λ messages. messages ≡ acquirer_sends code id (codes_in found) (offered None (codes_in found))) }
+    ensures { IfOk result (λ messages. messages ≡ acquirer_sends code id (codes_in found) (column_of_proposal None (codes_in found))) }
 {
-    let notice = match found {
-        None => Notice::Accepted,
-        Some(codes) => Notice::Rejected(codes),
+    let notified = match found {
+        None => NotifiedStatus::Accepted,
+        Some(codes) => NotifiedStatus::Rejected(codes),
     };
     let answer = Notification {
         from: Node::Registry(code),
         to: Node::Itl,
         id,
-        notice,
+        notified,
     };
     let mut messages = Vec::new(alloc);
     messages.push(Message::Notification(answer))?;

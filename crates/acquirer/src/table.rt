@@ -7,7 +7,7 @@ ghost use Rattle.acquirer.specs.declared.awaited.Awaited.{Awaited};
 ghost use Rattle.status.specs.Id.{id_cmp, same_id};
 ghost use Rattle.status.specs.Status.{same_status};
 ghost use Rattle.status.specs.declared.id.TransactionId.{TransactionId};
-ghost use Rattle.status.specs.declared.words.Status.TheVariants as words;
+ghost use Rattle.status.specs.declared.status.Status.TheVariants as words;
 
 use crate::awaited::{Awaited, awaited_of, forget, remember};
 use crate::transfer::Transfer;

@@ -2,10 +2,10 @@
 ghost use Rattle.std.specs.Prelude.{◌≡◌, option_copied};
 ghost use Rattle.acquirer.specs.Transfers as transfers;
 
-use status::{Content, Known, RowInput, Status};
+use status::{Content, RecordedStatus, RowInput, Status};
 
-/// What an acquirer knows of a transfer to it: where it stands, and its content, which is `None` where it was cancelled before
-/// its proposal came.
+/// What an acquirer knows of a transfer to it: where it stands, and its content, which is `None` where it was
+/// cancelled before its proposal came.
 #[derive(Debug, Drop)]
 pub struct Transfer {
     pub status: Status,
@@ -14,12 +14,12 @@ pub struct Transfer {
 
 impl Transfer {
     /// What the table asks of it.
-    pub(crate) fn known(&self) -> Known
+    pub(crate) fn known(&self) -> RecordedStatus
         ensures { result ≡ transfers.known_of self.now }
     {
         match self.content {
-            Some(_) => Known::Stands(self.status),
-            None => Known::Bare,
+            Some(_) => RecordedStatus::Stands(self.status),
+            None => RecordedStatus::Bare,
         }
     }
 }

@@ -14,8 +14,8 @@ use Rattle.units.specs.declared.code.Code.{Code}
 use Rattle.status.specs.Content.{Content, raws}
 use Rattle.accounts.proofs.Blocks.{covered, covers_from}
 use Rattle.accounts.specs.Holdings.{Held, is_open}
-use Rattle.accounts.specs.declared.lot.Standing.{Standing}
-use Rattle.accounts.specs.declared.lot.Standing.TheVariants.{Open, Closed}
+use Rattle.accounts.specs.declared.unit_holding.AccountStatus.{AccountStatus}
+use Rattle.accounts.specs.declared.unit_holding.AccountStatus.TheVariants.{Open, Closed}
 use Rattle.scheme.specs.declared.registries.Scheme.{Scheme}
 use Rattle.protocol.specs.Checks.{Holding, acquirer_findings, codes_of}
 use Rattle.protocol.specs.Registries.{has_account, takes_kind}
@@ -30,7 +30,7 @@ unknown_told : (has closed : Bool) → is_none (option_map is_open (cond has (So
 unknown_told true closed = refl
 unknown_told false closed = refl
 
-pub is_unknown : (o : Option Standing) (has closed : Bool) → o ≡ cond has (Some (cond closed Closed Open)) None → is_none (option_map is_open o) ≡ not has
+pub is_unknown : (o : Option AccountStatus) (has closed : Bool) → o ≡ cond has (Some (cond closed Closed Open)) None → is_none (option_map is_open o) ≡ not has
 is_unknown o has closed e = ap (λ p. is_none (option_map is_open p)) e ∙ unknown_told has closed
 
 abbrev pub is_shut : Option Bool → Bool
@@ -42,13 +42,13 @@ shut_told true true = refl
 shut_told true false = refl
 shut_told false closed = refl
 
-pub is_closed : (o : Option Standing) (has closed : Bool) → o ≡ cond has (Some (cond closed Closed Open)) None → is_shut (option_map is_open o) ≡ (has && closed)
+pub is_closed : (o : Option AccountStatus) (has closed : Bool) → o ≡ cond has (Some (cond closed Closed Open)) None → is_shut (option_map is_open o) ≡ (has && closed)
 is_closed o has closed e = ap (λ p. is_shut (option_map is_open p)) e ∙ shut_told has closed
 
 -- ---- units that are held
 
 module _ (scheme : Scheme) (c : Code) (held : Held) (known : Holding) (knows : Knows scheme c held known) (blocks : List Block) where
-  pub held_told : (b : Bool) → OnTrue b ((s : Serial) × IsTrue (covers blocks s) × IsSome (get held.lots s)) → OnFalse b ((s : Serial) → IsTrue (covers blocks s) → get held.lots s ≡ None)
+  pub held_told : (b : Bool) → OnTrue b ((s : Serial) × IsTrue (covers blocks s) × IsSome (get held.unit_holdings s)) → OnFalse b ((s : Serial) → IsTrue (covers blocks s) → get held.unit_holdings s ≡ None)
       → b ≡ list_any (λ p. known.is_held p.unit) (pieces (raws blocks))
   held_told true some none =
       let w = covered blocks some.0 some.1 in

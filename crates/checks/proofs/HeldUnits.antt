@@ -16,9 +16,9 @@ use Rattle.status.specs.declared.id.TransactionId.{TransactionId}
 use Rattle.accounts.proofs.Blocks.{covered, covers_from}
 use Rattle.accounts.specs.Holdings.{Held}
 use Rattle.accounts.specs.Refusals.{IsOpen, IsHeldAs, IsUnitOf, AreHeld, AreFree, IsLacking, IsReserved, MayReserve, IsReserveRefusal}
-use Rattle.accounts.specs.declared.lot.Lot.{Lot}
-use Rattle.accounts.specs.declared.lot.Standing.{Standing}
-use Rattle.accounts.specs.declared.lot.Standing.TheVariants.{Open, Closed}
+use Rattle.accounts.specs.declared.unit_holding.UnitHolding.{UnitHolding}
+use Rattle.accounts.specs.declared.unit_holding.AccountStatus.{AccountStatus}
+use Rattle.accounts.specs.declared.unit_holding.AccountStatus.TheVariants.{Open, Closed}
 use Rattle.scheme.specs.declared.registries.Scheme.{Scheme}
 use Rattle.protocol.specs.Checks.{Holding}
 use Rattle.protocol.specs.Pieces.{pieces}
@@ -32,14 +32,14 @@ use Rattle.checks.specs.Refusing.{first_of}
 
 -- ---- accounts
 
-abbrev standing_of : (has closed : Bool) → Option Standing
-standing_of has closed = cond has (Some (cond closed Closed Open)) None
+abbrev account_status_of : (has closed : Bool) → Option AccountStatus
+account_status_of has closed = cond has (Some (cond closed Closed Open)) None
 
-abbrev is_open : Option Standing → Bool
+abbrev is_open : Option AccountStatus → Bool
 is_open (Some Open) = true
 is_open _ = false
 
-open_only : (has closed : Bool) → is_open (standing_of has closed) ≡ not (not has || closed)
+open_only : (has closed : Bool) → is_open (account_status_of has closed) ≡ not (not has || closed)
 open_only true true = refl
 open_only true false = refl
 open_only false closed = refl
@@ -49,29 +49,29 @@ not_not true = refl
 not_not false = refl
 
 -- the account isn't open
-pub not_open : (o : Option Standing) (has closed : Bool) → o ≡ standing_of has closed → (not has || closed) ≡ not (is_open o)
+pub not_open : (o : Option AccountStatus) (has closed : Bool) → o ≡ account_status_of has closed → (not has || closed) ≡ not (is_open o)
 not_open o has closed e = sym (ap not (ap is_open e ∙ open_only has closed) ∙ not_not (not has || closed))
 
-opened : (o : Option Standing) → o ≡ Some Open → not (is_open o) ≡ false
+opened : (o : Option AccountStatus) → o ≡ Some Open → not (is_open o) ≡ false
 opened o e = ap (λ p. not (is_open p)) e
 
-unopened : (o : Option Standing) → (o ≡ Some Open → ⊥) → not (is_open o) ≡ true
+unopened : (o : Option AccountStatus) → (o ≡ Some Open → ⊥) → not (is_open o) ≡ true
 unopened None no' = refl
 unopened (Some Open) no' = absurd (no' refl)
 unopened (Some Closed) no' = refl
 
--- ---- lots
+-- ---- unit holdings
 
-abbrev pub is_as : ℕ → Kind → Lot → Bool
-is_as account k lot = (lot.account == account) && same_kind lot.kind k
+abbrev pub is_as : ℕ → Kind → UnitHolding → Bool
+is_as account k unit_holding = (unit_holding.account == account) && same_kind unit_holding.kind k
 
-abbrev pub is_taken : Lot → Bool
-is_taken lot = is_some lot.reserving
+abbrev pub is_taken : UnitHolding → Bool
+is_taken unit_holding = is_some unit_holding.reserving
 
--- a lot that passes a test
-passing : (test : Lot → Bool) (o : Option Lot) → option_map_or test o false ≡ true → (lot : Lot) × (o ≡ Some lot) × (test lot ≡ true)
+-- a unit holding that passes a test
+passing : (test : UnitHolding → Bool) (o : Option UnitHolding) → option_map_or test o false ≡ true → (unit_holding : UnitHolding) × (o ≡ Some unit_holding) × (test unit_holding ≡ true)
 passing test None e = absurd (true≢false (sym e))
-passing test (Some lot) e = (lot, refl, e)
+passing test (Some unit_holding) e = (unit_holding, refl, e)
 
 some_none : (o : Option TransactionId) → o ≡ None → is_some o ≡ false
 some_none o e = ap is_some e
@@ -80,16 +80,16 @@ some_some : (o : Option TransactionId) → IsSome o → is_some o ≡ true
 some_some None h = absurd (cc)
 some_some (Some t) h = refl
 
-held_as : (held : Held) (account : ℕ) (k : Kind) (s : Serial) → option_map_or (is_as account k) (get held.lots s) false ≡ true → IsHeldAs held account k s
+held_as : (held : Held) (account : ℕ) (k : Kind) (s : Serial) → option_map_or (is_as account k) (get held.unit_holdings s) false ≡ true → IsHeldAs held account k s
 held_as held account k s e =
-    let h = passing (is_as account k) (get held.lots s) e in
+    let h = passing (is_as account k) (get held.unit_holdings s) e in
     let two = and_parts (h.0.account == account) (same_kind h.0.kind k) h.2 in
-    record { lot = h.0; is = h.1; account_is = eqb-true h.0.account account two.0; kind_is = kind_of_same h.0.kind k two.1 }
+    record { unit_holding = h.0; is = h.1; account_is = eqb-true h.0.account account two.0; kind_is = kind_of_same h.0.kind k two.1 }
 
-as_held : (held : Held) (account : ℕ) (k : Kind) (s : Serial) → IsHeldAs held account k s → option_map_or (is_as account k) (get held.lots s) false ≡ true
+as_held : (held : Held) (account : ℕ) (k : Kind) (s : Serial) → IsHeldAs held account k s → option_map_or (is_as account k) (get held.unit_holdings s) false ≡ true
 as_held held account k s h =
     ap (λ o. option_map_or (is_as account k) o false) h.is
-    ∙ and_from (h.lot.account == account) (same_kind h.lot.kind k) (eq-eqb h.lot.account account h.account_is) (eq-eqb (kind_index h.lot.kind) (kind_index k) (ap kind_index h.kind_is))
+    ∙ and_from (h.unit_holding.account == account) (same_kind h.unit_holding.kind k) (eq-eqb h.unit_holding.account account h.account_is) (eq-eqb (kind_index h.unit_holding.kind) (kind_index k) (ap kind_index h.kind_is))
 
 -- ---- the causes
 
@@ -116,14 +116,14 @@ module _ (scheme : Scheme) (c : Code) (held : Held) (known : Holding) (knows : K
   free_cause : AreHeld held account blocks → AreFree held blocks → list_any (λ p. known.is_reserved p.unit) (pieces (raws blocks)) ≡ false
   free_cause all free = none_passes (λ p. known.is_reserved p.unit) blocks (λ b p is kind e.
       let one = all b p.unit is in
-      let none = free p.unit one.lot (covers_from blocks b p.unit is.among is.has) one.is in
-      let no' = knows.is_reserved p.unit ∙ ap (λ o. option_map_or is_taken o false) one.is ∙ some_none one.lot.reserving none in
+      let none = free p.unit one.unit_holding (covers_from blocks b p.unit is.among is.has) one.is in
+      let no' = knows.is_reserved p.unit ∙ ap (λ o. option_map_or is_taken o false) one.is ∙ some_none one.unit_holding.reserving none in
       true≢false (sym e ∙ no'))
 
   reserved_cause : IsReserved held blocks → list_any (λ p. known.is_reserved p.unit) (pieces (raws blocks)) ≡ true
   reserved_cause taken =
       let w = covered blocks taken.unit taken.of in
-      some_passes (λ p. known.is_reserved p.unit) blocks w.0 taken.unit w.1 (knows.is_reserved taken.unit ∙ ap (λ o. option_map_or is_taken o false) taken.is ∙ some_some taken.lot.reserving taken.reserved)
+      some_passes (λ p. known.is_reserved p.unit) blocks w.0 taken.unit w.1 (knows.is_reserved taken.unit ∙ ap (λ o. option_map_or is_taken o false) taken.is ∙ some_some taken.unit_holding.reserving taken.reserved)
 
   -- what may be reserved is refused for none of these
   pub may_refusals : MayReserve held account blocks → first_of (holding_refusals scheme c known account (raws blocks)) ≡ None
@@ -148,8 +148,8 @@ pub may_canonical : (held : Held) (account : ℕ) (blocks canon : List Block) �
 may_canonical held account blocks canon e may = record {
   open_account = may.open_account;
   held_so = λ b s is. let w = canonical_unit blocks canon e b s is in subst (λ k. IsHeldAs held account k s) (sym w.2) (may.held_so w.0 s w.1);
-  free = λ s lot h is.
+  free = λ s unit_holding h is.
       let b = covered canon s h in
       let w = canonical_unit blocks canon e b.0 s b.1 in
-      may.free s lot (covers_from blocks w.0 s w.1.among w.1.has) is;
+      may.free s unit_holding (covers_from blocks w.0 s w.1.among w.1.has) is;
 }

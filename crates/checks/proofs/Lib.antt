@@ -5,6 +5,6 @@ pub mod HeldUnits
 pub mod OrderRefusals
 pub mod CodesInOrder
 pub mod FoundUnits
-pub mod MarkedUnits
+pub mod LabelledUnits
 pub mod LogCauses
 pub mod CanonicalLengths

@@ -15,7 +15,7 @@ use Rattle.scheme.specs.declared.registries.Scheme.{Scheme}
 use Rattle.protocol.specs.Checks.{Ledger, codes_of, log_causes, log_findings, is_of_another, has_other_kind}
 use Rattle.protocol.specs.Pieces.{pieces, repeats}
 use Rattle.protocol.specs.Registries.{allotted, has_member}
-use Rattle.checks.proofs.MarkedUnits.{same_tests}
+use Rattle.checks.proofs.LabelledUnits.{same_tests}
 use Rattle.checks.specs.Following.{is_of_other, unit_causes}
 use Rattle.checks.specs.Knowing.{Registers, starts_eligible}
 use Rattle.checks.specs.declared.register.Owner.{Owner}

@@ -1,4 +1,5 @@
--- What the code follows: the causes of an order's refusal, and of findings, in parts and in their order. No public contract cites it.
+-- What the code follows: the causes of an order's refusal, and of findings, in parts and in their order. No public
+-- contract cites it.
 use Rattle.std.specs.Prelude.{ℕ, ◌==◌, ◌||◌, not, nat_lt, Bool, false, List, [], ◌∷◌, length, Option, is_some, is_none}
 use Rattle.std.specs.FinMap as map
 use Rattle.std.specs.List.{list_any}

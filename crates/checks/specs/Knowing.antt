@@ -8,19 +8,19 @@ use Rattle.units.specs.Unit.{same_kind}
 use Rattle.units.specs.declared.block.Unit.{Unit as Serial}
 use Rattle.units.specs.declared.code.Code.{Code}
 use Rattle.accounts.specs.Holdings.{Held}
-use Rattle.accounts.specs.declared.lot.Standing.TheVariants.{Open, Closed}
+use Rattle.accounts.specs.declared.unit_holding.AccountStatus.TheVariants.{Open, Closed}
 use Rattle.scheme.specs.declared.registries.Scheme.{Scheme}
 use Rattle.protocol.specs.Checks.{Holding, Ledger}
 use Rattle.protocol.specs.Pieces.{Piece}
 use Rattle.protocol.specs.Registries.{allotted, has_account, member}
 use Rattle.checks.specs.declared.register.Register.{Register}
 
--- the accounts are the registry's, each closed or open, and each unit's lot says how it is held
+-- the accounts are the registry's, each closed or open, and each unit's holding says how it is held
 pub record Knows (scheme : Scheme) (c : Code) (held : Held) (known : Holding) : Type 0 where
   pub accounts : (n : ℕ) → map.get held.accounts n ≡ cond (has_account scheme c n) (Some (cond (known.is_closed n) Closed Open)) None
-  pub has : (n : ℕ) (p : Piece) → known.has n p ≡ option_map_or (λ lot. (lot.account == n) && same_kind lot.kind p.kind) (map.get held.lots p.unit) false
-  pub is_held : (s : Serial) → known.is_held s ≡ is_some (map.get held.lots s)
-  pub is_reserved : (s : Serial) → known.is_reserved s ≡ option_map_or (λ lot. is_some lot.reserving) (map.get held.lots s) false
+  pub has : (n : ℕ) (p : Piece) → known.has n p ≡ option_map_or (λ unit_holding. (unit_holding.account == n) && same_kind unit_holding.kind p.kind) (map.get held.unit_holdings p.unit) false
+  pub is_held : (s : Serial) → known.is_held s ≡ is_some (map.get held.unit_holdings s)
+  pub is_reserved : (s : Serial) → known.is_reserved s ≡ option_map_or (λ unit_holding. is_some unit_holding.reserving) (map.get held.unit_holdings s) false
 
 -- ---- at the log
 
@@ -28,7 +28,8 @@ pub record Knows (scheme : Scheme) (c : Code) (held : Held) (known : Holding) : 
 abbrev pub starts_eligible : Scheme → Code → Bool
 starts_eligible scheme c = option_map_or (λ m. m.eligible) (member scheme c) false
 
--- the allotments are the scheme's, the book says who owns each allotted unit and no other, a unit is under way in a transfer, and a registry is eligible as the last order for it says, else as at the start
+-- the allotments are the scheme's, the book says who owns each allotted unit and no other, a unit is under way in a
+-- transfer, and a registry is eligible as the last order for it says, else as at the start
 pub record Registers (scheme : Scheme) (register : Register) (known : Ledger) : Type 0 where
   pub allotments : (s : Serial) → map.get register.allotments s ≡ allotted scheme s
   pub owner : (s : Serial) → known.owner s ≡ option_map (λ o. o.registry) (map.get register.book s)

@@ -13,5 +13,5 @@ mod registries;
 pub use acquirer::{acquirer_findings, holds_some};
 pub use blocks::has_repeats;
 pub use log::log_findings;
-pub use order::{Offer, propose_check};
+pub use order::{NewTransfer, propose_check};
 pub use register::{Owner, Register, UnderWay};

@@ -35,7 +35,7 @@ use units::{Block, Code, Items, NoMemory, RawBlock, Refusal};
 
 /// What an order that passes all checks offers.
 #[derive(Debug, Drop)]
-pub struct Offer {
+pub struct NewTransfer {
     pub id: TransactionId,
     /// Its units are the order's blocks in canonical form.
     pub content: Content,
@@ -153,7 +153,7 @@ fn order_blocks(alloc: Global, order: &Order) -> Result<Vec<Block>, Refusal>
 
 // What the order offers, with the units in canonical form. An order that passes its checks offers something where its
 // account has a number that an account can have.
-fn offered(order: &Order, units: Vec<Block>) -> Option<Content>
+fn new_content(order: &Order, units: Vec<Block>) -> Option<Content>
     requires { raws units.items ≡ canonical order.now.units }
     ensures some { IfSome result (λ c. c ≡ content_of order.now) }
     ensures none { (scheme : Scheme) (code : Code) → IfNone result (first_of (block_refusals order.now.units) ≡ None → first_of (receiver_refusals scheme code order.now) ≡ None → IsAccountNumber order.now.account → ⊥) }
@@ -173,17 +173,17 @@ fn content_of(alloc: Global, order: &Order, blocks: &[Block]) -> Result<Content,
 {
     let units = canonical(alloc, blocks)?;
     // no scheme that is read lists an account whose number is out of range
-    offered(order, units).ok_or(NoMemory)
+    new_content(order, units).ok_or(NoMemory)
 }
 
 /// Checks an order to transfer units out of the registry of that code, with `last` transaction numbers given before.
-/// Each check looks at all blocks before the next one does. Refused with `WRONG_BLOCK_COUNT`: there is no block, or more
-/// than `MOST_BLOCKS`; `BLOCK_OUT_OF_RANGE`: the numbers of a block are out of order or out of range; `BLOCKS_OVERLAP`: a
-/// unit is in two blocks; `ACCOUNT_NOT_OPEN`: the account is unknown or closed; `UNIT_NOT_HELD`: a unit isn't held in the
-/// account with its block's kind; `UNIT_RESERVED`: a unit is reserved; `NO_SUCH_ACQUIRER`: the acquiring registry is
-/// unknown, or is this one; `ACCOUNT_OUT_OF_RANGE`: no account can have the number of the receiving one;
-/// `TRANSACTIONS_USED_UP`: no number is left; `OUT_OF_MEMORY`, also where the registry lists the account under a number
-/// that no account can have, as it does in no scheme that is read.
+/// Each check looks at all blocks before the next one does. Refused with `WRONG_BLOCK_COUNT`: there is no block, or
+/// more than `MOST_BLOCKS`; `BLOCK_OUT_OF_RANGE`: the numbers of a block are out of order or out of range;
+/// `BLOCKS_OVERLAP`: a unit is in two blocks; `ACCOUNT_NOT_OPEN`: the account is unknown or closed; `UNIT_NOT_HELD`:
+/// a unit isn't held in the account with its block's kind; `UNIT_RESERVED`: a unit is reserved; `NO_SUCH_ACQUIRER`:
+/// the acquiring registry is unknown, or is this one; `ACCOUNT_OUT_OF_RANGE`: no account can have the number of the
+/// receiving one; `TRANSACTIONS_USED_UP`: no number is left; `OUT_OF_MEMORY`, also where the registry lists the
+/// account under a number that no account can have, as it does in no scheme that is read.
 pub fn propose_check(
     alloc: Global,
     scheme: &Scheme,
@@ -191,11 +191,11 @@ pub fn propose_check(
     holdings: &Holdings,
     last: u32,
     order: &Order,
-) -> Result<Offer, Refusal>
-    ensures ok { (known : Holding) → Knows scheme.now code holdings.now known → IfOk result (λ offer. first_of (order_refusals scheme.now code known last order.now) ≡ None) }
-    ensures id { IfOk result (λ offer. id_at code (last + 1) ≡ Some offer.id) }
-    ensures content { IfOk result (λ offer. offer.content ≡ content_of order.now) }
-    ensures reservable { IfOk result (λ offer. (blocks : List Block) → raws blocks ≡ offer.content.units → MayReserve holdings.now offer.content.account blocks) }
+) -> Result<NewTransfer, Refusal>
+    ensures ok { (known : Holding) → Knows scheme.now code holdings.now known → IfOk result (λ new_transfer. first_of (order_refusals scheme.now code known last order.now) ≡ None) }
+    ensures id { IfOk result (λ new_transfer. id_at code (last + 1) ≡ Some new_transfer.id) }
+    ensures content { IfOk result (λ new_transfer. new_transfer.content ≡ content_of order.now) }
+    ensures reservable { IfOk result (λ new_transfer. (blocks : List Block) → raws blocks ≡ new_transfer.content.units → MayReserve holdings.now new_transfer.content.account blocks) }
     ensures refused { (known : Holding) → Knows scheme.now code holdings.now known → IfErr result (λ r. (r.code ≡ out_of_memory) ⊎ (first_of (order_refusals scheme.now code known last order.now) ≡ Some r.code)) }
 {
     let blocks = order_blocks(alloc, order)?;
@@ -207,5 +207,5 @@ pub fn propose_check(
         });
     };
     let content = content_of(alloc, order, &blocks)?;
-    Ok(Offer { id, content })
+    Ok(NewTransfer { id, content })
 }

@@ -4,7 +4,7 @@ ghost use Rattle.std.specs.Prelude.{◌≡◌};
 use scheme::Holder;
 use status::TransactionId;
 use std::collections::BTreeMap;
-use units::{Code, Mark, UnitMap};
+use units::{Code, Label, UnitMap};
 
 /// Which registry owns a unit.
 #[derive(Clone, Copy, Debug, PartialEq, Eq)]
@@ -31,7 +31,7 @@ pub struct Register {
     pub orders: BTreeMap<Code, bool>,
 }
 
-impl Mark for Owner {
+impl Label for Owner {
     ghost group = { λ _. 0 };
 
     fn group(&self) -> u64 {
@@ -43,7 +43,7 @@ impl Mark for Owner {
     }
 }
 
-impl Mark for UnderWay {
+impl Label for UnderWay {
     ghost group = { λ _. 0 };
 
     fn group(&self) -> u64 {

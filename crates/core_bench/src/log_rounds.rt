@@ -5,7 +5,7 @@ use crate::rounds::{MOMENT, received};
 use status::{Content, Moment, TransactionId};
 use std::alloc::Global;
 use units::{Block, Code, Items, Kind, Node, Period};
-use wire::{Input, Message, Notice, Notification, Number, Proposal, ProposalStatus};
+use wire::{Input, Message, Notification, NotifiedStatus, Number, Proposal, ProposalStatus};
 
 /// How many registries the scheme has.
 const REGISTRIES: u32 = 31;
@@ -134,12 +134,12 @@ impl Round {
     }
 
     // What that registry tells the log.
-    fn notification(&self, from: Code, notice: Notice) -> Result<Input, Fault> {
+    fn notification(&self, from: Code, notified: NotifiedStatus) -> Result<Input, Fault> {
         received(Message::Notification(Notification {
             from: Node::Registry(from),
             to: Node::Itl,
             id: self.id()?,
-            notice,
+            notified,
         }))
     }
 
@@ -159,8 +159,8 @@ impl Round {
     fn input(&self, alloc: Global, step: Step) -> Result<Input, Fault> {
         match step {
             Step::Proposal => self.proposal(alloc),
-            Step::Accepted => self.notification(self.acquirer, Notice::Accepted),
-            Step::Completed => self.notification(self.initiator, Notice::Completed),
+            Step::Accepted => self.notification(self.acquirer, NotifiedStatus::Accepted),
+            Step::Completed => self.notification(self.initiator, NotifiedStatus::Completed),
             Step::Ack(sent) => self.ack(sent),
         }
     }

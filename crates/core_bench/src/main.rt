@@ -2,22 +2,22 @@
 //!
 //! `core_bench transfers INPUTS` gives a registry INPUTS inputs of whole transfers: an order to transfer a block out of
 //! the one that it was allotted, and Accepted for it; a proposal of another registry, and Completed for it; an
-//! acknowledgement of each message that it sends, and then Accepted and the proposal again, which are repeats. So a round
-//! has nine inputs, of which seven are recorded. `core_bench accounts INPUTS` has it close and open an account without
-//! units, INPUTS times in all.
+//! acknowledgement of each message that it sends, and then Accepted and the proposal again, which are repeats. So a
+//! round has nine inputs, of which seven are recorded. `core_bench accounts INPUTS` has it close and open an account
+//! without units, INPUTS times in all.
 //!
-//! `core_bench log INPUTS` gives the log of 31 registries INPUTS inputs of whole transfers from each registry to the next: a
-//! proposal, Accepted and Completed, an acknowledgement of each message that it sends, and then Accepted and Completed again,
-//! which are repeats. So a round has eight inputs, of which six are recorded. `core_bench clean-ups INPUTS` gives it 100,000
-//! proposals, and then INPUTS clean-ups by which none of them is due; `core_bench eligibility INPUTS` gives it orders on a
-//! registry's eligibility in place of the clean-ups.
+//! `core_bench log INPUTS` gives the log of 31 registries INPUTS inputs of whole transfers from each registry to the
+//! next: a proposal, Accepted and Completed, an acknowledgement of each message that it sends, and then Accepted and
+//! Completed again, which are repeats. So a round has eight inputs, of which six are recorded. `core_bench clean-ups
+//! INPUTS` gives it 100,000 proposals, and then INPUTS clean-ups by which none of them is due; `core_bench
+//! eligibility INPUTS` gives it orders on a registry's eligibility in place of the clean-ups.
 //!
-//! It prints a line of the time in microseconds and of how many inputs were recorded: `TIME RECORDED`. The inputs of transfers
-//! are made before the time is taken, and the proposals are given before it; other inputs are given again and again. INPUTS is 9
-//! to 1,000,000; of 9 inputs it prints nothing.
+//! It prints a line of the time in microseconds and of how many inputs were recorded: `TIME RECORDED`. The inputs of
+//! transfers are made before the time is taken, and the proposals are given before it; other inputs are given again
+//! and again. INPUTS is 9 to 1,000,000; of 9 inputs it prints nothing.
 //!
-//! The exit status is 2 where the words are no such words, and 3 where an input is refused. No contract speaks of time: what is
-//! proved is that the program is safe and ends.
+//! The exit status is 2 where the words are no such words, and 3 where an input is refused. No contract speaks of
+//! time: what is proved is that the program is safe and ends.
 #![tactic(auto)]
 
 mod fault;

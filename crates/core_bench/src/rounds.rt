@@ -4,7 +4,7 @@ use crate::fault::Fault;
 use status::{Content, Moment, Order, TransactionId};
 use std::alloc::Global;
 use units::{Block, Code, Items, Kind, Node, Period, RawBlock};
-use wire::{Input, Message, Notice, Notification, Number, Proposal, ProposalStatus};
+use wire::{Input, Message, Notification, NotifiedStatus, Number, Proposal, ProposalStatus};
 
 /// The account that is closed and opened.
 const EMPTY_ACCOUNT: u64 = 1;
@@ -124,12 +124,12 @@ impl Round {
     }
 
     // What the log tells of the round's transaction of that registry.
-    fn notification(&self, code: Code, notice: Notice) -> Result<Input, Fault> {
+    fn notification(&self, code: Code, notified: NotifiedStatus) -> Result<Input, Fault> {
         received(Message::Notification(Notification {
             from: Node::Itl,
             to: Node::Registry(self.nodes.own),
             id: self.id(code)?,
-            notice,
+            notified,
         }))
     }
 
@@ -149,9 +149,9 @@ impl Round {
     fn input(&self, alloc: Global, step: Step) -> Result<Input, Fault> {
         match step {
             Step::Order => self.order(alloc),
-            Step::Accepted => self.notification(self.nodes.own, Notice::Accepted),
+            Step::Accepted => self.notification(self.nodes.own, NotifiedStatus::Accepted),
             Step::Proposal => self.proposal(alloc),
-            Step::Completed => self.notification(self.nodes.other, Notice::Completed),
+            Step::Completed => self.notification(self.nodes.other, NotifiedStatus::Completed),
             Step::Ack(sent) => self.ack(sent),
         }
     }

@@ -19,7 +19,7 @@ use Rattle.sqlite.specs.Program.{overlay}
 use Rattle.sqlite.specs.Effect.{Database, Reads}
 use Rattle.sqlite_rules.specs.Edit.{id_in}
 use Rattle.durable.specs.Opening.{IsEntry, places_in, comes_before, IsLeastOrGreatest}
-use Rattle.durable.specs.Shown.{IsPlaceIn}
+use Rattle.durable.specs.OwnerRow.{IsPlaceIn}
 use Rattle.durable.proofs.OpeningTexts.{first_row, shows}
 
 pub envs : (rows : List Row) → flat_map (λ (r : Row). ([] ∷ r ∷ []) ∷ []) rows ≡ map (λ (r : Row). [] ∷ r ∷ []) rows

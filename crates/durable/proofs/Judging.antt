@@ -20,11 +20,11 @@ use Rattle.sqlite.specs.Query.{IsAnswer, Output, output}
 use Rattle.sqlite.specs.Program.{overlay}
 use Rattle.sqlite.specs.Effect.{Database, Reads}
 use Rattle.sqlite.proofs.Callers.{one_permutation}
-use Rattle.durable.specs.declared.shown.Owner.{Owner}
-use Rattle.durable.specs.declared.shown.Owner.TheVariants.{Nobody, OtherFormat, OtherNode, Asker}
+use Rattle.durable.specs.declared.owner_row.Owner.{Owner}
+use Rattle.durable.specs.declared.owner_row.Owner.TheVariants.{Nobody, OtherFormat, OtherNode, ThisNode}
 use Rattle.durable.specs.Tables.{store_schema}
 use Rattle.durable.specs.Slots.{place_of, body_of, AreEntries}
-use Rattle.durable.specs.Shown.{IsOwnerIn}
+use Rattle.durable.specs.OwnerRow.{IsOwnerIn}
 use Rattle.durable.specs.Opening.{owned, IsEntry, HasRows, IsLeastOrGreatest, places_in, IsNoStore, HasNegativePlace, IsOwner, IsNegative}
 use Rattle.durable.proofs.Ends.{envs}
 use Rattle.durable.proofs.OpeningTexts.{shows, owner_query}
@@ -72,8 +72,8 @@ told node db rows OtherNode has is (inr it) =
       λ other. other.3 (ap (λ (row : Row). column row 2) (only_row (db.trees 0) other.1 it.0 it.1 other.2 it.2) ∙ format),
       (has, owned it.0 it.1, it.2, λ e. is.3 (ap (λ (row : Row). column row 1) same ∙ e)),
     )
-told node db rows Asker has is (inl none) = absurd (let never = sym is.1 ∙ ap (λ xs. slice_get xs 0) none.1 in cc)
-told node db rows Asker has is (inr it) =
+told node db rows ThisNode has is (inl none) = absurd (let never = sym is.1 ∙ ap (λ xs. slice_get xs 0) none.1 in cc)
+told node db rows ThisNode has is (inr it) =
     let same = first_is rows is.0 it.0 it.1 is.1 it.3 in
     let format : Int it.0 ≡ Int (pos 1) = sym (ap (λ (row : Row). column row 0) same) ∙ is.2 in
     let name : Words it.1 ≡ Words node = sym (ap (λ (row : Row). column row 1) same) ∙ is.3 in

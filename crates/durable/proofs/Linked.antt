@@ -1,4 +1,4 @@
--- What the open store of a link returns and leaves is what the link does.
+-- What the open store of a store state returns and leaves is what the store state does.
 use Rattle.std.proofs.Common.{◌≡◌, ℕ, List, Result, Vec, Global, sym, subst, ap}
 use Rattle.sqlite.specs.Files.{over_files}
 use Rattle.sqlite_disk.specs.declared.Disk.{Ghosts}
@@ -7,17 +7,17 @@ use Rattle.wire.specs.declared.input.Input.{Input}
 use Rattle.durable.specs.Calls.{Appends, Loads}
 use Rattle.durable.specs.Connected.{Connected}
 use Rattle.durable.specs.Connected as connected
-use Rattle.durable.specs.Kept.{IsHonest, MayHold, content, is_waiting}
+use Rattle.durable.specs.Kept.{IsHonest, MayHold, content, must_reopen}
 use Rattle.durable.specs.Records.{Places}
 use Rattle.durable.specs.declared.fault.StoreFault.{StoreFault}
-use Rattle.durable.specs.declared.link.Link.{Link}
-use Rattle.durable.specs.declared.link.Link.TheVariants.{Open}
+use Rattle.durable.specs.declared.store_state.StoreState.{StoreState}
+use Rattle.durable.specs.declared.store_state.StoreState.TheVariants.{Open}
 
-module _ {D : Type 0} (g : Ghosts D) (link : Link D g) (old new : Connected (FileStore D g)) (is : link ≡ Open old) where
-  pub linked_appends : (batch : List Input) (r : Result Unit StoreFault) → Appends (connected.IsHonest over_files) (connected.content over_files) (connected.MayHold over_files) (λ k. k.is_waiting) old new batch r
-      → Appends (IsHonest g) (content g) (MayHold g) (is_waiting g) link (Open new) batch r
+module _ {D : Type 0} (g : Ghosts D) (store_state : StoreState D g) (old new : Connected (FileStore D g)) (is : store_state ≡ Open old) where
+  pub linked_appends : (batch : List Input) (r : Result Unit StoreFault) → Appends (connected.IsHonest over_files) (connected.content over_files) (connected.MayHold over_files) (λ k. k.must_reopen) old new batch r
+      → Appends (IsHonest g) (content g) (MayHold g) (must_reopen g) store_state (Open new) batch r
   linked_appends batch r h =
-      subst (λ (l : Link D g). Appends (IsHonest g) (content g) (MayHold g) (is_waiting g) l (Open new) batch r) (sym is) (record {
+      subst (λ (l : StoreState D g). Appends (IsHonest g) (content g) (MayHold g) (must_reopen g) l (Open new) batch r) (sym is) (record {
         reopen = λ w. let x = h.reopen w in (x.0, ap Open x.1);
         named = h.named;
         stops = h.stops;
@@ -32,10 +32,10 @@ module _ {D : Type 0} (g : Ghosts D) (link : Link D g) (old new : Connected (Fil
 
   -- of places that are part of the content
   pub linked_loads : (first : ℕ) (part : Places → Places) (r : Result (Vec Input Global) StoreFault)
-      → Loads (connected.IsHonest over_files) (connected.content over_files) (connected.MayHold over_files) (λ k. k.is_waiting) old new first (part (connected.content over_files old)) r
-      → Loads (IsHonest g) (content g) (MayHold g) (is_waiting g) link (Open new) first (part (content g link)) r
+      → Loads (connected.IsHonest over_files) (connected.content over_files) (connected.MayHold over_files) (λ k. k.must_reopen) old new first (part (connected.content over_files old)) r
+      → Loads (IsHonest g) (content g) (MayHold g) (must_reopen g) store_state (Open new) first (part (content g store_state)) r
   linked_loads first part r h =
-      subst (λ (l : Link D g). Loads (IsHonest g) (content g) (MayHold g) (is_waiting g) l (Open new) first (part (content g l)) r) (sym is) (record {
+      subst (λ (l : StoreState D g). Loads (IsHonest g) (content g) (MayHold g) (must_reopen g) l (Open new) first (part (content g l)) r) (sym is) (record {
         reopen = λ w. let x = h.reopen w in (x.0, ap Open x.1);
         honest = h.honest;
         ok = h.ok;

@@ -12,8 +12,8 @@ use Rattle.sqlite.specs.State.{State, HasCleanDisk, Survives, Executes, Executes
 use Rattle.sqlite.proofs.Callers.{IsPlain, runs_as, reads_as, statement_of, never_commits}
 use Rattle.durable.specs.Tables.{store_schema, no_schema}
 use Rattle.durable.specs.Opening.{about_schema, IsOpened, IsWithin, IsBare, HasAbout, IsEmpty, HasFresh, HasRows, IsOwner, IsLeastOrGreatest}
-use Rattle.durable.specs.Shown.{IsOwnerIn, IsPlaceIn}
-use Rattle.durable.specs.declared.shown.Owner.{Owner}
+use Rattle.durable.specs.OwnerRow.{IsOwnerIn, IsPlaceIn}
+use Rattle.durable.specs.declared.owner_row.Owner.{Owner}
 use Rattle.durable.proofs.Texts.{about_text, entries_text}
 use Rattle.durable.proofs.OpeningTexts.{about_command, about_plain, entries_command, entries_plain, own_text, own_terms, own_is, own_plain, shows, owner_query, first_row, owner_text, owner_is, owner_plain, least_text, least_is, least_plain, greatest_text, greatest_is, greatest_plain}
 use Rattle.durable.proofs.Steps.{shown_unchanged}

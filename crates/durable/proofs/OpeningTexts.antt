@@ -1,4 +1,5 @@
--- What the texts of an opening mean: those that make a store under the schemas that they meet, and those that look at one.
+-- What the texts of an opening mean: those that make a store under the schemas that they meet, and those that look at
+-- one.
 use Rattle.std.proofs.Common.{◌≡◌, ℕ, pos, negsuc, None, List, [], ◌∷◌, Bool, codes, true, false, refl}
 use Rattle.sqlite.specs.declared.types.Value.TheVariants.{Null, Int}
 use Rattle.sqlite.specs.Collation.TheVariants.{Binary}

@@ -11,24 +11,24 @@ use Rattle.durable.specs.Calls.{Appends, Loads, Reopens, IsSettled}
 use Rattle.durable.specs.Records.{Places, IsAllOrNone}
 use Rattle.durable.specs.declared.fault.StoreFault.{StoreFault}
 
-module _ {S : Type 0} (is_honest : S → Type 0) (content : S → Places) (may_hold : S → Places → Type 0) (is_waiting : S → Bool) where
-  pub whole : (old stopped new : S) (batch : List Input) (fault : StoreFault) → is_waiting old ≡ false → Appends is_honest content may_hold is_waiting old stopped batch (Err fault)
-      → Reopens is_honest content may_hold is_waiting stopped new (Ok tt) → is_honest new → ∥ IsAllOrNone (content old) batch (content new) ∥₁
+module _ {S : Type 0} (is_honest : S → Type 0) (content : S → Places) (may_hold : S → Places → Type 0) (must_reopen : S → Bool) where
+  pub whole : (old stopped new : S) (batch : List Input) (fault : StoreFault) → must_reopen old ≡ false → Appends is_honest content may_hold must_reopen old stopped batch (Err fault)
+      → Reopens is_honest content may_hold must_reopen stopped new (Ok tt) → is_honest new → ∥ IsAllOrNone (content old) batch (content new) ∥₁
   whole old stopped new batch fault runs appended reopened honest =
       ∥∥₁_map (reopened.settles honest) (λ held. appended.crash (reopened.honest honest) runs (content new) held)
 
   -- whether it waited before
-  loaded_from : (old new : S) (first : ℕ) (places : Places) (result : Result (Vec Input Global) StoreFault) (waits : Bool) → is_waiting old ≡ waits
-      → Loads is_honest content may_hold is_waiting old new first places result → IsSettled is_honest content may_hold is_waiting new
+  loaded_from : (old new : S) (first : ℕ) (places : Places) (result : Result (Vec Input Global) StoreFault) (waits : Bool) → must_reopen old ≡ waits
+      → Loads is_honest content may_hold must_reopen old new first places result → IsSettled is_honest content may_hold must_reopen new
   loaded_from old new first places result true was loads = λ honest runs next held.
       let same = (loads.reopen was).1 in
-      let never : true ≡ false = sym was ∙ sym (ap is_waiting same) ∙ runs in
+      let never : true ≡ false = sym was ∙ sym (ap must_reopen same) ∙ runs in
       absurd (cc (never))
   loaded_from old new first places result false was loads = λ honest runs next held. loads.crash honest was next held ∙ sym (loads.kept honest runs)
 
-  pub loaded : (old new : S) (first : ℕ) (places : Places) (result : Result (Vec Input Global) StoreFault) → Loads is_honest content may_hold is_waiting old new first places result
-      → IsSettled is_honest content may_hold is_waiting new
-  loaded old new first places result loads = loaded_from old new first places result (is_waiting old) refl loads
+  pub loaded : (old new : S) (first : ℕ) (places : Places) (result : Result (Vec Input Global) StoreFault) → Loads is_honest content may_hold must_reopen old new first places result
+      → IsSettled is_honest content may_hold must_reopen new
+  loaded old new first places result loads = loaded_from old new first places result (must_reopen old) refl loads
 
 -- what is found in files that hold this
 pub found_held : {D : Type 0} (g : Ghosts D) (files : Files D) (Wanted : Trees → Type 0) (db : Trees) → ((file : D) → g.may_leave file (g.seen file)) → Hold g files Wanted → IsFound g files db → ∥ Wanted db ∥₁

@@ -10,14 +10,14 @@ use Rattle.durable.specs.Backing.{IsFound, MayFind}
 use Rattle.durable.specs.Held.{slots_in}
 use Rattle.durable.specs.Kept.{MayHold, is_there}
 use Rattle.durable.specs.Records.{Places}
-use Rattle.durable.specs.declared.link.Link.{Link}
+use Rattle.durable.specs.declared.store_state.StoreState.{StoreState}
 use Rattle.durable.specs.declared.sql_store.SqlStore.{SqlStore}
 use Rattle.durable.proofs.Reopening.{now-found}
 
-pub same-store : {D : Type 0} {g : Ghosts D} (s : SqlStore D g) (link : Link D g) (faults : ℕ) (there : IsTrue (is_there g link)) → link ≡ s.link → faults ≡ s.faults
-    → record { link = link; node = s.node; faults = faults; options = s.options; alloc = s.alloc; there = there } ≡ s
-same-store {D} {g} s link faults there p q = λ i. record {
-  link = p i;
+pub same-store : {D : Type 0} {g : Ghosts D} (s : SqlStore D g) (store_state : StoreState D g) (faults : ℕ) (there : IsTrue (is_there g store_state)) → store_state ≡ s.store_state → faults ≡ s.faults
+    → record { store_state = store_state; node = s.node; faults = faults; options = s.options; alloc = s.alloc; there = there } ≡ s
+same-store {D} {g} s store_state faults there p q = λ i. record {
+  store_state = p i;
   node = s.node;
   faults = q i;
   options = s.options;
@@ -26,11 +26,11 @@ same-store {D} {g} s link faults there p q = λ i. record {
 }
 
 -- what an opening of its files found is one of the things that a store may have held
-pub settled-again : {D : Type 0} (g : Ghosts D) (old link : Link D g) (files : Files D) (next : Places) → link ≡ old → ((file : D) → g.may_leave file (g.seen file))
-    → ((db : Trees) → MayFind g files db → ∥ MayHold g link (slots_in db) ∥₁) → (db : Trees) × IsFound g files db × (next ≡ slots_in db) → ∥ MayHold g old next ∥₁
-settled-again {D} g old link files next same stays left found =
-    ∥∥₁_map (left found.0 (now-found files stays found.0 found.1)) (λ held. subst (λ (places : Places). MayHold g old places) (sym found.2) (subst (λ (l : Link D g). MayHold g l (slots_in found.0)) same held))
+pub settled-again : {D : Type 0} (g : Ghosts D) (old store_state : StoreState D g) (files : Files D) (next : Places) → store_state ≡ old → ((file : D) → g.may_leave file (g.seen file))
+    → ((db : Trees) → MayFind g files db → ∥ MayHold g store_state (slots_in db) ∥₁) → (db : Trees) × IsFound g files db × (next ≡ slots_in db) → ∥ MayHold g old next ∥₁
+settled-again {D} g old store_state files next same stays left found =
+    ∥∥₁_map (left found.0 (now-found files stays found.0 found.1)) (λ held. subst (λ (places : Places). MayHold g old places) (sym found.2) (subst (λ (l : StoreState D g). MayHold g l (slots_in found.0)) same held))
 
-pub had-files : {D : Type 0} (g : Ghosts D) (old link : Link D g) (files : Files D) → link ≡ old → ((db : Trees) → MayFind g files db → ∥ MayHold g link (slots_in db) ∥₁)
+pub had-files : {D : Type 0} (g : Ghosts D) (old store_state : StoreState D g) (files : Files D) → store_state ≡ old → ((db : Trees) → MayFind g files db → ∥ MayHold g store_state (slots_in db) ∥₁)
     → (db : Trees) → MayFind g files db → ∥ MayHold g old (slots_in db) ∥₁
-had-files {D} g old link files same left db found = subst (λ (l : Link D g). ∥ MayHold g l (slots_in db) ∥₁) same (left db found)
+had-files {D} g old store_state files same left db found = subst (λ (l : StoreState D g). ∥ MayHold g l (slots_in db) ∥₁) same (left db found)

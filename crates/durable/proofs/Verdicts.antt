@@ -8,7 +8,7 @@ use Rattle.sqlite.specs.Effect.{Database}
 use Rattle.sqlite_rules.specs.Edit.{id_in}
 use Rattle.durable.specs.declared.fault.StoreFault.TheVariants.{Damaged, WrongNode, WrongVersion}
 use Rattle.durable.specs.declared.opening.Contents.TheVariants.{NoRow, OwnStore}
-use Rattle.durable.specs.declared.shown.Owner.TheVariants.{Nobody, OtherFormat, OtherNode, Asker}
+use Rattle.durable.specs.declared.owner_row.Owner.TheVariants.{Nobody, OtherFormat, OtherNode, ThisNode}
 use Rattle.durable.specs.Slots.{place_of, slots_from, AreEntries}
 use Rattle.durable.specs.Opening.{HasRows, IsLeastOrGreatest, places_in, IsOwner, IsVerdict, IsNegative}
 use Rattle.durable.proofs.Places.{length-slots}
@@ -31,7 +31,7 @@ other_format node db least has owner end high = (some_store db owner.1 least has
 pub other_node : (node : List ℕ) (db : Database) (least : Option ℤ) → HasRows db → IsOwner node db OtherNode → IsLeastOrGreatest false (db.trees 1) least → (IsNegative least → ⊥) → IsVerdict node db (Err WrongNode)
 other_node node db least has owner end high = (some_store db owner.1.1 least has.0 owner.1.2 high end, owner.0, owner.1)
 
-pub a_store : (node : List ℕ) (db : Database) (least : Option ℤ) → HasRows db → IsOwner node db Asker → IsLeastOrGreatest false (db.trees 1) least → (IsNegative least → ⊥) → IsVerdict node db (Ok OwnStore)
+pub a_store : (node : List ℕ) (db : Database) (least : Option ℤ) → HasRows db → IsOwner node db ThisNode → IsLeastOrGreatest false (db.trees 1) least → (IsNegative least → ⊥) → IsVerdict node db (Ok OwnStore)
 a_store node db least has owner end high =
     let entries = entries_from 0 (db.trees 1) has.1.entries has.1.rise (not_low db least high end) in
     let it = store-of node (db.trees 1) db.trees owner refl entries in

@@ -7,23 +7,17 @@ use Rattle.sqlite.specs.State.{HasCleanDisk}
 use Rattle.sqlite.specs.Held.{Held, held_code, state}
 use Rattle.durable.specs.Held.{IsReady, slots_in, node_in}
 use Rattle.durable.specs.Records.{Places}
-use Rattle.durable.specs.declared.open_store.Standing.{Standing}
-use Rattle.durable.specs.declared.open_store.Standing.TheVariants.{Runs, Waits}
-
-abbrev pub waits : Standing → Bool
-waits Runs = false
-waits Waits = Rattle.std.specs.Prelude.true
 
 pub record Connected (S : Type 0) : Type 0 where
   pub conn : Held S
   -- how many places the content has
   pub count : ℕ
-  -- a fault waits for a reopening
-  pub is_waiting : Bool
+  -- a fault stopped it, and it must be reopened first
+  pub must_reopen : Bool
 
 abbrev pub connected_code : {S : Type 0} → Coded S → Coded (Connected S)
 connected_code {S} store =
-    code_by (Held S × (ℕ × Bool)) (coded× (held_code store) (coded× coded_ℕ coded_bool)) (λ k. (k.conn, (k.count, k.is_waiting))) (λ p. record { conn = p.0; count = p.1.0; is_waiting = p.1.1 })
+    code_by (Held S × (ℕ × Bool)) (coded× (held_code store) (coded× coded_ℕ coded_bool)) (λ k. (k.conn, (k.count, k.must_reopen))) (λ p. record { conn = p.0; count = p.1.0; must_reopen = p.1.1 })
     (λ _. refl)
 
 module _ {S : Type 0} (g : Ghosts S) where
@@ -52,4 +46,4 @@ module _ {S : Type 0} (g : Ghosts S) where
 
   -- no transaction is open, and a store that runs was counted
   abbrev pub IsSound : Connected S → Type 0
-  IsSound k = (k.conn.in_transaction ≡ false) × (k.count ≤ 2 ^ 63) × (IsHonest k → k.is_waiting ≡ false → IsCounted k)
+  IsSound k = (k.conn.in_transaction ≡ false) × (k.count ≤ 2 ^ 63) × (IsHonest k → k.must_reopen ≡ false → IsCounted k)

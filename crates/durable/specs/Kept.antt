@@ -9,45 +9,45 @@ use Rattle.durable.specs.Backing.{MayFind, Hold}
 use Rattle.durable.specs.Connected as connected
 use Rattle.durable.specs.Held.{slots_in}
 use Rattle.durable.specs.Records.{Places}
-use Rattle.durable.specs.declared.link.Link.{Link}
-use Rattle.durable.specs.declared.link.Link.TheVariants.{Open, Shut, Absent}
+use Rattle.durable.specs.declared.store_state.StoreState.{StoreState}
+use Rattle.durable.specs.declared.store_state.StoreState.TheVariants.{Open, Shut, Absent}
 
 module _ {D : Type 0} (g : Ghosts D) where
-  abbrev pub IsHonest : Link D g → Type 0
+  abbrev pub IsHonest : StoreState D g → Type 0
   IsHonest (Open k) = connected.IsHonest over_files k
   IsHonest (Shut files) = AreClean g files.log files.db
   IsHonest Absent = ⊥
 
-  abbrev pub content : Link D g → Places
+  abbrev pub content : StoreState D g → Places
   content (Open k) = connected.content over_files k
   content _ = []
 
   -- what a crash may leave, or an opening may find
-  abbrev pub MayHold : Link D g → Places → Type 0
+  abbrev pub MayHold : StoreState D g → Places → Type 0
   MayHold (Open k) next = connected.MayHold over_files k next
   MayHold (Shut files) next = (db : Trees) × MayFind g files db × (slots_in db ≡ next)
   MayHold Absent next = ⊥
 
-  abbrev pub is_waiting : Link D g → Bool
-  is_waiting (Open k) = k.is_waiting
-  is_waiting _ = true
+  abbrev pub must_reopen : StoreState D g → Bool
+  must_reopen (Open k) = k.must_reopen
+  must_reopen _ = true
 
   -- whose the last commit is
-  abbrev pub owner : Link D g → List ℕ
+  abbrev pub owner : StoreState D g → List ℕ
   owner (Open k) = connected.owner over_files k
   owner _ = []
 
   -- how many calls of its disk have failed, as its connection counts them
-  abbrev pub disk_faults : Link D g → ℕ
+  abbrev pub disk_faults : StoreState D g → ℕ
   disk_faults (Open k) = connected.disk_faults over_files k
   disk_faults _ = 0
 
-  abbrev pub is_there : Link D g → Bool
+  abbrev pub is_there : StoreState D g → Bool
   is_there Absent = false
   is_there _ = true
 
   -- these files are the store's: its own where it is shut, and else files of what its connection may leave
-  abbrev pub AreFilesOf : Link D g → Files D → Type 0
+  abbrev pub AreFilesOf : StoreState D g → Files D → Type 0
   AreFilesOf (Open k) files = Hold g files (file_state k.conn).may_leave
   AreFilesOf (Shut its) files = files ≡ its
   AreFilesOf Absent files = ⊥

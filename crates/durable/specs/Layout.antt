@@ -18,4 +18,4 @@ IsFirst ops op left right =
 abbrev pub AreTables : Schema → Tables → Type 0
 AreTables schema tables.None = schema ≡ no_schema
 AreTables schema tables.Store = schema ≡ store_schema
-AreTables schema tables.Others = (schema ≡ no_schema → ⊥) × (schema ≡ store_schema → ⊥)
+AreTables schema tables.Foreign = (schema ≡ no_schema → ⊥) × (schema ≡ store_schema → ⊥)

@@ -1,3 +1,4 @@
+pub mod Readiness
 pub mod Tables
 pub mod Slots
 pub mod Held
@@ -15,5 +16,5 @@ pub mod Kept
 pub mod Refusals
 pub mod Stores
 pub mod Layout
-pub mod Shown
+pub mod OwnerRow
 pub mod Opening

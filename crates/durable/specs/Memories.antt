@@ -5,21 +5,15 @@ use Rattle.wire.specs.declared.input.Input.{Input}
 use Rattle.durable.specs.declared.memory_store.Kept.{Kept}
 use Rattle.durable.specs.declared.memory_store.Kept.TheVariants as kept
 use Rattle.durable.specs.declared.memory_store.Fuse.{Fuse}
-use Rattle.durable.specs.declared.memory_store.State.{State}
-use Rattle.durable.specs.declared.memory_store.State.TheVariants.{Running, Waiting}
 
 pub record Memory : Type 0 where
   -- whose records they are
   pub node : Node
   pub inputs : List Input
-  -- a fault waits for a reopening
-  pub is_waiting : Bool
+  -- a fault stopped it, and it must be reopened first
+  pub must_reopen : Bool
   pub fuse : Option Fuse
   pub faults : ℕ
-
-abbrev pub waits : State → Bool
-waits Running = false
-waits Waiting = true
 
 -- the fuse burns at an append of the batch
 abbrev pub burns : Option Fuse → List Input → Bool
@@ -40,19 +34,19 @@ part_of kept.None batch = []
 
 -- after an append that passed: the batch stands after what was there
 abbrev pub passed : List Input → Memory → Memory
-passed batch m = record { node = m.node; inputs = m.inputs ++ batch; is_waiting = m.is_waiting; fuse = after_pass m.fuse batch; faults = m.faults }
+passed batch m = record { node = m.node; inputs = m.inputs ++ batch; must_reopen = m.must_reopen; fuse = after_pass m.fuse batch; faults = m.faults }
 
 -- after the append at which the fuse burned
 abbrev pub burned : Kept → List Input → Memory → Memory
-burned keeps batch m = record { node = m.node; inputs = m.inputs ++ part_of keeps batch; is_waiting = true; fuse = None; faults = (m.faults + 1) % 2 ^ 64 }
+burned keeps batch m = record { node = m.node; inputs = m.inputs ++ part_of keeps batch; must_reopen = true; fuse = None; faults = (m.faults + 1) % 2 ^ 64 }
 
--- as it was, but that a fault waits
+-- as it was, but that it must be reopened
 abbrev pub stopped : Memory → Memory
-stopped m = record { node = m.node; inputs = m.inputs; is_waiting = true; fuse = m.fuse; faults = m.faults }
+stopped m = record { node = m.node; inputs = m.inputs; must_reopen = true; fuse = m.fuse; faults = m.faults }
 
--- as it was, and no fault waits
+-- as it was, and it need not be reopened
 abbrev pub reopened : Memory → Memory
-reopened m = record { node = m.node; inputs = m.inputs; is_waiting = false; fuse = m.fuse; faults = m.faults }
+reopened m = record { node = m.node; inputs = m.inputs; must_reopen = false; fuse = m.fuse; faults = m.faults }
 
 -- the fuse was to burn at the batch, and burned
 abbrev pub HasBurned : List Input → Memory → Memory → Type 0

@@ -11,8 +11,8 @@ use Rattle.sqlite.specs.Effect.{Database}
 use Rattle.sqlite.specs.State.{State}
 use Rattle.durable.specs.declared.fault.StoreFault.{StoreFault}
 use Rattle.durable.specs.declared.fault.StoreFault.TheVariants.{Device, Full, Damaged, WrongNode, WrongVersion, Reopen, NoMemory}
-use Rattle.durable.specs.declared.shown.Owner.{Owner}
-use Rattle.durable.specs.declared.shown.Owner.TheVariants.{Nobody, OtherFormat, OtherNode, Asker}
+use Rattle.durable.specs.declared.owner_row.Owner.{Owner}
+use Rattle.durable.specs.declared.owner_row.Owner.TheVariants.{Nobody, OtherFormat, OtherNode, ThisNode}
 use Rattle.durable.specs.declared.opening.Contents.{Contents}
 use Rattle.durable.specs.declared.opening.Contents.TheVariants.{NoRow, OwnStore}
 use Rattle.durable.specs.Tables.{about, about_table, store_schema, no_schema}
@@ -124,7 +124,7 @@ abbrev pub IsOwner : List ℕ → Database → Owner → Type 0
 IsOwner node db Nobody = db.trees 0 ≡ []
 IsOwner node db OtherFormat = HasOtherFormat db
 IsOwner node db OtherNode = (HasOtherFormat db → ⊥) × HasOtherNode node db
-IsOwner node db Asker = db.trees 0 ≡ about 1 node ∷ []
+IsOwner node db ThisNode = db.trees 0 ≡ about 1 node ∷ []
 
 -- the fault of an opening for that node, by the first of these causes
 abbrev pub IsOpeningFault : List ℕ → Database → StoreFault → Type 0
@@ -147,8 +147,9 @@ IsVerdict node db (Ok NoRow) = IsEmpty db
 IsVerdict node db (Ok OwnStore) = IsStore db.trees × (node_in db.trees ≡ node)
 IsVerdict node db (Err fault) = IsOpeningFault node db fault
 
--- What an opening for that node leaves of a connection to a file that held this: a store of the node or the fault, and over a crash what was there or, of a new file, a store without a record.
-pub record Settles (name : List ℕ) (before : Database) (s : State) (result : Result ℕ StoreFault) : Type 0 where
+-- What an opening for that node leaves of a connection to a file that held this: a store of the node or the fault,
+-- and over a crash what was there or, of a new file, a store without a record.
+pub record BecomesStore (name : List ℕ) (before : Database) (s : State) (result : Result ℕ StoreFault) : Type 0 where
   pub ready : OnOk result (IsReady s × (node_in s.committed.trees ≡ name))
   pub count : IfOk result (λ count. count ≡ length (slots_in s.committed.trees))
   pub found : OnOk result ((IsNew before × (slots_in s.committed.trees ≡ [])) ⊎ (s.committed ≡ before))

@@ -16,26 +16,26 @@ use Rattle.durable.specs.declared.sql_store.SqlStore.{SqlStore}
 module _ {D : Type 0} (g : Ghosts D) where
   -- nobody else wrote the files, and the disk returned what was written
   abbrev pub IsHonest : SqlStore D g → Type 0
-  IsHonest s = kept.IsHonest g s.link
+  IsHonest s = kept.IsHonest g s.store_state
 
   abbrev pub content : SqlStore D g → Places
-  content s = kept.content g s.link
+  content s = kept.content g s.store_state
 
   -- what a crash may leave, or an opening may find
   abbrev pub MayHold : SqlStore D g → Places → Type 0
-  MayHold s next = kept.MayHold g s.link next
+  MayHold s next = kept.MayHold g s.store_state next
 
-  -- a fault waits for a reopening
-  abbrev pub is_waiting : SqlStore D g → Bool
-  is_waiting s = kept.is_waiting g s.link
+  -- a fault stopped it, and it must be reopened first
+  abbrev pub must_reopen : SqlStore D g → Bool
+  must_reopen s = kept.must_reopen g s.store_state
 
   -- the node in the row of about
   abbrev pub owner : SqlStore D g → List ℕ
-  owner s = kept.owner g s.link
+  owner s = kept.owner g s.store_state
 
   -- how many calls of its files have failed, as its connection counts them
   abbrev pub disk_faults : SqlStore D g → ℕ
-  disk_faults s = kept.disk_faults g s.link
+  disk_faults s = kept.disk_faults g s.store_state
 
   -- for which node it was opened
   abbrev pub node_of : SqlStore D g → Node
@@ -46,7 +46,7 @@ module _ {D : Type 0} (g : Ghosts D) where
 
   -- these files are the store's, and what an opening of them finds, the store may have held
   abbrev pub HadFiles : SqlStore D g → Files D → Type 0
-  HadFiles s files = kept.AreFilesOf g s.link files × ((db : Trees) → MayFind g files db → ∥ MayHold s (slots_in db) ∥₁)
+  HadFiles s files = kept.AreFilesOf g s.store_state files × ((db : Trees) → MayFind g files db → ∥ MayHold s (slots_in db) ∥₁)
 
   -- why an opening of its files for its node was refused
   abbrev pub IsReopeningFault : SqlStore D g → StoreFault → Type 0

@@ -15,7 +15,7 @@ use sqlite_disk::{Disk, Files, Tally};
 use std::alloc::Global;
 
 /// Gives the connection up for its files, with no call of the device. What isn't committed is lost.
-pub(crate) fn give_up<D: Disk + Drop>(conn: Connection<FileStore<D>>) -> Files<D>
+pub(crate) fn files_of<D: Disk + Drop>(conn: Connection<FileStore<D>>) -> Files<D>
     ensures honest { AreClean D.Disk result.log result.db → HasCleanDisk (file_state conn) }
     ensures left { (db : Trees) → MayFind D.Disk result db → ∥ (file_state conn).may_leave db ∥₁ }
     ensures holds { Hold D.Disk result (file_state conn).may_leave }
@@ -23,8 +23,9 @@ pub(crate) fn give_up<D: Disk + Drop>(conn: Connection<FileStore<D>>) -> Files<D
     conn.into_store().close()
 }
 
-/// What an error of an opening tells, by what the failed calls of the files had met before it and since. SQLite calls a file
-/// corrupt where it can't be a database and where a read was found wrong; only the first is a fault of what is written.
+/// What an error of an opening tells, by what the failed calls of the files had met before it and since. SQLite calls
+/// a file corrupt where it can't be a database and where a read was found wrong; only the first is a fault of what is
+/// written.
 pub(crate) fn opening_fault(error: SqlError, before: Tally, now: Tally) -> StoreFault
     ensures named { (result ≡ StoreFault.Damaged 0) ⊎ ((result ≡ StoreFault.NoMemory) ⊎ IsTrue (is_device_fault result)) }
     ensures no_database { error ≡ SqlError.SqliteFailure ErrorCode.NotADatabase → result ≡ StoreFault.Damaged 0 }

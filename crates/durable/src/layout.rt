@@ -19,7 +19,7 @@ pub(crate) enum Tables {
     None,
     /// The two of a store, and no index or view.
     Store,
-    Others,
+    Foreign,
 }
 
 /// Whether the value is NULL.
@@ -205,11 +205,11 @@ pub(crate) fn tables_of(schema: &Schema) -> Tables
     ensures { AreTables schema.now result }
 {
     if !has_tables_alone(schema) {
-        return Tables::Others;
+        return Tables::Foreign;
     }
     match schema.tables.as_slice() {
         [] => Tables::None,
         [about, entries] if is_about(about) && is_entries(entries) => Tables::Store,
-        _ => Tables::Others,
+        _ => Tables::Foreign,
     }
 }

@@ -6,6 +6,7 @@ ghost use Rattle.durable.specs.declared.fault.StoreFault.TheVariants.{Device, Re
 
 use crate::fault::StoreFault;
 use crate::node_store::NodeStore;
+use crate::readiness::Readiness;
 use crate::records::texts;
 use std::alloc::Global;
 use std::marker::Model;
@@ -28,31 +29,25 @@ struct Fuse {
     keeps: Kept,
 }
 
-// Whether a fault waits for a reopening.
-#[derive(Clone, Copy, Debug, PartialEq, Eq)]
-enum State {
-    Running,
-    Waiting,
-}
-
 /// A store in memory, for tests and for runs that needn't outlive the process. It keeps the records of one node.
 #[derive(Debug, Drop)]
 pub struct MemoryStore {
     node: Node,
     records: Vec<Input>,
-    state: State,
+    readiness: Readiness,
     fuse: Option<Fuse>,
     faults: u64,
     alloc: Global,
 }
 
 impl Model for MemoryStore {
-    ghost use Rattle.durable.specs.Memories.{Memory, waits};
+    ghost use Rattle.durable.specs.Memories.{Memory};
+    ghost use Rattle.durable.specs.Readiness.{is_stopped};
     ghost use Rattle.durable.specs.Records.{AreRecords, written};
 
     ghost Value = { Memory };
 
-    ghost view = { λ s. record { node = s.node; inputs = s.records.items; is_waiting = waits s.state; fuse = s.fuse; faults = s.faults } };
+    ghost view = { λ s. record { node = s.node; inputs = s.records.items; must_reopen = is_stopped s.readiness; fuse = s.fuse; faults = s.faults } };
 
     ghost invariant = { λ s. AreRecords (written s.records.items) s.records.items };
 }
@@ -85,28 +80,29 @@ fn grow(alloc: Global, records: &mut Vec<Input>, batch: &[Input]) -> Result<(), 
 impl MemoryStore {
     /// An empty store.
     pub fn new(alloc: Global, node: Node) -> MemoryStore
-        ensures { result ≡ record { node = node; inputs = []; is_waiting = false; fuse = None; faults = 0 } }
+        ensures { result ≡ record { node = node; inputs = []; must_reopen = false; fuse = None; faults = 0 } }
     {
         MemoryStore {
             node,
             records: Vec::new(alloc),
-            state: State::Running,
+            readiness: Readiness::Ready,
             fuse: None,
             faults: 0,
             alloc,
         }
     }
 
-    /// An empty store that lets `passes` appends of at least one record pass. The next such append fails with `Device`, and the
-    /// whole batch is kept or none of it, as `keeps` says. The fuse burns once: after a reopening all appends pass.
+    /// An empty store that lets `passes` appends of at least one record pass. The next such append fails with
+    /// `Device`, and the whole batch is kept or none of it, as `keeps` says. The fuse burns once: after a reopening
+    /// all appends pass.
     pub fn fused(alloc: Global, node: Node, passes: u64, keeps: Kept) -> MemoryStore
-        ensures { result ≡ record { node = node; inputs = []; is_waiting = false; fuse = Some (record { passes = passes; keeps = keeps }); faults = 0 } }
+        ensures { result ≡ record { node = node; inputs = []; must_reopen = false; fuse = Some (record { passes = passes; keeps = keeps }); faults = 0 } }
     {
         let fuse = Some(Fuse { passes, keeps });
         MemoryStore {
             node,
             records: Vec::new(alloc),
-            state: State::Running,
+            readiness: Readiness::Ready,
             fuse,
             faults: 0,
             alloc,
@@ -120,7 +116,7 @@ impl MemoryStore {
         self.node
     }
 
-    // Puts the batch after the records, whatever the fuse. After `NoMemory` a fault waits, and all else is as it was.
+    // Puts the batch after the records, whatever the fuse. After `NoMemory` the store must be reopened, and all else is as it was.
     fn keep(&mut self, batch: &[Input]) -> Result<(), StoreFault>
         ensures ok { OnOk result (self.new ≡ record self.old { inputs = self.old.inputs ++ batch.now }) }
         ensures refused { OnErr result (self.new ≡ stopped self.old) }
@@ -129,7 +125,7 @@ impl MemoryStore {
         match grow(self.alloc, &mut self.records, batch) {
             Ok(()) => Ok(()),
             Err(NoMemory) => {
-                self.state = State::Waiting;
+                self.readiness = Readiness::MustReopen;
                 Err(StoreFault::NoMemory)
             }
         }
@@ -146,7 +142,7 @@ impl MemoryStore {
         }
         self.fuse = None;
         self.faults = self.faults.wrapping_add(1);
-        self.state = State::Waiting;
+        self.readiness = Readiness::MustReopen;
         Err(StoreFault::Device)
     }
 }
@@ -161,7 +157,7 @@ impl NodeStore for MemoryStore {
 
     ghost may_hold = { λ m next. next ≡ written m.inputs };
 
-    ghost is_waiting = { λ m. m.is_waiting };
+    ghost must_reopen = { λ m. m.must_reopen };
 
     ghost faults = { λ m. m.faults };
 
@@ -171,14 +167,14 @@ impl NodeStore for MemoryStore {
 
     /// `Device` comes where the fuse burns, and nowhere else, and `Full` never.
     fn append(&mut self, batch: &[Input]) -> Result<(), StoreFault>
-        ensures reopen { IsTrue self.old.is_waiting → (result ≡ Err Reopen) × (self.new ≡ self.old) }
-        ensures empty { self.old.is_waiting ≡ false → batch.now ≡ [] → result ≡ Ok tt }
+        ensures reopen { IsTrue self.old.must_reopen → (result ≡ Err Reopen) × (self.new ≡ self.old) }
+        ensures empty { self.old.must_reopen ≡ false → batch.now ≡ [] → result ≡ Ok tt }
         ensures ok { OnOk result ((burns self.old.fuse batch.now ≡ false) × (self.new ≡ passed batch.now self.old)) }
-        ensures named { self.old.is_waiting ≡ false → IfErr result (λ e. (e ≡ OutOfMemory) ⊎ (e ≡ Device)) }
+        ensures named { self.old.must_reopen ≡ false → IfErr result (λ e. (e ≡ OutOfMemory) ⊎ (e ≡ Device)) }
         ensures refused { result ≡ Err OutOfMemory → self.new ≡ stopped self.old }
         ensures device { result ≡ Err Device → HasBurned batch.now self.old self.new }
     {
-        if self.state == State::Waiting {
+        if self.readiness == Readiness::MustReopen {
             return Err(StoreFault::Reopen);
         }
         if batch.is_empty() {
@@ -198,13 +194,13 @@ impl NodeStore for MemoryStore {
 
     /// Never `Damaged`.
     fn load(&mut self) -> Result<Vec<Input>, StoreFault>
-        ensures reopen { IsTrue self.old.is_waiting → (result ≡ Err Reopen) × (self.new ≡ self.old) }
+        ensures reopen { IsTrue self.old.must_reopen → (result ≡ Err Reopen) × (self.new ≡ self.old) }
         ensures ok { IfOk result (λ inputs. inputs.items ≡ self.old.inputs) }
         ensures records { IfOk result (λ inputs. AreRecords (written self.old.inputs) inputs.items) }
-        ensures named { self.old.is_waiting ≡ false → IfErr result (λ e. e ≡ OutOfMemory) }
+        ensures named { self.old.must_reopen ≡ false → IfErr result (λ e. e ≡ OutOfMemory) }
         ensures kept { self.new ≡ self.old }
     {
-        if self.state == State::Waiting {
+        if self.readiness == Readiness::MustReopen {
             return Err(StoreFault::Reopen);
         }
         Ok(copies(self.alloc, &self.records)?)
@@ -212,13 +208,13 @@ impl NodeStore for MemoryStore {
 
     /// Never `Damaged`.
     fn load_page(&mut self, from: u64, max: u64) -> Result<Vec<Input>, StoreFault>
-        ensures reopen { IsTrue self.old.is_waiting → (result ≡ Err Reopen) × (self.new ≡ self.old) }
+        ensures reopen { IsTrue self.old.must_reopen → (result ≡ Err Reopen) × (self.new ≡ self.old) }
         ensures ok { IfOk result (λ inputs. inputs.items ≡ take max (drop from self.old.inputs)) }
         ensures records { IfOk result (λ inputs. AreRecords (take max (drop from (written self.old.inputs))) inputs.items) }
-        ensures named { self.old.is_waiting ≡ false → IfErr result (λ e. e ≡ OutOfMemory) }
+        ensures named { self.old.must_reopen ≡ false → IfErr result (λ e. e ≡ OutOfMemory) }
         ensures kept { self.new ≡ self.old }
     {
-        if self.state == State::Waiting {
+        if self.readiness == Readiness::MustReopen {
             return Err(StoreFault::Reopen);
         }
         let first = self.records.len().min(from as usize);
@@ -232,7 +228,7 @@ impl NodeStore for MemoryStore {
         ensures ok { result ≡ Ok tt }
         ensures reopened { self.new ≡ reopened self.old }
     {
-        self.state = State::Running;
+        self.readiness = Readiness::Ready;
         Ok(())
     }
 

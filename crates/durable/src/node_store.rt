@@ -22,8 +22,8 @@ pub trait NodeStore {
     /// What a crash at this moment, or a reopening, may find.
     ghost may_hold: { Self → Places → Type 0 };
 
-    /// A fault waits for a reopening.
-    ghost is_waiting: { Self → Bool };
+    /// A fault stopped it, and it must be reopened first.
+    ghost must_reopen: { Self → Bool };
 
     /// What `fault_count` returns.
     ghost faults: { Self → ℕ };
@@ -36,40 +36,40 @@ pub trait NodeStore {
 
     /// Appends the whole batch, or nothing of it. An empty batch changes nothing.
     ///
-    /// Fails with `Device` or `Full` where the device failed or has no room: the batch is there as a whole or not at all, and
-    /// a reopening settles which. Fails with `NoMemory` where memory ran out: the content is as it was. After each of these a
-    /// reopening is due. Fails with `Reopen`, and changes nothing, where one was due before.
+    /// Fails with `Device` or `Full` where the device failed or has no room: the batch is there as a whole or not at
+    /// all, and a reopening settles which. Fails with `NoMemory` where memory ran out: the content is as it was.
+    /// After each of these a reopening is due. Fails with `Reopen`, and changes nothing, where one was due before.
     fn append(&mut self, batch: &[Input]) -> Result<(), StoreFault>
-        ensures appends { Appends is_honest content may_hold is_waiting self.old self.new batch.now result }
+        ensures appends { Appends is_honest content may_hold must_reopen self.old self.new batch.now result }
         ensures count { faults self.new ≡ faults_after (faults self.old) result }
         ensures whose { whose self.new ≡ whose self.old }
-        ensures own { is_honest self.new → is_waiting self.new ≡ false → is_own self.old → is_own self.new };
+        ensures own { is_honest self.new → must_reopen self.new ≡ false → is_own self.old → is_own self.new };
 
     /// All records in their order.
     ///
-    /// Fails with `Damaged(p)` where place p is the least that is missing while a later one is there, or whose text is no
-    /// record's, and with `NoMemory` where memory ran out: the store goes on as it was. Fails with `Device` or `Full` where the
-    /// device failed: a reopening is due, and finds the same content. Fails with `Reopen`, and changes nothing, where one was
-    /// due before.
+    /// Fails with `Damaged(p)` where place p is the least that is missing while a later one is there, or whose text
+    /// is no record's, and with `NoMemory` where memory ran out: the store goes on as it was. Fails with `Device` or
+    /// `Full` where the device failed: a reopening is due, and finds the same content. Fails with `Reopen`, and
+    /// changes nothing, where one was due before.
     fn load(&mut self) -> Result<Vec<Input>, StoreFault>
-        ensures loads { Loads is_honest content may_hold is_waiting self.old self.new 0 (content self.old) result }
+        ensures loads { Loads is_honest content may_hold must_reopen self.old self.new 0 (content self.old) result }
         ensures count { faults self.new ≡ faults_after (faults self.old) result }
         ensures whose { whose self.new ≡ whose self.old }
-        ensures own { is_honest self.new → is_waiting self.new ≡ false → is_own self.old → is_own self.new };
+        ensures own { is_honest self.new → must_reopen self.new ≡ false → is_own self.old → is_own self.new };
 
     /// The records from place `from` on, at most `max`. Fails as `load` does, for the places that it looks at alone.
     fn load_page(&mut self, from: u64, max: u64) -> Result<Vec<Input>, StoreFault>
         requires some { 1 ≤ max }
         requires few { max ≤ 256 }
-        ensures loads { Loads is_honest content may_hold is_waiting self.old self.new from (take max (drop from (content self.old))) result }
+        ensures loads { Loads is_honest content may_hold must_reopen self.old self.new from (take max (drop from (content self.old))) result }
         ensures count { faults self.new ≡ faults_after (faults self.old) result }
         ensures whose { whose self.new ≡ whose self.old }
-        ensures own { is_honest self.new → is_waiting self.new ≡ false → is_own self.old → is_own self.new };
+        ensures own { is_honest self.new → must_reopen self.new ≡ false → is_own self.old → is_own self.new };
 
-    /// Opens the store again, whether or not a fault waits. After `Ok` the content is one that it could hold before. After an
-    /// error, which is never `Reopen`, a reopening is still due.
+    /// Opens the store again, whether or not it must be. After `Ok` the content is one that it could hold before.
+    /// After an error, which is never `Reopen`, a reopening is still due.
     fn reopen(&mut self) -> Result<(), StoreFault>
-        ensures reopens { Reopens is_honest content may_hold is_waiting self.old self.new result }
+        ensures reopens { Reopens is_honest content may_hold must_reopen self.old self.new result }
         ensures count { faults self.new ≡ faults_after (faults self.old) result }
         ensures whose { whose self.new ≡ whose self.old }
         ensures own { is_honest self.new → OnOk result (is_own self.new) };

@@ -14,6 +14,7 @@ ghost use Rattle.durable.specs.Rooms.{HasNoRoom, LacksRoom};
 
 use crate::batch;
 use crate::fault::StoreFault;
+use crate::readiness::Readiness;
 use crate::reading::{bodies, rows_of};
 use crate::records::{records, texts};
 use sqlite::{Alter, Connection};
@@ -21,31 +22,25 @@ use std::alloc::Global;
 use std::marker::Model;
 use wire::Input;
 
-// Whether a fault waits for a reopening.
-#[derive(Clone, Copy, Debug, PartialEq, Eq)]
-enum Standing {
-    Runs,
-    Waits,
-}
-
 /// A store over an open connection. After a fault every call returns `Reopen`.
 pub(crate) struct OpenStore<S: Alter> {
     conn: Connection<S>,
     count: u64,
-    standing: Standing,
+    readiness: Readiness,
     alloc: Global,
 }
 
 impl<S: Alter> Model for OpenStore<S> {
-    ghost use Rattle.durable.specs.Connected.{Connected, connected_code, IsSound, waits};
+    ghost use Rattle.durable.specs.Connected.{Connected, connected_code, IsSound};
+    ghost use Rattle.durable.specs.Readiness.{is_stopped};
 
     ghost Value = { Connected S };
 
     ghost coded = { connected_code S.code };
 
-    ghost view = { λ s. record { conn = s.conn; count = s.count; is_waiting = waits s.standing } };
+    ghost view = { λ s. record { conn = s.conn; count = s.count; must_reopen = is_stopped s.readiness } };
 
-    ghost invariant = { λ s. IsSound S.Store (record { conn = s.conn; count = s.count; is_waiting = waits s.standing }) };
+    ghost invariant = { λ s. IsSound S.Store (record { conn = s.conn; count = s.count; must_reopen = is_stopped s.readiness }) };
 }
 
 // It is written out, so that a caller does not prove again how each part is dropped.
@@ -54,7 +49,7 @@ impl<S: Alter + Drop> Drop for OpenStore<S> {
         let OpenStore {
             conn: _,
             count: _,
-            standing: _,
+            readiness: _,
             alloc: _,
         } = self;
     }
@@ -77,13 +72,13 @@ impl<S: Alter> OpenStore<S> {
         requires small { count ≤ 2 ^ 63 }
         requires ready { HasCleanDisk (state S.Store conn) → IsReady (state S.Store conn) }
         requires counted { HasCleanDisk (state S.Store conn) → count ≡ length (slots_in (state S.Store conn).committed.trees) }
-        ensures value { result ≡ record { conn = conn; count = count; is_waiting = false } }
+        ensures value { result ≡ record { conn = conn; count = count; must_reopen = false } }
         ensures durable { IsHonest S.Store result → (next : Places) → MayHold S.Store result next → next ≡ content S.Store result }
     {
         OpenStore {
             conn,
             count,
-            standing: Standing::Runs,
+            readiness: Readiness::Ready,
             alloc,
         }
     }
@@ -91,13 +86,13 @@ impl<S: Alter> OpenStore<S> {
     /// The connection.
     pub(crate) fn into_connection(self) -> Connection<S>
         ensures connection { result ≡ self.conn }
-        ensures settled { IsHonest S.Store self → self.is_waiting ≡ false → (db : Trees) → (state S.Store self.conn).may_leave db → db ≡ (state S.Store self.conn).committed.trees }
-        ensures durable { IsHonest S.Store self → self.is_waiting ≡ false → (next : Places) → MayHold S.Store self next → next ≡ content S.Store self }
+        ensures settled { IsHonest S.Store self → self.must_reopen ≡ false → (db : Trees) → (state S.Store self.conn).may_leave db → db ≡ (state S.Store self.conn).committed.trees }
+        ensures durable { IsHonest S.Store self → self.must_reopen ≡ false → (next : Places) → MayHold S.Store self next → next ≡ content S.Store self }
     {
         let OpenStore {
             conn,
             count: _,
-            standing: _,
+            readiness: _,
             alloc: _,
         } = self;
         conn
@@ -105,10 +100,10 @@ impl<S: Alter> OpenStore<S> {
 
     // The texts of a batch at the places after the content.
     fn put(&mut self, texts: &[Vec<u8>]) -> Result<(), StoreFault>
-        requires runs { self.old.is_waiting ≡ false }
+        requires runs { self.old.must_reopen ≡ false }
         ensures named { IfErr result (λ e. (e ≡ NoMemory) ⊎ IsTrue (is_device_fault e)) }
-        ensures stops { OnErr result (IsTrue self.new.is_waiting) }
-        ensures runs { OnOk result (self.new.is_waiting ≡ false) }
+        ensures stops { OnErr result (IsTrue self.new.must_reopen) }
+        ensures runs { OnOk result (self.new.must_reopen ≡ false) }
         ensures honest { IsHonest S.Store self.new → IsHonest S.Store self.old }
         ensures ok { IsHonest S.Store self.new → OnOk result (content S.Store self.new ≡ followed_by (content S.Store self.old) (map items texts.now)) }
         ensures owner { IsHonest S.Store self.new → OnOk result (owner S.Store self.new ≡ owner S.Store self.old) }
@@ -117,10 +112,10 @@ impl<S: Alter> OpenStore<S> {
             → (next ≡ content S.Store self.old) ⊎ (next ≡ followed_by (content S.Store self.old) (map items texts.now)) }
         ensures full { IsHonest S.Store self.new → result ≡ Err Full
             → (self.old.count + length texts.now < 2 ^ 62 → ⊥) ⊎ HasNoRoom (disk_faults S.Store self.old) (disk_faults S.Store self.new) (map (λ body. Some body) (map items texts.now)) }
-        ensures durable { IsHonest S.Store self.new → self.new.is_waiting ≡ false → (next : Places) → MayHold S.Store self.new next → next ≡ content S.Store self.new }
+        ensures durable { IsHonest S.Store self.new → self.new.must_reopen ≡ false → (next : Places) → MayHold S.Store self.new next → next ≡ content S.Store self.new }
     {
         let Some(total) = total(self.count, texts.len()) else {
-            self.standing = Standing::Waits;
+            self.readiness = Readiness::MustReopen;
             return Err(StoreFault::Full);
         };
         match batch::append(&mut self.conn, self.count, texts) {
@@ -129,7 +124,7 @@ impl<S: Alter> OpenStore<S> {
                 Ok(())
             }
             Err(fault) => {
-                self.standing = Standing::Waits;
+                self.readiness = Readiness::MustReopen;
                 Err(fault)
             }
         }
@@ -137,18 +132,18 @@ impl<S: Alter> OpenStore<S> {
 
     /// Appends the whole batch, or nothing of it.
     pub(crate) fn append(&mut self, batch: &[Input]) -> Result<(), StoreFault>
-        ensures appends { Appends (IsHonest S.Store) (content S.Store) (MayHold S.Store) (λ k. k.is_waiting) self.old self.new batch.now result }
-        ensures owner { IsHonest S.Store self.new → self.new.is_waiting ≡ false → owner S.Store self.new ≡ owner S.Store self.old }
+        ensures appends { Appends (IsHonest S.Store) (content S.Store) (MayHold S.Store) (λ k. k.must_reopen) self.old self.new batch.now result }
+        ensures owner { IsHonest S.Store self.new → self.new.must_reopen ≡ false → owner S.Store self.new ≡ owner S.Store self.old }
         ensures full { IsHonest S.Store self.new → result ≡ Err Full → LacksRoom (content S.Store self.old) batch.now (disk_faults S.Store self.old) (disk_faults S.Store self.new) }
     {
-        if self.standing == Standing::Waits {
+        if self.readiness == Readiness::MustReopen {
             return Err(StoreFault::Reopen);
         }
         if batch.is_empty() {
             return Ok(());
         }
         let Ok(texts) = texts(self.alloc, batch) else {
-            self.standing = Standing::Waits;
+            self.readiness = Readiness::MustReopen;
             return Err(StoreFault::NoMemory);
         };
         self.put(&texts)
@@ -156,25 +151,25 @@ impl<S: Alter> OpenStore<S> {
 
     // The records of the places from the first one up to another, of which there is at least one.
     fn records_between(&mut self, first: u64, until: u64) -> Result<Vec<Input>, StoreFault>
-        requires runs { self.old.is_waiting ≡ false }
+        requires runs { self.old.must_reopen ≡ false }
         requires some { first < until }
         requires within { until ≤ self.old.count }
         ensures honest { IsHonest S.Store self.new → IsHonest S.Store self.old }
         ensures ok { IsHonest S.Store self.new → IfOk result (λ inputs. AreRecords (take (until - first) (drop first (content S.Store self.old))) inputs.items) }
         ensures damaged { IsHonest S.Store self.new → IfErr result (λ e. (p : ℕ) → e ≡ Damaged p → (first ≤ p) × IsDamagedAt (p - first) (take (until - first) (drop first (content S.Store self.old)))) }
         ensures named { IfErr result IsReadFault }
-        ensures stops { IfErr result (λ e. self.new.is_waiting ≡ is_device_fault e) }
-        ensures runs { OnOk result (self.new.is_waiting ≡ false) }
+        ensures stops { IfErr result (λ e. self.new.must_reopen ≡ is_device_fault e) }
+        ensures runs { OnOk result (self.new.must_reopen ≡ false) }
         ensures count { self.new.count ≡ self.old.count }
-        ensures kept { IsHonest S.Store self.new → self.new.is_waiting ≡ false → content S.Store self.new ≡ content S.Store self.old }
-        ensures owner { IsHonest S.Store self.new → self.new.is_waiting ≡ false → owner S.Store self.new ≡ owner S.Store self.old }
+        ensures kept { IsHonest S.Store self.new → self.new.must_reopen ≡ false → content S.Store self.new ≡ content S.Store self.old }
+        ensures owner { IsHonest S.Store self.new → self.new.must_reopen ≡ false → owner S.Store self.new ≡ owner S.Store self.old }
         ensures crash { IsHonest S.Store self.new → (next : Places) → MayHold S.Store self.new next → next ≡ content S.Store self.old }
     {
         let rows = match rows_of(&mut self.conn, first, until - 1) {
             Ok(rows) => rows,
             Err(StoreFault::NoMemory) => return Err(StoreFault::NoMemory),
             Err(fault) => {
-                self.standing = Standing::Waits;
+                self.readiness = Readiness::MustReopen;
                 return Err(fault);
             }
         };
@@ -182,7 +177,7 @@ impl<S: Alter> OpenStore<S> {
             Ok(bodies) if bodies.len() as u64 <= until - first => bodies,
             Err(StoreFault::NoMemory) => return Err(StoreFault::NoMemory),
             _ => {
-                self.standing = Standing::Waits;
+                self.readiness = Readiness::MustReopen;
                 return Err(StoreFault::Device);
             }
         };
@@ -191,10 +186,10 @@ impl<S: Alter> OpenStore<S> {
 
     /// The records from place `from` on, at most `max`.
     pub(crate) fn load_page(&mut self, from: u64, max: u64) -> Result<Vec<Input>, StoreFault>
-        ensures loads { Loads (IsHonest S.Store) (content S.Store) (MayHold S.Store) (λ k. k.is_waiting) self.old self.new from (take max (drop from (content S.Store self.old))) result }
-        ensures owner { IsHonest S.Store self.new → self.new.is_waiting ≡ false → owner S.Store self.new ≡ owner S.Store self.old }
+        ensures loads { Loads (IsHonest S.Store) (content S.Store) (MayHold S.Store) (λ k. k.must_reopen) self.old self.new from (take max (drop from (content S.Store self.old))) result }
+        ensures owner { IsHonest S.Store self.new → self.new.must_reopen ≡ false → owner S.Store self.new ≡ owner S.Store self.old }
     {
-        if self.standing == Standing::Waits {
+        if self.readiness == Readiness::MustReopen {
             return Err(StoreFault::Reopen);
         }
         let until = self.count.min(from.saturating_add(max));
@@ -206,8 +201,8 @@ impl<S: Alter> OpenStore<S> {
 
     /// All records in their order.
     pub(crate) fn load(&mut self) -> Result<Vec<Input>, StoreFault>
-        ensures loads { Loads (IsHonest S.Store) (content S.Store) (MayHold S.Store) (λ k. k.is_waiting) self.old self.new 0 (content S.Store self.old) result }
-        ensures owner { IsHonest S.Store self.new → self.new.is_waiting ≡ false → owner S.Store self.new ≡ owner S.Store self.old }
+        ensures loads { Loads (IsHonest S.Store) (content S.Store) (MayHold S.Store) (λ k. k.must_reopen) self.old self.new 0 (content S.Store self.old) result }
+        ensures owner { IsHonest S.Store self.new → self.new.must_reopen ≡ false → owner S.Store self.new ≡ owner S.Store self.old }
     {
         self.load_page(0, self.count)
     }

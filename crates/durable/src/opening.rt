@@ -10,11 +10,11 @@ ghost use Rattle.sqlite.specs.Held.{state};
 ghost use Rattle.sqlite.specs.Tree.{Trees};
 ghost use Rattle.durable.specs.Tables.{store_schema};
 ghost use Rattle.durable.specs.Layout.{AreTables};
-ghost use Rattle.durable.specs.Opening.{IsOpened, IsWithin, IsBare, HasAbout, IsEmpty, HasFresh, IsMade, HoldsRows, HasRows, IsOwner, IsLeastOrGreatest, IsVerdict, IsNegative, IsNew, IsFresh, IsOpeningFault, Settles};
+ghost use Rattle.durable.specs.Opening.{IsOpened, IsWithin, IsBare, HasAbout, IsEmpty, HasFresh, IsMade, HoldsRows, HasRows, IsOwner, IsLeastOrGreatest, IsVerdict, IsNegative, IsNew, IsFresh, IsOpeningFault, BecomesStore};
 
 use crate::fault::{StoreFault, fault_of};
 use crate::layout::{Tables, tables_of};
-use crate::shown::{Owner, owner_in, place_in};
+use crate::owner_row::{Owner, owner_in, place_in};
 use sqlite::types::ValueRef;
 use sqlite::{Alter, Connection, Error as SqlError, Row, Transaction};
 
@@ -24,7 +24,7 @@ fn is_whole<S: Alter>(conn: &Connection<S>)
 {}
 
 /// Which tables the database has, and which rows they can hold.
-fn look<S: Alter>(conn: &Connection<S>) -> Tables
+fn tables_in<S: Alter>(conn: &Connection<S>) -> Tables
     ensures tables { AreTables (state S.Store conn.now).now.schema result }
     ensures rows { IsTrue (state S.Store conn.now).is_open → (state S.Store conn.now).now.schema ≡ store_schema → HoldsRows (state S.Store conn.now).now.trees }
     ensures bare { IsTrue (state S.Store conn.now).is_open → IsBare (state S.Store conn.now).now → (state S.Store conn.now).now.trees 1 ≡ [] }
@@ -93,7 +93,7 @@ fn make<S: Alter>(conn: &mut Connection<S>, node: &str) -> Result<(), SqlError>
 }
 
 /// Puts the owner's row into tables that have no row.
-fn own<S: Alter>(conn: &mut Connection<S>, node: &str) -> Result<(), SqlError>
+fn write_owner<S: Alter>(conn: &mut Connection<S>, node: &str) -> Result<(), SqlError>
     requires idle { conn.old.in_transaction ≡ false }
     requires opened { HasCleanDisk (state S.Store conn.old) → IsOpened (state S.Store conn.old) × IsEmpty (state S.Store conn.old).committed }
     ensures idle { conn.new.in_transaction ≡ false }
@@ -203,7 +203,7 @@ fn verdict(owner: Owner, least: Option<i64>) -> Result<Contents, StoreFault>
         (Owner::Nobody, None) => Ok(Contents::NoRow),
         (Owner::OtherFormat, _) => Err(StoreFault::WrongVersion),
         (Owner::OtherNode, _) => Err(StoreFault::WrongNode),
-        (Owner::Asker, _) => Ok(Contents::OwnStore),
+        (Owner::ThisNode, _) => Ok(Contents::OwnStore),
     }
 }
 
@@ -255,7 +255,7 @@ fn start<S: Alter>(conn: &mut Connection<S>, node: &str) -> Result<u64, StoreFau
     ensures clean { HasCleanDisk (state S.Store conn.new) → HasCleanDisk (state S.Store conn.old) }
     ensures never { IfErr result (λ e. e ≢ StoreFault.Reopen) }
     ensures places { IfErr result (λ e. (p : ℕ) → e ≡ StoreFault.Damaged p → p ≡ 0) }
-    ensures settled { HasCleanDisk (state S.Store conn.new) → Settles node.now (state S.Store conn.old).committed (state S.Store conn.new) result }
+    ensures settled { HasCleanDisk (state S.Store conn.new) → BecomesStore node.now (state S.Store conn.old).committed (state S.Store conn.new) result }
 {
     match make(conn, node) {
         Ok(()) => Ok(0),
@@ -264,16 +264,16 @@ fn start<S: Alter>(conn: &mut Connection<S>, node: &str) -> Result<u64, StoreFau
 }
 
 /// A file whose tables have no row becomes a store of the node.
-fn adopt<S: Alter>(conn: &mut Connection<S>, node: &str) -> Result<u64, StoreFault>
+fn start_in_empty_tables<S: Alter>(conn: &mut Connection<S>, node: &str) -> Result<u64, StoreFault>
     requires idle { conn.old.in_transaction ≡ false }
     requires opened { HasCleanDisk (state S.Store conn.old) → IsOpened (state S.Store conn.old) × IsEmpty (state S.Store conn.old).committed }
     ensures idle { conn.new.in_transaction ≡ false }
     ensures clean { HasCleanDisk (state S.Store conn.new) → HasCleanDisk (state S.Store conn.old) }
     ensures never { IfErr result (λ e. e ≢ StoreFault.Reopen) }
     ensures places { IfErr result (λ e. (p : ℕ) → e ≡ StoreFault.Damaged p → p ≡ 0) }
-    ensures settled { HasCleanDisk (state S.Store conn.new) → Settles node.now (state S.Store conn.old).committed (state S.Store conn.new) result }
+    ensures settled { HasCleanDisk (state S.Store conn.new) → BecomesStore node.now (state S.Store conn.old).committed (state S.Store conn.new) result }
 {
-    match own(conn, node) {
+    match write_owner(conn, node) {
         Ok(()) => Ok(0),
         Err(error) => Err(fault_of(error)),
     }
@@ -287,19 +287,24 @@ fn resume<S: Alter>(conn: &mut Connection<S>, node: &str) -> Result<u64, StoreFa
     ensures clean { HasCleanDisk (state S.Store conn.new) → HasCleanDisk (state S.Store conn.old) }
     ensures never { IfErr result (λ e. e ≢ StoreFault.Reopen) }
     ensures places { IfErr result (λ e. (p : ℕ) → e ≡ StoreFault.Damaged p → p ≡ 0) }
-    ensures settled { HasCleanDisk (state S.Store conn.new) → Settles node.now (state S.Store conn.old).committed (state S.Store conn.new) result }
+    ensures settled { HasCleanDisk (state S.Store conn.new) → BecomesStore node.now (state S.Store conn.old).committed (state S.Store conn.new) result }
 {
     match examine(conn, node)? {
-        Contents::NoRow => adopt(conn, node),
+        Contents::NoRow => start_in_empty_tables(conn, node),
         Contents::OwnStore => count(conn),
     }
 }
 
-/// Makes the file a store of the node where it has no row yet, or finds that it is one, and returns how many places its content has.
+/// Makes the file a store of the node where it has no row yet, or finds that it is one, and returns how many places
+/// its content has.
 ///
-/// Faults in this order: `Damaged(0)` where the file has other tables, records without an owner, or a place below 0; `WrongVersion`; `WrongNode`. `Device`, `Full` and
-/// `NoMemory` may come at any call of the database. A refused file is as it was, but that one that was new may have been made whole.
-pub(crate) fn settle<S: Alter>(conn: &mut Connection<S>, node: &str) -> Result<u64, StoreFault>
+/// Faults in this order: `Damaged(0)` where the file has other tables, records without an owner, or a place below 0;
+/// `WrongVersion`; `WrongNode`. `Device`, `Full` and `NoMemory` may come at any call of the database. A refused file
+/// is as it was, but that one that was new may have been made whole.
+pub(crate) fn open_as_store<S: Alter>(
+    conn: &mut Connection<S>,
+    node: &str,
+) -> Result<u64, StoreFault>
     requires idle { conn.old.in_transaction ≡ false }
     requires opened { HasCleanDisk (state S.Store conn.old) → IsOpened (state S.Store conn.old) }
     ensures idle { conn.new.in_transaction ≡ false }
@@ -315,9 +320,9 @@ pub(crate) fn settle<S: Alter>(conn: &mut Connection<S>, node: &str) -> Result<u
     ensures crash { HasCleanDisk (state S.Store conn.new) → (db : Trees) → (state S.Store conn.new).may_leave db
         → (db ≡ (state S.Store conn.old).committed.trees) ⊎ (IsNew (state S.Store conn.old).committed × IsFresh node.now db) }
 {
-    match look(conn) {
+    match tables_in(conn) {
         Tables::None => start(conn, node),
         Tables::Store => resume(conn, node),
-        Tables::Others => Err(StoreFault::Damaged(0)),
+        Tables::Foreign => Err(StoreFault::Damaged(0)),
     }
 }

@@ -67,8 +67,8 @@ pub(crate) fn rows_of<S: Alter>(
     Err(fault)
 }
 
-/// The body of a row, where the row is at that place: `None` where it is at another. Fails with `Device` where the row has no
-/// place or no body, which takes no memory to tell.
+/// The body of a row, where the row is at that place: `None` where it is at another. Fails with `Device` where the
+/// row has no place or no body, which takes no memory to tell.
 fn body_at(row: &Row, place: u64) -> Result<Option<&[u8]>, StoreFault>
     ensures ok { IfOk result (λ body. option_copied body ≡ cond (place_of row.now == place) (Some (bytes (column row.now 1))) None) }
     ensures named { IfErr result (λ e. e ≡ StoreFault.Device) }
@@ -86,8 +86,8 @@ fn body_at(row: &Row, place: u64) -> Result<Option<&[u8]>, StoreFault>
     }
 }
 
-/// The bodies of the rows, up to the first row that isn't at the place that is next. Fails with `Device` where a row has no
-/// place or no body, and with `NoMemory` where there is no room for the bodies.
+/// The bodies of the rows, up to the first row that isn't at the place that is next. Fails with `Device` where a row
+/// has no place or no body, and with `NoMemory` where there is no room for the bodies.
 pub(crate) fn bodies<'a>(
     alloc: Global,
     rows: &'a [Row],

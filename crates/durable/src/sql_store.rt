@@ -12,8 +12,8 @@ ghost use Rattle.durable.specs.Refusals.{IsRefusal, IsUnharmed};
 
 use crate::backing::opening_fault;
 use crate::fault::{StoreFault, fault_of};
-use crate::link::{Link, counted, linked, settled};
 use crate::node_store::NodeStore;
+use crate::store_state::{StoreState, count_fault, store_from_files, store_over};
 use sqlite::{Connection, Error as SqlError, ErrorCode, File, Leftover, Options, Unknown};
 use sqlite_disk::{Disk, Files, Tally};
 use std::alloc::Global;
@@ -31,29 +31,30 @@ const UNTOUCHED: Tally = Tally {
 /// A store in a file of SQLite and its log.
 #[derive(Drop)]
 pub struct SqlStore<D: Disk + Drop> {
-    link: Link<D>,
+    store_state: StoreState<D>,
     node: Node,
     faults: u64,
     options: Options,
     alloc: Global,
-    ghost there: { IsTrue (is_there D.Disk link) },
+    ghost there: { IsTrue (is_there D.Disk store_state) },
 }
 
 impl<D: Disk + Drop> SqlStore<D> {
-    ghost use Rattle.durable.specs.Stores.{IsHonest, MayHold, content, is_waiting, owner, node_of, faults, HadFiles};
+    ghost use Rattle.durable.specs.Stores.{IsHonest, MayHold, content, must_reopen, owner, node_of, faults, HadFiles};
 
-    /// Opens the database file and its log, and makes them a store of the node where they are new. An error gives the files back.
+    /// Opens the database file and its log, and makes them a store of the node where they are new. An error gives the
+    /// files back.
     ///
-    /// Fails with the first that is so of `Damaged(0)`, where the files hold no store, `WrongVersion` and `WrongNode`; the database that
-    /// they hold stays as it was. Fails with `Device`, `Full` or `NoMemory` at any call of the database, and with `Device` where the files
-    /// can't be used since a sync failed.
+    /// Fails with the first that is so of `Damaged(0)`, where the files hold no store, `WrongVersion` and
+    /// `WrongNode`; the database that they hold stays as it was. Fails with `Device`, `Full` or `NoMemory` at any
+    /// call of the database, and with `Device` where the files can't be used since a sync failed.
     pub fn open_files(
         alloc: Global,
         files: Files<D>,
         options: Options,
         node: Node,
     ) -> Result<SqlStore<D>, (StoreFault, Files<D>)>
-        ensures runs { IfOk result (λ s. is_waiting D.Disk s ≡ false) }
+        ensures runs { IfOk result (λ s. must_reopen D.Disk s ≡ false) }
         ensures node { IfOk result (λ s. node_of D.Disk s ≡ node) }
         ensures faults { IfOk result (λ s. faults D.Disk s ≡ 0) }
         ensures owner { IfOk result (λ s. IsHonest D.Disk s → owner D.Disk s ≡ node_text node) }
@@ -63,9 +64,9 @@ impl<D: Disk + Drop> SqlStore<D> {
         ensures fault { IfErr result (λ e. AreClean D.Disk e.1.log e.1.db → IsRefusal D.Disk files (node_text node) e.0) }
         ensures unharmed { IfErr result (λ e. AreClean D.Disk e.1.log e.1.db → IsUnharmed D.Disk files e.0 e.1) }
     {
-        let store = linked(alloc, files, options, node)?;
+        let store = store_from_files(alloc, files, options, node)?;
         Ok(SqlStore {
-            link: Link::Open(store),
+            store_state: StoreState::Open(store),
             node,
             faults: 0,
             options,
@@ -80,23 +81,24 @@ impl<D: Disk + Drop> SqlStore<D> {
         self.node
     }
 
-    /// Closes the store, and gives both files back with no call of the device, so that it can't fail. They hold the content and
-    /// the owner as they were, now and after a crash. If the store had to be reopened first, opening these files decides the content.
+    /// Closes the store, and gives both files back with no call of the device, so that it can't fail. They hold the
+    /// content and the owner as they were, now and after a crash. If the store had to be reopened first, opening
+    /// these files decides the content.
     pub fn close_files(self) -> Files<D>
         ensures honest { AreClean D.Disk result.log result.db → IsHonest D.Disk self }
         ensures left { (db : Trees) → MayFind D.Disk result db → ∥ MayHold D.Disk self (slots_in db) ∥₁ }
-        ensures kept { is_waiting D.Disk self ≡ false → (db : Trees) → MayFind D.Disk result db → ∥ slots_in db ≡ content D.Disk self ∥₁ }
-        ensures holds { is_waiting D.Disk self ≡ false → Hold D.Disk result (λ db. (slots_in db ≡ content D.Disk self) × (node_in db ≡ owner D.Disk self)) }
+        ensures kept { must_reopen D.Disk self ≡ false → (db : Trees) → MayFind D.Disk result db → ∥ slots_in db ≡ content D.Disk self ∥₁ }
+        ensures holds { must_reopen D.Disk self ≡ false → Hold D.Disk result (λ db. (slots_in db ≡ content D.Disk self) × (node_in db ≡ owner D.Disk self)) }
         ensures files { HadFiles D.Disk self result }
     {
         let SqlStore {
-            link,
+            store_state,
             node: _,
             faults: _,
             options: _,
             alloc: _,
         } = self;
-        link.into_files()
+        store_state.into_files()
     }
 }
 
@@ -114,14 +116,14 @@ fn path_fault(error: SqlError, left: Option<Leftover<File>>) -> StoreFault
 }
 
 impl SqlStore<File> {
-    ghost use Rattle.durable.specs.Stores.{IsHonest, MayHold, content, is_waiting, owner, node_of, faults};
+    ghost use Rattle.durable.specs.Stores.{IsHonest, MayHold, content, must_reopen, owner, node_of, faults};
 
     /// Opens the file at the path, with its log beside it, and makes it a store of the node where there is none.
     ///
-    /// Fails as `open_files` does, and with `Device` where the file can't be opened or another handle has it open. No clause ties
-    /// the result to what stands at the path.
+    /// Fails as `open_files` does, and with `Device` where the file can't be opened or another handle has it open. No
+    /// clause ties the result to what stands at the path.
     pub fn open_path(rt: &HostRuntime, path: &str, node: Node) -> Result<SqlStore<File>, StoreFault>
-        ensures runs { IfOk result (λ s. is_waiting _ s ≡ false) }
+        ensures runs { IfOk result (λ s. must_reopen _ s ≡ false) }
         ensures node { IfOk result (λ s. node_of _ s ≡ node) }
         ensures faults { IfOk result (λ s. faults _ s ≡ 0) }
         ensures owner { IfOk result (λ s. IsHonest _ s → owner _ s ≡ node_text node) }
@@ -141,9 +143,9 @@ impl SqlStore<File> {
             Ok(conn) => conn,
             Err((error, left)) => return Err(path_fault(error, left)),
         };
-        match settled(alloc, conn, &name) {
+        match store_over(alloc, conn, &name) {
             Ok(store) => Ok(SqlStore {
-                link: Link::Open(store),
+                store_state: StoreState::Open(store),
                 node,
                 faults: 0,
                 options,
@@ -162,7 +164,7 @@ impl<D: Disk + Drop> NodeStore for SqlStore<D> {
     ghost use Rattle.durable.specs.Rooms.{LacksRoom};
     ghost use Rattle.durable.specs.declared.fault.StoreFault.TheVariants.{Reopen, NoMemory, Damaged, Full};
     ghost use Rattle.units.specs.Code.{node_text};
-    ghost use Rattle.durable.specs.Stores.{IsHonest, MayHold, content, is_waiting, faults, disk_faults, node_of, owner, IsReopeningFault};
+    ghost use Rattle.durable.specs.Stores.{IsHonest, MayHold, content, must_reopen, faults, disk_faults, node_of, owner, IsReopeningFault};
 
     ghost is_honest = { λ s. IsHonest D.Disk s };
 
@@ -170,7 +172,7 @@ impl<D: Disk + Drop> NodeStore for SqlStore<D> {
 
     ghost may_hold = { λ s next. MayHold D.Disk s next };
 
-    ghost is_waiting = { λ s. is_waiting D.Disk s };
+    ghost must_reopen = { λ s. must_reopen D.Disk s };
 
     ghost faults = { λ s. faults D.Disk s };
 
@@ -178,62 +180,63 @@ impl<D: Disk + Drop> NodeStore for SqlStore<D> {
 
     ghost is_own = { λ s. owner D.Disk s ≡ node_text (node_of D.Disk s) };
 
-    /// `Full`: a call of the files failed, or the count of the places with the batch is not below 2^62, or SQLite itself refuses one of the records.
+    /// `Full`: a call of the files failed, or the count of the places with the batch is not below 2^62, or SQLite
+    /// itself refuses one of the records.
     fn append(&mut self, batch: &[Input]) -> Result<(), StoreFault>
-        ensures appends { Appends (IsHonest D.Disk) (content D.Disk) (MayHold D.Disk) (is_waiting D.Disk) self.old self.new batch.now result }
+        ensures appends { Appends (IsHonest D.Disk) (content D.Disk) (MayHold D.Disk) (must_reopen D.Disk) self.old self.new batch.now result }
         ensures count { faults D.Disk self.new ≡ faults_after (faults D.Disk self.old) result }
         ensures node { node_of D.Disk self.new ≡ node_of D.Disk self.old }
-        ensures owner { IsHonest D.Disk self.new → is_waiting D.Disk self.new ≡ false → owner D.Disk self.new ≡ owner D.Disk self.old }
+        ensures owner { IsHonest D.Disk self.new → must_reopen D.Disk self.new ≡ false → owner D.Disk self.new ≡ owner D.Disk self.old }
         ensures full { IsHonest D.Disk self.new → result ≡ Err Full → LacksRoom (content D.Disk self.old) batch.now (disk_faults D.Disk self.old) (disk_faults D.Disk self.new) }
     {
-        match self.link.append(batch) {
+        match self.store_state.append(batch) {
             Ok(()) => Ok(()),
             Err(fault) => {
-                self.faults = counted(self.faults, fault);
+                self.faults = count_fault(self.faults, fault);
                 Err(fault)
             }
         }
     }
 
     fn load(&mut self) -> Result<Vec<Input>, StoreFault> {
-        match self.link.load() {
+        match self.store_state.load() {
             Ok(inputs) => Ok(inputs),
             Err(fault) => {
-                self.faults = counted(self.faults, fault);
+                self.faults = count_fault(self.faults, fault);
                 Err(fault)
             }
         }
     }
 
     fn load_page(&mut self, from: u64, max: u64) -> Result<Vec<Input>, StoreFault> {
-        match self.link.load_page(from, max) {
+        match self.store_state.load_page(from, max) {
             Ok(inputs) => Ok(inputs),
             Err(fault) => {
-                self.faults = counted(self.faults, fault);
+                self.faults = count_fault(self.faults, fault);
                 Err(fault)
             }
         }
     }
 
-    /// Fails with `Damaged(0)`, `WrongVersion` and `WrongNode` as `open_files` does. After a sync that failed the same files can't be used again, and every
-    /// reopening fails with `Device`.
+    /// Fails with `Damaged(0)`, `WrongVersion` and `WrongNode` as `open_files` does. After a sync that failed the
+    /// same files can't be used again, and every reopening fails with `Device`.
     fn reopen(&mut self) -> Result<(), StoreFault>
-        ensures reopens { Reopens (IsHonest D.Disk) (content D.Disk) (MayHold D.Disk) (is_waiting D.Disk) self.old self.new result }
+        ensures reopens { Reopens (IsHonest D.Disk) (content D.Disk) (MayHold D.Disk) (must_reopen D.Disk) self.old self.new result }
         ensures count { faults D.Disk self.new ≡ faults_after (faults D.Disk self.old) result }
         ensures places { IfErr result (λ e. (p : ℕ) → e ≡ Damaged p → p ≡ 0) }
         ensures node { node_of D.Disk self.new ≡ node_of D.Disk self.old }
         ensures owner { IsHonest D.Disk self.new → OnOk result (owner D.Disk self.new ≡ node_text (node_of D.Disk self.new)) }
         ensures fault { IsHonest D.Disk self.new → IfErr result (IsReopeningFault D.Disk self.old) }
     {
-        let files = mem::replace(&mut self.link, Link::Absent).into_files();
-        match linked(self.alloc, files, self.options, self.node) {
+        let files = mem::replace(&mut self.store_state, StoreState::Absent).into_files();
+        match store_from_files(self.alloc, files, self.options, self.node) {
             Ok(store) => {
-                self.link = Link::Open(store);
+                self.store_state = StoreState::Open(store);
                 Ok(())
             }
             Err((fault, files)) => {
-                self.link = Link::Shut(files);
-                self.faults = counted(self.faults, fault);
+                self.store_state = StoreState::Shut(files);
+                self.faults = count_fault(self.faults, fault);
                 Err(fault)
             }
         }

@@ -2,3 +2,4 @@ pub mod SpacedWords
 pub mod BlockWords
 pub mod Parties
 pub mod OneEvent
+pub mod WantedParts

@@ -26,7 +26,8 @@ pub record AreWithMoment (words front : List (List ℕ)) (moment : Moment) : Typ
   pub spelled : words ≡ front ++ text ∷ []
   pub names : IsMomentText text moment
 
--- what a node is ordered, or that a message of its is acknowledged. What it receives is delivered, so that it has no line
+-- what a node is ordered, or that a message of its is acknowledged. What it receives is delivered, so that it has no
+-- line
 abbrev pub AreInputWords : List (List ℕ) → Node → Input → Type 0
 AreInputWords words node (Propose o) =
     (words ≡ codes "propose" ∷ node_text node ∷ decimal o.account ∷ code_text o.to_registry ∷ decimal o.to_account ∷ map raw_text o.units) × IsOrder o
@@ -47,7 +48,8 @@ AreWords words (Deliver message moment) = AreWithMoment words (codes "deliver" �
 AreWords words (Crash node kept) = (words ≡ codes "crash" ∷ node_text node ∷ decimal kept ∷ []) × (kept < too_long)
 AreWords words (Restart node) = words ≡ codes "restart" ∷ node_text node ∷ []
 
--- the line, without its newline, is UTF-8 and its words write the event. A moment is one word, so that it has no space in it
+-- the line, without its newline, is UTF-8 and its words write the event. A moment is one word, so that it has no
+-- space in it
 pub record IsEventLine (line : List ℕ) (event : WorldEvent) : Type 0 where
   pub words : List (List ℕ)
   pub utf8 : IsUtf8 line

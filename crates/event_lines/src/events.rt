@@ -5,12 +5,12 @@ ghost use Rattle.event_lines.specs.EventLines.{AreWords, IsEventLine, yes_text};
 ghost use Rattle.event_lines.specs.Verbs.{numbered_text, verb_text};
 ghost use Rattle.event_lines.specs.Words.{texts};
 
-use crate::orders::propose;
-use crate::verbs::{Numbered, Verb};
-use crate::words::{
+use crate::line::{
     LineFault, code_first, first_of, node_and_number, node_first, number_first, only_moment,
     only_word, words_of,
 };
+use crate::orders::propose;
+use crate::verbs::{Numbered, Verb};
 use protocol::WorldEvent;
 use status::TransactionId;
 use std::alloc::Global;
@@ -143,12 +143,8 @@ fn event_with(alloc: Global, words: &[&str]) -> Result<WorldEvent, LineFault>
     ensures ok { IfOk result (λ e. AreWords (texts words.now) e) }
     ensures order { result ≡ Err LineFault.Order → (e : WorldEvent) → AreWords (texts words.now) e → ⊥ }
 {
-    let Some((word, words)) = first_of(words) else {
-        return Err(LineFault::Order);
-    };
-    let Some(verb) = Verb::read(word) else {
-        return Err(LineFault::Order);
-    };
+    let (word, words) = first_of(words).ok_or(LineFault::Order)?;
+    let verb = Verb::read(word).ok_or(LineFault::Order)?;
     event_of_verb(alloc, verb, words)
 }
 
@@ -165,8 +161,6 @@ pub fn event_of(alloc: Global, line: &[u8]) -> Result<WorldEvent, LineFault>
     let Ok(line) = from_utf8(line) else {
         return Err(LineFault::Order);
     };
-    let Ok(words) = words_of(alloc, line) else {
-        return Err(LineFault::NoMemory);
-    };
+    let words = words_of(alloc, line)?;
     event_with(alloc, words.as_slice())
 }

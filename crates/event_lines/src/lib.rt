@@ -2,9 +2,9 @@
 #![tactic(auto)]
 
 mod events;
+mod line;
 mod orders;
 mod verbs;
-mod words;
 
 pub use events::event_of;
-pub use words::LineFault;
+pub use line::LineFault;

@@ -11,7 +11,7 @@ ghost use Rattle.protocol.specs.declared.event.WorldEvent.{WorldEvent};
 ghost use Rattle.event_lines.specs.EventLines.{AreWords};
 ghost use Rattle.event_lines.specs.Words.{AreBlocks, texts};
 
-use crate::words::{LineFault, code_first, node_first, number_first};
+use crate::line::{LineFault, code_first, node_first, number_first};
 use protocol::WorldEvent;
 use status::Order;
 use std::alloc::Global;
@@ -25,12 +25,8 @@ fn blocks(alloc: Global, words: &[&str]) -> Result<Items<RawBlock>, LineFault>
 {
     let mut found = Vec::new(alloc);
     for word in words {
-        let Some(block) = RawBlock::read(*word) else {
-            return Err(LineFault::Order);
-        };
-        if found.push(block).is_err() {
-            return Err(LineFault::NoMemory);
-        }
+        let block = RawBlock::read(*word).ok_or(LineFault::Order)?;
+        found.push(block)?;
     }
     Ok(Items::from_vec(found))
 }
@@ -53,9 +49,7 @@ pub(crate) fn propose(alloc: Global, words: &[&str]) -> Result<WorldEvent, LineF
     ensures ok { IfOk result (λ e. AreWords (codes "propose" ∷ texts words.now) e) }
     ensures order { result ≡ Err LineFault.Order → (e : WorldEvent) → AreWords (codes "propose" ∷ texts words.now) e → ⊥ }
 {
-    let Some((node, account, to_registry, to_account, words)) = parties(words) else {
-        return Err(LineFault::Order);
-    };
+    let (node, account, to_registry, to_account, words) = parties(words).ok_or(LineFault::Order)?;
     let units = blocks(alloc, words)?;
     match Order::new(account, to_registry, to_account, units) {
         Some(order) => Ok(WorldEvent::Take {

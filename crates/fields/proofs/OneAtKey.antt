@@ -1,4 +1,5 @@
--- The value at a key of an object: that there is one, and which one it is where it is read as a text, a number or an array.
+-- The value at a key of an object: that there is one, and which one it is where it is read as a text, a number or an
+-- array.
 use Rattle.std.proofs.Common.{◌≡◌, ℕ, List, Option, Some, sym, ap, ◌∙◌}
 use Rattle.std.specs.Prelude.{option_and_then}
 use Rattle.serde_json.specs.Data.{Data, unsigned, number, string, array, Items}

@@ -1,5 +1,5 @@
 -- What one part of an object finds or lacks, seen from the whole.
-use Rattle.std.proofs.Common.{◌≡◌, sym, subst, Option, Some, None, Result, Ok, Err}
+use Rattle.std.proofs.Common.{◌≡◌, ap, sym, subst, Option, Some, None, Result, Ok, Err}
 use Rattle.std.specs.Option.{ok_or}
 use Rattle.std.specs.Result.{IsErrAnd}
 use Rattle.fields.specs.Found.{Finds, Reads}
@@ -37,3 +37,8 @@ pub not_read_too : {X Y : Type 0} (P : X → Type 0) (Q : Y → Type 0) (o : Opt
     → ((y : Y) → Q y → (x : X) × P x) → Reads P o → Finds Q r
 not_read_too P Q (Some x) e r is same part f = absurd (cc (is))
 not_read_too P Q None e r is same part f = let shape : e ≡ Shape = cc (is) in lacks_too P Q e r same part (subst (λ g. Finds {X = _} P (Err g)) (sym shape) f)
+
+-- what was read is what was there
+pub read_some : {X : Type 0} (o : Option X) (x : X) → Ok x ≡ ok_or o Shape → Some x ≡ o
+read_some (Some y) x e = let same : y ≡ x = cc (e) in ap Some (sym same)
+read_some None x e = absurd (cc (e))

@@ -9,7 +9,7 @@ use Rattle.units.specs.RefusalCodes.{out_of_memory}
 pub not_refused : (held : Held) (account : ℕ) (blocks : List Block) (code : ℕ) → MayReserve held account blocks → IsReserveRefusal held account blocks code → ⊥
 not_refused held account blocks code may (inl r) = r.1 may.open_account
 not_refused held account blocks code may (inr (inl r)) = r.2.lacks (may.held_so r.2.block r.2.unit r.2.of)
-not_refused held account blocks code may (inr (inr r)) = let h = subst IsSome (may.free r.3.unit r.3.lot r.3.of r.3.is) r.3.reserved in cc (h)
+not_refused held account blocks code may (inr (inr r)) = let h = subst IsSome (may.free r.3.unit r.3.unit_holding r.3.of r.3.is) r.3.reserved in cc (h)
 
 -- so memory alone is lacking
 pub only_memory : (held : Held) (account : ℕ) (blocks : List Block) (code : ℕ) → MayReserve held account blocks

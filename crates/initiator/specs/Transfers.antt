@@ -9,12 +9,12 @@ use Rattle.units.specs.declared.code.Code.{Code}
 use Rattle.status.specs.Id.{id_cmp}
 use Rattle.status.specs.Status.{same_status}
 use Rattle.status.specs.declared.id.TransactionId.{TransactionId}
-use Rattle.status.specs.declared.words.Known.{Known}
-use Rattle.status.specs.declared.words.Known.TheVariants.{Unknown, Stands}
-use Rattle.status.specs.declared.words.RowInput.{RowInput}
-use Rattle.status.specs.declared.words.RowInput.TheVariants.{RequestOrder, RepeatedRequestOrder}
-use Rattle.status.specs.declared.words.Status.{Status}
-use Rattle.status.specs.declared.words.Status.TheVariants.{Proposed}
+use Rattle.status.specs.declared.rows.RecordedStatus.{RecordedStatus}
+use Rattle.status.specs.declared.rows.RecordedStatus.TheVariants.{Unknown, Stands}
+use Rattle.status.specs.declared.rows.RowInput.{RowInput}
+use Rattle.status.specs.declared.rows.RowInput.TheVariants.{RequestOrder, RepeatedRequestOrder}
+use Rattle.status.specs.declared.status.Status.{Status}
+use Rattle.status.specs.declared.status.Status.TheVariants.{Proposed}
 use Rattle.protocol.specs.Checks.{Causes}
 use Rattle.initiator.specs.declared.transfer.Cancellation.{Cancellation}
 use Rattle.initiator.specs.declared.transfer.Cancellation.TheVariants.{NotAsked, Asked}
@@ -39,7 +39,7 @@ abbrev pub settled : Status → Transfer → Transfer
 settled new x = record x { status = new }
 
 -- what the table asks of a transfer: an initiator always has its content
-abbrev pub known_transfer : Option Transfer → Known
+abbrev pub known_transfer : Option Transfer → RecordedStatus
 known_transfer x = option_map_or (λ y. Stands y.status) x Unknown
 
 abbrev pub is_asked : Cancellation → Bool

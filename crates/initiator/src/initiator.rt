@@ -3,7 +3,7 @@ ghost use Rattle.std.specs.Prelude.{◌≡◌, ◌+◌, ◌⊎◌, not, List, So
 ghost use Rattle.std.specs.FinMap as map;
 ghost use Rattle.units.specs.RefusalCodes.{out_of_memory};
 ghost use Rattle.units.specs.Unit.{have_unit};
-ghost use Rattle.units.specs.Intervals.{marks_that};
+ghost use Rattle.units.specs.Intervals.{labels_that};
 ghost use Rattle.units.specs.declared.block.Block.{Block};
 ghost use Rattle.units.specs.declared.block.Unit.{Unit as Serial};
 ghost use Rattle.status.specs.Content.{Content as Terms, raws};
@@ -11,8 +11,8 @@ ghost use Rattle.status.specs.Id.{same_id, id_at};
 ghost use Rattle.status.specs.Rows.{initiator_row};
 ghost use Rattle.status.specs.Status.{same_status};
 ghost use Rattle.status.specs.declared.id.TransactionId.{TransactionId};
-ghost use Rattle.status.specs.declared.words.RowInput.TheVariants as column;
-ghost use Rattle.status.specs.declared.words.Status.TheVariants as status_word;
+ghost use Rattle.status.specs.declared.rows.RowInput.TheVariants as column;
+ghost use Rattle.status.specs.declared.status.Status.TheVariants as status_word;
 ghost use Rattle.accounts.specs.Holdings as held;
 ghost use Rattle.accounts.specs.Refusals.{MayReserve};
 ghost use Rattle.protocol.specs.AtRegistry.{content_of};
@@ -24,11 +24,11 @@ ghost use Rattle.checks.specs.Knowing.{Knows};
 ghost use Rattle.checks.specs.Refusing.{first_of, order_refusals};
 ghost use Rattle.initiator.specs.Transfers.{opened, asked, settled, known_transfer, column_of_request, cancellation_refusals};
 
-use crate::messages::{on_notice, on_proposing, on_request};
+use crate::messages::{on_notified, on_proposing, on_request};
 use crate::table::{ask, forget, open, settle};
 use crate::transfer::{Transfer, is_proposed, known, request_column};
 use accounts::Holdings;
-use checks::{Offer, propose_check};
+use checks::{NewTransfer, propose_check};
 use protocol::Decision;
 use scheme::Scheme;
 use status::{Order, Role, Row, RowInput, Status, TransactionId, row};
@@ -38,8 +38,8 @@ use std::marker::Model;
 use units::refusal_code::{NO_LONGER_PROPOSED, NO_ROW, NOT_PROPOSED_HERE};
 use units::{Code, Refusal};
 
-/// The transfers that a registry proposed, by their identifiers. It decides what the initiator's table says to an input, without
-/// any change, and does then what a decision that moves a transfer asks for.
+/// The transfers that a registry proposed, by their identifiers. It decides what the initiator's table says to an
+/// input, without any change, and does then what a decision that moves a transfer asks for.
 #[derive(Debug, Drop)]
 pub struct Initiator {
     code: Code,
@@ -86,35 +86,40 @@ impl Initiator {
         Some(transfer.status)
     }
 
-    /// The offer that an order makes, under the registry's next number. Fails as `propose_check` fails.
-    pub fn offer(
+    /// The new transfer that an order makes, under the registry's next number. Fails as `propose_check` fails.
+    pub fn new_transfer(
         &self,
         alloc: Global,
         scheme: &Scheme,
         holdings: &Holdings,
         order: &Order,
-    ) -> Result<Offer, Refusal>
-        ensures ok { (known : Holding) → Knows scheme.now self.now.code holdings.now known → IfOk result (λ offer. first_of (order_refusals scheme.now self.now.code known self.now.last order.now) ≡ None) }
-        ensures id { IfOk result (λ offer. id_at self.now.code (self.now.last + 1) ≡ Some offer.id) }
-        ensures content { IfOk result (λ offer. offer.content ≡ content_of order.now) }
-        ensures reservable { IfOk result (λ offer. (blocks : List Block) → raws blocks ≡ offer.content.units → MayReserve holdings.now offer.content.account blocks) }
+    ) -> Result<NewTransfer, Refusal>
+        ensures ok { (known : Holding) → Knows scheme.now self.now.code holdings.now known → IfOk result (λ new_transfer. first_of (order_refusals scheme.now self.now.code known self.now.last order.now) ≡ None) }
+        ensures id { IfOk result (λ new_transfer. id_at self.now.code (self.now.last + 1) ≡ Some new_transfer.id) }
+        ensures content { IfOk result (λ new_transfer. new_transfer.content ≡ content_of order.now) }
+        ensures reservable { IfOk result (λ new_transfer. (blocks : List Block) → raws blocks ≡ new_transfer.content.units → MayReserve holdings.now new_transfer.content.account blocks) }
         ensures refused { (known : Holding) → Knows scheme.now self.now.code holdings.now known → IfErr result (λ r. (r.code ≡ out_of_memory) ⊎ (first_of (order_refusals scheme.now self.now.code known self.now.last order.now) ≡ Some r.code)) }
     {
         propose_check(alloc, scheme, self.code, holdings, self.last, order)
     }
 
-    /// What the table says to an offer: a new transfer is to be Proposed to the log. Fails with `NO_ROW` where the registry has
-    /// a transfer of that identifier, and with `OUT_OF_MEMORY`.
-    pub fn propose(&self, alloc: Global, offer: &Offer) -> Result<Decision, Refusal>
-        ensures { IsDueOrNoMemory result (decided (initiator_row (known_transfer (map.get self.now.transfers offer.now.id)) column.Propose) (initiator_sends self.now.code offer.now.id (Some offer.now.content) column.Propose)) }
+    /// What the table says to a new transfer: a new transfer is to be Proposed to the log. Fails with `NO_ROW` where
+    /// the registry has a transfer of that identifier, and with `OUT_OF_MEMORY`.
+    pub fn propose(&self, alloc: Global, new_transfer: &NewTransfer) -> Result<Decision, Refusal>
+        ensures { IsDueOrNoMemory result (decided (initiator_row (known_transfer (map.get self.now.transfers new_transfer.now.id)) column.Propose) (initiator_sends self.now.code new_transfer.now.id (Some new_transfer.now.content) column.Propose)) }
     {
         match row(
             Role::Initiator,
-            known(self.transfer(offer.id)),
+            known(self.transfer(new_transfer.id)),
             RowInput::Propose,
         ) {
             Row::Move(new) => {
-                let messages = on_proposing(alloc, self.code, offer.id, &offer.content)?;
+                let messages = on_proposing(
+                    alloc,
+                    self.code,
+                    new_transfer.id,
+                    &new_transfer.content,
+                )?;
                 Ok(Decision::Moves { new, messages })
             }
             Row::Repeat => Ok(Decision::Repeat),
@@ -123,9 +128,9 @@ impl Initiator {
         }
     }
 
-    /// What the table says to an order to ask the log for the transfer's cancellation: the first is to be sent, and any other is a
-    /// repeat. Fails with `NOT_PROPOSED_HERE` where this registry didn't propose the transfer, with `NO_LONGER_PROPOSED`
-    /// where it has another status than Proposed, and with `OUT_OF_MEMORY`.
+    /// What the table says to an order to ask the log for the transfer's cancellation: the first is to be sent, and
+    /// any other is a repeat. Fails with `NOT_PROPOSED_HERE` where this registry didn't propose the transfer, with
+    /// `NO_LONGER_PROPOSED` where it has another status than Proposed, and with `OUT_OF_MEMORY`.
     pub fn request(&self, alloc: Global, id: TransactionId) -> Result<Decision, Refusal>
         ensures { (content : Option Terms) → IsDueOrNoMemory result (unless (cancellation_refusals self.now id) (decided (initiator_row (known_transfer (map.get self.now.transfers id)) (column_of_request (map.get self.now.transfers id))) (initiator_sends self.now.code id content (column_of_request (map.get self.now.transfers id))))) }
     {
@@ -152,8 +157,8 @@ impl Initiator {
         }
     }
 
-    /// What the table says to the log's notification of that status. Fails with `NO_ROW` where the table has no such row, and
-    /// with `OUT_OF_MEMORY`.
+    /// What the table says to the log's notification of that status. Fails with `NO_ROW` where the table has no such
+    /// row, and with `OUT_OF_MEMORY`.
     pub fn notice(
         &self,
         alloc: Global,
@@ -168,7 +173,7 @@ impl Initiator {
             RowInput::Notified(told),
         ) {
             Row::Move(new) => {
-                let messages = on_notice(alloc, self.code, id, told)?;
+                let messages = on_notified(alloc, self.code, id, told)?;
                 Ok(Decision::Moves { new, messages })
             }
             Row::Repeat => Ok(Decision::Repeat),
@@ -177,24 +182,28 @@ impl Initiator {
         }
     }
 
-    /// The offer is a transfer that is Proposed, and its units are reserved for it. After `OUT_OF_MEMORY`, with which alone it
-    /// fails, nothing has changed.
-    pub fn open(&mut self, holdings: &mut Holdings, offer: &Offer) -> Result<(), Refusal>
-        requires absent { map.get self.old.transfers offer.now.id ≡ None }
-        requires reservable { (blocks : List Block) → raws blocks ≡ offer.now.content.units → MayReserve holdings.old offer.now.content.account blocks }
-        ensures ok { OnOk result ((self.new.code ≡ self.old.code) × (self.new.last ≡ offer.now.id.number) × ((t : TransactionId) → map.get self.new.transfers t ≡ (if same_id offer.now.id t then Some opened else map.get self.old.transfers t))) }
+    /// The new transfer is a transfer that is Proposed, and its units are reserved for it. After `OUT_OF_MEMORY`,
+    /// with which alone it fails, nothing has changed.
+    pub fn open(
+        &mut self,
+        holdings: &mut Holdings,
+        new_transfer: &NewTransfer,
+    ) -> Result<(), Refusal>
+        requires absent { map.get self.old.transfers new_transfer.now.id ≡ None }
+        requires reservable { (blocks : List Block) → raws blocks ≡ new_transfer.now.content.units → MayReserve holdings.old new_transfer.now.content.account blocks }
+        ensures ok { OnOk result ((self.new.code ≡ self.old.code) × (self.new.last ≡ new_transfer.now.id.number) × ((t : TransactionId) → map.get self.new.transfers t ≡ (if same_id new_transfer.now.id t then Some opened else map.get self.old.transfers t))) }
         ensures accounts { holdings.new.accounts ≡ holdings.old.accounts }
-        ensures lots { OnOk result ((s : Serial) → map.get holdings.new.lots s ≡ (if have_unit offer.now.content.units s then option_map (held.reserved offer.now.id) (map.get holdings.old.lots s) else map.get holdings.old.lots s)) }
+        ensures unit_holdings { OnOk result ((s : Serial) → map.get holdings.new.unit_holdings s ≡ (if have_unit new_transfer.now.content.units s then option_map (held.reserved new_transfer.now.id) (map.get holdings.old.unit_holdings s) else map.get holdings.old.unit_holdings s)) }
         ensures err { OnErr result ((self.new ≡ self.old) × (holdings.new ≡ holdings.old)) }
         ensures refused { IfErr result (λ r. r.code ≡ out_of_memory) }
     {
-        open(&mut self.transfers, offer.id)?;
-        let (account, units) = (offer.content.account(), offer.content.units());
-        if let Err(refused) = holdings.reserve(account, units, offer.id) {
-            forget(&mut self.transfers, offer.id);
+        open(&mut self.transfers, new_transfer.id)?;
+        let (account, units) = (new_transfer.content.account(), new_transfer.content.units());
+        if let Err(refused) = holdings.reserve(account, units, new_transfer.id) {
+            forget(&mut self.transfers, new_transfer.id);
             return Err(refused);
         }
-        self.last = offer.id.number;
+        self.last = new_transfer.id.number;
         Ok(())
     }
 
@@ -207,14 +216,14 @@ impl Initiator {
         ask(&mut self.transfers, id);
     }
 
-    /// The transfer has come to that status: its units leave the registry where it is Completed, and are free again at any other.
-    /// Takes no memory.
+    /// The transfer has come to that status: its units leave the registry where it is Completed, and are free again
+    /// at any other. Takes no memory.
     pub fn settle(&mut self, holdings: &mut Holdings, id: TransactionId, new: Status)
         ensures transfers { (t : TransactionId) → map.get self.new.transfers t ≡ (if same_id id t then option_map (settled new) (map.get self.old.transfers t) else map.get self.old.transfers t) }
         ensures code { self.new.code ≡ self.old.code }
         ensures last { self.new.last ≡ self.old.last }
         ensures accounts { holdings.new.accounts ≡ holdings.old.accounts }
-        ensures lots { (s : Serial) → map.get holdings.new.lots s ≡ (if same_status new status_word.Completed then marks_that (λ lot. not (held.is_reserved_by id lot)) (map.get holdings.old.lots s) else option_map (held.released id) (map.get holdings.old.lots s)) }
+        ensures unit_holdings { (s : Serial) → map.get holdings.new.unit_holdings s ≡ (if same_status new status_word.Completed then labels_that (λ unit_holding. not (held.is_reserved_by id unit_holding)) (map.get holdings.old.unit_holdings s) else option_map (held.released id) (map.get holdings.old.unit_holdings s)) }
     {
         settle(&mut self.transfers, id, new);
         if new == Status::Completed {

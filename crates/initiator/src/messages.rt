@@ -2,12 +2,12 @@
 ghost use Rattle.std.specs.Prelude.{◌≡◌, ◌⊎◌, [], ◌∷◌, Option, IfOk, Some};
 ghost use Rattle.protocol.specs.Effects.{initiator_sends};
 ghost use Rattle.status.specs.Content.{Content as Terms};
-ghost use Rattle.status.specs.declared.words.RowInput.TheVariants as words;
+ghost use Rattle.status.specs.declared.rows.RowInput.TheVariants as words;
 
 use status::{Content, RowInput, Status, TransactionId};
 use std::alloc::Global;
 use units::{Code, Items, NoMemory, Node};
-use wire::{Message, Notice, Notification, Proposal, ProposalStatus, Request};
+use wire::{Message, Notification, NotifiedStatus, Proposal, ProposalStatus, Request};
 
 /// A list of one message.
 fn one(alloc: Global, message: Message) -> Result<Items<Message>, NoMemory>
@@ -59,7 +59,7 @@ pub(crate) fn on_request(
 }
 
 /// What follows a notification of that status: Completed to the log after Accepted, and nothing after any other.
-pub(crate) fn on_notice(
+pub(crate) fn on_notified(
     alloc: Global,
     code: Code,
     id: TransactionId,
@@ -74,7 +74,7 @@ pub(crate) fn on_notice(
         from: Node::Registry(code),
         to: Node::Itl,
         id,
-        notice: Notice::Completed,
+        notified: NotifiedStatus::Completed,
     };
     one(alloc, Message::Notification(completed))
 }

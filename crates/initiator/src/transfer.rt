@@ -2,9 +2,9 @@
 
 ghost use Rattle.std.specs.Prelude.{◌≡◌, ◌⊎◌};
 ghost use Rattle.initiator.specs.Transfers as transfers;
-ghost use Rattle.status.specs.declared.words.RowInput.TheVariants as words;
+ghost use Rattle.status.specs.declared.rows.RowInput.TheVariants as words;
 
-use status::{Known, RowInput, Status};
+use status::{RecordedStatus, RowInput, Status};
 
 /// Whether an order to ask for a transfer's cancellation is recorded.
 #[derive(Clone, Copy, Debug, PartialEq, Eq)]
@@ -21,12 +21,12 @@ pub struct Transfer {
 }
 
 /// What the table asks of a transfer.
-pub(crate) fn known(transfer: Option<Transfer>) -> Known
+pub(crate) fn known(transfer: Option<Transfer>) -> RecordedStatus
     ensures { result ≡ transfers.known_transfer transfer }
 {
     match transfer {
-        Some(transfer) => Known::Stands(transfer.status),
-        None => Known::Unknown,
+        Some(transfer) => RecordedStatus::Stands(transfer.status),
+        None => RecordedStatus::Unknown,
     }
 }
 

@@ -20,7 +20,8 @@ use units::Node;
 /// The exit status for words that are wrong.
 const WRONG_WORDS: u8 = 2;
 
-/// Writes the fault on standard error, and returns its exit status. Where the fault can't be written, the status alone tells of it.
+/// Writes the fault on standard error, and returns its exit status. Where the fault can't be written, the status
+/// alone tells of it.
 fn report(rt: &impl Eprint, fault: OpFault) -> ExitCode {
     let _ = eprintln!(rt; "kyoto-link: {fault}");
     ExitCode::from(fault.status())

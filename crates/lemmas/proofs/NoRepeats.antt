@@ -1,6 +1,6 @@
 -- Lists without repeats: how their lengths compare.
--- A list without repeats whose members are all in another list is no longer than it (`no_longer`), and two lists without repeats and with the
--- same members are equally long (`same_length`).
+-- A list without repeats whose members are all in another list is no longer than it (`no_longer`), and two lists
+-- without repeats and with the same members are equally long (`same_length`).
 use Rattle.std.proofs.Common.{◌≡◌, ◌≤◌, List, [], ◌∷◌, ◌++◌, inl, inr, refl, sym, ap, subst, arith, length, length-append}
 use Rattle.lemmas.proofs.Membership.{In, In_cases, In_left, In_right}
 

@@ -7,7 +7,7 @@ use Rattle.units.specs.declared.code.Node.TheVariants.{Itl}
 use Rattle.wire.specs.declared.input.Input.TheVariants.{Ack}
 use Rattle.wire.specs.declared.input.Number.{Number}
 use Rattle.scheme.specs.declared.registries.Scheme.{Scheme}
-use Rattle.protocol.specs.Deciding.{IsRefused, IsRepeat, acknowledge, enters}
+use Rattle.protocol.specs.Deciding.{IsRefused, IsRepeat, acknowledge, recorded_if_room}
 use Rattle.protocol.specs.History as past
 use Rattle.protocol.specs.Verdict.{verdict, history}
 use Rattle.outbox.specs.Sending as sending
@@ -28,8 +28,8 @@ module _ (scheme : Scheme) (tables : Tables) (kept : IsKept scheme tables) where
   acknowledged_so key = ap (λ o. sending.is_key_acknowledged o key) kept.kept.sent ∙ acknowledged_outgoing (history scheme Itl tables.journal.items) key
 
   rest : (n : Number) (b d : Bool) → nat_le (length (past.sends (history scheme Itl tables.journal.items))) n.value ≡ b → past.is_acknowledged (history scheme Itl tables.journal.items) n.value ≡ d
-      → verdict_due scheme tables (Ack n) ≡ cond b (IsRefused no_row) (cond d IsRepeat (enters scheme (history scheme Itl tables.journal.items) []))
-  rest n b d e f = due_ack scheme tables n ∙ (λ i. cond (e i) (IsRefused no_row) (cond (f i) IsRepeat (enters scheme (history scheme Itl tables.journal.items) [])))
+      → verdict_due scheme tables (Ack n) ≡ cond b (IsRefused no_row) (cond d IsRepeat (recorded_if_room scheme (history scheme Itl tables.journal.items) []))
+  rest n b d e f = due_ack scheme tables n ∙ (λ i. cond (e i) (IsRefused no_row) (cond (f i) IsRepeat (recorded_if_room scheme (history scheme Itl tables.journal.items) [])))
 
   pub ack_unknown : (n : Number) → length (sending.messages tables.outbox) ≤ n.value → verdict_due scheme tables (Ack n) ≡ IsRefused no_row
   ack_unknown n h = rest n true _ (sym (ap (λ k. nat_le k n.value) sends_so) ∙ le-leb (length (sending.messages tables.outbox)) n.value h) refl
@@ -37,5 +37,5 @@ module _ (scheme : Scheme) (tables : Tables) (kept : IsKept scheme tables) where
   pub ack_again : (n : Number) → n.value < length (sending.messages tables.outbox) → sending.is_key_acknowledged tables.outbox n.value ≡ true → verdict_due scheme tables (Ack n) ≡ IsRepeat
   ack_again n h e = rest n false true (sym (ap (λ k. nat_le k n.value) sends_so) ∙ lt-leb (length (sending.messages tables.outbox)) n.value h) (sym (acknowledged_so n.value) ∙ e)
 
-  pub ack_enters : (n : Number) → n.value < length (sending.messages tables.outbox) → sending.is_key_acknowledged tables.outbox n.value ≡ false → verdict_due scheme tables (Ack n) ≡ enters scheme (history scheme Itl tables.journal.items) []
+  pub ack_enters : (n : Number) → n.value < length (sending.messages tables.outbox) → sending.is_key_acknowledged tables.outbox n.value ≡ false → verdict_due scheme tables (Ack n) ≡ recorded_if_room scheme (history scheme Itl tables.journal.items) []
   ack_enters n h e = rest n false false (sym (ap (λ k. nat_le k n.value) sends_so) ∙ lt-leb (length (sending.messages tables.outbox)) n.value h) (sym (acknowledged_so n.value) ∙ e)

@@ -1,18 +1,19 @@
--- The transactions that a clean-up finds: the front of the set of what stands Checked with one more, whether there is one, and what is sent for them.
+-- The transactions that a clean-up finds: the front of the set of what stands Checked with one more, whether there is
+-- one, and what is sent for them.
 use Rattle.std.proofs.Common.{List, [], append_assoc, arith, false, length, map, refl, sym, true, ap, ◌++◌, ◌==◌, ◌∙◌, ◌∷◌, ◌≡◌, ℕ}
 use Rattle.std.specs.Prelude.{flat_map}
 use Rattle.std.proofs.lemmas.Bool.{eqb-false, eqb-true}
 use Rattle.std.specs.List.{AllByRecursion}
 use Rattle.status.specs.declared.id.TransactionId.{TransactionId}
 use Rattle.units.specs.declared.code.Node.TheVariants.{Itl}
-use Rattle.status.specs.declared.words.RowInput.TheVariants as column
+use Rattle.status.specs.declared.rows.RowInput.TheVariants as column
 use Rattle.scheme.specs.declared.registries.Scheme.{Scheme}
 use Rattle.protocol.specs.Deciding.{content_in}
 use Rattle.protocol.specs.Effects.{log_sends}
 use Rattle.protocol.specs.History.{newest, transitions_of}
 use Rattle.protocol.specs.Verdict.{history}
 use Rattle.log_core.specs.Cleaning.{IsAged}
-use Rattle.log_core.specs.Effects.{standing_content, standing_in}
+use Rattle.log_core.specs.Effects.{transfer_state_content, transfer_state_in}
 use Rattle.log_core.specs.Kept.{IsKept}
 use Rattle.log_core.specs.declared.tables.Tables.{Tables}
 use Rattle.log_core.proofs.DecidedMessages.{content_so}
@@ -41,6 +42,6 @@ some_listed (x ∷ xs) n e h = (x, xs, refl)
 
 -- ---- what is sent for each of them
 
-pub cancelled_sends : (scheme : Scheme) (tables : Tables) → IsKept scheme tables → (shown ids : List TransactionId) → shown ≡ ids → flat_map (λ t. log_sends t (standing_content (standing_in tables t)) [] column.CleanUp) shown
+pub cancelled_sends : (scheme : Scheme) (tables : Tables) → IsKept scheme tables → (shown ids : List TransactionId) → shown ≡ ids → flat_map (λ t. log_sends t (transfer_state_content (transfer_state_in tables t)) [] column.CleanUp) shown
     ≡ flat_map (λ t. log_sends t (content_in (newest (transitions_of (history scheme Itl tables.journal.items)) t)) [] column.CleanUp) ids
 cancelled_sends scheme tables kept shown ids is = λ i. flat_map (λ t. log_sends t (content_so scheme tables kept t i) [] column.CleanUp) (is i)

@@ -4,12 +4,12 @@ use Rattle.std.specs.Prelude.{option_map}
 use Rattle.std.proofs.lemmas.Bool.{cases_Bool, false_from_ne_true}
 use Rattle.std.proofs.lemmas.List.{take_more}
 use Rattle.std.proofs.lemmas.List.Folds.{list_any-append}
-use Rattle.units.specs.Intervals.{marks_that}
+use Rattle.units.specs.Intervals.{labels_that}
 use Rattle.status.proofs.Ids.{id_of_same, same_id-refl}
 use Rattle.status.specs.Id.{same_id}
 use Rattle.status.specs.declared.id.TransactionId.{TransactionId}
 use Rattle.status.specs.declared.moment.Moment.{Moment}
-use Rattle.status.specs.declared.words.Status.TheVariants.{Cancelled}
+use Rattle.status.specs.declared.status.Status.TheVariants.{Cancelled}
 use Rattle.checks.specs.declared.register.UnderWay.{UnderWay}
 use Rattle.lemmas.proofs.OneValue.{clash}
 use Rattle.log_core.specs.Effects.{is_among}
@@ -35,11 +35,11 @@ changed_more f twice true false o = refl
 changed_more f twice false true o = refl
 changed_more f twice false false o = refl
 
-marks_more : {M : Type 0} (before here : M → Bool) (o : Option M) → marks_that (λ m. not (here m)) (marks_that (λ m. not (before m)) o) ≡ marks_that (λ m. not (before m || here m)) o
-marks_more before here None = refl
-marks_more {M} before here (Some m) = go (before m)
+labels_more : {M : Type 0} (before here : M → Bool) (o : Option M) → labels_that (λ m. not (here m)) (labels_that (λ m. not (before m)) o) ≡ labels_that (λ m. not (before m || here m)) o
+labels_more before here None = refl
+labels_more {M} before here (Some m) = go (before m)
   where
-    go : (b : Bool) → marks_that (λ n. not (here n)) (cond (not b) (Some m) None) ≡ cond (not (b || here m)) (Some m) None
+    go : (b : Bool) → labels_that (λ n. not (here n)) (cond (not b) (Some m) None) ≡ cond (not (b || here m)) (Some m) None
     go true = refl
     go false = refl
 
@@ -56,16 +56,16 @@ same_id_sym a b =
       | inr n ↦ n ∙ sym (false_from_ne_true (same_id b a) (λ y. clash (same_id a b) (subst (λ c. same_id c b ≡ true) (id_of_same b a y) (same_id-refl b)) n))
     ]
 
-marks_alike : {M : Type 0} (f g : M → Bool) (o : Option M) → ((m : M) → f m ≡ g m) → marks_that f o ≡ marks_that g o
-marks_alike f g None h = refl
-marks_alike f g (Some m) h = ap (λ b. cond b (Some m) None) (h m)
+labels_alike : {M : Type 0} (f g : M → Bool) (o : Option M) → ((m : M) → f m ≡ g m) → labels_that f o ≡ labels_that g o
+labels_alike f g None h = refl
+labels_alike f g (Some m) h = ap (λ b. cond b (Some m) None) (h m)
 
 twice_came : (moment : Moment) (x : Transfer) → came_at Cancelled moment (came_at Cancelled moment x) ≡ came_at Cancelled moment x
 twice_came moment x = refl
 
-pub none_marked_yet : (o : Option UnderWay) → o ≡ marks_that (λ u. not (is_among [] u.id)) o
-none_marked_yet None = refl
-none_marked_yet (Some u) = refl
+pub none_labelled_yet : (o : Option UnderWay) → o ≡ labels_that (λ u. not (is_among [] u.id)) o
+none_labelled_yet None = refl
+none_labelled_yet (Some u) = refl
 
 module _ (ids : List TransactionId) (i : ℕ) (id : TransactionId) (lt : i < length ids) (is : id ≡ get_or ids i id) where
   pub changed_after : (t : TransactionId) (moment : Moment) (old now : Option Transfer) → now ≡ cond (is_among (take i ids) t) (option_map (came_at Cancelled moment) old) old
@@ -74,12 +74,12 @@ module _ (ids : List TransactionId) (i : ℕ) (id : TransactionId) (lt : i < len
       ap (λ o. cond (same_id id t) (option_map (came_at Cancelled moment) o) o) h ∙ changed_more (came_at Cancelled moment) (twice_came moment) (is_among (take i ids) t) (same_id id t) old
       ∙ ap (λ b. cond b (option_map (came_at Cancelled moment) old) old) (sym (among_more ids i id t lt is))
 
-  pub marks_after : (old now : Option UnderWay) → now ≡ marks_that (λ u. not (is_among (take i ids) u.id)) old
-      → marks_that (λ u. not (same_id u.id id)) now ≡ marks_that (λ u. not (is_among (take (i + 1) ids) u.id)) old
-  marks_after old now h =
-      ap (λ o. marks_that (λ u. not (same_id u.id id)) o) h
-      ∙ marks_more (λ u. is_among (take i ids) u.id) (λ u. same_id u.id id) old
-      ∙ marks_alike (λ u. not (is_among (take i ids) u.id || same_id u.id id)) (λ u. not (is_among (take (i + 1) ids) u.id)) old
+  pub labels_after : (old now : Option UnderWay) → now ≡ labels_that (λ u. not (is_among (take i ids) u.id)) old
+      → labels_that (λ u. not (same_id u.id id)) now ≡ labels_that (λ u. not (is_among (take (i + 1) ids) u.id)) old
+  labels_after old now h =
+      ap (λ o. labels_that (λ u. not (same_id u.id id)) o) h
+      ∙ labels_more (λ u. is_among (take i ids) u.id) (λ u. same_id u.id id) old
+      ∙ labels_alike (λ u. not (is_among (take i ids) u.id || same_id u.id id)) (λ u. not (is_among (take (i + 1) ids) u.id)) old
       (λ u. ap (λ b. not (is_among (take i ids) u.id || b)) (same_id_sym u.id id) ∙ ap not (sym (among_more ids i id u.id lt is)))
 
   pub places_after : (t : TransactionId) (old now : Bool) → now ≡ (not (is_among (take i ids) t) && old) → (not (same_id id t) && now) ≡ (not (is_among (take (i + 1) ids) t) && old)

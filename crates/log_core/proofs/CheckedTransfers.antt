@@ -6,7 +6,7 @@ use Rattle.std.specs.BTreeSet.{BTreeSet, contains}
 use Rattle.std.specs.FinMap as finite
 use Rattle.std.specs.Prelude.{option_map}
 use Rattle.std.proofs.lemmas.Bool.{and_parts}
-use Rattle.units.specs.Intervals.{marks_that}
+use Rattle.units.specs.Intervals.{labels_that}
 use Rattle.units.specs.Keys.{unit_cmp}
 use Rattle.units.specs.declared.block.Unit.{Unit as Serial}
 use Rattle.status.proofs.Ids.{id_of_same}
@@ -15,13 +15,13 @@ use Rattle.status.specs.Id.{id_cmp, same_id}
 use Rattle.status.specs.Status.{same_status}
 use Rattle.status.specs.declared.id.TransactionId.{TransactionId}
 use Rattle.status.specs.declared.moment.Moment.{Moment}
-use Rattle.status.specs.declared.words.Status.TheVariants.{Checked}
+use Rattle.status.specs.declared.status.Status.TheVariants.{Checked}
 use Rattle.checks.specs.declared.register.UnderWay.{UnderWay}
 use Rattle.protocol.specs.History.{has_serial}
-use Rattle.log_core.specs.Effects.{standing_content}
+use Rattle.log_core.specs.Effects.{transfer_state_content}
 use Rattle.log_core.specs.Kept.{waiting_cmp}
-use Rattle.log_core.specs.Readings.{Standing, of_transfer}
-use Rattle.log_core.specs.Transfers.{AreMarked, AreWaiting, stands_checked_since, is_waiting_place, standing_of}
+use Rattle.log_core.specs.Readings.{TransferState, of_transfer}
+use Rattle.log_core.specs.Transfers.{AreLabelled, AreWaiting, stands_checked_since, is_waiting_place, transfer_state_of}
 use Rattle.log_core.specs.declared.transfer.Transfer.{Transfer}
 use Rattle.log_core.specs.declared.waiting.Waiting.{Waiting}
 
@@ -41,18 +41,18 @@ none_there : (same there : Bool) → (same ≡ true → there ≡ false) → the
 none_there true there h = h refl
 none_there false there h = refl
 
-is_since : (since : ℕ) (o : Option Standing) (x : Standing) → o ≡ Some x → stands_checked_since since o ≡ true → (x.since == since) ≡ true
+is_since : (since : ℕ) (o : Option TransferState) (x : TransferState) → o ≡ Some x → stands_checked_since since o ≡ true → (x.since == since) ≡ true
 is_since since o x e h = (and_parts (same_status x.status Checked) (x.since == since) (ap (stands_checked_since since) (sym e) ∙ h)).1
 
 module _ (transfers : BTreeMap TransactionId Transfer) (checked : BTreeSet Waiting) (waiting : AreWaiting transfers checked) (id : TransactionId) where
-  there_of : (w : Waiting) → same_id id w.id ≡ true → contains waiting_cmp checked w ≡ stands_checked_since w.since.seconds (standing_of transfers id)
-  there_of w same = waiting w ∙ ap (λ t. stands_checked_since w.since.seconds (standing_of transfers t)) (sym (id_of_same id w.id same))
+  there_of : (w : Waiting) → same_id id w.id ≡ true → contains waiting_cmp checked w ≡ stands_checked_since w.since.seconds (transfer_state_of transfers id)
+  there_of w same = waiting w ∙ ap (λ t. stands_checked_since w.since.seconds (transfer_state_of transfers t)) (sym (id_of_same id w.id same))
 
   pub stops : (x : Transfer) → tree.get id_cmp transfers id ≡ Some x → (w : Waiting)
       → (contains waiting_cmp checked w && not (is_waiting_place w (record { since = x.since; id = id }))) ≡ (not (same_id id w.id) && contains waiting_cmp checked w)
   stops x is w =
       taken_out (same_id id w.id) (x.since.seconds == w.since.seconds) (contains waiting_cmp checked w)
-      (λ same there. is_since w.since.seconds (standing_of transfers id) (of_transfer x) (ap (option_map of_transfer) is) (sym (there_of w same) ∙ there))
+      (λ same there. is_since w.since.seconds (transfer_state_of transfers id) (of_transfer x) (ap (option_map of_transfer) is) (sym (there_of w same) ∙ there))
 
   pub none_waits : tree.get id_cmp transfers id ≡ None → (w : Waiting) → same_id id w.id ≡ true → contains waiting_cmp checked w ≡ false
   none_waits none w same = there_of w same ∙ ap (λ o. stands_checked_since w.since.seconds (option_map of_transfer o)) none
@@ -65,13 +65,13 @@ module _ (transfers : BTreeMap TransactionId Transfer) (checked : BTreeSet Waiti
 
 -- ---- units
 
--- none of the marks passes, so all are left
-pub none_marked : {M : Type 0} (passes : M → Bool) (o : Option M) → ((m : M) → o ≡ Some m → passes m ≡ false) → o ≡ marks_that (λ m. not (passes m)) o
-none_marked passes None h = refl
-none_marked passes (Some m) h = ap (λ b. cond (not b) (Some m) None) (sym (h m refl))
+-- none of the labels passes, so all are left
+pub none_labelled : {M : Type 0} (passes : M → Bool) (o : Option M) → ((m : M) → o ≡ Some m → passes m ≡ false) → o ≡ labels_that (λ m. not (passes m)) o
+none_labelled passes None h = refl
+none_labelled passes (Some m) h = ap (λ b. cond (not b) (Some m) None) (sym (h m refl))
 
 -- the transfer's units are those of its content
-pub marked_content : (transfers : BTreeMap TransactionId Transfer) (under_way : finite.FinMap unit_cmp UnderWay) (id : TransactionId) (k : Option Content) → AreMarked transfers under_way → k ≡ standing_content (standing_of transfers id)
+pub labelled_content : (transfers : BTreeMap TransactionId Transfer) (under_way : finite.FinMap unit_cmp UnderWay) (id : TransactionId) (k : Option Content) → AreLabelled transfers under_way → k ≡ transfer_state_content (transfer_state_of transfers id)
     → (s : Serial) (u : UnderWay) → finite.get under_way s ≡ Some u → same_id u.id id ≡ true → has_serial k s ≡ true
-marked_content transfers under_way id k marked is s u e same =
-    ap (λ c. has_serial c s) (is ∙ ap (λ t. standing_content (standing_of transfers t)) (sym (id_of_same u.id id same))) ∙ marked s u e
+labelled_content transfers under_way id k labelled is s u e same =
+    ap (λ c. has_serial c s) (is ∙ ap (λ t. transfer_state_content (transfer_state_of transfers t)) (sym (id_of_same u.id id same))) ∙ labelled s u e

@@ -1,5 +1,5 @@
--- The transactions that a clean-up cancels, read off the set of those that stand Checked: they are those of its front, up to the first one that hasn't stood so for a day,
--- and no two of these are of one transaction.
+-- The transactions that a clean-up cancels, read off the set of those that stand Checked: they are those of its
+-- front, up to the first one that hasn't stood so for a day, and no two of these are of one transaction.
 use Rattle.std.proofs.Common.{List, Ordering, [], ap, arith, false, get_or, inl, inr, map, refl, subst, sym, true, ℕ, ◌++◌, ◌+◌, ◌∙◌, ◌∷◌, ◌≡◌, ◌≤◌}
 use Rattle.std.specs.BTreeMap.{is_at}
 use Rattle.std.specs.BTreeSet.{IsOrdered}

@@ -1,4 +1,5 @@
--- What a clean-up cancels: each transaction that has stood Checked for a day, in ascending order of code and number, and what it sends for each.
+-- What a clean-up cancels: each transaction that has stood Checked for a day, in ascending order of code and number,
+-- and what it sends for each.
 use Rattle.std.proofs.Common.{Contains, List, None, Option, Some, [], ap, false, inl, inr, map, refl, subst, sym, true, ℕ, ◌&&◌, ◌++◌, ◌+◌, ◌==◌, ◌∙◌, ◌∷◌, ◌↔◌, ◌≡◌, ◌≤◌, ◌⊎◌}
 use Rattle.std.specs.List.{AllByRecursion}
 use Rattle.std.specs.Option.{option_map_or}
@@ -14,12 +15,12 @@ use Rattle.status.specs.Id.{id_cmp}
 use Rattle.status.specs.Rows.{log_row}
 use Rattle.status.specs.Status.{same_status}
 use Rattle.status.specs.declared.id.TransactionId.{TransactionId}
-use Rattle.status.specs.declared.words.Known.TheVariants.{Stands}
-use Rattle.status.specs.declared.words.Row.{Row}
-use Rattle.status.specs.declared.words.Row.TheVariants.{Late, Move, Refused, Repeat}
-use Rattle.status.specs.declared.words.RowInput.TheVariants as column
-use Rattle.status.specs.declared.words.Status.{Status}
-use Rattle.status.specs.declared.words.Status.TheVariants.{Cancelled, Checked}
+use Rattle.status.specs.declared.rows.RecordedStatus.TheVariants.{Stands}
+use Rattle.status.specs.declared.rows.Row.{Row}
+use Rattle.status.specs.declared.rows.Row.TheVariants.{Late, Move, Refused, Repeat}
+use Rattle.status.specs.declared.rows.RowInput.TheVariants as column
+use Rattle.status.specs.declared.status.Status.{Status}
+use Rattle.status.specs.declared.status.Status.TheVariants.{Cancelled, Checked}
 use Rattle.wire.specs.declared.message.Message.{Message}
 use Rattle.scheme.proofs.Climbs.{one_order}
 use Rattle.scheme.specs.declared.registries.Scheme.{Scheme}

@@ -7,13 +7,13 @@ use Rattle.status.specs.declared.moment.Moment.{Moment}
 use Rattle.wire.specs.declared.input.Input.TheVariants.{CleanUp}
 use Rattle.scheme.specs.declared.registries.Scheme.{Scheme}
 use Rattle.protocol.specs.AtLog as log
-use Rattle.protocol.specs.Deciding.{IsRepeat, enters}
+use Rattle.protocol.specs.Deciding.{IsRepeat, recorded_if_room}
 use Rattle.protocol.specs.History.{Entry, Transition, transitions_of}
 use Rattle.protocol.specs.Verdict.{history, verdict}
 use Rattle.lemmas.proofs.Membership.{In, In_map}
 use Rattle.safety.proofs.MovesAndHistories.LongerHistories.{made_history}
 use Rattle.safety.proofs.MovesAndHistories.NewestTransitions.{Made}
-use Rattle.log_core.specs.Effects.{IsEffect, standing_in}
+use Rattle.log_core.specs.Effects.{IsEffect, transfer_state_in}
 use Rattle.log_core.specs.Kept.{IsKept}
 use Rattle.log_core.specs.Readings.{of_transition}
 use Rattle.log_core.specs.Taking.{verdict_due}
@@ -31,7 +31,7 @@ none_cleaned : (scheme : Scheme) (es : List Entry) (xs : List Transition) → id
 none_cleaned scheme es [] e = refl
 none_cleaned scheme es (x ∷ xs) e = absurd (cc (e))
 
-some_cleaned : (scheme : Scheme) (es : List Entry) (xs : List Transition) (t : TransactionId) (ts : List TransactionId) → ids_in xs ≡ t ∷ ts → log.clean_up scheme es xs ≡ enters scheme es xs
+some_cleaned : (scheme : Scheme) (es : List Entry) (xs : List Transition) (t : TransactionId) (ts : List TransactionId) → ids_in xs ≡ t ∷ ts → log.clean_up scheme es xs ≡ recorded_if_room scheme es xs
 some_cleaned scheme es [] t ts e = absurd (cc (e))
 some_cleaned scheme es (x ∷ xs) t ts e = refl
 
@@ -47,7 +47,7 @@ module _ (scheme : Scheme) (tables : Tables) where
   clean_up_repeats moment none = due_clean moment ∙ none_cleaned scheme past (log.due (transitions_of past) moment.seconds) none
 
   pub clean_up_enters : (moment : Moment) (t : TransactionId) (ts : List TransactionId) → map (λ x. x.id) (log.due (transitions_of (history scheme Itl tables.journal.items)) moment.seconds) ≡ t ∷ ts
-      → verdict_due scheme tables (CleanUp moment) ≡ enters scheme (history scheme Itl tables.journal.items) (log.due (transitions_of (history scheme Itl tables.journal.items)) moment.seconds)
+      → verdict_due scheme tables (CleanUp moment) ≡ recorded_if_room scheme (history scheme Itl tables.journal.items) (log.due (transitions_of (history scheme Itl tables.journal.items)) moment.seconds)
   clean_up_enters moment t ts some = due_clean moment ∙ some_cleaned scheme past (log.due (transitions_of past) moment.seconds) t ts some
 
   module _ (moment : ℕ) (ids : Vec TransactionId Global) (are : map (λ x. x.id) (log.due (transitions_of (history scheme Itl tables.journal.items)) moment) ≡ ids.items) where
@@ -59,12 +59,12 @@ module _ (scheme : Scheme) (tables : Tables) where
     clean_up_effect = (are, due_cancelled scheme past made_so moment)
 
     -- each of these was known
-    pub clean_up_known : IsKept scheme tables → IsOfKnown (standing_in tables) (Cancel ids)
+    pub clean_up_known : IsKept scheme tables → IsOfKnown (transfer_state_in tables) (Cancel ids)
     clean_up_known kept =
-        all_from_in (λ t. is_some (standing_in tables t) ≡ true) ids.items
+        all_from_in (λ t. is_some (transfer_state_in tables t) ≡ true) ids.items
         (λ t i.
         let y = In_map (λ (x : Transition). x.id) t (log.due (transitions_of past) moment) (subst (In t) (sym are) i) in
         let since = due_is scheme past made_so moment y.0 y.1 in
         let x = checked_newest (transitions_of past) since.0 y.0.id since.1 in
-        let stands : is_some (standing_in tables y.0.id) ≡ true = ap is_some (kept.kept.transfers y.0.id ∙ ap (option_map of_transition) x.1) in
-        subst (λ u. is_some (standing_in tables u) ≡ true) y.2 stands)
+        let stands : is_some (transfer_state_in tables y.0.id) ≡ true = ap is_some (kept.kept.transfers y.0.id ∙ ap (option_map of_transition) x.1) in
+        subst (λ u. is_some (transfer_state_in tables u) ≡ true) y.2 stands)

@@ -8,12 +8,12 @@ use Rattle.status.specs.Content.{Content}
 use Rattle.status.specs.Rows.{log_row}
 use Rattle.status.specs.declared.id.TransactionId.{TransactionId}
 use Rattle.status.specs.declared.moment.Moment.{Moment}
-use Rattle.status.specs.declared.words.Row.{Row}
-use Rattle.status.specs.declared.words.Row.TheVariants as rows
-use Rattle.status.specs.declared.words.RowInput.{RowInput}
-use Rattle.status.specs.declared.words.RowInput.TheVariants as column
-use Rattle.status.specs.declared.words.Status.{Status}
-use Rattle.wire.specs.Notices.{notice_codes, notice_status}
+use Rattle.status.specs.declared.rows.Row.{Row}
+use Rattle.status.specs.declared.rows.Row.TheVariants as rows
+use Rattle.status.specs.declared.rows.RowInput.{RowInput}
+use Rattle.status.specs.declared.rows.RowInput.TheVariants as column
+use Rattle.status.specs.declared.status.Status.{Status}
+use Rattle.wire.specs.NotifiedStatuses.{notified_codes, notified_status}
 use Rattle.wire.specs.declared.input.Input.{Input}
 use Rattle.wire.specs.declared.input.Input.TheVariants.{Received}
 use Rattle.wire.specs.declared.message.Message.{Message}
@@ -26,7 +26,7 @@ use Rattle.protocol.specs.AtLog.{ledger, log_answer, log_refusals}
 use Rattle.protocol.specs.Checks.{log_findings}
 use Rattle.protocol.specs.Cores.{IsDueOrNoMemory}
 use Rattle.protocol.specs.Deciding as decide
-use Rattle.protocol.specs.Deciding.{IsLate, IsRefused, IsRepeat, by_row, content_in, enters, offered}
+use Rattle.protocol.specs.Deciding.{IsLate, IsRefused, IsRepeat, by_row, content_in, recorded_if_room, column_of_proposal}
 use Rattle.protocol.specs.Decisions.{decided}
 use Rattle.protocol.specs.Effects.{log_sends}
 use Rattle.protocol.specs.History.{Entry, Transition, messages_of, newest, transitions_of}
@@ -34,11 +34,11 @@ use Rattle.protocol.specs.Verdict.{history}
 use Rattle.protocol.specs.declared.decision.Decision.{Decision}
 use Rattle.protocol.specs.declared.decision.Decision.TheVariants as decision
 use Rattle.checks.specs.Refusing.{first_of}
-use Rattle.log_core.specs.Effects.{standing_content, standing_in}
+use Rattle.log_core.specs.Effects.{transfer_state_content, transfer_state_in}
 use Rattle.log_core.specs.Kept.{IsKept}
 use Rattle.log_core.specs.Readings.{of_transition}
 use Rattle.log_core.specs.Taking.{verdict_due}
-use Rattle.log_core.specs.Transfers.{known_standing}
+use Rattle.log_core.specs.Transfers.{known_transfer_state}
 use Rattle.log_core.specs.declared.tables.Tables.{Tables}
 use Rattle.log_core.proofs.FirstCauses.{refuse_first, refuse_none}
 use Rattle.log_core.proofs.TakenInputs.{GivenUp, due_so}
@@ -65,7 +65,7 @@ module _ (scheme : Scheme) (tables : Tables) (input : Input) (to : Status → Tr
     by_decision x e = settled d (decided row h.messages) x h.is e
 
     -- a decision that moves: the row does, and its transition is to be recorded
-    pub moves : (new : Status) (ms : List Message) → d ≡ Ok (decision.Moves new ms) → (row ≡ rows.Move new) × (verdict_due scheme tables input ≡ enters scheme past (to new ∷ [])) × (ms ≡ messages_of (to new ∷ []))
+    pub moves : (new : Status) (ms : List Message) → d ≡ Ok (decision.Moves new ms) → (row ≡ rows.Move new) × (verdict_due scheme tables input ≡ recorded_if_room scheme past (to new ∷ [])) × (ms ≡ messages_of (to new ∷ []))
     moves new ms e =
         let g = go row (by_decision (decision.Moves new ms) e) in
         (g.0, h.due_is ∙ ap (by_row scheme past to) g.0, g.1 ∙ sym (h.sends new) ∙ sym (append-nil (to new).messages))
@@ -109,11 +109,11 @@ module _ (scheme : Scheme) (tables : Tables) (input : Input) (to : Status → Tr
 
 -- ---- what the tables say of a transaction is what its newest transition says
 
-known_of : (o : Option Transition) → known_standing (option_map of_transition o) ≡ decide.known o
+known_of : (o : Option Transition) → known_transfer_state (option_map of_transition o) ≡ decide.known o
 known_of None = refl
 known_of (Some x) = refl
 
-content_of_newest : (o : Option Transition) → standing_content (option_map of_transition o) ≡ content_in o
+content_of_newest : (o : Option Transition) → transfer_state_content (option_map of_transition o) ≡ content_in o
 content_of_newest None = refl
 content_of_newest (Some x) = refl
 
@@ -124,11 +124,11 @@ module _ (scheme : Scheme) (tables : Tables) (kept : IsKept scheme tables) where
   abbrev pub last : TransactionId → Option Transition
   last t = newest (transitions_of (history scheme Itl tables.journal.items)) t
 
-  pub known_so : (t : TransactionId) → known_standing (standing_in tables t) ≡ decide.known (last t)
-  known_so t = ap known_standing (kept.kept.transfers t) ∙ known_of (last t)
+  pub known_so : (t : TransactionId) → known_transfer_state (transfer_state_in tables t) ≡ decide.known (last t)
+  known_so t = ap known_transfer_state (kept.kept.transfers t) ∙ known_of (last t)
 
-  pub content_so : (t : TransactionId) → standing_content (standing_in tables t) ≡ content_in (last t)
-  content_so t = ap standing_content (kept.kept.transfers t) ∙ content_of_newest (last t)
+  pub content_so : (t : TransactionId) → transfer_state_content (transfer_state_in tables t) ≡ content_in (last t)
+  content_so t = ap transfer_state_content (kept.kept.transfers t) ∙ content_of_newest (last t)
 
   -- ---- a message that isn't refused for what it is
 
@@ -156,44 +156,44 @@ module _ (scheme : Scheme) (tables : Tables) (kept : IsKept scheme tables) where
   findings p = log_findings scheme (ledger scheme (history scheme Itl tables.journal.items)) p.id.code p.content
 
   abbrev pub proposal_column : Proposal → RowInput
-  proposal_column p = offered (content_in (last p.id)) (findings p)
+  proposal_column p = column_of_proposal (content_in (last p.id)) (findings p)
 
   pub proposal_decided : (p : Proposal) (moment : Moment) (d : Result Decision Refusal) → IsWelcome (message.Proposal p)
-      → IsDueOrNoMemory d (decided (log_row (known_standing (standing_in tables p.id)) (offered (standing_content (standing_in tables p.id)) (findings p))) (log_sends p.id (Some p.content) (findings p) (offered (standing_content (standing_in tables p.id)) (findings p))))
+      → IsDueOrNoMemory d (decided (log_row (known_transfer_state (transfer_state_in tables p.id)) (column_of_proposal (transfer_state_content (transfer_state_in tables p.id)) (findings p))) (log_sends p.id (Some p.content) (findings p) (column_of_proposal (transfer_state_content (transfer_state_in tables p.id)) (findings p))))
       → Decides scheme tables (Received (message.Proposal p) moment) (comes_to p.id (Some p.content) (findings p) moment (proposal_column p)) (row_at p.id (proposal_column p)) d
   proposal_decided p moment d welcome is =
       record {
         messages = log_sends p.id (Some p.content) (findings p) (proposal_column p);
         sends = λ new. refl;
-        is = subst (λ k. IsDueOrNoMemory d (decided (log_row (decide.known (last p.id)) (offered k (findings p))) (log_sends p.id (Some p.content) (findings p) (offered k (findings p))))) (content_so p.id)
-            (subst (λ k. IsDueOrNoMemory d (decided (log_row k (offered (standing_content (standing_in tables p.id)) (findings p))) (log_sends p.id (Some p.content) (findings p) (offered (standing_content (standing_in tables p.id)) (findings p))))) (known_so p.id) is);
+        is = subst (λ k. IsDueOrNoMemory d (decided (log_row (decide.known (last p.id)) (column_of_proposal k (findings p))) (log_sends p.id (Some p.content) (findings p) (column_of_proposal k (findings p))))) (content_so p.id)
+            (subst (λ k. IsDueOrNoMemory d (decided (log_row k (column_of_proposal (transfer_state_content (transfer_state_in tables p.id)) (findings p))) (log_sends p.id (Some p.content) (findings p) (column_of_proposal (transfer_state_content (transfer_state_in tables p.id)) (findings p))))) (known_so p.id) is);
         due_is = answered (message.Proposal p) moment welcome;
       }
 
   told_decided : (t : TransactionId) (codes : List ℕ) (col : RowInput) (moment : Moment) (input : Input) (d : Result Decision Refusal)
       → verdict_due scheme tables input ≡ by_row scheme (history scheme Itl tables.journal.items) (comes_to t (content_in (last t)) codes moment col) (row_at t col)
-      → IsDueOrNoMemory d (decided (log_row (known_standing (standing_in tables t)) col) (log_sends t (standing_content (standing_in tables t)) codes col))
+      → IsDueOrNoMemory d (decided (log_row (known_transfer_state (transfer_state_in tables t)) col) (log_sends t (transfer_state_content (transfer_state_in tables t)) codes col))
       → Decides scheme tables input (comes_to t (content_in (last t)) codes moment col) (row_at t col) d
   told_decided t codes col moment input d due_is is =
       record {
         messages = log_sends t (content_in (last t)) codes col;
         sends = λ new. refl;
         is = subst (λ k. IsDueOrNoMemory d (decided (row_at t col) (log_sends t k codes col))) (content_so t)
-            (subst (λ k. IsDueOrNoMemory d (decided (log_row k col) (log_sends t (standing_content (standing_in tables t)) codes col))) (known_so t) is);
+            (subst (λ k. IsDueOrNoMemory d (decided (log_row k col) (log_sends t (transfer_state_content (transfer_state_in tables t)) codes col))) (known_so t) is);
         due_is = due_is;
       }
 
-  abbrev pub notice_column : Notification → RowInput
-  notice_column n = column.Notified (notice_status n.notice)
+  abbrev pub notified_column : Notification → RowInput
+  notified_column n = column.Notified (notified_status n.notified)
 
-  pub notice_decided : (n : Notification) (moment : Moment) (d : Result Decision Refusal) → IsWelcome (message.Notification n)
-      → IsDueOrNoMemory d (decided (log_row (known_standing (standing_in tables n.id)) (notice_column n)) (log_sends n.id (standing_content (standing_in tables n.id)) (notice_codes n.notice) (notice_column n)))
-      → Decides scheme tables (Received (message.Notification n) moment) (comes_to n.id (content_in (last n.id)) (notice_codes n.notice) moment (notice_column n)) (row_at n.id (notice_column n)) d
-  notice_decided n moment d welcome is =
-      told_decided n.id (notice_codes n.notice) (notice_column n) moment (Received (message.Notification n) moment) d (answered (message.Notification n) moment welcome) is
+  pub notified_decided : (n : Notification) (moment : Moment) (d : Result Decision Refusal) → IsWelcome (message.Notification n)
+      → IsDueOrNoMemory d (decided (log_row (known_transfer_state (transfer_state_in tables n.id)) (notified_column n)) (log_sends n.id (transfer_state_content (transfer_state_in tables n.id)) (notified_codes n.notified) (notified_column n)))
+      → Decides scheme tables (Received (message.Notification n) moment) (comes_to n.id (content_in (last n.id)) (notified_codes n.notified) moment (notified_column n)) (row_at n.id (notified_column n)) d
+  notified_decided n moment d welcome is =
+      told_decided n.id (notified_codes n.notified) (notified_column n) moment (Received (message.Notification n) moment) d (answered (message.Notification n) moment welcome) is
 
   pub request_decided : (r : Request) (moment : Moment) (d : Result Decision Refusal) → IsWelcome (message.Request r)
-      → IsDueOrNoMemory d (decided (log_row (known_standing (standing_in tables r.id)) column.Request) (log_sends r.id (standing_content (standing_in tables r.id)) [] column.Request))
+      → IsDueOrNoMemory d (decided (log_row (known_transfer_state (transfer_state_in tables r.id)) column.Request) (log_sends r.id (transfer_state_content (transfer_state_in tables r.id)) [] column.Request))
       → Decides scheme tables (Received (message.Request r) moment) (comes_to r.id (content_in (last r.id)) [] moment column.Request) (row_at r.id column.Request) d
   request_decided r moment d welcome is =
       told_decided r.id [] column.Request moment (Received (message.Request r) moment) d (answered (message.Request r) moment welcome) is

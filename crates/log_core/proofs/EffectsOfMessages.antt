@@ -6,18 +6,18 @@ use Rattle.status.specs.Content.{Content}
 use Rattle.status.specs.Rows.{log_row}
 use Rattle.status.specs.declared.id.TransactionId.{TransactionId}
 use Rattle.status.specs.declared.moment.Moment.{Moment}
-use Rattle.status.specs.declared.words.Known.TheVariants.{Stands}
-use Rattle.status.specs.declared.words.Row.TheVariants.{Move}
-use Rattle.status.specs.declared.words.RowInput.TheVariants.{Notified, Request}
-use Rattle.status.specs.declared.words.Status.{Status}
-use Rattle.status.specs.declared.words.Status.TheVariants.{Cancelled, Checked, Terminated}
+use Rattle.status.specs.declared.rows.RecordedStatus.TheVariants.{Stands}
+use Rattle.status.specs.declared.rows.Row.TheVariants.{Move}
+use Rattle.status.specs.declared.rows.RowInput.TheVariants.{Notified, Request}
+use Rattle.status.specs.declared.status.Status.{Status}
+use Rattle.status.specs.declared.status.Status.TheVariants.{Cancelled, Checked, Terminated}
 use Rattle.wire.specs.declared.message.Message.{Message}
 use Rattle.protocol.specs.Deciding as decide
-use Rattle.protocol.specs.Deciding.{content_in, offered}
+use Rattle.protocol.specs.Deciding.{content_in, column_of_proposal}
 use Rattle.protocol.specs.History.{Transition}
 use Rattle.safety.proofs.MovesAndHistories.TableRows.{log_asked, log_from, log_notified, log_offered}
 use Rattle.log_core.specs.Effects.{IsEffect, IsSettled}
-use Rattle.log_core.specs.Readings.{Standing, of_transition}
+use Rattle.log_core.specs.Readings.{TransferState, of_transition}
 use Rattle.log_core.specs.Transfers.{IsOfKnown, IsWithdrawal}
 use Rattle.log_core.specs.declared.effect.Effect.{Effect}
 use Rattle.log_core.specs.declared.effect.Effect.TheVariants.{Begin, Settle, Cancel}
@@ -25,18 +25,18 @@ use Rattle.log_core.specs.declared.effect.Effect.TheVariants.{Begin, Settle, Can
 module _ (t : TransactionId) (moment : Moment) (ms : List Message) (last : Option Transition) (new : Status) where
   -- ---- a proposal that moves is of a transaction that wasn't known
 
-  checked_unsettled : (found : List ℕ) → log_row (decide.known None) (offered None found) ≡ Move new → IsSettled new → ⊥
+  checked_unsettled : (found : List ℕ) → log_row (decide.known None) (column_of_proposal None found) ≡ Move new → IsSettled new → ⊥
   checked_unsettled [] h s = let is : Checked ≡ new = cc (h) in subst IsSettled (sym is) s
   checked_unsettled (c ∷ cs) h s = let is : Terminated ≡ new = cc (h) in subst IsSettled (sym is) s
 
-  offer_new : (o : Option Transition) (found : List ℕ) → log_row (decide.known o) (offered (content_in o) found) ≡ Move new → (o ≡ None) × (IsSettled new → ⊥)
+  offer_new : (o : Option Transition) (found : List ℕ) → log_row (decide.known o) (column_of_proposal (content_in o) found) ≡ Move new → (o ≡ None) × (IsSettled new → ⊥)
   offer_new None found h = (refl, checked_unsettled found h)
   offer_new (Some x) found h = absurd (log_offered x found new h)
 
-  pub proposal_unknown : (found : List ℕ) → log_row (decide.known last) (offered (content_in last) found) ≡ Move new → last ≡ None
+  pub proposal_unknown : (found : List ℕ) → log_row (decide.known last) (column_of_proposal (content_in last) found) ≡ Move new → last ≡ None
   proposal_unknown found h = (offer_new last found h).0
 
-  pub proposal_effect : (k k' : Content) (found : List ℕ) → k' ≡ k → log_row (decide.known last) (offered (content_in last) found) ≡ Move new
+  pub proposal_effect : (k k' : Content) (found : List ℕ) → k' ≡ k → log_row (decide.known last) (column_of_proposal (content_in last) found) ≡ Move new
       → IsEffect (decide.moved t (Some k) moment.seconds ms new ∷ []) moment.seconds (Begin t new (Some k'))
   proposal_effect k k' found same h = (decide.moved t (Some k) moment.seconds ms new, refl, refl, refl, ap (λ x. Some x) (sym same), refl, (offer_new last found h).1)
 
@@ -49,8 +49,8 @@ module _ (t : TransactionId) (moment : Moment) (ms : List Message) (last : Optio
         | inr m ↦ subst IsSettled (sym m.1) tt
       ]
 
-  pub notice_effect : (k : Option Content) (told : Status) → log_row (decide.known last) (Notified told) ≡ Move new → IsEffect (decide.moved t k moment.seconds ms new ∷ []) moment.seconds (Settle t new)
-  notice_effect k told h =
+  pub notified_effect : (k : Option Content) (told : Status) → log_row (decide.known last) (Notified told) ≡ Move new → IsEffect (decide.moved t k moment.seconds ms new ∷ []) moment.seconds (Settle t new)
+  notified_effect k told h =
       let a = log_notified (decide.known last) told new h in
       (decide.moved t k moment.seconds ms new, refl, refl, refl, refl, settles a.0 told (ap (λ x. log_row x (Notified told)) (sym a.1) ∙ h))
 
@@ -69,10 +69,10 @@ module _ (t : TransactionId) (moment : Moment) (ms : List Message) (last : Optio
       go (Some x) (Settle id s) cancelled is = absurd is
 
 -- a withdrawal is of what is known, or of what wasn't
-pub withdrawn_known : (t : TransactionId) (old : TransactionId → Option Standing) (effect : Effect) → IsWithdrawal t (old t) effect → IsOfKnown old effect
+pub withdrawn_known : (t : TransactionId) (old : TransactionId → Option TransferState) (effect : Effect) → IsWithdrawal t (old t) effect → IsOfKnown old effect
 withdrawn_known t old effect h = go (old t) effect refl h
   where
-    go : (o : Option Standing) (e : Effect) → old t ≡ o → IsWithdrawal t o e → IsOfKnown old e
+    go : (o : Option TransferState) (e : Effect) → old t ≡ o → IsWithdrawal t o e → IsOfKnown old e
     go None e was is = subst (IsOfKnown old) (sym is) was
     go (Some x) (Cancel ids) was is = subst (λ l. AllByRecursion (λ u. is_some (old u) ≡ true) l) (sym is) (ap is_some was, tt)
     go (Some x) (Begin id s k) was is = absurd is

@@ -10,7 +10,7 @@ use Rattle.units.specs.declared.code.Node.TheVariants.{Itl}
 use Rattle.wire.specs.declared.input.Input.TheVariants.{Eligible}
 use Rattle.scheme.specs.declared.registries.Scheme.{Scheme}
 use Rattle.protocol.specs.AtLog.{same_bool}
-use Rattle.protocol.specs.Deciding.{IsRefused, IsRepeat, enters}
+use Rattle.protocol.specs.Deciding.{IsRefused, IsRepeat, recorded_if_room}
 use Rattle.protocol.specs.Registries.{has_member}
 use Rattle.protocol.specs.Verdict.{history}
 use Rattle.checks.specs.Knowing.{starts_eligible}
@@ -22,11 +22,11 @@ use Rattle.log_core.proofs.TakenInputs.{due_so}
 
 module _ (scheme : Scheme) (tables : Tables) (kept : IsKept scheme tables) (c : Code) (may : Bool) where
   rest : (b d : Bool) → has_member scheme c ≡ b → unwrap_or (tree.get code_cmp tables.register.orders c) (starts_eligible scheme c) ≡ d
-      → verdict_due scheme tables (Eligible c may) ≡ cond (not b) (IsRefused unknown_registry) (cond (same_bool d may) IsRepeat (enters scheme (history scheme Itl tables.journal.items) []))
+      → verdict_due scheme tables (Eligible c may) ≡ cond (not b) (IsRefused unknown_registry) (cond (same_bool d may) IsRepeat (recorded_if_room scheme (history scheme Itl tables.journal.items) []))
   rest b d e f =
       let es = history scheme Itl tables.journal.items in
       let eligible = (registers_so scheme tables kept).is_eligible c ∙ f in
-      due_so scheme tables (Eligible c may) ∙ (λ i. cond (not (e i)) (IsRefused unknown_registry) (cond (same_bool (eligible i) may) IsRepeat (enters scheme es [])))
+      due_so scheme tables (Eligible c may) ∙ (λ i. cond (not (e i)) (IsRefused unknown_registry) (cond (same_bool (eligible i) may) IsRepeat (recorded_if_room scheme es [])))
 
   pub eligible_unknown : has_member scheme c ≡ false → verdict_due scheme tables (Eligible c may) ≡ IsRefused unknown_registry
   eligible_unknown e = rest false _ e refl
@@ -41,8 +41,8 @@ module _ (scheme : Scheme) (tables : Tables) (kept : IsKept scheme tables) (c : 
       go false true = refl
 
   pub eligible_again : (d : Bool) → has_member scheme c ≡ true → d ≡ unwrap_or (tree.get code_cmp tables.register.orders c) (starts_eligible scheme c) → beq d may ≡ true → verdict_due scheme tables (Eligible c may) ≡ IsRepeat
-  eligible_again d e is f = rest true d e (sym is) ∙ ap (λ b. cond b IsRepeat (enters scheme (history scheme Itl tables.journal.items) [])) (tested d ∙ f)
+  eligible_again d e is f = rest true d e (sym is) ∙ ap (λ b. cond b IsRepeat (recorded_if_room scheme (history scheme Itl tables.journal.items) [])) (tested d ∙ f)
 
   pub eligible_enters : (d : Bool) → has_member scheme c ≡ true → d ≡ unwrap_or (tree.get code_cmp tables.register.orders c) (starts_eligible scheme c) → beq d may ≡ false
-      → verdict_due scheme tables (Eligible c may) ≡ enters scheme (history scheme Itl tables.journal.items) []
-  eligible_enters d e is f = rest true d e (sym is) ∙ ap (λ b. cond b IsRepeat (enters scheme (history scheme Itl tables.journal.items) [])) (tested d ∙ f)
+      → verdict_due scheme tables (Eligible c may) ≡ recorded_if_room scheme (history scheme Itl tables.journal.items) []
+  eligible_enters d e is f = rest true d e (sym is) ∙ ap (λ b. cond b IsRepeat (recorded_if_room scheme (history scheme Itl tables.journal.items) [])) (tested d ∙ f)

@@ -1,4 +1,5 @@
--- The tables say of the longer history what they said of the shorter one: after an order on a registry's eligibility, and after an acknowledgement.
+-- The tables say of the longer history what they said of the shorter one: after an order on a registry's eligibility,
+-- and after an acknowledgement.
 use Rattle.std.specs.FinMap as finite
 use Rattle.std.specs.BTreeMap as tree
 use Rattle.std.specs.BTreeSet.{contains}
@@ -14,12 +15,12 @@ use Rattle.wire.specs.declared.input.Input.{Input}
 use Rattle.wire.specs.declared.input.Input.TheVariants.{Ack, Eligible}
 use Rattle.wire.specs.declared.input.Number.{Number}
 use Rattle.scheme.specs.declared.registries.Scheme.{Scheme}
-use Rattle.protocol.specs.Deciding.{Enters}
+use Rattle.protocol.specs.Deciding.{IsRecorded}
 use Rattle.protocol.specs.History.{Entry}
 use Rattle.protocol.specs.Verdict.{history}
 use Rattle.outbox.specs.Outgoing.{did, outgoing}
 use Rattle.outbox.specs.Sending.{Acknowledges, Sends, Sent}
-use Rattle.log_core.specs.Effects.{standing_in}
+use Rattle.log_core.specs.Effects.{transfer_state_in}
 use Rattle.log_core.specs.Kept.{AreKept, IsKept, waiting_cmp}
 use Rattle.log_core.specs.Readings.{last_order}
 use Rattle.log_core.specs.Taking.{verdict_due}
@@ -30,7 +31,7 @@ use Rattle.log_core.proofs.KeptUnits.{entry}
 
 -- tables that say the same of transactions
 pub record HaveSameTransfers (tables tables' : Tables) : Type 0 where
-  pub transfers : (t : TransactionId) → standing_in tables' t ≡ standing_in tables t
+  pub transfers : (t : TransactionId) → transfer_state_in tables' t ≡ transfer_state_in tables t
   pub checked : (w : Waiting) → contains waiting_cmp tables'.checked w ≡ contains waiting_cmp tables.checked w
 
 module _ (scheme : Scheme) (es : List Entry) (tables tables' : Tables) (kept : AreKept scheme es tables) where
@@ -54,7 +55,7 @@ ordered : (b may : Bool) (o : Option Bool) → cond b (Some may) o ≡ option_or
 ordered true may o = refl
 ordered false may o = refl
 
-pub kept_eligible : (scheme : Scheme) (tables tables' : Tables) (c : Code) (may : Bool) → IsKept scheme tables → verdict_due scheme tables (Eligible c may) ≡ Enters [] → tables'.register.allotments ≡ tables.register.allotments
+pub kept_eligible : (scheme : Scheme) (tables tables' : Tables) (c : Code) (may : Bool) → IsKept scheme tables → verdict_due scheme tables (Eligible c may) ≡ IsRecorded [] → tables'.register.allotments ≡ tables.register.allotments
     → tables'.register.book ≡ tables.register.book → tables'.register.under_way ≡ tables.register.under_way
     → ((d : Code) → tree.get code_cmp tables'.register.orders d ≡ (if same_code c d then Some may else tree.get code_cmp tables.register.orders d)) → HaveSameTransfers tables tables'
     → tables'.journal.items ≡ tables.journal.items ++ Eligible c may ∷ [] → tables'.outbox ≡ tables.outbox ++ Sends [] ∷ [] → IsKept scheme tables'
@@ -64,7 +65,7 @@ kept_eligible scheme tables tables' c may kept entered allotments book under_way
     (unmoved_kept scheme es tables tables' kept.kept (Eligible c may) (Sends []) refl allotments book under_way
     (λ d. orders d ∙ ap (λ (o : Option Bool). if same_code c d then Some may else o) (kept.kept.orders d) ∙ ordered (same_code c d) may (last_order es d)) same sent)
 
-pub kept_acknowledged : (scheme : Scheme) (tables tables' : Tables) (key : Number) → IsKept scheme tables → verdict_due scheme tables (Ack key) ≡ Enters [] → tables'.register ≡ tables.register → HaveSameTransfers tables tables'
+pub kept_acknowledged : (scheme : Scheme) (tables tables' : Tables) (key : Number) → IsKept scheme tables → verdict_due scheme tables (Ack key) ≡ IsRecorded [] → tables'.register ≡ tables.register → HaveSameTransfers tables tables'
     → tables'.journal.items ≡ tables.journal.items ++ Ack key ∷ [] → tables'.outbox ≡ tables.outbox ++ Acknowledges key.value ∷ [] → IsKept scheme tables'
 kept_acknowledged scheme tables tables' key kept entered register same journal sent =
     let es = history scheme Itl tables.journal.items in

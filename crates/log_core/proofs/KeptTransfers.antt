@@ -7,13 +7,13 @@ use Rattle.status.proofs.Ids.{id_of_same}
 use Rattle.status.specs.Id.{same_id}
 use Rattle.status.specs.Status.{same_status}
 use Rattle.status.specs.declared.id.TransactionId.{TransactionId}
-use Rattle.status.specs.declared.words.Status.{Status}
-use Rattle.status.specs.declared.words.Status.TheVariants.{Checked}
+use Rattle.status.specs.declared.status.Status.{Status}
+use Rattle.status.specs.declared.status.Status.TheVariants.{Checked}
 use Rattle.protocol.specs.History.{Transition, newest}
 use Rattle.lemmas.proofs.Membership.{In}
 use Rattle.safety.proofs.MovesAndHistories.NewestTransitions.{newest_append, newest_in}
 use Rattle.log_core.specs.Effects.{came_to}
-use Rattle.log_core.specs.Readings.{Standing, is_checked_since, of_transition}
+use Rattle.log_core.specs.Readings.{TransferState, is_checked_since, of_transition}
 
 -- the transactions that pass the test are those of the transitions
 pub record AreOf (front : List Transition) (among : TransactionId → Bool) : Type 0 where
@@ -42,10 +42,10 @@ module _ (front xs : List Transition) (among : TransactionId → Bool) (of : Are
       ]
 
   -- each of them has come to the same status at the same moment, with the content that it had
-  pub standing_came : (new : Status) (moment : ℕ) → ((z : Transition) → In z front → (z.new ≡ new) × (z.moment ≡ moment)) → ((z : Transition) → In z front → (q : Transition) × (newest xs z.id ≡ Some q) × (z.content ≡ q.content))
+  pub transfer_state_came : (new : Status) (moment : ℕ) → ((z : Transition) → In z front → (z.new ≡ new) × (z.moment ≡ moment)) → ((z : Transition) → In z front → (q : Transition) × (newest xs z.id ≡ Some q) × (z.content ≡ q.content))
       → (t : TransactionId)
       → (if among t then option_map (came_to new moment) (option_map of_transition (newest xs t)) else option_map of_transition (newest xs t)) ≡ option_map of_transition (newest (front ++ xs) t)
-  standing_came new moment status follows t =
+  transfer_state_came new moment status follows t =
       let old = option_map of_transition (newest xs t) in
       elim (cases_Bool (among t)) [
         | inl y ↦
@@ -56,7 +56,7 @@ module _ (front xs : List Transition) (among : TransactionId → Bool) (of : Are
             let status_is = sym at.0 in
             let content_is = sym q.2 in
             let moment_is = sym at.1 in
-            let same : ◌≡◌ {A = Option Standing} (Some (came_to new moment (of_transition q.0))) (Some (of_transition z.0)) =
+            let same : ◌≡◌ {A = Option TransferState} (Some (came_to new moment (of_transition q.0))) (Some (of_transition z.0)) =
             λ i. Some (record { status = status_is i; content = content_is i; since = moment_is i }) in
             cond-true (among t) (option_map (came_to new moment) old) old y
             ∙ ap (λ o. option_map (came_to new moment) (option_map of_transition o)) was
@@ -80,8 +80,8 @@ module _ (front xs : List Transition) (among : TransactionId → Bool) (of : Are
 -- ---- a transaction that wasn't known
 
 module _ (x : Transition) (xs : List Transition) (none : newest xs x.id ≡ None) where
-  pub standing_begun : (t : TransactionId) → (if same_id x.id t then Some (of_transition x) else option_map of_transition (newest xs t)) ≡ option_map of_transition (newest (x ∷ xs) t)
-  standing_begun t = go (same_id x.id t) (newest xs t)
+  pub transfer_state_begun : (t : TransactionId) → (if same_id x.id t then Some (of_transition x) else option_map of_transition (newest xs t)) ≡ option_map of_transition (newest (x ∷ xs) t)
+  transfer_state_begun t = go (same_id x.id t) (newest xs t)
     where
       go : (b : Bool) (o : Option Transition) → cond b (Some (of_transition x)) (option_map of_transition o) ≡ option_map of_transition (cond b (Some x) o)
       go true o = refl

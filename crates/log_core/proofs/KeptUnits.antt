@@ -2,7 +2,7 @@
 use Rattle.std.proofs.Common.{Bool, List, None, Option, Some, [], ap, cond, false, inl, inr, not, refl, subst, sym, true, ◌&&◌, ◌++◌, ◌∙◌, ◌∷◌, ◌≡◌}
 use Rattle.std.specs.Prelude.{if◌then◌else◌, option_map}
 use Rattle.std.proofs.lemmas.Bool.{and_from, and_left, and_parts, cases_Bool, cond-false, cond-true}
-use Rattle.units.specs.Intervals.{marks_that}
+use Rattle.units.specs.Intervals.{labels_that}
 use Rattle.units.specs.declared.block.Unit.{Unit as Serial}
 use Rattle.units.specs.declared.code.Code.{Code}
 use Rattle.units.specs.declared.code.Node.TheVariants.{Itl}
@@ -11,8 +11,8 @@ use Rattle.status.specs.Content.{Content}
 use Rattle.status.specs.Id.{same_id}
 use Rattle.status.specs.Status.{same_status}
 use Rattle.status.specs.declared.id.TransactionId.{TransactionId}
-use Rattle.status.specs.declared.words.Status.{Status}
-use Rattle.status.specs.declared.words.Status.TheVariants.{Accepted, Cancelled, Checked, Completed, Proposed, Rejected, Terminated}
+use Rattle.status.specs.declared.status.Status.{Status}
+use Rattle.status.specs.declared.status.Status.TheVariants.{Accepted, Cancelled, Checked, Completed, Proposed, Rejected, Terminated}
 use Rattle.wire.specs.declared.input.Input.{Input}
 use Rattle.scheme.specs.declared.registries.Scheme.{Scheme}
 use Rattle.checks.specs.declared.register.Owner.{Owner}
@@ -35,9 +35,9 @@ entry input xs = record { input = input; transitions = xs }
 
 -- ---- who owns a unit
 
--- the owner as the book marks it
-abbrev owner_mark : Code → Owner
-owner_mark c = record { registry = c }
+-- the owner as the book labels it
+abbrev owner_label : Code → Owner
+owner_label c = record { registry = c }
 
 abbrev acquirer_in : Option Content → Option Code
 acquirer_in k = option_map (λ (content : Content). content.acquirer) k
@@ -46,7 +46,7 @@ acquirer_in k = option_map (λ (content : Content). content.acquirer) k
 pub owner_kept : (scheme : Scheme) (front xs : List Transition) (s : Serial) → ((z : Transition) → In z front → same_status z.new Completed ≡ false) → owner scheme (front ++ xs) s ≡ owner scheme xs s
 owner_kept scheme [] xs s still = refl
 owner_kept scheme (z ∷ zs) xs s still =
-    ap (option_map owner_mark)
+    ap (option_map owner_label)
     (cond-false (same_status z.new Completed && carries z s) (acquirer_in z.content) (book_owner scheme (zs ++ xs) s) (and_left (same_status z.new Completed) (carries z s) (still z (inl refl))))
     ∙ owner_kept scheme zs xs s (λ y i. still y (inr i))
 
@@ -54,21 +54,21 @@ owner_kept scheme (z ∷ zs) xs s still =
 pub owner_handed : (scheme : Scheme) (x : Transition) (xs : List Transition) (s : Serial) → (if same_status x.new Completed then handed_over x.content s (owner scheme xs s) else owner scheme xs s) ≡ owner scheme (x ∷ xs) s
 owner_handed scheme x xs s = go (same_status x.new Completed) x.content (book_owner scheme xs s)
   where
-    handed : (b : Bool) (c : Code) (o : Option Code) → cond b (Some (owner_mark c)) (option_map owner_mark o) ≡ option_map owner_mark (cond b (Some c) o)
+    handed : (b : Bool) (c : Code) (o : Option Code) → cond b (Some (owner_label c)) (option_map owner_label o) ≡ option_map owner_label (cond b (Some c) o)
     handed true c o = refl
     handed false c o = refl
 
-    go : (b : Bool) (k : Option Content) (o : Option Code) → cond b (handed_over k s (option_map owner_mark o)) (option_map owner_mark o) ≡ option_map owner_mark (cond (b && has_serial k s) (acquirer_in k) o)
+    go : (b : Bool) (k : Option Content) (o : Option Code) → cond b (handed_over k s (option_map owner_label o)) (option_map owner_label o) ≡ option_map owner_label (cond (b && has_serial k s) (acquirer_in k) o)
     go false k o = refl
     go true None o = refl
     go true (Some k) o = handed (has_serial (Some k) s) k.acquirer o
 
 -- ---- which transfer a unit is in
 
--- a mark that is left passes the test
-marks_left : {M : Type 0} (passes : M → Bool) (o : Option M) (m : M) → marks_that passes o ≡ Some m → (o ≡ Some m) × (passes m ≡ true)
-marks_left passes None m h = absurd (cc (h))
-marks_left {M} passes (Some n) m h = go (passes n) refl h
+-- a label that is left passes the test
+labels_left : {M : Type 0} (passes : M → Bool) (o : Option M) (m : M) → labels_that passes o ≡ Some m → (o ≡ Some m) × (passes m ≡ true)
+labels_left passes None m h = absurd (cc (h))
+labels_left {M} passes (Some n) m h = go (passes n) refl h
   where
     go : (b : Bool) → passes n ≡ b → cond b (Some n) None ≡ Some m → (Some n ≡ Some m) × (passes m ≡ true)
     go true e g = (g, subst (λ (z : M). passes z ≡ true) (one_some n m g) e)
@@ -93,21 +93,21 @@ module _ (scheme : Scheme) (es : List Entry) (s : Serial) (input : Input) where
 
   -- transfers that are under way no longer
   pub under_way_ended : (front : List Transition) (among : TransactionId → Bool) → Made scheme Itl (entry input front ∷ es) → AreOf front among → ((z : Transition) → In z front → IsBusy z.new → ⊥)
-      → marks_that (λ u. not (among u.id)) (under_way xs s) ≡ under_way (front ++ xs) s
+      → labels_that (λ u. not (among u.id)) (under_way xs s) ≡ under_way (front ++ xs) s
   under_way_ended front among made of ended =
       let left : UnderWay → Bool = λ u. not (among u.id) in
-      sym (under_way_is scheme (entry input front ∷ es) made s (marks_that left (under_way xs s))
+      sym (under_way_is scheme (entry input front ∷ es) made s (labels_that left (under_way xs s))
       (λ t b. elim (cases_Bool (among t)) [
         | inl y ↦
             let z = newest_among front xs among of t y in
             absurd (ended z.0 z.1 (subst (λ (w : Transition). IsBusy w.new) (one_some b.last z.0 (sym b.is ∙ z.3)) b.new))
         | inr n ↦
             let old : Busy s xs t = record { last = b.last; is = sym (newest_other front xs among of t n) ∙ b.is; new = b.new; has = b.has } in
-            ap (marks_that left) (busy_under_way scheme es made.1 s t old)
+            ap (labels_that left) (busy_under_way scheme es made.1 s t old)
             ∙ cond-true (not (among t)) (Some (record { id = t })) None (ap not n)
       ])
       (λ u h.
-      let m = marks_left left (under_way xs s) u h in
+      let m = labels_left left (under_way xs s) u h in
       let b = under_way_busy scheme es made.1 s u m.0 in
       record { last = b.last; is = newest_other front xs among of u.id (not_true (among u.id) m.1) ∙ b.is; new = b.new; has = b.has }))
 
@@ -146,7 +146,7 @@ module _ (scheme : Scheme) (es : List Entry) (s : Serial) (input : Input) where
     under_way_begun none other =
         let es' = entry input (x ∷ []) ∷ es in
         let begins = same_status x.new Checked && has_serial x.content s in
-        let mark : Option UnderWay = Some (record { id = x.id }) in
+        let label : Option UnderWay = Some (record { id = x.id }) in
         elim (cases_Bool begins) [
           | inl y ↦
               let parts = and_parts (same_status x.new Checked) (has_serial x.content s) y in
@@ -157,9 +157,9 @@ module _ (scheme : Scheme) (es : List Entry) (s : Serial) (input : Input) where
                 new = subst IsBusy (sym (status_of_same x.new Checked parts.0)) tt;
                 has = parts.1;
               } in
-              cond-true begins mark (under_way xs s) y ∙ sym (busy_under_way scheme es' made s x.id here)
+              cond-true begins label (under_way xs s) y ∙ sym (busy_under_way scheme es' made s x.id here)
           | inr n ↦
-              cond-false begins mark (under_way xs s) n
+              cond-false begins label (under_way xs s) n
               ∙ sym (under_way_is scheme es' made s (under_way xs s)
               (λ t b. elim (newest_cons x xs t b.last b.is) [
                 | inl e ↦

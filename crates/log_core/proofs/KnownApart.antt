@@ -1,21 +1,22 @@
--- No unit is twice in a transfer that was Checked, so that the blocks of one that begins Checked, or that stands Checked or Accepted, share no unit.
+-- No unit is twice in a transfer that was Checked, so that the blocks of one that begins Checked, or that stands
+-- Checked or Accepted, share no unit.
 use Rattle.std.proofs.Common.{List, Option, Some, [], ap, false, inl, inr, refl, subst, sym, ℕ, ◌++◌, ◌∙◌, ◌∷◌, ◌≡◌}
 use Rattle.units.specs.Apart.{AllApart}
 use Rattle.units.specs.declared.block.Block.{Block}
 use Rattle.units.specs.declared.code.Node.TheVariants.{Itl}
 use Rattle.status.specs.Content.{Content, raws}
 use Rattle.status.specs.declared.id.TransactionId.{TransactionId}
-use Rattle.status.specs.declared.words.Status.{Status}
-use Rattle.status.specs.declared.words.Status.TheVariants.{Checked}
+use Rattle.status.specs.declared.status.Status.{Status}
+use Rattle.status.specs.declared.status.Status.TheVariants.{Checked}
 use Rattle.wire.specs.declared.input.Input.{Input}
 use Rattle.scheme.specs.declared.registries.Scheme.{Scheme}
 use Rattle.protocol.proofs.RepeatedUnits.{apart_repeats}
 use Rattle.protocol.specs.AtLog.{ledger}
 use Rattle.protocol.specs.Checks.{log_causes}
-use Rattle.protocol.specs.Deciding.{Enters}
+use Rattle.protocol.specs.Deciding.{IsRecorded}
 use Rattle.protocol.specs.History.{Entry, Transition, newest, transitions_of}
 use Rattle.protocol.specs.Pieces.{pieces, repeats}
-use Rattle.protocol.specs.Verdict.{history, made}
+use Rattle.protocol.specs.Verdict.{history, transitions_made}
 use Rattle.lemmas.proofs.Membership.{In}
 use Rattle.lemmas.proofs.OneValue.{one_some}
 use Rattle.safety.proofs.ListLemmas.TestsOfSameness.{status_of_same}
@@ -25,7 +26,7 @@ use Rattle.safety.proofs.MovesAndHistories.TableMoves.{LogMove, cancels, checks,
 use Rattle.safety.proofs.MovesAndHistories.TransitionForms.{checked_status}
 use Rattle.safety.proofs.OneLog.LogInputs.{each_log_move, none_stand}
 use Rattle.safety.proofs.OneLog.OwnersInLog.{IsBusy, log_live}
-use Rattle.log_core.specs.Effects.{IsEffect, IsSettled, standing_content, standing_in}
+use Rattle.log_core.specs.Effects.{IsEffect, IsSettled, transfer_state_content, transfer_state_in}
 use Rattle.log_core.specs.Kept.{IsKept}
 use Rattle.log_core.specs.Readings.{of_transition}
 use Rattle.log_core.specs.Taking.{verdict_due}
@@ -71,12 +72,12 @@ module _ (scheme : Scheme) where
       cancelled_more x xs ended old y k (inl e) busy known = absurd (ended (subst (λ (z : Transition). IsBusy z.new) (sym e) busy))
       cancelled_more x xs ended old y k (inr i) busy known = old y k i busy known
 
-module _ (scheme : Scheme) (tables : Tables) (input : Input) (xs : List Transition) (moment : ℕ) (enters : verdict_due scheme tables input ≡ Enters xs) where
+module _ (scheme : Scheme) (tables : Tables) (input : Input) (xs : List Transition) (moment : ℕ) (enters : verdict_due scheme tables input ≡ IsRecorded xs) where
   abbrev past : List Entry
   past = history scheme Itl tables.journal.items
 
   made_so : Made scheme Itl (entry input xs ∷ past)
-  made_so = (sym (ap made enters), made_history scheme Itl tables.journal.items)
+  made_so = (sym (ap transitions_made enters), made_history scheme Itl tables.journal.items)
 
   -- a transfer that begins Checked
   pub begin_apart : (id : TransactionId) (new : Status) (k : Content) (blocks : List Block) → IsEffect xs moment (Begin id new (Some k)) → new ≡ Checked → raws blocks ≡ k.units → AllApart blocks
@@ -88,7 +89,7 @@ module _ (scheme : Scheme) (tables : Tables) (input : Input) (xs : List Transiti
       apart_repeats blocks (ap (λ us. repeats (pieces us)) units ∙ fine)
 
   -- a transfer that is Accepted, Rejected or Completed
-  pub settle_apart : (id : TransactionId) (new : Status) (k : Content) (blocks : List Block) → IsKept scheme tables → IsEffect xs moment (Settle id new) → standing_content (standing_in tables id) ≡ Some k → raws blocks ≡ k.units
+  pub settle_apart : (id : TransactionId) (new : Status) (k : Content) (blocks : List Block) → IsKept scheme tables → IsEffect xs moment (Settle id new) → transfer_state_content (transfer_state_in tables id) ≡ Some k → raws blocks ≡ k.units
       → AllApart blocks
   settle_apart id new k blocks kept h known units =
       let x = h.0 in
@@ -96,12 +97,12 @@ module _ (scheme : Scheme) (tables : Tables) (input : Input) (xs : List Transiti
       let move = made_log scheme (entry input xs) past x made_so here in
       let q = settled_known scheme past input x move (subst IsSettled (sym h.3) h.5) in
       let content : q.0.content ≡ Some k =
-      sym (ap standing_content (kept.kept.transfers id ∙ ap (λ t. option_map of_transition (newest (transitions_of past) t)) (sym h.2) ∙ ap (option_map of_transition) q.1)) ∙ known in
+      sym (ap transfer_state_content (kept.kept.transfers id ∙ ap (λ t. option_map of_transition (newest (transitions_of past) t)) (sym h.2) ∙ ap (option_map of_transition) q.1)) ∙ known in
       let fine = contents_apart scheme past made_so.1 q.0 k (newest_id (transitions_of past) x.id q.0 q.1).0 (log_live scheme past input x q.0 move q.1) content in
       apart_repeats blocks (ap (λ us. repeats (pieces us)) units ∙ fine)
 
   -- of each effect
-  pub apart_so : (effect : Effect) → IsKept scheme tables → IsEffect xs moment effect → AreApart (standing_in tables) effect
+  pub apart_so : (effect : Effect) → IsKept scheme tables → IsEffect xs moment effect → AreApart (transfer_state_in tables) effect
   apart_so (Begin id new content) kept h = λ stands k blocks known units. begin_apart id new k blocks (begins id new content k known h) (status_of_same new Checked stands) units
     where
       begins : (id : TransactionId) (new : Status) (content : Option Content) (k : Content) → content ≡ Some k → IsEffect xs moment (Begin id new content) → IsEffect xs moment (Begin id new (Some k))

@@ -8,7 +8,7 @@ use Rattle.units.specs.declared.code.Code.{Code}
 use Rattle.units.specs.declared.code.Node.TheVariants.{Itl}
 use Rattle.status.specs.Content.{Content}
 use Rattle.status.specs.Status.{same_status}
-use Rattle.status.specs.declared.words.Status.TheVariants.{Completed}
+use Rattle.status.specs.declared.status.Status.TheVariants.{Completed}
 use Rattle.wire.specs.declared.input.Input.{Input}
 use Rattle.scheme.specs.declared.members.Holder.{Holder}
 use Rattle.scheme.specs.declared.registries.Scheme.{Scheme}

@@ -1,4 +1,4 @@
-pub mod MarkedBlocks
+pub mod LabelledBlocks
 pub mod KnownContents
 pub mod KnownUnderWay
 pub mod KnownEffects
@@ -10,7 +10,7 @@ pub mod KeptByOrders
 pub mod CleanedInOrder
 pub mod CleanedUp
 pub mod KnownApart
-pub mod KnownMarks
+pub mod KnownLabels
 pub mod CheckedTransfers
 pub mod CancelledTransactions
 pub mod CleanedIds

@@ -10,7 +10,7 @@ use Rattle.std.specs.Map.{lookup}
 use Rattle.std.specs.Option.{option_or}
 use Rattle.std.specs.Ordering.{is_eq}
 use Rattle.std.specs.Prelude.{option_map}
-use Rattle.units.specs.Intervals.{mark_at}
+use Rattle.units.specs.Intervals.{label_at}
 use Rattle.units.specs.Keys.{code_cmp, unit_cmp}
 use Rattle.units.specs.Spans.{intervals_of}
 use Rattle.units.specs.declared.block.Unit.{Unit as Serial}
@@ -36,10 +36,10 @@ with_none (Some x) = refl
 
 -- before any of the intervals, no unit has an owner in the book
 pub none_yet : (holders : map.FinMap unit_cmp Holder) (book : map.FinMap unit_cmp Owner) (entries left : List (Serial × Span Holder)) → left ≡ entries → book ≡ map.empty
-    → ((s : Serial) → mark_at (intervals_of entries) s ≡ map.get holders s) → (s : Serial) → option_map owner_of (map.get holders s) ≡ option_or (option_map owner_of (mark_at (intervals_of left) s)) (map.get book s)
+    → ((s : Serial) → label_at (intervals_of entries) s ≡ map.get holders s) → (s : Serial) → option_map owner_of (map.get holders s) ≡ option_or (option_map owner_of (label_at (intervals_of left) s)) (map.get book s)
 none_yet holders book entries left is empty means s =
-    ap (option_map owner_of) (sym (means s) ∙ ap (λ es. mark_at (intervals_of es) s) (sym is)) ∙ with_none (option_map owner_of (mark_at (intervals_of left) s))
-    ∙ ap (option_or (option_map owner_of (mark_at (intervals_of left) s))) (sym (ap (λ m. map.get m s) empty ∙ get-empty unit_cmp s))
+    ap (option_map owner_of) (sym (means s) ∙ ap (λ es. label_at (intervals_of es) s) (sym is)) ∙ with_none (option_map owner_of (label_at (intervals_of left) s))
+    ∙ ap (option_or (option_map owner_of (label_at (intervals_of left) s))) (sym (ap (λ m. map.get m s) empty ∙ get-empty unit_cmp s))
 
 pub owners_so : (scheme : Scheme) (holders : map.FinMap unit_cmp Holder) (book : map.FinMap unit_cmp Owner) → ((s : Serial) → map.get holders s ≡ allotted scheme s) → ((s : Serial) → map.get book s ≡ option_map owner_of (map.get holders s))
     → (s : Serial) → map.get book s ≡ owner scheme [] s

@@ -11,7 +11,7 @@ use Rattle.wire.specs.declared.input.Input.TheVariants.{Propose, Request, OpenAc
 use Rattle.scheme.specs.declared.registries.Scheme.{Scheme}
 use Rattle.protocol.proofs.Histories.{length_history}
 use Rattle.protocol.specs.Cores.{Replays, answer_of}
-use Rattle.protocol.specs.Deciding.{Enters, IsLate, IsRefused, IsRepeat, enters}
+use Rattle.protocol.specs.Deciding.{IsRecorded, IsLate, IsRefused, IsRepeat, recorded_if_room}
 use Rattle.protocol.specs.History.{Transition, Entry, newest, transitions_of}
 use Rattle.protocol.specs.AtLog.{log_verdict}
 use Rattle.protocol.specs.Verdict.{history, verdict}
@@ -79,21 +79,21 @@ module _ (scheme : Scheme) where
   pub takes_late : (tables : Tables) (input : Input) → IsKept scheme tables → verdict_due scheme tables input ≡ IsLate → Takes scheme tables tables input (Ok stepped.Late)
   takes_late tables input h is = record { answer_is = inl (ap (answer_of (length tables.journal.items)) (sym is)); journal_is = refl; kept = h }
 
-  pub takes_recorded : (tables tables' : Tables) (input : Input) (xs : List Transition) (place : ℕ) → verdict_due scheme tables input ≡ Enters xs → place ≡ length tables.journal.items → tables'.journal.items ≡ tables.journal.items ++ input ∷ [] → IsKept scheme tables'
+  pub takes_recorded : (tables tables' : Tables) (input : Input) (xs : List Transition) (place : ℕ) → verdict_due scheme tables input ≡ IsRecorded xs → place ≡ length tables.journal.items → tables'.journal.items ≡ tables.journal.items ++ input ∷ [] → IsKept scheme tables'
       → Takes scheme tables tables' input (Ok (stepped.Recorded place))
   takes_recorded tables tables' input xs place is at more h =
       record { answer_is = inl (ap (λ n. Ok (stepped.Recorded n)) at ∙ ap (answer_of (length tables.journal.items)) (sym is)); journal_is = more; kept = h }
 
   -- ---- room in the journal
 
-  full_refuses : (tables : Tables) (input : Input) (xs : List Transition) → verdict_due scheme tables input ≡ enters scheme (past tables.journal.items) xs → nat_le scheme.records (length tables.journal.items) ≡ true → verdict_due scheme tables input ≡ IsRefused journal_full
-  full_refuses tables input xs is full = is ∙ ap (λ n. cond (nat_le scheme.records n) (IsRefused journal_full) (Enters xs)) (length_history scheme Itl tables.journal.items) ∙ ap (λ b. cond b (IsRefused journal_full) (Enters xs)) full
+  full_refuses : (tables : Tables) (input : Input) (xs : List Transition) → verdict_due scheme tables input ≡ recorded_if_room scheme (past tables.journal.items) xs → nat_le scheme.records (length tables.journal.items) ≡ true → verdict_due scheme tables input ≡ IsRefused journal_full
+  full_refuses tables input xs is full = is ∙ ap (λ n. cond (nat_le scheme.records n) (IsRefused journal_full) (IsRecorded xs)) (length_history scheme Itl tables.journal.items) ∙ ap (λ b. cond b (IsRefused journal_full) (IsRecorded xs)) full
 
-  pub room_enters : (tables : Tables) (input : Input) (xs : List Transition) → verdict_due scheme tables input ≡ enters scheme (past tables.journal.items) xs → nat_le scheme.records (length tables.journal.items) ≡ false → verdict_due scheme tables input ≡ Enters xs
-  room_enters tables input xs is room = is ∙ ap (λ n. cond (nat_le scheme.records n) (IsRefused journal_full) (Enters xs)) (length_history scheme Itl tables.journal.items) ∙ ap (λ b. cond b (IsRefused journal_full) (Enters xs)) room
+  pub room_enters : (tables : Tables) (input : Input) (xs : List Transition) → verdict_due scheme tables input ≡ recorded_if_room scheme (past tables.journal.items) xs → nat_le scheme.records (length tables.journal.items) ≡ false → verdict_due scheme tables input ≡ IsRecorded xs
+  room_enters tables input xs is room = is ∙ ap (λ n. cond (nat_le scheme.records n) (IsRefused journal_full) (IsRecorded xs)) (length_history scheme Itl tables.journal.items) ∙ ap (λ b. cond b (IsRefused journal_full) (IsRecorded xs)) room
 
   -- a copy of the input is refused where the journal is full or memory ran out
-  pub unfitting : (tables : Tables) (input : Input) (xs : List Transition) (code : ℕ) → verdict_due scheme tables input ≡ enters scheme (past tables.journal.items) xs
+  pub unfitting : (tables : Tables) (input : Input) (xs : List Transition) (code : ℕ) → verdict_due scheme tables input ≡ recorded_if_room scheme (past tables.journal.items) xs
       → (code ≡ out_of_memory) ⊎ ((code ≡ journal_full) × (nat_le scheme.records (length tables.journal.items) ≡ true)) → GivenUp tables input code
   unfitting tables input xs code is (inl memory) = inl memory
   unfitting tables input xs code is (inr full) = inr (full_refuses tables input xs is full.1 ∙ ap (λ n. IsRefused n) (sym full.0))

@@ -4,19 +4,19 @@ use Rattle.std.specs.BTreeMap as tree
 use Rattle.std.specs.BTreeSet.{contains}
 use Rattle.std.specs.FinMap as finite
 use Rattle.std.specs.List.{AllByRecursion, list_any}
-use Rattle.units.specs.Intervals.{marks_that}
+use Rattle.units.specs.Intervals.{labels_that}
 use Rattle.units.specs.declared.block.Unit.{Unit as Serial}
 use Rattle.status.specs.Content.{Content}
 use Rattle.status.specs.Id.{same_id, id_cmp}
 use Rattle.status.specs.Status.{same_status}
 use Rattle.status.specs.declared.id.TransactionId.{TransactionId}
-use Rattle.status.specs.declared.words.Status.{Status}
-use Rattle.status.specs.declared.words.Status.TheVariants.{Checked, Accepted, Rejected, Cancelled, Completed}
+use Rattle.status.specs.declared.status.Status.{Status}
+use Rattle.status.specs.declared.status.Status.TheVariants.{Checked, Accepted, Rejected, Cancelled, Completed}
 use Rattle.checks.specs.declared.register.Owner.{Owner}
 use Rattle.checks.specs.declared.register.UnderWay.{UnderWay}
 use Rattle.protocol.specs.History.{Transition, has_serial}
 use Rattle.log_core.specs.Kept.{waiting_cmp}
-use Rattle.log_core.specs.Readings.{Standing, of_transfer}
+use Rattle.log_core.specs.Readings.{TransferState, of_transfer}
 use Rattle.log_core.specs.declared.effect.Effect.{Effect}
 use Rattle.log_core.specs.declared.effect.Effect.TheVariants.{Begin, Settle, Cancel}
 use Rattle.log_core.specs.declared.tables.Tables.{Tables}
@@ -47,38 +47,38 @@ IsEffect xs moment (Cancel ids) = (map (λ x. x.id) xs ≡ ids.items) × AllByRe
 
 -- ---- what an effect leaves
 
-abbrev pub standing_in : Tables → TransactionId → Option Standing
-standing_in tables t = option_map of_transfer (tree.get id_cmp tables.transfers t)
+abbrev pub transfer_state_in : Tables → TransactionId → Option TransferState
+transfer_state_in tables t = option_map of_transfer (tree.get id_cmp tables.transfers t)
 
 -- a transaction came to that status then
-abbrev pub came_to : Status → ℕ → Standing → Standing
+abbrev pub came_to : Status → ℕ → TransferState → TransferState
 came_to new moment x = record x { status = new; since = moment }
 
-abbrev pub standing_content : Option Standing → Option Content
-standing_content (Some x) = x.content
-standing_content None = None
+abbrev pub transfer_state_content : Option TransferState → Option Content
+transfer_state_content (Some x) = x.content
+transfer_state_content None = None
 
 -- the acquirer's, where the unit is in the transfer
 abbrev pub handed_over : Option Content → Serial → Option Owner → Option Owner
 handed_over (Some k) s owner = if has_serial (Some k) s then Some (record { registry = k.acquirer }) else owner
 handed_over None s owner = owner
 
--- each transaction's standing
-abbrev pub standing_after : Effect → ℕ → (TransactionId → Option Standing) → TransactionId → Option Standing
-standing_after (Begin id new content) moment old t = if same_id id t then Some (record { status = new; content = content; since = moment }) else old t
-standing_after (Settle id new) moment old t = if same_id id t then option_map (came_to new moment) (old t) else old t
-standing_after (Cancel ids) moment old t = if is_among ids.items t then option_map (came_to Cancelled moment) (old t) else old t
+-- each transaction's state
+abbrev pub transfer_state_after : Effect → ℕ → (TransactionId → Option TransferState) → TransactionId → Option TransferState
+transfer_state_after (Begin id new content) moment old t = if same_id id t then Some (record { status = new; content = content; since = moment }) else old t
+transfer_state_after (Settle id new) moment old t = if same_id id t then option_map (came_to new moment) (old t) else old t
+transfer_state_after (Cancel ids) moment old t = if is_among ids.items t then option_map (came_to Cancelled moment) (old t) else old t
 
 -- which transfer each unit is in
 abbrev pub under_way_after : Effect → Serial → Option UnderWay → Option UnderWay
 under_way_after (Begin id new content) s old = if same_status new Checked && has_serial content s then Some (record { id = id }) else old
-under_way_after (Settle id new) s old = if same_status new Accepted then old else marks_that (λ u. not (same_id u.id id)) old
-under_way_after (Cancel ids) s old = marks_that (λ u. not (is_among ids.items u.id)) old
+under_way_after (Settle id new) s old = if same_status new Accepted then old else labels_that (λ u. not (same_id u.id id)) old
+under_way_after (Cancel ids) s old = labels_that (λ u. not (is_among ids.items u.id)) old
 
 -- who owns each unit
-abbrev pub owner_after : Effect → (TransactionId → Option Standing) → Serial → Option Owner → Option Owner
-owner_after (Settle id new) standing s old = if same_status new Completed then handed_over (standing_content (standing id)) s old else old
-owner_after _ standing s old = old
+abbrev pub owner_after : Effect → (TransactionId → Option TransferState) → Serial → Option Owner → Option Owner
+owner_after (Settle id new) transfer_state s old = if same_status new Completed then handed_over (transfer_state_content (transfer_state id)) s old else old
+owner_after _ transfer_state s old = old
 
 -- which transactions stand Checked, and since when
 abbrev pub waits_after : Effect → ℕ → Waiting → Bool → Bool
@@ -90,7 +90,7 @@ waits_after (Cancel ids) moment w old = not (is_among ids.items w.id) && old
 pub record Carried (effect : Effect) (moment : ℕ) (tables tables' : Tables) : Type 0 where
   pub allotments : tables'.register.allotments ≡ tables.register.allotments
   pub orders : tables'.register.orders ≡ tables.register.orders
-  pub transfers : (t : TransactionId) → standing_in tables' t ≡ standing_after effect moment (standing_in tables) t
+  pub transfers : (t : TransactionId) → transfer_state_in tables' t ≡ transfer_state_after effect moment (transfer_state_in tables) t
   pub under_way : (s : Serial) → finite.get tables'.register.under_way s ≡ under_way_after effect s (finite.get tables.register.under_way s)
-  pub book : (s : Serial) → finite.get tables'.register.book s ≡ owner_after effect (standing_in tables) s (finite.get tables.register.book s)
+  pub book : (s : Serial) → finite.get tables'.register.book s ≡ owner_after effect (transfer_state_in tables) s (finite.get tables.register.book s)
   pub checked : (w : Waiting) → contains waiting_cmp tables'.checked w ≡ waits_after effect moment w (contains waiting_cmp tables.checked w)

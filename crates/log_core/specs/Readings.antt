@@ -1,4 +1,5 @@
--- What the log's tables are to say of its history: where transactions stand, who owns a unit, which transfer has it, and which registries may take part.
+-- What the log's tables are to say of its history: where transactions stand, who owns a unit, which transfer has it,
+-- and which registries may take part.
 use Rattle.std.specs.Prelude.{ℕ, ◌==◌, ◌&&◌, ◌||◌, Bool, false, List, [], ◌∷◌, find, Option, None, option_map}
 use Rattle.std.specs.Option.{option_map_or, option_or}
 use Rattle.units.specs.declared.block.Unit.{Unit as Serial}
@@ -6,8 +7,8 @@ use Rattle.units.specs.declared.code.Code.{Code}
 use Rattle.status.specs.Content.{Content}
 use Rattle.status.specs.Status.{same_status}
 use Rattle.status.specs.declared.id.TransactionId.{TransactionId}
-use Rattle.status.specs.declared.words.Status.{Status}
-use Rattle.status.specs.declared.words.Status.TheVariants.{Checked, Accepted}
+use Rattle.status.specs.declared.status.Status.{Status}
+use Rattle.status.specs.declared.status.Status.TheVariants.{Checked, Accepted}
 use Rattle.scheme.specs.declared.members.Holder.{Holder}
 use Rattle.scheme.specs.declared.registries.Scheme.{Scheme}
 use Rattle.checks.specs.declared.register.Owner.{Owner}
@@ -18,15 +19,15 @@ use Rattle.log_core.specs.declared.transfer.Transfer.{Transfer}
 -- ---- a transaction
 
 -- its status, its content where that is known, and since when it stands so, in seconds
-pub record Standing : Type 0 where
+pub record TransferState : Type 0 where
   pub status : Status
   pub content : Option Content
   pub since : ℕ
 
-abbrev pub of_transition : Transition → Standing
+abbrev pub of_transition : Transition → TransferState
 of_transition x = record { status = x.new; content = x.content; since = x.moment }
 
-abbrev pub of_transfer : Transfer → Standing
+abbrev pub of_transfer : Transfer → TransferState
 of_transfer x = record { status = x.status; content = x.content; since = x.since.seconds }
 
 -- it stands Checked since that second

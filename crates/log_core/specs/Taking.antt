@@ -16,7 +16,8 @@ use Rattle.log_core.specs.declared.tables.Tables.{Tables}
 abbrev pub verdict_due : Scheme → Tables → Input → Verdict
 verdict_due scheme tables input = verdict scheme Itl (history scheme Itl tables.journal.items) input
 
--- an input that may make transitions: an acknowledgement and an order on eligibility make none, and each other one is refused
+-- an input that may make transitions: an acknowledgement and an order on eligibility make none, and each other one is
+-- refused
 abbrev pub IsMessageOrCleanUp : Input → Type 0
 IsMessageOrCleanUp (Received m moment) = Unit {0}
 IsMessageOrCleanUp (CleanUp moment) = Unit {0}

@@ -16,15 +16,15 @@ use Rattle.status.specs.Id.{id_cmp, same_id}
 use Rattle.status.specs.Status.{same_status}
 use Rattle.status.specs.declared.id.TransactionId.{TransactionId}
 use Rattle.status.specs.declared.moment.Moment.{Moment}
-use Rattle.status.specs.declared.words.Known.{Known}
-use Rattle.status.specs.declared.words.Known.TheVariants.{Unknown, Bare, Stands}
-use Rattle.status.specs.declared.words.Status.{Status}
-use Rattle.status.specs.declared.words.Status.TheVariants.{Cancelled, Checked, Completed}
+use Rattle.status.specs.declared.rows.RecordedStatus.{RecordedStatus}
+use Rattle.status.specs.declared.rows.RecordedStatus.TheVariants.{Unknown, Bare, Stands}
+use Rattle.status.specs.declared.status.Status.{Status}
+use Rattle.status.specs.declared.status.Status.TheVariants.{Cancelled, Checked, Completed}
 use Rattle.checks.specs.declared.register.UnderWay.{UnderWay}
 use Rattle.protocol.specs.History.{has_serial}
-use Rattle.log_core.specs.Effects.{standing_content, standing_in}
+use Rattle.log_core.specs.Effects.{transfer_state_content, transfer_state_in}
 use Rattle.log_core.specs.Kept.{waiting_cmp}
-use Rattle.log_core.specs.Readings.{Standing, of_transfer}
+use Rattle.log_core.specs.Readings.{TransferState, of_transfer}
 use Rattle.log_core.specs.declared.effect.Effect.{Effect}
 use Rattle.log_core.specs.declared.effect.Effect.TheVariants.{Begin, Settle, Cancel}
 use Rattle.log_core.specs.declared.tables.Tables.{Tables}
@@ -32,19 +32,19 @@ use Rattle.log_core.specs.declared.transfer.Transfer.{Transfer}
 use Rattle.log_core.specs.declared.waiting.Waiting.{Waiting}
 
 -- where a transaction stands
-abbrev pub standing_of : BTreeMap TransactionId Transfer → TransactionId → Option Standing
-standing_of transfers t = option_map of_transfer (tree.get id_cmp transfers t)
+abbrev pub transfer_state_of : BTreeMap TransactionId Transfer → TransactionId → Option TransferState
+transfer_state_of transfers t = option_map of_transfer (tree.get id_cmp transfers t)
 
 -- the transaction came to that status then
 abbrev pub came_at : Status → Moment → Transfer → Transfer
 came_at new moment x = record x { status = new; since = moment }
 
 -- what the status table asks of a transaction
-abbrev pub known_standing : Option Standing → Known
-known_standing x = option_map_or (λ y. option_map_or (λ k. Stands y.status) y.content Bare) x Unknown
+abbrev pub known_transfer_state : Option TransferState → RecordedStatus
+known_transfer_state x = option_map_or (λ y. option_map_or (λ k. Stands y.status) y.content Bare) x Unknown
 
 -- it stands Checked since that second
-abbrev pub stands_checked_since : ℕ → Option Standing → Bool
+abbrev pub stands_checked_since : ℕ → Option TransferState → Bool
 stands_checked_since since x = option_map_or (λ y. same_status y.status Checked && (y.since == since)) x false
 
 -- the place is that one
@@ -53,22 +53,22 @@ is_waiting_place w p = (p.since.seconds == w.since.seconds) && same_id p.id w.id
 
 -- the set has the transactions that stand Checked, each by its moment
 abbrev pub AreWaiting : BTreeMap TransactionId Transfer → BTreeSet Waiting → Type 0
-AreWaiting transfers checked = (w : Waiting) → contains waiting_cmp checked w ≡ stands_checked_since w.since.seconds (standing_of transfers w.id)
+AreWaiting transfers checked = (w : Waiting) → contains waiting_cmp checked w ≡ stands_checked_since w.since.seconds (transfer_state_of transfers w.id)
 
 -- a unit that is under way is one of its transfer's
-abbrev pub AreMarked : BTreeMap TransactionId Transfer → finite.FinMap unit_cmp UnderWay → Type 0
-AreMarked transfers under_way = (s : Serial) (u : UnderWay) → finite.get under_way s ≡ Some u → has_serial (standing_content (standing_of transfers u.id)) s ≡ true
+abbrev pub AreLabelled : BTreeMap TransactionId Transfer → finite.FinMap unit_cmp UnderWay → Type 0
+AreLabelled transfers under_way = (s : Serial) (u : UnderWay) → finite.get under_way s ≡ Some u → has_serial (transfer_state_content (transfer_state_of transfers u.id)) s ≡ true
 
 -- ---- what an effect may be carried out on
 
 -- a transaction that begins wasn't known, and those that are cancelled were
-abbrev pub IsOfKnown : (TransactionId → Option Standing) → Effect → Type 0
+abbrev pub IsOfKnown : (TransactionId → Option TransferState) → Effect → Type 0
 IsOfKnown old (Begin id new content) = old id ≡ None
 IsOfKnown old (Settle id new) = Unit {0}
 IsOfKnown old (Cancel ids) = AllByRecursion (λ t. is_some (old t) ≡ true) ids.items
 
 -- what takes a transaction back: one that is known is cancelled, and one that isn't begins Cancelled without a content
-abbrev pub IsWithdrawal : TransactionId → Option Standing → Effect → Type 0
+abbrev pub IsWithdrawal : TransactionId → Option TransferState → Effect → Type 0
 IsWithdrawal t None effect = effect ≡ Begin t Cancelled None
 IsWithdrawal t (Some x) (Cancel ids) = ids.items ≡ t ∷ []
 IsWithdrawal t (Some x) _ = ⊥
@@ -78,9 +78,9 @@ abbrev pub IsApart : Option Content → Type 0
 IsApart content = (k : Content) (blocks : List Block) → content ≡ Some k → raws blocks ≡ k.units → AllApart blocks
 
 -- units that come under way, or that are handed over, are each in one block
-abbrev pub AreApart : (TransactionId → Option Standing) → Effect → Type 0
+abbrev pub AreApart : (TransactionId → Option TransferState) → Effect → Type 0
 AreApart old (Begin id new content) = same_status new Checked ≡ true → IsApart content
-AreApart old (Settle id new) = (same_status new Checked ≡ false) × (same_status new Completed ≡ true → IsApart (standing_content (old id)))
+AreApart old (Settle id new) = (same_status new Checked ≡ false) × (same_status new Completed ≡ true → IsApart (transfer_state_content (old id)))
 AreApart old (Cancel ids) = Unit {0}
 
 -- tables that say the same
@@ -90,6 +90,6 @@ pub record AreSame (tables tables' : Tables) : Type 0 where
   pub book : tables'.register.book ≡ tables.register.book
   pub under_way : tables'.register.under_way ≡ tables.register.under_way
   pub orders : (c : Code) → tree.get code_cmp tables'.register.orders c ≡ tree.get code_cmp tables.register.orders c
-  pub transfers : (t : TransactionId) → standing_in tables' t ≡ standing_in tables t
+  pub transfers : (t : TransactionId) → transfer_state_in tables' t ≡ transfer_state_in tables t
   pub checked : (w : Waiting) → contains waiting_cmp tables'.checked w ≡ contains waiting_cmp tables.checked w
   pub outbox : tables'.outbox ≡ tables.outbox

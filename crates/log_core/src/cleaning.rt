@@ -4,14 +4,14 @@ ghost use Rattle.std.specs.List.Sorted.{IsSorted};
 ghost use Rattle.std.specs.Prelude.{◌≡◌, [], List, IfOk, IsPermutation, flat_map};
 ghost use Rattle.status.specs.Id.{id_cmp};
 ghost use Rattle.status.specs.declared.id.TransactionId as declared_id;
-ghost use Rattle.status.specs.declared.words.RowInput.TheVariants as column;
+ghost use Rattle.status.specs.declared.rows.RowInput.TheVariants as column;
 ghost use Rattle.wire.specs.declared.input.Input.TheVariants as inputs;
 ghost use Rattle.protocol.specs.Effects.{log_sends};
 ghost use Rattle.log_core.specs.Cleaning.{AreAged};
-ghost use Rattle.log_core.specs.Effects.{standing_content};
+ghost use Rattle.log_core.specs.Effects.{transfer_state_content};
 ghost use Rattle.log_core.specs.Kept.{IsKept, waiting_cmp};
 ghost use Rattle.log_core.specs.Taking.{Takes};
-ghost use Rattle.log_core.specs.Transfers.{standing_of};
+ghost use Rattle.log_core.specs.Transfers.{transfer_state_of};
 
 use crate::effect::Effect;
 use crate::messages::push_cancelled;
@@ -28,8 +28,8 @@ use units::limits::CLEAN_UP_AGE;
 use units::{Items, NoMemory, Refusal};
 use wire::{Input, Message};
 
-// The transactions that have stood Checked for a day at that moment, by age. It looks at no transaction after the first one that
-// hasn't. Or `NoMemory`.
+// The transactions that have stood Checked for a day at that moment, by age. It looks at no transaction after the
+// first one that hasn't. Or `NoMemory`.
 fn aged(
     alloc: Global,
     checked: &BTreeSet<Waiting>,
@@ -69,7 +69,7 @@ fn cancellations(
     transfers: &BTreeMap<TransactionId, Transfer>,
     ids: &[TransactionId],
 ) -> Result<Items<Message>, NoMemory>
-    ensures { IfOk result (λ messages. messages ≡ flat_map (λ t. log_sends t (standing_content (standing_of transfers.now t)) [] column.CleanUp) ids.now) }
+    ensures { IfOk result (λ messages. messages ≡ flat_map (λ t. log_sends t (transfer_state_content (transfer_state_of transfers.now t)) [] column.CleanUp) ids.now) }
 {
     let mut messages = Vec::new(alloc);
     for id in ids {

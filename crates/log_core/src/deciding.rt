@@ -1,19 +1,19 @@
 //! What the log's table says to a message that isn't refused for what it is.
 ghost use Rattle.std.specs.Prelude.{◌≡◌, ℕ, List, [], Some, None};
 ghost use Rattle.status.specs.Rows.{log_row};
-ghost use Rattle.status.specs.declared.words.RowInput.TheVariants as column;
-ghost use Rattle.wire.specs.Notices.{notice_codes, notice_status};
+ghost use Rattle.status.specs.declared.rows.RowInput.TheVariants as column;
+ghost use Rattle.wire.specs.NotifiedStatuses.{notified_codes, notified_status};
 ghost use Rattle.protocol.specs.Checks.{Ledger, log_findings};
 ghost use Rattle.protocol.specs.Cores.{IsDueOrNoMemory};
-ghost use Rattle.protocol.specs.Deciding.{offered};
+ghost use Rattle.protocol.specs.Deciding.{column_of_proposal};
 ghost use Rattle.protocol.specs.Decisions.{decided};
 ghost use Rattle.protocol.specs.Effects.{log_sends};
 ghost use Rattle.checks.specs.Finding.{codes_in};
 ghost use Rattle.checks.specs.Knowing.{Registers};
-ghost use Rattle.log_core.specs.Effects.{standing_content, standing_in};
-ghost use Rattle.log_core.specs.Transfers.{known_standing};
+ghost use Rattle.log_core.specs.Effects.{transfer_state_content, transfer_state_in};
+ghost use Rattle.log_core.specs.Transfers.{known_transfer_state};
 
-use crate::messages::{on_notice, on_proposal, on_request};
+use crate::messages::{on_notified, on_proposal, on_request};
 use crate::tables::Tables;
 use crate::transfers::{content, known};
 use checks::log_findings;
@@ -23,7 +23,7 @@ use status::{Content, Role, Row, RowInput, TransactionId, row};
 use std::alloc::Global;
 use units::refusal_code::NO_ROW;
 use units::{Items, Refusal};
-use wire::{LogCodes, Notice};
+use wire::{LogCodes, NotifiedStatus};
 
 // The codes of what was found.
 fn codes_in(found: &Option<LogCodes>) -> &[u16]
@@ -36,8 +36,8 @@ fn codes_in(found: &Option<LogCodes>) -> &[u16]
 }
 
 // The column of a proposal in which these codes were found, and of which no content is recorded.
-fn offered(codes: &[u16]) -> RowInput
-    ensures { result ≡ offered None codes.now }
+fn column_of_proposal(codes: &[u16]) -> RowInput
+    ensures { result ≡ column_of_proposal None codes.now }
 {
     match codes {
         [] => RowInput::ProposalWithoutFinding,
@@ -46,29 +46,29 @@ fn offered(codes: &[u16]) -> RowInput
 }
 
 impl Tables {
-    /// What the table says to a proposal, which is equal to the one whose content is recorded, if one is. Where none is, it is to be
-    /// passed on as Checked, or Terminated is to be sent, by what is found in it. Fails with `NO_ROW` where the table has no such
-    /// row, and with `OUT_OF_MEMORY`.
+    /// What the table says to a proposal, which is equal to the one whose content is recorded, if one is. Where none
+    /// is, it is to be passed on as Checked, or Terminated is to be sent, by what is found in it. Fails with `NO_ROW`
+    /// where the table has no such row, and with `OUT_OF_MEMORY`.
     pub(crate) fn on_proposal(
         &self,
         alloc: Global,
         scheme: &Scheme,
         id: TransactionId,
-        offer: &Content,
+        proposed: &Content,
     ) -> Result<Decision, Refusal>
-        ensures { (known_so : Ledger) (found : List ℕ) → Registers scheme.now self.now.register known_so → found ≡ log_findings scheme.now known_so id.code offer.now → IsDueOrNoMemory result (decided (log_row (known_standing (standing_in self.now id)) (offered (standing_content (standing_in self.now id)) found)) (log_sends id (Some offer.now) found (offered (standing_content (standing_in self.now id)) found))) }
+        ensures { (known_so : Ledger) (found : List ℕ) → Registers scheme.now self.now.register known_so → found ≡ log_findings scheme.now known_so id.code proposed.now → IsDueOrNoMemory result (decided (log_row (known_transfer_state (transfer_state_in self.now id)) (column_of_proposal (transfer_state_content (transfer_state_in self.now id)) found)) (log_sends id (Some proposed.now) found (column_of_proposal (transfer_state_content (transfer_state_in self.now id)) found))) }
     {
         if content(&self.transfers, id).is_some() {
             return self.on_equal_proposal(alloc, id);
         }
-        let found = log_findings(alloc, scheme, &self.register, id.code, offer)?;
+        let found = log_findings(alloc, scheme, &self.register, id.code, proposed)?;
         match row(
             Role::Itl,
             known(&self.transfers, id),
-            offered(codes_in(&found)),
+            column_of_proposal(codes_in(&found)),
         ) {
             Row::Move(new) => {
-                let messages = on_proposal(alloc, id, offer, found)?;
+                let messages = on_proposal(alloc, id, proposed, found)?;
                 Ok(Decision::Moves { new, messages })
             }
             Row::Repeat => Ok(Decision::Repeat),
@@ -79,7 +79,7 @@ impl Tables {
 
     // What the table says to a proposal equal to the one that is recorded.
     fn on_equal_proposal(&self, alloc: Global, id: TransactionId) -> Result<Decision, Refusal>
-        ensures { result ≡ decided (log_row (known_standing (standing_in self.now id)) column.EqualProposal) [] }
+        ensures { result ≡ decided (log_row (known_transfer_state (transfer_state_in self.now id)) column.EqualProposal) [] }
     {
         match row(
             Role::Itl,
@@ -96,22 +96,23 @@ impl Tables {
         }
     }
 
-    /// What the table says to a notification. Fails with `NO_ROW` where the table has no such row, and with `OUT_OF_MEMORY`.
-    pub(crate) fn on_notice(
+    /// What the table says to a notification. Fails with `NO_ROW` where the table has no such row, and with
+    /// `OUT_OF_MEMORY`.
+    pub(crate) fn on_notified(
         &self,
         alloc: Global,
         id: TransactionId,
-        notice: &Notice,
+        notified: &NotifiedStatus,
     ) -> Result<Decision, Refusal>
-        ensures { IsDueOrNoMemory result (decided (log_row (known_standing (standing_in self.now id)) (column.Notified (notice_status notice.now))) (log_sends id (standing_content (standing_in self.now id)) (notice_codes notice.now) (column.Notified (notice_status notice.now)))) }
+        ensures { IsDueOrNoMemory result (decided (log_row (known_transfer_state (transfer_state_in self.now id)) (column.Notified (notified_status notified.now))) (log_sends id (transfer_state_content (transfer_state_in self.now id)) (notified_codes notified.now) (column.Notified (notified_status notified.now)))) }
     {
         match row(
             Role::Itl,
             known(&self.transfers, id),
-            RowInput::Notified(notice.status()),
+            RowInput::Notified(notified.status()),
         ) {
             Row::Move(new) => {
-                let messages = on_notice(alloc, id, content(&self.transfers, id), notice)?;
+                let messages = on_notified(alloc, id, content(&self.transfers, id), notified)?;
                 Ok(Decision::Moves { new, messages })
             }
             Row::Repeat => Ok(Decision::Repeat),
@@ -122,7 +123,7 @@ impl Tables {
 
     /// What the table says to a request. Fails with `NO_ROW` where the table has no such row, and with `OUT_OF_MEMORY`.
     pub(crate) fn on_request(&self, alloc: Global, id: TransactionId) -> Result<Decision, Refusal>
-        ensures { IsDueOrNoMemory result (decided (log_row (known_standing (standing_in self.now id)) column.Request) (log_sends id (standing_content (standing_in self.now id)) [] column.Request)) }
+        ensures { IsDueOrNoMemory result (decided (log_row (known_transfer_state (transfer_state_in self.now id)) column.Request) (log_sends id (transfer_state_content (transfer_state_in self.now id)) [] column.Request)) }
     {
         match row(Role::Itl, known(&self.transfers, id), RowInput::Request) {
             Row::Move(new) => {

@@ -1,8 +1,8 @@
 //! What a record does to the log's transactions.
 ghost use Rattle.std.specs.Prelude.{◌≡◌, IfErr, OnErr, OnOk};
 ghost use Rattle.units.specs.RefusalCodes.{out_of_memory};
-ghost use Rattle.log_core.specs.Effects.{Carried, standing_in};
-ghost use Rattle.log_core.specs.Transfers.{AreApart, AreMarked, AreSame, AreWaiting, IsOfKnown};
+ghost use Rattle.log_core.specs.Effects.{Carried, transfer_state_in};
+ghost use Rattle.log_core.specs.Transfers.{AreApart, AreLabelled, AreSame, AreWaiting, IsOfKnown};
 
 use crate::moving::{begin, cancel, settle};
 use crate::tables::Tables;
@@ -13,8 +13,8 @@ use units::Refusal;
 /// What a record does to the log's transactions.
 #[derive(Debug, Drop)]
 pub(crate) enum Effect {
-    /// A transaction that wasn't known has that status: Checked, and its units are under way, or Terminated, or Cancelled
-    /// without a content.
+    /// A transaction that wasn't known has that status: Checked, and its units are under way, or Terminated, or
+    /// Cancelled without a content.
     Begin {
         id: TransactionId,
         new: Status,
@@ -30,12 +30,13 @@ pub(crate) enum Effect {
 }
 
 impl Tables {
-    /// Carries the effect out, at that moment. After `OUT_OF_MEMORY`, with which alone it fails, the tables say what they said.
+    /// Carries the effect out, at that moment. After `OUT_OF_MEMORY`, with which alone it fails, the tables say what
+    /// they said.
     pub(crate) fn carry_out(&mut self, effect: Effect, moment: Moment) -> Result<(), Refusal>
-        requires known { IsOfKnown (standing_in self.old) effect }
-        requires apart { AreApart (standing_in self.old) effect }
+        requires known { IsOfKnown (transfer_state_in self.old) effect }
+        requires apart { AreApart (transfer_state_in self.old) effect }
         requires waiting { AreWaiting self.old.transfers self.old.checked }
-        requires marked { AreMarked self.old.transfers self.old.register.under_way }
+        requires labelled { AreLabelled self.old.transfers self.old.register.under_way }
         ensures ok { OnOk result (Carried effect moment.seconds self.old self.new) }
         ensures journal { self.new.journal ≡ self.old.journal }
         ensures outbox { self.new.outbox ≡ self.old.outbox }

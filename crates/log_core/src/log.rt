@@ -1,6 +1,6 @@
 //! The log of a scheme.
 ghost use Rattle.std.specs.Prelude.{◌≡◌, [], Some, IfOk, IfSome};
-ghost use Rattle.units.specs.Intervals.{AreKept, mark_at};
+ghost use Rattle.units.specs.Intervals.{AreKept, label_at};
 ghost use Rattle.units.specs.Canonical.{AreCanonical};
 ghost use Rattle.units.specs.Spans.{intervals_of};
 ghost use Rattle.units.specs.declared.block.Unit.{Unit as Serial};
@@ -22,8 +22,8 @@ use std::marker::Model;
 use units::{Code, NoMemory, Node, Refusal, Span, Unit};
 use wire::{Input, Message};
 
-/// The log of a scheme: the journal of the inputs that it recorded, and beside it what the journal says of units and registries,
-/// of transactions, and of its messages. In contracts it is its scheme and its journal.
+/// The log of a scheme: the journal of the inputs that it recorded, and beside it what the journal says of units and
+/// registries, of transactions, and of its messages. In contracts it is its scheme and its journal.
 #[derive(Debug, Drop)]
 pub struct LogCore {
     alloc: Global,
@@ -58,8 +58,8 @@ impl LogCore {
         })
     }
 
-    /// The registry that owns the unit: the acquirer of the transfer with the unit that was Completed last, else the registry
-    /// that it is allotted to. Or `None`, where it isn't allotted.
+    /// The registry that owns the unit: the acquirer of the transfer with the unit that was Completed last, else the
+    /// registry that it is allotted to. Or `None`, where it isn't allotted.
     pub fn book_owner(&self, unit: &Unit) -> Option<Code>
         ensures { result ≡ history.book_owner self.now.scheme (moves self.now) unit.now }
     {
@@ -67,18 +67,18 @@ impl LogCore {
         Some(owner.registry)
     }
 
-    /// Who owns which units, as intervals by their first units: none shares a unit with another, and neighbours with one
-    /// owner are one.
+    /// Who owns which units, as intervals by their first units: none shares a unit with another, and neighbours with
+    /// one owner are one.
     pub fn pieces(&self) -> &BTreeMap<Unit, Span<Owner>>
         ensures kept { AreKept (intervals_of result.now.entries) }
         ensures joined { AreCanonical (λ _. 0) (intervals_of result.now.entries) }
-        ensures means { (u : Serial) → mark_at (intervals_of result.now.entries) u ≡ owner self.now.scheme (moves self.now) u }
+        ensures means { (u : Serial) → label_at (intervals_of result.now.entries) u ≡ owner self.now.scheme (moves self.now) u }
     {
         self.tables.register.book.pieces()
     }
 
-    /// The transfer that the unit is in: the one transfer with the unit that stands Checked or Accepted. So no two such transfers
-    /// share a unit, whatever messages came. Or `None`, where there is no such transfer.
+    /// The transfer that the unit is in: the one transfer with the unit that stands Checked or Accepted. So no two
+    /// such transfers share a unit, whatever messages came. Or `None`, where there is no such transfer.
     pub fn transfer_of(&self, unit: &Unit) -> Option<TransactionId>
         ensures some { IfSome result (IsUnderWayWith self.now unit.now) }
         ensures only { (t : declared_id.TransactionId) → IsUnderWayWith self.now unit.now t → result ≡ Some t }
@@ -90,12 +90,12 @@ impl LogCore {
 
 impl NodeCore for LogCore {
     ghost use Rattle.std.specs.Prelude.{Contains, List, true};
-    ghost use Rattle.status.specs.declared.words.Status as words_type;
+    ghost use Rattle.status.specs.declared.status.Status as words_type;
     ghost use Rattle.units.specs.declared.code.Node.TheVariants.{Itl};
-    ghost use Rattle.status.specs.declared.words.Status.TheVariants as words;
+    ghost use Rattle.status.specs.declared.status.Status.TheVariants as words;
     ghost use Rattle.protocol.specs.Claims.{IsEnd};
     ghost use Rattle.protocol.specs.Cores.{IsDueOrNoMemory, after, answer};
-    ghost use Rattle.protocol.specs.Deciding.{Enters};
+    ghost use Rattle.protocol.specs.Deciding.{IsRecorded};
     ghost use Rattle.protocol.specs.History.{Transition, book_owner, carries, stands};
     ghost use Rattle.protocol.specs.Verdict.{verdict};
     ghost use Rattle.log_core.specs.Log.{past};
@@ -114,13 +114,14 @@ impl NodeCore for LogCore {
         self.tables.journal.as_slice()
     }
 
-    /// As `NodeCore::step`. And whatever messages came: where the input is recorded, and completes a transfer, the initiator owned
-    /// each of its units before; and a transaction that was Rejected, Terminated, Cancelled or Completed is so after.
+    /// As `NodeCore::step`. And whatever messages came: where the input is recorded, and completes a transfer, the
+    /// initiator owned each of its units before; and a transaction that was Rejected, Terminated, Cancelled or
+    /// Completed is so after.
     fn step(&mut self, input: &Input) -> Result<Stepped, Refusal>
         ensures answer { IsDueOrNoMemory result (answer self.old.scheme Itl self.old.journal input.now) }
         ensures journal { self.new.journal ≡ after self.old.journal input.now result }
         ensures scheme { self.new.scheme ≡ self.old.scheme }
-        ensures owned { (xs : List Transition) → verdict self.old.scheme Itl (past self.old) input.now ≡ Enters xs → (x : Transition) → Contains xs x → x.new ≡ words.Completed → (s : Serial) → carries x s ≡ true → book_owner self.old.scheme (moves self.old) s ≡ Some x.id.code }
+        ensures owned { (xs : List Transition) → verdict self.old.scheme Itl (past self.old) input.now ≡ IsRecorded xs → (x : Transition) → Contains xs x → x.new ≡ words.Completed → (s : Serial) → carries x s ≡ true → book_owner self.old.scheme (moves self.old) s ≡ Some x.id.code }
         ensures ends_stay { (t : declared_id.TransactionId) (s : words_type.Status) → IsEnd s → stands (moves self.old) t ≡ Some s → stands (moves self.new) t ≡ Some s }
     {
         self.tables.take(self.alloc, &self.scheme, input)

@@ -1,26 +1,26 @@
 //! What the log sends.
 ghost use Rattle.std.specs.Prelude.{◌≡◌, [], ◌∷◌, ◌++◌, Some, None, IfOk, OnOk, option_copied};
 ghost use Rattle.checks.specs.Finding.{codes_in};
-ghost use Rattle.protocol.specs.Deciding.{offered};
+ghost use Rattle.protocol.specs.Deciding.{column_of_proposal};
 ghost use Rattle.protocol.specs.Effects.{log_sends, notifies};
 ghost use Rattle.units.specs.declared.code.Node.TheVariants as nodes;
-ghost use Rattle.status.specs.declared.words.RowInput.TheVariants as column;
-ghost use Rattle.wire.specs.Notices.{notice_codes, notice_status};
+ghost use Rattle.status.specs.declared.rows.RowInput.TheVariants as column;
+ghost use Rattle.wire.specs.NotifiedStatuses.{notified_codes, notified_status};
 
 use status::{Content, TransactionId};
 use std::alloc::Global;
 use units::{Code, Items, NoMemory, Node};
-use wire::{LogCodes, Message, Notice, Notification, Proposal, ProposalStatus};
+use wire::{LogCodes, Message, Notification, NotifiedStatus, Proposal, ProposalStatus};
 
 // The notification to that registry.
-fn notification(registry: Code, id: TransactionId, notice: Notice) -> Message
-    ensures { result ≡ notifies nodes.Itl (nodes.Registry registry) id notice }
+fn notification(registry: Code, id: TransactionId, notified: NotifiedStatus) -> Message
+    ensures { result ≡ notifies nodes.Itl (nodes.Registry registry) id notified }
 {
     Message::Notification(Notification {
         from: Node::Itl,
         to: Node::Registry(registry),
         id,
-        notice,
+        notified,
     })
 }
 
@@ -33,18 +33,21 @@ fn one(alloc: Global, message: Message) -> Result<Items<Message>, NoMemory>
     Ok(Items::from_vec(messages))
 }
 
-/// What follows a proposal, by what was found in it: the proposal as Checked to the acquirer, or Terminated with the codes to
-/// the initiator.
+/// What follows a proposal, by what was found in it: the proposal as Checked to the acquirer, or Terminated with the
+/// codes to the initiator.
 pub(crate) fn on_proposal(
     alloc: Global,
     id: TransactionId,
     content: &Content,
     found: Option<LogCodes>,
 ) -> Result<Items<Message>, NoMemory>
-    ensures { IfOk result (λ messages. messages ≡ log_sends id (Some content.now) (codes_in found) (offered None (codes_in found))) }
+    ensures { IfOk result (λ messages. messages ≡ log_sends id (Some content.now) (codes_in found) (column_of_proposal None (codes_in found))) }
 {
     if let Some(codes) = found {
-        return one(alloc, notification(id.code, id, Notice::Terminated(codes)));
+        return one(
+            alloc,
+            notification(id.code, id, NotifiedStatus::Terminated(codes)),
+        );
     }
     let proposal = Proposal {
         from: Node::Itl,
@@ -57,23 +60,26 @@ pub(crate) fn on_proposal(
 }
 
 /// What follows a notification: Accepted and Rejected go to the initiator, and Completed to the acquirer.
-pub(crate) fn on_notice(
+pub(crate) fn on_notified(
     alloc: Global,
     id: TransactionId,
     content: Option<&Content>,
-    notice: &Notice,
+    notified: &NotifiedStatus,
 ) -> Result<Items<Message>, NoMemory>
-    ensures { IfOk result (λ messages. messages ≡ log_sends id (option_copied content.entry) (notice_codes notice.now) (column.Notified (notice_status notice.now))) }
+    ensures { IfOk result (λ messages. messages ≡ log_sends id (option_copied content.entry) (notified_codes notified.now) (column.Notified (notified_status notified.now))) }
 {
-    match (notice, content) {
-        (Notice::Accepted, _) => one(alloc, notification(id.code, id, Notice::Accepted)),
-        (Notice::Rejected(codes), _) => {
-            let notice = Notice::Rejected(codes.copy()?);
-            one(alloc, notification(id.code, id, notice))
-        }
-        (Notice::Completed, Some(content)) => one(
+    match (notified, content) {
+        (NotifiedStatus::Accepted, _) => one(
             alloc,
-            notification(content.acquirer(), id, Notice::Completed),
+            notification(id.code, id, NotifiedStatus::Accepted),
+        ),
+        (NotifiedStatus::Rejected(codes), _) => {
+            let notified = NotifiedStatus::Rejected(codes.copy()?);
+            one(alloc, notification(id.code, id, notified))
+        }
+        (NotifiedStatus::Completed, Some(content)) => one(
+            alloc,
+            notification(content.acquirer(), id, NotifiedStatus::Completed),
         ),
         _ => Ok(Items::new(alloc)),
     }
@@ -87,9 +93,9 @@ pub(crate) fn push_cancelled(
 ) -> Result<(), NoMemory>
     ensures { OnOk result (messages.new.items ≡ messages.old.items ++ log_sends id (option_copied content.entry) [] column.CleanUp) }
 {
-    messages.push(notification(id.code, id, Notice::Cancelled))?;
+    messages.push(notification(id.code, id, NotifiedStatus::Cancelled))?;
     if let Some(content) = content {
-        messages.push(notification(content.acquirer(), id, Notice::Cancelled))?;
+        messages.push(notification(content.acquirer(), id, NotifiedStatus::Cancelled))?;
     }
     Ok(())
 }

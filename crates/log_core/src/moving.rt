@@ -3,16 +3,16 @@ ghost use Rattle.std.specs.BTreeMap as tree;
 ghost use Rattle.std.specs.BTreeSet.{contains};
 ghost use Rattle.std.specs.FinMap as map;
 ghost use Rattle.std.specs.Prelude.{◌≡◌, ◌&&◌, ◌||◌, not, true, false, Some, None, OnErr, OnOk, option_map, option_copied, if◌then◌else◌};
-ghost use Rattle.units.specs.Intervals.{marks_that};
+ghost use Rattle.units.specs.Intervals.{labels_that};
 ghost use Rattle.units.specs.declared.block.Unit.{Unit as Serial};
 ghost use Rattle.status.specs.Id.{id_cmp, same_id};
 ghost use Rattle.status.specs.Status.{same_status};
 ghost use Rattle.status.specs.declared.id.TransactionId as declared_id;
-ghost use Rattle.status.specs.declared.words.Status.TheVariants as words;
+ghost use Rattle.status.specs.declared.status.Status.TheVariants as words;
 ghost use Rattle.protocol.specs.History.{has_serial};
-ghost use Rattle.log_core.specs.Effects.{standing_content, handed_over, is_among};
+ghost use Rattle.log_core.specs.Effects.{transfer_state_content, handed_over, is_among};
 ghost use Rattle.log_core.specs.Kept.{waiting_cmp};
-ghost use Rattle.log_core.specs.Transfers.{AreMarked, AreWaiting, IsApart, came_at, is_waiting_place, standing_of};
+ghost use Rattle.log_core.specs.Transfers.{AreLabelled, AreWaiting, IsApart, came_at, is_waiting_place, transfer_state_of};
 ghost use Rattle.log_core.specs.declared.waiting.Waiting as declared;
 
 use crate::register;
@@ -45,8 +45,8 @@ fn start(
     Ok(())
 }
 
-/// A transaction of which nothing was known. Where it stands Checked its units are under way. After `NoMemory` nothing has
-/// changed.
+/// A transaction of which nothing was known. Where it stands Checked its units are under way. After `NoMemory`
+/// nothing has changed.
 pub(crate) fn begin(
     under_way: &mut UnitMap<UnderWay>,
     transfers: &mut BTreeMap<TransactionId, Transfer>,
@@ -119,19 +119,19 @@ fn finish(
 )
     requires over { same_status new words.Checked ≡ false }
     requires waiting { AreWaiting transfers.old checked.old }
-    requires marked { AreMarked transfers.old under_way.old }
+    requires labelled { AreLabelled transfers.old under_way.old }
     ensures transfers { (t : declared_id.TransactionId) → tree.get id_cmp transfers.new t ≡ (if same_id id t then option_map (came_at new moment) (tree.get id_cmp transfers.old t) else tree.get id_cmp transfers.old t) }
-    ensures units { (s : Serial) → map.get under_way.new s ≡ marks_that (λ u. not (same_id u.id id)) (map.get under_way.old s) }
+    ensures units { (s : Serial) → map.get under_way.new s ≡ labels_that (λ u. not (same_id u.id id)) (map.get under_way.old s) }
     ensures waits { (w : declared.Waiting) → contains waiting_cmp checked.new w ≡ (not (same_id id w.id) && contains waiting_cmp checked.old w) }
     ensures waiting { AreWaiting transfers.new checked.new }
-    ensures marked { AreMarked transfers.new under_way.new }
+    ensures labelled { AreLabelled transfers.new under_way.new }
 {
     register::end(under_way, content(transfers, id), id);
     leave(transfers, checked, id, new, moment);
 }
 
-/// A transaction that is known comes to that status, which isn't Checked. Its units are the acquirer's where it is Completed, and
-/// aren't under way any more but where it is Accepted. After `NoMemory` nothing has changed.
+/// A transaction that is known comes to that status, which isn't Checked. Its units are the acquirer's where it is
+/// Completed, and aren't under way any more but where it is Accepted. After `NoMemory` nothing has changed.
 pub(crate) fn settle(
     book: &mut UnitMap<Owner>,
     under_way: &mut UnitMap<UnderWay>,
@@ -142,12 +142,12 @@ pub(crate) fn settle(
     moment: Moment,
 ) -> Result<(), NoMemory>
     requires over { same_status new words.Checked ≡ false }
-    requires apart { same_status new words.Completed ≡ true → IsApart (standing_content (standing_of transfers.old id)) }
+    requires apart { same_status new words.Completed ≡ true → IsApart (transfer_state_content (transfer_state_of transfers.old id)) }
     requires waiting { AreWaiting transfers.old checked.old }
-    requires marked { AreMarked transfers.old under_way.old }
-    ensures book { OnOk result ((s : Serial) → map.get book.new s ≡ (if same_status new words.Completed then handed_over (standing_content (standing_of transfers.old id)) s (map.get book.old s) else map.get book.old s)) }
+    requires labelled { AreLabelled transfers.old under_way.old }
+    ensures book { OnOk result ((s : Serial) → map.get book.new s ≡ (if same_status new words.Completed then handed_over (transfer_state_content (transfer_state_of transfers.old id)) s (map.get book.old s) else map.get book.old s)) }
     ensures transfers { OnOk result ((t : declared_id.TransactionId) → tree.get id_cmp transfers.new t ≡ (if same_id id t then option_map (came_at new moment) (tree.get id_cmp transfers.old t) else tree.get id_cmp transfers.old t)) }
-    ensures units { OnOk result ((s : Serial) → map.get under_way.new s ≡ (if same_status new words.Accepted then map.get under_way.old s else marks_that (λ u. not (same_id u.id id)) (map.get under_way.old s))) }
+    ensures units { OnOk result ((s : Serial) → map.get under_way.new s ≡ (if same_status new words.Accepted then map.get under_way.old s else labels_that (λ u. not (same_id u.id id)) (map.get under_way.old s))) }
     ensures waits { OnOk result ((w : declared.Waiting) → contains waiting_cmp checked.new w ≡ (not (same_id id w.id) && contains waiting_cmp checked.old w)) }
     ensures err { OnErr result ((book.new ≡ book.old) × (under_way.new ≡ under_way.old) × (transfers.new ≡ transfers.old) × (checked.new ≡ checked.old)) }
 {
@@ -171,9 +171,9 @@ pub(crate) fn cancel(
     moment: Moment,
 )
     requires waiting { AreWaiting transfers.old checked.old }
-    requires marked { AreMarked transfers.old under_way.old }
+    requires labelled { AreLabelled transfers.old under_way.old }
     ensures transfers { (t : declared_id.TransactionId) → tree.get id_cmp transfers.new t ≡ (if is_among ids.now t then option_map (came_at words.Cancelled moment) (tree.get id_cmp transfers.old t) else tree.get id_cmp transfers.old t) }
-    ensures units { (s : Serial) → map.get under_way.new s ≡ marks_that (λ u. not (is_among ids.now u.id)) (map.get under_way.old s) }
+    ensures units { (s : Serial) → map.get under_way.new s ≡ labels_that (λ u. not (is_among ids.now u.id)) (map.get under_way.old s) }
     ensures waits { (w : declared.Waiting) → contains waiting_cmp checked.new w ≡ (not (is_among ids.now w.id) && contains waiting_cmp checked.old w) }
 {
     for id in ids {

@@ -27,7 +27,7 @@ fn block_at(unit: Unit, span: Span<Holder>) -> Block
     let raw = RawBlock {
         origin: unit.origin,
         period: unit.period,
-        kind: span.mark.kind,
+        kind: span.label.kind,
         first: unit.number,
         last: span.last,
     };
@@ -41,7 +41,7 @@ fn opening_book(alloc: Global, allotments: &UnitMap<Holder>) -> Result<UnitMap<O
     let mut book = UnitMap::new(alloc);
     for (unit, span) in allotments.pieces() {
         let owner = Owner {
-            registry: span.mark.registry,
+            registry: span.label.registry,
         };
         book.set(&block_at(*unit, *span), Some(owner))?;
     }

@@ -11,7 +11,7 @@ ghost use Rattle.protocol.specs.History as history;
 ghost use Rattle.protocol.specs.History.{Entry, newest, transitions_of};
 ghost use Rattle.checks.specs.Refusing.{first_of};
 ghost use Rattle.log_core.specs.Readings.{of_transition};
-ghost use Rattle.log_core.specs.Transfers.{standing_of};
+ghost use Rattle.log_core.specs.Transfers.{transfer_state_of};
 
 use crate::registries::is_member;
 use crate::transfer::Transfer;
@@ -63,19 +63,19 @@ fn is_proposed(status: ProposalStatus) -> bool
 fn has_other(
     transfers: &BTreeMap<TransactionId, Transfer>,
     id: TransactionId,
-    offered: &Content,
+    other: &Content,
 ) -> bool
-    ensures { (es : List Entry) → standing_of transfers.now id ≡ option_map of_transition (newest (transitions_of es) id) → result ≡ deciding.has_other (newest (transitions_of es) id) offered.now }
+    ensures { (es : List Entry) → transfer_state_of transfers.now id ≡ option_map of_transition (newest (transitions_of es) id) → result ≡ deciding.has_other (newest (transitions_of es) id) other.now }
 {
     match content(transfers, id) {
-        Some(recorded) => !recorded.same(offered),
+        Some(recorded) => !recorded.same(other),
         None => false,
     }
 }
 
 // Whether a record is about the transaction.
 fn is_known(transfers: &BTreeMap<TransactionId, Transfer>, id: TransactionId) -> bool
-    ensures { (es : List Entry) → standing_of transfers.now id ≡ option_map of_transition (newest (transitions_of es) id) → result ≡ history.is_known (transitions_of es) id }
+    ensures { (es : List Entry) → transfer_state_of transfers.now id ≡ option_map of_transition (newest (transitions_of es) id) → result ≡ history.is_known (transitions_of es) id }
 {
     status(transfers, id).is_some()
 }
@@ -107,7 +107,7 @@ pub(crate) fn proposal_refusal(
     transfers: &BTreeMap<TransactionId, Transfer>,
     proposal: &Proposal,
 ) -> Option<u16>
-    ensures { (es : List Entry) → ((t : Id) → standing_of transfers.now t ≡ option_map of_transition (newest (transitions_of es) t)) → result ≡ first_of (log_refusals scheme.now es (messages.Proposal proposal.now)) }
+    ensures { (es : List Entry) → ((t : Id) → transfer_state_of transfers.now t ≡ option_map of_transition (newest (transitions_of es) t)) → result ≡ first_of (log_refusals scheme.now es (messages.Proposal proposal.now)) }
 {
     if !is_log(proposal.to) {
         return Some(OTHER_ADDRESSEE);
@@ -133,7 +133,7 @@ pub(crate) fn notification_refusal(
     transfers: &BTreeMap<TransactionId, Transfer>,
     notification: &Notification,
 ) -> Option<u16>
-    ensures { (es : List Entry) → ((t : Id) → standing_of transfers.now t ≡ option_map of_transition (newest (transitions_of es) t)) → result ≡ first_of (log_refusals scheme.now es (messages.Notification notification.now)) }
+    ensures { (es : List Entry) → ((t : Id) → transfer_state_of transfers.now t ≡ option_map of_transition (newest (transitions_of es) t)) → result ≡ first_of (log_refusals scheme.now es (messages.Notification notification.now)) }
 {
     let (from, id) = (notification.from, notification.id);
     if !is_log(notification.to) {
@@ -145,7 +145,7 @@ pub(crate) fn notification_refusal(
     if !is_known(transfers, id) {
         return Some(UNKNOWN_TRANSACTION);
     }
-    let told = notification.notice.status();
+    let told = notification.notified.status();
     if is_from_another(from, id, content(transfers, id), told) {
         return Some(WRONG_PARTY);
     }
@@ -174,7 +174,7 @@ pub(crate) fn message_refusal(
     transfers: &BTreeMap<TransactionId, Transfer>,
     message: &Message,
 ) -> Option<u16>
-    ensures { (es : List Entry) → ((t : Id) → standing_of transfers.now t ≡ option_map of_transition (newest (transitions_of es) t)) → result ≡ first_of (log_refusals scheme.now es message.now) }
+    ensures { (es : List Entry) → ((t : Id) → transfer_state_of transfers.now t ≡ option_map of_transition (newest (transitions_of es) t)) → result ≡ first_of (log_refusals scheme.now es message.now) }
 {
     match message {
         Message::Proposal(proposal) => proposal_refusal(scheme, transfers, proposal),

@@ -1,7 +1,7 @@
 //! What the log's register says after a transaction has come to a status.
 ghost use Rattle.std.specs.Prelude.{◌≡◌, not, true, Some, OnErr, OnOk, option_copied, if◌then◌else◌};
 ghost use Rattle.std.specs.FinMap as map;
-ghost use Rattle.units.specs.Intervals.{marks_that};
+ghost use Rattle.units.specs.Intervals.{labels_that};
 ghost use Rattle.units.specs.declared.block.Unit.{Unit as Serial};
 ghost use Rattle.status.specs.Id.{same_id};
 ghost use Rattle.checks.specs.declared.register.UnderWay as declared;
@@ -32,7 +32,7 @@ pub(crate) fn begin(
 /// The transfer's units, which are those of the content alone, aren't under way any more. Takes no memory.
 pub(crate) fn end(under_way: &mut UnitMap<UnderWay>, content: Option<&Content>, id: TransactionId)
     requires { (s : Serial) (u : declared.UnderWay) → map.get under_way.old s ≡ Some u → same_id u.id id ≡ true → has_serial (option_copied content) s ≡ true }
-    ensures { (s : Serial) → map.get under_way.new s ≡ marks_that (λ u. not (same_id u.id id)) (map.get under_way.old s) }
+    ensures { (s : Serial) → map.get under_way.new s ≡ labels_that (λ u. not (same_id u.id id)) (map.get under_way.old s) }
 {
     if let Some(content) = content {
         under_way.remove_in(

@@ -1,12 +1,12 @@
 //! The log's journal and tables.
 ghost use Rattle.std.specs.Prelude.{◌≡◌, ◌⊎◌, true, false, List, nat_le, length, IfOk, IfErr, OnOk};
 ghost use Rattle.units.specs.RefusalCodes.{journal_full, out_of_memory};
-ghost use Rattle.protocol.specs.Deciding.{enters};
+ghost use Rattle.protocol.specs.Deciding.{recorded_if_room};
 ghost use Rattle.protocol.specs.History.{Transition, messages_of};
 ghost use Rattle.protocol.specs.Verdict.{history};
 ghost use Rattle.units.specs.declared.code.Node.TheVariants.{Itl};
 ghost use Rattle.wire.specs.declared.input.Input.TheVariants as inputs;
-ghost use Rattle.log_core.specs.Effects.{IsEffect, standing_in};
+ghost use Rattle.log_core.specs.Effects.{IsEffect, transfer_state_in};
 ghost use Rattle.log_core.specs.Kept.{IsKept};
 ghost use Rattle.log_core.specs.Taking.{IsMessageOrCleanUp, Takes, verdict_due};
 ghost use Rattle.log_core.specs.Transfers.{IsOfKnown};
@@ -26,8 +26,8 @@ use units::refusal_code::{JOURNAL_FULL, NO_ROW, UNKNOWN_REGISTRY};
 use units::{Code, Items, NoMemory, Refusal};
 use wire::{Input, Message, Number};
 
-/// The log's journal, and what is read off its history: what it knows of units and registries, its transactions, those of
-/// them that stand Checked by age, and what it sent.
+/// The log's journal, and what is read off its history: what it knows of units and registries, its transactions,
+/// those of them that stand Checked by age, and what it sent.
 #[derive(Debug, Drop)]
 pub(crate) struct Tables {
     pub journal: Vec<Input>,
@@ -38,8 +38,8 @@ pub(crate) struct Tables {
 }
 
 impl Tables {
-    // A copy of the input, for which the journal has room. Refused with `JOURNAL_FULL` where it has as many records as the scheme
-    // allows, and with `OUT_OF_MEMORY`.
+    // A copy of the input, for which the journal has room. Refused with `JOURNAL_FULL` where it has as many records
+    // as the scheme allows, and with `OUT_OF_MEMORY`.
     fn fitting(&self, scheme: &Scheme, input: &Input) -> Result<Input, Refusal>
         ensures copy { IfOk result (λ i. i ≡ input.now) }
         ensures ok { OnOk result (nat_le scheme.now.records (length self.now.journal.items) ≡ false) }
@@ -62,8 +62,8 @@ impl Tables {
     ) -> Result<Stepped, Refusal>
         requires kept { IsKept scheme.now self.old }
         requires input { IsMessageOrCleanUp input.now }
-        requires transitions { (xs : List Transition) × (verdict_due scheme.now self.old input.now ≡ enters scheme.now (history scheme.now Itl self.old.journal.items) xs) × (messages ≡ messages_of xs) × IsEffect xs moment.seconds effect }
-        requires known { IsOfKnown (standing_in self.old) effect }
+        requires transitions { (xs : List Transition) × (verdict_due scheme.now self.old input.now ≡ recorded_if_room scheme.now (history scheme.now Itl self.old.journal.items) xs) × (messages ≡ messages_of xs) × IsEffect xs moment.seconds effect }
+        requires known { IsOfKnown (transfer_state_in self.old) effect }
         ensures { Takes scheme.now self.old self.new input.now result }
     {
         let record = self.fitting(scheme, input)?;

@@ -6,7 +6,7 @@ ghost use Rattle.protocol.specs.Verdict.{history};
 ghost use Rattle.units.specs.declared.code.Node.TheVariants.{Itl};
 ghost use Rattle.wire.specs.declared.input.Input.TheVariants as inputs;
 ghost use Rattle.wire.specs.declared.message.Message.TheVariants as messages;
-ghost use Rattle.log_core.specs.Effects.{standing_in};
+ghost use Rattle.log_core.specs.Effects.{transfer_state_in};
 ghost use Rattle.log_core.specs.Kept.{IsKept};
 ghost use Rattle.log_core.specs.Taking.{Takes};
 ghost use Rattle.log_core.specs.Transfers.{IsWithdrawal};
@@ -69,7 +69,7 @@ impl Tables {
         match message {
             Message::Proposal(proposal) => self.check(alloc, scheme, input, proposal, moment),
             Message::Notification(notification) => {
-                self.hear(alloc, scheme, input, notification, moment)
+                self.take_notification(alloc, scheme, input, notification, moment)
             }
             Message::Request(request) => self.withdraw(alloc, scheme, input, request, moment),
         }
@@ -102,7 +102,7 @@ impl Tables {
     }
 
     // Takes a notification that isn't refused for what it is.
-    fn hear(
+    fn take_notification(
         &mut self,
         alloc: Global,
         scheme: &Scheme,
@@ -116,7 +116,7 @@ impl Tables {
         ensures { Takes scheme.now self.old self.new input.now result }
     {
         let id = notification.id;
-        match self.on_notice(alloc, id, &notification.notice)? {
+        match self.on_notified(alloc, id, &notification.notified)? {
             Decision::Moves { new, messages } => {
                 let effect = Effect::Settle { id, new };
                 self.record(scheme, input, effect, moment, messages)
@@ -153,7 +153,7 @@ impl Tables {
 
     // What a request by which a transaction moves does; or `NoMemory`.
     fn withdrawal(&self, alloc: Global, id: TransactionId) -> Result<Effect, NoMemory>
-        ensures { IfOk result (IsWithdrawal id (standing_in self.now id)) }
+        ensures { IfOk result (IsWithdrawal id (transfer_state_in self.now id)) }
     {
         if status(&self.transfers, id).is_none() {
             return Ok(Effect::Begin {

@@ -3,7 +3,7 @@ ghost use Rattle.std.specs.Prelude.{◌≡◌, Some};
 ghost use Rattle.log_core.specs.Readings.{of_transfer};
 ghost use Rattle.log_core.specs.Transfers as transfers;
 
-use status::{Content, Known, Moment, Status};
+use status::{Content, Moment, RecordedStatus, Status};
 
 /// A transaction: its status, its content where that is known, and since when it has that status.
 #[derive(Debug, Drop)]
@@ -15,12 +15,12 @@ pub(crate) struct Transfer {
 
 impl Transfer {
     /// What the status table asks of it.
-    pub(crate) fn known(&self) -> Known
-        ensures { result ≡ transfers.known_standing (Some (of_transfer self.now)) }
+    pub(crate) fn known(&self) -> RecordedStatus
+        ensures { result ≡ transfers.known_transfer_state (Some (of_transfer self.now)) }
     {
         match self.content {
-            Some(_) => Known::Stands(self.status),
-            None => Known::Bare,
+            Some(_) => RecordedStatus::Stands(self.status),
+            None => RecordedStatus::Bare,
         }
     }
 }

@@ -2,13 +2,13 @@
 ghost use Rattle.std.specs.BTreeMap as tree;
 ghost use Rattle.std.specs.Prelude.{◌≡◌, None, Some, OnErr, OnOk, option_map, option_copied, if◌then◌else◌};
 ghost use Rattle.log_core.specs.Transfers as asked;
-ghost use Rattle.log_core.specs.Transfers.{came_at, standing_of};
-ghost use Rattle.log_core.specs.Effects.{standing_content};
+ghost use Rattle.log_core.specs.Transfers.{came_at, transfer_state_of};
+ghost use Rattle.log_core.specs.Effects.{transfer_state_content};
 ghost use Rattle.status.specs.Id.{id_cmp, same_id};
 ghost use Rattle.status.specs.declared.id.TransactionId.{TransactionId};
 
 use crate::transfer::Transfer;
-use status::{Content, Known, Moment, Status, TransactionId};
+use status::{Content, Moment, RecordedStatus, Status, TransactionId};
 use std::collections::BTreeMap;
 use units::NoMemory;
 
@@ -48,12 +48,15 @@ pub(crate) fn set_status(
 }
 
 /// What the status table asks of the transaction.
-pub(crate) fn known(transfers: &BTreeMap<TransactionId, Transfer>, id: TransactionId) -> Known
-    ensures { result ≡ asked.known_standing (standing_of transfers.now id) }
+pub(crate) fn known(
+    transfers: &BTreeMap<TransactionId, Transfer>,
+    id: TransactionId,
+) -> RecordedStatus
+    ensures { result ≡ asked.known_transfer_state (transfer_state_of transfers.now id) }
 {
     match transfers.get(&id) {
         Some(transfer) => transfer.known(),
-        None => Known::Unknown,
+        None => RecordedStatus::Unknown,
     }
 }
 
@@ -62,7 +65,7 @@ pub(crate) fn content(
     transfers: &BTreeMap<TransactionId, Transfer>,
     id: TransactionId,
 ) -> Option<&Content>
-    ensures { option_copied result ≡ standing_content (standing_of transfers.now id) }
+    ensures { option_copied result ≡ transfer_state_content (transfer_state_of transfers.now id) }
 {
     let transfer = transfers.get(&id)?;
     transfer.content.as_ref()
@@ -73,7 +76,7 @@ pub(crate) fn status(
     transfers: &BTreeMap<TransactionId, Transfer>,
     id: TransactionId,
 ) -> Option<Status>
-    ensures { result ≡ option_map (λ x. x.status) (standing_of transfers.now id) }
+    ensures { result ≡ option_map (λ x. x.status) (transfer_state_of transfers.now id) }
 {
     let transfer = transfers.get(&id)?;
     Some(transfer.status)

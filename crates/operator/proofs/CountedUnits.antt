@@ -2,7 +2,7 @@
 use Rattle.std.proofs.Common.{◌≡◌, ◌≤◌, ◌<◌, ◌+◌, ℕ, List, [], ◌∷◌, ◌++◌, map, refl, sym, ap, subst, ◌∙◌, arith}
 use Rattle.std.specs.Prelude.{min, sum_by}
 use Rattle.std.proofs.lemmas.List.Sums.{sum_by-cons}
-use Rattle.accounts.specs.declared.lot.Line.{Line}
+use Rattle.accounts.specs.declared.unit_holding.HeldBlock.{HeldBlock}
 use Rattle.scheme.specs.declared.registries.Scheme.{Scheme}
 use Rattle.protocol.specs.Table.{due}
 use Rattle.protocol.specs.World.{World, opening, outcomes, run}
@@ -17,7 +17,7 @@ use Rattle.operator.specs.Table.{AddUp, IsReport, IsTable, outcome_lines}
 
 -- the law: the units of all lines and of all that is due are those that the scheme allots
 abbrev pub Sums : Type 0
-Sums = (scheme : Scheme) (events : List WorldEvent) (lines : List (List Line)) → AreLines (run (opening scheme) events) scheme.members lines
+Sums = (scheme : Scheme) (events : List WorldEvent) (lines : List (List HeldBlock)) → AreLines (run (opening scheme) events) scheme.members lines
     → sum_by (λ ls. sum_by held_units ls) lines + sum_by due_units (due (run (opening scheme) events)) ≡ allotted_units scheme
 
 -- what a scheme allots is shown as it is

@@ -8,4 +8,6 @@ pub mod ShowWords
 pub mod WorkedWords
 pub mod NumberedLines
 pub mod UsageFaults
+pub mod Pages
+pub mod ShownPages
 pub mod ShowFaults

@@ -3,8 +3,8 @@ use Rattle.std.proofs.Common.{◌≡◌, ℕ, List, Option, Some, None, IfSome, 
 use Rattle.clap.specs.Words.{Row, rows_of, first_of, first_value, found_of, subcommand_name_of, subcommand_rows_of}
 use Rattle.clap.specs.declared.parser.matches.ArgMatches.{ArgMatches}
 use Rattle.clap.proofs.WalkLemmas.{first_value-rows}
-use Rattle.operator.specs.declared.words.Action.{Action}
-use Rattle.operator.specs.declared.words.Action.TheVariants.{Rehearse, Show}
+use Rattle.operator.specs.declared.command_line.Action.{Action}
+use Rattle.operator.specs.declared.command_line.Action.TheVariants.{Rehearse, Show}
 use Rattle.operator.specs.Words.{NamesAction, IsShow, argument_of}
 
 same_values : (v w : List ℕ → Option (List ℕ)) → ((name : List ℕ) → v name ≡ w name) → (a : Action) → IsShow v a → IsShow w a

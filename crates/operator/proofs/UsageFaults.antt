@@ -5,8 +5,8 @@ use Rattle.clap.specs.declared.error.Error.{Error}
 use Rattle.clap.specs.declared.error.kind.ErrorKind.TheVariants.{OutOfMemory, DisplayHelp, DisplayVersion}
 use Rattle.clap.proofs.OnLiterals.{clap_on_literals}
 use Rattle.operator.specs.Words.{IsAskedFor, IsFaultOf, IsUsageFault, faults_in, kyoto_link}
-use Rattle.operator.specs.declared.words.UsageFault.{UsageFault}
-use Rattle.operator.specs.declared.words.UsageFault.TheVariants.{Usage, Help, NoMemory}
+use Rattle.operator.specs.declared.command_line.UsageFault.{UsageFault}
+use Rattle.operator.specs.declared.command_line.UsageFault.TheVariants.{Usage, Help, NoMemory}
 
 is_free : is_simple_and_free kyoto_link ≡ true
 unfolding clap_on_literals

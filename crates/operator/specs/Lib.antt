@@ -7,3 +7,4 @@ pub mod Table
 pub mod SchemeFile
 pub mod Rehearsal
 pub mod Show
+pub mod Pages

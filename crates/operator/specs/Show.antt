@@ -1,9 +1,10 @@
 -- What `show` writes of a store, and why it doesn't.
-use Rattle.std.specs.Prelude.{◌≡◌, ◌≢◌, ◌<◌, ◌+◌, ◌++◌, ℕ, List, [], ◌∷◌, length, take, codes, decimal, Option}
+use Rattle.std.specs.Prelude.{◌≡◌, ◌≢◌, ◌<◌, ◌+◌, ◌++◌, ℕ, List, [], ◌∷◌, length, take, codes, decimal, Option, ◌⊎◌, IsTrue}
 use Rattle.std.specs.Io.KnownBytes.{Appends, Keeps}
 use Rattle.units.specs.declared.code.Node.{Node}
 use Rattle.wire.specs.Records.{record_text}
 use Rattle.wire.specs.declared.input.Input.{Input}
+use Rattle.durable.specs.Faults.{is_device_fault}
 use Rattle.durable.specs.Records.{Places, AreRecords, IsDamagedAt}
 use Rattle.durable.specs.declared.fault.StoreFault.{StoreFault}
 use Rattle.durable.specs.declared.fault.StoreFault.TheVariants.{Damaged, NoMemory as OutOfMemory}
@@ -23,7 +24,8 @@ record_lines place (input ∷ inputs) = record_line place input ++ record_lines 
 abbrev pub shown : List Input → List ℕ
 shown inputs = record_lines 0 inputs ++ codes "end\n"
 
--- the fault is that of the node's store, and not that memory ran out. Where the store is honest, a place that is told as damaged is
+-- the fault is that of the node's store, and not that memory ran out. Where the store is honest, a place that is
+-- told as damaged is
 pub record IsToldFault (node told : Node) (fault : StoreFault) (honest : Type 0) (places : Places) : Type 0 where
   pub whose : told ≡ node
   pub named : fault ≢ OutOfMemory
@@ -36,10 +38,15 @@ pub record IsCutOff (count : ℕ) (honest : Type 0) (places : Places) (old new :
   pub fewer : count < length (shown inputs)
   pub written : Appends old new (take count (shown inputs))
 
--- nothing was written, or the first bytes of what is shown, fewer than all
+-- some of the first bytes of what is shown were written, and not all
+abbrev pub IsPartlyShown : (honest : Type 0) → Places → (old new : Option (List ℕ)) → Type 0
+IsPartlyShown honest places v w = (count : ℕ) × IsCutOff count honest places v w
+
+-- a fault of the store comes before anything is written; where the store is honest, only its device's comes later too
 abbrev pub FailsToShow : OpFault → Node → (honest : Type 0) → Places → (old new : Option (List ℕ)) → Type 0
-FailsToShow (op_fault.Store told fault) node honest places v w = IsToldFault node told fault honest places × Keeps v w
-FailsToShow op_fault.NoMemory node honest places v w = Keeps v w
+FailsToShow (op_fault.Store told fault) node honest places v w =
+    IsToldFault node told fault honest places × (Keeps v w ⊎ ((honest → IsTrue (is_device_fault fault)) × IsPartlyShown honest places v w))
+FailsToShow op_fault.NoMemory node honest places v w = Keeps v w ⊎ IsPartlyShown honest places v w
 FailsToShow (op_fault.Write count) node honest places v w = IsCutOff count honest places v w
 FailsToShow (op_fault.Input line cause) node honest places v w = ⊥
 FailsToShow op_fault.Read node honest places v w = ⊥

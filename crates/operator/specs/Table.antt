@@ -14,13 +14,13 @@ use Rattle.totals.specs.NumberOfUnits.{allotted_units}
 use Rattle.world.specs.Stocks.{AreStocks}
 use Rattle.world.specs.declared.views.Stock.{Stock}
 use Rattle.report_lines.specs.ReportLines.{held_shown, outcome_line, owed_lines, owed_shown, registry_lines, transaction_line}
-use Rattle.report_lines.specs.declared.standing.Standing.{Standing}
+use Rattle.report_lines.specs.declared.transactions.TransactionRow.{TransactionRow}
 
 -- ---- the table
 
 -- where a transfer stands at its initiator, at the log and at its acquirer
-abbrev pub standing_of : World → Proposal → Standing
-standing_of w p = record {
+abbrev pub row_of : World → Proposal → TransactionRow
+row_of w p = record {
   id = p.id;
   acquirer = p.content.acquirer;
   at_initiator = stands (transitions_of (live_of w (Registry p.id.code))) p.id;
@@ -30,7 +30,7 @@ standing_of w p = record {
 
 -- a line for each transfer, by code and then by number
 abbrev pub transaction_lines : World → List ℕ
-transaction_lines w = flat_map (λ p. transaction_line (standing_of w p)) (transactions w)
+transaction_lines w = flat_map (λ p. transaction_line (row_of w p)) (transactions w)
 
 abbrev pub stock_lines : Stock → List ℕ
 stock_lines s = registry_lines s.code s.lines
@@ -41,7 +41,8 @@ pub record IsTable (w : World) (text : List ℕ) : Type 0 where
   pub are : AreStocks w w.scheme.members stocks
   pub spelled : text ≡ transaction_lines w ++ (flat_map stock_lines stocks ++ owed_lines (due w))
 
--- the numbers after `held` of all registries and the one after `owed` are together the number of units that the scheme allots
+-- the numbers after `held` of all registries and the one after `owed` are together the number of units that the
+-- scheme allots
 abbrev pub AddUp : Scheme → List Stock → List Proposal → Type 0
 AddUp scheme stocks owing = sum_by (λ s. held_shown s.lines) stocks + owed_shown owing ≡ allotted_units scheme
 

@@ -8,10 +8,10 @@ use Rattle.clap.specs.declared.error.Error.{Error}
 use Rattle.clap.specs.declared.error.kind.ErrorKind.{ErrorKind}
 use Rattle.clap.specs.declared.error.kind.ErrorKind.TheVariants.{OutOfMemory, DisplayHelp, DisplayVersion}
 use Rattle.clap.specs.declared.parser.matches.ArgMatches.{ArgMatches}
-use Rattle.operator.specs.declared.words.Action.{Action}
-use Rattle.operator.specs.declared.words.Action.TheVariants.{Rehearse, Show}
-use Rattle.operator.specs.declared.words.UsageFault.{UsageFault}
-use Rattle.operator.specs.declared.words.UsageFault.TheVariants.{Usage, Help, NoMemory}
+use Rattle.operator.specs.declared.command_line.Action.{Action}
+use Rattle.operator.specs.declared.command_line.Action.TheVariants.{Rehearse, Show}
+use Rattle.operator.specs.declared.command_line.UsageFault.{UsageFault}
+use Rattle.operator.specs.declared.command_line.UsageFault.TheVariants.{Usage, Help, NoMemory}
 
 -- the program, which has a version and demands a subcommand
 abbrev pub program : App

@@ -2,17 +2,17 @@
 #![tactic(auto)]
 
 mod calls;
+mod command_line;
 mod fault;
 mod rehearsal;
 mod report;
 mod scheme_file;
 mod showing;
 mod streams;
-mod words;
 
+pub use command_line::{Action, UsageFault, parse_words};
 pub use fault::{Cause, OpFault, store_fault};
 pub use rehearsal::rehearse;
 pub use scheme_file::{node_of, read_scheme};
 pub use showing::show;
 pub use streams::write_out;
-pub use words::{Action, UsageFault, parse_words};

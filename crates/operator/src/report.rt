@@ -1,20 +1,20 @@
 //! The table of a world.
 ghost use Rattle.std.specs.Prelude.{◌≡◌, ◌++◌, ℕ, List, OnOk, flat_map, map, string_bytes};
-ghost use Rattle.operator.specs.Table.{IsTable, standing_of, stock_lines, transaction_lines};
+ghost use Rattle.operator.specs.Table.{IsTable, row_of, stock_lines, transaction_lines};
 
-use report_lines::{Standing, push_owed, push_registry, push_standing};
+use report_lines::{TransactionRow, push_owed, push_registry, push_transaction};
 use std::alloc::Global;
 use units::{NoMemory, Node};
 use wire::Proposal;
 use world::{Stock, World};
 
 // Where a transfer stands at its three nodes.
-fn standing_of(world: &World, proposal: &Proposal) -> Standing
-    ensures { result ≡ standing_of world.now proposal.now }
+fn row_of(world: &World, proposal: &Proposal) -> TransactionRow
+    ensures { result ≡ row_of world.now proposal.now }
 {
     let id = proposal.id;
     let acquirer = proposal.content.acquirer();
-    Standing {
+    TransactionRow {
         id,
         acquirer,
         at_initiator: world.status(Node::Registry(id.code), id),
@@ -28,7 +28,7 @@ fn push_transactions(alloc: Global, text: &mut String, world: &World) -> Result<
 {
     let transactions = world.transactions(alloc)?;
     for proposal in transactions.as_slice() {
-        push_standing(text, &standing_of(world, *proposal))?;
+        push_transaction(text, &row_of(world, *proposal))?;
     }
     Ok(())
 }

@@ -44,8 +44,8 @@ fn text_in(bytes: &[u8]) -> &[u8]
 
 /// The scheme of a file, which is one JSON text, with or without one newline at its end.
 ///
-/// `Read`: the file can't be read. `Input`, of line 1: `TooLong`, where the text without that newline has more than 1,048,576
-/// bytes, or why it is no scheme. `NoMemory`: memory was refused.
+/// `Read`: the file can't be read. `Input`, of line 1: `TooLong`, where the text without that newline has more than
+/// 1,048,576 bytes, or why it is no scheme. `NoMemory`: memory was refused.
 pub fn read_scheme<R: Read>(alloc: Global, reader: &mut R) -> Result<Scheme, OpFault>
     ensures ok { IfOk result (λ s. ReadsScheme (R.remaining reader.old) (R.remaining reader.new) s) }
     ensures err { IfErr result (λ e. FailsToRead e (R.remaining reader.old) (R.remaining reader.new)) }

@@ -1,11 +1,12 @@
-//! The command `show`: the records of one node's store.
-ghost use Rattle.std.specs.Prelude.{◌≡◌, ◌≢◌, ◌++◌, List, Err, IfOk, IfErr, IsTrue, OnOk, false};
+//! The command `show`: the records of one node's store, read by pages, so that one page at a time is in memory.
+ghost use Rattle.std.specs.Prelude.{◌≡◌, ◌≢◌, ◌≤◌, ◌<◌, ◌+◌, ◌-◌, ◌^◌, ◌++◌, ℕ, List, length, min, Err, IfOk, IfErr, IsTrue, OnOk, false};
 ghost use Rattle.std.specs.Io.KnownBytes.{Appends};
 ghost use Rattle.wire.specs.declared.input.Input.{Input};
 ghost use Rattle.durable.specs.Faults.{is_device_fault, IsReadFault};
-ghost use Rattle.durable.specs.Records.{AreRecords};
+ghost use Rattle.durable.specs.Records.{AreRecords, IsDamagedAt};
 ghost use Rattle.durable.specs.declared.fault.StoreFault.{StoreFault};
-ghost use Rattle.operator.specs.Show.{FailsToShow, record_line, shown};
+ghost use Rattle.operator.specs.Pages.{Reads, Stops, Shows, FailsToWrite, FailsWithin};
+ghost use Rattle.operator.specs.Show.{FailsToShow, record_line, record_lines, shown};
 
 use crate::fault::{OpFault, store_fault};
 use crate::streams::write_text;
@@ -15,6 +16,12 @@ use std::alloc::Global;
 use std::io::Write;
 use units::{NoMemory, Node};
 use wire::{Input, encode_input};
+
+/// How many records are in memory at once.
+const PAGE: u64 = 256;
+
+/// Each record's place is below this number.
+const PLACE_LIMIT: u64 = 9_223_372_036_854_775_808;
 
 /// Adds the line of the record at that place.
 fn push_record(alloc: Global, text: &mut Vec<u8>, place: u64, input: &Input) -> Result<(), NoMemory>
@@ -29,24 +36,131 @@ fn push_record(alloc: Global, text: &mut Vec<u8>, place: u64, input: &Input) -> 
     Ok(())
 }
 
-/// The lines of the records, from place 0 on, and the last line.
-fn shown(alloc: Global, inputs: &[Input]) -> Result<Vec<u8>, NoMemory>
-    ensures { IfOk result (λ text. text.items ≡ shown inputs.now) }
+/// The lines of the records, the first of which is at place `first`.
+fn lines_of(alloc: Global, first: u64, inputs: &[Input]) -> Result<Vec<u8>, NoMemory>
+    requires { first + length inputs.now < 2 ^ 64 }
+    ensures { IfOk result (λ text. text.items ≡ record_lines first inputs.now) }
 {
     let mut text = Vec::new(alloc);
-    let mut place = 0;
+    let mut place = first;
     for input in inputs {
         push_record(alloc, &mut text, place, input)?;
         place += 1;
     }
-    text.extend_from_slice(b"end\n")?;
     Ok(text)
+}
+
+/// Reads all records by pages, keeps none, and returns how many there are.
+///
+/// Fails as `NodeStore::load` does, and with `NoMemory` where there are `PLACE_LIMIT` records, which no
+/// honest store has.
+fn count_records<S: NodeStore>(store: &mut S) -> Result<u64, StoreFault>
+    ensures ok { IfOk result (λ count. (inputs : List Input) × (length inputs ≡ count) × Reads S.is_honest S.content S.must_reopen S.faults store.old store.new 0 inputs
+        × (S.is_honest store.new → AreRecords (S.content store.old) inputs)) }
+    ensures runs { OnOk result (S.must_reopen store.new ≡ false) }
+    ensures err { IfErr result (λ fault. Stops S.is_honest S.content S.must_reopen S.faults store.old store.new fault) }
+    ensures damaged { S.is_honest store.new → IfErr result (λ fault. (p : ℕ) → fault ≡ StoreFault.Damaged p → IsDamagedAt p (S.content store.old)) }
+{
+    let mut count = 0u64;
+    // A store that isn't honest may return full pages without end. Each of them counts for 256 records, so the
+    // loop ends.
+    while count < PLACE_LIMIT {
+        let page = store.load_page(count, PAGE)?;
+        let few = PAGE.min(page.len() as u64);
+        count += few;
+        if few < PAGE {
+            return Ok(count);
+        }
+    }
+    Err(StoreFault::NoMemory)
+}
+
+/// The lines of the page that begins at `place`, of a store that had `count` records when they were counted.
+/// Records after those are left out.
+///
+/// Fails as `NodeStore::load_page` does, and with `Damaged` at the first place that has no record any more,
+/// which comes only of a store that isn't honest.
+fn page_text<S: NodeStore>(
+    alloc: Global,
+    store: &mut S,
+    place: u64,
+    count: u64,
+) -> Result<Vec<u8>, StoreFault>
+    requires { place < count }
+    ensures ok { IfOk result (λ text. (page : List Input) × (length page ≡ min 256 (count - place)) × (text.items ≡ record_lines place page)
+        × Reads S.is_honest S.content S.must_reopen S.faults store.old store.new place page) }
+    ensures runs { OnOk result (S.must_reopen store.new ≡ false) }
+    ensures err { IfErr result (λ fault. Stops S.is_honest S.content S.must_reopen S.faults store.old store.new fault) }
+    ensures sound { S.is_honest store.new → (all : List Input) → AreRecords (S.content store.old) all → count ≤ length all
+        → IfErr result (λ fault. (p : ℕ) → fault ≢ StoreFault.Damaged p) }
+{
+    let page = store.load_page(place, PAGE)?;
+    let few = PAGE.min(count - place) as usize;
+    if page.len() < few {
+        return Err(StoreFault::Damaged(place + page.len() as u64));
+    }
+    let text = lines_of(alloc, place, &page.as_slice()[..few])?;
+    Ok(text)
+}
+
+/// Writes the text, which comes after `written` bytes, and returns how many bytes that is in all.
+///
+/// `Write`: the writer failed, after the number of bytes that the fault tells, the earlier ones included.
+/// `NoMemory`: the number of all bytes has more than 64 bits; nothing of the text is written.
+fn write_more<W: Write>(writer: &mut W, written: u64, text: &[u8]) -> Result<u64, OpFault>
+    ensures ok { IfOk result (λ sum. (sum ≡ written + length text.now) × Appends (W.contents writer.old) (W.contents writer.new) text.now) }
+    ensures err { IfErr result (λ e. FailsWithin e written text.now (W.contents writer.old) (W.contents writer.new)) }
+{
+    let Some(sum) = written.checked_add(text.len() as u64) else {
+        return Err(OpFault::NoMemory);
+    };
+    match write_text(writer, text) {
+        Ok(()) => Ok(sum),
+        Err(fault) => Err(OpFault::Write(written + fault.written as u64)),
+    }
+}
+
+/// Reads the records again, of which there are `count`, and writes the lines of each page. Returns how many
+/// bytes these are.
+///
+/// `Store`: a page could not be read again. `Write`: the writer failed, after the number of bytes that the
+/// fault tells. `NoMemory`: memory was refused. After each of them some of the first bytes are written.
+fn write_records<S: NodeStore, W: Write>(
+    alloc: Global,
+    node: Node,
+    store: &mut S,
+    writer: &mut W,
+    count: u64,
+) -> Result<u64, OpFault>
+    requires { S.must_reopen store.old ≡ false }
+    ensures ok { IfOk result (λ written. Shows S.is_honest S.content S.must_reopen S.faults store.old store.new (W.contents writer.old) (W.contents writer.new) count written) }
+    ensures err { IfErr result (λ e. FailsToWrite e node count (S.is_honest store.new) (S.content store.old) (W.contents writer.old) (W.contents writer.new)) }
+    ensures stops { IfErr result (λ e. (fault : StoreFault) × Stops S.is_honest S.content S.must_reopen S.faults store.old store.new fault
+        × ((f : StoreFault) → e ≡ OpFault.Store node f → f ≡ fault)) }
+{
+    let mut place = 0;
+    let mut written = 0;
+    while place < count {
+        let text = match page_text(alloc, store, place, count) {
+            Ok(text) => text,
+            Err(fault) => return Err(store_fault(node, fault)),
+        };
+        written = write_more(writer, written, text.as_slice())?;
+        place += PAGE.min(count - place);
+    }
+    Ok(written)
 }
 
 /// Writes the records of the node's store, each as place, space and text, and then `end`.
 ///
-/// `Store`: the store could not be loaded; nothing is written. `Write`: the writer failed, after the number of bytes that the fault tells. `NoMemory`:
-/// memory was refused; nothing is written.
+/// It goes over the store twice, and holds one page of records at a time: first it reads all of them, so that
+/// nothing is written of a store with a damaged record; then it reads them again and writes their lines.
+///
+/// `Store`: the store could not be read. Nothing is written, or the device failed in the second reading, and
+/// some of the first bytes are written; of a store that isn't honest, also one that had fewer records then.
+/// `Write`: the writer failed, after the number of bytes that the fault tells. `NoMemory`: memory was refused;
+/// nothing is written, or some of the first bytes. It is also told of more records or bytes than 64 bits
+/// count.
 pub fn show<S: NodeStore, W: Write>(
     alloc: Global,
     node: Node,
@@ -56,21 +170,17 @@ pub fn show<S: NodeStore, W: Write>(
     ensures ok { OnOk result ((inputs : List Input) × (S.is_honest store.new → AreRecords (S.content store.old) inputs)
         × Appends (W.contents writer.old) (W.contents writer.new) (shown inputs)) }
     ensures err { IfErr result (λ e. FailsToShow e node (S.is_honest store.new) (S.content store.old) (W.contents writer.old) (W.contents writer.new)) }
-    ensures reopen { IsTrue (S.is_waiting store.old) → (result ≡ Err (OpFault.Store node StoreFault.Reopen)) × (store.new ≡ store.old) }
-    ensures named { S.is_waiting store.old ≡ false → IfErr result (λ e. (f : StoreFault) → e ≡ OpFault.Store node f → IsReadFault f) }
+    ensures reopen { IsTrue (S.must_reopen store.old) → (result ≡ Err (OpFault.Store node StoreFault.Reopen)) × (store.new ≡ store.old) }
+    ensures named { S.must_reopen store.old ≡ false → IfErr result (λ e. (f : StoreFault) → e ≡ OpFault.Store node f → IsReadFault f) }
     ensures cause { IfErr result (λ e. (f : StoreFault) → e ≡ OpFault.Store node f → IsTrue (is_device_fault f) → S.faults store.new ≢ S.faults store.old) }
     ensures honest { S.is_honest store.new → S.is_honest store.old }
-    ensures kept { S.is_honest store.new → S.is_waiting store.new ≡ false → S.content store.new ≡ S.content store.old }
+    ensures kept { S.is_honest store.new → S.must_reopen store.new ≡ false → S.content store.new ≡ S.content store.old }
 {
-    let inputs = match store.load() {
-        Ok(inputs) => inputs,
+    let count = match count_records(store) {
+        Ok(count) => count,
         Err(fault) => return Err(store_fault(node, fault)),
     };
-    let Ok(text) = shown(alloc, inputs.as_slice()) else {
-        return Err(OpFault::NoMemory);
-    };
-    match write_text(writer, text.as_slice()) {
-        Ok(()) => Ok(()),
-        Err(fault) => Err(OpFault::Write(fault.written as u64)),
-    }
+    let written = write_records(alloc, node, store, writer, count)?;
+    write_more(writer, written, b"end\n")?;
+    Ok(())
 }

@@ -26,7 +26,8 @@ const MOST_INTERRUPTED: u64 = 20_000;
 /// Why a reader was not read to its end.
 #[derive(Clone, Copy, Debug, PartialEq, Eq)]
 pub enum ReadFault {
-    /// A read failed and was not interrupted, or the end didn't come in `MOST_READS` reads. It has the reads that there were.
+    /// A read failed and was not interrupted, or the end didn't come in `MOST_READS` reads. It has the reads that
+    /// there were.
     Read(Calls),
     /// Out of memory.
     NoMemory,
@@ -77,8 +78,8 @@ pub fn read_input<R: Read>(alloc: Global, reader: &mut R) -> Result<Vec<u8>, Rea
 
 /// Writes the bytes. An interrupted write is tried again.
 ///
-/// Fails where a write failed and was not interrupted, or took no byte, and at the 20,000th interrupted one. The error has
-/// how many of the first bytes were written; no others were.
+/// Fails where a write failed and was not interrupted, or took no byte, and at the 20,000th interrupted one. The
+/// error has how many of the first bytes were written; no others were.
 pub fn write_text<W: Write>(writer: &mut W, bytes: &[u8]) -> Result<(), WriteFault>
     ensures ok { OnOk result (Appends (W.contents writer.old) (W.contents writer.new) bytes.now) }
     ensures err { IfErr result (λ f. Appends (W.contents writer.old) (W.contents writer.new) (take f.written bytes.now)) }

@@ -1,4 +1,5 @@
--- What is read off the records of a history by what they did: all messages, acknowledgements, and the first records; and one record more.
+-- What is read off the records of a history by what they did: all messages, acknowledgements, and the first records;
+-- and one record more.
 use Rattle.std.proofs.Common.{◌≡◌, inl, inr, ℕ, ◌||◌, Bool, true, false, cond, List, [], ◌∷◌, ◌++◌, take, drop, length, refl, sym, ap, ◌∙◌, arith, append_assoc, append-nil, length-append, take-append-drop}
 use Rattle.std.specs.Prelude.{nat_le}
 use Rattle.std.proofs.Math.Seq.{take-append_seam}
@@ -12,11 +13,11 @@ use Rattle.wire.specs.declared.input.Input.TheVariants.{Propose, Request, OpenAc
 use Rattle.wire.specs.declared.message.Message.{Message}
 use Rattle.scheme.specs.declared.registries.Scheme.{Scheme}
 use Rattle.protocol.proofs.Histories.{history_snoc, history_from_append, length_history}
-use Rattle.protocol.specs.Deciding.{Enters, IsRepeat, IsRefused, acknowledge}
+use Rattle.protocol.specs.Deciding.{IsRecorded, IsRepeat, IsRefused, acknowledge}
 use Rattle.protocol.specs.History as history
 use Rattle.protocol.specs.History.{Entry, messages_of, sends}
 use Rattle.protocol.specs.Verdict as verdicts
-use Rattle.protocol.specs.Verdict.{verdict, made, extend, history_from}
+use Rattle.protocol.specs.Verdict.{verdict, transitions_made, extend, history_from}
 use Rattle.outbox.specs.Outgoing.{did, outgoing}
 use Rattle.outbox.specs.Sending.{Sent, sent_by_one, messages, acknowledges_key, is_key_acknowledged}
 use Rattle.outbox.proofs.KeptTables.{acknowledged_more}
@@ -26,17 +27,17 @@ messages_snoc [] x = append-nil (sent_by_one x)
 messages_snoc (y ∷ S) x = ap (λ (l : List Message). sent_by_one y ++ l) (messages_snoc S x) ∙ sym (append_assoc (sent_by_one y) (messages S) (sent_by_one x))
 
 -- an acknowledgement makes no transition
-none_made : (scheme : Scheme) (es : List Entry) (key : ℕ) → made (acknowledge scheme es key) ≡ []
+none_made : (scheme : Scheme) (es : List Entry) (key : ℕ) → transitions_made (acknowledge scheme es key) ≡ []
 none_made scheme es key = go (nat_le (length (sends es)) key) (history.is_acknowledged es key) (nat_le scheme.records (length es))
   where
-    go : (a b c : Bool) → made (cond a (IsRefused no_row) (cond b IsRepeat (cond c (IsRefused journal_full) (Enters [])))) ≡ []
+    go : (a b c : Bool) → transitions_made (cond a (IsRefused no_row) (cond b IsRepeat (cond c (IsRefused journal_full) (IsRecorded [])))) ≡ []
     go true b c = refl
     go false true c = refl
     go false false true = refl
     go false false false = refl
 
 -- what an input did is what its transitions send
-sent_by_input : (scheme : Scheme) (n : Node) (es : List Entry) (i : Input) → sent_by_one (did i (messages_of (made (verdict scheme n es i)))) ≡ messages_of (made (verdict scheme n es i))
+sent_by_input : (scheme : Scheme) (n : Node) (es : List Entry) (i : Input) → sent_by_one (did i (messages_of (transitions_made (verdict scheme n es i)))) ≡ messages_of (transitions_made (verdict scheme n es i))
 unfolding verdict
 sent_by_input scheme Itl es (Ack k) = sym (ap messages_of (none_made scheme es k.value))
 sent_by_input scheme (Registry c) es (Ack k) = sym (ap messages_of (none_made scheme es k.value))
@@ -51,7 +52,7 @@ sent_by_input scheme n es (Received m t) = refl
 messages_from : (scheme : Scheme) (n : Node) (es : List Entry) (xs : List Input) → messages (outgoing es) ≡ sends es → messages (outgoing (history_from scheme n es xs)) ≡ sends (history_from scheme n es xs)
 messages_from scheme n es [] h = h
 messages_from scheme n es (x ∷ xs) h =
-    let ms : List Message = messages_of (made (verdict scheme n es x)) in
+    let ms : List Message = messages_of (transitions_made (verdict scheme n es x)) in
     messages_from scheme n (extend scheme n es x) xs
     (messages_snoc (outgoing es) (did x ms) ∙ ap (λ (l : List Message). l ++ sent_by_one (did x ms)) h ∙ ap (λ (l : List Message). sends es ++ l) (sent_by_input scheme n es x))
 
@@ -90,13 +91,13 @@ length_outgoing (e ∷ es) = let more = length-append (outgoing es) (did e.input
 
 -- one record more
 pub outgoing_snoc : (scheme : Scheme) (n : Node) (journal : List Input) (i : Input)
-    → outgoing (verdicts.history scheme n (journal ++ i ∷ [])) ≡ outgoing (verdicts.history scheme n journal) ++ did i (messages_of (made (verdict scheme n (verdicts.history scheme n journal) i))) ∷ []
+    → outgoing (verdicts.history scheme n (journal ++ i ∷ [])) ≡ outgoing (verdicts.history scheme n journal) ++ did i (messages_of (transitions_made (verdict scheme n (verdicts.history scheme n journal) i))) ∷ []
 outgoing_snoc scheme n journal i = ap outgoing (history_snoc scheme n journal i)
 
 outgoing_from : (scheme : Scheme) (n : Node) (es : List Entry) (xs : List Input) → (more : List Sent) × (outgoing (history_from scheme n es xs) ≡ outgoing es ++ more)
 outgoing_from scheme n es [] = ([], sym (append-nil (outgoing es)))
 outgoing_from scheme n es (x ∷ xs) =
-    let s : Sent = did x (messages_of (made (verdict scheme n es x))) in
+    let s : Sent = did x (messages_of (transitions_made (verdict scheme n es x))) in
     let r = outgoing_from scheme n (extend scheme n es x) xs in
     (s ∷ r.0, r.1 ∙ append_assoc (outgoing es) (s ∷ []) r.0)
 

@@ -14,8 +14,8 @@ use std::marker::Model;
 use units::{NoMemory, Node};
 use wire::Message;
 
-/// The messages that the records of a node's journal send, numbered in order from 0, and which of them were acknowledged.
-/// In contracts it is the list of what each record did, the oldest first.
+/// The messages that the records of a node's journal send, numbered in order from 0, and which of them were
+/// acknowledged. In contracts it is the list of what each record did, the oldest first.
 #[derive(Debug, Drop)]
 pub struct Outbox {
     messages: Vec<Message>,
@@ -56,8 +56,8 @@ impl Outbox {
         }
     }
 
-    /// One record more, which sends these messages: their keys go up from `sends`. Fails with `NoMemory`, and nothing has
-    /// changed.
+    /// One record more, which sends these messages: their keys go up from `sends`. Fails with `NoMemory`, and nothing
+    /// has changed.
     pub fn record(&mut self, mut messages: Vec<Message>) -> Result<(), NoMemory>
         ensures ok { OnOk result (self.new ≡ self.old ++ Sends messages.items ∷ []) }
         ensures err { OnErr result (self.new ≡ self.old) }
@@ -147,8 +147,8 @@ impl Outbox {
         }
     }
 
-    /// The least key, from that one on, of a message that goes to `peer` and isn't acknowledged; or `None` where there is
-    /// no such message.
+    /// The least key, from that one on, of a message that goes to `peer` and isn't acknowledged; or `None` where
+    /// there is no such message.
     pub fn next_unacknowledged(&self, peer: Node, from: usize) -> Option<usize>
         ensures { IsLeastFrom (awaits (sending.messages self.now) (sending.is_key_acknowledged self.now) peer) from result }
     {

@@ -6,9 +6,9 @@ use Rattle.units.specs.declared.code.Node.{Node}
 use Rattle.wire.specs.declared.input.Input.{Input}
 use Rattle.wire.specs.declared.message.Message.{Message}
 use Rattle.scheme.specs.declared.registries.Scheme.{Scheme}
-use Rattle.protocol.specs.Deciding.{Verdict, Enters}
+use Rattle.protocol.specs.Deciding.{Verdict, IsRecorded}
 use Rattle.protocol.specs.History.{Transition, Entry, messages_of, sends, acknowledges, is_acknowledged}
-use Rattle.protocol.specs.Verdict.{verdict, made, extend, history_from, history}
+use Rattle.protocol.specs.Verdict.{verdict, transitions_made, extend, history_from, history}
 
 -- ---- more records
 
@@ -19,9 +19,9 @@ pub history_snoc : (scheme : Scheme) (n : Node) (xs : List Input) (i : Input) �
 history_snoc scheme n xs i = history_from_append scheme n [] xs (i ∷ [])
 
 -- one record more, with the transitions of its verdict
-pub history_recorded : (scheme : Scheme) (n : Node) (xs : List Input) (i : Input) (ts : List Transition) → verdict scheme n (history scheme n xs) i ≡ Enters ts
+pub history_recorded : (scheme : Scheme) (n : Node) (xs : List Input) (i : Input) (ts : List Transition) → verdict scheme n (history scheme n xs) i ≡ IsRecorded ts
     → history scheme n (xs ++ i ∷ []) ≡ record { input = i; transitions = ts } ∷ history scheme n xs
-history_recorded scheme n xs i ts enters = history_snoc scheme n xs i ∙ ap (λ (v : Verdict). record { input = i; transitions = made v } ∷ history scheme n xs) enters
+history_recorded scheme n xs i ts enters = history_snoc scheme n xs i ∙ ap (λ (v : Verdict). record { input = i; transitions = transitions_made v } ∷ history scheme n xs) enters
 
 length_from : (scheme : Scheme) (n : Node) (es : List Entry) (xs : List Input) → length (history_from scheme n es xs) ≡ length es + length xs
 length_from scheme n es [] = omega arith
@@ -33,10 +33,10 @@ length_history scheme n xs = let all = length_from scheme n [] xs in omega arith
 
 -- ---- what is sent
 
-pub sends_snoc : (scheme : Scheme) (n : Node) (xs : List Input) (i : Input) → sends (history scheme n (xs ++ i ∷ [])) ≡ sends (history scheme n xs) ++ messages_of (made (verdict scheme n (history scheme n xs) i))
+pub sends_snoc : (scheme : Scheme) (n : Node) (xs : List Input) (i : Input) → sends (history scheme n (xs ++ i ∷ [])) ≡ sends (history scheme n xs) ++ messages_of (transitions_made (verdict scheme n (history scheme n xs) i))
 sends_snoc scheme n xs i = ap sends (history_snoc scheme n xs i)
 
-pub sends_recorded : (scheme : Scheme) (n : Node) (xs : List Input) (i : Input) (ts : List Transition) → verdict scheme n (history scheme n xs) i ≡ Enters ts
+pub sends_recorded : (scheme : Scheme) (n : Node) (xs : List Input) (i : Input) (ts : List Transition) → verdict scheme n (history scheme n xs) i ≡ IsRecorded ts
     → sends (history scheme n (xs ++ i ∷ [])) ≡ sends (history scheme n xs) ++ messages_of ts
 sends_recorded scheme n xs i ts enters = ap sends (history_recorded scheme n xs i ts enters)
 
@@ -44,7 +44,7 @@ sends_recorded scheme n xs i ts enters = ap sends (history_recorded scheme n xs 
 pub sends_from : (scheme : Scheme) (n : Node) (es : List Entry) (xs : List Input) → (more : List Message) × (sends (history_from scheme n es xs) ≡ sends es ++ more)
 sends_from scheme n es [] = ([], sym (append-nil (sends es)))
 sends_from scheme n es (x ∷ xs) =
-    let ms : List Message = messages_of (made (verdict scheme n es x)) in
+    let ms : List Message = messages_of (transitions_made (verdict scheme n es x)) in
     let r = sends_from scheme n (extend scheme n es x) xs in
     (ms ++ r.0, r.1 ∙ append_assoc (sends es) ms r.0)
 

@@ -12,10 +12,10 @@ use Rattle.units.specs.declared.code.Node.TheVariants.{Itl, Registry}
 use Rattle.status.specs.Content.{Content}
 use Rattle.status.specs.declared.id.TransactionId.{TransactionId}
 use Rattle.status.specs.declared.moment.Moment.{Moment}
-use Rattle.status.specs.declared.words.Row.{Row}
-use Rattle.status.specs.declared.words.Row.TheVariants.{Move, Repeat, Late, Refused}
-use Rattle.status.specs.declared.words.RowInput.{RowInput}
-use Rattle.status.specs.declared.words.Status.{Status}
+use Rattle.status.specs.declared.rows.Row.{Row}
+use Rattle.status.specs.declared.rows.Row.TheVariants.{Move, Repeat, Late, Refused}
+use Rattle.status.specs.declared.rows.RowInput.{RowInput}
+use Rattle.status.specs.declared.status.Status.{Status}
 use Rattle.wire.specs.declared.input.Input.{Input}
 use Rattle.wire.specs.declared.input.Input.TheVariants.{Propose, Request, OpenAccount, CloseAccount, Ack, CleanUp, Eligible, Received}
 use Rattle.wire.specs.declared.message.Message.{Message}
@@ -24,7 +24,7 @@ use Rattle.scheme.specs.declared.registries.Scheme.{Scheme}
 use Rattle.protocol.specs.AtLog as log
 use Rattle.protocol.specs.AtRegistry as registry
 use Rattle.protocol.specs.Checks.{Causes, propose_refusals}
-use Rattle.protocol.specs.Deciding.{Verdict, Enters, IsRepeat, IsLate, IsRefused, refuse, enters, by_row, acknowledge, ack_refusals}
+use Rattle.protocol.specs.Deciding.{Verdict, IsRecorded, IsRepeat, IsLate, IsRefused, refuse, recorded_if_room, by_row, acknowledge, ack_refusals}
 use Rattle.protocol.specs.History.{Transition, Entry, is_acknowledged}
 use Rattle.protocol.specs.Refusing.{message_codes}
 use Rattle.protocol.specs.Verdict.{verdict}
@@ -45,15 +45,15 @@ only_repeat passes code e = absurd (cc (e))
 pub only_late : (passes : ℕ → Bool) → Only passes IsLate
 only_late passes code e = absurd (cc (e))
 
-pub only_entered : (passes : ℕ → Bool) (xs : List Transition) → Only passes (Enters xs)
+pub only_entered : (passes : ℕ → Bool) (xs : List Transition) → Only passes (IsRecorded xs)
 only_entered passes xs code e = absurd (cc (e))
 
 pub only_cond : (passes : ℕ → Bool) (b : Bool) (u v : Verdict) → Only passes u → Only passes v → Only passes (cond b u v)
 only_cond passes true u v p q = p
 only_cond passes false u v p q = q
 
-pub only_enters : (passes : ℕ → Bool) → passes journal_full ≡ true → (scheme : Scheme) (es : List Entry) (xs : List Transition) → Only passes (enters scheme es xs)
-only_enters passes full scheme es xs = only_cond passes (nat_le scheme.records (length es)) (IsRefused journal_full) (Enters xs) (only_refused passes journal_full full) (only_entered passes xs)
+pub only_enters : (passes : ℕ → Bool) → passes journal_full ≡ true → (scheme : Scheme) (es : List Entry) (xs : List Transition) → Only passes (recorded_if_room scheme es xs)
+only_enters passes full scheme es xs = only_cond passes (nat_le scheme.records (length es)) (IsRefused journal_full) (IsRecorded xs) (only_refused passes journal_full full) (only_entered passes xs)
 
 left : (a b : Bool) → (a && b) ≡ true → a ≡ true
 left true b e = refl
@@ -147,9 +147,9 @@ log_codes_2 scheme es (message.Request r) = refl
 only_ack : (scheme : Scheme) (es : List Entry) (key : ℕ) → Only of_verdict (acknowledge scheme es key)
 only_ack scheme es key =
     only_refuse of_verdict (ack_refusals es key) _ refl
-    (only_cond of_verdict (is_acknowledged es key) IsRepeat (enters scheme es []) (only_repeat of_verdict) (only_enters of_verdict refl scheme es []))
+    (only_cond of_verdict (is_acknowledged es key) IsRepeat (recorded_if_room scheme es []) (only_repeat of_verdict) (only_enters of_verdict refl scheme es []))
 
-only_offer : (scheme : Scheme) (c : Code) (es : List Entry) (k : Content) (t : Option TransactionId) → Only of_verdict (registry.offer scheme c es k t)
+only_offer : (scheme : Scheme) (c : Code) (es : List Entry) (k : Content) (t : Option TransactionId) → Only of_verdict (registry.new_transfer_verdict scheme c es k t)
 only_offer scheme c es k None = only_refused of_verdict transactions_used_up refl
 only_offer scheme c es k (Some t) = only_row of_verdict rows_of_verdict scheme es _ _
 
@@ -163,7 +163,7 @@ refused_row = only_refused of_verdict no_row refl
 pub verdict_only : (scheme : Scheme) (n : Node) (es : List Entry) (input : Input) → Only of_verdict (verdict scheme n es input)
 unfolding verdict
 verdict_only scheme Itl es (CleanUp t) = only_clean_up scheme es _
-verdict_only scheme Itl es (Eligible c may) = only_refuse of_verdict (log.eligible_refusals scheme c) _ refl (only_cond of_verdict _ IsRepeat (enters scheme es []) (only_repeat of_verdict) (only_enters of_verdict refl scheme es []))
+verdict_only scheme Itl es (Eligible c may) = only_refuse of_verdict (log.eligible_refusals scheme c) _ refl (only_cond of_verdict _ IsRepeat (recorded_if_room scheme es []) (only_repeat of_verdict) (only_enters of_verdict refl scheme es []))
 verdict_only scheme Itl es (Ack n) = only_ack scheme es n.value
 verdict_only scheme Itl es (Received m t) = log_message of_verdict rows_of_verdict scheme es t.seconds m (log_codes_2 scheme es m)
 verdict_only scheme Itl es (Propose o) = refused_row

@@ -10,7 +10,7 @@ use Rattle.units.specs.declared.code.Node.{Node}
 use Rattle.units.specs.declared.refusal.Refusal.{Refusal}
 use Rattle.wire.specs.declared.input.Input.{Input}
 use Rattle.scheme.specs.declared.registries.Scheme.{Scheme}
-use Rattle.protocol.specs.Deciding.{Enters}
+use Rattle.protocol.specs.Deciding.{IsRecorded}
 use Rattle.protocol.specs.History.{Transition}
 use Rattle.protocol.specs.Verdict.{verdict, history}
 use Rattle.protocol.specs.Cores.{answer_of, HasFault, IsDueOrNoMemory, IsFirstNotRecorded, Replays, answer}
@@ -115,7 +115,7 @@ refused_otherwise code e same = true≢false (sym (eq-eqb code out_of_memory sam
 -- each of these inputs is recorded after the past and those before it
 abbrev pub AllRecorded : Scheme → Node → List Input → List Input → Type 0
 AllRecorded scheme n past [] = Unit {0}
-AllRecorded scheme n past (i ∷ is) = ((xs : List Transition) × (verdict scheme n (history scheme n past) i ≡ Enters xs)) × AllRecorded scheme n (past ++ i ∷ []) is
+AllRecorded scheme n past (i ∷ is) = ((xs : List Transition) × (verdict scheme n (history scheme n past) i ≡ IsRecorded xs)) × AllRecorded scheme n (past ++ i ∷ []) is
 
 recorded_at : (scheme : Scheme) (n : Node) (past is : List Input) (k : ℕ) (i : Input) → AllRecorded scheme n past is → slice_get is k ≡ Some i → answer scheme n (past ++ take k is) i ≡ Ok (Recorded (length past + k))
 recorded_at scheme n past [] k i h e = absurd cc

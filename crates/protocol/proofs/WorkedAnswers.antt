@@ -9,17 +9,17 @@ use Rattle.units.specs.declared.code.Node.TheVariants.{Itl, Registry}
 use Rattle.status.specs.Content.{Content}
 use Rattle.status.specs.Id.{number_from}
 use Rattle.status.specs.declared.id.TransactionId.{TransactionId}
-use Rattle.status.specs.declared.words.Status.TheVariants.{Checked, Terminated, Cancelled}
+use Rattle.status.specs.declared.status.Status.TheVariants.{Checked, Terminated, Cancelled}
 use Rattle.wire.specs.declared.input.Input.{Input}
 use Rattle.wire.specs.declared.input.Input.TheVariants.{Propose, Received}
 use Rattle.wire.specs.declared.message.Message.{Message}
 use Rattle.wire.specs.declared.message.Message.TheVariants.{Proposal}
 use Rattle.wire.specs.declared.message.ProposalStatus.{ProposalStatus}
 use Rattle.wire.specs.declared.message.ProposalStatus.TheVariants as proposal
-use Rattle.wire.specs.declared.notice.Notice.TheVariants as notice
+use Rattle.wire.specs.declared.notified.NotifiedStatus.TheVariants as notified
 use Rattle.protocol.specs.AtLog.{ledger}
 use Rattle.protocol.specs.Checks.{log_findings}
-use Rattle.protocol.specs.Deciding.{Verdict, Enters, IsRepeat, IsLate, IsRefused}
+use Rattle.protocol.specs.Deciding.{Verdict, IsRecorded, IsRepeat, IsLate, IsRefused}
 use Rattle.protocol.specs.History.{Transition, transitions_of, book_owner}
 use Rattle.protocol.specs.Verdict.{verdict, history}
 use Rattle.protocol.proofs.WorkedScheme.{nz, jp, nz_node, jp_node, block, block_of, all_units, unit, nz1, scheme_s, first_of_may, notification}
@@ -57,10 +57,10 @@ log_says journal m = verdict scheme_s Itl (history scheme_s Itl journal) (comes 
 
 -- ---- the log
 
-pub log_refuses : (log_says [] (notification jp_node Itl nz1 notice.Accepted) ≡ IsRefused 47)
+pub log_refuses : (log_says [] (notification jp_node Itl nz1 notified.Accepted) ≡ IsRefused 47)
     × (log_says [] (proposal_of jp_node Itl nz1 proposal.Proposed (content jp)) ≡ IsRefused 44)
-    × (log_says [] (notification nz_node jp_node nz1 notice.Accepted) ≡ IsRefused 42)
-    × (log_says [] (notification (Registry au) Itl nz1 notice.Accepted) ≡ IsRefused 43)
+    × (log_says [] (notification nz_node jp_node nz1 notified.Accepted) ≡ IsRefused 42)
+    × (log_says [] (notification (Registry au) Itl nz1 notified.Accepted) ≡ IsRefused 43)
 unfolding verdict
 log_refuses = (refl, refl, refl, refl)
 
@@ -73,10 +73,10 @@ first_checked = record {
   messages = proposal_of Itl jp_node nz1 proposal.Checked (content jp) ∷ [];
 }
 
-pub log_takes : (log_says [] (from_nz (content jp)) ≡ Enters (first_checked ∷ []))
+pub log_takes : (log_says [] (from_nz (content jp)) ≡ IsRecorded (first_checked ∷ []))
     × (log_says (comes (from_nz (content jp)) ∷ []) (from_nz (content jp)) ≡ IsRepeat)
     × (log_says (comes (from_nz (content jp)) ∷ []) (from_nz fewer) ≡ IsRefused 45)
-    × (log_says (comes (from_nz (content jp)) ∷ []) (notification jp_node Itl nz1 (notice.Terminated (207 ∷ []))) ≡ IsRefused 46)
+    × (log_says (comes (from_nz (content jp)) ∷ []) (notification jp_node Itl nz1 (notified.Terminated (207 ∷ []))) ≡ IsRefused 46)
 unfolding verdict
 log_takes = (refl, refl, refl, refl)
 
@@ -97,10 +97,10 @@ first_terminated = record {
   new = Terminated;
   content = Some odd;
   moment = 1_335_830_400;
-  messages = notification Itl jp_node jp1 (notice.Terminated found) ∷ [];
+  messages = notification Itl jp_node jp1 (notified.Terminated found) ∷ [];
 }
 
-pub log_finds : (log_says [] (proposal_of jp_node Itl jp1 proposal.Proposed odd) ≡ Enters (first_terminated ∷ []))
+pub log_finds : (log_says [] (proposal_of jp_node Itl jp1 proposal.Proposed odd) ≡ IsRecorded (first_terminated ∷ []))
     × (log_findings scheme_s (ledger scheme_s []) jp odd ≡ found)
 unfolding verdict
 log_finds = (refl, refl)
@@ -120,14 +120,14 @@ abbrev foreign : Content
 foreign = record { account = 7; acquirer = nz; to_account = 1; units = record { origin = jp; period = First; kind = Aau; first = 1; last = 1 } ∷ [] }
 
 abbrev is_cancelled : Message
-is_cancelled = notification Itl nz_node jp1 notice.Cancelled
+is_cancelled = notification Itl nz_node jp1 notified.Cancelled
 
 abbrev without_content : Transition
 without_content = record { id = jp1; new = Cancelled; content = None; moment = 1_335_830_400; messages = [] }
 
-pub nz_answers : (nz_says two_orders is_cancelled ≡ Enters (without_content ∷ []))
+pub nz_answers : (nz_says two_orders is_cancelled ≡ IsRecorded (without_content ∷ []))
     × (nz_says (two_orders ++ comes is_cancelled ∷ []) is_cancelled ≡ IsRepeat)
     × (nz_says (two_orders ++ comes is_cancelled ∷ []) (proposal_of Itl nz_node jp1 proposal.Checked foreign) ≡ IsLate)
-    × (nz_says two_orders (notification Itl nz_node nz9 notice.Completed) ≡ IsRefused 47)
+    × (nz_says two_orders (notification Itl nz_node nz9 notified.Completed) ≡ IsRefused 47)
 unfolding verdict
 nz_answers = (refl, refl, refl, refl)

@@ -2,8 +2,8 @@
 use Rattle.std.proofs.Common.{◌≡◌, true, false, List, [], ◌∷◌, ◌++◌, Some, None, refl}
 use Rattle.std.specs.Prelude.{take, drop}
 use Rattle.units.specs.declared.code.Node.TheVariants.{Itl}
-use Rattle.status.specs.declared.words.Status.TheVariants.{Proposed, Rejected, Cancelled, Completed}
-use Rattle.wire.specs.declared.notice.Notice.TheVariants as notice
+use Rattle.status.specs.declared.status.Status.TheVariants.{Proposed, Rejected, Cancelled, Completed}
+use Rattle.wire.specs.declared.notified.NotifiedStatus.TheVariants as notified
 use Rattle.protocol.specs.declared.event.Outcome.TheVariants.{Recorded, Repeat, Late, Done}
 use Rattle.protocol.specs.declared.event.WorldEvent.{WorldEvent}
 use Rattle.protocol.specs.Verdict.{verdict}
@@ -23,8 +23,8 @@ pub clean_up_boundary : outcomes (opening scheme_s) clean_up_boundary_events
 unfolding step verdict
 clean_up_boundary = refl
 
-pub clean_up_boundary_messages : (message_at clean_up_boundary_world Itl 1 ≡ Some (notification Itl nz_node nz1 notice.Cancelled))
-    × (message_at clean_up_boundary_world Itl 2 ≡ Some (notification Itl jp_node nz1 notice.Cancelled))
+pub clean_up_boundary_messages : (message_at clean_up_boundary_world Itl 1 ≡ Some (notification Itl nz_node nz1 notified.Cancelled))
+    × (message_at clean_up_boundary_world Itl 2 ≡ Some (notification Itl jp_node nz1 notified.Cancelled))
     × (message_at clean_up_boundary_world Itl 3 ≡ None)
 unfolding step verdict
 clean_up_boundary_messages = (refl, refl, refl)
@@ -215,7 +215,7 @@ pub stale_proposal : outcomes (opening scheme_s) stale_proposal_events
 unfolding step verdict
 stale_proposal = refl
 
-pub stale_proposal_message : posted stale_proposal_world 9 ≡ Some (notification jp_node Itl nz1 (notice.Rejected (303 ∷ [])))
+pub stale_proposal_message : posted stale_proposal_world 9 ≡ Some (notification jp_node Itl nz1 (notified.Rejected (303 ∷ [])))
 unfolding step verdict
 stale_proposal_message = refl
 

@@ -8,9 +8,9 @@ use Rattle.units.specs.declared.code.Node.TheVariants.{Itl}
 use Rattle.status.specs.Id.{id_at, number_from}
 use Rattle.status.specs.Order.{Order}
 use Rattle.status.specs.declared.id.TransactionId.{TransactionId}
-use Rattle.status.specs.declared.words.Status.TheVariants.{Proposed, Rejected, Terminated}
-use Rattle.wire.specs.declared.notice.Notice.TheVariants as notice
-use Rattle.protocol.specs.AtRegistry.{content_of, offer}
+use Rattle.status.specs.declared.status.Status.TheVariants.{Proposed, Rejected, Terminated}
+use Rattle.wire.specs.declared.notified.NotifiedStatus.TheVariants as notified
+use Rattle.protocol.specs.AtRegistry.{content_of, new_transfer_verdict}
 use Rattle.protocol.specs.Checks as checks
 use Rattle.protocol.specs.Checks.{Holding, codes_of}
 use Rattle.protocol.specs.Deciding.{IsRefused}
@@ -99,8 +99,8 @@ pub receiving_account_closed : outcomes (opening scheme_s) receiving_account_clo
 unfolding step verdict
 receiving_account_closed = refl
 
-pub receiving_account_closed_messages : (posted receiving_account_closed_world 2 ≡ Some (notification jp_node Itl nz1 (notice.Rejected (302 ∷ []))))
-    × (posted receiving_account_closed_world 3 ≡ Some (notification Itl nz_node nz1 (notice.Rejected (302 ∷ []))))
+pub receiving_account_closed_messages : (posted receiving_account_closed_world 2 ≡ Some (notification jp_node Itl nz1 (notified.Rejected (302 ∷ []))))
+    × (posted receiving_account_closed_world 3 ≡ Some (notification Itl nz_node nz1 (notified.Rejected (302 ∷ []))))
 unfolding step verdict
 receiving_account_closed_messages = (refl, refl)
 
@@ -155,7 +155,7 @@ pub not_eligible : outcomes (opening scheme_s) not_eligible_events
 unfolding step verdict
 not_eligible = refl
 
-pub not_eligible_message : posted not_eligible_world 1 ≡ Some (notification Itl nz_node nz1 (notice.Terminated (207 ∷ [])))
+pub not_eligible_message : posted not_eligible_world 1 ≡ Some (notification Itl nz_node nz1 (notified.Terminated (207 ∷ [])))
 unfolding step verdict
 not_eligible_message = refl
 
@@ -234,7 +234,7 @@ last_id = record { code = nz; number = 999_999; in_range = number_from 999_999 r
 
 pub propose_refusals_last_number : (codes_of (checks.propose_refusals scheme_s nz all_free good) ≡ [])
     × (id_at nz (999_998 + 1) ≡ Some last_id)
-    × (offer scheme_s nz [] (content_of good) (id_at nz (999_999 + 1)) ≡ IsRefused 109)
+    × (new_transfer_verdict scheme_s nz [] (content_of good) (id_at nz (999_999 + 1)) ≡ IsRefused 109)
 propose_refusals_last_number = (refl, refl, refl)
 
 -- ---- acknowledgements

@@ -4,12 +4,12 @@ use Rattle.std.specs.Prelude.{take}
 use Rattle.units.specs.declared.code.Node.{Node}
 use Rattle.units.specs.declared.code.Node.TheVariants.{Itl}
 use Rattle.status.specs.declared.id.TransactionId.{TransactionId}
-use Rattle.status.specs.declared.words.Status.TheVariants.{Accepted, Cancelled, Completed}
+use Rattle.status.specs.declared.status.Status.TheVariants.{Accepted, Cancelled, Completed}
 use Rattle.wire.specs.declared.input.Input.{Input}
 use Rattle.wire.specs.declared.input.Input.TheVariants as input
 use Rattle.wire.specs.declared.message.Message.{Message}
 use Rattle.wire.specs.declared.message.Message.TheVariants.{Request}
-use Rattle.wire.specs.declared.notice.Notice.TheVariants as notice
+use Rattle.wire.specs.declared.notified.NotifiedStatus.TheVariants as notified
 use Rattle.protocol.specs.Deciding.{Verdict, IsLate, IsRefused}
 use Rattle.protocol.specs.declared.event.Outcome.TheVariants.{Recorded, Repeat, Late, Refused, Done, NotPossible}
 use Rattle.protocol.specs.declared.event.WorldEvent.{WorldEvent}
@@ -43,8 +43,8 @@ request_before_the_answer = refl
 
 pub request_before_the_answer_messages : (message_at request_before_the_answer_world nz_node 1 ≡ Some (request_of nz_node Itl nz1))
     × (message_at request_before_the_answer_world nz_node 2 ≡ None)
-    × (message_at request_before_the_answer_world Itl 1 ≡ Some (notification Itl nz_node nz1 notice.Cancelled))
-    × (message_at request_before_the_answer_world Itl 2 ≡ Some (notification Itl jp_node nz1 notice.Cancelled))
+    × (message_at request_before_the_answer_world Itl 1 ≡ Some (notification Itl nz_node nz1 notified.Cancelled))
+    × (message_at request_before_the_answer_world Itl 2 ≡ Some (notification Itl jp_node nz1 notified.Cancelled))
     × (message_at request_before_the_answer_world Itl 3 ≡ None)
 unfolding step verdict
 request_before_the_answer_messages = (refl, refl, refl, refl, refl)
@@ -130,11 +130,11 @@ pub request_refusals : (says Itl [] (request_of nz_node jp_node nz1) ≡ IsRefus
 unfolding verdict
 request_refusals = (refl, refl, refl, refl, refl, refl, refl, refl)
 
-pub without_content_refusals : (says Itl asked (notification jp_node Itl nz1 notice.Accepted) ≡ IsRefused 44)
-    × (says Itl asked (notification jp_node Itl nz1 (notice.Rejected (303 ∷ []))) ≡ IsRefused 44)
-    × (says Itl asked (notification jp_node Itl nz1 (notice.Terminated (207 ∷ []))) ≡ IsRefused 46)
-    × (says Itl asked (notification jp_node Itl nz1 notice.Cancelled) ≡ IsRefused 46)
-    × (says Itl asked (notification jp_node Itl nz1 notice.Completed) ≡ IsRefused 44)
-    × (says Itl asked (notification nz_node Itl nz1 notice.Completed) ≡ IsRefused 46)
+pub without_content_refusals : (says Itl asked (notification jp_node Itl nz1 notified.Accepted) ≡ IsRefused 44)
+    × (says Itl asked (notification jp_node Itl nz1 (notified.Rejected (303 ∷ []))) ≡ IsRefused 44)
+    × (says Itl asked (notification jp_node Itl nz1 (notified.Terminated (207 ∷ []))) ≡ IsRefused 46)
+    × (says Itl asked (notification jp_node Itl nz1 notified.Cancelled) ≡ IsRefused 46)
+    × (says Itl asked (notification jp_node Itl nz1 notified.Completed) ≡ IsRefused 44)
+    × (says Itl asked (notification nz_node Itl nz1 notified.Completed) ≡ IsRefused 46)
 unfolding verdict
 without_content_refusals = (refl, refl, refl, refl, refl, refl)

@@ -3,7 +3,7 @@ use Rattle.std.proofs.Common.{◌≡◌, true, false, List, [], ◌∷◌, ◌++
 use Rattle.std.specs.Prelude.{take, drop}
 use Rattle.units.specs.declared.code.Node.TheVariants.{Itl}
 use Rattle.status.specs.Content.{Content}
-use Rattle.status.specs.declared.words.Status.TheVariants.{Proposed, Checked, Accepted, Completed}
+use Rattle.status.specs.declared.status.Status.TheVariants.{Proposed, Checked, Accepted, Completed}
 use Rattle.protocol.specs.declared.event.Outcome.TheVariants.{Recorded, Repeat, Done, NotPossible}
 use Rattle.protocol.specs.declared.event.WorldEvent.{WorldEvent}
 use Rattle.protocol.specs.Verdict.{verdict}

@@ -18,13 +18,13 @@ use Rattle.units.specs.Limits.{last_moment}
 use Rattle.status.specs.Id.{number_from}
 use Rattle.status.specs.declared.id.TransactionId.{TransactionId}
 use Rattle.status.specs.declared.moment.Moment.{Moment}
-use Rattle.status.specs.declared.words.Status.{Status}
+use Rattle.status.specs.declared.status.Status.{Status}
 use Rattle.wire.specs.declared.input.Input.TheVariants.{Propose, OpenAccount, CloseAccount, Ack, CleanUp, Eligible}
 use Rattle.wire.specs.declared.input.Number.{Number}
 use Rattle.wire.specs.declared.message.Message.{Message}
 use Rattle.wire.specs.declared.message.Message.TheVariants.{Notification}
-use Rattle.wire.specs.declared.notice.Notice.{Notice}
-use Rattle.scheme.specs.declared.members.Member.{Member}
+use Rattle.wire.specs.declared.notified.NotifiedStatus.{NotifiedStatus}
+use Rattle.scheme.specs.declared.members.SchemeRegistry.{SchemeRegistry}
 use Rattle.scheme.specs.declared.registries.Scheme.{Scheme}
 use Rattle.scheme.specs.Order.{AreFew, AreMembers}
 use Rattle.protocol.specs.declared.event.WorldEvent.{WorldEvent}
@@ -84,10 +84,10 @@ hundred_range = (lit≤ tt, lit≤ tt, lit≤ tt)
 abbrev pub hundred : Block
 hundred = record { raw = block 1 100; in_range = hundred_range }
 
-abbrev pub jp_member : Member
+abbrev pub jp_member : SchemeRegistry
 jp_member = record { code = jp; accounts = 7 ∷ 8 ∷ []; allotted = []; eligible = true; kinds = Aau ∷ Cer ∷ [] }
 
-abbrev pub nz_member : Member
+abbrev pub nz_member : SchemeRegistry
 nz_member = record {
   code = nz;
   accounts = 1 ∷ 2 ∷ [];
@@ -96,7 +96,7 @@ nz_member = record {
   kinds = Aau ∷ Rmu ∷ Eru ∷ Cer ∷ Tcer ∷ Lcer ∷ [];
 }
 
-abbrev pub members : List Member
+abbrev pub members : List SchemeRegistry
 members = jp_member ∷ nz_member ∷ []
 
 few : AreFew members
@@ -250,8 +250,8 @@ owed w n = claims.owed w.scheme (claims.live_of w) (unit n)
 abbrev pub message_at : World → Node → ℕ → Option Message
 message_at w n key = option_and_then (sent w.scheme key) (station w n)
 
-abbrev pub notification : Node → Node → TransactionId → Notice → Message
-notification from to t notice = Notification (record { from = from; to = to; id = t; notice = notice })
+abbrev pub notification : Node → Node → TransactionId → NotifiedStatus → Message
+notification from to t notified = Notification (record { from = from; to = to; id = t; notified = notified })
 
 -- the message at that place of the bag
 abbrev pub posted : World → ℕ → Option Message

@@ -15,7 +15,7 @@ use Rattle.wire.specs.declared.message.Message.{Message}
 use Rattle.wire.specs.declared.message.Message.TheVariants.{Proposal}
 use Rattle.wire.specs.declared.message.ProposalStatus.{ProposalStatus}
 use Rattle.wire.specs.declared.message.ProposalStatus.TheVariants as proposal
-use Rattle.wire.specs.declared.notice.Notice.TheVariants as notice
+use Rattle.wire.specs.declared.notified.NotifiedStatus.TheVariants as notified
 use Rattle.protocol.specs.declared.event.Outcome.TheVariants.{Recorded, Repeat, Refused, Done, NotPossible}
 use Rattle.protocol.specs.declared.event.WorldEvent.{WorldEvent}
 use Rattle.protocol.specs.declared.event.WorldEvent.TheVariants.{Take}
@@ -71,8 +71,8 @@ pub two_cleaned_up : outcomes (opening scheme_s) two_due_events
 unfolding step verdict
 two_cleaned_up = refl
 
-pub two_cleaned_up_messages : (message_at (after two_due_events) Itl 2 ≡ Some (notification Itl nz_node nz1 notice.Cancelled)) × (message_at (after two_due_events) Itl 3 ≡ Some (notification Itl jp_node nz1 notice.Cancelled))
-    × (message_at (after two_due_events) Itl 4 ≡ Some (notification Itl nz_node nz2 notice.Cancelled)) × (message_at (after two_due_events) Itl 5 ≡ Some (notification Itl jp_node nz2 notice.Cancelled))
+pub two_cleaned_up_messages : (message_at (after two_due_events) Itl 2 ≡ Some (notification Itl nz_node nz1 notified.Cancelled)) × (message_at (after two_due_events) Itl 3 ≡ Some (notification Itl jp_node nz1 notified.Cancelled))
+    × (message_at (after two_due_events) Itl 4 ≡ Some (notification Itl nz_node nz2 notified.Cancelled)) × (message_at (after two_due_events) Itl 5 ≡ Some (notification Itl jp_node nz2 notified.Cancelled))
 unfolding step verdict
 two_cleaned_up_messages = (refl, refl, refl, refl)
 
@@ -107,29 +107,29 @@ to_jp t = proposal_of Itl jp_node t proposal.Checked all_units
 
 -- JP has accepted the same units twice
 abbrev both : List Input
-both = comes (to_jp nz1) ∷ comes (to_jp nz2) ∷ comes (notification Itl jp_node nz1 notice.Completed) ∷ []
+both = comes (to_jp nz1) ∷ comes (to_jp nz2) ∷ comes (notification Itl jp_node nz1 notified.Completed) ∷ []
 
-pub accepted_twice : (says jp_node both (notification Itl jp_node nz2 notice.Completed) ≡ IsRefused 46)
-    × (says jp_node both (notification Itl jp_node nz1 notice.Completed) ≡ IsRepeat)
-    × (says jp_node both (notification Itl jp_node nz1 notice.Cancelled) ≡ IsRefused 46)
+pub accepted_twice : (says jp_node both (notification Itl jp_node nz2 notified.Completed) ≡ IsRefused 46)
+    × (says jp_node both (notification Itl jp_node nz1 notified.Completed) ≡ IsRepeat)
+    × (says jp_node both (notification Itl jp_node nz1 notified.Cancelled) ≡ IsRefused 46)
     × (says jp_node both (to_jp nz1) ≡ IsRepeat)
     × (says jp_node both (proposal_of Itl jp_node nz1 proposal.Checked (block 1 99 ∷ [])) ≡ IsRefused 45)
     × (says jp_node both (proposal_of Itl jp_node nz1 proposal.Proposed all_units) ≡ IsRefused 46)
     × (says jp_node both (proposal_of nz_node jp_node nz1 proposal.Proposed all_units) ≡ IsRefused 43)
     × (says jp_node both (proposal_of Itl jp_node jp1 proposal.Checked all_units) ≡ IsRefused 44)
     × (says nz_node [] (proposal_of Itl nz_node jp1 proposal.Checked all_units) ≡ IsRefused 44)
-    × (says nz_node [] (notification Itl nz_node nz1 notice.Cancelled) ≡ IsRefused 47)
-    × (says jp_node [] (notification Itl jp_node nz1 notice.Accepted) ≡ IsRefused 47)
-    × (says jp_node [] (notification nz_node jp_node nz1 notice.Accepted) ≡ IsRefused 43)
+    × (says nz_node [] (notification Itl nz_node nz1 notified.Cancelled) ≡ IsRefused 47)
+    × (says jp_node [] (notification Itl jp_node nz1 notified.Accepted) ≡ IsRefused 47)
+    × (says jp_node [] (notification nz_node jp_node nz1 notified.Accepted) ≡ IsRefused 43)
 unfolding verdict
 accepted_twice = (refl, refl, refl, refl, refl, refl, refl, refl, refl, refl, refl, refl)
 
 -- JP has rejected the units that it has
 abbrev rejecting : List Input
-rejecting = comes (to_jp nz1) ∷ comes (notification Itl jp_node nz1 notice.Completed) ∷ comes (to_jp nz2) ∷ []
+rejecting = comes (to_jp nz1) ∷ comes (notification Itl jp_node nz1 notified.Completed) ∷ comes (to_jp nz2) ∷ []
 
-pub held_rejected : (says jp_node rejecting (notification Itl jp_node nz2 notice.Cancelled) ≡ IsLate)
-    × (says jp_node rejecting (notification Itl jp_node nz2 notice.Completed) ≡ IsRefused 46)
+pub held_rejected : (says jp_node rejecting (notification Itl jp_node nz2 notified.Cancelled) ≡ IsLate)
+    × (says jp_node rejecting (notification Itl jp_node nz2 notified.Completed) ≡ IsRefused 46)
     × (says jp_node rejecting (to_jp nz2) ≡ IsRepeat)
 unfolding verdict
 held_rejected = (refl, refl, refl)
@@ -170,7 +170,7 @@ abbrev under_way : List Input
 under_way = comes (proposal_of nz_node Itl nz1 proposal.Proposed (block 1 60 ∷ [])) ∷ []
 
 abbrev was_completed : List Input
-was_completed = under_way ++ comes (notification jp_node Itl nz1 notice.Accepted) ∷ comes (notification nz_node Itl nz1 notice.Completed) ∷ []
+was_completed = under_way ++ comes (notification jp_node Itl nz1 notified.Accepted) ∷ comes (notification nz_node Itl nz1 notified.Completed) ∷ []
 
 abbrev neither : List Input
 neither = Eligible nz false ∷ Eligible jp false ∷ []
@@ -192,7 +192,7 @@ abbrev meets : List Input → Content → List ℕ
 meets journal k = acquirer_findings scheme_s jp (holding scheme_s jp (history scheme_s jp_node journal)) k
 
 abbrev credited : List Input
-credited = comes (to_jp nz1) ∷ comes (notification Itl jp_node nz1 notice.Completed) ∷ CloseAccount (number 8 (lit< tt)) ∷ []
+credited = comes (to_jp nz1) ∷ comes (notification Itl jp_node nz1 notified.Completed) ∷ CloseAccount (number 8 (lit< tt)) ∷ []
 
 pub acquirer_findings_are : (meets [] (terms jp 7 (block 1 100 ∷ [])) ≡ [])
     × (meets [] (terms jp 9 (block_of Rmu 1 1 ∷ [])) ≡ 301 ∷ 304 ∷ [])

@@ -12,12 +12,12 @@ use Rattle.status.specs.Content.{Content}
 use Rattle.status.specs.Id.{same_id, id_cmp}
 use Rattle.status.specs.Rows.{log_row}
 use Rattle.status.specs.declared.id.TransactionId.{TransactionId}
-use Rattle.status.specs.declared.words.Known.{Known}
-use Rattle.status.specs.declared.words.RowInput.{RowInput}
-use Rattle.status.specs.declared.words.RowInput.TheVariants as column
-use Rattle.status.specs.declared.words.Status.{Status}
-use Rattle.status.specs.declared.words.Status.TheVariants.{Accepted, Rejected, Completed}
-use Rattle.wire.specs.Notices.{notice_status, notice_codes}
+use Rattle.status.specs.declared.rows.RecordedStatus.{RecordedStatus}
+use Rattle.status.specs.declared.rows.RowInput.{RowInput}
+use Rattle.status.specs.declared.rows.RowInput.TheVariants as column
+use Rattle.status.specs.declared.status.Status.{Status}
+use Rattle.status.specs.declared.status.Status.TheVariants.{Accepted, Rejected, Completed}
+use Rattle.wire.specs.NotifiedStatuses.{notified_status, notified_codes}
 use Rattle.wire.specs.declared.input.Input.{Input}
 use Rattle.wire.specs.declared.input.Input.TheVariants.{Propose, Request, OpenAccount, CloseAccount, Ack, CleanUp, Eligible, Received}
 use Rattle.wire.specs.declared.message.Message.{Message}
@@ -29,7 +29,7 @@ use Rattle.protocol.specs.Registries.{has_member}
 use Rattle.protocol.specs.History.{Transition, Entry, transitions_of, newest, is_known, book_owner, busy, is_eligible}
 use Rattle.protocol.specs.Checks.{Causes, Ledger, log_findings}
 use Rattle.protocol.specs.Effects.{log_sends}
-use Rattle.protocol.specs.Deciding.{Verdict, IsRepeat, IsRefused, refuse, enters, known, content_in, offered, moved, moved_by, by_row, has_other, acknowledge}
+use Rattle.protocol.specs.Deciding.{Verdict, IsRepeat, IsRefused, refuse, recorded_if_room, known, content_in, column_of_proposal, moved, moved_by, by_row, has_other, acknowledge}
 
 -- what the findings ask, read off a history
 abbrev pub ledger : Scheme → List Entry → Ledger
@@ -72,7 +72,7 @@ log_refusals scheme es (message.Notification n) =
     (not (same_node n.to Itl), other_addressee)
     ∷ (is_no_registry scheme n.from, sender_not_allowed)
     ∷ (not (is_known (transitions_of es) n.id), unknown_transaction)
-    ∷ (is_from_another n.from n.id (content_in (newest (transitions_of es) n.id)) (notice_status n.notice), wrong_party)
+    ∷ (is_from_another n.from n.id (content_in (newest (transitions_of es) n.id)) (notified_status n.notified), wrong_party)
     ∷ []
 log_refusals scheme es (message.Request r) =
     (not (same_node r.to Itl), other_addressee)
@@ -81,18 +81,18 @@ log_refusals scheme es (message.Request r) =
     ∷ []
 
 -- by the log's table: the content is the one that is recorded from then on, and the codes are passed on or were found
-abbrev pub at_log : Scheme → List Entry → TransactionId → Option Content → List ℕ → ℕ → Known → RowInput → Verdict
+abbrev pub at_log : Scheme → List Entry → TransactionId → Option Content → List ℕ → ℕ → RecordedStatus → RowInput → Verdict
 at_log scheme es t k codes moment old input = by_row scheme es (moved t k moment (log_sends t k codes input)) (log_row old input)
 
 abbrev pub checked : Scheme → List Entry → TransactionId → Option Transition → Content → ℕ → List ℕ → Verdict
-checked scheme es t last k moment found = at_log scheme es t (Some k) found moment (known last) (offered (content_in last) found)
+checked scheme es t last k moment found = at_log scheme es t (Some k) found moment (known last) (column_of_proposal (content_in last) found)
 
 abbrev pub told : Scheme → List Entry → TransactionId → Option Transition → List ℕ → ℕ → RowInput → Verdict
 told scheme es t last codes moment input = at_log scheme es t (content_in last) codes moment (known last) input
 
 abbrev pub log_answer : Scheme → List Entry → ℕ → Message → Verdict
 log_answer scheme es moment (message.Proposal p) = checked scheme es p.id (newest (transitions_of es) p.id) p.content moment (log_findings scheme (ledger scheme es) p.id.code p.content)
-log_answer scheme es moment (message.Notification n) = told scheme es n.id (newest (transitions_of es) n.id) (notice_codes n.notice) moment (column.Notified (notice_status n.notice))
+log_answer scheme es moment (message.Notification n) = told scheme es n.id (newest (transitions_of es) n.id) (notified_codes n.notified) moment (column.Notified (notified_status n.notified))
 log_answer scheme es moment (message.Request r) = told scheme es r.id (newest (transitions_of es) r.id) [] moment column.Request
 
 abbrev pub log_message : Scheme → List Entry → ℕ → Message → Verdict
@@ -126,7 +126,7 @@ due xs moment = flat_map (cleaned moment) (by_id (filter (is_old moment) (newest
 -- a repeat where nothing is due
 abbrev pub clean_up : Scheme → List Entry → List Transition → Verdict
 clean_up scheme es [] = IsRepeat
-clean_up scheme es (x ∷ xs) = enters scheme es (x ∷ xs)
+clean_up scheme es (x ∷ xs) = recorded_if_room scheme es (x ∷ xs)
 
 -- ---- eligibility
 
@@ -142,7 +142,7 @@ eligible_refusals scheme c = (not (has_member scheme c), unknown_registry) ∷ [
 -- inputs of a registry are refused by `no_row`
 abbrev pub log_verdict : Scheme → List Entry → Input → Verdict
 log_verdict scheme es (CleanUp t) = clean_up scheme es (due (transitions_of es) t.seconds)
-log_verdict scheme es (Eligible c may) = refuse (eligible_refusals scheme c) (cond (same_bool (is_eligible scheme es c) may) IsRepeat (enters scheme es []))
+log_verdict scheme es (Eligible c may) = refuse (eligible_refusals scheme c) (cond (same_bool (is_eligible scheme es c) may) IsRepeat (recorded_if_room scheme es []))
 log_verdict scheme es (Ack n) = acknowledge scheme es n.value
 log_verdict scheme es (Received m t) = log_message scheme es t.seconds m
 log_verdict scheme es (Propose o) = IsRefused no_row

@@ -14,12 +14,12 @@ use Rattle.status.specs.Order.{Order}
 use Rattle.status.specs.Rows.{initiator_row, acquirer_row}
 use Rattle.status.specs.Status.{same_status}
 use Rattle.status.specs.declared.id.TransactionId.{TransactionId}
-use Rattle.status.specs.declared.words.Row.{Row}
-use Rattle.status.specs.declared.words.Row.TheVariants.{Move, Refused}
-use Rattle.status.specs.declared.words.RowInput.{RowInput}
-use Rattle.status.specs.declared.words.RowInput.TheVariants as column
-use Rattle.status.specs.declared.words.Status.TheVariants.{Proposed, Accepted, Cancelled, Completed}
-use Rattle.wire.specs.Notices.{notice_status}
+use Rattle.status.specs.declared.rows.Row.{Row}
+use Rattle.status.specs.declared.rows.Row.TheVariants.{Move, Refused}
+use Rattle.status.specs.declared.rows.RowInput.{RowInput}
+use Rattle.status.specs.declared.rows.RowInput.TheVariants as column
+use Rattle.status.specs.declared.status.Status.TheVariants.{Proposed, Accepted, Cancelled, Completed}
+use Rattle.wire.specs.NotifiedStatuses.{notified_status}
 use Rattle.wire.specs.declared.input.Input.{Input}
 use Rattle.wire.specs.declared.input.Input.TheVariants.{Propose, Request, OpenAccount, CloseAccount, Ack, CleanUp, Eligible, Received}
 use Rattle.wire.specs.declared.message.Message.{Message}
@@ -34,7 +34,7 @@ use Rattle.protocol.specs.Registries.{has_account}
 use Rattle.protocol.specs.History.{Transition, Entry, Place, transitions_of, newest, stands_at, is_known, proposals, is_requested, holds, reserved, place, is_closed}
 use Rattle.protocol.specs.Checks.{Causes, Holding, propose_refusals, acquirer_findings}
 use Rattle.protocol.specs.Effects.{initiator_sends, acquirer_sends}
-use Rattle.protocol.specs.Deciding.{Verdict, IsRefused, refuse, enters, known, content_in, offered, moved, by_row, has_other, acknowledge}
+use Rattle.protocol.specs.Deciding.{Verdict, IsRefused, refuse, recorded_if_room, known, content_in, column_of_proposal, moved, by_row, has_other, acknowledge}
 
 -- ---- what the checks ask, read off a history
 
@@ -55,18 +55,18 @@ abbrev pub content_of : Order → Content
 content_of o = record { account = o.account; acquirer = o.to_registry; to_account = o.to_account; units = canonical o.units }
 
 -- under the registry's next number, where one is left
-abbrev pub offer : Scheme → Code → List Entry → Content → Option TransactionId → Verdict
-offer scheme c es k None = IsRefused transactions_used_up
-offer scheme c es k (Some t) = by_row scheme es (moved t (Some k) 0 (initiator_sends c t (Some k) column.Propose)) (initiator_row (known (newest (transitions_of es) t)) column.Propose)
+abbrev pub new_transfer_verdict : Scheme → Code → List Entry → Content → Option TransactionId → Verdict
+new_transfer_verdict scheme c es k None = IsRefused transactions_used_up
+new_transfer_verdict scheme c es k (Some t) = by_row scheme es (moved t (Some k) 0 (initiator_sends c t (Some k) column.Propose)) (initiator_row (known (newest (transitions_of es) t)) column.Propose)
 
 abbrev pub propose : Scheme → Code → List Entry → Order → Verdict
-propose scheme c es o = refuse (propose_refusals scheme c (holding scheme c es) o) (offer scheme c es (content_of o) (id_at c (proposals es + 1)))
+propose scheme c es o = refuse (propose_refusals scheme c (holding scheme c es) o) (new_transfer_verdict scheme c es (content_of o) (id_at c (proposals es + 1)))
 
 -- ---- a proposal that the log passes on
 
 abbrev pub arrival : Scheme → Code → List Entry → TransactionId → Option Transition → Content → ℕ → List ℕ → Verdict
 arrival scheme c es t last k moment found =
-    by_row scheme es (moved t (Some k) moment (acquirer_sends c t found (offered (content_in last) found))) (acquirer_row (known last) (offered (content_in last) found))
+    by_row scheme es (moved t (Some k) moment (acquirer_sends c t found (column_of_proposal (content_in last) found))) (acquirer_row (known last) (column_of_proposal (content_in last) found))
 
 -- ---- an order or a message about a transaction, by the table of the registry's role in it
 
@@ -116,13 +116,13 @@ registry_refusals c es (message.Proposal p) =
 registry_refusals c es (message.Notification n) =
     (not (same_node n.to (Registry c)), other_addressee)
     ∷ (not (same_node n.from Itl), sender_not_allowed)
-    ∷ (not (is_known (transitions_of es) n.id) && not (same_status (notice_status n.notice) Cancelled && not (same_code n.id.code c)), unknown_transaction)
+    ∷ (not (is_known (transitions_of es) n.id) && not (same_status (notified_status n.notified) Cancelled && not (same_code n.id.code c)), unknown_transaction)
     ∷ []
 registry_refusals c es (message.Request r) = (not (same_node r.to (Registry c)), other_addressee) ∷ (not (same_node r.from Itl), sender_not_allowed) ∷ []
 
 abbrev pub registry_answer : Scheme → Code → List Entry → ℕ → Message → Verdict
 registry_answer scheme c es moment (message.Proposal p) = arrival scheme c es p.id (newest (transitions_of es) p.id) p.content moment (acquirer_findings scheme c (holding scheme c es) p.content)
-registry_answer scheme c es moment (message.Notification n) = in_role scheme c es n.id (newest (transitions_of es) n.id) moment (column.Notified (notice_status n.notice))
+registry_answer scheme c es moment (message.Notification n) = in_role scheme c es n.id (newest (transitions_of es) n.id) moment (column.Notified (notified_status n.notified))
 registry_answer scheme c es moment (message.Request r) = in_role scheme c es r.id (newest (transitions_of es) r.id) moment column.Request
 
 abbrev pub registry_message : Scheme → Code → List Entry → ℕ → Message → Verdict
@@ -159,8 +159,8 @@ close_refusals scheme c es account =
 abbrev pub registry_verdict : Scheme → Code → List Entry → Input → Verdict
 registry_verdict scheme c es (Propose o) = propose scheme c es o
 registry_verdict scheme c es (Request t) = request scheme c es t
-registry_verdict scheme c es (OpenAccount n) = refuse (open_refusals scheme c es n.value) (enters scheme es [])
-registry_verdict scheme c es (CloseAccount n) = refuse (close_refusals scheme c es n.value) (enters scheme es [])
+registry_verdict scheme c es (OpenAccount n) = refuse (open_refusals scheme c es n.value) (recorded_if_room scheme es [])
+registry_verdict scheme c es (CloseAccount n) = refuse (close_refusals scheme c es n.value) (recorded_if_room scheme es [])
 registry_verdict scheme c es (Ack n) = acknowledge scheme es n.value
 registry_verdict scheme c es (Received m t) = registry_message scheme c es t.seconds m
 registry_verdict scheme c es (CleanUp t) = IsRefused no_row

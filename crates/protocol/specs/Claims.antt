@@ -12,16 +12,16 @@ use Rattle.status.specs.Id.{same_id, id_at}
 use Rattle.status.specs.Status.{same_status}
 use Rattle.status.specs.declared.id.TransactionId.{TransactionId}
 use Rattle.status.specs.declared.moment.Moment.{Moment}
-use Rattle.status.specs.declared.words.Status.{Status}
-use Rattle.status.specs.declared.words.Status.TheVariants.{Checked, Accepted, Rejected, Terminated, Cancelled, Completed}
+use Rattle.status.specs.declared.status.Status.{Status}
+use Rattle.status.specs.declared.status.Status.TheVariants.{Checked, Accepted, Rejected, Terminated, Cancelled, Completed}
 use Rattle.wire.specs.declared.input.Input.{Input}
 use Rattle.wire.specs.declared.message.Message.TheVariants as message
 use Rattle.wire.specs.declared.message.Notification.{Notification}
-use Rattle.wire.specs.declared.notice.Notice.TheVariants as notice
+use Rattle.wire.specs.declared.notified.NotifiedStatus.TheVariants as notified
 use Rattle.scheme.specs.declared.registries.Scheme.{Scheme}
 use Rattle.protocol.specs.declared.event.Outcome.TheVariants.{Refused}
 use Rattle.protocol.specs.declared.event.WorldEvent.TheVariants.{Deliver}
-use Rattle.protocol.specs.Deciding.{Enters}
+use Rattle.protocol.specs.Deciding.{IsRecorded}
 use Rattle.protocol.specs.History.{Entry, Transition, transitions_of, newest, stands, stands_at, sends, holds, spendable, gives, credits, at_start, book_owner, carries, proposals}
 use Rattle.protocol.specs.Registries.{allotted}
 use Rattle.protocol.specs.Verdict.{history, verdict}
@@ -126,7 +126,7 @@ UnderWayApart scheme =
 -- a recorded Completed finds each unit of its transfer with the initiator
 abbrev pub OwnedByInitiator : Scheme → Type 0
 OwnedByInitiator scheme =
-    (journal : List Input) (input : Input) (xs : List Transition) → verdict scheme Itl (history scheme Itl journal) input ≡ Enters xs → (x : Transition) → Contains xs x → x.new ≡ Completed
+    (journal : List Input) (input : Input) (xs : List Transition) → verdict scheme Itl (history scheme Itl journal) input ≡ IsRecorded xs → (x : Transition) → Contains xs x → x.new ≡ Completed
     → (s : Serial) → carries x s ≡ true → book_owner scheme (transitions_of (history scheme Itl journal)) s ≡ Some x.id.code
 
 -- ---- of deliveries
@@ -138,4 +138,4 @@ DeliversWelcome w = (index : ℕ) (moment : Moment) (code : ℕ) → (step w (De
 -- where the log tells a registry Terminated, the codes are those of eligibility
 abbrev pub TerminatesForEligibility : (Node → List Entry) → Type 0
 TerminatesForEligibility f =
-    (n : Notification) (found : List ℕ) (code : ℕ) → Contains (sends (f Itl)) (message.Notification n) → n.notice ≡ notice.Terminated found → Contains found code → (code ≡ initiator_not_eligible) ⊎ (code ≡ acquirer_not_eligible)
+    (n : Notification) (found : List ℕ) (code : ℕ) → Contains (sends (f Itl)) (message.Notification n) → n.notified ≡ notified.Terminated found → Contains found code → (code ≡ initiator_not_eligible) ⊎ (code ≡ acquirer_not_eligible)

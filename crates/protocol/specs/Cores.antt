@@ -9,14 +9,14 @@ use Rattle.protocol.specs.declared.node_core.Stepped.{Stepped}
 use Rattle.protocol.specs.declared.node_core.Stepped.TheVariants.{Recorded, Repeat, Late}
 use Rattle.protocol.specs.declared.replay_fault.ReplayFault.{ReplayFault}
 use Rattle.protocol.specs.declared.replay_fault.ReplayFault.TheVariants.{NotRecorded, NoMemory}
-use Rattle.protocol.specs.Deciding.{Verdict, Enters, IsRepeat, IsLate, IsRefused}
+use Rattle.protocol.specs.Deciding.{Verdict, IsRecorded, IsRepeat, IsLate, IsRefused}
 use Rattle.protocol.specs.Verdict.{verdict, history}
 
 -- ---- one input
 
 -- a verdict as a result, where that many records stand before the input
 abbrev pub answer_of : ℕ → Verdict → Result Stepped Refusal
-answer_of place (Enters xs) = Ok (Recorded place)
+answer_of place (IsRecorded xs) = Ok (Recorded place)
 answer_of place IsRepeat = Ok Repeat
 answer_of place IsLate = Ok Late
 answer_of place (IsRefused code) = Err (record { code = code })

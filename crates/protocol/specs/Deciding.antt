@@ -4,13 +4,13 @@ use Rattle.std.specs.Option.{option_map_or}
 use Rattle.units.specs.RefusalCodes.{no_row, journal_full}
 use Rattle.status.specs.Content.{Content, same_content}
 use Rattle.status.specs.declared.id.TransactionId.{TransactionId}
-use Rattle.status.specs.declared.words.Known.{Known}
-use Rattle.status.specs.declared.words.Known.TheVariants.{Unknown, Bare, Stands}
-use Rattle.status.specs.declared.words.Row.{Row}
-use Rattle.status.specs.declared.words.Row.TheVariants.{Move, Repeat, Late, Refused}
-use Rattle.status.specs.declared.words.RowInput.{RowInput}
-use Rattle.status.specs.declared.words.RowInput.TheVariants.{ProposalWithoutFinding, ProposalWithFindings, EqualProposal}
-use Rattle.status.specs.declared.words.Status.{Status}
+use Rattle.status.specs.declared.rows.RecordedStatus.{RecordedStatus}
+use Rattle.status.specs.declared.rows.RecordedStatus.TheVariants.{Unknown, Bare, Stands}
+use Rattle.status.specs.declared.rows.Row.{Row}
+use Rattle.status.specs.declared.rows.Row.TheVariants.{Move, Repeat, Late, Refused}
+use Rattle.status.specs.declared.rows.RowInput.{RowInput}
+use Rattle.status.specs.declared.rows.RowInput.TheVariants.{ProposalWithoutFinding, ProposalWithFindings, EqualProposal}
+use Rattle.status.specs.declared.status.Status.{Status}
 use Rattle.wire.specs.declared.message.Message.{Message}
 use Rattle.scheme.specs.declared.registries.Scheme.{Scheme}
 use Rattle.protocol.specs.History.{Transition, Entry, sends, is_acknowledged}
@@ -18,7 +18,7 @@ use Rattle.protocol.specs.Checks.{Causes}
 
 -- recorded with these transitions, or acted on before, or too late to act on, or refused by that code
 pub data Verdict : Type 0 where
-  Enters : List Transition → Verdict
+  IsRecorded : List Transition → Verdict
   IsRepeat : Verdict
   IsLate : Verdict
   IsRefused : ℕ → Verdict
@@ -29,13 +29,13 @@ refuse [] answer = answer
 refuse (c ∷ cs) answer = cond c.0 (IsRefused c.1) (refuse cs answer)
 
 -- recorded, where the journal has room
-abbrev pub enters : Scheme → List Entry → List Transition → Verdict
-enters scheme es xs = cond (nat_le scheme.records (length es)) (IsRefused journal_full) (Enters xs)
+abbrev pub recorded_if_room : Scheme → List Entry → List Transition → Verdict
+recorded_if_room scheme es xs = cond (nat_le scheme.records (length es)) (IsRefused journal_full) (IsRecorded xs)
 
 -- ---- by the tables
 
 -- what is recorded of a transaction, by the newest transition that names it
-abbrev pub known : Option Transition → Known
+abbrev pub known : Option Transition → RecordedStatus
 known None = Unknown
 known (Some x) = option_map_or (λ k. Stands x.new) x.content Bare
 
@@ -43,10 +43,10 @@ abbrev pub content_in : Option Transition → Option Content
 content_in last = option_and_then (λ x. x.content) last
 
 -- the column of a proposal: equal to the one whose content is recorded, else by what was found
-abbrev pub offered : Option Content → List ℕ → RowInput
-offered (Some k) found = EqualProposal
-offered None [] = ProposalWithoutFinding
-offered None (c ∷ cs) = ProposalWithFindings
+abbrev pub column_of_proposal : Option Content → List ℕ → RowInput
+column_of_proposal (Some k) found = EqualProposal
+column_of_proposal None [] = ProposalWithoutFinding
+column_of_proposal None (c ∷ cs) = ProposalWithFindings
 
 abbrev pub moved : TransactionId → Option Content → ℕ → List Message → Status → Transition
 moved t k moment messages new = record { id = t; new = new; content = k; moment = moment; messages = messages }
@@ -58,7 +58,7 @@ moved_by to _ = []
 
 -- what a row says: where it moves, the transition is recorded
 abbrev pub by_row : Scheme → List Entry → (Status → Transition) → Row → Verdict
-by_row scheme es to (Move new) = enters scheme es (to new ∷ [])
+by_row scheme es to (Move new) = recorded_if_room scheme es (to new ∷ [])
 by_row scheme es to Repeat = IsRepeat
 by_row scheme es to Late = IsLate
 by_row scheme es to Refused = IsRefused no_row
@@ -73,4 +73,4 @@ abbrev pub ack_refusals : List Entry → ℕ → Causes
 ack_refusals es key = (nat_le (length (sends es)) key, no_row) ∷ []
 
 abbrev pub acknowledge : Scheme → List Entry → ℕ → Verdict
-acknowledge scheme es key = refuse (ack_refusals es key) (cond (is_acknowledged es key) IsRepeat (enters scheme es []))
+acknowledge scheme es key = refuse (ack_refusals es key) (cond (is_acknowledged es key) IsRepeat (recorded_if_room scheme es []))

@@ -1,9 +1,10 @@
--- What a role is to decide for an input, by the causes of refusals, the row of its table, and the messages that it sends.
+-- What a role is to decide for an input, by the causes of refusals, the row of its table, and the messages that it
+-- sends.
 use Rattle.std.specs.Prelude.{cond, List, [], ◌∷◌, Result, Ok, Err}
 use Rattle.units.specs.RefusalCodes.{no_row}
 use Rattle.units.specs.declared.refusal.Refusal.{Refusal}
-use Rattle.status.specs.declared.words.Row.{Row}
-use Rattle.status.specs.declared.words.Row.TheVariants.{Move, Repeat, Late, Refused}
+use Rattle.status.specs.declared.rows.Row.{Row}
+use Rattle.status.specs.declared.rows.Row.TheVariants.{Move, Repeat, Late, Refused}
 use Rattle.wire.specs.declared.message.Message.{Message}
 use Rattle.protocol.specs.declared.decision.Decision.{Decision}
 use Rattle.protocol.specs.declared.decision.Decision.TheVariants as decision

@@ -1,6 +1,6 @@
 -- What a journal says: the transitions of its inputs, and what is read off them.
--- A journal is the list of the inputs that a node recorded, the oldest first. A history is the list of these inputs with
--- their transitions, the newest first.
+-- A journal is the list of the inputs that a node recorded, the oldest first. A history is the list of these inputs
+-- with their transitions, the newest first.
 use Rattle.std.specs.Prelude.{ℕ, ◌+◌, ◌==◌, ◌&&◌, ◌||◌, not, cond, Bool, true, false, List, [], ◌∷◌, ◌++◌, find, flat_map, unwrap_or, Option, Some, None, option_map, option_and_then, is_some}
 use Rattle.std.specs.List.{list_any, count_by}
 use Rattle.std.specs.Option.{option_map_or}
@@ -13,8 +13,8 @@ use Rattle.status.specs.Content.{Content}
 use Rattle.status.specs.Id.{same_id}
 use Rattle.status.specs.Status.{same_status}
 use Rattle.status.specs.declared.id.TransactionId.{TransactionId}
-use Rattle.status.specs.declared.words.Status.{Status}
-use Rattle.status.specs.declared.words.Status.TheVariants.{Proposed, Checked, Accepted, Completed}
+use Rattle.status.specs.declared.status.Status.{Status}
+use Rattle.status.specs.declared.status.Status.TheVariants.{Proposed, Checked, Accepted, Completed}
 use Rattle.wire.specs.declared.input.Input.{Input}
 use Rattle.wire.specs.declared.input.Input.TheVariants.{Propose, Request, OpenAccount, CloseAccount, Ack, Eligible}
 use Rattle.wire.specs.declared.message.Message.{Message}

@@ -5,7 +5,7 @@ use Rattle.units.specs.declared.code.Code.{Code}
 use Rattle.units.specs.declared.code.Node.{Node}
 use Rattle.units.specs.declared.code.Node.TheVariants.{Registry}
 use Rattle.status.specs.declared.id.TransactionId.{TransactionId}
-use Rattle.status.specs.declared.words.Status.TheVariants.{Completed}
+use Rattle.status.specs.declared.status.Status.TheVariants.{Completed}
 use Rattle.scheme.specs.declared.registries.Scheme.{Scheme}
 use Rattle.protocol.specs.History.{Entry, Transition, transitions_of, newest, holds, carries}
 use Rattle.protocol.specs.Registries.{allotted, has_member}

@@ -11,10 +11,10 @@ use Rattle.units.specs.declared.code.Node.TheVariants.{Itl, Registry}
 use Rattle.scheme.specs.Allotted as start
 use Rattle.scheme.specs.Order as order
 use Rattle.scheme.specs.declared.members.Holder.{Holder}
-use Rattle.scheme.specs.declared.members.Member.{Member}
+use Rattle.scheme.specs.declared.members.SchemeRegistry.{SchemeRegistry}
 use Rattle.scheme.specs.declared.registries.Scheme.{Scheme}
 
-abbrev pub member : Scheme → Code → Option Member
+abbrev pub member : Scheme → Code → Option SchemeRegistry
 member scheme c = order.member scheme.members c
 
 abbrev pub has_member : Scheme → Code → Bool
@@ -29,7 +29,7 @@ is_node scheme (Registry c) = has_member scheme c
 abbrev pub allotted : Scheme → Serial → Option Holder
 allotted scheme s = start.allotted scheme.members s
 
-abbrev pub lists_account : Option Member → ℕ → Bool
+abbrev pub lists_account : Option SchemeRegistry → ℕ → Bool
 lists_account registry account = option_map_or (λ m. order.has_account m account) registry false
 
 -- the registry has the account

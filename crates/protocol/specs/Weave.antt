@@ -11,7 +11,7 @@ use Rattle.protocol.specs.declared.event.Outcome.TheVariants.{Recorded}
 use Rattle.protocol.specs.declared.event.Posted.{Posted}
 use Rattle.protocol.specs.declared.event.WorldEvent.{WorldEvent}
 use Rattle.protocol.specs.declared.event.WorldEvent.TheVariants.{Take, Deliver}
-use Rattle.protocol.specs.Deciding.{Enters}
+use Rattle.protocol.specs.Deciding.{IsRecorded}
 use Rattle.protocol.specs.History.{Transition, sends}
 use Rattle.protocol.specs.Registries.{is_node}
 use Rattle.protocol.specs.Verdict.{verdict, history}
@@ -46,7 +46,7 @@ WasSent scheme past n _ = Unit {0}
 -- the node records the input after these journals
 abbrev pub IsNext : Scheme → (Node → List Input) → Placed → Type 0
 IsNext scheme past r =
-    (is_node scheme r.node ≡ true) × ((xs : List Transition) × (verdict scheme r.node (history scheme r.node (past r.node)) r.input ≡ Enters xs)) × WasSent scheme past r.node r.input
+    (is_node scheme r.node ≡ true) × ((xs : List Transition) × (verdict scheme r.node (history scheme r.node (past r.node)) r.input ≡ IsRecorded xs)) × WasSent scheme past r.node r.input
 
 -- each record is next when its turn comes
 abbrev pub InTurn : Scheme → List Placed → Type 0

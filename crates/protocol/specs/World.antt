@@ -15,7 +15,7 @@ use Rattle.protocol.specs.declared.event.Outcome.TheVariants.{Recorded, Repeat, 
 use Rattle.protocol.specs.declared.event.Posted.{Posted}
 use Rattle.protocol.specs.declared.event.WorldEvent.{WorldEvent}
 use Rattle.protocol.specs.declared.event.WorldEvent.TheVariants.{Take, Commit, Post, Deliver, Crash, Restart}
-use Rattle.protocol.specs.Deciding.{Verdict, Enters, IsRepeat, IsLate, IsRefused}
+use Rattle.protocol.specs.Deciding.{Verdict, IsRecorded, IsRepeat, IsLate, IsRefused}
 use Rattle.protocol.specs.History.{sends}
 use Rattle.protocol.specs.Verdict.{verdict, history}
 
@@ -84,7 +84,7 @@ running s turn = cond s.runs turn (rests s NotPossible)
 
 -- the input goes to the end of the tail where it is recorded
 abbrev pub answered : Station → Input → Verdict → Turn
-answered s input (Enters xs) = record {
+answered s input (IsRecorded xs) = record {
   station = record s { tail = s.tail ++ input ∷ [] };
   outcome = Recorded (length (journal s));
 }

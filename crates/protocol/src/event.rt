@@ -40,6 +40,7 @@ pub enum Outcome {
 #[derive(Debug, Drop)]
 pub struct Posted {
     pub node: Node,
+    /// Which of the messages that the node sent it is, counted from 0.
     pub key: u64,
     pub message: Message,
 }

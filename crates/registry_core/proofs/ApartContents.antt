@@ -20,7 +20,7 @@ use Rattle.scheme.specs.declared.registries.Scheme.{Scheme}
 use Rattle.status.specs.declared.id.TransactionId.{TransactionId}
 use Rattle.lemmas.proofs.OneValue.{clash, one_some}
 use Rattle.lemmas.proofs.SomePass.{list_any_none}
-use Rattle.protocol.specs.Verdict.{made, verdict}
+use Rattle.protocol.specs.Verdict.{transitions_made, verdict}
 use Rattle.std.proofs.lemmas.Bool.{or_parts}
 use Rattle.safety.proofs.OneRegistry.TransactionEnds.{own_code}
 use Rattle.protocol.proofs.UnitsOfBlocks.{piece_of_block, same_unit_refl}
@@ -63,13 +63,13 @@ module _ (scheme : Scheme) (c : Code) where
   abbrev pub ContentsApart : List Transition → Type 0
   ContentsApart xs = (x : Transition) (k : Content) → In x xs → same_code x.id.code c ≡ false → x.content ≡ Some k → repeats (pieces k.units) ≡ false
 
-  offered_apart : (es : List Entry) (p : Proposal) (moment : Moment) (x : Transition) → In x (made (registry_verdict scheme c es (Received (message.Proposal p) moment))) → repeats (pieces p.content.units) ≡ false
+  offered_apart : (es : List Entry) (p : Proposal) (moment : Moment) (x : Transition) → In x (transitions_made (registry_verdict scheme c es (Received (message.Proposal p) moment))) → repeats (pieces p.content.units) ≡ false
   offered_apart es p moment x i =
       let g = refuse_made (registry_refusals c es (message.Proposal p)) (registry_answer scheme c es moment.seconds (message.Proposal p)) x i in
       let own = or_parts (not (same_code p.content.acquirer c)) (same_code p.id.code c || repeats (pieces p.content.units)) g.0.1.1.0 in
       (or_parts (same_code p.id.code c) (repeats (pieces p.content.units)) own.1).1
 
-  apart_move : (es : List Entry) (input : Input) (x : Transition) (k : Content) → RegistryMove scheme c es input x → In x (made (registry_verdict scheme c es input)) → ContentsApart (transitions_of es) → same_code x.id.code c ≡ false
+  apart_move : (es : List Entry) (input : Input) (x : Transition) (k : Content) → RegistryMove scheme c es input x → In x (transitions_made (registry_verdict scheme c es input)) → ContentsApart (transitions_of es) → same_code x.id.code c ≡ false
       → x.content ≡ Some k → repeats (pieces k.units) ≡ false
   apart_move es input x k (proposes o t none is fresh) i old foreign known = clash (same_code t.code c) (own_code scheme c (proposals es + 1) t is) foreign
   apart_move es input x k (asks t q was own stood) i old foreign known = old q k (newest_id (transitions_of es) t q was).0 foreign known
@@ -79,7 +79,7 @@ module _ (scheme : Scheme) (c : Code) where
   apart_move es input x k (settles n moment q new f was own move) i old foreign known = old q k (newest_id (transitions_of es) n.id q was).0 foreign known
   apart_move es input x k (finishes n moment q new f was foreign' move none) i old foreign known = old q k (newest_id (transitions_of es) n.id q was).0 foreign known
 
-  made_here : (e : Entry) (es : List Entry) → Made scheme (Registry c) (e ∷ es) → e.transitions ≡ made (registry_verdict scheme c es e.input)
+  made_here : (e : Entry) (es : List Entry) → Made scheme (Registry c) (e ∷ es) → e.transitions ≡ transitions_made (registry_verdict scheme c es e.input)
   unfolding verdict
   made_here e es h = h.0
 

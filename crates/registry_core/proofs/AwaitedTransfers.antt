@@ -1,5 +1,6 @@
--- A transfer into an account is awaited exactly when some transaction of another registry stands Accepted and has that account.
-use Rattle.status.specs.declared.words.Status.TheVariants.{Accepted}
+-- A transfer into an account is awaited exactly when some transaction of another registry stands Accepted and has
+-- that account.
+use Rattle.status.specs.declared.status.Status.TheVariants.{Accepted}
 use Rattle.std.proofs.Common.{Bool, List, None, Option, Some, false, not, refl, subst, true, ℕ, ◌&&◌, ◌==◌, ◌∙◌, ◌≡◌, ap}
 use Rattle.units.specs.declared.code.Code.{Code}
 use Rattle.status.specs.Content.{Content}
@@ -18,7 +19,7 @@ use Rattle.std.specs.Option.{option_map_or}
 use Rattle.units.specs.Code.{same_code}
 use Rattle.status.specs.Status.{same_status}
 use Rattle.safety.proofs.ListLemmas.TestsOfSameness.{status_of_same}
-use Rattle.protocol.specs.Verdict.{made}
+use Rattle.protocol.specs.Verdict.{transitions_made}
 
 -- a transaction of another registry that stands Accepted, with the account that its units go to
 pub record Awaited (c : Code) (xs : List Transition) (account : ℕ) : Type 0 where
@@ -72,7 +73,7 @@ some_awaited c xs account a =
 
 -- of a history
 pub awaited_in : (scheme : Scheme) (c : Code) (es : List Entry) (account : ℕ) → Made scheme (Registry c) es → is_awaited c (transitions_of es) account ≡ true → Awaited c (transitions_of es) account
-awaited_in scheme c es account made h = awaited_some scheme c (transitions_of es) account (sound_history scheme c es made) h
+awaited_in scheme c es account transitions_made h = awaited_some scheme c (transitions_of es) account (sound_history scheme c es transitions_made) h
 
 -- the same as a test of a row with the newest status and the content
 pub awaited_row : (scheme : Scheme) (c : Code) (xs : List Transition) (account : ℕ) → Sound scheme c xs → is_awaited c xs account ≡ true

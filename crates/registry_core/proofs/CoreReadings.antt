@@ -1,4 +1,5 @@
--- What a registry's tables say, seen from outside: its messages, its lots and accounts, and inputs that it never records.
+-- What a registry's tables say, seen from outside: its messages, its unit holdings and accounts, and inputs that it
+-- never records.
 use Rattle.std.specs.FinMap as map
 use Rattle.std.proofs.Common.{◌≡◌, ℕ, ◌+◌, ◌≤◌, Bool, true, false, cond, Option, Some, None, List, take, length, Err, inl, inr, refl, sym, ap, subst, ◌∙◌, arith}
 use Rattle.std.specs.List.{count_by}
@@ -11,7 +12,7 @@ use Rattle.units.specs.declared.code.Node.{Node}
 use Rattle.units.specs.declared.code.Node.TheVariants.{Registry}
 use Rattle.status.specs.declared.id.TransactionId.{TransactionId}
 use Rattle.status.specs.declared.moment.Moment.{Moment}
-use Rattle.accounts.specs.declared.lot.Lot.{Lot}
+use Rattle.accounts.specs.declared.unit_holding.UnitHolding.{UnitHolding}
 use Rattle.wire.specs.declared.input.Input.{Input}
 use Rattle.wire.specs.declared.input.Input.TheVariants.{CleanUp, Eligible}
 use Rattle.wire.specs.declared.message.Message.{Message}
@@ -27,10 +28,10 @@ use Rattle.outbox.specs.Sending.{Sent}
 use Rattle.outbox.proofs.OutgoingRecords.{acknowledged_outgoing, messages_outgoing, outgoing_take}
 use Rattle.safety.proofs.OneRegistry.UnitsCountedOnce.{Waits, counted_once}
 use Rattle.registry_core.specs.Kept.{IsKept}
-use Rattle.registry_core.specs.Readings.{lot_at, reserver, standing_at}
+use Rattle.registry_core.specs.Readings.{unit_holding_at, reserver, account_status_at}
 use Rattle.registry_core.specs.Registry.{IsReserving, Registry as Core, moves, past}
 use Rattle.registry_core.specs.declared.tables.Tables.{Tables}
-use Rattle.registry_core.proofs.LotsOfUnits.{waits_reserver, held_place, lot_is_held, lot_of_held, lot_of_unheld, reserved_some, reserver_waits, unheld_reserver, waits_held}
+use Rattle.registry_core.proofs.UnitHoldingsOfUnits.{waits_reserver, held_place, unit_holding_is_held, unit_holding_of_held, unit_holding_of_unheld, reserved_some, reserver_waits, unheld_reserver, waits_held}
 use Rattle.registry_core.proofs.SoundHistories.{Sound, sound_history}
 use Rattle.safety.proofs.MovesAndHistories.NewestTransitions.{Made}
 use Rattle.registry_core.proofs.RecordedEntries.{entered_made, replays_entered}
@@ -62,11 +63,11 @@ once_counted scheme c xs s h =
           same ∙ ap (λ b. count_by (gives c s) xs + cond b 1 0) (sym n)
     ]
 
-lot_reserver : (scheme : Scheme) (c : Code) (xs : List Transition) (s : Serial) → Sound scheme c xs → option_and_then (λ (lot : Lot). lot.reserving) (lot_at scheme c xs s) ≡ reserver c xs s
-lot_reserver scheme c xs s sound =
+unit_holding_reserver : (scheme : Scheme) (c : Code) (xs : List Transition) (s : Serial) → Sound scheme c xs → option_and_then (λ (unit_holding : UnitHolding). unit_holding.reserving) (unit_holding_at scheme c xs s) ≡ reserver c xs s
+unit_holding_reserver scheme c xs s sound =
     elim (cases_Bool (holds scheme c xs s)) [
-      | inl y ↦ let q = held_place scheme c s xs y in ap (option_and_then (λ (lot : Lot). lot.reserving)) (lot_of_held scheme c s xs q.0 y q.1)
-      | inr n ↦ ap (option_and_then (λ (lot : Lot). lot.reserving)) (lot_of_unheld scheme c s xs n) ∙ sym (unheld_reserver scheme c s xs sound n)
+      | inl y ↦ let q = held_place scheme c s xs y in ap (option_and_then (λ (unit_holding : UnitHolding). unit_holding.reserving)) (unit_holding_of_held scheme c s xs q.0 y q.1)
+      | inr n ↦ ap (option_and_then (λ (unit_holding : UnitHolding). unit_holding.reserving)) (unit_holding_of_unheld scheme c s xs n) ∙ sym (unheld_reserver scheme c s xs sound n)
     ]
 
 -- ---- of a registry
@@ -102,14 +103,14 @@ module _ (scheme : Scheme) (c : Code) (tables : Tables) (kept : IsKept scheme c 
 
   -- ---- its units and accounts
 
-  pub lot_so : (s : Serial) → map.get tables.holdings.lots s ≡ lot_at r.scheme r.code (moves r) s
-  lot_so s = kept.kept.lots s ∙ ap (λ (q : Core). lot_at q.scheme q.code (moves q) s) is
+  pub unit_holding_so : (s : Serial) → map.get tables.holdings.unit_holdings s ≡ unit_holding_at r.scheme r.code (moves r) s
+  unit_holding_so s = kept.kept.unit_holdings s ∙ ap (λ (q : Core). unit_holding_at q.scheme q.code (moves q) s) is
 
-  pub standing_so : (n : ℕ) → map.get tables.holdings.accounts n ≡ standing_at r.scheme r.code (past r) n
-  standing_so n = kept.kept.accounts n ∙ ap (λ (q : Core). standing_at q.scheme q.code (past q) n) is
+  pub account_status_so : (n : ℕ) → map.get tables.holdings.accounts n ≡ account_status_at r.scheme r.code (past r) n
+  account_status_so n = kept.kept.accounts n ∙ ap (λ (q : Core). account_status_at q.scheme q.code (past q) n) is
 
-  pub held_so : (s : Serial) → is_some (map.get tables.holdings.lots s) ≡ holds r.scheme r.code (moves r) s
-  held_so s = ap is_some (lot_so s) ∙ lot_is_held r.scheme r.code s (moves r)
+  pub held_so : (s : Serial) → is_some (map.get tables.holdings.unit_holdings s) ≡ holds r.scheme r.code (moves r) s
+  held_so s = ap is_some (unit_holding_so s) ∙ unit_holding_is_held r.scheme r.code s (moves r)
 
   recorded : Made r.scheme (Registry r.code) (past r)
   recorded = subst (λ (q : Core). Made q.scheme (Registry q.code) (past q)) is (entered_made scheme c (past (seen scheme c tables)) (replays_entered scheme c tables.journal.items kept.replays))
@@ -117,8 +118,8 @@ module _ (scheme : Scheme) (c : Code) (tables : Tables) (kept : IsKept scheme c 
   pub once_so : (s : Serial) → at_start r.scheme r.code s + count_by (credits r.code s) (moves r) ≡ count_by (gives r.code s) (moves r) + cond (holds r.scheme r.code (moves r) s) 1 0
   once_so s = once_counted r.scheme r.code (moves r) s (counted_once r.scheme r.code (past r) recorded s)
 
-  pub reserver_so : (s : Serial) → option_and_then (λ (lot : Lot). lot.reserving) (map.get tables.holdings.lots s) ≡ reserver r.code (moves r) s
-  reserver_so s = ap (option_and_then (λ (lot : Lot). lot.reserving)) (lot_so s) ∙ lot_reserver r.scheme r.code (moves r) s (sound_history r.scheme r.code (past r) recorded)
+  pub reserver_so : (s : Serial) → option_and_then (λ (unit_holding : UnitHolding). unit_holding.reserving) (map.get tables.holdings.unit_holdings s) ≡ reserver r.code (moves r) s
+  reserver_so s = ap (option_and_then (λ (unit_holding : UnitHolding). unit_holding.reserving)) (unit_holding_so s) ∙ unit_holding_reserver r.scheme r.code (moves r) s (sound_history r.scheme r.code (past r) recorded)
 
   waits_so : (s : Serial) (t : TransactionId) → reserver r.code (moves r) s ≡ Some t → Waits r.code s (moves r) t
   waits_so s t e = reserver_waits r.scheme r.code s (moves r) t (sound_history r.scheme r.code (past r) recorded) e

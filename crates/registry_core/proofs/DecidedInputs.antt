@@ -10,14 +10,14 @@ use Rattle.units.specs.declared.code.Node.TheVariants.{Registry}
 use Rattle.units.specs.declared.refusal.Refusal.{Refusal}
 use Rattle.status.specs.Rows.{acquirer_row, initiator_row}
 use Rattle.status.specs.Status.{same_status}
-use Rattle.status.specs.declared.words.Known.{Known}
-use Rattle.status.specs.declared.words.Known.TheVariants.{Bare, Stands, Unknown}
-use Rattle.status.specs.declared.words.Row.{Row}
-use Rattle.status.specs.declared.words.Row.TheVariants.{Move, Refused}
-use Rattle.status.specs.declared.words.RowInput.TheVariants as column
-use Rattle.status.specs.declared.words.RowInput.TheVariants.{Notified}
-use Rattle.status.specs.declared.words.Status.{Status}
-use Rattle.status.specs.declared.words.Status.TheVariants.{Proposed, Checked, Accepted, Rejected, Terminated, Cancelled, Completed}
+use Rattle.status.specs.declared.rows.RecordedStatus.{RecordedStatus}
+use Rattle.status.specs.declared.rows.RecordedStatus.TheVariants.{Bare, Stands, Unknown}
+use Rattle.status.specs.declared.rows.Row.{Row}
+use Rattle.status.specs.declared.rows.Row.TheVariants.{Move, Refused}
+use Rattle.status.specs.declared.rows.RowInput.TheVariants as column
+use Rattle.status.specs.declared.rows.RowInput.TheVariants.{Notified}
+use Rattle.status.specs.declared.status.Status.{Status}
+use Rattle.status.specs.declared.status.Status.TheVariants.{Proposed, Checked, Accepted, Rejected, Terminated, Cancelled, Completed}
 use Rattle.wire.specs.declared.input.Input.{Input}
 use Rattle.wire.specs.declared.input.Input.TheVariants.{Received}
 use Rattle.wire.specs.declared.message.Message.{Message}
@@ -33,7 +33,7 @@ use Rattle.protocol.specs.Cores.{IsDueOrNoMemory}
 use Rattle.protocol.specs.Deciding as decide
 use Rattle.protocol.specs.Effects.{acquirer_sends, initiator_sends}
 use Rattle.lemmas.proofs.OneValue.{clash}
-use Rattle.protocol.specs.Deciding.{IsLate, IsRefused, IsRepeat, by_row, content_in, enters, known, refuse}
+use Rattle.protocol.specs.Deciding.{IsLate, IsRefused, IsRepeat, by_row, content_in, recorded_if_room, known, refuse}
 use Rattle.protocol.specs.Decisions.{decided, unless}
 use Rattle.protocol.specs.History.{Entry, Transition, newest, transitions_of}
 use Rattle.protocol.specs.Verdict.{history}
@@ -59,7 +59,7 @@ use Rattle.registry_core.proofs.TakenInputs.{GivenUp, due_so}
 pub knows_so : (scheme : Scheme) (c : Code) (tables : Tables) → IsKept scheme c tables → Knows scheme c tables.holdings (holding scheme c (history scheme (Registry c) tables.journal.items))
 knows_so scheme c tables kept =
     let es = history scheme (Registry c) tables.journal.items in
-    knows scheme c es (entered_made scheme c es (replays_entered scheme c tables.journal.items kept.replays)) tables.holdings kept.kept.lots kept.kept.accounts
+    knows scheme c es (entered_made scheme c es (replays_entered scheme c tables.journal.items kept.replays)) tables.holdings kept.kept.unit_holdings kept.kept.accounts
 
 -- ---- a decision, where the verdict on the input goes by that row after those causes
 
@@ -73,7 +73,7 @@ module _ (scheme : Scheme) (c : Code) (tables : Tables) (input : Input) (to : St
         | inr e ↦ inr (row_is ∙ e)
       ]
 
-  pub moves : (new : Status) (ms' : List Message) → d ≡ Ok (decision.Moves new ms') → verdict_due scheme c tables input ≡ enters scheme (history scheme (Registry c) tables.journal.items) (to new ∷ [])
+  pub moves : (new : Status) (ms' : List Message) → d ≡ Ok (decision.Moves new ms') → verdict_due scheme c tables input ≡ recorded_if_room scheme (history scheme (Registry c) tables.journal.items) (to new ∷ [])
   moves new ms' h = row_is ∙ unless_enters scheme (history scheme (Registry c) tables.journal.items) to cs row ms ms' new d is h
 
   pub sends : (new : Status) (ms' : List Message) → d ≡ Ok (decision.Moves new ms') → ms' ≡ ms
@@ -131,7 +131,7 @@ module _ (scheme : Scheme) (c : Code) (tables : Tables) (kept : IsKept scheme c 
                 ]
           ]
 
-  unasked_initiator : (k : Known) → initiator_row k column.Request ≡ Refused
+  unasked_initiator : (k : RecordedStatus) → initiator_row k column.Request ≡ Refused
   unasked_initiator Unknown = refl
   unasked_initiator Bare = refl
   unasked_initiator (Stands Proposed) = refl
@@ -146,7 +146,7 @@ module _ (scheme : Scheme) (c : Code) (tables : Tables) (kept : IsKept scheme c 
   unheld_refused true = refl
   unheld_refused false = refl
 
-  unasked_acquirer : (k : Known) → acquirer_row k column.Request ≡ Refused
+  unasked_acquirer : (k : RecordedStatus) → acquirer_row k column.Request ≡ Refused
   unasked_acquirer Unknown = refl
   unasked_acquirer Bare = refl
   unasked_acquirer (Stands Proposed) = refl

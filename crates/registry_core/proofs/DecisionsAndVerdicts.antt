@@ -1,15 +1,16 @@
--- What a role decides for an input against the verdict on it: by a row of its table, and by a row after the causes of refusals.
+-- What a role decides for an input against the verdict on it: by a row of its table, and by a row after the causes of
+-- refusals.
 use Rattle.std.proofs.Common.{Bool, Err, List, Ok, Result, [], ap, cond, false, inl, inr, refl, sym, true, ℕ, ◌∙◌, ◌∷◌, ◌≡◌, ◌⊎◌}
 use Rattle.units.specs.RefusalCodes.{no_row, out_of_memory}
 use Rattle.units.specs.declared.refusal.Refusal.{Refusal}
-use Rattle.status.specs.declared.words.Row.{Row}
-use Rattle.status.specs.declared.words.Row.TheVariants as rows
-use Rattle.status.specs.declared.words.Status.{Status}
+use Rattle.status.specs.declared.rows.Row.{Row}
+use Rattle.status.specs.declared.rows.Row.TheVariants as rows
+use Rattle.status.specs.declared.status.Status.{Status}
 use Rattle.wire.specs.declared.message.Message.{Message}
 use Rattle.scheme.specs.declared.registries.Scheme.{Scheme}
 use Rattle.protocol.specs.Checks.{Causes}
 use Rattle.protocol.specs.Cores.{IsDueOrNoMemory}
-use Rattle.protocol.specs.Deciding.{IsLate, IsRefused, IsRepeat, Verdict, by_row, enters, refuse}
+use Rattle.protocol.specs.Deciding.{IsLate, IsRefused, IsRepeat, Verdict, by_row, recorded_if_room, refuse}
 use Rattle.protocol.specs.Decisions.{decided, unless}
 use Rattle.protocol.specs.History.{Entry, Transition}
 use Rattle.protocol.specs.declared.decision.Decision.{Decision}
@@ -89,7 +90,7 @@ module _ (scheme : Scheme) (es : List Entry) (to : Status → Transition) where
 
   -- ---- a role that a row decides for
 
-  pub decided_enters : (row : Row) (ms ms' : List Message) (new : Status) (d : Result Decision Refusal) → IsDueOrNoMemory d (decided row ms) → d ≡ Ok (decision.Moves new ms') → by_row scheme es to row ≡ enters scheme es (to new ∷ [])
+  pub decided_enters : (row : Row) (ms ms' : List Message) (new : Status) (d : Result Decision Refusal) → IsDueOrNoMemory d (decided row ms) → d ≡ Ok (decision.Moves new ms') → by_row scheme es to row ≡ recorded_if_room scheme es (to new ∷ [])
   decided_enters row ms ms' new d is h = ap (by_row scheme es to) (decided_moves row ms ms' new d is h).0
 
   pub decided_repeat : (row : Row) (ms : List Message) (d : Result Decision Refusal) → IsDueOrNoMemory d (decided row ms) → d ≡ Ok decision.Repeat → by_row scheme es to row ≡ IsRepeat
@@ -114,8 +115,8 @@ module _ (scheme : Scheme) (es : List Entry) (to : Status → Transition) where
       refuse_none cs (by_row scheme es to row) u.0 ∙ by u.1
 
   pub unless_enters : (cs : Causes) (row : Row) (ms ms' : List Message) (new : Status) (d : Result Decision Refusal) → IsDueOrNoMemory d (unless cs (decided row ms)) → d ≡ Ok (decision.Moves new ms')
-      → refuse cs (by_row scheme es to row) ≡ enters scheme es (to new ∷ [])
-  unless_enters cs row ms ms' new d is h = unless_row cs row ms d (decision.Moves new ms') (enters scheme es (to new ∷ [])) (λ e. ap (by_row scheme es to) (row_moves row ms ms' new e).0) is h
+      → refuse cs (by_row scheme es to row) ≡ recorded_if_room scheme es (to new ∷ [])
+  unless_enters cs row ms ms' new d is h = unless_row cs row ms d (decision.Moves new ms') (recorded_if_room scheme es (to new ∷ [])) (λ e. ap (by_row scheme es to) (row_moves row ms ms' new e).0) is h
 
   pub unless_repeat : (cs : Causes) (row : Row) (ms : List Message) (d : Result Decision Refusal) → IsDueOrNoMemory d (unless cs (decided row ms)) → d ≡ Ok decision.Repeat → refuse cs (by_row scheme es to row) ≡ IsRepeat
   unless_repeat cs row ms d is h = unless_row cs row ms d decision.Repeat IsRepeat (λ e. ap (by_row scheme es to) (row_repeats row ms e)) is h

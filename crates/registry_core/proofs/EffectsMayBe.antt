@@ -9,16 +9,16 @@ use Rattle.units.specs.declared.code.Node.TheVariants.{Registry}
 use Rattle.status.specs.Content.{Content}
 use Rattle.status.specs.Status.{same_status}
 use Rattle.status.specs.declared.id.TransactionId.{TransactionId}
-use Rattle.status.specs.declared.words.Status.{Status}
-use Rattle.status.specs.declared.words.Status.TheVariants.{Cancelled, Completed}
-use Rattle.checks.specs.declared.order.Offer.{Offer}
-use Rattle.wire.specs.Notices.{notice_status}
+use Rattle.status.specs.declared.status.Status.{Status}
+use Rattle.status.specs.declared.status.Status.TheVariants.{Cancelled, Completed}
+use Rattle.checks.specs.declared.order.NewTransfer.{NewTransfer}
+use Rattle.wire.specs.NotifiedStatuses.{notified_status}
 use Rattle.wire.specs.declared.input.Input.{Input}
 use Rattle.scheme.specs.declared.registries.Scheme.{Scheme}
 use Rattle.protocol.specs.AtRegistry.{holds_some}
-use Rattle.protocol.specs.Deciding.{Enters}
+use Rattle.protocol.specs.Deciding.{IsRecorded}
 use Rattle.protocol.specs.History.{Entry, Transition, newest, transitions_of}
-use Rattle.protocol.specs.Verdict.{history, made, verdict}
+use Rattle.protocol.specs.Verdict.{history, transitions_made, verdict}
 use Rattle.acquirer.specs.Crediting.{MayCredit}
 use Rattle.acquirer.specs.Transfers as acquirer
 use Rattle.lemmas.proofs.Membership.{In}
@@ -33,15 +33,15 @@ use Rattle.registry_core.specs.declared.effect.Effect.{Effect}
 use Rattle.registry_core.specs.declared.effect.Effect.TheVariants.{Arrive, Ask, Cancel, Complete, Forestall, Open, Settle}
 use Rattle.registry_core.specs.declared.tables.Tables.{Tables}
 use Rattle.registry_core.proofs.ApartContents.{awaited_apart}
-use Rattle.registry_core.proofs.LotsAfterMoves.{units_absent}
-use Rattle.registry_core.proofs.LotsOfUnits.{none_is}
+use Rattle.registry_core.proofs.UnitHoldingsAfterMoves.{units_absent}
+use Rattle.registry_core.proofs.UnitHoldingsOfUnits.{none_is}
 use Rattle.registry_core.proofs.OpenReceivers.{receivers_open}
 use Rattle.registry_core.proofs.RecordedEntries.{Entered, entered_made, replays_entered}
 
 -- what is recorded is a case of the tables
-pub entered_move : (scheme : Scheme) (c : Code) (es : List Entry) (input : Input) (x : Transition) → verdict scheme (Registry c) es input ≡ Enters (x ∷ []) → RegistryMove scheme c es input x
+pub entered_move : (scheme : Scheme) (c : Code) (es : List Entry) (input : Input) (x : Transition) → verdict scheme (Registry c) es input ≡ IsRecorded (x ∷ []) → RegistryMove scheme c es input x
 unfolding verdict
-entered_move scheme c es input x e = registry_moves scheme c es input x (subst (In x) (sym (ap made e)) (inl refl))
+entered_move scheme c es input x e = registry_moves scheme c es input x (subst (In x) (sym (ap transitions_made e)) (inl refl))
 
 -- a transaction that isn't known has no row
 pub row_none : {R : Type 0} (keep : TransactionId → Bool) (row : TransactionId → Transition → R) (xs : List Transition) (t : TransactionId) → newest xs t ≡ None → row_at keep row xs t ≡ None
@@ -74,13 +74,13 @@ module _ (scheme : Scheme) (c : Code) (es : List Entry) (tables : Tables) (kept 
       ∙ cond-true (not (same_code t.code c)) (option_map (foreign_row t) (newest (transitions_of es) t)) None (ap not other)
       ∙ ap (option_map (foreign_row t)) was)
 
-  open_may : (input : Input) (x : Transition) (offer : Offer) → RegistryMove scheme c es input x → IsEffect c es input x (Open offer) → map.get tables.initiator.transfers offer.id ≡ None
-  open_may input x offer (proposes o t none is fresh) h = new_own offer.id (subst (λ u. newest (transitions_of es) u ≡ None) h.0 fresh)
-  open_may input x offer (asks t q was own stood) h = absurd h
-  open_may input x offer (arrives p moment found f s is none foreign mine) h = absurd h
-  open_may input x offer (bares n moment f cancelled none foreign) h = absurd h
-  open_may input x offer (settles n moment q new f was own move) h = absurd h
-  open_may input x offer (finishes n moment q new f was foreign move none) h = absurd h
+  open_may : (input : Input) (x : Transition) (new_transfer : NewTransfer) → RegistryMove scheme c es input x → IsEffect c es input x (Open new_transfer) → map.get tables.initiator.transfers new_transfer.id ≡ None
+  open_may input x new_transfer (proposes o t none is fresh) h = new_own new_transfer.id (subst (λ u. newest (transitions_of es) u ≡ None) h.0 fresh)
+  open_may input x new_transfer (asks t q was own stood) h = absurd h
+  open_may input x new_transfer (arrives p moment found f s is none foreign mine) h = absurd h
+  open_may input x new_transfer (bares n moment f cancelled none foreign) h = absurd h
+  open_may input x new_transfer (settles n moment q new f was own move) h = absurd h
+  open_may input x new_transfer (finishes n moment q new f was foreign move none) h = absurd h
 
   arrive_may : (input : Input) (x : Transition) (id : TransactionId) (told : Status) (content : Content) → RegistryMove scheme c es input x → IsEffect c es input x (Arrive id told content) → map.get tables.acquirer.transfers id ≡ None
   arrive_may input x id told content (arrives p moment found f s is none foreign mine) h = new_foreign id (subst (λ u. newest (transitions_of es) u ≡ None) h.0 none)
@@ -104,12 +104,12 @@ module _ (scheme : Scheme) (c : Code) (es : List Entry) (tables : Tables) (kept 
       let here : newest (transitions_of es) id ≡ Some q = subst (λ u. newest (transitions_of es) u ≡ Some q) h.0 was in
       let other = foreign_of c id h.2 in
       let content : q.content ≡ Some k = sym (row_content id q here other) ∙ known in
-      let accepted = (acquirer_from q.new (notice_status n.notice) new move).0 in
+      let accepted = (acquirer_from q.new (notified_status n.notified) new move).0 in
       let free = and_second (same_status new Completed) (holds_some scheme c (transitions_of es) q.content) none (ap (λ z. same_status z Completed) h.1) in
       record {
         open_account = kept.accounts k.to_account ∙ receivers_open scheme c es entered id q k here other accepted content;
         apart = λ blocks units. awaited_apart scheme c es id q k blocks (entered_made scheme c es entered) here other content units;
-        absent = λ s y. kept.lots s ∙ units_absent scheme c (transitions_of es) k (ap (holds_some scheme c (transitions_of es)) (sym content) ∙ free) s y;
+        absent = λ s y. kept.unit_holdings s ∙ units_absent scheme c (transitions_of es) k (ap (holds_some scheme c (transitions_of es)) (sym content) ∙ free) s y;
       }
   complete_may input x id (bares n moment f cancelled none foreign) h k known = let e : Cancelled ≡ Completed = h.1 in absurd (cc (e))
   complete_may input x id (settles n moment q new f was own move) h k known =
@@ -119,7 +119,7 @@ module _ (scheme : Scheme) (c : Code) (es : List Entry) (tables : Tables) (kept 
   complete_may input x id (arrives p moment found f s is none foreign mine) h k known = absurd h
 
   pub move_may : (input : Input) (x : Transition) (effect : Effect) → RegistryMove scheme c es input x → IsEffect c es input x effect → IsReservable effect tables.holdings → MayCarry effect tables.initiator tables.acquirer tables.holdings
-  move_may input x (Open offer) move h free = (open_may input x offer move h, free)
+  move_may input x (Open new_transfer) move h free = (open_may input x new_transfer move h, free)
   move_may input x (Arrive id new content) move h free = arrive_may input x id new content move h
   move_may input x (Forestall id) move h free = forestall_may input x id move h
   move_may input x (Complete id) move h free = complete_may input x id move h
@@ -127,7 +127,7 @@ module _ (scheme : Scheme) (c : Code) (es : List Entry) (tables : Tables) (kept 
   move_may input x (Settle id new) move h free = tt
   move_may input x (Cancel id) move h free = tt
 
-pub may_carry : (scheme : Scheme) (c : Code) (tables : Tables) (input : Input) (x : Transition) (effect : Effect) → IsKept scheme c tables → verdict scheme (Registry c) (history scheme (Registry c) tables.journal.items) input ≡ Enters (x ∷ [])
+pub may_carry : (scheme : Scheme) (c : Code) (tables : Tables) (input : Input) (x : Transition) (effect : Effect) → IsKept scheme c tables → verdict scheme (Registry c) (history scheme (Registry c) tables.journal.items) input ≡ IsRecorded (x ∷ [])
     → IsEffect c (history scheme (Registry c) tables.journal.items) input x effect → IsReservable effect tables.holdings → MayCarry effect tables.initiator tables.acquirer tables.holdings
 may_carry scheme c tables input x effect kept enters h free =
     let es = history scheme (Registry c) tables.journal.items in

@@ -1,11 +1,12 @@
--- The first cause that stands decides a refusal, and where none does, the verdict on an order to transfer units is its proposal.
+-- The first cause that stands decides a refusal, and where none does, the verdict on an order to transfer units is
+-- its proposal.
 use Rattle.protocol.specs.Deciding as decide
-use Rattle.status.specs.declared.words.RowInput.TheVariants as column
+use Rattle.status.specs.declared.rows.RowInput.TheVariants as column
 use Rattle.std.proofs.Common.{Bool, List, None, Option, Some, [], ap, cond, false, is_none, refl, sym, true, ℕ, ◌++◌, ◌+◌, ◌∙◌, ◌∷◌, ◌≡◌}
 use Rattle.protocol.specs.Checks.{Causes, propose_refusals}
 use Rattle.units.specs.declared.code.Code.{Code}
 use Rattle.protocol.specs.History.{Entry, Transition, proposals}
-use Rattle.protocol.specs.Deciding.{IsRefused, IsRepeat, Verdict, by_row, enters, refuse}
+use Rattle.protocol.specs.Deciding.{IsRefused, IsRepeat, Verdict, by_row, recorded_if_room, refuse}
 use Rattle.safety.proofs.MovesAndHistories.NewestTransitions.{Made}
 use Rattle.safety.proofs.MovesAndHistories.TableMoves.{NoneStands}
 use Rattle.status.specs.Order.{Order}
@@ -14,12 +15,12 @@ use Rattle.units.specs.declared.code.Node.TheVariants.{Registry}
 use Rattle.scheme.specs.declared.registries.Scheme.{Scheme}
 use Rattle.status.specs.declared.id.TransactionId.{TransactionId}
 use Rattle.std.proofs.lemmas.Bool.{cond-false}
-use Rattle.protocol.specs.AtRegistry.{content_of, holding, offer, registry_verdict}
+use Rattle.protocol.specs.AtRegistry.{content_of, holding, new_transfer_verdict, registry_verdict}
 use Rattle.checks.specs.Refusing.{first_of, order_refusals}
 use Rattle.status.specs.Id.{id_at}
 use Rattle.status.specs.Rows.{initiator_row}
 use Rattle.protocol.specs.Effects.{initiator_sends}
-use Rattle.protocol.specs.Verdict.{made}
+use Rattle.protocol.specs.Verdict.{transitions_made}
 use Rattle.safety.proofs.OneRegistry.ProposalNumbers.{next_is_new}
 use Rattle.lemmas.proofs.OneValue.{one_some}
 use Rattle.safety.proofs.MovesAndHistories.TransitionForms.{proposed}
@@ -66,12 +67,12 @@ module _ (scheme : Scheme) (c : Code) (es : List Entry) (o : Order) where
     where
       go : (t : Option TransactionId) → id_at c (proposals es + 1) ≡ t → registry_verdict scheme c es (Propose o) ≡ IsRefused n
       go None e =
-          ap (λ t. refuse (propose_refusals scheme c (holding scheme c es) o) (offer scheme c es (content_of o) t)) e
+          ap (λ t. refuse (propose_refusals scheme c (holding scheme c es) o) (new_transfer_verdict scheme c es (content_of o) t)) e
           ∙ sym (refuse_parts (propose_refusals scheme c (holding scheme c es) o) ((true, transactions_used_up) ∷ []) IsRepeat)
           ∙ refuse_first (propose_refusals scheme c (holding scheme c es) o ++ (true, transactions_used_up) ∷ []) IsRepeat n
           (ap (λ t. first_of (propose_refusals scheme c (holding scheme c es) o ++ (is_none t, transactions_used_up) ∷ [])) (sym e) ∙ h)
       go (Some t) e =
-          let v = offer scheme c es (content_of o) (id_at c (proposals es + 1)) in
+          let v = new_transfer_verdict scheme c es (content_of o) (id_at c (proposals es + 1)) in
           sym (refuse_parts (propose_refusals scheme c (holding scheme c es) o) ((false, transactions_used_up) ∷ []) v)
           ∙ refuse_first (propose_refusals scheme c (holding scheme c es) o ++ (false, transactions_used_up) ∷ []) v n
           (ap (λ t. first_of (propose_refusals scheme c (holding scheme c es) o ++ (is_none t, transactions_used_up) ∷ [])) (sym e) ∙ h)
@@ -83,9 +84,9 @@ module _ (scheme : Scheme) (c : Code) (es : List Entry) (o : Order) where
 
   -- it proposes a new transaction
   pub order_proposes : (t : TransactionId) → Made scheme (Registry c) es → NoneStands (propose_refusals scheme c (holding scheme c es) o) → id_at c (proposals es + 1) ≡ Some t
-      → registry_verdict scheme c es (Propose o) ≡ enters scheme es (proposed c t (content_of o) ∷ [])
-  order_proposes t made none is =
-      let fresh = next_is_new scheme c es made t is in
-      refuse_none (propose_refusals scheme c (holding scheme c es) o) (offer scheme c es (content_of o) (id_at c (proposals es + 1))) none
-      ∙ ap (offer scheme c es (content_of o)) is
+      → registry_verdict scheme c es (Propose o) ≡ recorded_if_room scheme es (proposed c t (content_of o) ∷ [])
+  order_proposes t transitions_made none is =
+      let fresh = next_is_new scheme c es transitions_made t is in
+      refuse_none (propose_refusals scheme c (holding scheme c es) o) (new_transfer_verdict scheme c es (content_of o) (id_at c (proposals es + 1))) none
+      ∙ ap (new_transfer_verdict scheme c es (content_of o)) is
       ∙ ap (λ (n : Option Transition). by_row scheme es (decide.moved t (Some (content_of o)) 0 (initiator_sends c t (Some (content_of o)) column.Propose)) (initiator_row (decide.known n) column.Propose)) fresh

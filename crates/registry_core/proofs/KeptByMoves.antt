@@ -1,10 +1,11 @@
--- The tables say of the longer history what they said of the shorter one: after one record more that makes a transition, once its effect is carried out.
+-- The tables say of the longer history what they said of the shorter one: after one record more that makes a
+-- transition, once its effect is carried out.
 use Rattle.std.specs.FinMap as map
 use Rattle.std.proofs.Common.{append-nil, Bool, List, None, Option, Some, [], ap, cond, false, inl, inr, length, not, refl, subst, sym, true, ℕ, ◌&&◌, ◌++◌, ◌+◌, ◌||◌, ◌∙◌, ◌∷◌, ◌≡◌}
 use Rattle.std.specs.Prelude.{if◌then◌else◌, option_map, is_some}
 use Rattle.std.specs.Option.{option_or}
 use Rattle.units.specs.Code.{same_code}
-use Rattle.units.specs.Intervals.{marks_that}
+use Rattle.units.specs.Intervals.{labels_that}
 use Rattle.units.specs.Unit.{have_unit}
 use Rattle.units.specs.declared.code.Code.{Code}
 use Rattle.units.specs.declared.code.Node.TheVariants.{Registry}
@@ -16,15 +17,15 @@ use Rattle.status.specs.Rows.{acquirer_row, initiator_row}
 use Rattle.status.specs.Status.{same_status}
 use Rattle.status.specs.declared.id.TransactionId.{TransactionId}
 use Rattle.status.specs.declared.moment.Moment.{Moment}
-use Rattle.status.specs.declared.words.Known.TheVariants.{Stands}
-use Rattle.status.specs.declared.words.Row.TheVariants.{Move}
-use Rattle.status.specs.declared.words.RowInput.TheVariants.{Notified}
-use Rattle.status.specs.declared.words.Status.{Status}
-use Rattle.status.specs.declared.words.Status.TheVariants.{Accepted, Cancelled, Completed, Proposed}
-use Rattle.accounts.specs.Holdings.{free_lot, is_reserved_by, kind_in, released, reserved}
-use Rattle.accounts.specs.declared.lot.Lot.{Lot}
-use Rattle.checks.specs.declared.order.Offer.{Offer}
-use Rattle.wire.specs.Notices.{notice_status}
+use Rattle.status.specs.declared.rows.RecordedStatus.TheVariants.{Stands}
+use Rattle.status.specs.declared.rows.Row.TheVariants.{Move}
+use Rattle.status.specs.declared.rows.RowInput.TheVariants.{Notified}
+use Rattle.status.specs.declared.status.Status.{Status}
+use Rattle.status.specs.declared.status.Status.TheVariants.{Accepted, Cancelled, Completed, Proposed}
+use Rattle.accounts.specs.Holdings.{free_unit_holding, is_reserved_by, kind_in, released, reserved}
+use Rattle.accounts.specs.declared.unit_holding.UnitHolding.{UnitHolding}
+use Rattle.checks.specs.declared.order.NewTransfer.{NewTransfer}
+use Rattle.wire.specs.NotifiedStatuses.{notified_status}
 use Rattle.wire.specs.declared.input.Input.{Input}
 use Rattle.wire.specs.declared.input.Input.TheVariants.{Propose, Received, Request}
 use Rattle.wire.specs.declared.message.Message.TheVariants as message
@@ -36,7 +37,7 @@ use Rattle.protocol.proofs.Replaying.{replays_snoc}
 use Rattle.protocol.specs.AtRegistry.{content_of, holding, holds_some}
 use Rattle.protocol.specs.Checks.{propose_refusals}
 use Rattle.protocol.specs.Cores.{Replays, answer_of}
-use Rattle.protocol.specs.Deciding.{Enters}
+use Rattle.protocol.specs.Deciding.{IsRecorded}
 use Rattle.protocol.specs.History.{Entry, Transition, is_known, is_requested, newest, proposals, transitions_of}
 use Rattle.protocol.specs.Verdict.{history, verdict}
 use Rattle.outbox.specs.Outgoing.{did, outgoing}
@@ -56,22 +57,22 @@ use Rattle.safety.proofs.OneRegistry.TransactionEnds.{known, own_code}
 use Rattle.lemmas.proofs.OneValue.{clash, one_some}
 use Rattle.registry_core.specs.Effects.{Carried, ChangedAt, IsEffect}
 use Rattle.registry_core.specs.Kept.{AreKept, IsKept}
-use Rattle.registry_core.specs.Readings.{foreign_row, is_foreign, is_own, own_row, row_at, standing_at}
+use Rattle.registry_core.specs.Readings.{foreign_row, is_foreign, is_own, own_row, row_at, account_status_at}
 use Rattle.registry_core.specs.declared.effect.Effect.{Effect}
 use Rattle.registry_core.specs.declared.effect.Effect.TheVariants.{Arrive, Ask, Cancel, Complete, Forestall, Open, Settle}
 use Rattle.registry_core.specs.declared.tables.Tables.{Tables}
 use Rattle.registry_core.proofs.EffectsMayBe.{entered_move, foreign_of, row_content}
-use Rattle.registry_core.proofs.LotsAfterMoves.{lot_arrived, lot_asked, lot_bare, lot_credited, lot_proposed, lot_settled, lot_unmoved}
+use Rattle.registry_core.proofs.UnitHoldingsAfterMoves.{unit_holding_arrived, unit_holding_asked, unit_holding_bare, unit_holding_credited, unit_holding_proposed, unit_holding_settled, unit_holding_unmoved}
 use Rattle.registry_core.proofs.NewestById.{row_changed, row_kept, row_put}
 use Rattle.registry_core.proofs.RecordedEntries.{Entered, entered_made, replays_entered}
 use Rattle.registry_core.proofs.RequestedTransfers.{unknown_unrequested}
-use Rattle.registry_core.proofs.StandingsOfAccounts.{is_account_order, is_request_order, proposals_kept, proposals_more, requested_kept, requested_more, standing_kept}
+use Rattle.registry_core.proofs.StatusesOfAccounts.{is_account_order, is_request_order, proposals_kept, proposals_more, requested_kept, requested_more, account_status_kept}
 
 -- one record more
 abbrev pub entry : Input → List Transition → Entry
 entry input xs = record { input = input; transitions = xs }
 
-pub kept_recorded : (scheme : Scheme) (c : Code) (tables tables' : Tables) (input : Input) (xs : List Transition) → IsKept scheme c tables → verdict scheme (Registry c) (history scheme (Registry c) tables.journal.items) input ≡ Enters xs
+pub kept_recorded : (scheme : Scheme) (c : Code) (tables tables' : Tables) (input : Input) (xs : List Transition) → IsKept scheme c tables → verdict scheme (Registry c) (history scheme (Registry c) tables.journal.items) input ≡ IsRecorded xs
     → tables'.journal.items ≡ tables.journal.items ++ input ∷ [] → AreKept scheme c (entry input xs ∷ history scheme (Registry c) tables.journal.items) tables' → IsKept scheme c tables'
 kept_recorded scheme c tables tables' input xs kept enters journal more =
     let old = tables.journal.items in
@@ -100,8 +101,8 @@ module _ (scheme : Scheme) (c : Code) (es : List Entry) (tables tables' : Tables
       ∙ ap (λ (l : List Sent). l ++ Sends x.messages ∷ []) kept.sent
       ∙ ap (λ (d : Sent). outgoing es ++ d ∷ []) (sym (is ∙ ap (λ ms. Sends ms) (append-nil x.messages)))
 
-  accounts_so : (e : Entry) → is_account_order e.input ≡ false → tables'.holdings.accounts ≡ tables.holdings.accounts → (n : ℕ) → map.get tables'.holdings.accounts n ≡ standing_at scheme c (e ∷ es) n
-  accounts_so e other same n = ap (λ a. map.get a n) same ∙ kept.accounts n ∙ sym (standing_kept scheme c es e other n)
+  accounts_so : (e : Entry) → is_account_order e.input ≡ false → tables'.holdings.accounts ≡ tables.holdings.accounts → (n : ℕ) → map.get tables'.holdings.accounts n ≡ account_status_at scheme c (e ∷ es) n
+  accounts_so e other same n = ap (λ a. map.get a n) same ∙ kept.accounts n ∙ sym (account_status_kept scheme c es e other n)
 
   -- the other role's table stays as it is
   own_stays : (e : Entry) (x : Transition) → is_request_order e.input ≡ false → same_code x.id.code c ≡ false → tables'.initiator ≡ tables.initiator → (t : TransactionId)
@@ -118,10 +119,10 @@ module _ (scheme : Scheme) (c : Code) (es : List Entry) (tables tables' : Tables
 
   -- ---- a transfer out of the registry
 
-  opened_kept : (o : Order) (t : TransactionId) (offer : Offer) → NoneStands (propose_refusals scheme c (holding scheme c es) o) → id_at c (proposals es + 1) ≡ Some t → newest (transitions_of es) t ≡ None
-      → t ≡ offer.id → content_of o ≡ offer.content → Carried (Open offer) tables.initiator tables'.initiator tables.acquirer tables'.acquirer tables.holdings tables'.holdings
+  opened_kept : (o : Order) (t : TransactionId) (new_transfer : NewTransfer) → NoneStands (propose_refusals scheme c (holding scheme c es) o) → id_at c (proposals es + 1) ≡ Some t → newest (transitions_of es) t ≡ None
+      → t ≡ new_transfer.id → content_of o ≡ new_transfer.content → Carried (Open new_transfer) tables.initiator tables'.initiator tables.acquirer tables'.acquirer tables.holdings tables'.holdings
       → tables'.outbox ≡ tables.outbox ++ Sends (proposed c t (content_of o)).messages ∷ [] → AreKept scheme c (entry (Propose o) (proposed c t (content_of o) ∷ []) ∷ es) tables'
-  opened_kept o t offer none is fresh id content carried sent =
+  opened_kept o t new_transfer none is fresh id content carried sent =
       let x = proposed c t (content_of o) in
       let e = entry (Propose o) (x ∷ []) in
       let own = own_code scheme c (proposals es + 1) t is in
@@ -130,10 +131,10 @@ module _ (scheme : Scheme) (c : Code) (es : List Entry) (tables tables' : Tables
       let back = sym id in
       let units = sym content in
       record {
-        lots = λ s.
+        unit_holdings = λ s.
             carried.4.1 s
-            ∙ (λ i. if have_unit (units i).units s then option_map (reserved (back i)) (kept.lots s i) else kept.lots s i)
-            ∙ sym (lot_proposed scheme c es made_so o t none is fresh s);
+            ∙ (λ i. if have_unit (units i).units s then option_map (reserved (back i)) (kept.unit_holdings s i) else kept.unit_holdings s i)
+            ∙ sym (unit_holding_proposed scheme c es made_so o t none is fresh s);
         accounts = accounts_so e refl carried.4.0;
         initiator = carried.0 ∙ kept.initiator;
         last = carried.1 ∙ ap (λ (u : TransactionId). u.number) back ∙ id_at-number c (proposals es + 1) t is ∙ sym (proposals_more e es o refl);
@@ -157,7 +158,7 @@ module _ (scheme : Scheme) (c : Code) (es : List Entry) (tables tables' : Tables
       let requested : is_requested (e ∷ es) q.id ≡ true = requested_more e es t q.id refl ∙ ap (λ b. b || is_requested es q.id) named in
       let status = sym stood in
       record {
-        lots = λ s. ap (λ h. map.get h.lots s) carried.4 ∙ kept.lots s ∙ sym (lot_asked scheme c es made_so t q was own stood s);
+        unit_holdings = λ s. ap (λ h. map.get h.unit_holdings s) carried.4 ∙ kept.unit_holdings s ∙ sym (unit_holding_asked scheme c es made_so t q was own stood s);
         accounts = accounts_so e refl (ap (λ h. h.accounts) carried.4);
         initiator = carried.0 ∙ kept.initiator;
         last = carried.1 ∙ kept.last ∙ sym (proposals_kept e es refl);
@@ -170,7 +171,7 @@ module _ (scheme : Scheme) (c : Code) (es : List Entry) (tables tables' : Tables
       }
 
   settled_kept : (n : Notification) (moment : Moment) (q : Transition) (told : Status) (id : TransactionId) (new : Status) → newest (transitions_of es) n.id ≡ Some q → same_code n.id.code c ≡ true
-      → initiator_row (Stands q.new) (Notified (notice_status n.notice)) ≡ Move told → n.id ≡ id → told ≡ new
+      → initiator_row (Stands q.new) (Notified (notified_status n.notified)) ≡ Move told → n.id ≡ id → told ≡ new
       → Carried (Settle id new) tables.initiator tables'.initiator tables.acquirer tables'.acquirer tables.holdings tables'.holdings
       → tables'.outbox ≡ tables.outbox ++ Sends (settled_messages c q.id told) ∷ []
       → AreKept scheme c (entry (Received (message.Notification n) moment) (moved q told moment.seconds (settled_messages c q.id told) ∷ []) ∷ es) tables'
@@ -185,10 +186,10 @@ module _ (scheme : Scheme) (c : Code) (es : List Entry) (tables tables' : Tables
       let back = sym same in
       let came = sym status in
       record {
-        lots = λ s.
+        unit_holdings = λ s.
             carried.4.1 s
-            ∙ (λ i. if same_status (came i) Completed then marks_that (λ (lot : Lot). not (is_reserved_by (back i) lot)) (kept.lots s i) else option_map (released (back i)) (kept.lots s i))
-            ∙ sym (lot_settled scheme c es made_so n.id (notice_status n.notice) q told moment.seconds (settled_messages c q.id told) was own move s);
+            ∙ (λ i. if same_status (came i) Completed then labels_that (λ (unit_holding : UnitHolding). not (is_reserved_by (back i) unit_holding)) (kept.unit_holdings s i) else option_map (released (back i)) (kept.unit_holdings s i))
+            ∙ sym (unit_holding_settled scheme c es made_so n.id (notified_status n.notified) q told moment.seconds (settled_messages c q.id told) was own move s);
         accounts = accounts_so e refl carried.4.0;
         initiator = carried.0 ∙ kept.initiator;
         last = carried.1 ∙ kept.last ∙ sym (proposals_kept e es refl);
@@ -215,7 +216,7 @@ module _ (scheme : Scheme) (c : Code) (es : List Entry) (tables tables' : Tables
       let with = sym units in
       let row : ◌≡◌ {A = Incoming} (record { status = new; content = Some content }) (foreign_row p.id x) = λ i. record { status = came i; content = Some (with i) } in
       record {
-        lots = λ s. ap (λ h. map.get h.lots s) carried.3 ∙ kept.lots s ∙ sym (lot_arrived scheme c es made_so p.id p.content moment.seconds found none other s);
+        unit_holdings = λ s. ap (λ h. map.get h.unit_holdings s) carried.3 ∙ kept.unit_holdings s ∙ sym (unit_holding_arrived scheme c es made_so p.id p.content moment.seconds found none other s);
         accounts = accounts_so e refl (ap (λ h. h.accounts) carried.3);
         initiator = ap (λ (i : Initiating). i.code) carried.0 ∙ kept.initiator;
         last = ap (λ (i : Initiating). i.last) carried.0 ∙ kept.last ∙ sym (proposals_kept e es refl);
@@ -235,7 +236,7 @@ module _ (scheme : Scheme) (c : Code) (es : List Entry) (tables tables' : Tables
       let e = entry input (x ∷ []) in
       let changed = subst (λ u. ChangedAt u (λ (y : Option Incoming). Some (record { status = Cancelled; content = None })) tables.acquirer.transfers tables'.acquirer.transfers) (sym same) carried.2 in
       record {
-        lots = λ s. ap (λ h. map.get h.lots s) carried.3 ∙ kept.lots s ∙ sym (lot_bare scheme c es made_so n.id moment.seconds none other s);
+        unit_holdings = λ s. ap (λ h. map.get h.unit_holdings s) carried.3 ∙ kept.unit_holdings s ∙ sym (unit_holding_bare scheme c es made_so n.id moment.seconds none other s);
         accounts = accounts_so e refl (ap (λ h. h.accounts) carried.3);
         initiator = ap (λ (i : Initiating). i.code) carried.0 ∙ kept.initiator;
         last = ap (λ (i : Initiating). i.last) carried.0 ∙ kept.last ∙ sym (proposals_kept e es refl);
@@ -258,7 +259,7 @@ module _ (scheme : Scheme) (c : Code) (es : List Entry) (tables tables' : Tables
       (subst (λ u. ChangedAt u (option_map (acquirer.finished new)) tables.acquirer.transfers tables'.acquirer.transfers) (sym (about ∙ same)) changed)
 
   cancelled_kept : (n : Notification) (moment : Moment) (q : Transition) (told : Status) (id : TransactionId) → newest (transitions_of es) n.id ≡ Some q → same_code n.id.code c ≡ false
-      → acquirer_row (Stands q.new) (Notified (notice_status n.notice)) ≡ Move told → n.id ≡ id → told ≡ Cancelled
+      → acquirer_row (Stands q.new) (Notified (notified_status n.notified)) ≡ Move told → n.id ≡ id → told ≡ Cancelled
       → Carried (Cancel id) tables.initiator tables'.initiator tables.acquirer tables'.acquirer tables.holdings tables'.holdings → tables'.outbox ≡ tables.outbox ++ Sends [] ∷ []
       → AreKept scheme c (entry (Received (message.Notification n) moment) (moved q told moment.seconds [] ∷ []) ∷ es) tables'
   cancelled_kept n moment q told id was other move same status carried sent =
@@ -267,7 +268,7 @@ module _ (scheme : Scheme) (c : Code) (es : List Entry) (tables tables' : Tables
       let e = entry input (x ∷ []) in
       let theirs : same_code q.id.code c ≡ false = ap (λ (u : TransactionId). same_code u.code c) (newest_id (transitions_of es) n.id q was).1 ∙ other in
       record {
-        lots = λ s. ap (λ h. map.get h.lots s) carried.3 ∙ kept.lots s ∙ sym (lot_unmoved scheme c es made_so n.id (notice_status n.notice) q told moment.seconds was other move (cancelled_open told status) s);
+        unit_holdings = λ s. ap (λ h. map.get h.unit_holdings s) carried.3 ∙ kept.unit_holdings s ∙ sym (unit_holding_unmoved scheme c es made_so n.id (notified_status n.notified) q told moment.seconds was other move (cancelled_open told status) s);
         accounts = accounts_so e refl (ap (λ h. h.accounts) carried.3);
         initiator = ap (λ (i : Initiating). i.code) carried.0 ∙ kept.initiator;
         last = ap (λ (i : Initiating). i.last) carried.0 ∙ kept.last ∙ sym (proposals_kept e es refl);
@@ -278,16 +279,16 @@ module _ (scheme : Scheme) (c : Code) (es : List Entry) (tables tables' : Tables
       }
 
   -- what comes to its end has a content
-  ended_content : (n : Notification) (q : Transition) (told : Status) → newest (transitions_of es) n.id ≡ Some q → same_code n.id.code c ≡ false → acquirer_row (Stands q.new) (Notified (notice_status n.notice)) ≡ Move told
+  ended_content : (n : Notification) (q : Transition) (told : Status) → newest (transitions_of es) n.id ≡ Some q → same_code n.id.code c ≡ false → acquirer_row (Stands q.new) (Notified (notified_status n.notified)) ≡ Move told
       → (k : Content) × (q.content ≡ Some k)
   ended_content n q told was other move =
       elim (known scheme c es made_so n.id q was other) [
-        | inl bare_end ↦ let y : Accepted ≡ Cancelled = sym (acquirer_from q.new (notice_status n.notice) told move).0 ∙ bare_end.0 in absurd (cc (y))
+        | inl bare_end ↦ let y : Accepted ≡ Cancelled = sym (acquirer_from q.new (notified_status n.notified) told move).0 ∙ bare_end.0 in absurd (cc (y))
         | inr taken ↦ (taken.content, taken.is)
       ]
 
   completed_kept : (n : Notification) (moment : Moment) (q : Transition) (told : Status) (id : TransactionId) → newest (transitions_of es) n.id ≡ Some q → same_code n.id.code c ≡ false
-      → acquirer_row (Stands q.new) (Notified (notice_status n.notice)) ≡ Move told → (same_status told Completed && holds_some scheme c (transitions_of es) q.content) ≡ false → n.id ≡ id → told ≡ Completed
+      → acquirer_row (Stands q.new) (Notified (notified_status n.notified)) ≡ Move told → (same_status told Completed && holds_some scheme c (transitions_of es) q.content) ≡ false → n.id ≡ id → told ≡ Completed
       → Carried (Complete id) tables.initiator tables'.initiator tables.acquirer tables'.acquirer tables.holdings tables'.holdings → tables'.outbox ≡ tables.outbox ++ Sends [] ∷ []
       → AreKept scheme c (entry (Received (message.Notification n) moment) (moved q told moment.seconds [] ∷ []) ∷ es) tables'
   completed_kept n moment q told id was other move none same status carried sent =
@@ -300,10 +301,10 @@ module _ (scheme : Scheme) (c : Code) (es : List Entry) (tables tables' : Tables
       ap (λ t. acquirer.kept_content (map.get tables.acquirer.transfers t)) (sym same) ∙ row_content scheme c es tables kept entered n.id q was other ∙ k.1 in
       let blocks = carried.4 k.0 row in
       record {
-        lots = λ s.
+        unit_holdings = λ s.
             blocks.2 s
-            ∙ ap (option_or (option_map (free_lot k.0.to_account) (kind_in blocks.0 s))) (kept.lots s)
-            ∙ sym (lot_credited scheme c es made_so n.id (notice_status n.notice) q told moment.seconds k.0 blocks.0 was other move status k.1 none blocks.1 s);
+            ∙ ap (option_or (option_map (free_unit_holding k.0.to_account) (kind_in blocks.0 s))) (kept.unit_holdings s)
+            ∙ sym (unit_holding_credited scheme c es made_so n.id (notified_status n.notified) q told moment.seconds k.0 blocks.0 was other move status k.1 none blocks.1 s);
         accounts = accounts_so e refl carried.3;
         initiator = ap (λ (i : Initiating). i.code) carried.0 ∙ kept.initiator;
         last = ap (λ (i : Initiating). i.last) carried.0 ∙ kept.last ∙ sym (proposals_kept e es refl);
@@ -324,7 +325,7 @@ module _ (scheme : Scheme) (c : Code) (es : List Entry) (tables tables' : Tables
   pub moved_kept : (input : Input) (x : Transition) (effect : Effect) → RegistryMove scheme c es input x → IsEffect c es input x effect
       → Carried effect tables.initiator tables'.initiator tables.acquirer tables'.acquirer tables.holdings tables'.holdings → tables'.outbox ≡ tables.outbox ++ Sends x.messages ∷ []
       → AreKept scheme c (entry input (x ∷ []) ∷ es) tables'
-  moved_kept input x (Open offer) (proposes o t none is fresh) h carried sent = opened_kept o t offer none is fresh h.0 (one_some (content_of o) offer.content h.1) carried sent
+  moved_kept input x (Open new_transfer) (proposes o t none is fresh) h carried sent = opened_kept o t new_transfer none is fresh h.0 (one_some (content_of o) new_transfer.content h.1) carried sent
   moved_kept input x (Ask id) (asks t q was own stood) h carried sent = asked_kept t q id was own stood h carried sent
   moved_kept input x (Settle id new) (settles n moment q told f was own move) h carried sent = settled_kept n moment q told id new was own move h.0 h.1 carried sent
   moved_kept input x (Settle id new) (bares n moment f cancelled none foreign) h carried sent =
@@ -345,7 +346,7 @@ module _ (scheme : Scheme) (c : Code) (es : List Entry) (tables tables' : Tables
   moved_kept input x effect move h carried sent = absurd h
 
 pub kept_moved : (scheme : Scheme) (c : Code) (tables tables' : Tables) (input : Input) (x : Transition) (effect : Effect) → IsKept scheme c tables
-    → verdict scheme (Registry c) (history scheme (Registry c) tables.journal.items) input ≡ Enters (x ∷ []) → IsEffect c (history scheme (Registry c) tables.journal.items) input x effect
+    → verdict scheme (Registry c) (history scheme (Registry c) tables.journal.items) input ≡ IsRecorded (x ∷ []) → IsEffect c (history scheme (Registry c) tables.journal.items) input x effect
     → Carried effect tables.initiator tables'.initiator tables.acquirer tables'.acquirer tables.holdings tables'.holdings → tables'.journal.items ≡ tables.journal.items ++ input ∷ []
     → tables'.outbox ≡ tables.outbox ++ Sends x.messages ∷ [] → IsKept scheme c tables'
 kept_moved scheme c tables tables' input x effect kept enters h carried journal sent =

@@ -1,4 +1,5 @@
--- The tables say of the longer history what they said of the shorter one: after an order on an account, and after an acknowledgement. And they say it of no record at all.
+-- The tables say of the longer history what they said of the shorter one: after an order on an account, and after an
+-- acknowledgement. And they say it of no record at all.
 use Rattle.std.specs.FinMap as map
 use Rattle.std.proofs.Common.{List, None, Option, Some, [], ap, cond, false, refl, subst, sym, true, ℕ, ◌++◌, ◌==◌, ◌∙◌, ◌∷◌, ◌≡◌}
 use Rattle.std.specs.Prelude.{if◌then◌else◌, option_map}
@@ -8,15 +9,15 @@ use Rattle.units.specs.declared.code.Code.{Code}
 use Rattle.units.specs.declared.code.Node.TheVariants.{Registry}
 use Rattle.status.specs.Id.{id_cmp}
 use Rattle.status.specs.declared.id.TransactionId.{TransactionId}
-use Rattle.accounts.specs.declared.lot.Standing.{Standing}
-use Rattle.accounts.specs.declared.lot.Standing.TheVariants.{Closed, Open}
+use Rattle.accounts.specs.declared.unit_holding.AccountStatus.{AccountStatus}
+use Rattle.accounts.specs.declared.unit_holding.AccountStatus.TheVariants.{Closed, Open}
 use Rattle.wire.specs.declared.input.Input.{Input}
 use Rattle.wire.specs.declared.input.Input.TheVariants.{Ack, CloseAccount, OpenAccount}
 use Rattle.wire.specs.declared.input.Number.{Number}
 use Rattle.scheme.specs.declared.registries.Scheme.{Scheme}
 use Rattle.protocol.specs.AtRegistry.{close_refusals, open_refusals, registry_verdict}
 use Rattle.protocol.specs.Cores.{Replays}
-use Rattle.protocol.specs.Deciding.{Enters, enters}
+use Rattle.protocol.specs.Deciding.{IsRecorded, recorded_if_room}
 use Rattle.protocol.specs.History.{Entry, Transition, is_proposal_order, newest, transitions_of}
 use Rattle.protocol.specs.Registries.{has_account}
 use Rattle.protocol.specs.Verdict.{history, verdict}
@@ -26,27 +27,27 @@ use Rattle.initiator.specs.Transfers.{Initiating}
 use Rattle.initiator.specs.declared.transfer.Transfer.{Transfer as Outgoing}
 use Rattle.acquirer.specs.Transfers.{Acquiring}
 use Rattle.registry_core.specs.Kept.{AreKept, IsKept}
-use Rattle.registry_core.specs.Readings.{foreign_row, is_foreign, is_own, lot_at, own_row, row_at, standing_at}
+use Rattle.registry_core.specs.Readings.{foreign_row, is_foreign, is_own, unit_holding_at, own_row, row_at, account_status_at}
 use Rattle.registry_core.specs.declared.tables.Tables.{Tables}
 use Rattle.registry_core.proofs.EffectsMayBe.{row_none}
 use Rattle.registry_core.proofs.KeptByMoves.{entry, kept_recorded, rows_same}
 use Rattle.registry_core.proofs.RecordedEntries.{recorded_causes}
-use Rattle.registry_core.proofs.StandingsOfAccounts.{is_request_order, proposals_kept, requested_kept, standing_closed, standing_kept, standing_opened}
+use Rattle.registry_core.proofs.StatusesOfAccounts.{is_request_order, proposals_kept, requested_kept, account_status_closed, account_status_kept, account_status_opened}
 
-entered_so : (scheme : Scheme) (c : Code) (es : List Entry) (input : Input) (xs : List Transition) → verdict scheme (Registry c) es input ≡ Enters xs → registry_verdict scheme c es input ≡ Enters xs
+entered_so : (scheme : Scheme) (c : Code) (es : List Entry) (input : Input) (xs : List Transition) → verdict scheme (Registry c) es input ≡ IsRecorded xs → registry_verdict scheme c es input ≡ IsRecorded xs
 unfolding verdict
 entered_so scheme c es input xs h = h
 
 module _ (scheme : Scheme) (c : Code) (es : List Entry) (tables tables' : Tables) (kept : AreKept scheme c es tables) where
   -- one record more without a transition
   unmoved_kept : (input : Input) (done : Sent) → is_request_order input ≡ false → is_proposal_order input ≡ false → did input [] ≡ done → tables'.initiator ≡ tables.initiator → tables'.acquirer ≡ tables.acquirer
-      → tables'.holdings.lots ≡ tables.holdings.lots → ((n : ℕ) → map.get tables'.holdings.accounts n ≡ standing_at scheme c (entry input [] ∷ es) n) → tables'.outbox ≡ tables.outbox ++ done ∷ []
+      → tables'.holdings.unit_holdings ≡ tables.holdings.unit_holdings → ((n : ℕ) → map.get tables'.holdings.accounts n ≡ account_status_at scheme c (entry input [] ∷ es) n) → tables'.outbox ≡ tables.outbox ++ done ∷ []
       → AreKept scheme c (entry input [] ∷ es) tables'
-  unmoved_kept input done asks proposes does initiating acquiring lots accounts sent =
+  unmoved_kept input done asks proposes does initiating acquiring unit_holdings accounts sent =
       let e = entry input [] in
       let read : (TransactionId → Transition → Outgoing) → TransactionId → Option Outgoing = λ row t. row_at (is_own c) row (transitions_of es) t in
       record {
-        lots = λ s. ap (λ m. map.get m s) lots ∙ kept.lots s;
+        unit_holdings = λ s. ap (λ m. map.get m s) unit_holdings ∙ kept.unit_holdings s;
         accounts = accounts;
         initiator = ap (λ (i : Initiating). i.code) initiating ∙ kept.initiator;
         last = ap (λ (i : Initiating). i.last) initiating ∙ kept.last ∙ sym (proposals_kept e es proposes);
@@ -59,49 +60,49 @@ module _ (scheme : Scheme) (c : Code) (es : List Entry) (tables tables' : Tables
         sent = sent ∙ ap (λ (l : List Sent). l ++ done ∷ []) kept.sent ∙ ap (λ (d : Sent). outgoing es ++ d ∷ []) (sym does);
       }
 
-  opened_account : (account : Number) → has_account scheme c account.value ≡ true → tables'.initiator ≡ tables.initiator → tables'.acquirer ≡ tables.acquirer → tables'.holdings.lots ≡ tables.holdings.lots
+  opened_account : (account : Number) → has_account scheme c account.value ≡ true → tables'.initiator ≡ tables.initiator → tables'.acquirer ≡ tables.acquirer → tables'.holdings.unit_holdings ≡ tables.holdings.unit_holdings
       → ((n : ℕ) → map.get tables'.holdings.accounts n ≡ (if n == account.value then Some Open else map.get tables.holdings.accounts n)) → tables'.outbox ≡ tables.outbox ++ Sends [] ∷ []
       → AreKept scheme c (entry (OpenAccount account) [] ∷ es) tables'
-  opened_account account there initiating acquiring lots accounts sent =
-      unmoved_kept (OpenAccount account) (Sends []) refl refl refl initiating acquiring lots
-      (λ n. accounts n ∙ ap (λ (o : Option Standing). if n == account.value then Some Open else o) (kept.accounts n) ∙ sym (standing_opened scheme c es (entry (OpenAccount account) []) account refl there n)) sent
+  opened_account account there initiating acquiring unit_holdings accounts sent =
+      unmoved_kept (OpenAccount account) (Sends []) refl refl refl initiating acquiring unit_holdings
+      (λ n. accounts n ∙ ap (λ (o : Option AccountStatus). if n == account.value then Some Open else o) (kept.accounts n) ∙ sym (account_status_opened scheme c es (entry (OpenAccount account) []) account refl there n)) sent
 
-  closed_account : (account : Number) → has_account scheme c account.value ≡ true → tables'.initiator ≡ tables.initiator → tables'.acquirer ≡ tables.acquirer → tables'.holdings.lots ≡ tables.holdings.lots
+  closed_account : (account : Number) → has_account scheme c account.value ≡ true → tables'.initiator ≡ tables.initiator → tables'.acquirer ≡ tables.acquirer → tables'.holdings.unit_holdings ≡ tables.holdings.unit_holdings
       → ((n : ℕ) → map.get tables'.holdings.accounts n ≡ (if n == account.value then Some Closed else map.get tables.holdings.accounts n)) → tables'.outbox ≡ tables.outbox ++ Sends [] ∷ []
       → AreKept scheme c (entry (CloseAccount account) [] ∷ es) tables'
-  closed_account account there initiating acquiring lots accounts sent =
-      unmoved_kept (CloseAccount account) (Sends []) refl refl refl initiating acquiring lots
-      (λ n. accounts n ∙ ap (λ (o : Option Standing). if n == account.value then Some Closed else o) (kept.accounts n) ∙ sym (standing_closed scheme c es (entry (CloseAccount account) []) account refl there n)) sent
+  closed_account account there initiating acquiring unit_holdings accounts sent =
+      unmoved_kept (CloseAccount account) (Sends []) refl refl refl initiating acquiring unit_holdings
+      (λ n. accounts n ∙ ap (λ (o : Option AccountStatus). if n == account.value then Some Closed else o) (kept.accounts n) ∙ sym (account_status_closed scheme c es (entry (CloseAccount account) []) account refl there n)) sent
 
   acknowledged : (key : Number) → tables'.initiator ≡ tables.initiator → tables'.acquirer ≡ tables.acquirer → tables'.holdings ≡ tables.holdings → tables'.outbox ≡ tables.outbox ++ Acknowledges key.value ∷ []
       → AreKept scheme c (entry (Ack key) [] ∷ es) tables'
   acknowledged key initiating acquiring held sent =
-      unmoved_kept (Ack key) (Acknowledges key.value) refl refl refl initiating acquiring (ap (λ h. h.lots) held)
-      (λ n. ap (λ h. map.get h.accounts n) held ∙ kept.accounts n ∙ sym (standing_kept scheme c es (entry (Ack key) []) refl n)) sent
+      unmoved_kept (Ack key) (Acknowledges key.value) refl refl refl initiating acquiring (ap (λ h. h.unit_holdings) held)
+      (λ n. ap (λ h. map.get h.accounts n) held ∙ kept.accounts n ∙ sym (account_status_kept scheme c es (entry (Ack key) []) refl n)) sent
 
 -- ---- of the tables
 
-pub kept_opened : (scheme : Scheme) (c : Code) (tables tables' : Tables) (account : Number) → IsKept scheme c tables → verdict scheme (Registry c) (history scheme (Registry c) tables.journal.items) (OpenAccount account) ≡ Enters []
-    → tables'.initiator ≡ tables.initiator → tables'.acquirer ≡ tables.acquirer → tables'.holdings.lots ≡ tables.holdings.lots
+pub kept_opened : (scheme : Scheme) (c : Code) (tables tables' : Tables) (account : Number) → IsKept scheme c tables → verdict scheme (Registry c) (history scheme (Registry c) tables.journal.items) (OpenAccount account) ≡ IsRecorded []
+    → tables'.initiator ≡ tables.initiator → tables'.acquirer ≡ tables.acquirer → tables'.holdings.unit_holdings ≡ tables.holdings.unit_holdings
     → ((n : ℕ) → map.get tables'.holdings.accounts n ≡ (if n == account.value then Some Open else map.get tables.holdings.accounts n)) → tables'.journal.items ≡ tables.journal.items ++ OpenAccount account ∷ []
     → tables'.outbox ≡ tables.outbox ++ Sends [] ∷ [] → IsKept scheme c tables'
-kept_opened scheme c tables tables' account kept entered initiating acquiring lots accounts journal sent =
+kept_opened scheme c tables tables' account kept entered initiating acquiring unit_holdings accounts journal sent =
     let es = history scheme (Registry c) tables.journal.items in
-    let none = recorded_causes (open_refusals scheme c es account.value) (enters scheme es []) [] (entered_so scheme c es (OpenAccount account) [] entered) in
+    let none = recorded_causes (open_refusals scheme c es account.value) (recorded_if_room scheme es []) [] (entered_so scheme c es (OpenAccount account) [] entered) in
     kept_recorded scheme c tables tables' (OpenAccount account) [] kept entered journal
-    (opened_account scheme c es tables tables' kept.kept account (not-false (has_account scheme c account.value) none.0) initiating acquiring lots accounts sent)
+    (opened_account scheme c es tables tables' kept.kept account (not-false (has_account scheme c account.value) none.0) initiating acquiring unit_holdings accounts sent)
 
-pub kept_closed : (scheme : Scheme) (c : Code) (tables tables' : Tables) (account : Number) → IsKept scheme c tables → verdict scheme (Registry c) (history scheme (Registry c) tables.journal.items) (CloseAccount account) ≡ Enters []
-    → tables'.initiator ≡ tables.initiator → tables'.acquirer ≡ tables.acquirer → tables'.holdings.lots ≡ tables.holdings.lots
+pub kept_closed : (scheme : Scheme) (c : Code) (tables tables' : Tables) (account : Number) → IsKept scheme c tables → verdict scheme (Registry c) (history scheme (Registry c) tables.journal.items) (CloseAccount account) ≡ IsRecorded []
+    → tables'.initiator ≡ tables.initiator → tables'.acquirer ≡ tables.acquirer → tables'.holdings.unit_holdings ≡ tables.holdings.unit_holdings
     → ((n : ℕ) → map.get tables'.holdings.accounts n ≡ (if n == account.value then Some Closed else map.get tables.holdings.accounts n)) → tables'.journal.items ≡ tables.journal.items ++ CloseAccount account ∷ []
     → tables'.outbox ≡ tables.outbox ++ Sends [] ∷ [] → IsKept scheme c tables'
-kept_closed scheme c tables tables' account kept entered initiating acquiring lots accounts journal sent =
+kept_closed scheme c tables tables' account kept entered initiating acquiring unit_holdings accounts journal sent =
     let es = history scheme (Registry c) tables.journal.items in
-    let none = recorded_causes (close_refusals scheme c es account.value) (enters scheme es []) [] (entered_so scheme c es (CloseAccount account) [] entered) in
+    let none = recorded_causes (close_refusals scheme c es account.value) (recorded_if_room scheme es []) [] (entered_so scheme c es (CloseAccount account) [] entered) in
     kept_recorded scheme c tables tables' (CloseAccount account) [] kept entered journal
-    (closed_account scheme c es tables tables' kept.kept account (not-false (has_account scheme c account.value) none.0) initiating acquiring lots accounts sent)
+    (closed_account scheme c es tables tables' kept.kept account (not-false (has_account scheme c account.value) none.0) initiating acquiring unit_holdings accounts sent)
 
-pub kept_acknowledged : (scheme : Scheme) (c : Code) (tables tables' : Tables) (key : Number) → IsKept scheme c tables → verdict scheme (Registry c) (history scheme (Registry c) tables.journal.items) (Ack key) ≡ Enters []
+pub kept_acknowledged : (scheme : Scheme) (c : Code) (tables tables' : Tables) (key : Number) → IsKept scheme c tables → verdict scheme (Registry c) (history scheme (Registry c) tables.journal.items) (Ack key) ≡ IsRecorded []
     → tables'.initiator ≡ tables.initiator → tables'.acquirer ≡ tables.acquirer → tables'.holdings ≡ tables.holdings → tables'.journal.items ≡ tables.journal.items ++ Ack key ∷ []
     → tables'.outbox ≡ tables.outbox ++ Acknowledges key.value ∷ [] → IsKept scheme c tables'
 kept_acknowledged scheme c tables tables' key kept entered initiating acquiring held journal sent =
@@ -113,11 +114,11 @@ kept_acknowledged scheme c tables tables' key kept entered initiating acquiring 
 no_records : (scheme : Scheme) (c : Code) → Replays scheme (Registry c) []
 no_records scheme c k input h = absurd (cc (h))
 
-opening_kept : (scheme : Scheme) (c : Code) (tables : Tables) → ((s : Serial) → map.get tables.holdings.lots s ≡ lot_at scheme c [] s) → ((n : ℕ) → map.get tables.holdings.accounts n ≡ standing_at scheme c [] n)
+opening_kept : (scheme : Scheme) (c : Code) (tables : Tables) → ((s : Serial) → map.get tables.holdings.unit_holdings s ≡ unit_holding_at scheme c [] s) → ((n : ℕ) → map.get tables.holdings.accounts n ≡ account_status_at scheme c [] n)
     → tables.initiator ≡ record { code = c; last = 0; transfers = map.empty } → tables.acquirer ≡ record { code = c; transfers = map.empty } → tables.outbox ≡ [] → AreKept scheme c [] tables
-opening_kept scheme c tables lots accounts initiating acquiring sent =
+opening_kept scheme c tables unit_holdings accounts initiating acquiring sent =
     record {
-      lots = lots;
+      unit_holdings = unit_holdings;
       accounts = accounts;
       initiator = ap (λ (i : Initiating). i.code) initiating;
       last = ap (λ (i : Initiating). i.last) initiating;
@@ -127,11 +128,11 @@ opening_kept scheme c tables lots accounts initiating acquiring sent =
       sent = sent;
     }
 
-pub kept_opening : (scheme : Scheme) (c : Code) (tables : Tables) → tables.journal.items ≡ [] → ((s : Serial) → map.get tables.holdings.lots s ≡ lot_at scheme c [] s)
-    → ((n : ℕ) → map.get tables.holdings.accounts n ≡ standing_at scheme c [] n) → tables.initiator ≡ record { code = c; last = 0; transfers = map.empty } → tables.acquirer ≡ record { code = c; transfers = map.empty }
+pub kept_opening : (scheme : Scheme) (c : Code) (tables : Tables) → tables.journal.items ≡ [] → ((s : Serial) → map.get tables.holdings.unit_holdings s ≡ unit_holding_at scheme c [] s)
+    → ((n : ℕ) → map.get tables.holdings.accounts n ≡ account_status_at scheme c [] n) → tables.initiator ≡ record { code = c; last = 0; transfers = map.empty } → tables.acquirer ≡ record { code = c; transfers = map.empty }
     → tables.outbox ≡ [] → IsKept scheme c tables
-kept_opening scheme c tables journal lots accounts initiating acquiring sent =
+kept_opening scheme c tables journal unit_holdings accounts initiating acquiring sent =
     record {
       replays = subst (λ (j : List Input). Replays scheme (Registry c) j) (sym journal) (no_records scheme c);
-      kept = subst (λ (j : List Input). AreKept scheme c (history scheme (Registry c) j) tables) (sym journal) (opening_kept scheme c tables lots accounts initiating acquiring sent);
+      kept = subst (λ (j : List Input). AreKept scheme c (history scheme (Registry c) j) tables) (sym journal) (opening_kept scheme c tables unit_holdings accounts initiating acquiring sent);
     }

@@ -5,64 +5,64 @@ use Rattle.std.proofs.lemmas.Bool.{cases_Bool, cond-false, cond-true}
 use Rattle.lemmas.proofs.Membership.{In}
 use Rattle.lemmas.proofs.OneValue.{one_some}
 use Rattle.lemmas.proofs.Positions.{In_contains, contains_in}
-use Rattle.units.specs.Intervals.{AreKept, mark_at}
+use Rattle.units.specs.Intervals.{AreKept, label_at}
 use Rattle.units.specs.Unit.{has_unit}
 use Rattle.units.specs.declared.block.Unit.{Unit as Serial}
 use Rattle.accounts.specs.Holdings.{Held}
-use Rattle.accounts.specs.Lines.{AreLines, lot_interval}
-use Rattle.accounts.specs.declared.lot.Line.{Line}
-use Rattle.accounts.specs.declared.lot.Lot.{Lot}
-use Rattle.registry_core.specs.Readings.{lot_at}
+use Rattle.accounts.specs.Lines.{AreLines, unit_holding_interval}
+use Rattle.accounts.specs.declared.unit_holding.HeldBlock.{HeldBlock}
+use Rattle.accounts.specs.declared.unit_holding.UnitHolding.{UnitHolding}
+use Rattle.registry_core.specs.Readings.{unit_holding_at}
 use Rattle.registry_core.specs.Registry.{Registry, moves}
 use Rattle.registry_core.specs.Reported.{AreHoldings, IsHeldSo}
-use Rattle.registry_core.proofs.LotsOfUnits.{lot_of_held, lot_parts}
+use Rattle.registry_core.proofs.UnitHoldingsOfUnits.{unit_holding_of_held, unit_holding_parts}
 
 -- ---- a unit and the line that has it
 
-marked : (lines : List Line) (s : Serial) (line : Line) → AreKept (map lot_interval lines) → In line lines → has_unit line.block.raw s ≡ true → mark_at (map lot_interval lines) s ≡ Some (lot_interval line).mark
-marked [] s line kept i h = absurd i
-marked (l ∷ lines) s line kept (inl e) h =
-    cond-true (has_unit l.block.raw s) (Some (lot_interval l).mark) (mark_at (map lot_interval lines) s) (subst (λ (q : Line). has_unit q.block.raw s ≡ true) (sym e) h)
-    ∙ ap (λ (q : Line). Some (lot_interval q).mark) e
-marked (l ∷ lines) s line kept (inr i) h =
+labelled : (lines : List HeldBlock) (s : Serial) (line : HeldBlock) → AreKept (map unit_holding_interval lines) → In line lines → has_unit line.block.raw s ≡ true → label_at (map unit_holding_interval lines) s ≡ Some (unit_holding_interval line).label
+labelled [] s line kept i h = absurd i
+labelled (l ∷ lines) s line kept (inl e) h =
+    cond-true (has_unit l.block.raw s) (Some (unit_holding_interval l).label) (label_at (map unit_holding_interval lines) s) (subst (λ (q : HeldBlock). has_unit q.block.raw s ≡ true) (sym e) h)
+    ∙ ap (λ (q : HeldBlock). Some (unit_holding_interval q).label) e
+labelled (l ∷ lines) s line kept (inr i) h =
     elim (cases_Bool (has_unit l.block.raw s)) [
-      | inl y ↦ let clash = sym (kept.1 s y) ∙ marked lines s line kept.2 i h in absurd (cc (clash))
-      | inr n ↦ cond-false (has_unit l.block.raw s) (Some (lot_interval l).mark) (mark_at (map lot_interval lines) s) n ∙ marked lines s line kept.2 i h
+      | inl y ↦ let clash = sym (kept.1 s y) ∙ labelled lines s line kept.2 i h in absurd (cc (clash))
+      | inr n ↦ cond-false (has_unit l.block.raw s) (Some (unit_holding_interval l).label) (label_at (map unit_holding_interval lines) s) n ∙ labelled lines s line kept.2 i h
     ]
 
-found : (lines : List Line) (s : Serial) (lot : Lot) → mark_at (map lot_interval lines) s ≡ Some lot → (line : Line) × In line lines × (has_unit line.block.raw s ≡ true) × ((lot_interval line).mark ≡ lot)
-found [] s lot e = absurd (cc (e))
-found (l ∷ lines) s lot e =
+found : (lines : List HeldBlock) (s : Serial) (unit_holding : UnitHolding) → label_at (map unit_holding_interval lines) s ≡ Some unit_holding → (line : HeldBlock) × In line lines × (has_unit line.block.raw s ≡ true) × ((unit_holding_interval line).label ≡ unit_holding)
+found [] s unit_holding e = absurd (cc (e))
+found (l ∷ lines) s unit_holding e =
     elim (cases_Bool (has_unit l.block.raw s)) [
-      | inl y ↦ (l, inl refl, y, one_some (lot_interval l).mark lot (sym (cond-true (has_unit l.block.raw s) (Some (lot_interval l).mark) (mark_at (map lot_interval lines) s) y) ∙ e))
+      | inl y ↦ (l, inl refl, y, one_some (unit_holding_interval l).label unit_holding (sym (cond-true (has_unit l.block.raw s) (Some (unit_holding_interval l).label) (label_at (map unit_holding_interval lines) s) y) ∙ e))
       | inr n ↦
-          let f = found lines s lot (sym (cond-false (has_unit l.block.raw s) (Some (lot_interval l).mark) (mark_at (map lot_interval lines) s) n) ∙ e) in
+          let f = found lines s unit_holding (sym (cond-false (has_unit l.block.raw s) (Some (unit_holding_interval l).label) (label_at (map unit_holding_interval lines) s) n) ∙ e) in
           (f.0, inr f.1, f.2, f.3)
     ]
 
 -- ---- a unit and how it is held
 
-lot_held : (r : Registry) (s : Serial) (lot : Lot) → lot_at r.scheme r.code (moves r) s ≡ Some lot → IsHeldSo r s lot
-lot_held r s lot e =
-    let (held, (q, placed, so)) = lot_parts r.scheme r.code s (moves r) lot e in
+unit_holding_held : (r : Registry) (s : Serial) (unit_holding : UnitHolding) → unit_holding_at r.scheme r.code (moves r) s ≡ Some unit_holding → IsHeldSo r s unit_holding
+unit_holding_held r s unit_holding e =
+    let (held, (q, placed, so)) = unit_holding_parts r.scheme r.code s (moves r) unit_holding e in
     record {
       held = held;
-      placed = placed ∙ ap (λ (l : Lot). Some (record { account = l.account; kind = l.kind })) so;
-      reserved = ap (λ (l : Lot). l.reserving) so;
+      placed = placed ∙ ap (λ (l : UnitHolding). Some (record { account = l.account; kind = l.kind })) so;
+      reserved = ap (λ (l : UnitHolding). l.reserving) so;
     }
 
-held_lot : (r : Registry) (s : Serial) (lot : Lot) → IsHeldSo r s lot → lot_at r.scheme r.code (moves r) s ≡ Some lot
-held_lot r s lot h =
-    lot_of_held r.scheme r.code s (moves r) (record { account = lot.account; kind = lot.kind }) h.held h.placed ∙ ap (λ o. Some (record { account = lot.account; kind = lot.kind; reserving = o })) h.reserved
+held_unit_holding : (r : Registry) (s : Serial) (unit_holding : UnitHolding) → IsHeldSo r s unit_holding → unit_holding_at r.scheme r.code (moves r) s ≡ Some unit_holding
+held_unit_holding r s unit_holding h =
+    unit_holding_of_held r.scheme r.code s (moves r) (record { account = unit_holding.account; kind = unit_holding.kind }) h.held h.placed ∙ ap (λ o. Some (record { account = unit_holding.account; kind = unit_holding.kind; reserving = o })) h.reserved
 
 -- ---- the lines
 
-pub lines_report : (r : Registry) (held : Held) (lines : List Line) → ((s : Serial) → get held.lots s ≡ lot_at r.scheme r.code (moves r) s) → AreLines held lines → AreHoldings r lines
+pub lines_report : (r : Registry) (held : Held) (lines : List HeldBlock) → ((s : Serial) → get held.unit_holdings s ≡ unit_holding_at r.scheme r.code (moves r) s) → AreLines held lines → AreHoldings r lines
 lines_report r held lines says is =
     record {
       in_order = is.ordered;
-      exact = λ s lot. (
-        (λ h. let f = found lines s lot (is.same s ∙ says s ∙ held_lot r s lot h) in record { line = f.0; among = contains_in lines f.0 f.1; has = f.2; so = f.3 }),
-        (λ h. lot_held r s lot (sym (says s) ∙ sym (is.same s) ∙ marked lines s h.line is.apart (In_contains lines h.line h.among) h.has ∙ ap (λ (l : Lot). Some l) h.so)),
+      exact = λ s unit_holding. (
+        (λ h. let f = found lines s unit_holding (is.same s ∙ says s ∙ held_unit_holding r s unit_holding h) in record { line = f.0; among = contains_in lines f.0 f.1; has = f.2; so = f.3 }),
+        (λ h. unit_holding_held r s unit_holding (sym (says s) ∙ sym (is.same s) ∙ labelled lines s h.line is.apart (In_contains lines h.line h.among) h.has ∙ ap (λ (l : UnitHolding). Some l) h.so)),
       );
     }

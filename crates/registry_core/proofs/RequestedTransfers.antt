@@ -1,10 +1,11 @@
--- A cancellation is asked for only of a transaction that is known, and what is known of a transfer out of the registry is where it stands.
+-- A cancellation is asked for only of a transaction that is known, and what is known of a transfer out of the
+-- registry is where it stands.
 use Rattle.protocol.specs.Deciding as decide
 use Rattle.wire.specs.declared.input.Input.TheVariants.{Ack, CleanUp, CloseAccount, Eligible, OpenAccount, Propose, Received, Request}
 use Rattle.std.proofs.Common.{List, None, Some, [], ap, false, inl, inr, refl, sym, true, ◌&&◌, ◌++◌, ◌∙◌, ◌∷◌, ◌≡◌, Option}
 use Rattle.units.specs.declared.code.Code.{Code}
 use Rattle.registry_core.proofs.RecordedEntries.{Entered, entered_registry, recorded_causes}
-use Rattle.protocol.specs.Deciding.{Enters}
+use Rattle.protocol.specs.Deciding.{IsRecorded}
 use Rattle.protocol.specs.History.{Entry, Transition, is_known, is_request_of, is_requested, newest, transitions_of}
 use Rattle.wire.specs.declared.input.Input.{Input}
 use Rattle.scheme.specs.declared.registries.Scheme.{Scheme}
@@ -17,7 +18,7 @@ use Rattle.protocol.specs.AtRegistry.{in_role, registry_verdict, request_column,
 use Rattle.std.specs.Prelude.{is_some}
 use Rattle.safety.proofs.MovesAndHistories.NewestTransitions.{newest_append, Made, newest_id}
 use Rattle.units.specs.Code.{same_code}
-use Rattle.status.specs.declared.words.Known.TheVariants.{Bare, Stands, Unknown}
+use Rattle.status.specs.declared.rows.RecordedStatus.TheVariants.{Bare, Stands, Unknown}
 use Rattle.status.specs.Content.{Content}
 use Rattle.units.specs.declared.code.Node.TheVariants.{Registry}
 use Rattle.std.specs.Option.{option_map_or}
@@ -31,7 +32,7 @@ unknown_before xs rest t h =
     ]
 
 module _ (scheme : Scheme) (c : Code) where
-  asked_known : (es : List Entry) (t : TransactionId) (input : Input) (xs : List Transition) → registry_verdict scheme c es input ≡ Enters xs → newest (transitions_of es) t ≡ None → is_request_of t input ≡ false
+  asked_known : (es : List Entry) (t : TransactionId) (input : Input) (xs : List Transition) → registry_verdict scheme c es input ≡ IsRecorded xs → newest (transitions_of es) t ≡ None → is_request_of t input ≡ false
   asked_known es t (Request u) xs entered none =
       let causes = recorded_causes (request_refusals c es u) (in_role scheme c es u (newest (transitions_of es) u) 0 (request_column es u)) xs entered in
       let there = (and_parts (same_code u.code c) (is_known (transitions_of es) u) (not-false (same_code u.code c && is_known (transitions_of es) u) causes.0)).1 in

@@ -16,11 +16,11 @@ use Rattle.status.specs.Order.{Order}
 use Rattle.status.specs.Rows.{acquirer_row, initiator_row}
 use Rattle.status.specs.declared.id.TransactionId.{TransactionId}
 use Rattle.status.specs.declared.moment.Moment.{Moment}
-use Rattle.status.specs.declared.words.Row.{Row}
-use Rattle.status.specs.declared.words.RowInput.TheVariants as column
-use Rattle.status.specs.declared.words.RowInput.TheVariants.{Notified}
-use Rattle.status.specs.declared.words.Status.{Status}
-use Rattle.wire.specs.Notices.{notice_status}
+use Rattle.status.specs.declared.rows.Row.{Row}
+use Rattle.status.specs.declared.rows.RowInput.TheVariants as column
+use Rattle.status.specs.declared.rows.RowInput.TheVariants.{Notified}
+use Rattle.status.specs.declared.status.Status.{Status}
+use Rattle.wire.specs.NotifiedStatuses.{notified_status}
 use Rattle.wire.specs.declared.input.Input.{Input}
 use Rattle.wire.specs.declared.input.Input.TheVariants.{Propose, Received, Request}
 use Rattle.wire.specs.declared.message.Message.{Message}
@@ -31,7 +31,7 @@ use Rattle.scheme.specs.declared.registries.Scheme.{Scheme}
 use Rattle.protocol.specs.AtRegistry.{content_of, holding, registry_refusals, unless_held}
 use Rattle.protocol.specs.Checks.{Causes, Holding, acquirer_findings}
 use Rattle.protocol.specs.Cores.{IsDueOrNoMemory}
-use Rattle.protocol.specs.Deciding.{by_row, content_in, enters, moved, offered, refuse}
+use Rattle.protocol.specs.Deciding.{by_row, content_in, recorded_if_room, moved, column_of_proposal, refuse}
 use Rattle.protocol.specs.Decisions.{decided, unless}
 use Rattle.protocol.specs.Effects.{acquirer_sends, initiator_sends}
 use Rattle.protocol.specs.History.{Entry, Transition, newest, proposals, transitions_of}
@@ -61,7 +61,8 @@ use Rattle.registry_core.proofs.TakenInputs.{GivenUp, are_same, due_so, takes_er
 abbrev past : Scheme → Code → Tables → List Entry
 past scheme c tables = history scheme (Registry c) tables.journal.items
 
--- a role's decision goes by a row, after causes of refusals, and sends messages; and so does the verdict, whose transition is the one given for a status
+-- a role's decision goes by a row, after causes of refusals, and sends messages; and so does the verdict, whose
+-- transition is the one given for a status
 pub record Decided (scheme : Scheme) (c : Code) (tables : Tables) (input : Input) (to : Status → Transition) (d : Result Decision Refusal) : Type 0 where
   pub causes : Causes
   pub row : Row
@@ -84,7 +85,7 @@ module _ {scheme : Scheme} {c : Code} {tables : Tables} {input : Input} {to : St
   takes_too_late h = takes_late scheme c tables input kept (comes_late scheme c tables input to by.causes by.row by.messages d by.is by.row_is h)
 
   pub moves_so : (effect : Effect) {given : Input} {new : Status} {ms : List Message} → input ≡ given → d ≡ Ok (decision.Moves new ms) → IsEffect c (past scheme c tables) given (to new) effect
-      → (x : Transition) × (verdict_due scheme c tables input ≡ enters scheme (past scheme c tables) (x ∷ [])) × (ms ≡ x.messages) × IsEffect c (past scheme c tables) input x effect
+      → (x : Transition) × (verdict_due scheme c tables input ≡ recorded_if_room scheme (past scheme c tables) (x ∷ [])) × (ms ≡ x.messages) × IsEffect c (past scheme c tables) input x effect
   moves_so effect {given} {new} {ms} is h e = (
     to new,
     moves scheme c tables input to by.causes by.row by.messages d by.is by.row_is new ms h,
@@ -157,17 +158,17 @@ module _ {scheme : Scheme} {c : Code} {tables : Tables} (kept : IsKept scheme c 
   abbrev pub to_arrive : Proposal → Moment → Status → Transition
   to_arrive p moment =
       let found = acquirer_findings scheme c (holding scheme c (past scheme c tables)) p.content in
-      moved p.id (Some p.content) moment.seconds (acquirer_sends c p.id found (offered (acquirer.kept_content (get tables.acquirer.transfers p.id)) found))
+      moved p.id (Some p.content) moment.seconds (acquirer_sends c p.id found (column_of_proposal (acquirer.kept_content (get tables.acquirer.transfers p.id)) found))
 
   pub arrived : {input : Input} {d : Result Decision Refusal} {p : Proposal} {moment : Moment} → input ≡ Received (message.Proposal p) moment → first_of (registry_refusals c (past scheme c tables) (message.Proposal p)) ≡ None
       → ((q : Holding) (found : List ℕ) → Knows scheme tables.acquirer.code tables.holdings q → found ≡ acquirer_findings scheme tables.acquirer.code q p.content
-      → IsDueOrNoMemory d (decided (acquirer_row (acquirer.known_transfer (get tables.acquirer.transfers p.id)) (offered (acquirer.kept_content (get tables.acquirer.transfers p.id)) found))
-      (acquirer_sends tables.acquirer.code p.id found (offered (acquirer.kept_content (get tables.acquirer.transfers p.id)) found))))
+      → IsDueOrNoMemory d (decided (acquirer_row (acquirer.known_transfer (get tables.acquirer.transfers p.id)) (column_of_proposal (acquirer.kept_content (get tables.acquirer.transfers p.id)) found))
+      (acquirer_sends tables.acquirer.code p.id found (column_of_proposal (acquirer.kept_content (get tables.acquirer.transfers p.id)) found))))
       → Decided scheme c tables input (to_arrive p moment) d
   arrived {input} {d} {p} {moment} given welcome decides =
       let h = holding scheme c (past scheme c tables) in
       let found = acquirer_findings scheme c h p.content in
-      let finds = offered (acquirer.kept_content (get tables.acquirer.transfers p.id)) found in
+      let finds = column_of_proposal (acquirer.kept_content (get tables.acquirer.transfers p.id)) found in
       let row = acquirer_row (acquirer.known_transfer (get tables.acquirer.transfers p.id)) finds in
       record {
         causes = [];
@@ -180,20 +181,20 @@ module _ {scheme : Scheme} {c : Code} {tables : Tables} (kept : IsKept scheme c 
 
   -- a notification on a transfer out of the registry
   abbrev pub to_settle : Notification → Moment → Status → Transition
-  to_settle n moment = moved n.id (content_in (newest (transitions_of (past scheme c tables)) n.id)) moment.seconds (initiator_sends c n.id (content_in (newest (transitions_of (past scheme c tables)) n.id)) (Notified (notice_status n.notice)))
+  to_settle n moment = moved n.id (content_in (newest (transitions_of (past scheme c tables)) n.id)) moment.seconds (initiator_sends c n.id (content_in (newest (transitions_of (past scheme c tables)) n.id)) (Notified (notified_status n.notified)))
 
   pub settled : {input : Input} {d : Result Decision Refusal} {n : Notification} {moment : Moment} {told : Status} → input ≡ Received (message.Notification n) moment → first_of (registry_refusals c (past scheme c tables) (message.Notification n)) ≡ None → same_code n.id.code c ≡ true
-      → told ≡ notice_status n.notice
+      → told ≡ notified_status n.notified
       → ((k : Option Content) → IsDueOrNoMemory d (decided (initiator_row (initiator.known_transfer (get tables.initiator.transfers n.id)) (Notified told)) (initiator_sends tables.initiator.code n.id k (Notified told))))
       → Decided scheme c tables input (to_settle n moment) d
   settled {input} {d} {n} {moment} {told} given welcome own is decides =
       let last = content_in (newest (transitions_of (past scheme c tables)) n.id) in
-      let row = initiator_row (initiator.known_transfer (get tables.initiator.transfers n.id)) (Notified (notice_status n.notice)) in
+      let row = initiator_row (initiator.known_transfer (get tables.initiator.transfers n.id)) (Notified (notified_status n.notified)) in
       record {
         causes = [];
         row = row;
-        messages = initiator_sends c n.id last (Notified (notice_status n.notice));
-        is = subst (λ e. IsDueOrNoMemory d (decided row (initiator_sends e n.id last (Notified (notice_status n.notice))))) kept.kept.initiator
+        messages = initiator_sends c n.id last (Notified (notified_status n.notified));
+        is = subst (λ e. IsDueOrNoMemory d (decided row (initiator_sends e n.id last (Notified (notified_status n.notified))))) kept.kept.initiator
             (subst (λ s. IsDueOrNoMemory d (decided (initiator_row (initiator.known_transfer (get tables.initiator.transfers n.id)) (Notified s)) (initiator_sends tables.initiator.code n.id last (Notified s)))) is (decides last));
         row_is = ap (verdict_due scheme c tables) given ∙ settle_row scheme c tables kept n moment welcome own;
         sent = λ new. refl;
@@ -207,9 +208,9 @@ module _ {scheme : Scheme} {c : Code} {tables : Tables} (kept : IsKept scheme c 
   is_held q n = option_map_or (λ x. list_any (λ p. q.is_held p.unit) (pieces x.units)) (acquirer.kept_content (get tables.acquirer.transfers n.id)) false
 
   abbrev finish_row_of : Notification → Row
-  finish_row_of n = unless_held (is_held (holding scheme c (past scheme c tables)) n) (acquirer_row (acquirer.known_transfer (get tables.acquirer.transfers n.id)) (Notified (notice_status n.notice)))
+  finish_row_of n = unless_held (is_held (holding scheme c (past scheme c tables)) n) (acquirer_row (acquirer.known_transfer (get tables.acquirer.transfers n.id)) (Notified (notified_status n.notified)))
 
-  finish_decides : {d : Result Decision Refusal} (n : Notification) {told : Status} → told ≡ notice_status n.notice
+  finish_decides : {d : Result Decision Refusal} (n : Notification) {told : Status} → told ≡ notified_status n.notified
       → ((q : Holding) → Knows scheme tables.acquirer.code tables.holdings q → d ≡ decided (unless_held (is_held q n) (acquirer_row (acquirer.known_transfer (get tables.acquirer.transfers n.id)) (Notified told))) [])
       → d ≡ decided (finish_row_of n) []
   finish_decides {d} n {told} is decides =
@@ -218,7 +219,7 @@ module _ {scheme : Scheme} {c : Code} {tables : Tables} (kept : IsKept scheme c 
       ∙ ap (λ t. decided (unless_held (is_held h n) (acquirer_row (acquirer.known_transfer (get tables.acquirer.transfers n.id)) (Notified t))) []) is
 
   pub finished : {input : Input} {d : Result Decision Refusal} {n : Notification} {moment : Moment} {told : Status} → input ≡ Received (message.Notification n) moment
-      → first_of (registry_refusals c (past scheme c tables) (message.Notification n)) ≡ None → same_code n.id.code c ≡ false → told ≡ notice_status n.notice
+      → first_of (registry_refusals c (past scheme c tables) (message.Notification n)) ≡ None → same_code n.id.code c ≡ false → told ≡ notified_status n.notified
       → ((q : Holding) → Knows scheme tables.acquirer.code tables.holdings q → d ≡ decided (unless_held (is_held q n) (acquirer_row (acquirer.known_transfer (get tables.acquirer.transfers n.id)) (Notified told))) [])
       → Decided scheme c tables input (to_finish n moment) d
   finished {input} {d} {n} {moment} {told} given welcome foreign is decides =
@@ -233,11 +234,11 @@ module _ {scheme : Scheme} {c : Code} {tables : Tables} (kept : IsKept scheme c 
 
   -- what ends the transfer is the effect
   pub finish_effect : {d : Result Decision Refusal} (n : Notification) (moment : Moment) {told new : Status} {ms : List Message} {effect : Effect} → first_of (registry_refusals c (past scheme c tables) (message.Notification n)) ≡ None
-      → same_code n.id.code c ≡ false → told ≡ notice_status n.notice
+      → same_code n.id.code c ≡ false → told ≡ notified_status n.notified
       → ((q : Holding) → Knows scheme tables.acquirer.code tables.holdings q → d ≡ decided (unless_held (is_held q n) (acquirer_row (acquirer.known_transfer (get tables.acquirer.transfers n.id)) (Notified told))) [])
       → d ≡ Ok (decision.Moves new ms) → effect ≡ ending (is_some (get tables.acquirer.transfers n.id)) n.id new → IsEffect c (past scheme c tables) (Received (message.Notification n) moment) (to_finish n moment new) effect
   finish_effect {d} n moment {told} {new} {ms} {effect} welcome foreign is decides h ends =
       let row = row_moves scheme c tables (Received (message.Notification n) moment) (to_finish n moment) [] (finish_row_of n) [] d (inl (finish_decides n is decides)) (finish_row scheme c tables kept n moment welcome foreign) new ms h in
       subst (λ e. IsEffect c (past scheme c tables) (Received (message.Notification n) moment) (to_finish n moment new) e) (sym ends)
-      (ending_effect scheme c tables kept n moment (notice_status n.notice) new (is_held (holding scheme c (past scheme c tables)) n) (to_finish n moment new) foreign refl
-      (ap (λ q. unless_held (is_held (holding scheme c (past scheme c tables)) n) (acquirer_row q (Notified (notice_status n.notice)))) (sym (foreign_known_so scheme c tables kept n.id foreign)) ∙ row))
+      (ending_effect scheme c tables kept n moment (notified_status n.notified) new (is_held (holding scheme c (past scheme c tables)) n) (to_finish n moment new) foreign refl
+      (ap (λ q. unless_held (is_held (holding scheme c (past scheme c tables)) n) (acquirer_row q (Notified (notified_status n.notified)))) (sym (foreign_known_so scheme c tables kept n.id foreign)) ∙ row))

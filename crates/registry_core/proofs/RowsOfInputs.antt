@@ -14,23 +14,23 @@ use Rattle.status.specs.Order.{Order}
 use Rattle.status.specs.Rows.{initiator_row, acquirer_row}
 use Rattle.status.specs.declared.id.TransactionId.{TransactionId}
 use Rattle.status.specs.declared.moment.Moment.{Moment}
-use Rattle.status.specs.declared.words.RowInput.TheVariants as column
-use Rattle.status.specs.declared.words.RowInput.TheVariants.{Notified}
-use Rattle.wire.specs.Notices.{notice_status}
+use Rattle.status.specs.declared.rows.RowInput.TheVariants as column
+use Rattle.status.specs.declared.rows.RowInput.TheVariants.{Notified}
+use Rattle.wire.specs.NotifiedStatuses.{notified_status}
 use Rattle.wire.specs.declared.input.Input.TheVariants.{Propose, Request, Received}
 use Rattle.wire.specs.declared.message.Message.TheVariants as message
 use Rattle.wire.specs.declared.message.Notification.{Notification}
 use Rattle.wire.specs.declared.message.Proposal.{Proposal}
 use Rattle.scheme.specs.declared.registries.Scheme.{Scheme}
-use Rattle.protocol.specs.AtRegistry.{arrival, content_of, holding, holds_some, in_role, offer, registry_answer, registry_refusals, request_column, unless_held}
+use Rattle.protocol.specs.AtRegistry.{arrival, content_of, holding, holds_some, in_role, new_transfer_verdict, registry_answer, registry_refusals, request_column, unless_held}
 use Rattle.protocol.specs.Checks.{acquirer_findings, propose_refusals}
 use Rattle.protocol.specs.Deciding as decide
-use Rattle.protocol.specs.Deciding.{IsRefused, Verdict, by_row, content_in, offered, refuse}
+use Rattle.protocol.specs.Deciding.{IsRefused, Verdict, by_row, content_in, column_of_proposal, refuse}
 use Rattle.protocol.specs.Effects.{acquirer_sends, initiator_sends}
 use Rattle.protocol.specs.History.{Entry, is_known, newest, proposals, stands_at, transitions_of}
 use Rattle.protocol.specs.Pieces.{pieces}
 use Rattle.protocol.specs.Verdict.{history}
-use Rattle.status.specs.declared.words.Status.TheVariants.{Proposed}
+use Rattle.status.specs.declared.status.Status.TheVariants.{Proposed}
 use Rattle.checks.specs.Refusing.{first_of, order_refusals}
 use Rattle.initiator.specs.Transfers as initiator
 use Rattle.acquirer.specs.Transfers as acquirer
@@ -51,8 +51,8 @@ module _ (scheme : Scheme) (c : Code) (tables : Tables) (kept : IsKept scheme c 
       ≡ by_row scheme es (decide.moved t (Some (content_of o)) 0 (initiator_sends c t (Some (content_of o)) column.Propose)) (initiator_row (initiator.known_transfer (map.get tables.initiator.transfers t)) column.Propose)
   propose_row o t none is own =
       due_so scheme c tables (Propose o)
-      ∙ refuse_none (propose_refusals scheme c (holding scheme c es) o) (offer scheme c es (content_of o) (id_at c (proposals es + 1))) (order_causes scheme c es o none)
-      ∙ ap (offer scheme c es (content_of o)) is
+      ∙ refuse_none (propose_refusals scheme c (holding scheme c es) o) (new_transfer_verdict scheme c es (content_of o) (id_at c (proposals es + 1))) (order_causes scheme c es o none)
+      ∙ ap (new_transfer_verdict scheme c es (content_of o)) is
       ∙ ap (λ k. by_row scheme es (decide.moved t (Some (content_of o)) 0 (initiator_sends c t (Some (content_of o)) column.Propose)) (initiator_row k column.Propose)) (sym (own_known_so scheme c tables kept t own))
 
   -- an order about a transaction, by the initiator's table
@@ -93,40 +93,40 @@ module _ (scheme : Scheme) (c : Code) (tables : Tables) (kept : IsKept scheme c 
 
   pub arrive_row : (p : Proposal) (moment : Moment) (found : List ℕ) → first_of (registry_refusals c es (message.Proposal p)) ≡ None → same_code p.id.code c ≡ false → found ≡ acquirer_findings scheme c (holding scheme c es) p.content
       → verdict_due scheme c tables (Received (message.Proposal p) moment)
-      ≡ by_row scheme es (decide.moved p.id (Some p.content) moment.seconds (acquirer_sends c p.id found (offered (acquirer.kept_content (map.get tables.acquirer.transfers p.id)) found)))
-      (acquirer_row (acquirer.known_transfer (map.get tables.acquirer.transfers p.id)) (offered (acquirer.kept_content (map.get tables.acquirer.transfers p.id)) found))
+      ≡ by_row scheme es (decide.moved p.id (Some p.content) moment.seconds (acquirer_sends c p.id found (column_of_proposal (acquirer.kept_content (map.get tables.acquirer.transfers p.id)) found)))
+      (acquirer_row (acquirer.known_transfer (map.get tables.acquirer.transfers p.id)) (column_of_proposal (acquirer.kept_content (map.get tables.acquirer.transfers p.id)) found))
   arrive_row p moment found none foreign is =
       due_so scheme c tables (Received (message.Proposal p) moment)
       ∙ refuse_none (registry_refusals c es (message.Proposal p)) (registry_answer scheme c es moment.seconds (message.Proposal p)) (first_none (registry_refusals c es (message.Proposal p)) none)
       ∙ ap (arrival scheme c es p.id (newest (transitions_of es) p.id) p.content moment.seconds) (sym is)
-      ∙ ap (λ k. by_row scheme es (decide.moved p.id (Some p.content) moment.seconds (acquirer_sends c p.id found (offered k found))) (acquirer_row (decide.known (newest (transitions_of es) p.id)) (offered k found))) (sym (foreign_content_so scheme c tables kept p.id foreign))
-      ∙ ap (λ k. by_row scheme es (decide.moved p.id (Some p.content) moment.seconds (acquirer_sends c p.id found (offered (acquirer.kept_content (map.get tables.acquirer.transfers p.id)) found)))
-      (acquirer_row k (offered (acquirer.kept_content (map.get tables.acquirer.transfers p.id)) found))) (sym (foreign_known_so scheme c tables kept p.id foreign))
+      ∙ ap (λ k. by_row scheme es (decide.moved p.id (Some p.content) moment.seconds (acquirer_sends c p.id found (column_of_proposal k found))) (acquirer_row (decide.known (newest (transitions_of es) p.id)) (column_of_proposal k found))) (sym (foreign_content_so scheme c tables kept p.id foreign))
+      ∙ ap (λ k. by_row scheme es (decide.moved p.id (Some p.content) moment.seconds (acquirer_sends c p.id found (column_of_proposal (acquirer.kept_content (map.get tables.acquirer.transfers p.id)) found)))
+      (acquirer_row k (column_of_proposal (acquirer.kept_content (map.get tables.acquirer.transfers p.id)) found))) (sym (foreign_known_so scheme c tables kept p.id foreign))
 
   heard : (n : Notification) (moment : Moment) → first_of (registry_refusals c es (message.Notification n)) ≡ None
-      → verdict_due scheme c tables (Received (message.Notification n) moment) ≡ in_role scheme c es n.id (newest (transitions_of es) n.id) moment.seconds (Notified (notice_status n.notice))
+      → verdict_due scheme c tables (Received (message.Notification n) moment) ≡ in_role scheme c es n.id (newest (transitions_of es) n.id) moment.seconds (Notified (notified_status n.notified))
   heard n moment none =
       due_so scheme c tables (Received (message.Notification n) moment)
       ∙ refuse_none (registry_refusals c es (message.Notification n)) (registry_answer scheme c es moment.seconds (message.Notification n)) (first_none (registry_refusals c es (message.Notification n)) none)
 
   pub settle_row : (n : Notification) (moment : Moment) → first_of (registry_refusals c es (message.Notification n)) ≡ None → same_code n.id.code c ≡ true
       → verdict_due scheme c tables (Received (message.Notification n) moment)
-      ≡ by_row scheme es (decide.moved n.id (content_in (newest (transitions_of es) n.id)) moment.seconds (initiator_sends c n.id (content_in (newest (transitions_of es) n.id)) (Notified (notice_status n.notice))))
-      (initiator_row (initiator.known_transfer (map.get tables.initiator.transfers n.id)) (Notified (notice_status n.notice)))
+      ≡ by_row scheme es (decide.moved n.id (content_in (newest (transitions_of es) n.id)) moment.seconds (initiator_sends c n.id (content_in (newest (transitions_of es) n.id)) (Notified (notified_status n.notified))))
+      (initiator_row (initiator.known_transfer (map.get tables.initiator.transfers n.id)) (Notified (notified_status n.notified)))
   settle_row n moment none own =
       heard n moment none ∙ cond-true (same_code n.id.code c) _ _ own
-      ∙ ap (λ k. by_row scheme es (decide.moved n.id (content_in (newest (transitions_of es) n.id)) moment.seconds (initiator_sends c n.id (content_in (newest (transitions_of es) n.id)) (Notified (notice_status n.notice))))
-      (initiator_row k (Notified (notice_status n.notice)))) (sym (own_known_so scheme c tables kept n.id own))
+      ∙ ap (λ k. by_row scheme es (decide.moved n.id (content_in (newest (transitions_of es) n.id)) moment.seconds (initiator_sends c n.id (content_in (newest (transitions_of es) n.id)) (Notified (notified_status n.notified))))
+      (initiator_row k (Notified (notified_status n.notified)))) (sym (own_known_so scheme c tables kept n.id own))
 
   -- as the acquirer's table says, and not while a unit is held
   pub finish_row : (n : Notification) (moment : Moment) → first_of (registry_refusals c es (message.Notification n)) ≡ None → same_code n.id.code c ≡ false
       → verdict_due scheme c tables (Received (message.Notification n) moment)
       ≡ by_row scheme es (decide.moved n.id (content_in (newest (transitions_of es) n.id)) moment.seconds [])
       (unless_held (option_map_or (λ k. list_any (λ p. (holding scheme c es).is_held p.unit) (pieces k.units)) (acquirer.kept_content (map.get tables.acquirer.transfers n.id)) false)
-      (acquirer_row (acquirer.known_transfer (map.get tables.acquirer.transfers n.id)) (Notified (notice_status n.notice))))
+      (acquirer_row (acquirer.known_transfer (map.get tables.acquirer.transfers n.id)) (Notified (notified_status n.notified))))
   finish_row n moment none foreign =
       heard n moment none ∙ cond-false (same_code n.id.code c) _ _ foreign
-      ∙ ap (λ k. by_row scheme es (decide.moved n.id (content_in (newest (transitions_of es) n.id)) moment.seconds []) (unless_held (holds_some scheme c (transitions_of es) k) (acquirer_row (decide.known (newest (transitions_of es) n.id)) (Notified (notice_status n.notice)))))
+      ∙ ap (λ k. by_row scheme es (decide.moved n.id (content_in (newest (transitions_of es) n.id)) moment.seconds []) (unless_held (holds_some scheme c (transitions_of es) k) (acquirer_row (decide.known (newest (transitions_of es) n.id)) (Notified (notified_status n.notified)))))
       (sym (foreign_content_so scheme c tables kept n.id foreign))
       ∙ ap (λ k. by_row scheme es (decide.moved n.id (content_in (newest (transitions_of es) n.id)) moment.seconds [])
-      (unless_held (holds_some scheme c (transitions_of es) (acquirer.kept_content (map.get tables.acquirer.transfers n.id))) (acquirer_row k (Notified (notice_status n.notice))))) (sym (foreign_known_so scheme c tables kept n.id foreign))
+      (unless_held (holds_some scheme c (transitions_of es) (acquirer.kept_content (map.get tables.acquirer.transfers n.id))) (acquirer_row k (Notified (notified_status n.notified))))) (sym (foreign_known_so scheme c tables kept n.id foreign))

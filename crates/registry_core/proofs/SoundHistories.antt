@@ -1,5 +1,5 @@
--- What each transition of a registry keeps: a transaction's transitions have one content, and of each unit `Local` holds, so at most one transfer waits with it.
--- The lemmas on lots take both as `Sound`.
+-- What each transition of a registry keeps: a transaction's transitions have one content, and of each unit `Local`
+-- holds, so at most one transfer waits with it. The lemmas on unit holdings take both as `Sound`.
 use Rattle.std.proofs.Common.{◌≡◌, List, ◌∷◌, Option, None, ◌⊎◌, inl, inr, sym, ap, subst, ◌∙◌, refl, Some, true}
 use Rattle.units.specs.declared.block.Unit.{Unit as Serial}
 use Rattle.units.specs.declared.code.Code.{Code}

@@ -1,4 +1,5 @@
--- What a registry's two roles are asked of a transaction, and of the accounts that are awaited, is what its history says.
+-- What a registry's two roles are asked of a transaction, and of the accounts that are awaited, is what its history
+-- says.
 use Rattle.std.specs.FinMap as map
 use Rattle.std.proofs.Common.{Bool, List, None, Option, Some, ap, cond, false, inl, inr, not, refl, sym, true, ℕ, ◌∙◌, ◌≡◌}
 use Rattle.std.specs.Prelude.{is_some, option_map}
@@ -9,9 +10,9 @@ use Rattle.units.specs.declared.code.Code.{Code}
 use Rattle.units.specs.declared.code.Node.TheVariants.{Registry}
 use Rattle.status.specs.Status.{same_status}
 use Rattle.status.specs.declared.id.TransactionId.{TransactionId}
-use Rattle.status.specs.declared.words.Known.TheVariants.{Stands, Unknown}
-use Rattle.status.specs.declared.words.RowInput.TheVariants as column
-use Rattle.status.specs.declared.words.Status.TheVariants.{Proposed}
+use Rattle.status.specs.declared.rows.RecordedStatus.TheVariants.{Stands, Unknown}
+use Rattle.status.specs.declared.rows.RowInput.TheVariants as column
+use Rattle.status.specs.declared.status.Status.TheVariants.{Proposed}
 use Rattle.scheme.specs.declared.registries.Scheme.{Scheme}
 use Rattle.protocol.specs.Deciding as decide
 use Rattle.protocol.specs.AtRegistry as registry

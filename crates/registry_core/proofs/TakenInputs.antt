@@ -11,7 +11,7 @@ use Rattle.wire.specs.declared.input.Input.{Input}
 use Rattle.scheme.specs.declared.registries.Scheme.{Scheme}
 use Rattle.protocol.proofs.Histories.{length_history}
 use Rattle.protocol.specs.Cores.{Replays, answer_of}
-use Rattle.protocol.specs.Deciding.{Enters, IsLate, IsRefused, IsRepeat, enters}
+use Rattle.protocol.specs.Deciding.{IsRecorded, IsLate, IsRefused, IsRepeat, recorded_if_room}
 use Rattle.protocol.specs.History.{Transition, Entry, transitions_of, proposals}
 use Rattle.protocol.specs.AtRegistry.{registry_verdict}
 use Rattle.protocol.specs.Verdict.{history, verdict}
@@ -19,7 +19,7 @@ use Rattle.protocol.specs.declared.node_core.Stepped.{Stepped}
 use Rattle.protocol.specs.declared.node_core.Stepped.TheVariants as stepped
 use Rattle.outbox.specs.Outgoing.{outgoing}
 use Rattle.registry_core.specs.Kept.{IsKept}
-use Rattle.registry_core.specs.Readings.{foreign_row, is_foreign, is_own, lot_at, own_row, row_at, standing_at}
+use Rattle.registry_core.specs.Readings.{foreign_row, is_foreign, is_own, unit_holding_at, own_row, row_at, account_status_at}
 use Rattle.registry_core.specs.Taking.{Takes, verdict_due}
 use Rattle.registry_core.specs.declared.tables.Tables.{Tables}
 
@@ -49,8 +49,8 @@ module _ (scheme : Scheme) (c : Code) where
       record {
         replays = subst (λ (js : List Input). Replays scheme (Registry c) js) j h.replays;
         kept = record {
-          lots = λ s. ap (λ x. map.get x.lots s) same.holdings ∙ k.lots s ∙ ap (λ js. lot_at scheme c (transitions_of (past js)) s) j;
-          accounts = λ n. ap (λ x. map.get x.accounts n) same.holdings ∙ k.accounts n ∙ ap (λ js. standing_at scheme c (past js) n) j;
+          unit_holdings = λ s. ap (λ x. map.get x.unit_holdings s) same.holdings ∙ k.unit_holdings s ∙ ap (λ js. unit_holding_at scheme c (transitions_of (past js)) s) j;
+          accounts = λ n. ap (λ x. map.get x.accounts n) same.holdings ∙ k.accounts n ∙ ap (λ js. account_status_at scheme c (past js) n) j;
           initiator = ap (λ x. x.code) same.initiator ∙ k.initiator;
           last = ap (λ x. x.last) same.initiator ∙ k.last ∙ ap (λ js. proposals (past js)) j;
           own = λ t. ap (λ x. map.get x.transfers t) same.initiator ∙ k.own t ∙ ap (λ js. row_at (is_own c) (own_row (past js)) (transitions_of (past js)) t) j;
@@ -87,21 +87,21 @@ module _ (scheme : Scheme) (c : Code) where
   pub takes_late : (tables : Tables) (input : Input) → IsKept scheme c tables → verdict_due scheme c tables input ≡ IsLate → Takes scheme c tables tables input (Ok stepped.Late)
   takes_late tables input h is = record { answer_is = inl (ap (answer_of (length tables.journal.items)) (sym is)); journal_is = refl; kept = h }
 
-  pub takes_recorded : (tables tables' : Tables) (input : Input) (xs : List Transition) (place : ℕ) → verdict_due scheme c tables input ≡ Enters xs → place ≡ length tables.journal.items → tables'.journal.items ≡ tables.journal.items ++ input ∷ [] → IsKept scheme c tables'
+  pub takes_recorded : (tables tables' : Tables) (input : Input) (xs : List Transition) (place : ℕ) → verdict_due scheme c tables input ≡ IsRecorded xs → place ≡ length tables.journal.items → tables'.journal.items ≡ tables.journal.items ++ input ∷ [] → IsKept scheme c tables'
       → Takes scheme c tables tables' input (Ok (stepped.Recorded place))
   takes_recorded tables tables' input xs place is at more h =
       record { answer_is = inl (ap (λ n. Ok (stepped.Recorded n)) at ∙ ap (answer_of (length tables.journal.items)) (sym is)); journal_is = more; kept = h }
 
   -- ---- room in the journal
 
-  full_refuses : (tables : Tables) (input : Input) (xs : List Transition) → verdict_due scheme c tables input ≡ enters scheme (past tables.journal.items) xs → nat_le scheme.records (length tables.journal.items) ≡ true → verdict_due scheme c tables input ≡ IsRefused journal_full
-  full_refuses tables input xs is full = is ∙ ap (λ n. cond (nat_le scheme.records n) (IsRefused journal_full) (Enters xs)) (length_history scheme (Registry c) tables.journal.items) ∙ ap (λ b. cond b (IsRefused journal_full) (Enters xs)) full
+  full_refuses : (tables : Tables) (input : Input) (xs : List Transition) → verdict_due scheme c tables input ≡ recorded_if_room scheme (past tables.journal.items) xs → nat_le scheme.records (length tables.journal.items) ≡ true → verdict_due scheme c tables input ≡ IsRefused journal_full
+  full_refuses tables input xs is full = is ∙ ap (λ n. cond (nat_le scheme.records n) (IsRefused journal_full) (IsRecorded xs)) (length_history scheme (Registry c) tables.journal.items) ∙ ap (λ b. cond b (IsRefused journal_full) (IsRecorded xs)) full
 
-  pub room_enters : (tables : Tables) (input : Input) (xs : List Transition) → verdict_due scheme c tables input ≡ enters scheme (past tables.journal.items) xs → nat_le scheme.records (length tables.journal.items) ≡ false → verdict_due scheme c tables input ≡ Enters xs
-  room_enters tables input xs is room = is ∙ ap (λ n. cond (nat_le scheme.records n) (IsRefused journal_full) (Enters xs)) (length_history scheme (Registry c) tables.journal.items) ∙ ap (λ b. cond b (IsRefused journal_full) (Enters xs)) room
+  pub room_enters : (tables : Tables) (input : Input) (xs : List Transition) → verdict_due scheme c tables input ≡ recorded_if_room scheme (past tables.journal.items) xs → nat_le scheme.records (length tables.journal.items) ≡ false → verdict_due scheme c tables input ≡ IsRecorded xs
+  room_enters tables input xs is room = is ∙ ap (λ n. cond (nat_le scheme.records n) (IsRefused journal_full) (IsRecorded xs)) (length_history scheme (Registry c) tables.journal.items) ∙ ap (λ b. cond b (IsRefused journal_full) (IsRecorded xs)) room
 
   -- a copy of the input is refused where the journal is full or memory ran out
-  pub unfitting : (tables : Tables) (input : Input) (xs : List Transition) (code : ℕ) → verdict_due scheme c tables input ≡ enters scheme (past tables.journal.items) xs
+  pub unfitting : (tables : Tables) (input : Input) (xs : List Transition) (code : ℕ) → verdict_due scheme c tables input ≡ recorded_if_room scheme (past tables.journal.items) xs
       → (code ≡ out_of_memory) ⊎ ((code ≡ journal_full) × (nat_le scheme.records (length tables.journal.items) ≡ true)) → GivenUp tables input code
   unfitting tables input xs code is (inl memory) = inl memory
   unfitting tables input xs code is (inr full) = inr (full_refuses tables input xs is full.1 ∙ ap (λ n. IsRefused n) (sym full.0))

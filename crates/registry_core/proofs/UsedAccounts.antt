@@ -1,4 +1,5 @@
--- An account is used exactly when a unit's lot is in it: the units that were ever in play are enough, since one that is held was allotted or came by a transfer.
+-- An account is used exactly when a unit's holding is in it: the units that were ever in play are enough, since one
+-- that is held was allotted or came by a transfer.
 use Rattle.std.specs.FinMap as map
 use Rattle.scheme.specs.Allotted as start
 use Rattle.std.proofs.lemmas.List.Folds.{list_any-append}
@@ -6,14 +7,14 @@ use Rattle.scheme.specs.declared.members.Allotment.{Allotment}
 use Rattle.units.specs.declared.block.Block.{Block}
 use Rattle.std.proofs.Common.{Bool, List, None, Option, Some, [], ap, arith, cond, false, flat_map, inl, inr, not, refl, subst, sym, true, ℕ, ◌&&◌, ◌+◌, ◌==◌, ◌||◌, ◌∙◌, ◌∷◌, ◌≡◌}
 use Rattle.units.specs.declared.code.Code.{Code}
-use Rattle.status.specs.declared.words.Status.TheVariants.{Completed}
+use Rattle.status.specs.declared.status.Status.TheVariants.{Completed}
 use Rattle.status.specs.Content.{Content, raws}
 use Rattle.accounts.specs.Refusals.{HasUnits}
 use Rattle.accounts.specs.Holdings.{Held}
 use Rattle.scheme.specs.declared.members.Holder.{Holder}
 use Rattle.lemmas.proofs.Membership.{In, In_left, In_right}
-use Rattle.accounts.specs.declared.lot.Lot.{Lot}
-use Rattle.scheme.specs.declared.members.Member.{Member}
+use Rattle.accounts.specs.declared.unit_holding.UnitHolding.{UnitHolding}
+use Rattle.scheme.specs.declared.members.SchemeRegistry.{SchemeRegistry}
 use Rattle.protocol.specs.Pieces.{Piece, pieces}
 use Rattle.protocol.specs.History.{Place, Transition, at_start, carries, credits, gives, has_serial, holds, is_with, place}
 use Rattle.scheme.specs.declared.registries.Scheme.{Scheme}
@@ -22,14 +23,14 @@ use Rattle.scheme.specs.Order.{all_blocks, blocks_of}
 use Rattle.protocol.specs.Registries.{allotted}
 use Rattle.scheme.specs.Allotted.{holder, allotted_in}
 use Rattle.std.proofs.lemmas.Bool.{and_from, and_parts, cases_Bool, eq-eqb, eqb-true}
-use Rattle.registry_core.proofs.LotsOfUnits.{any_found, held_place, lot_of_held, lot_parts}
+use Rattle.registry_core.proofs.UnitHoldingsOfUnits.{any_found, held_place, unit_holding_of_held, unit_holding_parts}
 use Rattle.std.specs.List.{count_by}
 use Rattle.units.specs.Unit.{covers, has_unit}
-use Rattle.registry_core.proofs.StepsOfLots.{covers_raws}
+use Rattle.registry_core.proofs.StepsOfUnitHoldings.{covers_raws}
 use Rattle.std.specs.Prelude.{find, is_some, option_map}
 use Rattle.protocol.specs.AtRegistry.{is_used, seen}
 use Rattle.lemmas.proofs.SomePass.{list_any_some, list_any_in}
-use Rattle.registry_core.specs.Readings.{lot_at, lot_in, reserver}
+use Rattle.registry_core.specs.Readings.{unit_holding_at, unit_holding_in, reserver}
 use Rattle.protocol.proofs.CountsInLists.{number_some}
 use Rattle.std.specs.Option.{option_map_or, option_or}
 use Rattle.protocol.proofs.UnitsOfBlocks.{piece_of}
@@ -55,7 +56,7 @@ module _ (s : Serial) where
       ∙ ap (λ t. covers a.units s || t) (allotted_in_blocks code parts)
       ∙ sym (list_any-append (λ (b : Block). has_unit b.raw s) a.units (blocks_of parts))
 
-  pub allotted_blocks : (ms : List Member) → is_some (start.allotted ms s) ≡ covers (all_blocks ms) s
+  pub allotted_blocks : (ms : List SchemeRegistry) → is_some (start.allotted ms s) ≡ covers (all_blocks ms) s
   allotted_blocks [] = refl
   allotted_blocks (m ∷ ms) =
       or_some (allotted_in m.code m.allotted s) (start.allotted ms s)
@@ -97,44 +98,44 @@ module _ (s : Serial) where
               moves_seen x.0 x.1 carried
         ]
 
--- a unit's lot in the account
-pub record LotIn (scheme : Scheme) (c : Code) (xs : List Transition) (account : ℕ) : Type 0 where
+-- a unit's holding in the account
+pub record UnitHoldingIn (scheme : Scheme) (c : Code) (xs : List Transition) (account : ℕ) : Type 0 where
   pub unit : Serial
-  pub lot : Lot
-  pub is : lot_at scheme c xs unit ≡ Some lot
-  pub account_is : lot.account ≡ account
+  pub unit_holding : UnitHolding
+  pub is : unit_holding_at scheme c xs unit ≡ Some unit_holding
+  pub account_is : unit_holding.account ≡ account
 
 module _ (scheme : Scheme) (c : Code) (xs : List Transition) (account : ℕ) where
   abbrev is_in_account : Option Place → Bool
   is_in_account q = option_map_or (λ q. q.account == account) q false
 
-  pub used_lot : is_used scheme c xs account ≡ true → LotIn scheme c xs account
-  used_lot h =
+  pub used_unit_holding : is_used scheme c xs account ≡ true → UnitHoldingIn scheme c xs account
+  used_unit_holding h =
       let p = list_any_some (λ (p : Piece). holds scheme c xs p.unit && is_in_account (place scheme c xs p.unit)) (seen scheme xs) h in
       let s = p.0.unit in
       let parts = and_parts (holds scheme c xs s) (is_in_account (place scheme c xs s)) p.2 in
       let q = held_place scheme c s xs parts.0 in
       record {
         unit = s;
-        lot = lot_in (reserver c xs s) q.0;
-        is = lot_of_held scheme c s xs q.0 parts.0 q.1;
+        unit_holding = unit_holding_in (reserver c xs s) q.0;
+        is = unit_holding_of_held scheme c s xs q.0 parts.0 q.1;
         account_is = eqb-true q.0.account account (sym (ap is_in_account q.1) ∙ parts.1);
       }
 
-  pub lot_used : LotIn scheme c xs account → is_used scheme c xs account ≡ true
-  lot_used l =
-      let parts = lot_parts scheme c l.unit xs l.lot l.is in
+  pub unit_holding_used : UnitHoldingIn scheme c xs account → is_used scheme c xs account ≡ true
+  unit_holding_used l =
+      let parts = unit_holding_parts scheme c l.unit xs l.unit_holding l.is in
       let q = parts.1 in
       let p = held_seen l.unit scheme c xs parts.0 in
-      let here : q.0.account ≡ account = ap (λ (lot : Lot). lot.account) q.2 ∙ l.account_is in
+      let here : q.0.account ≡ account = ap (λ (unit_holding : UnitHolding). unit_holding.account) q.2 ∙ l.account_is in
       let at : is_in_account (place scheme c xs l.unit) ≡ true = ap is_in_account q.1 ∙ eq-eqb q.0.account account here in
       let both = and_from (holds scheme c xs l.unit) (is_in_account (place scheme c xs l.unit)) parts.0 at in
       list_any_in (λ (p : Piece). holds scheme c xs p.unit && is_in_account (place scheme c xs p.unit)) (seen scheme xs) p.0 p.1
       (subst (λ (s : Serial). (holds scheme c xs s && is_in_account (place scheme c xs s)) ≡ true) (sym p.2) both)
 
   -- as holdings say it
-  pub used_units : (held : Held) → ((s : Serial) → map.get held.lots s ≡ lot_at scheme c xs s) → is_used scheme c xs account ≡ true → HasUnits held account
-  used_units held lots h = let l = used_lot h in record { unit = l.unit; lot = l.lot; is = lots l.unit ∙ l.is; account_is = l.account_is }
+  pub used_units : (held : Held) → ((s : Serial) → map.get held.unit_holdings s ≡ unit_holding_at scheme c xs s) → is_used scheme c xs account ≡ true → HasUnits held account
+  used_units held unit_holdings h = let l = used_unit_holding h in record { unit = l.unit; unit_holding = l.unit_holding; is = unit_holdings l.unit ∙ l.is; account_is = l.account_is }
 
-  pub units_used : (held : Held) → ((s : Serial) → map.get held.lots s ≡ lot_at scheme c xs s) → HasUnits held account → is_used scheme c xs account ≡ true
-  units_used held lots h = lot_used (record { unit = h.unit; lot = h.lot; is = sym (lots h.unit) ∙ h.is; account_is = h.account_is })
+  pub units_used : (held : Held) → ((s : Serial) → map.get held.unit_holdings s ≡ unit_holding_at scheme c xs s) → HasUnits held account → is_used scheme c xs account ≡ true
+  units_used held unit_holdings h = unit_holding_used (record { unit = h.unit; unit_holding = h.unit_holding; is = sym (unit_holdings h.unit) ∙ h.is; account_is = h.account_is })

@@ -2,7 +2,7 @@
 use Rattle.std.specs.Prelude.{◌≡◌, not, Bool, true, false, cond, List, Option, Some, None, option_map, if◌then◌else◌}
 use Rattle.std.specs.FinMap as map
 use Rattle.std.specs.Option.{option_or}
-use Rattle.units.specs.Intervals.{marks_that}
+use Rattle.units.specs.Intervals.{labels_that}
 use Rattle.units.specs.Unit.{have_unit}
 use Rattle.units.specs.declared.block.Block.{Block}
 use Rattle.units.specs.declared.block.Unit.{Unit as Serial}
@@ -11,11 +11,11 @@ use Rattle.status.specs.Content.{Content, raws}
 use Rattle.status.specs.Id.{same_id, id_cmp}
 use Rattle.status.specs.Status.{same_status}
 use Rattle.status.specs.declared.id.TransactionId.{TransactionId}
-use Rattle.status.specs.declared.words.Status.{Status}
-use Rattle.status.specs.declared.words.Status.TheVariants.{Completed, Cancelled}
-use Rattle.accounts.specs.Holdings.{Held, reserved, released, is_reserved_by, free_lot, kind_in}
+use Rattle.status.specs.declared.status.Status.{Status}
+use Rattle.status.specs.declared.status.Status.TheVariants.{Completed, Cancelled}
+use Rattle.accounts.specs.Holdings.{Held, reserved, released, is_reserved_by, free_unit_holding, kind_in}
 use Rattle.accounts.specs.Refusals.{MayReserve}
-use Rattle.accounts.specs.declared.lot.Lot.{Lot}
+use Rattle.accounts.specs.declared.unit_holding.UnitHolding.{UnitHolding}
 use Rattle.wire.specs.declared.input.Input.{Input}
 use Rattle.wire.specs.declared.input.Input.TheVariants.{Propose, Request, Received}
 use Rattle.wire.specs.declared.message.Message.TheVariants as message
@@ -31,7 +31,7 @@ use Rattle.registry_core.specs.declared.effect.Effect.TheVariants.{Open, Ask, Se
 
 -- the effect is what a transition by that input asks for
 abbrev pub IsEffect : Code → List Entry → Input → Transition → Effect → Type 0
-IsEffect c es (Propose o) x (Open offer) = (x.id ≡ offer.id) × (x.content ≡ Some offer.content)
+IsEffect c es (Propose o) x (Open new_transfer) = (x.id ≡ new_transfer.id) × (x.content ≡ Some new_transfer.content)
 IsEffect c es (Request t) x (Ask id) = t ≡ id
 IsEffect c es (Received (message.Proposal p) moment) x (Arrive id new content) = (p.id ≡ id) × (x.new ≡ new) × (p.content ≡ content)
 IsEffect c es (Received (message.Notification n) moment) x (Settle id new) = (n.id ≡ id) × (x.new ≡ new) × (is_own c id ≡ true)
@@ -45,14 +45,14 @@ abbrev pub ending : Bool → TransactionId → Status → Effect
 ending false id new = Forestall id
 ending true id new = cond (same_status new Completed) (Complete id) (Cancel id)
 
--- what an offer asks for may be reserved
+-- what a new transfer asks for may be reserved
 abbrev pub IsReservable : Effect → Held → Type 0
-IsReservable (Open offer) held = (blocks : List Block) → raws blocks ≡ offer.content.units → MayReserve held offer.content.account blocks
+IsReservable (Open new_transfer) held = (blocks : List Block) → raws blocks ≡ new_transfer.content.units → MayReserve held new_transfer.content.account blocks
 IsReservable _ held = Unit {0}
 
 -- what an effect may be carried out on
 abbrev pub MayCarry : Effect → Initiating → Acquiring → Held → Type 0
-MayCarry (Open offer) i a held = (map.get i.transfers offer.id ≡ None) × ((blocks : List Block) → raws blocks ≡ offer.content.units → MayReserve held offer.content.account blocks)
+MayCarry (Open new_transfer) i a held = (map.get i.transfers new_transfer.id ≡ None) × ((blocks : List Block) → raws blocks ≡ new_transfer.content.units → MayReserve held new_transfer.content.account blocks)
 MayCarry (Arrive id new content) i a held = map.get a.transfers id ≡ None
 MayCarry (Forestall id) i a held = map.get a.transfers id ≡ None
 MayCarry (Complete id) i a held = (k : Content) → acquirer.kept_content (map.get a.transfers id) ≡ Some k → MayCredit held k
@@ -64,23 +64,23 @@ MayCarry _ i a held = Unit {0}
 abbrev pub ChangedAt : {X : Type 0} → TransactionId → (Option X → Option X) → map.FinMap id_cmp X → map.FinMap id_cmp X → Type 0
 ChangedAt id change m m' = (t : TransactionId) → map.get m' t ≡ (if same_id id t then change (map.get m t) else map.get m t)
 
--- the accounts are as they were, and each unit's lot is as told
-abbrev pub LotsAre : Held → Held → (Serial → Option Lot) → Type 0
-LotsAre held held' lot = (held'.accounts ≡ held.accounts) × ((s : Serial) → map.get held'.lots s ≡ lot s)
+-- the accounts are as they were, and each unit's holding is as told
+abbrev pub UnitHoldingsAre : Held → Held → (Serial → Option UnitHolding) → Type 0
+UnitHoldingsAre held held' unit_holding = (held'.accounts ≡ held.accounts) × ((s : Serial) → map.get held'.unit_holdings s ≡ unit_holding s)
 
 abbrev pub Carried : Effect → (i i' : Initiating) (a a' : Acquiring) (held held' : Held) → Type 0
-Carried (Open offer) i i' a a' held held' =
-    (i'.code ≡ i.code) × (i'.last ≡ offer.id.number) × ChangedAt offer.id (λ x. Some initiator.opened) i.transfers i'.transfers × (a' ≡ a)
-    × LotsAre held held' (λ s. if have_unit offer.content.units s then option_map (reserved offer.id) (map.get held.lots s) else map.get held.lots s)
+Carried (Open new_transfer) i i' a a' held held' =
+    (i'.code ≡ i.code) × (i'.last ≡ new_transfer.id.number) × ChangedAt new_transfer.id (λ x. Some initiator.opened) i.transfers i'.transfers × (a' ≡ a)
+    × UnitHoldingsAre held held' (λ s. if have_unit new_transfer.content.units s then option_map (reserved new_transfer.id) (map.get held.unit_holdings s) else map.get held.unit_holdings s)
 Carried (Ask id) i i' a a' held held' = (i'.code ≡ i.code) × (i'.last ≡ i.last) × ChangedAt id (option_map initiator.asked) i.transfers i'.transfers × (a' ≡ a) × (held' ≡ held)
 Carried (Settle id new) i i' a a' held held' =
     (i'.code ≡ i.code) × (i'.last ≡ i.last) × ChangedAt id (option_map (initiator.settled new)) i.transfers i'.transfers × (a' ≡ a)
-    × LotsAre held held' (λ s. if same_status new Completed then marks_that (λ lot. not (is_reserved_by id lot)) (map.get held.lots s) else option_map (released id) (map.get held.lots s))
+    × UnitHoldingsAre held held' (λ s. if same_status new Completed then labels_that (λ unit_holding. not (is_reserved_by id unit_holding)) (map.get held.unit_holdings s) else option_map (released id) (map.get held.unit_holdings s))
 Carried (Arrive id new content) i i' a a' held held' =
     (i' ≡ i) × (a'.code ≡ a.code) × ChangedAt id (λ x. Some (record { status = new; content = Some content })) a.transfers a'.transfers × (held' ≡ held)
 Carried (Forestall id) i i' a a' held held' =
     (i' ≡ i) × (a'.code ≡ a.code) × ChangedAt id (λ x. Some (record { status = Cancelled; content = None })) a.transfers a'.transfers × (held' ≡ held)
 Carried (Complete id) i i' a a' held held' =
     (i' ≡ i) × (a'.code ≡ a.code) × ChangedAt id (option_map (acquirer.finished Completed)) a.transfers a'.transfers × (held'.accounts ≡ held.accounts)
-    × ((k : Content) → acquirer.kept_content (map.get a.transfers id) ≡ Some k → (blocks : List Block) × (raws blocks ≡ k.units) × ((s : Serial) → map.get held'.lots s ≡ option_or (option_map (free_lot k.to_account) (kind_in blocks s)) (map.get held.lots s)))
+    × ((k : Content) → acquirer.kept_content (map.get a.transfers id) ≡ Some k → (blocks : List Block) × (raws blocks ≡ k.units) × ((s : Serial) → map.get held'.unit_holdings s ≡ option_or (option_map (free_unit_holding k.to_account) (kind_in blocks s)) (map.get held.unit_holdings s)))
 Carried (Cancel id) i i' a a' held held' = (i' ≡ i) × (a'.code ≡ a.code) × ChangedAt id (option_map (acquirer.finished Cancelled)) a.transfers a'.transfers × (held' ≡ held)

@@ -10,13 +10,13 @@ use Rattle.protocol.specs.Cores.{Replays}
 use Rattle.protocol.specs.History.{Entry, transitions_of, proposals}
 use Rattle.protocol.specs.Verdict.{history}
 use Rattle.outbox.specs.Outgoing.{outgoing}
-use Rattle.registry_core.specs.Readings.{lot_at, standing_at, row_at, is_own, is_foreign, own_row, foreign_row}
+use Rattle.registry_core.specs.Readings.{unit_holding_at, account_status_at, row_at, is_own, is_foreign, own_row, foreign_row}
 use Rattle.registry_core.specs.declared.tables.Tables.{Tables}
 
 -- each table is a reading of the history
 pub record AreKept (scheme : Scheme) (c : Code) (es : List Entry) (tables : Tables) : Type 0 where
-  pub lots : (s : Serial) → map.get tables.holdings.lots s ≡ lot_at scheme c (transitions_of es) s
-  pub accounts : (n : ℕ) → map.get tables.holdings.accounts n ≡ standing_at scheme c es n
+  pub unit_holdings : (s : Serial) → map.get tables.holdings.unit_holdings s ≡ unit_holding_at scheme c (transitions_of es) s
+  pub accounts : (n : ℕ) → map.get tables.holdings.accounts n ≡ account_status_at scheme c es n
   pub initiator : tables.initiator.code ≡ c
   pub last : tables.initiator.last ≡ proposals es
   pub own : (t : TransactionId) → map.get tables.initiator.transfers t ≡ row_at (is_own c) (own_row es) (transitions_of es) t

@@ -3,27 +3,28 @@ use Rattle.std.specs.Prelude.{◌≡◌, ◌↔◌, true, List, map, Contains, S
 use Rattle.units.specs.Canonical.{AreCanonical}
 use Rattle.units.specs.Unit.{has_unit}
 use Rattle.units.specs.declared.block.Unit.{Unit as Serial}
-use Rattle.accounts.specs.Lines.{lot_interval}
-use Rattle.accounts.specs.declared.lot.Line.{Line}
-use Rattle.accounts.specs.declared.lot.Lot.{Lot}
+use Rattle.accounts.specs.Lines.{unit_holding_interval}
+use Rattle.accounts.specs.declared.unit_holding.HeldBlock.{HeldBlock}
+use Rattle.accounts.specs.declared.unit_holding.UnitHolding.{UnitHolding}
 use Rattle.protocol.specs.History.{holds, place}
 use Rattle.registry_core.specs.Readings.{reserver}
 use Rattle.registry_core.specs.Registry.{Registry, moves}
 
 -- the unit is held in that account with that kind, and that transfer reserves it, or none
-pub record IsHeldSo (r : Registry) (s : Serial) (lot : Lot) : Type 0 where
+pub record IsHeldSo (r : Registry) (s : Serial) (unit_holding : UnitHolding) : Type 0 where
   pub held : holds r.scheme r.code (moves r) s ≡ true
-  pub placed : place r.scheme r.code (moves r) s ≡ Some (record { account = lot.account; kind = lot.kind })
-  pub reserved : reserver r.code (moves r) s ≡ lot.reserving
+  pub placed : place r.scheme r.code (moves r) s ≡ Some (record { account = unit_holding.account; kind = unit_holding.kind })
+  pub reserved : reserver r.code (moves r) s ≡ unit_holding.reserving
 
 -- one of the lines has the unit, in that account with that kind, reserved so
-pub record HasSo (lines : List Line) (s : Serial) (lot : Lot) : Type 0 where
-  pub line : Line
+pub record HasSo (lines : List HeldBlock) (s : Serial) (unit_holding : UnitHolding) : Type 0 where
+  pub line : HeldBlock
   pub among : Contains lines line
   pub has : has_unit line.block.raw s ≡ true
-  pub so : record { account = line.account; kind = line.block.raw.kind; reserving = line.reserving } ≡ lot
+  pub so : record { account = line.account; kind = line.block.raw.kind; reserving = line.reserving } ≡ unit_holding
 
--- by account and then in the order of units, neighbours that are held alike joined; and a line has a unit so exactly when it is held so
-pub record AreHoldings (r : Registry) (lines : List Line) : Type 0 where
-  pub in_order : AreCanonical (λ (lot : Lot). lot.account) (map lot_interval lines)
-  pub exact : (s : Serial) (lot : Lot) → IsHeldSo r s lot ↔ HasSo lines s lot
+-- by account and then in the order of units, neighbours that are held alike joined; and a line has a unit so exactly
+-- when it is held so
+pub record AreHoldings (r : Registry) (lines : List HeldBlock) : Type 0 where
+  pub in_order : AreCanonical (λ (unit_holding : UnitHolding). unit_holding.account) (map unit_holding_interval lines)
+  pub exact : (s : Serial) (unit_holding : UnitHolding) → IsHeldSo r s unit_holding ↔ HasSo lines s unit_holding

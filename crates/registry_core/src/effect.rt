@@ -5,7 +5,7 @@ ghost use Rattle.units.specs.RefusalCodes.{out_of_memory};
 
 use accounts::Holdings;
 use acquirer::Acquirer;
-use checks::Offer;
+use checks::NewTransfer;
 use initiator::Initiator;
 use status::{Content, Status, TransactionId};
 use units::Refusal;
@@ -13,8 +13,8 @@ use units::Refusal;
 /// What a transition does to a registry's tables.
 #[derive(Debug, Drop)]
 pub(crate) enum Effect {
-    /// The offer is Proposed, and its units are reserved.
-    Open(Offer),
+    /// The new transfer is Proposed, and its units are reserved.
+    Open(NewTransfer),
     /// The cancellation of a transfer out of the registry was asked for.
     Ask(TransactionId),
     /// A transfer out of the registry has come to that status.
@@ -49,7 +49,7 @@ pub(crate) fn carry_out(
     ensures refused { IfErr result (λ r. r.code ≡ out_of_memory) }
 {
     match effect {
-        Effect::Open(offer) => initiator.open(holdings, &offer)?,
+        Effect::Open(new_transfer) => initiator.open(holdings, &new_transfer)?,
         Effect::Ask(id) => initiator.ask(id),
         Effect::Settle { id, new } => initiator.settle(holdings, id, new),
         Effect::Arrive { id, new, content } => acquirer.arrive(id, new, content)?,

@@ -6,21 +6,22 @@ ghost use Rattle.units.specs.Apart.{AllApart};
 ghost use Rattle.units.specs.declared.block.Unit.{Unit as Serial};
 ghost use Rattle.accounts.specs.Refusals.{IsOpen};
 ghost use Rattle.scheme.specs.Order.{blocks_of};
-ghost use Rattle.registry_core.specs.Readings.{lot_at, standing_at};
-ghost use Rattle.registry_core.specs.Opening.{allotted_lot};
+ghost use Rattle.registry_core.specs.Readings.{unit_holding_at, account_status_at};
+ghost use Rattle.registry_core.specs.Opening.{allotted_unit_holding};
 
 use accounts::Holdings;
-use scheme::{Allotment, Member, Scheme};
+use scheme::{Allotment, Scheme, SchemeRegistry};
 use std::alloc::Global;
 use units::{Code, NoMemory};
 
-// Credits what the allotments give, where nothing is held before. Each of their accounts is open, and they share no unit.
+// Credits what the allotments give, where nothing is held before. Each of their accounts is open, and they share no
+// unit.
 fn credit_each(holdings: &mut Holdings, allotted: &[Allotment]) -> Result<(), NoMemory>
-    requires empty { holdings.old.lots ≡ map.empty }
+    requires empty { holdings.old.unit_holdings ≡ map.empty }
     requires open_accounts { AllByRecursion (λ a. IsOpen holdings.old a.account) allotted.now }
     requires apart { AllApart (blocks_of allotted.now) }
     ensures accounts { holdings.new.accounts ≡ holdings.old.accounts }
-    ensures lots { OnOk result ((s : Serial) → map.get holdings.new.lots s ≡ allotted_lot allotted.now s) }
+    ensures unit_holdings { OnOk result ((s : Serial) → map.get holdings.new.unit_holdings s ≡ allotted_unit_holding allotted.now s) }
 {
     for allotment in allotted {
         holdings.credit(allotment.account, allotment.units.as_slice())?;
@@ -34,8 +35,8 @@ pub(crate) fn opening_holdings(
     scheme: &Scheme,
     code: Code,
 ) -> Result<Holdings, NoMemory>
-    ensures accounts { IfOk result (λ h. (n : ℕ) → map.get h.accounts n ≡ standing_at scheme.now code [] n) }
-    ensures lots { IfOk result (λ h. (s : Serial) → map.get h.lots s ≡ lot_at scheme.now code [] s) }
+    ensures accounts { IfOk result (λ h. (n : ℕ) → map.get h.accounts n ≡ account_status_at scheme.now code [] n) }
+    ensures unit_holdings { IfOk result (λ h. (s : Serial) → map.get h.unit_holdings s ≡ unit_holding_at scheme.now code [] s) }
 {
     let Some(member) = scheme.member(code) else {
         return Holdings::new(alloc, &[]);

@@ -5,8 +5,8 @@ ghost use Rattle.units.specs.Code.{same_code, same_node};
 ghost use Rattle.units.specs.declared.code.Node.TheVariants as nodes;
 ghost use Rattle.status.specs.Status.{same_status};
 ghost use Rattle.status.specs.declared.id.TransactionId.{TransactionId as Id};
-ghost use Rattle.status.specs.declared.words.Status.TheVariants as statuses;
-ghost use Rattle.wire.specs.Notices.{notice_status};
+ghost use Rattle.status.specs.declared.status.Status.TheVariants as statuses;
+ghost use Rattle.wire.specs.NotifiedStatuses.{notified_status};
 ghost use Rattle.wire.specs.declared.message.Message.TheVariants as message;
 ghost use Rattle.protocol.specs.AtRegistry.{is_checked, registry_refusals};
 ghost use Rattle.protocol.specs.Deciding as deciding;
@@ -82,9 +82,9 @@ fn is_known(code: Code, initiator: &Initiator, acquirer: &Acquirer, id: Transact
 
 // Whether the notification tells that a transfer of another registry is Cancelled.
 fn forestalls(code: Code, notification: &Notification) -> bool
-    ensures { result ≡ (same_status (notice_status notification.now.notice) statuses.Cancelled && not (same_code notification.now.id.code code)) }
+    ensures { result ≡ (same_status (notified_status notification.now.notified) statuses.Cancelled && not (same_code notification.now.id.code code)) }
 {
-    notification.notice.status() == Status::Cancelled && notification.id.code != code
+    notification.notified.status() == Status::Cancelled && notification.id.code != code
 }
 
 /// Why a registry refuses a proposal, before its table is asked; or `None`.

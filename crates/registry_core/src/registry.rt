@@ -6,13 +6,13 @@ ghost use Rattle.units.specs.declared.block.Unit.{Unit as Serial};
 ghost use Rattle.status.specs.declared.id.TransactionId.{TransactionId};
 ghost use Rattle.protocol.specs.History.{at_start, credits, gives, holds, spendable};
 ghost use Rattle.registry_core.specs.Kept.{IsKept};
-ghost use Rattle.registry_core.specs.Readings.{lot_at, reserver, standing_at};
+ghost use Rattle.registry_core.specs.Readings.{unit_holding_at, reserver, account_status_at};
 ghost use Rattle.registry_core.specs.Registry.{IsReserving, moves, past};
 ghost use Rattle.registry_core.specs.Reported.{AreHoldings};
 
 use crate::opening::opening_holdings;
 use crate::tables::Tables;
-use accounts::{Holdings, Line};
+use accounts::{HeldBlock, Holdings};
 use acquirer::Acquirer;
 use initiator::Initiator;
 use outbox::Outbox;
@@ -25,8 +25,9 @@ use units::refusal_code::NO_ROW;
 use units::{Code, NoMemory, Node, Refusal, Unit};
 use wire::{Input, Message};
 
-/// A registry of a scheme: the journal of the inputs that it recorded, and beside it what the journal says of its units, its
-/// accounts, its transfers in each role, and its messages. In contracts it is its scheme, its code, and its journal.
+/// A registry of a scheme: the journal of the inputs that it recorded, and beside it what the journal says of its
+/// units, its accounts, its transfers in each role, and its messages. In contracts it is its scheme, its code, and
+/// its journal.
 #[derive(Debug, Drop)]
 pub struct RegistryCore {
     alloc: Global,
@@ -65,8 +66,8 @@ fn opening_tables(alloc: Global, scheme: &Scheme, code: Code) -> Result<Tables, 
 }
 
 impl RegistryCore {
-    /// The registry of that code, which has recorded nothing yet. Where the scheme has no registry of that code it has no
-    /// accounts and no units. Fails with `NoMemory`.
+    /// The registry of that code, which has recorded nothing yet. Where the scheme has no registry of that code it
+    /// has no accounts and no units. Fails with `NoMemory`.
     pub fn new(alloc: Global, scheme: &Scheme, code: Code) -> Result<RegistryCore, NoMemory>
         ensures { IfOk result (λ r. r ≡ record { scheme = scheme.now; code = code; journal = [] }) }
     {
@@ -78,41 +79,42 @@ impl RegistryCore {
         })
     }
 
-    /// The units that it holds, and how its accounts stand. A unit is in the account, and of the kind, with which it came last,
-    /// or was allotted; an account is open but where the last order for it closed it.
+    /// The units that it holds, and how its accounts stand. A unit is in the account, and of the kind, with which it
+    /// came last, or was allotted; an account is open but where the last order for it closed it.
     pub fn holdings(&self) -> &Holdings
-        ensures lots { (s : Serial) → map.get result.now.lots s ≡ lot_at self.now.scheme self.now.code (moves self.now) s }
-        ensures accounts { (n : ℕ) → map.get result.now.accounts n ≡ standing_at self.now.scheme self.now.code (past self.now) n }
+        ensures unit_holdings { (s : Serial) → map.get result.now.unit_holdings s ≡ unit_holding_at self.now.scheme self.now.code (moves self.now) s }
+        ensures accounts { (n : ℕ) → map.get result.now.accounts n ≡ account_status_at self.now.scheme self.now.code (past self.now) n }
     {
         &self.tables.holdings
     }
 
-    /// What it holds, as a report writes it: lines by account and then in the order of units, neighbours of one account, one
-    /// kind and one reserving transfer joined, where each unit that is held stands in one line. Or `NoMemory`.
-    pub fn lines(&self) -> Result<Vec<Line>, NoMemory>
+    /// What it holds, as a report writes it: lines by account and then in the order of units, neighbours of one
+    /// account, one kind and one reserving transfer joined, where each unit that is held stands in one line. Or
+    /// `NoMemory`.
+    pub fn lines(&self) -> Result<Vec<HeldBlock>, NoMemory>
         ensures { IfOk result (λ lines. AreHoldings self.now lines.items) }
     {
         self.tables.holdings.lines(self.alloc)
     }
 
-    /// Whether it holds the unit. The unit counts there once or not at all, whatever the registry was given, forged messages
-    /// included: it was allotted to it or came as often as it left, and once more where it is held.
+    /// Whether it holds the unit. The unit counts there once or not at all, whatever the registry was given, forged
+    /// messages included: it was allotted to it or came as often as it left, and once more where it is held.
     pub fn held(&self, unit: &Unit) -> bool
         ensures held { result ≡ holds self.now.scheme self.now.code (moves self.now) unit.now }
         ensures once { at_start self.now.scheme self.now.code unit.now + count_by (credits self.now.code unit.now) (moves self.now) ≡ count_by (gives self.now.code unit.now) (moves self.now) + cond result 1 0 }
     {
-        self.tables.holdings.lot(unit).is_some()
+        self.tables.holdings.unit_holding(unit).is_some()
     }
 
-    /// The transfer that reserves the unit: the one transfer with the unit out of this registry that stands Proposed. The unit is
-    /// held then. Or `None`, where there is no such transfer.
+    /// The transfer that reserves the unit: the one transfer with the unit out of this registry that stands Proposed.
+    /// The unit is held then. Or `None`, where there is no such transfer.
     pub fn reserving(&self, unit: &Unit) -> Option<TransactionId>
         ensures reserver { result ≡ reserver self.now.code (moves self.now) unit.now }
         ensures some { IfSome result (IsReserving self.now unit.now) }
         ensures only { (t : TransactionId) → IsReserving self.now unit.now t → result ≡ Some t }
         ensures held { IfSome result (λ t. holds self.now.scheme self.now.code (moves self.now) unit.now ≡ true) }
     {
-        self.tables.holdings.lot(unit)?.reserving
+        self.tables.holdings.unit_holding(unit)?.reserving
     }
 
     /// Whether it holds the unit, and no transfer reserves it.

@@ -1,7 +1,7 @@
 //! A registry's journal and tables.
 ghost use Rattle.std.specs.Prelude.{◌≡◌, ◌⊎◌, true, false, nat_le, length, [], ◌∷◌, IfOk, IfErr, OnOk};
 ghost use Rattle.units.specs.RefusalCodes.{journal_full, out_of_memory};
-ghost use Rattle.protocol.specs.Deciding.{enters};
+ghost use Rattle.protocol.specs.Deciding.{recorded_if_room};
 ghost use Rattle.protocol.specs.History.{Transition};
 ghost use Rattle.protocol.specs.Verdict.{history};
 ghost use Rattle.units.specs.declared.code.Node.TheVariants.{Registry};
@@ -22,8 +22,8 @@ use units::refusal_code::{JOURNAL_FULL, NO_ROW};
 use units::{Code, Items, Refusal};
 use wire::{Input, Message, Number};
 
-/// A registry's journal, and what is read off its history: how its units are held and its accounts stand, its transfers in each
-/// role, and what it sent.
+/// A registry's journal, and what is read off its history: how its units are held and its accounts stand, its
+/// transfers in each role, and what it sent.
 #[derive(Debug, Drop)]
 pub(crate) struct Tables {
     pub journal: Vec<Input>,
@@ -34,8 +34,8 @@ pub(crate) struct Tables {
 }
 
 impl Tables {
-    // A copy of the input, for which the journal has room. Refused with `JOURNAL_FULL` where it has as many records as the scheme
-    // allows, and with `OUT_OF_MEMORY`.
+    // A copy of the input, for which the journal has room. Refused with `JOURNAL_FULL` where it has as many records
+    // as the scheme allows, and with `OUT_OF_MEMORY`.
     fn fitting(&self, scheme: &Scheme, input: &Input) -> Result<Input, Refusal>
         ensures copy { IfOk result (λ i. i ≡ input.now) }
         ensures ok { OnOk result (nat_le scheme.now.records (length self.now.journal.items) ≡ false) }
@@ -57,7 +57,7 @@ impl Tables {
         messages: Items<Message>,
     ) -> Result<Stepped, Refusal>
         requires kept { IsKept scheme.now code self.old }
-        requires row { (x : Transition) × (verdict_due scheme.now code self.old input.now ≡ enters scheme.now (history scheme.now (Registry code) self.old.journal.items) (x ∷ [])) × (messages ≡ x.messages) × IsEffect code (history scheme.now (Registry code) self.old.journal.items) input.now x effect }
+        requires row { (x : Transition) × (verdict_due scheme.now code self.old input.now ≡ recorded_if_room scheme.now (history scheme.now (Registry code) self.old.journal.items) (x ∷ [])) × (messages ≡ x.messages) × IsEffect code (history scheme.now (Registry code) self.old.journal.items) input.now x effect }
         requires reservable { IsReservable effect self.old.holdings }
         ensures { Takes scheme.now code self.old self.new input.now result }
     {

@@ -38,10 +38,12 @@ impl Tables {
         requires input { input.now ≡ inputs.Propose order.now }
         ensures { Takes scheme.now code self.old self.new input.now result }
     {
-        let offer = self.initiator.offer(alloc, scheme, &self.holdings, order)?;
-        match self.initiator.propose(alloc, &offer)? {
+        let new_transfer = self
+            .initiator
+            .new_transfer(alloc, scheme, &self.holdings, order)?;
+        match self.initiator.propose(alloc, &new_transfer)? {
             Decision::Moves { messages, .. } => {
-                self.record(scheme, code, input, Effect::Open(offer), messages)
+                self.record(scheme, code, input, Effect::Open(new_transfer), messages)
             }
             Decision::Repeat => Ok(Stepped::Repeat),
             Decision::Late => Ok(Stepped::Late),
@@ -89,7 +91,7 @@ impl Tables {
         match message {
             Message::Proposal(proposal) => self.arrive(alloc, scheme, code, input, proposal),
             Message::Notification(notification) => {
-                self.hear(alloc, scheme, code, input, notification)
+                self.take_notification(alloc, scheme, code, input, notification)
             }
             Message::Request(_) => Err(Refusal { code: NO_ROW }),
         }
@@ -125,7 +127,7 @@ impl Tables {
     }
 
     // Takes a notification that isn't refused for what it is.
-    fn hear(
+    fn take_notification(
         &mut self,
         alloc: Global,
         scheme: &Scheme,
@@ -160,7 +162,7 @@ impl Tables {
         requires own { same_code notification.now.id.code code ≡ true }
         ensures { Takes scheme.now code self.old self.new input.now result }
     {
-        let (id, told) = (notification.id, notification.notice.status());
+        let (id, told) = (notification.id, notification.notified.status());
         match self.initiator.notice(alloc, id, told)? {
             Decision::Moves { new, messages } => {
                 self.record(scheme, code, input, Effect::Settle { id, new }, messages)
@@ -185,7 +187,7 @@ impl Tables {
         requires foreign { same_code notification.now.id.code code ≡ false }
         ensures { Takes scheme.now code self.old self.new input.now result }
     {
-        let (id, told) = (notification.id, notification.notice.status());
+        let (id, told) = (notification.id, notification.notified.status());
         match self.acquirer.notice(alloc, &self.holdings, id, told)? {
             Decision::Moves { new, messages } => {
                 let effect = self.ending(id, new);

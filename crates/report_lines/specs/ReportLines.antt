@@ -8,13 +8,13 @@ use Rattle.units.specs.declared.block.RawBlock.{RawBlock}
 use Rattle.status.specs.Id.{id_text}
 use Rattle.status.specs.Status.{status_text}
 use Rattle.status.specs.declared.id.TransactionId.{TransactionId}
-use Rattle.status.specs.declared.words.Status.{Status}
-use Rattle.accounts.specs.declared.lot.Line.{Line}
+use Rattle.status.specs.declared.status.Status.{Status}
+use Rattle.accounts.specs.declared.unit_holding.HeldBlock.{HeldBlock}
 use Rattle.wire.specs.declared.message.Proposal.{Proposal}
 use Rattle.protocol.specs.declared.event.Outcome.{Outcome}
 use Rattle.protocol.specs.declared.event.Outcome.TheVariants.{Recorded, Repeat, Late, Refused, Done, NotPossible}
 use Rattle.totals.specs.NumberOfUnits.{due_units, held_units}
-use Rattle.report_lines.specs.declared.standing.Standing.{Standing}
+use Rattle.report_lines.specs.declared.transactions.TransactionRow.{TransactionRow}
 
 -- ---- outcomes
 
@@ -33,16 +33,16 @@ outcome_line event outcome = decimal event ++ codes " " ++ outcome_text outcome 
 -- ---- transactions
 
 -- a status, or none where the node has no record of the transaction
-abbrev pub standing_text : Option Status → List ℕ
-standing_text (Some status) = status_text status
-standing_text None = codes "none"
+abbrev pub status_or_none : Option Status → List ℕ
+status_or_none (Some status) = status_text status
+status_or_none None = codes "none"
 
-abbrev pub transaction_line : Standing → List ℕ
+abbrev pub transaction_line : TransactionRow → List ℕ
 transaction_line s =
     codes "transaction " ++ id_text s.id
-    ++ codes " " ++ code_text s.id.code ++ codes " " ++ standing_text s.at_initiator
-    ++ codes " ITL " ++ standing_text s.at_log
-    ++ codes " " ++ code_text s.acquirer ++ codes " " ++ standing_text s.at_acquirer ++ codes "\n"
+    ++ codes " " ++ code_text s.id.code ++ codes " " ++ status_or_none s.at_initiator
+    ++ codes " ITL " ++ status_or_none s.at_log
+    ++ codes " " ++ code_text s.acquirer ++ codes " " ++ status_or_none s.at_acquirer ++ codes "\n"
 
 -- ---- numbers of units
 
@@ -58,14 +58,14 @@ abbrev pub unless_reserved : Option TransactionId → ℕ → ℕ
 unless_reserved (Some id) units = 0
 unless_reserved None units = units
 
-abbrev pub free_units : Line → ℕ
+abbrev pub free_units : HeldBlock → ℕ
 free_units l = unless_reserved l.reserving (held_units l)
 
 -- the numbers that are shown of a registry's lines, and of the transfers that owe their units
-abbrev pub held_shown : List Line → ℕ
+abbrev pub held_shown : List HeldBlock → ℕ
 held_shown lines = shown (sum_by held_units lines)
 
-abbrev pub free_shown : List Line → ℕ
+abbrev pub free_shown : List HeldBlock → ℕ
 free_shown lines = shown (sum_by free_units lines)
 
 abbrev pub owed_shown : List Proposal → ℕ
@@ -82,11 +82,11 @@ abbrev pub reserving_text : Option TransactionId → List ℕ
 reserving_text (Some id) = id_text id
 reserving_text None = codes "free"
 
-abbrev pub holding_line : Code → Line → List ℕ
+abbrev pub holding_line : Code → HeldBlock → List ℕ
 holding_line code l =
     codes "holds " ++ code_text code ++ codes " " ++ decimal l.account ++ codes " " ++ raw_text l.block.raw ++ codes " " ++ reserving_text l.reserving ++ codes "\n"
 
-abbrev pub registry_lines : Code → List Line → List ℕ
+abbrev pub registry_lines : Code → List HeldBlock → List ℕ
 registry_lines code lines = registry_line code (held_shown lines) (free_shown lines) ++ flat_map (holding_line code) lines
 
 -- ---- what is owed: the number of units, and each block of each transfer; then the report's end

@@ -3,7 +3,7 @@ ghost use Rattle.std.specs.Prelude.{◌≡◌, ◌++◌, OnOk, string_bytes};
 ghost use Rattle.std.specs.List.{flat_map};
 ghost use Rattle.report_lines.specs.ReportLines.{free_shown, free_units, held_shown, holding_line, registry_line, registry_lines};
 
-use accounts::Line;
+use accounts::HeldBlock;
 use status::TransactionId;
 use std::fmt;
 use std::fmt::Write;
@@ -27,7 +27,7 @@ impl fmt::Display for ReservingText {
 }
 
 // The number of units that no transfer reserves.
-fn free_units(line: &Line) -> u64
+fn free_units(line: &HeldBlock) -> u64
     ensures { result ≡ free_units line.now }
 {
     match line.reserving {
@@ -37,7 +37,7 @@ fn free_units(line: &Line) -> u64
 }
 
 // The number of units, and 2^64 - 1 where there are more.
-fn held_in(lines: &[Line]) -> u64
+fn held_in(lines: &[HeldBlock]) -> u64
     ensures { result ≡ held_shown lines.now }
 {
     let mut count = 0u64;
@@ -48,7 +48,7 @@ fn held_in(lines: &[Line]) -> u64
 }
 
 // The number of free units, and 2^64 - 1 where there are more.
-fn free_in(lines: &[Line]) -> u64
+fn free_in(lines: &[HeldBlock]) -> u64
     ensures { result ≡ free_shown lines.now }
 {
     let mut count = 0u64;
@@ -66,7 +66,7 @@ fn push_numbers(text: &mut String, code: Code, held: u64, free: u64) -> Result<(
     Ok(())
 }
 
-fn push_line(text: &mut String, code: Code, line: &Line) -> Result<(), NoMemory>
+fn push_line(text: &mut String, code: Code, line: &HeldBlock) -> Result<(), NoMemory>
     ensures { OnOk result (string_bytes text.new ≡ string_bytes text.old ++ holding_line code line.now) }
 {
     let account = line.account;
@@ -76,7 +76,7 @@ fn push_line(text: &mut String, code: Code, line: &Line) -> Result<(), NoMemory>
     Ok(())
 }
 
-fn push_lines(text: &mut String, code: Code, lines: &[Line]) -> Result<(), NoMemory>
+fn push_lines(text: &mut String, code: Code, lines: &[HeldBlock]) -> Result<(), NoMemory>
     ensures { OnOk result (string_bytes text.new ≡ string_bytes text.old ++ flat_map (holding_line code) lines.now) }
 {
     for line in lines {
@@ -91,7 +91,7 @@ fn push_lines(text: &mut String, code: Code, lines: &[Line]) -> Result<(), NoMem
 /// # Errors
 ///
 /// Fails with `NoMemory` where there is no room for the lines. The text may then have a part of them.
-pub fn push_registry(text: &mut String, code: Code, lines: &[Line]) -> Result<(), NoMemory>
+pub fn push_registry(text: &mut String, code: Code, lines: &[HeldBlock]) -> Result<(), NoMemory>
     ensures { OnOk result (string_bytes text.new ≡ string_bytes text.old ++ registry_lines code lines.now) }
 {
     push_numbers(text, code, held_in(lines), free_in(lines))?;

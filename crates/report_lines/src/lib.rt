@@ -4,9 +4,9 @@
 mod debts;
 mod holdings;
 mod outcomes;
-mod standing;
+mod transactions;
 
 pub use debts::push_owed;
 pub use holdings::push_registry;
 pub use outcomes::push_outcome;
-pub use standing::{Standing, push_standing};
+pub use transactions::{TransactionRow, push_transaction};

@@ -1,2 +1,3 @@
--- What tests of sameness say of codes and statuses. Counts in lists and the units of blocks are in the crate `protocol`, what is general in `lemmas`.
+-- What tests of sameness say of codes and statuses. Counts in lists and the units of blocks are in the crate
+-- `protocol`, what is general in `lemmas`.
 pub mod TestsOfSameness

@@ -1,4 +1,5 @@
--- Blocks in the order of their first units: where each ends before the next one begins, no two share a unit, and where one doesn't, it has the first unit of the next.
+-- Blocks in the order of their first units: where each ends before the next one begins, no two share a unit, and
+-- where one doesn't, it has the first unit of the next.
 use Rattle.std.proofs.Common.{◌≡◌, inl, inr, true, false, refl, sym, arith, ◌∙◌}
 use Rattle.std.specs.declared.cmp.Ordering.TheVariants.{Less}
 use Rattle.std.specs.Ordering.{is_lt}

@@ -18,7 +18,7 @@ use Rattle.scheme.specs.Props.{AreMembers-prop}
 use Rattle.scheme.specs.Faults.{IsFirst, Writes, IsNoJson, IsOutside, HasFault, IsFault}
 use Rattle.scheme.specs.Text.{IsSchemeText}
 use Rattle.scheme.specs.Reading.{IsSchemeOf, HasFaultOf, IsFaultOf}
-use Rattle.scheme.specs.declared.members.Member.{Member}
+use Rattle.scheme.specs.declared.members.SchemeRegistry.{SchemeRegistry}
 use Rattle.scheme.specs.declared.members.SchemeFault.{SchemeFault}
 use Rattle.scheme.specs.declared.members.SchemeFault.TheVariants.{NotJson, Shape, TooMany, TooFew, CodeTwice, AccountTwice, UnknownAccount, AllotmentOverlap, NoMemory}
 use Rattle.scheme.specs.declared.registries.Scheme.{Scheme}
@@ -39,10 +39,10 @@ scheme_same s t e f = λ i. record {
 }
 
 -- two lists in byte order that have the elements of one list
-pub same_members : (listed ms ns : List Member) → IsPermutation listed ms → IsPermutation listed ns → AreMembers ms → AreMembers ns → ms ≡ ns
+pub same_members : (listed ms ns : List SchemeRegistry) → IsPermutation listed ms → IsPermutation listed ns → AreMembers ms → AreMembers ns → ms ≡ ns
 same_members listed ms ns p q a b = same_order ms ns a.ordered b.ordered (there ms ns p q) (there ns ms q p)
   where
-    there : (xs ys : List Member) → IsPermutation listed xs → IsPermutation listed ys → (z : Member) → Contains xs z → Contains ys z
+    there : (xs ys : List SchemeRegistry) → IsPermutation listed xs → IsPermutation listed ys → (z : SchemeRegistry) → Contains xs z → Contains ys z
     there xs ys r s z has = Contains-permutation listed ys z s (Contains-permutation xs listed z (IsPermutation-sym listed xs r) has)
 
 pub one_scheme : (d : Data) (s t : Scheme) → IsSchemeOf d s → IsSchemeOf d t → s ≡ t
@@ -60,7 +60,7 @@ only_scheme bytes d s t reads is text =
 
 -- ---- one fault of a value
 
-pub not_among : (fs : List SchemeFault) (ms : List Member) (f : SchemeFault) → AllByRecursion (λ g. f ≡ g → ⊥) fs → IsFirst fs ms f → ⊥
+pub not_among : (fs : List SchemeFault) (ms : List SchemeRegistry) (f : SchemeFault) → AllByRecursion (λ g. f ≡ g → ⊥) fs → IsFirst fs ms f → ⊥
 not_among [] ms f other p = p
 not_among (g ∷ fs) ms f other (inl p) = other.0 p.0
 not_among (g ∷ fs) ms f other (inr p) = not_among fs ms f other.1 p.1
@@ -77,30 +77,30 @@ fault_of_first d AllotmentOverlap p = p
 fault_of_first d NoMemory p = tt
 
 -- the fault of registries in order is that of the registries as listed
-pub fault_of_sorted : (d : Data) (records : ℕ) (listed ms : List Member) (f : SchemeFault) → IsWritten d records listed → IsPermutation listed ms → IsFirst faults_in_order ms f → IsFaultOf d f
+pub fault_of_sorted : (d : Data) (records : ℕ) (listed ms : List SchemeRegistry) (f : SchemeFault) → IsWritten d records listed → IsPermutation listed ms → IsFirst faults_in_order ms f → IsFaultOf d f
 fault_of_sorted d records listed ms f written s first =
     fault_of_first d f (records, listed, written, first_moved faults_in_order ms listed f (IsPermutation-sym listed ms s) first)
 
-fault_of_written : (d : Data) (e : ReadFault) → Finds {X = ℕ × List Member} (λ p. IsWritten d p.0 p.1) (Err e) → IsFaultOf d (fault_from e)
+fault_of_written : (d : Data) (e : ReadFault) → Finds {X = ℕ × List SchemeRegistry} (λ p. IsWritten d p.0 p.1) (Err e) → IsFaultOf d (fault_from e)
 fault_of_written d read_fault.Shape p = λ records ms is. p (records, ms) is
 fault_of_written d read_fault.NoMemory p = tt
 
-pub fault_told : {X : Type 0} (d : Data) (e : ReadFault) (r : Result X SchemeFault) → IsErrAnd r (λ f. f ≡ fault_from e) → Finds {X = ℕ × List Member} (λ p. IsWritten d p.0 p.1) (Err e) → IfErr r (IsFaultOf d)
+pub fault_told : {X : Type 0} (d : Data) (e : ReadFault) (r : Result X SchemeFault) → IsErrAnd r (λ f. f ≡ fault_from e) → Finds {X = ℕ × List SchemeRegistry} (λ p. IsWritten d p.0 p.1) (Err e) → IfErr r (IsFaultOf d)
 fault_told d e (Ok x) same p = tt
 fault_told d e (Err f) same p = subst (IsFaultOf d) (sym same) (fault_of_written d e p)
 
 -- ---- one answer to a text
 
-members_same : (bytes : List ℕ) (m n : ℕ) (ms ns : List Member) → Writes bytes m ms → Writes bytes n ns → ms ≡ ns
+members_same : (bytes : List ℕ) (m n : ℕ) (ms ns : List SchemeRegistry) → Writes bytes m ms → Writes bytes n ns → ms ≡ ns
 members_same bytes m n ms ns p q = members_one p.value m n ms ns p.written (subst (λ d. IsWritten d n ns) (same_value bytes q.value p.value q.reads p.reads) q.written)
 
-writes_json : (bytes : List ℕ) (m : ℕ) (ms : List Member) → IsNoJson bytes → Writes bytes m ms → ⊥
+writes_json : (bytes : List ℕ) (m : ℕ) (ms : List SchemeRegistry) → IsNoJson bytes → Writes bytes m ms → ⊥
 writes_json bytes m ms none w = none w.value w.utf8 w.reads
 
 outside_json : (bytes : List ℕ) → IsNoJson bytes → IsOutside bytes → ⊥
 outside_json bytes none out = none out.1 out.0 out.2
 
-writes_inside : (bytes : List ℕ) (m : ℕ) (ms : List Member) → IsOutside bytes → Writes bytes m ms → ⊥
+writes_inside : (bytes : List ℕ) (m : ℕ) (ms : List SchemeRegistry) → IsOutside bytes → Writes bytes m ms → ⊥
 writes_inside bytes m ms out w = out.3 m ms (subst (λ d. IsWritten d m ms) (same_value bytes w.value out.1 w.reads out.2) w.written)
 
 -- the three causes of a fault

@@ -1,5 +1,6 @@
--- What a binary search among registries in byte order of their codes finds: the registry of a code, or that there is none.
--- All is said in ranks, numbers whose order is that of codes: those of the registries rise, so at most one is the code's.
+-- What a binary search among registries in byte order of their codes finds: the registry of a code, or that there is
+-- none. All is said in ranks, numbers whose order is that of codes: those of the registries rise, so at most one is
+-- the code's.
 use Rattle.std.proofs.Common.{◌≡◌, ◌⊎◌, inl, inr, ℕ, zero, suc, ◌<◌, ◌≤◌, ◌==◌, List, [], ◌∷◌, length, get_or, None, Result, Ok, Err, true, false, refl, ap, subst, arith, eq-eqb}
 use Rattle.std.specs.Prelude.{MatchResult, slice_get}
 use Rattle.std.specs.List.{AllByRecursion}
@@ -15,9 +16,9 @@ use Rattle.units.specs.declared.code.Code.{Code}
 use Rattle.units.proofs.Same.{code_of_same}
 use Rattle.units.proofs.UnitOrder.{code_rank, codes_compare, code_below}
 use Rattle.scheme.specs.Order.{member}
-use Rattle.scheme.specs.declared.members.Member.{Member}
+use Rattle.scheme.specs.declared.members.SchemeRegistry.{SchemeRegistry}
 
-abbrev AreOrdered : List Member → Type 0
+abbrev AreOrdered : List SchemeRegistry → Type 0
 AreOrdered members = Pairwise (λ a b. code_cmp a.code b.code ≡ Less) members
 
 -- ---- a comparison in ranks
@@ -59,24 +60,24 @@ rises a b c le = elim (code_cmp a c) as (λ r. MatchOrdering r (code_rank a < co
 
 -- ---- the registries' ranks
 
-below_each : (m d : Member) (ms : List Member) (i : ℕ) → AllByRecursion (λ y. code_cmp m.code y.code ≡ Less) ms → i < length ms → code_rank m.code < code_rank (get_or ms i d).code
+below_each : (m d : SchemeRegistry) (ms : List SchemeRegistry) (i : ℕ) → AllByRecursion (λ y. code_cmp m.code y.code ≡ Less) ms → i < length ms → code_rank m.code < code_rank (get_or ms i d).code
 below_each m d [] i all lt = absurd (omega arith)
 below_each m d (y ∷ ms) zero all lt = code_below m.code y.code all.0
 below_each m d (y ∷ ms) (suc i) all lt = below_each m d ms i all.1 (omega arith)
 
-ascend : (ms : List Member) (i j : ℕ) (d : Member) → AreOrdered ms → i ≤ j → j < length ms → code_rank (get_or ms i d).code ≤ code_rank (get_or ms j d).code
+ascend : (ms : List SchemeRegistry) (i j : ℕ) (d : SchemeRegistry) → AreOrdered ms → i ≤ j → j < length ms → code_rank (get_or ms i d).code ≤ code_rank (get_or ms j d).code
 ascend [] i j d ordered le lt = absurd (omega arith)
 ascend (m ∷ ms) zero zero d ordered le lt = omega arith
 ascend (m ∷ ms) zero (suc j) d ordered le lt = let h = below_each m d ms j ordered.0 (omega arith) in omega arith
 ascend (m ∷ ms) (suc i) zero d ordered le lt = absurd (omega arith)
 ascend (m ∷ ms) (suc i) (suc j) d ordered le lt = ascend ms i j d ordered.1 (omega arith) (omega arith)
 
-rising : (ms : List Member) (c : Code) → AreOrdered ms → IsNonDecreasingBy (λ y. ordering_index (code_cmp y.code c)) ms
+rising : (ms : List SchemeRegistry) (c : Code) → AreOrdered ms → IsNonDecreasingBy (λ y. ordering_index (code_cmp y.code c)) ms
 rising ms c ordered i j d le lt = rises (get_or ms i d).code (get_or ms j d).code c (ascend ms i j d ordered le lt)
 
 -- ---- what is found
 
-found : (ms : List Member) (c : Code) (i : ℕ) → AreOrdered ms → i < length ms → ((d : Member) → code_cmp (get_or ms i d).code c ≡ Equal) → member ms c ≡ slice_get ms i
+found : (ms : List SchemeRegistry) (c : Code) (i : ℕ) → AreOrdered ms → i < length ms → ((d : SchemeRegistry) → code_cmp (get_or ms i d).code c ≡ Equal) → member ms c ≡ slice_get ms i
 found [] c i ordered lt is = absurd (omega arith)
 found (m ∷ ms) c zero ordered lt is = rw (equal_same m.code c (is m)) refl
 found (m ∷ ms) c (suc i) ordered lt is =
@@ -85,7 +86,7 @@ found (m ∷ ms) c (suc i) ordered lt is =
     let other = unequal_other m.code c (λ e. omega arith) in
     rw other (found ms c i ordered.1 (omega arith) is)
 
-missing : (ms : List Member) (c : Code) → ((k : ℕ) (d : Member) → k < length ms → code_cmp (get_or ms k d).code c ≡ Equal → ⊥) → member ms c ≡ None
+missing : (ms : List SchemeRegistry) (c : Code) → ((k : ℕ) (d : SchemeRegistry) → k < length ms → code_cmp (get_or ms k d).code c ≡ Equal → ⊥) → member ms c ≡ None
 missing [] c none = refl
 missing (m ∷ ms) c none =
     let unlike = none zero m (omega arith) in
@@ -100,7 +101,7 @@ missing (m ∷ ms) c none =
     ] (codes_compare a b)
 
 -- the search tells the registry's place, or that there is none
-pub searched : (ms : List Member) (c : Code) (r : Result ℕ ℕ) → AreOrdered ms → MatchResult r (λ i. i < length ms) (λ i. i ≤ length ms) → IsBinarySearchResult (λ m. code_cmp m.code c) ms r
+pub searched : (ms : List SchemeRegistry) (c : Code) (r : Result ℕ ℕ) → AreOrdered ms → MatchResult r (λ i. i < length ms) (λ i. i ≤ length ms) → IsBinarySearchResult (λ m. code_cmp m.code c) ms r
     → MatchResult r (λ i. member ms c ≡ slice_get ms i) (λ i. member ms c ≡ None)
 searched ms c (Ok i) ordered lt is = found ms c i ordered lt is
 searched ms c (Err i) ordered le is =

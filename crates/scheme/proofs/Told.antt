@@ -25,7 +25,7 @@ use Rattle.units.proofs.Same.{codes_alike, same_code-refl}
 use Rattle.units.proofs.UnitOrder.{code_rank, code_below, code_less, code_up}
 use Rattle.scheme.specs.Grammar.{HasNoTwins}
 use Rattle.scheme.specs.Reading.{AreSorted, IsKnown}
-use Rattle.scheme.specs.declared.members.Member.{Member}
+use Rattle.scheme.specs.declared.members.SchemeRegistry.{SchemeRegistry}
 use Rattle.scheme.proofs.Pairs.{each_append, each_at, pair_at, pairwise_weaker}
 use Rattle.scheme.proofs.Moves.{pairs_moved}
 use Rattle.scheme.proofs.Climbs.{all_from_neighbours, one_order}
@@ -120,10 +120,10 @@ not_found xs x (Err i) h up e known =
 -- ---- codes
 
 -- the code of a comes before that of b
-abbrev pub CodeBefore : Member → Member → Type 0
+abbrev pub CodeBefore : SchemeRegistry → SchemeRegistry → Type 0
 CodeBefore a b = code_cmp a.code b.code ≡ Less
 
-codes_transitive : (a b c : Member) → CodeBefore a b → CodeBefore b c → CodeBefore a c
+codes_transitive : (a b c : SchemeRegistry) → CodeBefore a b → CodeBefore b c → CodeBefore a c
 codes_transitive a b c p q =
     let low = code_below a.code b.code p in
     let high = code_below b.code c.code q in
@@ -150,37 +150,37 @@ less_or_same a b sorted = elim (cases_lt (code_rank a) (code_rank b)) [
       inr (codes_alike a b (omega arith) (omega arith))
 ]
 
-pub all_rise : (ms : List Member) (i : ℕ) → length ms ≤ i → AllAdjacentBelow CodeBefore ms i → Pairwise CodeBefore ms
+pub all_rise : (ms : List SchemeRegistry) (i : ℕ) → length ms ≤ i → AllAdjacentBelow CodeBefore ms i → Pairwise CodeBefore ms
 all_rise ms i le rise = all_from_neighbours CodeBefore codes_transitive ms (λ k d lt. rise k d (omega arith))
 
 -- members in byte order stand in the one order that there is
-pub same_order : (ms ns : List Member) → Pairwise CodeBefore ms → Pairwise CodeBefore ns → ((m : Member) → Contains ms m → Contains ns m) → ((m : Member) → Contains ns m → Contains ms m) → ms ≡ ns
+pub same_order : (ms ns : List SchemeRegistry) → Pairwise CodeBefore ms → Pairwise CodeBefore ns → ((m : SchemeRegistry) → Contains ms m → Contains ns m) → ((m : SchemeRegistry) → Contains ns m → Contains ms m) → ms ≡ ns
 same_order = one_order CodeBefore codes_transitive (λ m less. code_other m.code m.code less refl)
 
-pub codes_differ : (ms : List Member) → Pairwise CodeBefore ms → HasNoTwins (map (λ m. m.code) ms)
+pub codes_differ : (ms : List SchemeRegistry) → Pairwise CodeBefore ms → HasNoTwins (map (λ m. m.code) ms)
 codes_differ [] p = tt
 codes_differ (m ∷ ms) p = (each_code ms p.0, codes_differ ms p.1)
   where
-    each_code : (ns : List Member) → AllByRecursion (CodeBefore m) ns → AllByRecursion (λ c. m.code ≢ c) (map (λ n. n.code) ns)
+    each_code : (ns : List SchemeRegistry) → AllByRecursion (CodeBefore m) ns → AllByRecursion (λ c. m.code ≢ c) (map (λ n. n.code) ns)
     each_code [] q = tt
     each_code (n ∷ ns) q = (code_other m.code n.code q.0, each_code ns q.1)
 
-pub codes_rise : (ms : List Member) → AreSorted ms → HasNoTwins (map (λ m. m.code) ms) → Pairwise CodeBefore ms
+pub codes_rise : (ms : List SchemeRegistry) → AreSorted ms → HasNoTwins (map (λ m. m.code) ms) → Pairwise CodeBefore ms
 codes_rise ms sorted apart = all_rise ms (length ms) (omega arith) (λ k d lt. elim (less_or_same (get_or ms k d).code (get_or ms (k + 1) d).code (sorted k d (omega arith) lt)) [
   | inl less ↦ less
   | inr same ↦
-      let a = get_or-map (λ (m : Member). m.code) ms k d d.code (omega arith) in
-      let b = get_or-map (λ (m : Member). m.code) ms (k + 1) d d.code lt in
-      let within : k + 1 < length (map (λ (m : Member). m.code) ms) = omega (arith, length-map ms (λ (m : Member). m.code)) in
-      absurd (pair_at (λ x y. x ≢ y) (map (λ (m : Member). m.code) ms) k (k + 1) d.code (omega arith) within apart (a ∙ same ∙ sym b))
+      let a = get_or-map (λ (m : SchemeRegistry). m.code) ms k d d.code (omega arith) in
+      let b = get_or-map (λ (m : SchemeRegistry). m.code) ms (k + 1) d d.code lt in
+      let within : k + 1 < length (map (λ (m : SchemeRegistry). m.code) ms) = omega (arith, length-map ms (λ (m : SchemeRegistry). m.code)) in
+      absurd (pair_at (λ x y. x ≢ y) (map (λ (m : SchemeRegistry). m.code) ms) k (k + 1) d.code (omega arith) within apart (a ∙ same ∙ sym b))
 ])
 
-module _ (ms : List Member) (i : ℕ) (a b : Member) (some : 1 ≤ i) (lt : i < length ms) (ais : a ≡ get_or ms (i - 1) a) (bis : b ≡ get_or ms i b) where
+module _ (ms : List SchemeRegistry) (i : ℕ) (a b : SchemeRegistry) (some : 1 ≤ i) (lt : i < length ms) (ais : a ≡ get_or ms (i - 1) a) (bis : b ≡ get_or ms i b) where
   pub not_risen : a.code ≡ b.code → Pairwise CodeBefore ms → ⊥
   not_risen same rise = code_other a.code b.code (pair_here CodeBefore ms i a b some lt ais bis rise) same
 
   pub codes_step : AreSorted ms → (a.code ≡ b.code → ⊥) → AllAdjacentBelow CodeBefore ms i → AllAdjacentBelow CodeBefore ms (i + 1)
-  codes_step sorted other rise = neighbours_more CodeBefore ms i a b some lt ais bis (elim (less_or_same a.code b.code (sorted_here (λ (m : Member). m.code) code_cmp ms i a b some lt ais bis sorted)) [
+  codes_step sorted other rise = neighbours_more CodeBefore ms i a b some lt ais bis (elim (less_or_same a.code b.code (sorted_here (λ (m : SchemeRegistry). m.code) code_cmp ms i a b some lt ais bis sorted)) [
     | inl less ↦ less
     | inr same ↦ absurd (other same)
   ]) rise

@@ -9,7 +9,7 @@ use Rattle.units.proofs.OneText.{block_same, kind_same, code_text_same, raw_same
 use Rattle.serde_json.specs.Data.{Data, unsigned, boolean, number, string}
 use Rattle.scheme.specs.Grammar.{IsAccount, IsKind, IsBlock, IsAllotment, IsMember, IsWritten}
 use Rattle.scheme.specs.declared.members.Allotment.{Allotment}
-use Rattle.scheme.specs.declared.members.Member.{Member}
+use Rattle.scheme.specs.declared.members.SchemeRegistry.{SchemeRegistry}
 use Rattle.fields.specs.Fields.{HasAt, EachIs, HasList}
 use Rattle.fields.proofs.Lists.{each_one}
 use Rattle.fields.proofs.OneAtKey.{at_once, text_once, whole_once, array_once}
@@ -46,7 +46,7 @@ allotment_one d a b p q =
 pub code_one : (d : Data) (a b : Code) → HasAt d (codes "code") (string (code_text a)) → HasAt d (codes "code") (string (code_text b)) → a ≡ b
 code_one d a b p q = code_text_same a b (text_once d (codes "code") (code_text a) (code_text b) p q)
 
-pub member_one : (d : Data) (m n : Member) → IsMember d m → IsMember d n → m ≡ n
+pub member_one : (d : Data) (m n : SchemeRegistry) → IsMember d m → IsMember d n → m ≡ n
 member_one d m n p q =
     let code : m.code ≡ n.code = code_one d m.code n.code p.code q.code in
     let truth : boolean m.eligible ≡ boolean n.eligible = at_once d (codes "eligible") _ _ p.eligible q.eligible in
@@ -57,10 +57,10 @@ member_one d m n p q =
     λ i. record { code = code i; accounts = accounts i; allotted = allotted i; eligible = eligible i; kinds = kinds i }
 
 -- the number of records and the registries that a value writes
-pub records_one : (d : Data) (m n : ℕ) (ms ns : List Member) → IsWritten d m ms → IsWritten d n ns → m ≡ n
+pub records_one : (d : Data) (m n : ℕ) (ms ns : List SchemeRegistry) → IsWritten d m ms → IsWritten d n ns → m ≡ n
 records_one d m n ms ns p q = whole_once d (codes "records") m n p.records_at q.records_at
 
-pub members_one : (d : Data) (m n : ℕ) (ms ns : List Member) → IsWritten d m ms → IsWritten d n ns → ms ≡ ns
+pub members_one : (d : Data) (m n : ℕ) (ms ns : List SchemeRegistry) → IsWritten d m ms → IsWritten d n ns → ms ≡ ns
 members_one d m n ms ns p q = list_one IsMember member_one d (codes "registries") ms ns p.registries q.registries
 
 pub kind_eq : (y z : Kind) → ghosts.eq y z ≡ true → y ≡ z

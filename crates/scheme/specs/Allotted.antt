@@ -7,7 +7,7 @@ use Rattle.units.specs.declared.block.Kind.{Kind}
 use Rattle.units.specs.declared.block.Unit.{Unit as Serial}
 use Rattle.units.specs.declared.code.Code.{Code}
 use Rattle.scheme.specs.declared.members.Allotment.{Allotment}
-use Rattle.scheme.specs.declared.members.Member.{Member}
+use Rattle.scheme.specs.declared.members.SchemeRegistry.{SchemeRegistry}
 use Rattle.scheme.specs.declared.members.Holder.{Holder}
 
 abbrev pub holder : Code → ℕ → Kind → Holder
@@ -19,6 +19,6 @@ allotted_in code [] unit = None
 allotted_in code (a ∷ allotted) unit = option_or (option_map (λ b. holder code a.account b.raw.kind) (find (λ b. has_unit b.raw unit) a.units)) (allotted_in code allotted unit)
 
 -- who holds it at the start
-abbrev pub allotted : List Member → Serial → Option Holder
+abbrev pub allotted : List SchemeRegistry → Serial → Option Holder
 allotted [] unit = None
 allotted (m ∷ members) unit = option_or (allotted_in m.code m.allotted unit) (allotted members unit)

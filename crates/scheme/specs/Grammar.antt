@@ -9,7 +9,7 @@ use Rattle.units.specs.declared.block.Block.{Block}
 use Rattle.units.specs.declared.block.Kind.{Kind}
 use Rattle.fields.specs.Fields.{HasKeys, HasAt, HasList}
 use Rattle.scheme.specs.declared.members.Allotment.{Allotment}
-use Rattle.scheme.specs.declared.members.Member.{Member}
+use Rattle.scheme.specs.declared.members.SchemeRegistry.{SchemeRegistry}
 
 -- ---- lists
 
@@ -42,7 +42,7 @@ pub record IsAllotment (d : Data) (a : Allotment) : Type 0 where
   pub units : HasList IsBlock d (codes "units") a.units
 
 -- a registry; the kinds that it takes are different ones
-pub record IsMember (d : Data) (m : Member) : Type 0 where
+pub record IsMember (d : Data) (m : SchemeRegistry) : Type 0 where
   pub keys : HasKeys d 5
   pub code : HasAt d (codes "code") (string (code_text m.code))
   pub eligible : HasAt d (codes "eligible") (boolean m.eligible)
@@ -52,7 +52,7 @@ pub record IsMember (d : Data) (m : Member) : Type 0 where
   pub no_twins : HasNoTwins m.kinds
 
 -- a number of records from 1 to `most_records`, and registries in the order of the array
-pub record IsWritten (d : Data) (records : ℕ) (members : List Member) : Type 0 where
+pub record IsWritten (d : Data) (records : ℕ) (members : List SchemeRegistry) : Type 0 where
   pub keys : HasKeys d 2
   pub records_at : HasAt d (codes "records") (number (unsigned records))
   pub some_records : 1 ≤ records

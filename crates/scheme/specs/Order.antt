@@ -10,7 +10,7 @@ use Rattle.units.specs.declared.block.Block.{Block}
 use Rattle.units.specs.declared.code.Code.{Code}
 use Rattle.scheme.specs.Grammar.{HasNoTwins}
 use Rattle.scheme.specs.declared.members.Allotment.{Allotment}
-use Rattle.scheme.specs.declared.members.Member.{Member}
+use Rattle.scheme.specs.declared.members.SchemeRegistry.{SchemeRegistry}
 use Rattle.scheme.specs.declared.members.SchemeFault.{SchemeFault}
 use Rattle.scheme.specs.declared.members.SchemeFault.TheVariants.{TooMany, TooFew, CodeTwice, AccountTwice, UnknownAccount, AllotmentOverlap}
 
@@ -20,25 +20,25 @@ blocks_of [] = []
 blocks_of (a ∷ allotted) = a.units ++ blocks_of allotted
 
 -- all blocks that the registries allot
-abbrev pub all_blocks : List Member → List Block
+abbrev pub all_blocks : List SchemeRegistry → List Block
 all_blocks [] = []
 all_blocks (m ∷ members) = blocks_of m.allotted ++ all_blocks members
 
 -- one of the registry's accounts has that number
-abbrev pub has_account : Member → ℕ → Bool
+abbrev pub has_account : SchemeRegistry → ℕ → Bool
 has_account m number = list_any (λ n. n == number) m.accounts
 
-abbrev pub HasAccount : Member → ℕ → Type 0
+abbrev pub HasAccount : SchemeRegistry → ℕ → Type 0
 HasAccount m number = IsTrue (has_account m number)
 
 -- no more registries, accounts in each, and allotted blocks than a scheme may have
-pub record AreFew (members : List Member) : Type 0 where
+pub record AreFew (members : List SchemeRegistry) : Type 0 where
   pub registries : length members ≤ most_registries
   pub accounts : AllByRecursion (λ m. length m.accounts ≤ most_accounts) members
   pub blocks : length (all_blocks members) ≤ most_allotted
 
 -- the registries are free of the fault
-abbrev pub IsFreeOf : SchemeFault → List Member → Type 0
+abbrev pub IsFreeOf : SchemeFault → List SchemeRegistry → Type 0
 IsFreeOf TooMany members = AreFew members
 IsFreeOf TooFew members = least_registries ≤ length members
 IsFreeOf CodeTwice members = HasNoTwins (map (λ m. m.code) members)
@@ -52,14 +52,14 @@ abbrev pub faults_in_order : List SchemeFault
 faults_in_order = TooMany ∷ TooFew ∷ CodeTwice ∷ AccountTwice ∷ UnknownAccount ∷ AllotmentOverlap ∷ []
 
 -- the registries are free of all these faults
-abbrev pub AreFree : List Member → Type 0
+abbrev pub AreFree : List SchemeRegistry → Type 0
 AreFree members = AllByRecursion (λ fault. IsFreeOf fault members) faults_in_order
 
 -- free of faults, and in byte order of their codes
-pub record AreMembers (members : List Member) : Type 0 where
+pub record AreMembers (members : List SchemeRegistry) : Type 0 where
   pub free : AreFree members
   pub ordered : Pairwise (λ a b. code_cmp a.code b.code ≡ Less) members
 
 -- the registry of that code
-abbrev pub member : List Member → Code → Option Member
+abbrev pub member : List SchemeRegistry → Code → Option SchemeRegistry
 member members code = find (λ m. same_code m.code code) members

@@ -12,7 +12,7 @@ use Rattle.units.specs.declared.block.Block.{Block}
 use Rattle.scheme.specs.Grammar.{HasNoTwins}
 use Rattle.scheme.specs.Order.{AreFew, IsFreeOf, AreMembers, all_blocks, HasAccount, faults_in_order}
 use Rattle.scheme.specs.declared.members.Allotment.{Allotment}
-use Rattle.scheme.specs.declared.members.Member.{Member}
+use Rattle.scheme.specs.declared.members.SchemeRegistry.{SchemeRegistry}
 use Rattle.scheme.specs.declared.members.SchemeFault.{SchemeFault}
 use Rattle.scheme.specs.declared.members.SchemeFault.TheVariants.{NotJson, Shape, TooMany, TooFew, CodeTwice, AccountTwice, UnknownAccount, AllotmentOverlap, NoMemory}
 
@@ -29,17 +29,17 @@ differ-prop x y = hlevel props
 no_twins-prop : {X : Type 0} (xs : List X) → IsProp (HasNoTwins xs)
 no_twins-prop xs = Pairwise-prop (λ x y. x ≢ y) differ-prop xs
 
-account-prop : (m : Member) (a : Allotment) → IsProp (HasAccount m a.account)
+account-prop : (m : SchemeRegistry) (a : Allotment) → IsProp (HasAccount m a.account)
 account-prop m a = hlevel props
 
-few-prop : (members : List Member) → IsProp (AreFew members)
+few-prop : (members : List SchemeRegistry) → IsProp (AreFew members)
 few-prop members x y = λ i. record {
   registries = le_prop x.registries y.registries i;
   accounts = AllByRecursion-prop (λ m. length m.accounts ≤ most_accounts) (λ m. le_prop) members x.accounts y.accounts i;
   blocks = le_prop x.blocks y.blocks i;
 }
 
-free-prop : (members : List Member) (fault : SchemeFault) → IsProp (IsFreeOf fault members)
+free-prop : (members : List SchemeRegistry) (fault : SchemeFault) → IsProp (IsFreeOf fault members)
 free-prop members NotJson = Unit-prop
 free-prop members Shape = Unit-prop
 free-prop members TooMany = few-prop members
@@ -50,7 +50,7 @@ free-prop members UnknownAccount = AllByRecursion-prop (λ m. AllByRecursion (λ
 free-prop members AllotmentOverlap = Pairwise-prop (λ a b. AreApart a.raw b.raw) AreApart-prop (all_blocks members)
 free-prop members NoMemory = Unit-prop
 
-pub AreMembers-prop : (members : List Member) → IsProp (AreMembers members)
+pub AreMembers-prop : (members : List SchemeRegistry) → IsProp (AreMembers members)
 AreMembers-prop members x y = λ i. record {
   free = AllByRecursion-prop (λ fault. IsFreeOf fault members) (free-prop members) faults_in_order x.free y.free i;
   ordered = Pairwise-prop (λ a b. code_cmp a.code b.code ≡ Less) (λ a b. Ordering-set (code_cmp a.code b.code) Less) members x.ordered y.ordered i;

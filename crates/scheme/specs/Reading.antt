@@ -9,7 +9,7 @@ use Rattle.units.specs.Keys.{code_cmp}
 use Rattle.units.specs.declared.block.Kind.{Kind}
 use Rattle.scheme.specs.Order.{faults_in_order}
 use Rattle.scheme.specs.Faults.{IsFirst}
-use Rattle.scheme.specs.declared.members.Member.{Member}
+use Rattle.scheme.specs.declared.members.SchemeRegistry.{SchemeRegistry}
 use Rattle.scheme.specs.declared.registries.Scheme.{Scheme}
 use Rattle.scheme.specs.declared.members.SchemeFault.{SchemeFault}
 use Rattle.scheme.specs.declared.members.SchemeFault.TheVariants.{NotJson, Shape, NoMemory}
@@ -23,7 +23,7 @@ abbrev pub AreKinds : Data → List Kind → Type 0
 AreKinds d kinds = HasList IsKind d (codes "kinds") kinds × HasNoTwins kinds
 
 -- in byte order of their codes, as a sort leaves them
-abbrev pub AreSorted : List Member → Type 0
+abbrev pub AreSorted : List SchemeRegistry → Type 0
 AreSorted members = IsSortedByKey (λ m. m.code) code_cmp members
 
 -- one of the numbers is that one
@@ -32,14 +32,14 @@ IsKnown numbers known = IsTrue (list_any (λ n. n == known) numbers)
 
 -- the value writes the scheme's registries, in whatever order
 abbrev pub IsSchemeOf : Data → Scheme → Type 0
-IsSchemeOf d s = (listed : List Member) × IsWritten d s.records listed × IsPermutation listed s.members
+IsSchemeOf d s = (listed : List SchemeRegistry) × IsWritten d s.records listed × IsPermutation listed s.members
 
 -- why the value is no scheme
 abbrev pub HasFaultOf : Data → SchemeFault → Type 0
-HasFaultOf d fault = (records : ℕ) × (listed : List Member) × IsWritten d records listed × IsFirst faults_in_order listed fault
+HasFaultOf d fault = (records : ℕ) × (listed : List SchemeRegistry) × IsWritten d records listed × IsFirst faults_in_order listed fault
 
 abbrev pub IsFaultOf : Data → SchemeFault → Type 0
 IsFaultOf d NotJson = ⊥
-IsFaultOf d Shape = (records : ℕ) (listed : List Member) → IsWritten d records listed → ⊥
+IsFaultOf d Shape = (records : ℕ) (listed : List SchemeRegistry) → IsWritten d records listed → ⊥
 IsFaultOf d NoMemory = Unit {0}
 IsFaultOf d fault = HasFaultOf d fault

@@ -2,11 +2,11 @@
 use Rattle.std.specs.Prelude.{ℕ, List}
 use Rattle.std.specs.Prelude.{IsPermutation}
 use Rattle.scheme.specs.Faults.{Writes}
-use Rattle.scheme.specs.declared.members.Member.{Member}
+use Rattle.scheme.specs.declared.members.SchemeRegistry.{SchemeRegistry}
 use Rattle.scheme.specs.declared.registries.Scheme.{Scheme}
 
 -- the text writes the scheme's registries, in whatever order; the scheme has them in byte order and free of faults
 pub record IsSchemeText (bytes : List ℕ) (s : Scheme) : Type 0 where
-  pub listed : List Member
+  pub listed : List SchemeRegistry
   pub writes : Writes bytes s.records listed
   pub sorted : IsPermutation listed s.members

@@ -1,7 +1,7 @@
 //! Copies of registries.
 ghost use Rattle.std.specs.Prelude.{◌≡◌, IfOk};
 
-use crate::members::{Allotment, Member};
+use crate::members::{Allotment, SchemeRegistry};
 use std::alloc::Global;
 use units::{Items, NoMemory};
 
@@ -24,10 +24,10 @@ fn copied_allotments(alloc: Global, allotted: &[Allotment]) -> Result<Items<Allo
     Ok(Items::from_vec(copies))
 }
 
-fn copied_member(alloc: Global, member: &Member) -> Result<Member, NoMemory>
+fn copied_member(alloc: Global, member: &SchemeRegistry) -> Result<SchemeRegistry, NoMemory>
     ensures { IfOk result (λ m. m ≡ member.now) }
 {
-    Ok(Member {
+    Ok(SchemeRegistry {
         code: member.code,
         accounts: member.accounts.copy()?,
         allotted: copied_allotments(alloc, member.allotted.as_slice())?,
@@ -37,7 +37,10 @@ fn copied_member(alloc: Global, member: &Member) -> Result<Member, NoMemory>
 }
 
 /// Equal registries in the same order.
-pub fn copied_members(alloc: Global, members: &[Member]) -> Result<Items<Member>, NoMemory>
+pub fn copied_members(
+    alloc: Global,
+    members: &[SchemeRegistry],
+) -> Result<Items<SchemeRegistry>, NoMemory>
     ensures { IfOk result (λ c. c ≡ members.now) }
 {
     let mut copies = Vec::with_capacity(alloc, members.len())?;

@@ -12,7 +12,7 @@ ghost use Rattle.scheme.specs.Faults.{IsFirst};
 ghost use Rattle.scheme.specs.Reading.{AreSorted, IsKnown};
 ghost use Rattle.scheme.specs.declared.members.SchemeFault.TheVariants.{AccountTwice, UnknownAccount};
 
-use crate::members::{Allotment, Member, SchemeFault};
+use crate::members::{Allotment, SchemeFault, SchemeRegistry};
 use std::alloc::{AllocError, Global};
 use units::Block;
 use units::limits::{LEAST_REGISTRIES, MOST_ACCOUNTS, MOST_ALLOTTED, MOST_REGISTRIES};
@@ -28,7 +28,7 @@ fn push_units(all: &mut Vec<Block>, allotted: &[Allotment]) -> Result<(), AllocE
 }
 
 // All blocks that the registries allot.
-fn allotted_blocks(alloc: Global, members: &[Member]) -> Result<Vec<Block>, AllocError>
+fn allotted_blocks(alloc: Global, members: &[SchemeRegistry]) -> Result<Vec<Block>, AllocError>
     ensures { IfOk result (λ v. v.items ≡ all_blocks members.now) }
 {
     let mut all = Vec::new(alloc);
@@ -39,7 +39,7 @@ fn allotted_blocks(alloc: Global, members: &[Member]) -> Result<Vec<Block>, Allo
 }
 
 // Whether none of the registries has too many accounts.
-fn have_few_accounts(members: &[Member]) -> bool
+fn have_few_accounts(members: &[SchemeRegistry]) -> bool
     ensures { IsTrue result ↔ AllByRecursion (λ m. length m.accounts ≤ most_accounts) members.now }
 {
     for member in members {
@@ -51,7 +51,7 @@ fn have_few_accounts(members: &[Member]) -> bool
 }
 
 // Whether neither the registries nor their accounts nor their blocks, `blocks` in number, are too many.
-fn are_few(members: &[Member], blocks: usize) -> bool
+fn are_few(members: &[SchemeRegistry], blocks: usize) -> bool
     requires { blocks ≡ length (all_blocks members.now) }
     ensures { IsTrue result ↔ AreFew members.now }
 {
@@ -62,7 +62,7 @@ fn are_few(members: &[Member], blocks: usize) -> bool
 }
 
 // Whether the codes rise: of registries in order, two with one code are neighbours.
-fn have_different_codes(members: &[Member]) -> bool
+fn have_different_codes(members: &[SchemeRegistry]) -> bool
     requires { AreSorted members.now }
     ensures { IsTrue result ↔ Pairwise (λ a b. code_cmp a.code b.code ≡ Less) members.now }
 {
@@ -111,7 +111,7 @@ fn are_known(accounts: &[u64], allotted: &[Allotment]) -> bool
 }
 
 // Whether no registry has an account twice.
-fn have_different_accounts(alloc: Global, members: &[Member]) -> Result<bool, AllocError>
+fn have_different_accounts(alloc: Global, members: &[SchemeRegistry]) -> Result<bool, AllocError>
     ensures { IfOk result (λ free. IsTrue free ↔ IsFreeOf AccountTwice members.now) }
 {
     for member in members {
@@ -124,7 +124,7 @@ fn have_different_accounts(alloc: Global, members: &[Member]) -> Result<bool, Al
 }
 
 // Whether no allotment is to an account that its registry doesn't have.
-fn have_known_accounts(alloc: Global, members: &[Member]) -> Result<bool, AllocError>
+fn have_known_accounts(alloc: Global, members: &[SchemeRegistry]) -> Result<bool, AllocError>
     ensures { IfOk result (λ free. IsTrue free ↔ IsFreeOf UnknownAccount members.now) }
 {
     for member in members {
@@ -159,7 +159,10 @@ fn are_apart(blocks: &mut [Block]) -> bool
 }
 
 /// The first fault of registries in order, and `None` where they are a scheme's.
-pub fn first_fault(alloc: Global, members: &[Member]) -> Result<Option<SchemeFault>, AllocError>
+pub fn first_fault(
+    alloc: Global,
+    members: &[SchemeRegistry],
+) -> Result<Option<SchemeFault>, AllocError>
     requires { AreSorted members.now }
     ensures some { IfOk result (λ o. IfSome o (IsFirst faults_in_order members.now)) }
     ensures none { IfOk result (λ o. IfNone o (AreMembers members.now)) }

@@ -10,8 +10,8 @@ ghost use Rattle.fields.specs.Found.{Finds, Reads};
 ghost use Rattle.scheme.specs.Grammar.{HasNoTwins, IsAccount, IsKind, IsBlock, IsAllotment, IsMember, IsWritten};
 ghost use Rattle.scheme.specs.Reading.{IsCount, AreKinds};
 
-use crate::listed::Listed;
-use crate::members::{Allotment, Member};
+use crate::listed::UnsortedRegistries;
+use crate::members::{Allotment, SchemeRegistry};
 use fields::{ReadFault, bool_at, has_keys, list_at, number_at, text_at};
 use serde_json::Value;
 use std::alloc::Global;
@@ -47,8 +47,7 @@ fn eligible(value: &Value) -> Option<bool>
 
 // The account of that number.
 fn account(value: &Value) -> Option<u64>
-    ensures some { IfSome result (λ n. IsAccount (view value.now) n) }
-    ensures none { IfNone result ((n : ℕ) → IsAccount (view value.now) n → ⊥) }
+    ensures { Reads (IsAccount (view value.now)) result }
 {
     let number = value.as_u64()?;
     if (1..=LAST_ACCOUNT).contains(&number) {
@@ -60,8 +59,7 @@ fn account(value: &Value) -> Option<u64>
 
 // The kind that the value names.
 fn kind(value: &Value) -> Option<Kind>
-    ensures some { IfSome result (λ k. IsKind (view value.now) k) }
-    ensures none { IfNone result ((k : Kind) → IsKind (view value.now) k → ⊥) }
+    ensures { Reads (IsKind (view value.now)) result }
 {
     let text = value.as_str()?;
     Kind::read(text)
@@ -69,8 +67,7 @@ fn kind(value: &Value) -> Option<Kind>
 
 // The block that the value writes.
 fn block(value: &Value) -> Option<Block>
-    ensures some { IfSome result (λ b. IsBlock (view value.now) b) }
-    ensures none { IfNone result ((b : Block) → IsBlock (view value.now) b → ⊥) }
+    ensures { Reads (IsBlock (view value.now)) result }
 {
     let text = value.as_str()?;
     Block::read(text).ok()
@@ -82,9 +79,7 @@ fn each_account(alloc: Global, values: &[Value]) -> Result<Items<u64>, ReadFault
 {
     let mut accounts = Vec::new(alloc);
     for value in values {
-        let Some(account) = account(value) else {
-            return Err(ReadFault::Shape);
-        };
+        let account = account(value).ok_or(ReadFault::Shape)?;
         accounts.push(account)?;
     }
     Ok(Items::from_vec(accounts))
@@ -96,9 +91,7 @@ fn different_kinds(alloc: Global, values: &[Value]) -> Result<Items<Kind>, ReadF
 {
     let mut kinds = Vec::new(alloc);
     for value in values {
-        let Some(kind) = kind(value) else {
-            return Err(ReadFault::Shape);
-        };
+        let kind = kind(value).ok_or(ReadFault::Shape)?;
         if kinds.contains(&kind) {
             return Err(ReadFault::Shape);
         }
@@ -113,9 +106,7 @@ fn each_block(alloc: Global, values: &[Value]) -> Result<Items<Block>, ReadFault
 {
     let mut blocks = Vec::new(alloc);
     for value in values {
-        let Some(block) = block(value) else {
-            return Err(ReadFault::Shape);
-        };
+        let block = block(value).ok_or(ReadFault::Shape)?;
         blocks.push(block)?;
     }
     Ok(Items::from_vec(blocks))
@@ -125,9 +116,7 @@ fn each_block(alloc: Global, values: &[Value]) -> Result<Items<Block>, ReadFault
 fn accounts(alloc: Global, value: &Value) -> Result<Items<u64>, ReadFault>
     ensures { Finds (HasList IsAccount (view value.now) (codes "accounts")) result }
 {
-    let Some(list) = list_at(value, "accounts") else {
-        return Err(ReadFault::Shape);
-    };
+    let list = list_at(value, "accounts").ok_or(ReadFault::Shape)?;
     each_account(alloc, list.as_slice())
 }
 
@@ -135,9 +124,7 @@ fn accounts(alloc: Global, value: &Value) -> Result<Items<u64>, ReadFault>
 fn kinds(alloc: Global, value: &Value) -> Result<Items<Kind>, ReadFault>
     ensures { Finds (AreKinds (view value.now)) result }
 {
-    let Some(list) = list_at(value, "kinds") else {
-        return Err(ReadFault::Shape);
-    };
+    let list = list_at(value, "kinds").ok_or(ReadFault::Shape)?;
     different_kinds(alloc, list.as_slice())
 }
 
@@ -145,9 +132,7 @@ fn kinds(alloc: Global, value: &Value) -> Result<Items<Kind>, ReadFault>
 fn units(alloc: Global, value: &Value) -> Result<Items<Block>, ReadFault>
     ensures { Finds (HasList IsBlock (view value.now) (codes "units")) result }
 {
-    let Some(list) = list_at(value, "units") else {
-        return Err(ReadFault::Shape);
-    };
+    let list = list_at(value, "units").ok_or(ReadFault::Shape)?;
     each_block(alloc, list.as_slice())
 }
 
@@ -179,14 +164,12 @@ fn each_allotment(alloc: Global, values: &[Value]) -> Result<Items<Allotment>, R
 fn allotted(alloc: Global, value: &Value) -> Result<Items<Allotment>, ReadFault>
     ensures { Finds (HasList IsAllotment (view value.now) (codes "allotted")) result }
 {
-    let Some(list) = list_at(value, "allotted") else {
-        return Err(ReadFault::Shape);
-    };
+    let list = list_at(value, "allotted").ok_or(ReadFault::Shape)?;
     each_allotment(alloc, list.as_slice())
 }
 
 // A registry.
-fn member(alloc: Global, value: &Value) -> Result<Member, ReadFault>
+fn member(alloc: Global, value: &Value) -> Result<SchemeRegistry, ReadFault>
     ensures { Finds (IsMember (view value.now)) result }
 {
     if !has_keys(value, 5) {
@@ -197,7 +180,7 @@ fn member(alloc: Global, value: &Value) -> Result<Member, ReadFault>
     let accounts = accounts(alloc, value)?;
     let allotted = allotted(alloc, value)?;
     let kinds = kinds(alloc, value)?;
-    Ok(Member {
+    Ok(SchemeRegistry {
         code,
         accounts,
         allotted,
@@ -207,7 +190,7 @@ fn member(alloc: Global, value: &Value) -> Result<Member, ReadFault>
 }
 
 // The registries of an array.
-fn each_member(alloc: Global, values: &[Value]) -> Result<Listed, ReadFault>
+fn each_member(alloc: Global, values: &[Value]) -> Result<UnsortedRegistries, ReadFault>
     ensures { Finds (EachIs IsMember (items_view values.now)) result }
 {
     let mut members = Vec::new(alloc);
@@ -215,21 +198,19 @@ fn each_member(alloc: Global, values: &[Value]) -> Result<Listed, ReadFault>
         let member = member(alloc, value)?;
         members.push(member)?;
     }
-    Ok(Listed::from_vec(members))
+    Ok(UnsortedRegistries::from_vec(members))
 }
 
 // The registries of a scheme.
-fn members(alloc: Global, value: &Value) -> Result<Listed, ReadFault>
+fn members(alloc: Global, value: &Value) -> Result<UnsortedRegistries, ReadFault>
     ensures { Finds (HasList IsMember (view value.now) (codes "registries")) result }
 {
-    let Some(list) = list_at(value, "registries") else {
-        return Err(ReadFault::Shape);
-    };
+    let list = list_at(value, "registries").ok_or(ReadFault::Shape)?;
     each_member(alloc, list.as_slice())
 }
 
 /// The number of records and the registries that the value writes.
-pub fn written(alloc: Global, value: &Value) -> Result<(u64, Listed), ReadFault>
+pub fn written(alloc: Global, value: &Value) -> Result<(u64, UnsortedRegistries), ReadFault>
     ensures { Finds (λ p. IsWritten (view value.now) p.0 p.1) result }
 {
     if !has_keys(value, 2) {

@@ -10,6 +10,6 @@ mod members;
 mod reading;
 mod registries;
 
-pub use members::{Allotment, Holder, Member, SchemeFault};
+pub use members::{Allotment, Holder, SchemeFault, SchemeRegistry};
 pub use reading::one_answer;
 pub use registries::Scheme;

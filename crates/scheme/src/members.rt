@@ -4,20 +4,23 @@ ghost use Rattle.std.specs.Prelude.{◌≡◌};
 use fields::ReadFault;
 use std::alloc::{AllocError, AllocFailed};
 use thiserror::Error;
-use units::{Block, Code, Items, Kind, Mark};
+use units::{Block, Code, Items, Kind, Label};
 
 /// The blocks that an account has at the start.
 #[derive(Debug, Drop)]
 pub struct Allotment {
+    /// In a scheme that was read: one of the registry's accounts, 1 to `LAST_ACCOUNT`.
     pub account: u64,
     pub units: Items<Block>,
 }
 
 /// A registry of the scheme.
 #[derive(Debug, Drop)]
-pub struct Member {
+pub struct SchemeRegistry {
     pub code: Code,
+    /// In a scheme that was read: at most `MOST_ACCOUNTS` numbers, 1 to `LAST_ACCOUNT`, none twice.
     pub accounts: Items<u64>,
+    /// In a scheme that was read: at most `MOST_ALLOTTED` blocks in all registries, no unit twice.
     pub allotted: Items<Allotment>,
     /// Whether it may take part in transfers at the start.
     pub eligible: bool,
@@ -29,11 +32,12 @@ pub struct Member {
 #[derive(Clone, Copy, Debug, PartialEq, Eq)]
 pub struct Holder {
     pub registry: Code,
+    /// One of that registry's accounts.
     pub account: u64,
     pub kind: Kind,
 }
 
-impl Mark for Holder {
+impl Label for Holder {
     ghost group = { λ _. 0 };
 
     fn group(&self) -> u64 {

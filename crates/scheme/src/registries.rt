@@ -9,21 +9,23 @@ ghost use Rattle.scheme.specs.Allotted.{allotted, allotted_in};
 ghost use Rattle.scheme.specs.Props.{AreMembers-prop};
 
 use crate::copies::copied_members;
-use crate::members::{Allotment, Holder, Member};
+use crate::members::{Allotment, Holder, SchemeRegistry};
 use std::alloc::Global;
 use units::{Block, Code, Items, NoMemory, Unit};
 
 /// The registries, in byte order of their codes, and how many records each node's journal may have.
 #[derive(Debug, Drop)]
 pub struct Scheme {
+    /// How many records each node's journal may have: 1 to `MOST_RECORDS`.
     pub records: u64,
-    pub members: Items<Member>,
+    /// `LEAST_REGISTRIES` to `MOST_REGISTRIES`, in byte order of their codes.
+    pub members: Items<SchemeRegistry>,
     pub ghost in_range: { (1 ≤ records) × (records ≤ most_records) },
     pub ghost sound: { AreMembers members } by { AreMembers-prop members },
 }
 
 // Where the registry of that code stands.
-fn place_of(members: &[Member], code: Code) -> Option<usize>
+fn place_of(members: &[SchemeRegistry], code: Code) -> Option<usize>
     requires { AreMembers members.now }
     ensures some { IfSome result (λ i. member members.now code ≡ slice_get members.now i) }
     ensures none { IfNone result (member members.now code ≡ None) }
@@ -75,14 +77,14 @@ impl Scheme {
     }
 
     /// The registries, in byte order of their codes.
-    pub fn registries(&self) -> &[Member]
+    pub fn registries(&self) -> &[SchemeRegistry]
         ensures { result.now ≡ self.now.members }
     {
         self.members.as_slice()
     }
 
     /// The registry of that code.
-    pub fn member(&self, code: Code) -> Option<&Member>
+    pub fn member(&self, code: Code) -> Option<&SchemeRegistry>
         ensures { option_copied result ≡ member self.now.members code }
     {
         let members = self.members.as_slice();

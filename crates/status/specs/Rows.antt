@@ -1,16 +1,16 @@
--- The three status tables: what an input does to a transaction of which a node knows so much.
-use Rattle.status.specs.declared.words.Status.TheVariants.{Proposed, Checked, Accepted, Rejected, Terminated, Cancelled, Completed}
-use Rattle.status.specs.declared.words.Role.{Role}
-use Rattle.status.specs.declared.words.Role.TheVariants.{Initiator, Itl, Acquirer}
-use Rattle.status.specs.declared.words.Known.{Known}
-use Rattle.status.specs.declared.words.Known.TheVariants.{Unknown, Bare, Stands}
-use Rattle.status.specs.declared.words.RowInput.{RowInput}
-use Rattle.status.specs.declared.words.RowInput.TheVariants.{Propose, ProposalWithoutFinding, ProposalWithFindings, EqualProposal, Notified, CleanUp, RequestOrder, RepeatedRequestOrder, Request}
-use Rattle.status.specs.declared.words.Row.{Row}
-use Rattle.status.specs.declared.words.Row.TheVariants.{Move, Repeat, Late, Refused}
+-- The three status tables: what an input does to a transaction, by what the node has recorded of it.
+use Rattle.status.specs.declared.status.Status.TheVariants.{Proposed, Checked, Accepted, Rejected, Terminated, Cancelled, Completed}
+use Rattle.status.specs.declared.rows.Role.{Role}
+use Rattle.status.specs.declared.rows.Role.TheVariants.{Initiator, Itl, Acquirer}
+use Rattle.status.specs.declared.rows.RecordedStatus.{RecordedStatus}
+use Rattle.status.specs.declared.rows.RecordedStatus.TheVariants.{Unknown, Bare, Stands}
+use Rattle.status.specs.declared.rows.RowInput.{RowInput}
+use Rattle.status.specs.declared.rows.RowInput.TheVariants.{Propose, ProposalWithoutFinding, ProposalWithFindings, EqualProposal, Notified, CleanUp, RequestOrder, RepeatedRequestOrder, Request}
+use Rattle.status.specs.declared.rows.Row.{Row}
+use Rattle.status.specs.declared.rows.Row.TheVariants.{Move, Repeat, Late, Refused}
 
 -- table I, of the initiator
-abbrev pub initiator_row : Known → RowInput → Row
+abbrev pub initiator_row : RecordedStatus → RowInput → Row
 initiator_row Unknown Propose = Move Proposed
 initiator_row (Stands Proposed) (Notified Accepted) = Move Completed
 initiator_row (Stands Proposed) (Notified Rejected) = Move Rejected
@@ -25,7 +25,7 @@ initiator_row (Stands Proposed) RepeatedRequestOrder = Repeat
 initiator_row _ _ = Refused
 
 -- table L, of the log
-abbrev pub log_row : Known → RowInput → Row
+abbrev pub log_row : RecordedStatus → RowInput → Row
 log_row Unknown ProposalWithoutFinding = Move Checked
 log_row Unknown ProposalWithFindings = Move Terminated
 log_row Unknown Request = Move Cancelled
@@ -52,7 +52,7 @@ log_row Bare ProposalWithFindings = Late
 log_row _ _ = Refused
 
 -- table A, of the acquirer
-abbrev pub acquirer_row : Known → RowInput → Row
+abbrev pub acquirer_row : RecordedStatus → RowInput → Row
 acquirer_row Unknown ProposalWithoutFinding = Move Accepted
 acquirer_row Unknown ProposalWithFindings = Move Rejected
 acquirer_row Unknown (Notified Cancelled) = Move Cancelled
@@ -68,7 +68,7 @@ acquirer_row Bare ProposalWithFindings = Late
 acquirer_row _ _ = Refused
 
 -- the table of a role
-abbrev pub row_of : Role → Known → RowInput → Row
+abbrev pub row_of : Role → RecordedStatus → RowInput → Row
 row_of Initiator old input = initiator_row old input
 row_of Itl old input = log_row old input
 row_of Acquirer old input = acquirer_row old input

@@ -1,7 +1,7 @@
 -- The names of the statuses.
 use Rattle.std.specs.Prelude.{ℕ, List, codes, Bool, ◌==◌}
-use Rattle.status.specs.declared.words.Status.{Status}
-use Rattle.status.specs.declared.words.Status.TheVariants.{Proposed, Checked, Accepted, Rejected, Terminated, Cancelled, Completed}
+use Rattle.status.specs.declared.status.Status.{Status}
+use Rattle.status.specs.declared.status.Status.TheVariants.{Proposed, Checked, Accepted, Rejected, Terminated, Cancelled, Completed}
 
 abbrev pub status_text : Status → List ℕ
 status_text Proposed = codes "Proposed"

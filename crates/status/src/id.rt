@@ -12,6 +12,7 @@ use units::{Code, NoMemory, number};
 #[derive(Clone, Copy, Debug, PartialEq, Eq, PartialOrd, Ord)]
 pub struct TransactionId {
     pub code: Code,
+    /// 1 to `LAST_TRANSACTION`.
     pub number: u32,
     pub ghost in_range: { IsTransactionNumber number },
 }

@@ -5,12 +5,14 @@ mod content;
 mod id;
 mod moment;
 mod order;
+mod rows;
+mod status;
 mod tables;
-mod words;
 
 pub use content::Content;
 pub use id::TransactionId;
 pub use moment::{Moment, MomentFault};
 pub use order::Order;
+pub use rows::{RecordedStatus, Role, Row, RowInput};
+pub use status::Status;
 pub use tables::row;
-pub use words::{Known, Role, Row, RowInput, Status};

@@ -9,6 +9,7 @@ use units::limits::LAST_MOMENT;
 /// A whole second from 1970-01-01T00:00:00Z (0) to 9998-12-31T23:59:59Z (`LAST_MOMENT`).
 #[derive(Clone, Copy, Debug, PartialEq, Eq, PartialOrd, Ord)]
 pub struct Moment {
+    /// Seconds after 1970-01-01T00:00:00Z, at most `LAST_MOMENT`.
     pub seconds: u64,
     pub ghost in_range: { seconds ≤ last_moment },
 }

@@ -2,12 +2,13 @@
 ghost use Rattle.std.specs.Prelude.{◌≡◌};
 ghost use Rattle.status.specs.Rows.{initiator_row, log_row, acquirer_row, row_of};
 
-use crate::words::{Known, Role, Row, RowInput, Status};
+use crate::rows::{RecordedStatus, Role, Row, RowInput};
+use crate::status::Status;
 
-fn initiator_row(old: Known, input: RowInput) -> Row
+fn initiator_row(old: RecordedStatus, input: RowInput) -> Row
     ensures { result ≡ initiator_row old input }
 {
-    use Known::{Stands, Unknown};
+    use RecordedStatus::{Stands, Unknown};
     match (old, input) {
         (Unknown, RowInput::Propose) => Row::Move(Status::Proposed),
         (Stands(Status::Proposed), RowInput::Notified(Status::Accepted)) => Row::Move(
@@ -32,10 +33,10 @@ fn initiator_row(old: Known, input: RowInput) -> Row
     }
 }
 
-fn log_row(old: Known, input: RowInput) -> Row
+fn log_row(old: RecordedStatus, input: RowInput) -> Row
     ensures { result ≡ log_row old input }
 {
-    use Known::{Bare, Stands, Unknown};
+    use RecordedStatus::{Bare, Stands, Unknown};
     match (old, input) {
         (Unknown, RowInput::ProposalWithoutFinding) => Row::Move(Status::Checked),
         (Unknown, RowInput::ProposalWithFindings) => Row::Move(Status::Terminated),
@@ -70,10 +71,10 @@ fn log_row(old: Known, input: RowInput) -> Row
     }
 }
 
-fn acquirer_row(old: Known, input: RowInput) -> Row
+fn acquirer_row(old: RecordedStatus, input: RowInput) -> Row
     ensures { result ≡ acquirer_row old input }
 {
-    use Known::{Bare, Stands, Unknown};
+    use RecordedStatus::{Bare, Stands, Unknown};
     match (old, input) {
         (Unknown, RowInput::ProposalWithoutFinding) => Row::Move(Status::Accepted),
         (Unknown, RowInput::ProposalWithFindings) => Row::Move(Status::Rejected),
@@ -96,7 +97,7 @@ fn acquirer_row(old: Known, input: RowInput) -> Row
 }
 
 /// What the table of that role says to an input for a transaction of which the node knows `old`.
-pub fn row(role: Role, old: Known, input: RowInput) -> Row
+pub fn row(role: Role, old: RecordedStatus, input: RowInput) -> Row
     ensures { result ≡ row_of role old input }
 {
     match role {

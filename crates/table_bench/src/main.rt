@@ -3,8 +3,8 @@
 //! `table_bench INTERVALS MESSAGES CALLS` makes a map of INTERVALS intervals of ten units, the kinds of neighbours
 //! different, and an outbox of MESSAGES messages of one record each, of which every other is acknowledged. Then it
 //! gives 16 blocks in the map another kind and their own again, CALLS times in all, and looks CALLS times for the
-//! next message that waits, and prints a line of the two times in microseconds and of how many look-ups found a message:
-//! `MAP OUTBOX FOUND`. Each number is 16 to 10,000,000.
+//! next message that waits, and prints a line of the two times in microseconds and of how many look-ups found a
+//! message: `MAP OUTBOX FOUND`. Each number is 16 to 10,000,000.
 //!
 //! The exit status is 2 where the words are no such numbers. No contract speaks of time: what is proved is that the
 //! program is safe and ends.
@@ -222,8 +222,8 @@ fn outbox_time(clock: &impl Clock, outbox: &Outbox, sizes: Sizes) -> Result<Foun
     Ok(Found { time, count })
 }
 
-// Prints the two times and how many look-ups found a message. With no more than the least number of calls, which take too
-// little time to tell, it prints nothing.
+// Prints the two times and how many look-ups found a message. With no more than the least number of calls, which take
+// too little time to tell, it prints nothing.
 fn measure(rt: &(impl Clock + Print), alloc: Global, sizes: Sizes) -> Result<(), Fault> {
     let Some(origin) = Code::read("NZ") else {
         return Ok(());

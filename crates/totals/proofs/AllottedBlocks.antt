@@ -14,13 +14,13 @@ use Rattle.units.specs.declared.code.Code.{Code}
 use Rattle.scheme.specs.Allotted as start
 use Rattle.scheme.specs.Order.{all_blocks, blocks_of}
 use Rattle.scheme.specs.declared.members.Allotment.{Allotment}
-use Rattle.scheme.specs.declared.members.Member.{Member}
+use Rattle.scheme.specs.declared.members.SchemeRegistry.{SchemeRegistry}
 use Rattle.scheme.specs.declared.registries.Scheme.{Scheme}
 use Rattle.protocol.specs.Registries.{allotted}
 use Rattle.protocol.proofs.CountsInLists.{count_yes, count_no, number_none}
 use Rattle.lemmas.proofs.Membership.{In}
 use Rattle.lemmas.proofs.SomePass.{list_any_not}
-use Rattle.registry_core.proofs.LotsOfUnits.{any_found}
+use Rattle.registry_core.proofs.UnitHoldingsOfUnits.{any_found}
 use Rattle.totals.specs.NumberOfUnits.{units_of, allotted_units}
 
 -- ---- which units they have
@@ -51,7 +51,7 @@ module _ (s : Serial) where
       ∙ or_same _ _ _ _ (sym (any_found has (λ (b : Block). start.holder c a.account b.raw.kind) a.units)) (some_in c rest)
       ∙ sym (any_append has a.units (blocks_of rest))
 
-  some_among : (ms : List Member) → is_some (start.allotted ms s) ≡ list_any has (all_blocks ms)
+  some_among : (ms : List SchemeRegistry) → is_some (start.allotted ms s) ≡ list_any has (all_blocks ms)
   some_among [] = refl
   some_among (m ∷ ms) =
       some_or (start.allotted_in m.code m.allotted s) (start.allotted ms s)

@@ -5,7 +5,7 @@ use Rattle.units.specs.declared.code.Node.TheVariants.{Registry}
 use Rattle.wire.specs.declared.message.Message.{Message}
 use Rattle.wire.specs.declared.message.Message.TheVariants as message
 use Rattle.wire.specs.declared.message.Proposal.{Proposal}
-use Rattle.scheme.specs.declared.members.Member.{Member}
+use Rattle.scheme.specs.declared.members.SchemeRegistry.{SchemeRegistry}
 use Rattle.scheme.specs.declared.registries.Scheme.{Scheme}
 use Rattle.protocol.specs.Claims.{live_of}
 use Rattle.protocol.specs.Pieces.{pieces, repeats}
@@ -26,5 +26,5 @@ pub due_apart : (scheme : Scheme) (events : List WorldEvent) (p : Proposal) → 
 due_apart scheme events p h =
     let w = reached scheme events in
     let i = (In_filter (is_due (live_of w)) (transactions w) p h).0 in
-    let m = In_flat_map (λ (z : Member). proposed (live_of w (Registry z.code))) p w.scheme.members i in
+    let m = In_flat_map (λ (z : SchemeRegistry). proposed (live_of w (Registry z.code))) p w.scheme.members i in
     (sound_offer scheme (live_of w) (reached_live scheme events) m.0.code p (was_sent _ p m.2)).apart

@@ -1,4 +1,5 @@
--- Sums over images and joins of lists, and over terms that are equal one by one. A count is a sum, so each lemma is about counts too.
+-- Sums over images and joins of lists, and over terms that are equal one by one. A count is a sum, so each lemma is
+-- about counts too.
 use Rattle.std.proofs.Common.{◌≡◌, ℕ, List, [], ◌∷◌, inl, inr, refl, arith, map, flat_map}
 use Rattle.std.specs.List.{sum_by}
 use Rattle.std.proofs.lemmas.List.Sums.{sum_by-cons, sum_by-append}

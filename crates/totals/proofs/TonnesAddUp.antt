@@ -1,6 +1,7 @@
 -- The units that registries hold and those that transfers owe are as many as the scheme allots.
--- The blocks of all lines and of all due transfers are put in one list. A unit is in as many of the lines as registries hold it, and in as many
--- of the due transfers as owe it, so by `causal_one_place` it is in that list as often as in the scheme's blocks.
+-- The blocks of all lines and of all due transfers are put in one list. A unit is in as many of the lines as
+-- registries hold it, and in as many of the due transfers as owe it, so by `causal_one_place` it is in that list as
+-- often as in the scheme's blocks.
 use Rattle.std.proofs.Common.{◌≡◌, ℕ, ◌+◌, List, [], ◌∷◌, ◌++◌, cond, subst, refl, ◌∙◌, arith, map, flat_map}
 use Rattle.std.specs.List.{count_by, sum_by}
 use Rattle.std.proofs.lemmas.List.Sums.{sum_by-cons, sum_by-append}
@@ -9,10 +10,10 @@ use Rattle.units.specs.declared.block.Block.{Block}
 use Rattle.units.specs.declared.block.RawBlock.{RawBlock}
 use Rattle.units.specs.declared.block.Unit.{Unit as Serial}
 use Rattle.status.specs.Content.{raws}
-use Rattle.accounts.specs.declared.lot.Line.{Line}
+use Rattle.accounts.specs.declared.unit_holding.HeldBlock.{HeldBlock}
 use Rattle.wire.specs.declared.message.Proposal.{Proposal}
 use Rattle.scheme.specs.Order.{all_blocks}
-use Rattle.scheme.specs.declared.members.Member.{Member}
+use Rattle.scheme.specs.declared.members.SchemeRegistry.{SchemeRegistry}
 use Rattle.scheme.specs.declared.registries.Scheme.{Scheme}
 use Rattle.protocol.specs.Claims.{at_registry, holders, live_of, owed}
 use Rattle.protocol.specs.History.{holds}
@@ -31,19 +32,19 @@ use Rattle.totals.specs.RegistryLines.{AreLines, registry_at}
 
 -- ---- the blocks of lines and of transfers
 
-abbrev line_blocks : List Line → List RawBlock
-line_blocks ls = map (λ (l : Line). l.block.raw) ls
+abbrev line_blocks : List HeldBlock → List RawBlock
+line_blocks ls = map (λ (l : HeldBlock). l.block.raw) ls
 
-abbrev held_blocks : List (List Line) → List RawBlock
+abbrev held_blocks : List (List HeldBlock) → List RawBlock
 held_blocks lines = flat_map line_blocks lines
 
 abbrev due_blocks : List Proposal → List RawBlock
 due_blocks ps = flat_map (λ (p : Proposal). p.content.units) ps
 
-held_sum : (lines : List (List Line)) → sum_by units_of (held_blocks lines) ≡ sum_by (λ ls. sum_by held_units ls) lines
+held_sum : (lines : List (List HeldBlock)) → sum_by units_of (held_blocks lines) ≡ sum_by (λ ls. sum_by held_units ls) lines
 held_sum lines =
     sum_flat units_of line_blocks lines
-    ∙ sum_same (λ (ls : List Line). sum_by units_of (line_blocks ls)) (λ (ls : List Line). sum_by held_units ls) lines (λ ls i. sum_map units_of (λ (l : Line). l.block.raw) ls)
+    ∙ sum_same (λ (ls : List HeldBlock). sum_by units_of (line_blocks ls)) (λ (ls : List HeldBlock). sum_by held_units ls) lines (λ ls i. sum_map units_of (λ (l : HeldBlock). l.block.raw) ls)
 
 due_sum : (ps : List Proposal) → sum_by units_of (due_blocks ps) ≡ sum_by due_units ps
 due_sum ps = sum_flat units_of (λ (p : Proposal). p.content.units) ps
@@ -57,26 +58,26 @@ module _ (s : Serial) where
   abbrev one : RawBlock → ℕ
   one b = cond (has_unit b s) 1 0
 
-  lines_count : (w : World) (ms : List Member) (lines : List (List Line)) → AreLines w ms lines
-      → sum_by (λ ls. count_by (λ (l : Line). has_unit l.block.raw s) ls) lines ≡ count_by (λ m. holds w.scheme m.code (at_registry (live_of w) m.code) s) ms
+  lines_count : (w : World) (ms : List SchemeRegistry) (lines : List (List HeldBlock)) → AreLines w ms lines
+      → sum_by (λ ls. count_by (λ (l : HeldBlock). has_unit l.block.raw s) ls) lines ≡ count_by (λ m. holds w.scheme m.code (at_registry (live_of w) m.code) s) ms
   lines_count w [] [] h = refl
   lines_count w [] (ls ∷ lss) h = absurd h
   lines_count w (m ∷ ms) [] h = absurd h
   lines_count w (m ∷ ms) (ls ∷ lss) h =
       let here = lines_hold (registry_at w m.code) ls h.0 s in
       let rest = lines_count w ms lss h.1 in
-      let a = sum_by-cons (λ (z : List Line). count_by (λ (l : Line). has_unit l.block.raw s) z) ls lss in
-      let b = sum_by-cons (λ (z : Member). cond {A = ℕ} (holds w.scheme z.code (at_registry (live_of w) z.code) s) 1 0) m ms in
+      let a = sum_by-cons (λ (z : List HeldBlock). count_by (λ (l : HeldBlock). has_unit l.block.raw s) z) ls lss in
+      let b = sum_by-cons (λ (z : SchemeRegistry). cond {A = ℕ} (holds w.scheme z.code (at_registry (live_of w) z.code) s) 1 0) m ms in
       omega arith
 
-  held_count : (scheme : Scheme) (events : List WorldEvent) (lines : List (List Line)) → AreLines (reached scheme events) scheme.members lines
+  held_count : (scheme : Scheme) (events : List WorldEvent) (lines : List (List HeldBlock)) → AreLines (reached scheme events) scheme.members lines
       → count_by (λ (b : RawBlock). has_unit b s) (held_blocks lines) ≡ holders scheme (live_of (reached scheme events)) s
   held_count scheme events lines are =
       let w = reached scheme events in
       sum_flat one line_blocks lines
-      ∙ sum_same (λ (ls : List Line). sum_by one (line_blocks ls)) (λ (ls : List Line). count_by (λ (l : Line). has_unit l.block.raw s) ls) lines (λ ls i. sum_map one (λ (l : Line). l.block.raw) ls)
+      ∙ sum_same (λ (ls : List HeldBlock). sum_by one (line_blocks ls)) (λ (ls : List HeldBlock). count_by (λ (l : HeldBlock). has_unit l.block.raw s) ls) lines (λ ls i. sum_map one (λ (l : HeldBlock). l.block.raw) ls)
       ∙ subst
-      (λ (z : Scheme). sum_by (λ ls. count_by (λ (l : Line). has_unit l.block.raw s) ls) lines ≡ count_by (λ (m : Member). holds z m.code (at_registry (live_of w) m.code) s) scheme.members)
+      (λ (z : Scheme). sum_by (λ ls. count_by (λ (l : HeldBlock). has_unit l.block.raw s) ls) lines ≡ count_by (λ (m : SchemeRegistry). holds z m.code (at_registry (live_of w) m.code) s) scheme.members)
       (reached_scheme scheme events) (lines_count w scheme.members lines are)
 
   due_count : (scheme : Scheme) (events : List WorldEvent)
@@ -88,12 +89,13 @@ module _ (s : Serial) where
 
 -- ---- the law
 
--- the transfers that are due and have a unit are as many as the completed transfers that owe it: the law `safety::debts_are_owed`
+-- the transfers that are due and have a unit are as many as the completed transfers that owe it: the law
+-- `safety::debts_are_owed`
 abbrev pub DebtsAreOwed : Type 0
 DebtsAreOwed =
     (scheme : Scheme) (events : List WorldEvent) (s : Serial) → count_by (λ p. have_unit p.content.units s) (due (run (opening scheme) events)) ≡ owed scheme (live_of (run (opening scheme) events)) s
 
-pub sums : DebtsAreOwed → (scheme : Scheme) (events : List WorldEvent) (lines : List (List Line)) → AreLines (run (opening scheme) events) scheme.members lines
+pub sums : DebtsAreOwed → (scheme : Scheme) (events : List WorldEvent) (lines : List (List HeldBlock)) → AreLines (run (opening scheme) events) scheme.members lines
     → sum_by (λ ls. sum_by held_units ls) lines + sum_by due_units (due (run (opening scheme) events)) ≡ allotted_units scheme
 sums debts scheme events lines are =
     let w = reached scheme events in

@@ -2,7 +2,7 @@
 use Rattle.std.specs.Prelude.{ℕ, ◌+◌, ◌-◌}
 use Rattle.std.specs.List.{sum_by}
 use Rattle.units.specs.declared.block.RawBlock.{RawBlock}
-use Rattle.accounts.specs.declared.lot.Line.{Line}
+use Rattle.accounts.specs.declared.unit_holding.HeldBlock.{HeldBlock}
 use Rattle.wire.specs.declared.message.Proposal.{Proposal}
 use Rattle.scheme.specs.Order.{all_blocks}
 use Rattle.scheme.specs.declared.registries.Scheme.{Scheme}
@@ -12,7 +12,7 @@ abbrev pub units_of : RawBlock → ℕ
 units_of b = (b.last + 1) - b.first
 
 -- of a line of holdings
-abbrev pub held_units : Line → ℕ
+abbrev pub held_units : HeldBlock → ℕ
 held_units l = units_of l.block.raw
 
 -- of a transfer, in all its blocks

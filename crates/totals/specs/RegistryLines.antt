@@ -2,8 +2,8 @@
 use Rattle.std.specs.Prelude.{List, [], ◌∷◌}
 use Rattle.units.specs.declared.code.Code.{Code}
 use Rattle.units.specs.declared.code.Node.TheVariants as nodes
-use Rattle.accounts.specs.declared.lot.Line.{Line}
-use Rattle.scheme.specs.declared.members.Member.{Member}
+use Rattle.accounts.specs.declared.unit_holding.HeldBlock.{HeldBlock}
+use Rattle.scheme.specs.declared.members.SchemeRegistry.{SchemeRegistry}
 use Rattle.protocol.specs.Claims.{whole}
 use Rattle.protocol.specs.World.{World, station}
 use Rattle.registry_core.specs.Registry.{Registry}
@@ -14,7 +14,7 @@ abbrev pub registry_at : World → Code → Registry
 registry_at w c = record { scheme = w.scheme; code = c; journal = whole (station w (nodes.Registry c)) }
 
 -- the lines of each of the registries, in their order
-abbrev pub AreLines : World → List Member → List (List Line) → Type 0
+abbrev pub AreLines : World → List SchemeRegistry → List (List HeldBlock) → Type 0
 AreLines w [] [] = Unit {0}
 AreLines w (m ∷ ms) (ls ∷ lss) = AreHoldings (registry_at w m.code) ls × AreLines w ms lss
 AreLines w _ _ = ⊥

@@ -24,7 +24,7 @@ kind_from a b e = same_true the_type (search rules) a b e
 pub kind_eq : (a b : Kind) → a ≡ b → ghosts.eq a b ≡ true
 kind_eq a b e = true_same the_type a b e
 
--- a mark that passes is there
+-- a label that passes is there
 pub passed : {M : Type 0} (passes : M → Bool) (o : Option M) → option_map passes o ≡ Some true → (m : M) × (o ≡ Some m) × (passes m ≡ true)
 passed passes None e = absurd cc
 passed passes (Some m) e = (m, refl, cc (e))
@@ -63,10 +63,10 @@ pub among : {X : Type 0} (P : X → Type 0) (xs : List X) → (k : ℕ) × (k < 
 among P [] h = absurd (omega (arith, h.1))
 among P (x ∷ xs) h = (get_or (x ∷ xs) h.0 x, (h.0, (h.1, get_or_default (x ∷ xs) h.0 x (get_or (x ∷ xs) h.0 x) h.1)), h.2 x)
 
--- what is given to the block of a unit, where that is no mark
-pub none_of : {M : Type 0} (blocks : List Block) (u : Serial) (mark : Option M) → option_map_or (λ (b : Block). None) (find (λ b. has_unit b.raw u) blocks) mark ≡ (if covers blocks u then None else mark)
-none_of [] u mark = refl
-none_of (b ∷ bs) u mark = elim (cases_Bool (has_unit b.raw u)) [
+-- what is given to the block of a unit, where that is no label
+pub none_of : {M : Type 0} (blocks : List Block) (u : Serial) (label : Option M) → option_map_or (λ (b : Block). None) (find (λ b. has_unit b.raw u) blocks) label ≡ (if covers blocks u then None else label)
+none_of [] u label = refl
+none_of (b ∷ bs) u label = elim (cases_Bool (has_unit b.raw u)) [
   | inl yes' ↦ rw yes' refl
-  | inr no' ↦ rw no' (none_of bs u mark)
+  | inr no' ↦ rw no' (none_of bs u label)
 ]

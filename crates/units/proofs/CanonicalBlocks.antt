@@ -40,7 +40,7 @@ not-joined b c h =
             origin = code_of_same b.raw.origin c.raw.origin x.0;
             period = period_of_same b.raw.period c.raw.period z.0;
             next = omega arith;
-            mark = kind_of_same b.raw.kind c.raw.kind v.0;
+            label = kind_of_same b.raw.kind c.raw.kind v.0;
           }))
       | inr n ↦ n
     ]

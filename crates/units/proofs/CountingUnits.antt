@@ -11,12 +11,12 @@ use Rattle.std.proofs.lemmas.List.Sums.{sum_by-cons, count_by-le-length}
 use Rattle.units.specs.Code.{same_code}
 use Rattle.units.specs.Facts.{IsRange}
 use Rattle.units.specs.Limits.{last_unit}
-use Rattle.units.specs.Intervals.{has, AreKept, numbered, Marks, put_units, size, marks_of}
+use Rattle.units.specs.Intervals.{has, AreKept, numbered, Labels, put_units, size, labels_of}
 use Rattle.units.specs.Keys.{unit_cmp}
 use Rattle.units.specs.Unit.{same_period}
 use Rattle.units.specs.declared.block.Unit.{Unit as Serial}
 use Rattle.units.specs.declared.interval.Interval.{Interval}
-use Rattle.units.proofs.Marks.{get-put_units, get-marks_of}
+use Rattle.units.proofs.Labels.{get-put_units, get-labels_of}
 use Rattle.units.proofs.UnitOrder.{index, index_rises, index_bound}
 use Rattle.units.proofs.Same.{same_code-refl, same_period-refl}
 use Rattle.units.proofs.UnitKeys.{units_total}
@@ -102,66 +102,66 @@ more true n a b c e f = omega arith
 more false n a b c e f = omega arith
 
 module _ {M : Type 0} where
-  abbrev passing : (M → Bool) → Marks M → ℕ
+  abbrev passing : (M → Bool) → Labels M → ℕ
   passing q m = count_by (λ e. q e.1) (entries m)
 
   abbrev pub weight : (M → Bool) → Interval M → ℕ
-  weight q i = cond (q i.mark) (size i) 0
+  weight q i = cond (q i.label) (size i) 0
 
   -- a number from the first to the last is the interval's
   has_numbered : (i : Interval M) (n : ℕ) → i.first ≤ n → n ≤ i.last → has i (numbered i n) ≡ true
   has_numbered i n f l = and_from _ _ (same_code-refl i.origin) (and_from _ _ (same_period-refl i.period) (and_from _ _ (le-leb i.first n f) (le-leb n i.last l)))
 
-  absent_put : (i : Interval M) (n : ℕ) (m : Marks M) → get m (numbered i (i.first + n)) ≡ None → get (put_units i n m) (numbered i (i.first + n)) ≡ None
+  absent_put : (i : Interval M) (n : ℕ) (m : Labels M) → get m (numbered i (i.first + n)) ≡ None → get (put_units i n m) (numbered i (i.first + n)) ≡ None
   absent_put i n m h =
       get-put_units i n m (numbered i (i.first + n))
-      ∙ ap (λ t. cond t (Some i.mark) (get m (numbered i (i.first + n)))) (behind (same_code i.origin i.origin) (same_period i.period i.period) (leb i.first (i.first + n)) (i.first + n) (i.first + n) (omega arith))
+      ∙ ap (λ t. cond t (Some i.label) (get m (numbered i (i.first + n)))) (behind (same_code i.origin i.origin) (same_period i.period i.period) (leb i.first (i.first + n)) (i.first + n) (i.first + n) (omega arith))
       ∙ h
 
-  abbrev Unmarked : Interval M → ℕ → Marks M → Type 0
-  Unmarked i n m = (k : ℕ) → k < n → get m (numbered i (i.first + k)) ≡ None
+  abbrev Unlabelled : Interval M → ℕ → Labels M → Type 0
+  Unlabelled i n m = (k : ℕ) → k < n → get m (numbered i (i.first + k)) ≡ None
 
   -- fresh units count each
-  passing_put : (q : M → Bool) (i : Interval M) (n : ℕ) (m : Marks M) → Unmarked i n m → passing q (put_units i n m) ≡ cond (q i.mark) n 0 + passing q m
+  passing_put : (q : M → Bool) (i : Interval M) (n : ℕ) (m : Labels M) → Unlabelled i n m → passing q (put_units i n m) ≡ cond (q i.label) n 0 + passing q m
   unfolding put_units
-  passing_put q i zero m fresh = none (q i.mark) (passing q m)
+  passing_put q i zero m fresh = none (q i.label) (passing q m)
   passing_put q i (suc n) m fresh =
       let before = put_units i n m in
       let u = numbered i (i.first + n) in
       let missed = sym (get-entries before u) ∙ absent_put i n m (fresh n (omega arith)) in
-      more (q i.mark) n _ _ _
-      (ap (count_by (λ e. q e.1)) (entries-insert units_total before u i.mark) ∙ count_put unit_cmp q u i.mark (entries before) missed)
+      more (q i.label) n _ _ _
+      (ap (count_by (λ e. q e.1)) (entries-insert units_total before u i.label) ∙ count_put unit_cmp q u i.label (entries before) missed)
       (passing_put q i n m (λ k h. fresh k (omega arith)))
 
-  pub passing_marks : (q : M → Bool) (is : List (Interval M)) → AreKept is → passing q (marks_of is) ≡ sum_by (weight q) is
-  unfolding marks_of
-  passing_marks q [] kept = ap (count_by (λ e. q e.1)) (no_entries unit_cmp M)
-  passing_marks q (i ∷ is) kept =
-      passing_put q i (size i) (marks_of is) (λ k h.
-      get-marks_of is (numbered i (i.first + k)) ∙ kept.1 (numbered i (i.first + k)) (has_numbered i (i.first + k) (omega arith) (omega (arith, kept.0))))
-      ∙ ap (λ n. weight q i + n) (passing_marks q is kept.2)
+  pub passing_labels : (q : M → Bool) (is : List (Interval M)) → AreKept is → passing q (labels_of is) ≡ sum_by (weight q) is
+  unfolding labels_of
+  passing_labels q [] kept = ap (count_by (λ e. q e.1)) (no_entries unit_cmp M)
+  passing_labels q (i ∷ is) kept =
+      passing_put q i (size i) (labels_of is) (λ k h.
+      get-labels_of is (numbered i (i.first + k)) ∙ kept.1 (numbered i (i.first + k)) (has_numbered i (i.first + k) (omega arith) (omega (arith, kept.0))))
+      ∙ ap (λ n. weight q i + n) (passing_labels q is kept.2)
       ∙ sym (sum_by-cons (weight q) i is)
 
-  small_put : (i : Interval M) (n : ℕ) (m : Marks M) → i.first + n ≤ last_unit + 1 → AllByRecursion (λ e. IsSmall e.0) (entries m) → AllByRecursion (λ e. IsSmall e.0) (entries (put_units i n m))
+  small_put : (i : Interval M) (n : ℕ) (m : Labels M) → i.first + n ≤ last_unit + 1 → AllByRecursion (λ e. IsSmall e.0) (entries m) → AllByRecursion (λ e. IsSmall e.0) (entries (put_units i n m))
   unfolding put_units
   small_put i zero m h all = all
   small_put i (suc n) m h all =
       let before = put_units i n m in
       let u = numbered i (i.first + n) in
-      subst (AllByRecursion (λ e. IsSmall e.0)) (sym (entries-insert units_total before u i.mark))
-      (all_put unit_cmp IsSmall u i.mark (entries before) (omega arith) (small_put i n m (omega arith) all))
+      subst (AllByRecursion (λ e. IsSmall e.0)) (sym (entries-insert units_total before u i.label))
+      (all_put unit_cmp IsSmall u i.label (entries before) (omega arith) (small_put i n m (omega arith) all))
 
-  small_marks : (is : List (Interval M)) → AreKept is → AllByRecursion (λ e. IsSmall e.0) (entries (marks_of is))
-  unfolding marks_of
-  small_marks [] kept = subst (AllByRecursion (λ e. IsSmall e.0)) (sym (no_entries unit_cmp M)) tt
-  small_marks (i ∷ is) kept = small_put i (size i) (marks_of is) (omega (arith, kept.0)) (small_marks is kept.2)
+  small_labels : (is : List (Interval M)) → AreKept is → AllByRecursion (λ e. IsSmall e.0) (entries (labels_of is))
+  unfolding labels_of
+  small_labels [] kept = subst (AllByRecursion (λ e. IsSmall e.0)) (sym (no_entries unit_cmp M)) tt
+  small_labels (i ∷ is) kept = small_put i (size i) (labels_of is) (omega (arith, kept.0)) (small_labels is kept.2)
 
   -- all sizes together stay far below what a number can say
   pub sizes_bound : (is : List (Interval M)) → AreKept is → sum_by size is ≤ 2 ^ 63
   sizes_bound is kept =
-      let count = passing_marks (λ m. true) is kept in
-      let within = count_by-le-length (λ (e : Serial × M). true) (entries (marks_of is)) in
-      let short = few (entries (marks_of is)) (entries_sorted (marks_of is)) (small_marks is kept) in
+      let count = passing_labels (λ m. true) is kept in
+      let within = count_by-le-length (λ (e : Serial × M). true) (entries (labels_of is)) in
+      let short = few (entries (labels_of is)) (entries_sorted (labels_of is)) (small_labels is kept) in
       omega arith
 
   kept_range : (is : List (Interval M)) (k : ℕ) (d : Interval M) → AreKept is → k < length is → IsRange (get_or is k d).first (get_or is k d).last

@@ -3,7 +3,7 @@ pub mod Numbers
 pub mod Blocks
 pub mod Same
 pub mod UnitKeys
-pub mod Marks
+pub mod Labels
 pub mod Cutting
 pub mod Walking
 pub mod BlockLists
@@ -19,7 +19,7 @@ pub mod SpanWalks
 pub mod SpanFills
 pub mod SpanReads
 pub mod SpanBlocks
-pub mod MarkTests
+pub mod LabelTests
 pub mod SpanMaps
 pub mod CountingUnits
 pub mod OrderingJoins

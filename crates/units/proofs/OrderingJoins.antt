@@ -6,7 +6,7 @@ use Rattle.units.specs.Canonical.{GoesOn, IsBefore, AreCanonical}
 use Rattle.units.specs.Code.{same_code}
 use Rattle.units.specs.Facts.{IsRange}
 use Rattle.units.specs.Following.{joined, IsOnto, is_next}
-use Rattle.units.specs.Intervals.{has, mark_at, AreKept, numbered}
+use Rattle.units.specs.Intervals.{has, label_at, AreKept, numbered}
 use Rattle.units.specs.Keys.{unit_cmp}
 use Rattle.units.specs.Unit.{same_period}
 use Rattle.units.specs.declared.block.Unit.{Unit as Serial}
@@ -60,14 +60,14 @@ module _ {M : Type 0} where
     pub first : IsRange a.first a.last
     pub second : IsRange n.first n.last
 
-  mark_two : (a n : Interval M) (is : List (Interval M)) (u : Serial) → Meet a n → mark_at (joined a n ∷ is) u ≡ mark_at (a ∷ n ∷ is) u
-  mark_two a n is u m =
-      two_ranges (same_code a.origin u.origin) (same_period a.period u.period) a.first a.last n.first n.last u.number (Some a.mark) (mark_at is u) m.first.1 m.on.next m.second.1
-      ∙ (λ i. cond (has a u) (Some a.mark) (cond (same_code (m.on.origin i) u.origin && (same_period (m.on.period i) u.period && (leb n.first u.number && leb u.number n.last))) (Some (m.on.mark i)) (mark_at is u)))
+  label_two : (a n : Interval M) (is : List (Interval M)) (u : Serial) → Meet a n → label_at (joined a n ∷ is) u ≡ label_at (a ∷ n ∷ is) u
+  label_two a n is u m =
+      two_ranges (same_code a.origin u.origin) (same_period a.period u.period) a.first a.last n.first n.last u.number (Some a.label) (label_at is u) m.first.1 m.on.next m.second.1
+      ∙ (λ i. cond (has a u) (Some a.label) (cond (same_code (m.on.origin i) u.origin && (same_period (m.on.period i) u.period && (leb n.first u.number && leb u.number n.last))) (Some (m.on.label i)) (label_at is u)))
 
-  pub mark_join : (front : List (Interval M)) (a n : Interval M) (is : List (Interval M)) (u : Serial) → Meet a n → mark_at (front ++ joined a n ∷ is) u ≡ mark_at (front ++ a ∷ n ∷ is) u
-  mark_join [] a n is u m = mark_two a n is u m
-  mark_join (i ∷ front) a n is u m = ap (cond (has i u) (Some i.mark)) (mark_join front a n is u m)
+  pub label_join : (front : List (Interval M)) (a n : Interval M) (is : List (Interval M)) (u : Serial) → Meet a n → label_at (front ++ joined a n ∷ is) u ≡ label_at (front ++ a ∷ n ∷ is) u
+  label_join [] a n is u m = label_two a n is u m
+  label_join (i ∷ front) a n is u m = ap (cond (has i u) (Some i.label)) (label_join front a n is u m)
 
   -- both of two that stand in a list
   pub meet_in : (front : List (Interval M)) (a n : Interval M) (is : List (Interval M)) → GoesOn a n → AreKept (front ++ a ∷ n ∷ is) → Meet a n
@@ -90,15 +90,15 @@ module _ {M : Type 0} where
       let l = m.second in
       ((omega arith, omega arith, omega arith), fresh, kept.2.2)
     where
-      fresh : (u : Serial) → has (joined a n) u ≡ true → mark_at is u ≡ None
+      fresh : (u : Serial) → has (joined a n) u ≡ true → label_at is u ≡ None
       fresh u h = elim (one_of (has (joined a n) u) (has a u) (has n u) (has_two a n u m) h) [
-        | inl first ↦ none_rest (has n u) n.mark (mark_at is u) (kept.1 u first)
+        | inl first ↦ none_rest (has n u) n.label (label_at is u) (kept.1 u first)
         | inr second ↦ kept.2.1 u second
       ]
 
   pub kept_join : (front : List (Interval M)) (a n : Interval M) (is : List (Interval M)) → Meet a n → AreKept (front ++ a ∷ n ∷ is) → AreKept (front ++ joined a n ∷ is)
   kept_join [] a n is m kept = kept_two a n is m kept
-  kept_join (i ∷ front) a n is m kept = (kept.0, (λ u h. mark_join front a n is u m ∙ kept.1 u h), kept_join front a n is m kept.2)
+  kept_join (i ∷ front) a n is m kept = (kept.0, (λ u h. label_join front a n is u m ∙ kept.1 u h), kept_join front a n is m kept.2)
 
 -- ---- the order
 
@@ -111,8 +111,8 @@ module _ {M : Type 0} (group : M → ℕ) where
 
   before_end : (a n b : Interval M) → GoesOn a n → IsBefore group n b → IsBefore group (joined a n) b
   before_end a n b on h = elim h [
-    | inl lower ↦ inl (subst (λ m. group m < group b.mark) (sym on.mark) lower)
-    | inr same ↦ inr (ap group on.mark ∙ same.0, (λ i. unit_cmp (record { origin = on.origin i; period = on.period i; number = n.last }) (numbered b b.first)) ∙ same.1)
+    | inl lower ↦ inl (subst (λ m. group m < group b.label) (sym on.label) lower)
+    | inr same ↦ inr (ap group on.label ∙ same.0, (λ i. unit_cmp (record { origin = on.origin i; period = on.period i; number = n.last }) (numbered b b.first)) ∙ same.1)
   ]
 
   ordered_rest : (a n : Interval M) (is : List (Interval M)) → GoesOn a n → AreOrdered (n ∷ is) → AreOrdered (joined a n ∷ is)
@@ -125,7 +125,7 @@ module _ {M : Type 0} (group : M → ℕ) where
   ordered_join (i ∷ j ∷ front) a n is on h = (h.0, ordered_join (j ∷ front) a n is on h.1)
 
   goes_to : (i a n : Interval M) → GoesOn i (joined a n) → GoesOn i a
-  goes_to i a n on = record { origin = on.origin; period = on.period; next = on.next; mark = on.mark }
+  goes_to i a n on = record { origin = on.origin; period = on.period; next = on.next; label = on.label }
 
   pub canonical_join : (front : List (Interval M)) (a n : Interval M) → AreCanonical group (front ++ a ∷ []) → AreCanonical group (front ++ joined a n ∷ [])
   canonical_join [] a n h = tt
@@ -145,7 +145,7 @@ module _ {M : Type 0} (group : M → ℕ) where
     pub canonical : AreCanonical group js
     pub ordered : AreOrdered (js ++ is)
     pub kept : AreKept (js ++ is)
-    pub same : (u : Serial) → mark_at (js ++ is) u ≡ mark_at all u
+    pub same : (u : Serial) → label_at (js ++ is) u ≡ label_at all u
 
   joins_on : (all front is : List (Interval M)) (a n : Interval M) → GoesOn a n → Joins all (front ++ a ∷ []) (n ∷ is) → Joins all (front ++ joined a n ∷ []) is
   joins_on all front is a n on h =
@@ -158,7 +158,7 @@ module _ {M : Type 0} (group : M → ℕ) where
         canonical = canonical_join front a n h.canonical;
         ordered = subst AreOrdered (sym out) (ordered_join front a n is on ordered);
         kept = subst AreKept (sym out) (kept_join front a n is meet kept);
-        same = λ u. ap (λ xs. mark_at xs u) out ∙ mark_join front a n is u meet ∙ ap (λ xs. mark_at xs u) (sym before) ∙ h.same u;
+        same = λ u. ap (λ xs. label_at xs u) out ∙ label_join front a n is u meet ∙ ap (λ xs. label_at xs u) (sym before) ∙ h.same u;
       }
 
   joins_push : (all js is : List (Interval M)) (n : Interval M) → ((front : List (Interval M)) (a : Interval M) → js ≡ front ++ a ∷ [] → GoesOn a n → ⊥) → Joins all js (n ∷ is) → Joins all (js ++ n ∷ []) is
@@ -168,7 +168,7 @@ module _ {M : Type 0} (group : M → ℕ) where
         canonical = canonical_push js n is h.canonical h.ordered never;
         ordered = subst AreOrdered (sym out) h.ordered;
         kept = subst AreKept (sym out) h.kept;
-        same = λ u. ap (λ xs. mark_at xs u) out ∙ h.same u;
+        same = λ u. ap (λ xs. label_at xs u) out ∙ h.same u;
       }
 
   pub joins_more : (all js ks is : List (Interval M)) (n : Interval M) → IsOnto js n ks → Joins all js (n ∷ is) → Joins all ks is

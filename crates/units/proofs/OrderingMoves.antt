@@ -14,7 +14,7 @@ use Rattle.std.proofs.lemmas.List.Sums.{sum_by-cons, get_or-le-sum_by}
 use Rattle.units.specs.Canonical.{IsBefore}
 use Rattle.units.specs.Facts.{IsRange}
 use Rattle.units.specs.Following.{IsOnto}
-use Rattle.units.specs.Intervals.{has, mark_at, AreKept, numbered}
+use Rattle.units.specs.Intervals.{has, label_at, AreKept, numbered}
 use Rattle.units.specs.Keys.{unit_cmp}
 use Rattle.units.specs.declared.block.Unit.{Unit as Serial}
 use Rattle.units.specs.declared.interval.Interval.{Interval}
@@ -40,24 +40,24 @@ module _ {M : Type 0} where
   holds_cons : (u : Serial) (i : Interval M) (is : List (Interval M)) → holds u (i ∷ is) ≡ one u i + holds u is
   holds_cons u i is = sum_by-cons (one u) i is
 
-  unmarked : (is : List (Interval M)) (u : Serial) → holds u is ≡ 0 → mark_at is u ≡ None
-  unmarked [] u h = refl
-  unmarked (i ∷ is) u h =
+  unlabelled : (is : List (Interval M)) (u : Serial) → holds u is ≡ 0 → label_at is u ≡ None
+  unlabelled [] u h = refl
+  unlabelled (i ∷ is) u h =
       let both = holds_cons u i is in
       elim (cases_Bool (has i u)) [
         | inl yes' ↦ let here = yes_one (has i u) yes' in absurd (omega arith)
-        | inr no' ↦ ap (λ t. cond t (Some i.mark) (mark_at is u)) no' ∙ unmarked is u (omega arith)
+        | inr no' ↦ ap (λ t. cond t (Some i.label) (label_at is u)) no' ∙ unlabelled is u (omega arith)
       ]
 
-  none_held : (is : List (Interval M)) (u : Serial) → mark_at is u ≡ None → holds u is ≡ 0
+  none_held : (is : List (Interval M)) (u : Serial) → label_at is u ≡ None → holds u is ≡ 0
   none_held [] u h = refl
   none_held (i ∷ is) u h =
       let both = holds_cons u i is in
       elim (cases_Bool (has i u)) [
-        | inl yes' ↦ let found : Some i.mark ≡ None = sym (ap (λ t. cond t (Some i.mark) (mark_at is u)) yes') ∙ h in cc
+        | inl yes' ↦ let found : Some i.label ≡ None = sym (ap (λ t. cond t (Some i.label) (label_at is u)) yes') ∙ h in cc
         | inr no' ↦
             let here = no_one (has i u) no' in
-            let later = none_held is u (sym (ap (λ t. cond t (Some i.mark) (mark_at is u)) no') ∙ h) in
+            let later = none_held is u (sym (ap (λ t. cond t (Some i.label) (label_at is u)) no') ∙ h) in
             omega arith
       ]
 
@@ -92,7 +92,7 @@ module _ {M : Type 0} where
         let both = holds_cons u i is in
         let here = yes_one (has i u) yes' in
         let most = once u in
-        unmarked is u (omega arith)),
+        unlabelled is u (omega arith)),
     kept_from is all.1 (λ u. let both = holds_cons u i is in let most = once u in omega arith),
   )
 
@@ -101,16 +101,16 @@ module _ {M : Type 0} where
       kept_from js (recursion_from_All InRange js (All-permutation InRange is js moves (All-from_recursion InRange is (ranges is kept))))
       (λ u. let same = sum_by-IsPermutation (one u) is js moves in let most = at_most_one is kept u in omega arith)
 
-  -- the mark of a unit is that of an interval that has it
+  -- the label of a unit is that of an interval that has it
   abbrev Found : List (Interval M) → Serial → Type 0
-  Found is u = (i : Interval M) × Contains is i × (has i u ≡ true) × (mark_at is u ≡ Some i.mark)
+  Found is u = (i : Interval M) × Contains is i × (has i u ≡ true) × (label_at is u ≡ Some i.label)
 
-  found : (is : List (Interval M)) (u : Serial) → (mark_at is u ≡ None) ⊎ Found is u
+  found : (is : List (Interval M)) (u : Serial) → (label_at is u ≡ None) ⊎ Found is u
   found [] u = inl refl
   found (i ∷ is) u = elim (cases_Bool (has i u)) [
-    | inl yes' ↦ inr (i, (zero, omega arith, refl), yes', ap (λ t. cond t (Some i.mark) (mark_at is u)) yes')
+    | inl yes' ↦ inr (i, (zero, omega arith, refl), yes', ap (λ t. cond t (Some i.label) (label_at is u)) yes')
     | inr no' ↦
-        let skip = ap (λ t. cond t (Some i.mark) (mark_at is u)) no' in
+        let skip = ap (λ t. cond t (Some i.label) (label_at is u)) no' in
         elim (found is u) [
           | inl none ↦ inl (skip ∙ none)
           | inr f ↦ inr (f.0, (suc f.1.0, omega (arith, f.1.1), f.1.2), f.2, skip ∙ f.3)
@@ -123,28 +123,28 @@ module _ {M : Type 0} where
       let here = ap (one u) e ∙ yes_one (has i u) yes' in
       omega arith
 
-  -- where units are held once at most, an interval gives its units its mark
-  mark_held : (is : List (Interval M)) (u : Serial) (k : ℕ) (i : Interval M) → k < length is → get_or is k i ≡ i → has i u ≡ true → holds u is ≤ 1 → mark_at is u ≡ Some i.mark
-  mark_held [] u k i h e yes' most = absurd (omega arith)
-  mark_held (j ∷ is) u zero i h e yes' most =
-      ap (λ t. cond t (Some j.mark) (mark_at is u)) (ap (λ x. has x u) e ∙ yes') ∙ ap (λ (x : Interval M). Some x.mark) e
-  mark_held (j ∷ is) u (suc k) i h e yes' most =
+  -- where units are held once at most, an interval gives its units its label
+  label_held : (is : List (Interval M)) (u : Serial) (k : ℕ) (i : Interval M) → k < length is → get_or is k i ≡ i → has i u ≡ true → holds u is ≤ 1 → label_at is u ≡ Some i.label
+  label_held [] u k i h e yes' most = absurd (omega arith)
+  label_held (j ∷ is) u zero i h e yes' most =
+      ap (λ t. cond t (Some j.label) (label_at is u)) (ap (λ x. has x u) e ∙ yes') ∙ ap (λ (x : Interval M). Some x.label) e
+  label_held (j ∷ is) u (suc k) i h e yes' most =
       let both = holds_cons u j is in
       let least = held is u k i (omega arith) e yes' in
       elim (cases_Bool (has j u)) [
         | inl twice ↦ let here = yes_one (has j u) twice in absurd (omega arith)
-        | inr no' ↦ ap (λ t. cond t (Some j.mark) (mark_at is u)) no' ∙ mark_held is u k i (omega arith) e yes' (omega arith)
+        | inr no' ↦ ap (λ t. cond t (Some j.label) (label_at is u)) no' ∙ label_held is u k i (omega arith) e yes' (omega arith)
       ]
 
-  pub same_moved : (is js : List (Interval M)) → IsPermutation is js → AreKept is → (u : Serial) → mark_at js u ≡ mark_at is u
+  pub same_moved : (is js : List (Interval M)) → IsPermutation is js → AreKept is → (u : Serial) → label_at js u ≡ label_at is u
   same_moved is js moves kept u =
       let same = sum_by-IsPermutation (one u) is js moves in
       elim (found is u) [
-        | inl none ↦ let zero' = none_held is u none in unmarked js u (omega arith) ∙ sym none
+        | inl none ↦ let zero' = none_held is u none in unlabelled js u (omega arith) ∙ sym none
         | inr f ↦
             let at = Contains-permutation is js f.0 moves f.1 in
             let most = at_most_one is kept u in
-            mark_held js u at.0 f.0 at.1 at.2 f.2 (omega arith) ∙ sym f.3
+            label_held js u at.0 f.0 at.1 at.2 f.2 (omega arith) ∙ sym f.3
       ]
 
 -- ---- sorted intervals
@@ -152,7 +152,7 @@ module _ {M : Type 0} where
 module _ {M : Type 0} (group : M → ℕ) where
   -- what they are sorted by
   abbrev pub key : Interval M → ℕ × Serial
-  key i = (group i.mark, numbered i i.first)
+  key i = (group i.label, numbered i i.first)
 
   abbrev pub key_cmp : ℕ × Serial → ℕ × Serial → Ordering
   key_cmp x y = ordering_then (nat_cmp x.0 y.0) (unit_cmp x.1 y.1)
@@ -169,15 +169,15 @@ module _ {M : Type 0} (group : M → ℕ) where
             let u = numbered b b.first in
             let mine : has a u ≡ true = and_from _ _ line.0 (and_from _ _ line.1 (and_from _ _ (le-leb a.first b.first (omega arith)) (le-leb b.first a.last (omega arith)))) in
             let own : has b u ≡ true = and_from _ _ (same_code-refl b.origin) (and_from _ _ (same_period-refl b.period) (and_from _ _ (le-leb b.first b.first (omega arith)) (le-leb b.first b.last (omega arith)))) in
-            let marked : Some b.mark ≡ None = sym (ap (λ t. cond t (Some b.mark) (mark_at is u)) own) ∙ kept.1 u mine in
+            let labelled : Some b.label ≡ None = sym (ap (λ t. cond t (Some b.label) (label_at is u)) own) ∙ kept.1 u mine in
             cc
       ])
 
   before : (a b : Interval M) (is : List (Interval M)) → AreKept (a ∷ b ∷ is) → is_lt (key_cmp (key b) (key a)) ≡ false → IsBefore group a b
-  before a b is kept sorted = elim (nat_cmp (group b.mark) (group a.mark)) as (λ r. r ≡ nat_cmp (group b.mark) (group a.mark) → is_lt (ordering_then r (unit_cmp (numbered b b.first) (numbered a a.first))) ≡ false → IsBefore group a b) [
+  before a b is kept sorted = elim (nat_cmp (group b.label) (group a.label)) as (λ r. r ≡ nat_cmp (group b.label) (group a.label) → is_lt (ordering_then r (unit_cmp (numbered b b.first) (numbered a a.first))) ≡ false → IsBefore group a b) [
     | Less ↦ λ h e. absurd (true≢false e)
-    | Equal ↦ λ h e. inr (sym (ranked (group b.mark) (group a.mark) Equal h), ends_before a b is kept e)
-    | Greater ↦ λ h e. inl (ranked (group b.mark) (group a.mark) Greater h)
+    | Equal ↦ λ h e. inr (sym (ranked (group b.label) (group a.label) Equal h), ends_before a b is kept e)
+    | Greater ↦ λ h e. inl (ranked (group b.label) (group a.label) Greater h)
   ] refl sorted
 
   pub ordered_from_sorted : (is : List (Interval M)) → AreKept is → IsSortedByKey key key_cmp is → AreOrdered group is
@@ -197,9 +197,9 @@ module _ {M : Type 0} (group : M → ℕ) where
       let start : Joins group moved [] moved = record { canonical = tt; ordered = ordered_from_sorted moved held sorted; kept = held; same = λ u. refl } in
       subst (λ xs. Joins group all xs all) (sym none) (subst (λ xs. Joins group xs [] xs) (sym named) start)
 
-  pub same_sorted : (is copied moved all : List (Interval M)) → copied ≡ is → IsPermutation copied moved → all ≡ moved → AreKept is → (u : Serial) → mark_at all u ≡ mark_at is u
+  pub same_sorted : (is copied moved all : List (Interval M)) → copied ≡ is → IsPermutation copied moved → all ≡ moved → AreKept is → (u : Serial) → label_at all u ≡ label_at is u
   same_sorted is copied moved all same moves named kept u =
-      ap (λ xs. mark_at xs u) named ∙ same_moved copied moved moves (subst AreKept (sym same) kept) u ∙ ap (λ xs. mark_at xs u) same
+      ap (λ xs. label_at xs u) named ∙ same_moved copied moved moves (subst AreKept (sym same) kept) u ∙ ap (λ xs. label_at xs u) same
 
   -- ---- one step of the walk
 

@@ -8,14 +8,14 @@ use Rattle.std.proofs.lemmas.List.{take_more}
 use Rattle.std.proofs.lemmas.List.Folds.{list_any-append}
 use Rattle.units.specs.Keys.{unit_cmp, first_unit, unit_numbered}
 use Rattle.units.specs.SpanSteps.{AreJoinedIn, AreChangedIn}
-use Rattle.units.specs.Spans.{AreParted, Mean, IsSeam, IsChanged, is_between, end_unit, reaches, reached, remarked, respanned}
+use Rattle.units.specs.Spans.{AreParted, Mean, IsSeam, IsChanged, is_between, end_unit, reaches, reached, relabelled, respanned}
 use Rattle.units.specs.Unit.{has_unit, covers}
 use Rattle.units.specs.declared.block.Block.{Block}
 use Rattle.units.specs.declared.block.Unit.{Unit as Serial}
 use Rattle.units.specs.declared.unit_map.Span.{Span}
 use Rattle.units.proofs.SpanFills.{in_between, between_block}
 use Rattle.units.proofs.SpanPuts.{none_held, some_same}
-use Rattle.units.proofs.SpanWalks.{up_self, remarked_last}
+use Rattle.units.proofs.SpanWalks.{up_self, relabelled_last}
 
 -- a test of one block more
 more_any : (p : Block → Bool) (blocks : List Block) (i : ℕ) (b : Block) → i < length blocks → b ≡ get_or blocks i b → list_any p (take (i + 1) blocks) ≡ (list_any p (take i blocks) || p b)
@@ -52,41 +52,41 @@ module _ {M : Type 0} where
 
   pub changed_gives : (R : M → Option M → Type 0) (after : M → Option M) → ((m : M) (r : Option M) → R m r → r ≡ after m) → (o n : Option (Span M)) → IsChanged R o n → n ≡ respanned after o
   changed_gives R after gives None n changed = changed
-  changed_gives R after gives (Some s) n changed = changed.2 ∙ ap (remarked s) (gives s.mark changed.0 changed.1)
+  changed_gives R after gives (Some s) n changed = changed.2 ∙ ap (relabelled s) (gives s.label changed.0 changed.1)
 
-  pub changed_same : (R : M → Option M → Type 0) (s : Span M) (o n : Option (Span M)) → IsChanged R o n → o ≡ Some s → ((r : Option M) → R s.mark r → r ≡ Some s.mark) → n ≡ Some s
+  pub changed_same : (R : M → Option M → Type 0) (s : Span M) (o n : Option (Span M)) → IsChanged R o n → o ≡ Some s → ((r : Option M) → R s.label r → r ≡ Some s.label) → n ≡ Some s
   changed_same R s None n changed e only = absurd (none_held s e)
   changed_same R s (Some t) n changed e only =
       let same : s ≡ t = sym (some_same t s e) in
-      let kept : (x : Span M) → s ≡ x → (r : Option M) → R x.mark r → n ≡ remarked x r → n ≡ Some s = λ x is r h f. f ∙ sym (λ i. remarked (is i) r) ∙ ap (remarked s) (only r (subst (λ (y : Span M). R y.mark r) (sym is) h)) in
+      let kept : (x : Span M) → s ≡ x → (r : Option M) → R x.label r → n ≡ relabelled x r → n ≡ Some s = λ x is r h f. f ∙ sym (λ i. relabelled (is i) r) ∙ ap (relabelled s) (only r (subst (λ (y : Span M). R y.label r) (sym is) h)) in
       kept t same changed.0 changed.1 changed.2
 
   pub changed_shape : (R : M → Option M → Type 0) (t : Span M) (o n : Option (Span M)) → IsChanged R o n → n ≡ Some t → (s : Span M) × (o ≡ Some s) × (s.last ≡ t.last)
   changed_shape R t None n changed e = absurd (none_held t (sym changed ∙ e))
-  changed_shape R t (Some s) n changed e = (s, refl, remarked_last s t changed.0 (sym changed.2 ∙ e))
+  changed_shape R t (Some s) n changed e = (s, refl, relabelled_last s t changed.0 (sym changed.2 ∙ e))
 
-  fewer_one : (s t : Span M) (r : Option M) → remarked s r ≡ Some t → ((m : M) → r ≡ Some m → m ≡ s.mark) → Some s ≡ Some t
+  fewer_one : (s t : Span M) (r : Option M) → relabelled s r ≡ Some t → ((m : M) → r ≡ Some m → m ≡ s.label) → Some s ≡ Some t
   fewer_one s t None e only = absurd (none_held t e)
   fewer_one s t (Some m) e only =
-      let mark = only m refl in
-      let is : record { last = s.last; mark = m } ≡ t = some_same (record { last = s.last; mark = m }) t e in
-      ap Some ((λ i. record { last = s.last; mark = sym mark i }) ∙ is)
+      let label = only m refl in
+      let is : record { last = s.last; label = m } ≡ t = some_same (record { last = s.last; label = m }) t e in
+      ap Some ((λ i. record { last = s.last; label = sym label i }) ∙ is)
 
   pub changed_fewer : (R : M → Option M → Type 0) → ((m r : M) → R m (Some r) → r ≡ m) → (t : Span M) (o n : Option (Span M)) → IsChanged R o n → n ≡ Some t → o ≡ Some t
   changed_fewer R only t None n changed e = absurd (none_held t (sym changed ∙ e))
-  changed_fewer R only t (Some s) n changed e = fewer_one s t changed.0 (sym changed.2 ∙ e) (λ m is. only s.mark m (subst (R s.mark) is changed.1))
+  changed_fewer R only t (Some s) n changed e = fewer_one s t changed.0 (sym changed.2 ∙ e) (λ m is. only s.label m (subst (R s.label) is changed.1))
 
   twice : (after : M → Option M) → ((m : M) → option_and_then after (after m) ≡ after m) → (o : Option (Span M)) → respanned after (respanned after o) ≡ respanned after o
   twice after again None = refl
-  twice after again (Some s) = by_mark (after s.mark) refl
+  twice after again (Some s) = by_label (after s.label) refl
     where
-      by_mark : (r : Option M) → after s.mark ≡ r → respanned after (remarked s (after s.mark)) ≡ remarked s (after s.mark)
-      by_mark None e = rw e refl
-      by_mark (Some m) e =
-          let same : after m ≡ Some m = subst (λ r. option_and_then after r ≡ r) e (again s.mark) in
-          rw e (ap (remarked s) same)
+      by_label : (r : Option M) → after s.label ≡ r → respanned after (relabelled s (after s.label)) ≡ relabelled s (after s.label)
+      by_label None e = rw e refl
+      by_label (Some m) e =
+          let same : after m ≡ Some m = subst (λ r. option_and_then after r ≡ r) e (again s.label) in
+          rw e (ap (relabelled s) same)
 
-  -- ---- other marks, block by block
+  -- ---- other labels, block by block
 
   pub change_more : (R : M → Option M → Type 0) (blocks : List Block) (i : ℕ) (b : Block) (old now new : BTreeMap Serial (Span M)) (from to : Serial) → i < length blocks → b ≡ get_or blocks i b → from ≡ first_unit b.raw → to ≡ unit_numbered b.raw b.raw.last
       → AreChangedIn R (take i blocks) old now → AreParted (get unit_cmp new) → IsOrdered unit_cmp new

@@ -28,9 +28,9 @@ module _ {M : Type 0} where
     given = λ u m e. mean.given u m (sym (same u) ∙ e);
   }
 
-  -- a unit that no span has bears no mark
-  pub unmarked : (held : Held M) (f : Serial → Option M) (v : Serial) → Mean held f → ((k : Serial) (s : Span M) → held k ≡ Some s → has (interval_at k s) v ≡ false) → f v ≡ None
-  unmarked held f v mean none = by_cases (f v) refl
+  -- a unit that no span has bears no label
+  pub unlabelled : (held : Held M) (f : Serial → Option M) (v : Serial) → Mean held f → ((k : Serial) (s : Span M) → held k ≡ Some s → has (interval_at k s) v ≡ false) → f v ≡ None
+  unlabelled held f v mean none = by_cases (f v) refl
     where
       by_cases : (o : Option M) → f v ≡ o → o ≡ None
       by_cases None e = refl
@@ -57,7 +57,7 @@ module _ {M : Type 0} where
   pub begun_at_key : (v : Serial) (given : Option M) (s : Span M) (held : Held M) → AreParted held → held v ≡ Some s → has (interval_at v s) v ≡ true → IsBegun v given held held
   begun_at_key v given s held parted e h = record {
     parted = parted;
-    means = λ f mean. mean_same held f (begun v given f) (begun_there v given f s.mark (mean.gives v v s e h)) mean;
+    means = λ f mean. mean_same held f (begun v given f) (begun_there v given f s.label (mean.gives v v s e h)) mean;
     cut = λ k t g c. one_span held parted k v v t s g e c h;
     cuts = λ q c. c;
     key = λ some. subst (λ (o : Option (Span M)). IsSome o) (sym e) refl;
@@ -79,7 +79,7 @@ module _ {M : Type 0} where
   -- ---- a unit put in
 
   abbrev pub alone : Serial → M → Span M
-  alone v m = record { last = v.number; mark = m }
+  alone v m = record { last = v.number; label = m }
 
   in_alone : (v : Serial) (m : M) (u : Serial) → has (interval_at v (alone v m)) u ≡ true → v ≡ u
   in_alone v m u h = let i = in_true v (alone v m) u h in same_unit v u i.line (omega arith)
@@ -102,12 +102,12 @@ module _ {M : Type 0} where
               (λ z w other' j c. parted.apart x z y w i j c) l t f g) k s e h;
         };
         means = λ f mean.
-            let bare = unmarked old f v mean none in
+            let bare = unlabelled old f v mean none in
             let here : begun v (Some m) f v ≡ Some m = rw (at_self v, bare) refl in
             let there = λ (u : Serial) (other : v ≡ u → ⊥). ap (λ t. cond t (option_or (f u) (Some m)) (f u)) (at_false_from v u other) in
             record {
               gives = λ k u s e h.
-                  each_put (λ x y. has (interval_at x y) u ≡ true → begun v (Some m) f u ≡ Some y.mark) v (alone v m) old new puts
+                  each_put (λ x y. has (interval_at x y) u ≡ true → begun v (Some m) f u ≡ Some y.label) v (alone v m) old new puts
                   (λ g. ap (begun v (Some m) f) (sym (in_alone v m u g)) ∙ here)
                   (λ x y other i g. there u (λ same. outside x y i (ap (has (interval_at x y)) same ∙ g)) ∙ mean.gives x u y i g) k s e h;
               given = λ u n e. elim (one_unit v u) [

@@ -10,7 +10,7 @@ use Rattle.units.specs.Facts.{IsRange}
 use Rattle.units.specs.Intervals.{has}
 use Rattle.units.specs.Keys.{unit_cmp, first_unit, unit_numbered}
 use Rattle.units.specs.SpanSteps.{IsBegun, IsPrepared, AreSetIn, set_to}
-use Rattle.units.specs.Spans.{interval_at, AreParted, Mean, IsSeam, IsCutAt, IsChanged, Puts, filled, begun, after_unit, end_unit, is_between, reaches, reached, remarked}
+use Rattle.units.specs.Spans.{interval_at, AreParted, Mean, IsSeam, IsCutAt, IsChanged, Puts, filled, begun, after_unit, end_unit, is_between, reaches, reached, relabelled}
 use Rattle.units.specs.Unit.{has_unit, covers}
 use Rattle.units.specs.declared.block.Block.{Block}
 use Rattle.units.specs.declared.block.RawBlock.{RawBlock}
@@ -81,7 +81,7 @@ behind_first b q h other =
 
 module _ {M : Type 0} where
   abbrev pub block_span : RawBlock → M → Span M
-  block_span b m = record { last = b.last; mark = m }
+  block_span b m = record { last = b.last; label = m }
 
   -- ---- what the map of spans says after it was filled
 
@@ -94,15 +94,15 @@ module _ {M : Type 0} where
       → (q : Serial) (t : Span M) → filled b given held q ≡ Some t → P q t
   each P b given held mine others q t e = elim (cases_Bool (has_unit b q)) [
     | inl in' ↦ elim (cases_Bool (is_at (unit_cmp (first_unit b)) q)) [
-      | inl here ↦ subst (λ z. P z t) (at_true (first_unit b) q here) (of_mark given refl (let x = rw (in', here) at e in x))
+      | inl here ↦ subst (λ z. P z t) (at_true (first_unit b) q here) (of_label given refl (let x = rw (in', here) at e in x))
       | inr not_here ↦ absurd (none_held t (rw (in', not_here) at e))
     ]
     | inr out ↦ others q t out (rw out at e)
   ]
     where
-      of_mark : (o : Option M) → given ≡ o → option_map (block_span b) o ≡ Some t → P (first_unit b) t
-      of_mark None g f = absurd (none_held t f)
-      of_mark (Some m) g f = subst (P (first_unit b)) (some_same (block_span b m) t f) (mine m g)
+      of_label : (o : Option M) → given ≡ o → option_map (block_span b) o ≡ Some t → P (first_unit b) t
+      of_label None g f = absurd (none_held t f)
+      of_label (Some m) g f = subst (P (first_unit b)) (some_same (block_span b m) t f) (mine m g)
 
   -- ---- a block that no span goes across an end of
 
@@ -153,7 +153,7 @@ module _ {M : Type 0} where
     pub filled_mean : (f : Serial → Option M) → Mean old f → Mean new (λ u. cond (has_unit b u) given (f u))
     filled_mean f mean = record {
       gives = λ p u s e h.
-          each_new (λ q t. has (interval_at q t) u ≡ true → cond (has_unit b u) given (f u) ≡ Some t.mark)
+          each_new (λ q t. has (interval_at q t) u ≡ true → cond (has_unit b u) given (f u) ≡ Some t.label)
           (λ m g i. rw (mine_in m u i) g)
           (λ q t out e' i. ap (λ x. cond x given (f u)) (false_from_ne_true _ (λ in'. outside q u t out e' i in')) ∙ mean.gives q u t e' i) p s e h;
       given = λ u m e. elim (cases_Bool (has_unit b u)) [
@@ -283,7 +283,7 @@ module _ {M : Type 0} where
 
   taken : (R : M → Option M → Type 0) → Gives R → (o n : Option (Span M)) → IsChanged R o n → n ≡ None
   taken R none None n changed = changed
-  taken R none (Some s) n changed = changed.2 ∙ ap (remarked s) (none s.mark changed.0 changed.1)
+  taken R none (Some s) n changed = changed.2 ∙ ap (relabelled s) (none s.label changed.0 changed.1)
 
   pub filled_with_none : (R : M → Option M → Type 0) (b : RawBlock) (old new : Held M) → Gives R
       → ((q : Serial) → is_between (first_unit b) (unit_numbered b b.last) q ≡ true → IsChanged R (old q) (new q))

@@ -19,7 +19,7 @@ use Rattle.units.proofs.UnitLines.{In, in_true, in_true_from, same_unit, same_or
 module _ {M : Type 0} where
   -- what is left before the cut
   abbrev pub left_of : Serial → Span M → Span M
-  left_of v s = record { last = v.number - 1; mark = s.mark }
+  left_of v s = record { last = v.number - 1; label = s.label }
 
   module _ (k v : Serial) (s : Span M) (old middle new : Held M)
       (parted : AreParted old) (there : old k ≡ Some s) (within : has (interval_at k s) v ≡ true) (absent : old v ≡ None)
@@ -107,7 +107,7 @@ module _ {M : Type 0} where
     halves_mean : (f : Serial → Option M) → Mean old f → Mean new f
     halves_mean f mean = record {
       gives = λ p u s' e h.
-          each (λ q t. has (interval_at q t) u ≡ true → f u ≡ Some t.mark)
+          each (λ q t. has (interval_at q t) u ≡ true → f u ≡ Some t.label)
           (λ g. mean.gives k u s there (from_left u g).0)
           (λ g. mean.gives k u s there (from_right u g).0)
           (λ q t x y i g. mean.gives q u t i g) p s' e h;
@@ -140,18 +140,18 @@ module _ {M : Type 0} where
         (each (λ p l. GoesOn (interval_at p l) (interval_at k (left_of v s)) → IsSeam old k ⊎ (k ≡ v))
         (λ g. absurd (let n = g.next in omega arith))
         (λ g. absurd (let n = g.next in let h = j.high in omega arith))
-        (λ p l x y e g. inl (record { before = p; left = l; right = s; first = e; second = there; goes_on = record { origin = g.origin; period = g.period; next = g.next; mark = g.mark } })))
+        (λ p l x y e g. inl (record { before = p; left = l; right = s; first = e; second = there; goes_on = record { origin = g.origin; period = g.period; next = g.next; label = g.label } })))
         (λ p l e g. inr refl)
         (λ w r x y i. each (λ p l. GoesOn (interval_at p l) (interval_at w r) → IsSeam old w ⊎ (w ≡ v))
         (λ g. absurd (y (same_unit v w (sym j.line ∙ goes_line k w (left_of v s) r g) (let n = g.next in omega arith))))
-        (λ g. inl (record { before = k; left = s; right = r; first = there; second = i; goes_on = record { origin = same_origin k v j.line ∙ g.origin; period = same_period_of k v j.line ∙ g.period; next = g.next; mark = g.mark } }))
+        (λ g. inl (record { before = k; left = s; right = r; first = there; second = i; goes_on = record { origin = same_origin k v j.line ∙ g.origin; period = same_period_of k v j.line ∙ g.period; next = g.next; label = g.label } }))
         (λ p l x' y' e g. inl (record { before = p; left = l; right = r; first = e; second = i; goes_on = g })))
         q seam.right seam.second seam.before seam.left seam.first seam.goes_on
 
     pub begun_cut : (given : Option M) → IsBegun v given old new
     begun_cut given = record {
       parted = halves_parted;
-      means = λ f mean. mean_same new f (begun v given f) (begun_there v given f s.mark (mean.gives k v s there within)) (halves_mean f mean);
+      means = λ f mean. mean_same new f (begun v given f) (begun_there v given f s.label (mean.gives k v s there within)) (halves_mean f mean);
       cut = each (λ q t. has (interval_at q t) v ≡ true → q ≡ v) (λ h. absurd (let x = (from_left v h).1 in omega arith)) (λ h. refl) (λ q t x y e h. absurd (x (owner q t e h)));
       cuts = λ w c. each (λ q t. has (interval_at q t) w ≡ true → q ≡ w)
           (λ h. c k s there (from_left w h).0)

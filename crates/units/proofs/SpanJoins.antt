@@ -17,7 +17,7 @@ unit_before v = record { origin = v.origin; period = v.period; number = v.number
 module _ {M : Type 0} where
   -- the first span, to the end of the second
   abbrev pub both : Span M → Span M → Span M
-  both l r = record { last = r.last; mark = l.mark }
+  both l r = record { last = r.last; label = l.label }
 
   module _ (k v : Serial) (l r : Span M) (old middle new : Held M)
       (parted : AreParted old) (before : old k ≡ Some l) (there : old v ≡ Some r) (goes : GoesOn (interval_at k l) (interval_at v r))
@@ -96,10 +96,10 @@ module _ {M : Type 0} where
     pub joined_mean : (f : Serial → Option M) → Mean old f → Mean new f
     joined_mean f mean = record {
       gives = λ p u s' e h.
-          each (λ q t. has (interval_at q t) u ≡ true → f u ≡ Some t.mark)
+          each (λ q t. has (interval_at q t) u ≡ true → f u ≡ Some t.label)
           (λ g. elim (from_both u g) [
             | inl c ↦ mean.gives k u l before c
-            | inr c ↦ mean.gives v u r there c ∙ ap Some (sym goes.mark)
+            | inr c ↦ mean.gives v u r there c ∙ ap Some (sym goes.label)
           ])
           (λ q t a b i g. mean.gives q u t i g) p s' e h;
       given = λ u m e.
@@ -132,9 +132,9 @@ module _ {M : Type 0} where
         each (λ w t. (p : Serial) (s : Span M) → new p ≡ Some s → GoesOn (interval_at p s) (interval_at w t) → IsSeam old w × (v ≡ w → ⊥))
         (each (λ p s. GoesOn (interval_at p s) (interval_at k (both l r)) → IsSeam old k × (v ≡ k → ⊥))
         (λ g. absurd (let m = g.next in omega arith))
-        (λ p s a b e g. (record { before = p; left = s; right = l; first = e; second = before; goes_on = record { origin = g.origin; period = g.period; next = g.next; mark = g.mark } }, behind)))
+        (λ p s a b e g. (record { before = p; left = s; right = l; first = e; second = before; goes_on = record { origin = g.origin; period = g.period; next = g.next; label = g.label } }, behind)))
         (λ w t a b i. each (λ p s. GoesOn (interval_at p s) (interval_at w t) → IsSeam old w × (v ≡ w → ⊥))
-        (λ g. (record { before = v; left = r; right = t; first = there; second = i; goes_on = record { origin = sym goes.origin ∙ g.origin; period = sym goes.period ∙ g.period; next = g.next; mark = sym goes.mark ∙ g.mark } }, b))
+        (λ g. (record { before = v; left = r; right = t; first = there; second = i; goes_on = record { origin = sym goes.origin ∙ g.origin; period = sym goes.period ∙ g.period; next = g.next; label = sym goes.label ∙ g.label } }, b))
         (λ p s a' b' e g. (record { before = p; left = s; right = t; first = e; second = i; goes_on = g }, b)))
         q seam.right seam.second seam.before seam.left seam.first seam.goes_on
 

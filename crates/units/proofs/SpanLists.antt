@@ -8,9 +8,9 @@ use Rattle.std.proofs.lemmas.Map.Keys.{Less-from_sorted}
 use Rattle.std.proofs.lemmas.Map.Views.{All-found, btree_map_get_iff}
 use Rattle.units.specs.Canonical.{GoesOn, AreCanonical}
 use Rattle.units.specs.Facts.{IsRange}
-use Rattle.units.specs.Intervals.{has, mark_at, AreKept, numbered}
+use Rattle.units.specs.Intervals.{has, label_at, AreKept, numbered}
 use Rattle.units.specs.Keys.{unit_cmp}
-use Rattle.units.specs.Spans.{interval_at, intervals_of, AreParted, Mean, IsSeam, marks_in}
+use Rattle.units.specs.Spans.{interval_at, intervals_of, AreParted, Mean, IsSeam, labels_in}
 use Rattle.units.specs.declared.block.Unit.{Unit as Serial}
 use Rattle.units.specs.declared.interval.Interval.{Interval}
 use Rattle.units.specs.declared.unit_map.Span.{Span}
@@ -31,25 +31,25 @@ module _ {M : Type 0} where
         | inr ge ↦ parted.apart k l s t e f (in_true_from k s l (record { line = x.line ∙ sym y.line; low = ge; high = omega arith }))
       ]
 
-  -- ---- marks by places in the list
+  -- ---- labels by places in the list
 
-  pub marked_at : (es : List (Serial × Span M)) (d : Serial × Span M) (u : Serial) (m : M) → mark_at (intervals_of es) u ≡ Some m
-      → (i : ℕ) × (i < length es) × (has (at (get_or es i d)) u ≡ true) × ((get_or es i d).1.mark ≡ m)
-  marked_at [] d u m e = absurd (cc (e))
-  marked_at (x ∷ es) d u m e = elim (cases_Bool (has (at x) u)) [
-    | inl yes' ↦ (zero, omega arith, yes', (let some : Some x.1.mark ≡ Some m = rw yes' at e in cc (some)))
-    | inr no' ↦ let rest = marked_at es d u m (rw no' at e) in (suc rest.0, omega (arith, rest.1), rest.2, rest.3)
+  pub labelled_at : (es : List (Serial × Span M)) (d : Serial × Span M) (u : Serial) (m : M) → label_at (intervals_of es) u ≡ Some m
+      → (i : ℕ) × (i < length es) × (has (at (get_or es i d)) u ≡ true) × ((get_or es i d).1.label ≡ m)
+  labelled_at [] d u m e = absurd (cc (e))
+  labelled_at (x ∷ es) d u m e = elim (cases_Bool (has (at x) u)) [
+    | inl yes' ↦ (zero, omega arith, yes', (let some : Some x.1.label ≡ Some m = rw yes' at e in cc (some)))
+    | inr no' ↦ let rest = labelled_at es d u m (rw no' at e) in (suc rest.0, omega (arith, rest.1), rest.2, rest.3)
   ]
 
-  pub all_marked : (es : List (Serial × Span M)) (d : Serial × Span M) (u : Serial) (m : M) → ((i : ℕ) → i < length es → has (at (get_or es i d)) u ≡ true → (get_or es i d).1.mark ≡ m)
-      → (i : ℕ) → i < length es → has (at (get_or es i d)) u ≡ true → mark_at (intervals_of es) u ≡ Some m
-  all_marked [] d u m all i lt h = absurd (omega arith)
-  all_marked (x ∷ es) d u m all i lt h = elim (cases_Bool (has (at x) u)) [
+  pub all_labelled : (es : List (Serial × Span M)) (d : Serial × Span M) (u : Serial) (m : M) → ((i : ℕ) → i < length es → has (at (get_or es i d)) u ≡ true → (get_or es i d).1.label ≡ m)
+      → (i : ℕ) → i < length es → has (at (get_or es i d)) u ≡ true → label_at (intervals_of es) u ≡ Some m
+  all_labelled [] d u m all i lt h = absurd (omega arith)
+  all_labelled (x ∷ es) d u m all i lt h = elim (cases_Bool (has (at x) u)) [
     | inl yes' ↦ rw yes' (ap Some (all zero (omega arith) yes'))
-    | inr no' ↦ rw no' (later (λ j. all_marked es d u m (λ k l. all (suc k) (omega arith)) j) i lt h no')
+    | inr no' ↦ rw no' (later (λ j. all_labelled es d u m (λ k l. all (suc k) (omega arith)) j) i lt h no')
   ]
     where
-      later : ((j : ℕ) → j < length es → has (at (get_or es j d)) u ≡ true → mark_at (intervals_of es) u ≡ Some m) → (n : ℕ) → n < length (x ∷ es) → has (at (get_or (x ∷ es) n d)) u ≡ true → has (at x) u ≡ false → mark_at (intervals_of es) u ≡ Some m
+      later : ((j : ℕ) → j < length es → has (at (get_or es j d)) u ≡ true → label_at (intervals_of es) u ≡ Some m) → (n : ℕ) → n < length (x ∷ es) → has (at (get_or (x ∷ es) n d)) u ≡ true → has (at x) u ≡ false → label_at (intervals_of es) u ≡ Some m
       later rest zero in' g no' = absurd (true≢false (sym g ∙ no'))
       later rest (suc j) in' g no' = rest j (omega arith) g
 
@@ -59,19 +59,19 @@ module _ {M : Type 0} where
     held_at : (i : ℕ) (d : Serial × Span M) → i < length m.entries → get unit_cmp m (get_or m.entries i d).0 ≡ Some (get_or m.entries i d).1
     held_at i d h = All-found units_total m ordered i d h
 
-    pub means : AreParted (get unit_cmp m) → Mean (get unit_cmp m) (marks_in m)
+    pub means : AreParted (get unit_cmp m) → Mean (get unit_cmp m) (labels_in m)
     means parted = record {
       gives = λ k u s e h.
           let place = (btree_map_get_iff units_total exact_units m ordered k s).0 e in
           let d : Serial × Span M = (k, s) in
-          all_marked m.entries d u s.mark (λ i lt g.
+          all_labelled m.entries d u s.label (λ i lt g.
           let there = held_at i d lt in
           let same = one_span (get unit_cmp m) parted k (get_or m.entries i d).0 u s (get_or m.entries i d).1 e there h g in
           let both : Some s ≡ Some (get_or m.entries i d).1 = sym e ∙ ap (get unit_cmp m) same ∙ there in
           cc (both)) place.0 place.1 (subst (λ (x : Serial × Span M). has (at x) u ≡ true) (sym place.2) h);
-      given = λ u mark e.
-          let d : Serial × Span M = (u, record { last = 0; mark = mark }) in
-          let place = marked_at m.entries d u mark e in
+      given = λ u label e.
+          let d : Serial × Span M = (u, record { last = 0; label = label }) in
+          let place = labelled_at m.entries d u label e in
           ((get_or m.entries place.0 d).0, (get_or m.entries place.0 d).1, held_at place.0 d place.1, place.2);
     }
 
@@ -93,14 +93,14 @@ module _ {M : Type 0} where
   kept_from [] ranges once = tt
   kept_from (x ∷ es) ranges once = (
     ranges zero x (omega arith),
-    λ u here. none u here (mark_at (intervals_of es) u) refl,
+    λ u here. none u here (label_at (intervals_of es) u) refl,
     kept_from es (λ i d lt. ranges (suc i) d (omega arith)) (λ i j d u lt in'. once (suc i) (suc j) d u (omega arith) (omega arith)),
   )
     where
-      none : (u : Serial) → has (at x) u ≡ true → (o : Option M) → mark_at (intervals_of es) u ≡ o → o ≡ None
+      none : (u : Serial) → has (at x) u ≡ true → (o : Option M) → label_at (intervals_of es) u ≡ o → o ≡ None
       none u here None e = refl
       none u here (Some m) e =
-          let place = marked_at es x u m e in
+          let place = labelled_at es x u m e in
           absurd (once zero (suc place.0) x u (omega arith) (omega (arith, place.1)) here place.2)
 
   abbrev Steps : List (Serial × Span M) → Type 0

@@ -1,4 +1,4 @@
--- Whole maps of spans: one meaning, other marks everywhere, and what a map of marks answers after a change.
+-- Whole maps of spans: one meaning, other labels everywhere, and what a map of labels answers after a change.
 use Rattle.std.proofs.Common.{◌≡◌, ◌⊎◌, inl, inr, ◌+◌, List, [], ◌∷◌, Bool, true, false, true≢false, not, cond, Option, Some, None, refl, sym, ap, ◌∙◌, subst, arith}
 use Rattle.std.specs.BTreeMap.{BTreeMap, IsOrdered, get, is_at}
 use Rattle.std.specs.List.Sorted.{IsStrictlySortedBy}
@@ -9,17 +9,17 @@ use Rattle.std.specs.List.{AllByRecursion}
 use Rattle.std.specs.Ordering.{is_eq}
 use Rattle.std.specs.declared.cmp.Ordering.TheVariants.{Less}
 use Rattle.std.proofs.lemmas.Map.Keys.{sorted_head}
-use Rattle.units.specs.Intervals.{has, marks_of, marks_that}
+use Rattle.units.specs.Intervals.{has, labels_of, labels_that}
 use Rattle.std.proofs.lemmas.Bool.{cases_Bool, false_from_ne_true, or_left, or_right}
 use Rattle.units.specs.Facts.{IsRange}
 use Rattle.units.specs.Keys.{unit_cmp, first_unit}
 use Rattle.units.specs.Unit.{has_unit, covers}
 use Rattle.units.specs.SpanSteps.{AreSetIn}
-use Rattle.units.specs.Spans.{interval_at, intervals_of, marks_in, AreParted, AreReshaped, Mean, IsSeam, IsSpanMap, Puts, end_unit, reaches, reached, remarked, respanned}
+use Rattle.units.specs.Spans.{interval_at, intervals_of, labels_in, AreParted, AreReshaped, Mean, IsSeam, IsSpanMap, Puts, end_unit, reaches, reached, relabelled, respanned}
 use Rattle.units.specs.declared.block.Block.{Block}
 use Rattle.units.specs.declared.block.Unit.{Unit as Serial}
 use Rattle.units.specs.declared.unit_map.Span.{Span}
-use Rattle.units.proofs.Marks.{get-marks_of}
+use Rattle.units.proofs.Labels.{get-labels_of}
 use Rattle.units.proofs.SpanLists.{means}
 use Rattle.units.proofs.SpanPuts.{Held, put_here, put_other, one_unit, none_held, some_same}
 use Rattle.units.proofs.SpanCuts.{goes_line}
@@ -50,7 +50,7 @@ behind_reached (b ∷ blocks) w q l n e = elim (cases_Bool (has_unit b.raw w)) [
 ]
 
 module _ {M : Type 0} where
-  -- the marks are determined by the spans
+  -- the labels are determined by the spans
   pub one_meaning : (held : Held M) (f h : Serial → Option M) → Mean held f → Mean held h → (u : Serial) → f u ≡ h u
   one_meaning held f h mean other u = by_cases (f u) refl (h u) refl
     where
@@ -59,9 +59,9 @@ module _ {M : Type 0} where
       by_cases (Some m) e p g = let x = mean.given u m e in mean.gives x.0 u x.1 x.2 x.3 ∙ sym (other.gives x.0 u x.1 x.2 x.3)
       by_cases None e (Some m) g = let x = other.given u m g in mean.gives x.0 u x.1 x.2 x.3 ∙ sym (other.gives x.0 u x.1 x.2 x.3)
 
-  -- what the map of marks answers, where the spans mean marks
-  pub told_by : (m : BTreeMap Serial (Span M)) → AreParted (get unit_cmp m) → IsOrdered unit_cmp m → (f : Serial → Option M) → Mean (get unit_cmp m) f → (u : Serial) → map.get (marks_of (intervals_of m.entries)) u ≡ f u
-  told_by m parted ordered f mean u = get-marks_of (intervals_of m.entries) u ∙ one_meaning (get unit_cmp m) (marks_in m) f (means m ordered parted) mean u
+  -- what the map of labels answers, where the spans mean labels
+  pub told_by : (m : BTreeMap Serial (Span M)) → AreParted (get unit_cmp m) → IsOrdered unit_cmp m → (f : Serial → Option M) → Mean (get unit_cmp m) f → (u : Serial) → map.get (labels_of (intervals_of m.entries)) u ≡ f u
+  told_by m parted ordered f mean u = get-labels_of (intervals_of m.entries) u ∙ one_meaning (get unit_cmp m) (labels_in m) f (means m ordered parted) mean u
 
   -- a map with the same entries is as whole
   pub whole_same : (m n : BTreeMap Serial (Span M)) → m.entries ≡ n.entries → IsSpanMap n → IsSpanMap m
@@ -71,16 +71,16 @@ module _ {M : Type 0} where
     joined = subst (λ (es : List (Serial × Span M)). (u : Serial) → IsSeam (λ k. lookup (is_at (unit_cmp k)) es) u → ⊥) (sym e) whole.joined;
   }
 
-  -- ---- other marks everywhere
+  -- ---- other labels everywhere
 
-  respanned_some : (after : M → Option M) (s t : Span M) → remarked s (after s.mark) ≡ Some t → (s.last ≡ t.last) × (after s.mark ≡ Some t.mark)
-  respanned_some after s t e = by_mark (after s.mark) refl (e)
+  respanned_some : (after : M → Option M) (s t : Span M) → relabelled s (after s.label) ≡ Some t → (s.last ≡ t.last) × (after s.label ≡ Some t.label)
+  respanned_some after s t e = by_label (after s.label) refl (e)
     where
-      by_mark : (r : Option M) → after s.mark ≡ r → remarked s (after s.mark) ≡ Some t → (s.last ≡ t.last) × (after s.mark ≡ Some t.mark)
-      by_mark None f g = absurd (none_held t (ap (remarked s) (sym f) ∙ g))
-      by_mark (Some m) f g =
-          let is : record { last = s.last; mark = m } ≡ t = some_same (record { last = s.last; mark = m }) t (ap (remarked s) (sym f) ∙ g) in
-          (ap (λ (x : Span M). x.last) is, f ∙ ap (λ (x : Span M). Some x.mark) is)
+      by_label : (r : Option M) → after s.label ≡ r → relabelled s (after s.label) ≡ Some t → (s.last ≡ t.last) × (after s.label ≡ Some t.label)
+      by_label None f g = absurd (none_held t (ap (relabelled s) (sym f) ∙ g))
+      by_label (Some m) f g =
+          let is : record { last = s.last; label = m } ≡ t = some_same (record { last = s.last; label = m }) t (ap (relabelled s) (sym f) ∙ g) in
+          (ap (λ (x : Span M). x.last) is, f ∙ ap (λ (x : Span M). Some x.label) is)
 
   pub respanned_mean : (after : M → Option M) (old new : Held M) → ((q : Serial) → new q ≡ respanned after (old q)) → (f : Serial → Option M) → Mean old f → Mean new (λ u. option_and_then after (f u))
   respanned_mean after old new changed f mean = record {
@@ -88,26 +88,26 @@ module _ {M : Type 0} where
     given = λ u m e. by_unit u m (f u) refl e;
   }
     where
-      by_span : (k u : Serial) (t : Span M) → new k ≡ Some t → has (interval_at k t) u ≡ true → (o : Option (Span M)) → old k ≡ o → option_and_then after (f u) ≡ Some t.mark
+      by_span : (k u : Serial) (t : Span M) → new k ≡ Some t → has (interval_at k t) u ≡ true → (o : Option (Span M)) → old k ≡ o → option_and_then after (f u) ≡ Some t.label
       by_span k u t e h None g = absurd (none_held t (ap (respanned after) (sym g) ∙ sym (changed k) ∙ e))
       by_span k u t e h (Some s) g =
           let both = respanned_some after s t (ap (respanned after) (sym g) ∙ sym (changed k) ∙ e) in
-          ap (option_and_then after) (mean.gives k u s g (subst (λ n. has (record { origin = k.origin; period = k.period; first = k.number; last = n; mark = s.mark }) u ≡ true) (sym both.0) h)) ∙ both.1
+          ap (option_and_then after) (mean.gives k u s g (subst (λ n. has (record { origin = k.origin; period = k.period; first = k.number; last = n; label = s.label }) u ≡ true) (sym both.0) h)) ∙ both.1
 
       by_unit : (u : Serial) (m : M) (o : Option M) → f u ≡ o → option_and_then after (f u) ≡ Some m → (k : Serial) × (t : Span M) × (new k ≡ Some t) × (has (interval_at k t) u ≡ true)
       by_unit u m None e g = absurd (let clash : None ≡ Some m = ap (option_and_then after) (sym e) ∙ g in cc (clash))
       by_unit u m (Some n) e g =
           let x = mean.given u n e in
-          let mark : f u ≡ Some x.1.mark = mean.gives x.0 u x.1 x.2 x.3 in
-          let becomes : after x.1.mark ≡ Some m = ap (option_and_then after) (sym mark) ∙ g in
-          (x.0, record { last = x.1.last; mark = m }, changed x.0 ∙ ap (respanned after) x.2 ∙ ap (remarked x.1) becomes, x.3)
+          let label : f u ≡ Some x.1.label = mean.gives x.0 u x.1 x.2 x.3 in
+          let becomes : after x.1.label ≡ Some m = ap (option_and_then after) (sym label) ∙ g in
+          (x.0, record { last = x.1.last; label = m }, changed x.0 ∙ ap (respanned after) x.2 ∙ ap (relabelled x.1) becomes, x.3)
 
   pub seam_fewer : (old new : Held M) → ((q : Serial) (t : Span M) → new q ≡ Some t → old q ≡ Some t) → (q : Serial) → IsSeam new q → IsSeam old q
   seam_fewer old new fewer q seam = record { before = seam.before; left = seam.left; right = seam.right; first = fewer seam.before seam.left seam.first; second = fewer q seam.right seam.second; goes_on = seam.goes_on }
 
-  pub mapped_marks : (after : M → M) (o : Option M) → option_and_then (λ m. Some (after m)) o ≡ option_map after o
-  mapped_marks after None = refl
-  mapped_marks after (Some m) = refl
+  pub mapped_labels : (after : M → M) (o : Option M) → option_and_then (λ m. Some (after m)) o ≡ option_map after o
+  mapped_labels after None = refl
+  mapped_labels after (Some m) = refl
 
   -- ---- after blocks were set and joined
 
@@ -123,9 +123,9 @@ module _ {M : Type 0} where
   removed_one true m = refl
   removed_one false m = refl
 
-  pub removed_marks : (passes : M → Bool) (o : Option M) → option_and_then (λ m. cond (passes m) None (Some m)) o ≡ marks_that (λ m. not (passes m)) o
-  removed_marks passes None = refl
-  removed_marks passes (Some m) = removed_one (passes m) m
+  pub removed_labels : (passes : M → Bool) (o : Option M) → option_and_then (λ m. cond (passes m) None (Some m)) o ≡ labels_that (λ m. not (passes m)) o
+  removed_labels passes None = refl
+  removed_labels passes (Some m) = removed_one (passes m) m
 
   pub removed_twice : (passes : M → Bool) (m : M) → option_and_then (λ n. cond (passes n) None (Some n)) (cond (passes m) None (Some m)) ≡ cond (passes m) None (Some m)
   removed_twice passes m = by_test (passes m) refl
@@ -134,10 +134,10 @@ module _ {M : Type 0} where
       by_test true e = rw e refl
       by_test false e = rw e (ap (λ t. cond t None (Some m)) e)
 
-  -- where marks outside the blocks stay, each span becomes what its mark does
+  -- where labels outside the blocks stay, each span becomes what its label does
   pub all_respanned : (after : M → Option M) (blocks : List Block) (m n : BTreeMap Serial (Span M)) → AreParted (get unit_cmp m) → IsOrdered unit_cmp m
       → ((q : Serial) → get unit_cmp n q ≡ cond (covers blocks q) (respanned after (get unit_cmp m q)) (get unit_cmp m q))
-      → ((u : Serial) (x : M) → marks_in m u ≡ Some x → (after x ≡ Some x) ⊎ (covers blocks u ≡ true))
+      → ((u : Serial) (x : M) → labels_in m u ≡ Some x → (after x ≡ Some x) ⊎ (covers blocks u ≡ true))
       → (q : Serial) → get unit_cmp n q ≡ respanned after (get unit_cmp m q)
   all_respanned after blocks m n parted ordered changed stays q = changed q ∙ by_cover (covers blocks q) refl (get unit_cmp m q) refl
     where
@@ -146,13 +146,13 @@ module _ {M : Type 0} where
       by_cover false e None f = refl
       by_cover false e (Some s) f =
           let r = parted.ranges q s f in
-          let mark = (means m ordered parted).gives q q s f (in_true_from q s q (record { line = refl; low = omega arith; high = r.1 })) in
-          elim (stays q s.mark mark) [
-            | inl same ↦ sym (ap (remarked s) same)
+          let label = (means m ordered parted).gives q q s f (in_true_from q s q (record { line = refl; low = omega arith; high = r.1 })) in
+          elim (stays q s.label label) [
+            | inl same ↦ sym (ap (relabelled s) same)
             | inr covered ↦ absurd (true≢false (sym covered ∙ e))
           ]
 
-  -- ---- spans that go on after marks were changed in blocks
+  -- ---- spans that go on after labels were changed in blocks
 
   -- the last unit of a span
   abbrev pub last_of : Serial → Span M → Serial
@@ -161,10 +161,10 @@ module _ {M : Type 0} where
   pub has_last : (k : Serial) (s : Span M) → IsRange k.number s.last → has (interval_at k s) (last_of k s) ≡ true
   has_last k s r = in_true_from k s (last_of k s) (record { line = sym (line_numbered_at k s.last); low = r.1; high = omega arith })
 
-  pub remark_seams : (blocks : List Block) (old middle : Held M) → AreReshaped old middle → ((q : Serial) → covers blocks q ≡ false → middle q ≡ old q)
+  pub relabel_seams : (blocks : List Block) (old middle : Held M) → AreReshaped old middle → ((q : Serial) → covers blocks q ≡ false → middle q ≡ old q)
       → ((k : Serial) (s : Span M) → old k ≡ Some s → covers blocks (last_of k s) ≡ false → middle k ≡ Some s)
       → (q : Serial) → IsSeam middle q → reached blocks q ≡ false → IsSeam old q
-  remark_seams blocks old middle reshaped outside kept q seam far =
+  relabel_seams blocks old middle reshaped outside kept q seam far =
       let k = seam.before in
       let here : covers blocks q ≡ false = false_from_ne_true _ (λ e. true≢false (sym (covers_reached blocks q e) ∙ far)) in
       let was = reshaped k seam.left seam.first in

@@ -7,7 +7,7 @@ use Rattle.units.specs.Facts.{IsRange}
 use Rattle.units.specs.Cutting.{meets}
 use Rattle.units.specs.Intervals.{has}
 use Rattle.units.specs.Keys.{unit_cmp, unit_numbered}
-use Rattle.units.specs.Spans.{interval_at, AreParted, marks_in}
+use Rattle.units.specs.Spans.{interval_at, AreParted, labels_in}
 use Rattle.units.specs.Unit.{has_unit}
 use Rattle.units.specs.declared.block.RawBlock.{RawBlock}
 use Rattle.units.specs.declared.block.Unit.{Unit as Serial}
@@ -15,30 +15,30 @@ use Rattle.units.specs.declared.unit_map.Span.{Span}
 use Rattle.units.proofs.Cutting.{has_meets, meets-true}
 use Rattle.units.proofs.SpanLists.{means}
 use Rattle.units.proofs.SpanPuts.{some_same, is_some_from}
-use Rattle.units.proofs.SpanCuts.{unmarked, floor_none, floor_lacks}
+use Rattle.units.proofs.SpanCuts.{unlabelled, floor_none, floor_lacks}
 use Rattle.units.proofs.UnitLines.{line_of, line_numbered, UpTo, in_true, in_true_from, block_true, block_true_from}
 
 module _ {M : Type 0} where
   -- the span has the unit
   pub told_some : (m : BTreeMap Serial (Span M)) → AreParted (get unit_cmp m) → IsOrdered unit_cmp m → (at : Serial) (span : Span M) → get unit_cmp m at ≡ Some span
-      → (u : Serial) → has (interval_at at span) u ≡ true → marks_in m u ≡ Some span.mark
+      → (u : Serial) → has (interval_at at span) u ≡ true → labels_in m u ≡ Some span.label
   told_some m parted ordered at span e u h = (means m ordered parted).gives at u span e h
 
   pub told_lacking : (m : BTreeMap Serial (Span M)) → AreParted (get unit_cmp m) → IsOrdered unit_cmp m → (at v : Serial) (span : Span M) → get unit_cmp m at ≡ Some span → UpTo at v
-      → ((q : Serial) → UpTo q v → IsSome (get unit_cmp m q) → UpTo q at) → has (interval_at at span) v ≡ false → marks_in m v ≡ None
-  told_lacking m parted ordered at v span e up last lacks = unmarked (get unit_cmp m) (marks_in m) v (means m ordered parted) (floor_lacks (get unit_cmp m) parted at v span e up last lacks)
+      → ((q : Serial) → UpTo q v → IsSome (get unit_cmp m q) → UpTo q at) → has (interval_at at span) v ≡ false → labels_in m v ≡ None
+  told_lacking m parted ordered at v span e up last lacks = unlabelled (get unit_cmp m) (labels_in m) v (means m ordered parted) (floor_lacks (get unit_cmp m) parted at v span e up last lacks)
 
-  pub told_none : (m : BTreeMap Serial (Span M)) → AreParted (get unit_cmp m) → IsOrdered unit_cmp m → (v : Serial) → ((q : Serial) → UpTo q v → get unit_cmp m q ≡ None) → marks_in m v ≡ None
-  told_none m parted ordered v none = unmarked (get unit_cmp m) (marks_in m) v (means m ordered parted) (floor_none (get unit_cmp m) v none)
+  pub told_none : (m : BTreeMap Serial (Span M)) → AreParted (get unit_cmp m) → IsOrdered unit_cmp m → (v : Serial) → ((q : Serial) → UpTo q v → get unit_cmp m q ≡ None) → labels_in m v ≡ None
+  told_none m parted ordered v none = unlabelled (get unit_cmp m) (labels_in m) v (means m ordered parted) (floor_none (get unit_cmp m) v none)
 
   -- ---- a block read from its end to its front
 
   pub step_down : (m : BTreeMap Serial (Span M)) → AreParted (get unit_cmp m) → IsOrdered unit_cmp m → (b : RawBlock) (n : ℕ) (at : Serial) (span : Span M) → get unit_cmp m at ≡ Some span → UpTo at (unit_numbered b n)
       → ((q : Serial) → UpTo q (unit_numbered b n) → IsSome (get unit_cmp m q) → UpTo q at)
-      → (u : Serial) (x : M) → has_unit b u ≡ true → u.number ≤ n → marks_in m u ≡ Some x → ((has (interval_at at span) u ≡ true) × (span.mark ≡ x)) ⊎ (u.number < at.number × (line_of at ≡ line_of u))
-  step_down m parted ordered b n at span e up last u x here low marked =
+      → (u : Serial) (x : M) → has_unit b u ≡ true → u.number ≤ n → labels_in m u ≡ Some x → ((has (interval_at at span) u ≡ true) × (span.label ≡ x)) ⊎ (u.number < at.number × (line_of at ≡ line_of u))
+  step_down m parted ordered b n at span e up last u x here low labelled =
       let mean = means m ordered parted in
-      let g = mean.given u x marked in
+      let g = mean.given u x labelled in
       let i = in_true g.0 g.1 u g.3 in
       let j = block_true b u here in
       let s = line_numbered b n in
@@ -51,11 +51,11 @@ module _ {M : Type 0} where
             let same = parted.apart g.0 at g.1 span g.2 e within in
             let spans : g.1 ≡ span = some_same g.1 span (sym g.2 ∙ ap (get unit_cmp m) same ∙ e) in
             let mine : has (interval_at at span) u ≡ true = subst (λ k. has (interval_at k span) u ≡ true) same (subst (λ (t : Span M). has (interval_at g.0 t) u ≡ true) spans g.3) in
-            inl (mine, some_same_mark span.mark x (sym (mean.gives at u span e mine) ∙ marked))
+            inl (mine, some_same_label span.label x (sym (mean.gives at u span e mine) ∙ labelled))
       ]
     where
-      some_same_mark : (p q : M) → Some p ≡ Some q → p ≡ q
-      some_same_mark p q f = cc (f)
+      some_same_label : (p q : M) → Some p ≡ Some q → p ≡ q
+      some_same_label p q f = cc (f)
 
   pub fails_unless : (passes : M → Bool) (o : Option M) → ((x : M) → o ≡ Some x → passes x ≡ true → ⊥) → option_map passes o ≢ Some true
   fails_unless passes None out e = cc (e)
@@ -63,7 +63,7 @@ module _ {M : Type 0} where
 
   -- no span begins up to the number
   pub none_to_end : (m : BTreeMap Serial (Span M)) → AreParted (get unit_cmp m) → IsOrdered unit_cmp m → (b : RawBlock) (n : ℕ) → ((q : Serial) → UpTo q (unit_numbered b n) → get unit_cmp m q ≡ None)
-      → (u : Serial) → has_unit b u ≡ true → u.number ≤ n → marks_in m u ≡ None
+      → (u : Serial) → has_unit b u ≡ true → u.number ≤ n → labels_in m u ≡ None
   none_to_end m parted ordered b n none u here low =
       let j = block_true b u here in
       let s = line_numbered b n in

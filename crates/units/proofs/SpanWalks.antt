@@ -4,7 +4,7 @@ use Rattle.std.specs.BTreeMap.{BTreeMap, IsOrdered, get}
 use Rattle.std.proofs.lemmas.Bool.{cases_lt}
 use Rattle.units.specs.Keys.{unit_cmp}
 use Rattle.units.specs.Limits.{last_unit}
-use Rattle.units.specs.Spans.{AreParted, AreReshaped, Mean, IsSeam, IsChanged, Puts, after_unit, is_between, remarked}
+use Rattle.units.specs.Spans.{AreParted, AreReshaped, Mean, IsSeam, IsChanged, Puts, after_unit, is_between, relabelled}
 use Rattle.units.specs.declared.block.Unit.{Unit as Serial}
 use Rattle.units.specs.declared.unit_map.Span.{Span}
 use Rattle.units.proofs.SpanPuts.{Held, put_here, put_other, one_unit, none_held, some_same, is_some_from}
@@ -111,7 +111,7 @@ module _ {M : Type 0} where
         ]),
       )
 
-  -- ---- other marks, or none, for the spans up to the unit that comes next
+  -- ---- other labels, or none, for the spans up to the unit that comes next
 
   pub reshaped_parted : (old new : Held M) → AreReshaped old new → AreParted old → AreParted new
   reshaped_parted old new same parted = record {
@@ -123,14 +123,14 @@ module _ {M : Type 0} where
         parted.apart k l s.0 w.0 s.1 w.1 (in_true_from k s.0 l (record { line = i.line; low = i.low; high = (let x = s.2 in let y = i.high in omega arith) }));
   }
 
-  pub remarked_last : (s t : Span M) (r : Option M) → remarked s r ≡ Some t → s.last ≡ t.last
-  remarked_last s t None e = absurd (none_held t e)
-  remarked_last s t (Some m) e = ap (λ (x : Span M). x.last) (some_same (record { last = s.last; mark = m }) t e)
+  pub relabelled_last : (s t : Span M) (r : Option M) → relabelled s r ≡ Some t → s.last ≡ t.last
+  relabelled_last s t None e = absurd (none_held t e)
+  relabelled_last s t (Some m) e = ap (λ (x : Span M). x.last) (some_same (record { last = s.last; label = m }) t e)
 
-  pub put_reshapes : (k : Serial) (s : Span M) (r : Option M) (old new : Held M) → old k ≡ Some s → Puts k (remarked s r) old new → AreReshaped old new
+  pub put_reshapes : (k : Serial) (s : Span M) (r : Option M) (old new : Held M) → old k ≡ Some s → Puts k (relabelled s r) old new → AreReshaped old new
   put_reshapes k s r old new there puts q t e = elim (one_unit k q) [
-    | inl same ↦ (s, ap old (sym same) ∙ there, remarked_last s t r (sym (put_here k (remarked s r) old new puts) ∙ ap new same ∙ e))
-    | inr other ↦ (t, sym (put_other k (remarked s r) old new puts q other) ∙ e, refl)
+    | inl same ↦ (s, ap old (sym same) ∙ there, relabelled_last s t r (sym (put_here k (relabelled s r) old new puts) ∙ ap new same ∙ e))
+    | inr other ↦ (t, sym (put_other k (relabelled s r) old new puts q other) ∙ e, refl)
   ]
 
   pub record ChangedTo (R : M → Option M → Type 0) (a b c : Serial) (old now : BTreeMap Serial (Span M)) : Type 0 where
@@ -154,12 +154,12 @@ module _ {M : Type 0} where
       by_cases (Some s) e = absurd (no' (is_some_from (now q) s e))
 
   pub changed_more : (R : M → Option M → Type 0) (a b c k : Serial) (s : Span M) (r : Option M) (old now new : BTreeMap Serial (Span M)) → ChangedTo R a b c old now → get unit_cmp now k ≡ Some s → UpTo c k → UpTo k b
-      → ((q : Serial) → UpTo c q → IsSome (get unit_cmp now q) → UpTo k q) → R s.mark r
-      → Puts k (remarked s r) (get unit_cmp now) (get unit_cmp new) → IsOrdered unit_cmp new → ChangedTo R a b (after_unit k) old new
+      → ((q : Serial) → UpTo c q → IsSome (get unit_cmp now q) → UpTo k q) → R s.label r
+      → Puts k (relabelled s r) (get unit_cmp now) (get unit_cmp new) → IsOrdered unit_cmp new → ChangedTo R a b (after_unit k) old new
   changed_more R a b c k s r old now new so_far there up near least becomes puts ordered =
       let range = so_far.parted.ranges k s there in
       let was : get unit_cmp old k ≡ Some s = sym (so_far.outside k (λ x y. not_both k c y up)) ∙ there in
-      let others = put_other k (remarked s r) (get unit_cmp now) (get unit_cmp new) puts in
+      let others = put_other k (relabelled s r) (get unit_cmp now) (get unit_cmp new) puts in
       record {
         parted = reshaped_parted (get unit_cmp now) (get unit_cmp new) (put_reshapes k s r (get unit_cmp now) (get unit_cmp new) there puts) so_far.parted;
         ordered = ordered;
@@ -167,7 +167,7 @@ module _ {M : Type 0} where
         up = up_trans a c (after_unit k) so_far.up (up_trans c k (after_unit k) up (up_from_before k (after_unit k) (itself_after k)));
         far = λ q x y. up_trans q k b (before_after q k y) near;
         inside = λ q x y. elim (one_unit k q) [
-          | inl same ↦ subst (λ z. IsChanged R (get unit_cmp old z) (get unit_cmp new z)) same (subst (λ o. IsChanged R o (get unit_cmp new k)) (sym was) (r, becomes, put_here k (remarked s r) (get unit_cmp now) (get unit_cmp new) puts))
+          | inl same ↦ subst (λ z. IsChanged R (get unit_cmp old z) (get unit_cmp new z)) same (subst (λ o. IsChanged R o (get unit_cmp new k)) (sym was) (r, becomes, put_here k (relabelled s r) (get unit_cmp now) (get unit_cmp new) puts))
           | inr other ↦ elim (either_way q c) [
             | inl before ↦ subst (IsChanged R (get unit_cmp old q)) (sym (others q other)) (so_far.inside q x before)
             | inr behind ↦

@@ -9,10 +9,10 @@ use Rattle.units.specs.declared.interval.Interval.{Interval}
 abbrev pub meets : {M : Type 0} → RawBlock → Interval M → Bool
 meets b i = same_code i.origin b.origin && (same_period i.period b.period && (nat_le i.first b.last && nat_le b.first i.last))
 
--- the block's units with the mark, as an interval
-abbrev pub marked : {M : Type 0} → RawBlock → M → Interval M
-marked b mark = record { origin = b.origin; period = b.period; first = b.first; last = b.last; mark = mark }
+-- the block's units with the label, as an interval
+abbrev pub labelled : {M : Type 0} → RawBlock → M → Interval M
+labelled b label = record { origin = b.origin; period = b.period; first = b.first; last = b.last; label = label }
 
 -- one origin and period, and numbers that meet, of two blocks
 abbrev pub blocks_meet : RawBlock → RawBlock → Bool
-blocks_meet a b = meets b (marked a (tt {0}))
+blocks_meet a b = meets b (labelled a (tt {0}))

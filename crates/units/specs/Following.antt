@@ -11,7 +11,7 @@ is_next a b = same_code a.origin b.origin && (same_period a.period b.period && (
 
 -- the first interval, to the end of the second
 abbrev pub joined : {M : Type 0} → Interval M → Interval M → Interval M
-joined a b = record { origin = a.origin; period = a.period; first = a.first; last = b.last; mark = a.mark }
+joined a b = record { origin = a.origin; period = a.period; first = a.first; last = b.last; label = a.label }
 
 -- the next one comes after the intervals, or becomes a part of their last one where it goes on there
 abbrev pub IsOnto : {M : Type 0} → List (Interval M) → Interval M → List (Interval M) → Type 0

@@ -1,4 +1,4 @@
--- What the code that sets and changes marks follows, step by step; no public contract cites it.
+-- What the code that sets and changes labels follows, step by step; no public contract cites it.
 use Rattle.std.specs.Prelude.{◌≡◌, ◌⊎◌, List, true, false, Option, Some, None, IsSome, find, if◌then◌else◌}
 use Rattle.std.specs.Option.{option_and_then, option_map_or}
 use Rattle.std.specs.List.{AllByRecursion}
@@ -19,7 +19,7 @@ Restores Nothing old new = (q : Serial) → old q ≡ new q
 Restores (Put v) old new = (q : Serial) → old q ≡ (if is_at (unit_cmp v) q then None else new q)
 Restores (Cut k v s) old new = (is_at (unit_cmp v) k ≡ false) × IsSome (new k) × ((q : Serial) → old q ≡ (if is_at (unit_cmp k) q then Some s else (if is_at (unit_cmp v) q then None else new q)))
 
--- no span goes across the front of the unit any more, and one begins there if the unit was to have a mark
+-- no span goes across the front of the unit any more, and one begins there if the unit was to have a label
 pub record IsBegun {M : Type 0} (v : Serial) (given : Option M) (old new : Serial → Option (Span M)) : Type 0 where
   pub parted : AreParted new
   pub means : (f : Serial → Option M) → Mean old f → Mean new (begun v given f)
@@ -40,31 +40,31 @@ pub record IsPrepared {M : Type 0} (b : RawBlock) (given : Option M) (old new : 
   pub keys : (q : Serial) → IsSome (old q) → IsSome (new q)
   pub seams : (q : Serial) → IsSeam new q → IsSeam old q ⊎ (reaches b q ≡ true)
 
--- one span for each block that was given a mark, in the place of those of its units; spans may go on where others end only at the blocks
+-- one span for each block that was given a label, in the place of those of its units; spans may go on where others end only at the blocks
 pub record AreSetIn {M : Type 0} (blocks : List Block) (old new : Serial → Option (Span M)) : Type 0 where
   pub parted : AreParted new
   pub cuts : (q : Serial) → AllByRecursion (λ b. has_unit b.raw q ≡ true → q ≡ first_unit b.raw) blocks → IsCutAt old q → IsCutAt new q
   pub keys : (q : Serial) → covers blocks q ≡ false → IsSome (old q) → IsSome (new q)
   pub seams : (q : Serial) → IsSeam new q → IsSeam old q ⊎ (reached blocks q ≡ true)
 
--- each unit of the blocks has the mark that is given to its block, and the others have theirs
+-- each unit of the blocks has the label that is given to its block, and the others have theirs
 abbrev pub set_to : {M : Type 0} → (Block → Option M) → List Block → (Serial → Option M) → Serial → Option M
-set_to given blocks marks u = option_map_or given (find (λ b. has_unit b.raw u) blocks) (marks u)
+set_to given blocks labels u = option_map_or given (find (λ b. has_unit b.raw u) blocks) (labels u)
 
--- spans that go on are one in the blocks and at their ends; the marks stay, and spans go on where others end only beyond
+-- spans that go on are one in the blocks and at their ends; the labels stay, and spans go on where others end only beyond
 pub record AreJoinedIn {M : Type 0} (blocks : List Block) (old new : BTreeMap Serial (Span M)) : Type 0 where
   pub parted : AreParted (get unit_cmp new)
   pub ordered : IsOrdered unit_cmp new
   pub means : (f : Serial → Option M) → Mean (get unit_cmp old) f → Mean (get unit_cmp new) f
   pub seams : (q : Serial) → IsSeam (get unit_cmp new) q → IsSeam (get unit_cmp old) q × (reached blocks q ≡ false)
 
--- spans that begin in the blocks have marks that the relation gives, where a mark that it gave it gives again, or are out
+-- spans that begin in the blocks have labels that the relation gives, where a label that it gave it gives again, or are out
 pub record AreChangedIn {M : Type 0} (R : M → Option M → Type 0) (blocks : List Block) (old new : BTreeMap Serial (Span M)) : Type 0 where
   pub parted : AreParted (get unit_cmp new)
   pub ordered : IsOrdered unit_cmp new
   pub changed : (after : M → Option M) → ((m : M) (r : Option M) → R m r → r ≡ after m) → ((m : M) → option_and_then after (after m) ≡ after m)
       → (q : Serial) → get unit_cmp new q ≡ (if covers blocks q then respanned after (get unit_cmp old q) else get unit_cmp old q)
-  pub same : (q : Serial) (s : Span M) → get unit_cmp old q ≡ Some s → ((r : Option M) → R s.mark r → r ≡ Some s.mark) → get unit_cmp new q ≡ Some s
+  pub same : (q : Serial) (s : Span M) → get unit_cmp old q ≡ Some s → ((r : Option M) → R s.label r → r ≡ Some s.label) → get unit_cmp new q ≡ Some s
   pub reshaped : AreReshaped (get unit_cmp old) (get unit_cmp new)
   pub fewer : ((m r : M) → R m (Some r) → r ≡ m) → (q : Serial) (t : Span M) → get unit_cmp new q ≡ Some t → get unit_cmp old q ≡ Some t
   pub outside : (q : Serial) → covers blocks q ≡ false → get unit_cmp new q ≡ get unit_cmp old q

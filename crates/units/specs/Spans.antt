@@ -6,7 +6,7 @@ use Rattle.std.specs.Ordering.{is_lt}
 use Rattle.std.specs.BTreeMap.{BTreeMap, IsOrdered, get, is_at}
 use Rattle.units.specs.Canonical.{GoesOn}
 use Rattle.units.specs.Facts.{IsRange}
-use Rattle.units.specs.Intervals.{has, mark_at}
+use Rattle.units.specs.Intervals.{has, label_at}
 use Rattle.units.specs.Keys.{unit_cmp, unit_numbered, first_unit}
 use Rattle.units.specs.Unit.{has_unit}
 use Rattle.units.specs.declared.block.Block.{Block}
@@ -17,7 +17,7 @@ use Rattle.units.specs.declared.unit_map.Span.{Span}
 
 -- the interval from its first unit on
 abbrev pub interval_at : {M : Type 0} → Serial → Span M → Interval M
-interval_at k s = record { origin = k.origin; period = k.period; first = k.number; last = s.last; mark = s.mark }
+interval_at k s = record { origin = k.origin; period = k.period; first = k.number; last = s.last; label = s.label }
 
 -- the intervals of the entries
 abbrev pub intervals_of : {M : Type 0} → List (Serial × Span M) → List (Interval M)
@@ -30,12 +30,12 @@ pub record AreParted {M : Type 0} (held : Serial → Option (Span M)) : Type 0 w
   pub ranges : (k : Serial) (s : Span M) → held k ≡ Some s → IsRange k.number s.last
   pub apart : (k l : Serial) (s t : Span M) → held k ≡ Some s → held l ≡ Some t → has (interval_at k s) l ≡ true → k ≡ l
 
--- each span gives its units its mark, and each unit with a mark is in one
-pub record Mean {M : Type 0} (held : Serial → Option (Span M)) (marks : Serial → Option M) : Type 0 where
-  pub gives : (k u : Serial) (s : Span M) → held k ≡ Some s → has (interval_at k s) u ≡ true → marks u ≡ Some s.mark
-  pub given : (u : Serial) (m : M) → marks u ≡ Some m → (k : Serial) × (s : Span M) × (held k ≡ Some s) × (has (interval_at k s) u ≡ true)
+-- each span gives its units its label, and each unit with a label is in one
+pub record Mean {M : Type 0} (held : Serial → Option (Span M)) (labels : Serial → Option M) : Type 0 where
+  pub gives : (k u : Serial) (s : Span M) → held k ≡ Some s → has (interval_at k s) u ≡ true → labels u ≡ Some s.label
+  pub given : (u : Serial) (m : M) → labels u ≡ Some m → (k : Serial) × (s : Span M) × (held k ≡ Some s) × (has (interval_at k s) u ≡ true)
 
--- a span begins at the unit where another one ends, with its mark
+-- a span begins at the unit where another one ends, with its label
 pub record IsSeam {M : Type 0} (held : Serial → Option (Span M)) (u : Serial) : Type 0 where
   pub before : Serial
   pub left : Span M
@@ -44,9 +44,9 @@ pub record IsSeam {M : Type 0} (held : Serial → Option (Span M)) (u : Serial) 
   pub second : held u ≡ Some right
   pub goes_on : GoesOn (interval_at before left) (interval_at u right)
 
--- the marks that the intervals of the map give
-abbrev pub marks_in : {M : Type 0} → BTreeMap Serial (Span M) → Serial → Option M
-marks_in m u = mark_at (intervals_of m.entries) u
+-- the labels that the intervals of the map give
+abbrev pub labels_in : {M : Type 0} → BTreeMap Serial (Span M) → Serial → Option M
+labels_in m u = label_at (intervals_of m.entries) u
 
 -- spans that are parted and in order, with no two that could be one
 pub record IsSpanMap {M : Type 0} (m : BTreeMap Serial (Span M)) : Type 0 where
@@ -81,19 +81,19 @@ reaches b u = is_between (first_unit b) (end_unit b) u
 abbrev pub reached : List Block → Serial → Bool
 reached blocks u = list_any (λ b. reaches b.raw u) blocks
 
--- the span with that mark, or none
-abbrev pub remarked : {M : Type 0} → Span M → Option M → Option (Span M)
-remarked s mark = option_map (λ m. record { last = s.last; mark = m }) mark
+-- the span with that label, or none
+abbrev pub relabelled : {M : Type 0} → Span M → Option M → Option (Span M)
+relabelled s label = option_map (λ m. record { last = s.last; label = m }) label
 
--- the span with the mark that becomes of its own, or none
+-- the span with the label that becomes of its own, or none
 abbrev pub respanned : {M : Type 0} → (M → Option M) → Option (Span M) → Option (Span M)
 respanned after None = None
-respanned after (Some s) = remarked s (after s.mark)
+respanned after (Some s) = relabelled s (after s.label)
 
--- what becomes of a span whose mark is changed by the relation, if there is one
+-- what becomes of a span whose label is changed by the relation, if there is one
 abbrev pub IsChanged : {M : Type 0} → (M → Option M → Type 0) → Option (Span M) → Option (Span M) → Type 0
 IsChanged R None new = new ≡ None
-IsChanged {M} R (Some s) new = (r : Option M) × R s.mark r × (new ≡ remarked s r)
+IsChanged {M} R (Some s) new = (r : Option M) × R s.label r × (new ≡ relabelled s r)
 
 -- each span was there, with the same last number
 abbrev pub AreReshaped : {M : Type 0} → (Serial → Option (Span M)) → (Serial → Option (Span M)) → Type 0
@@ -101,8 +101,8 @@ AreReshaped {M} old new = (q : Serial) (t : Span M) → new q ≡ Some t → (s 
 
 -- one span for the block's units, or none
 abbrev pub filled : {M : Type 0} → RawBlock → Option M → (Serial → Option (Span M)) → Serial → Option (Span M)
-filled b given held q = if has_unit b q then (if is_at (unit_cmp (first_unit b)) q then option_map (λ m. record { last = b.last; mark = m }) given else None) else held q
+filled b given held q = if has_unit b q then (if is_at (unit_cmp (first_unit b)) q then option_map (λ m. record { last = b.last; label = m }) given else None) else held q
 
--- the marks with the unit marked so, if it had no mark and is to have one
+-- the labels with the unit labelled so, if it had no label and is to have one
 abbrev pub begun : {M : Type 0} → Serial → Option M → (Serial → Option M) → Serial → Option M
-begun v given marks u = if is_at (unit_cmp v) u then option_or (marks u) given else marks u
+begun v given labels u = if is_at (unit_cmp v) u then option_or (labels u) given else labels u

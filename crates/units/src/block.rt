@@ -34,8 +34,10 @@ pub enum Kind {
 /// One unit, a tonne: its origin, its commitment period and its number.
 #[derive(Clone, Copy, Debug, PartialEq, Eq, PartialOrd, Ord)]
 pub struct Unit {
+    /// The registry that issued it.
     pub origin: Code,
     pub period: Period,
+    /// Any number; one of a `Block` is 1 to `LAST_UNIT`.
     pub number: u64,
 }
 
@@ -45,13 +47,16 @@ pub struct RawBlock {
     pub origin: Code,
     pub period: Period,
     pub kind: Kind,
+    /// Any number, also one above `last`.
     pub first: u64,
+    /// Any number.
     pub last: u64,
 }
 
 /// The units of one origin, period and kind from a first to a last number, both included.
 #[derive(Clone, Copy, Debug, PartialEq, Eq)]
 pub struct Block {
+    /// Its numbers: `first` is 1 to `last`, and `last` at most `LAST_UNIT`.
     pub raw: RawBlock,
     pub ghost in_range: { IsRange raw.first raw.last },
 }

@@ -6,7 +6,7 @@ ghost use Rattle.std.specs.List.{IsAmong};
 ghost use Rattle.std.specs.Option.{option_map_or};
 ghost use Rattle.units.specs.Apart.{AllApart};
 ghost use Rattle.units.specs.Canonical.{AreCanonical, canonical as canonical_form, interval_of};
-ghost use Rattle.units.specs.Intervals.{AreKept, mark_at};
+ghost use Rattle.units.specs.Intervals.{AreKept, label_at};
 ghost use Rattle.units.specs.RefusalCodes.{out_of_memory, blocks_overlap, unit_not_held};
 ghost use Rattle.units.specs.Spans.{intervals_of};
 ghost use Rattle.units.specs.Unit.{has_unit, covers};
@@ -181,7 +181,7 @@ impl BlockSet {
     pub fn pieces(&self) -> &BTreeMap<Unit, Span<Kind>>
         ensures kept { AreKept (intervals_of result.now.entries) }
         ensures joined { AreCanonical (λ _. 0) (intervals_of result.now.entries) }
-        ensures means { (u : Serial) → mark_at (intervals_of result.now.entries) u ≡ map.get self.now u }
+        ensures means { (u : Serial) → label_at (intervals_of result.now.entries) u ≡ map.get self.now u }
     {
         self.kinds.pieces()
     }
@@ -199,7 +199,7 @@ impl BlockSet {
         ensures ordered { IfOk result (λ v. AreCanonical (λ _. 0) (list_map interval_of v.items)) }
         ensures form { IfOk result (λ v. canonical_form (list_map (λ b. b.raw) v.items) ≡ list_map (λ b. b.raw) v.items) }
         ensures kept { IfOk result (λ v. AreKept (list_map interval_of v.items)) }
-        ensures same { IfOk result (λ v. (u : Serial) → mark_at (list_map interval_of v.items) u ≡ map.get self.now u) }
+        ensures same { IfOk result (λ v. (u : Serial) → label_at (list_map interval_of v.items) u ≡ map.get self.now u) }
     {
         let intervals = self.kinds.in_order()?;
         Ok(blocks_of(alloc, &intervals)?)

@@ -7,7 +7,9 @@ use std::fmt;
 /// A registry's code: two letters `A` to `Z`.
 #[derive(Clone, Copy, Debug, PartialEq, Eq, PartialOrd, Ord)]
 pub struct Code {
+    /// `b'A'` to `b'Z'`.
     pub first: u8,
+    /// `b'A'` to `b'Z'`.
     pub second: u8,
     pub ghost letters: { IsLetter first × IsLetter second },
 }

@@ -1,4 +1,4 @@
-//! Intervals: units in a row with one mark.
+//! Intervals: units in a row with one label.
 ghost use Rattle.std.specs.Prelude.{◌≡◌, ◌↔◌, ℕ, IsTrue, IfOk, map};
 ghost use Rattle.units.specs.Canonical.{interval_of};
 ghost use Rattle.units.specs.Cutting.{meets};
@@ -10,14 +10,16 @@ use crate::code::Code;
 use crate::memory::NoMemory;
 use std::alloc::Global;
 
-/// Units of one origin and period, from a first to a last number, both included, all with one mark.
+/// Units of one origin and period, from a first to a last number, both included, all with one label.
 #[derive(Clone, Copy, Debug, PartialEq, Eq)]
 pub struct Interval<M> {
     pub origin: Code,
     pub period: Period,
+    /// At least 1 in a map, and at most `last`.
     pub first: u64,
+    /// At most `LAST_UNIT` in a map.
     pub last: u64,
-    pub mark: M,
+    pub label: M,
 }
 
 impl<M> Interval<M> {
@@ -57,22 +59,22 @@ impl<M> Interval<M> {
     }
 }
 
-/// What units can be marked with.
-pub trait Mark: Copy {
-    /// What intervals are listed by before their units are looked at; one number for all marks
+/// What units can be labelled with.
+pub trait Label: Copy {
+    /// What intervals are listed by before their units are looked at; one number for all labels
     /// where there is no such order.
     ghost group: { Self → ℕ };
 
-    /// The group of the mark.
+    /// The group of the label.
     fn group(&self) -> u64
         ensures { result ≡ group self.now };
 
-    /// Whether the two are one mark, so that neighbours that have them are joined.
+    /// Whether the two are one label, so that neighbours that have them are joined.
     fn is_same(&self, other: &Self) -> bool
         ensures { IsTrue result ↔ (self.now ≡ other.now) };
 }
 
-impl Mark for Kind {
+impl Label for Kind {
     ghost group = { λ _. 0 };
 
     fn group(&self) -> u64 {
@@ -84,14 +86,14 @@ impl Mark for Kind {
     }
 }
 
-/// The blocks of the intervals, in their order: each of the kind that its interval has as its mark. Or `NoMemory`.
+/// The blocks of the intervals, in their order: each of the kind that its interval has as its label. Or `NoMemory`.
 pub fn blocks_of(alloc: Global, intervals: &[Interval<Kind>]) -> Result<Vec<Block>, NoMemory>
     requires { AreKept intervals.now }
     ensures { IfOk result (λ v. map interval_of v.items ≡ intervals.now) }
 {
     let mut blocks = Vec::with_capacity(alloc, intervals.len())?;
     for interval in intervals {
-        blocks.push(interval.block(interval.mark))?;
+        blocks.push(interval.block(interval.label))?;
     }
     Ok(blocks)
 }

@@ -20,7 +20,7 @@ mod unit_map;
 pub use block::{Block, BlockFault, Kind, Period, RawBlock, Unit};
 pub use block_set::BlockSet;
 pub use code::{Code, Node};
-pub use interval::{Interval, Mark, blocks_of};
+pub use interval::{Interval, Label, blocks_of};
 pub use items::Items;
 pub use memory::NoMemory;
 pub use ordering::order_of_units;

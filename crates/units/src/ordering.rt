@@ -3,13 +3,13 @@ ghost use Rattle.std.specs.Ordering.{nat_cmp, ordering_then};
 ghost use Rattle.std.specs.Prelude.{◌≡◌, ◌↔◌, IsTrue, IfOk, OnOk};
 ghost use Rattle.units.specs.Canonical.{AreCanonical, GoesOn};
 ghost use Rattle.units.specs.Following.{IsOnto, is_next};
-ghost use Rattle.units.specs.Intervals.{AreKept, mark_at, numbered};
+ghost use Rattle.units.specs.Intervals.{AreKept, label_at, numbered};
 ghost use Rattle.units.specs.Keys.{unit_cmp};
 ghost use Rattle.units.specs.Unit.{period_index};
 ghost use Rattle.units.specs.declared.block.Unit.{Unit as Serial};
 
 use crate::block::Unit;
-use crate::interval::{Interval, Mark};
+use crate::interval::{Interval, Label};
 use std::alloc::{AllocError, Global};
 
 // The first of its units.
@@ -33,15 +33,15 @@ fn is_next<M>(interval: &Interval<M>, next: &Interval<M>) -> bool
         && next.first - interval.last == 1
 }
 
-/// Whether it begins there with the same mark.
-pub(crate) fn goes_on<M: Mark>(interval: &Interval<M>, next: &Interval<M>) -> bool
+/// Whether it begins there with the same label.
+pub(crate) fn goes_on<M: Label>(interval: &Interval<M>, next: &Interval<M>) -> bool
     ensures { IsTrue result ↔ GoesOn interval.now next.now }
 {
-    is_next(interval, next) && interval.mark.is_same(&next.mark)
+    is_next(interval, next) && interval.label.is_same(&next.label)
 }
 
 // Adds an interval after the others, or lengthens their last one where it goes on there.
-fn push_joined<M: Mark>(
+fn push_joined<M: Label>(
     intervals: &mut Vec<Interval<M>>,
     next: Interval<M>,
 ) -> Result<(), AllocError>
@@ -54,19 +54,19 @@ fn push_joined<M: Mark>(
     Ok(())
 }
 
-/// The intervals in order, by the groups of their marks and then by their units, with neighbours
-/// joined that go on with the same mark.
-pub(crate) fn in_order<M: Mark>(
+/// The intervals in order, by the groups of their labels and then by their units, with neighbours
+/// joined that go on with the same label.
+pub(crate) fn in_order<M: Label>(
     alloc: Global,
     intervals: &[Interval<M>],
 ) -> Result<Vec<Interval<M>>, AllocError>
     requires { AreKept intervals.now }
     ensures ordered { IfOk result (λ v. AreCanonical M.group v.items) }
     ensures kept { IfOk result (λ v. AreKept v.items) }
-    ensures same { IfOk result (λ v. (u : Serial) → mark_at v.items u ≡ mark_at intervals.now u) }
+    ensures same { IfOk result (λ v. (u : Serial) → label_at v.items u ≡ label_at intervals.now u) }
 {
     let mut sorted = Vec::from_slice(alloc, intervals)?;
-    sorted.sort_unstable_by_key(|interval| (interval.mark.group(), first_unit(interval)));
+    sorted.sort_unstable_by_key(|interval| (interval.label.group(), first_unit(interval)));
     let mut joined = Vec::new(alloc);
     for next in &sorted {
         push_joined(&mut joined, *next)?;

@@ -8,6 +8,7 @@ use crate::refusal_code::{BLOCKS_OVERLAP, OUT_OF_MEMORY, UNIT_NOT_HELD};
 /// Why an input was refused: one of the codes in `refusal_code`.
 #[derive(Clone, Copy, Debug, PartialEq, Eq)]
 pub struct Refusal {
+    /// A code of `refusal_code`.
     pub code: u16,
 }
 

@@ -1,11 +1,11 @@
-//! A map from single units to marks.
+//! A map from single units to labels.
 ghost use Rattle.std.specs.Prelude.{◌≡◌, ◌≢◌, ◌⊎◌, Bool, true, false, not, Some, None, Option, IsTrue, IsSome, OnOk, OnErr, IfOk, find, option_map, count_by, if◌then◌else◌};
 ghost use Rattle.std.specs.Bool.{OnTrue, OnFalse};
 ghost use Rattle.std.specs.FinMap as map;
 ghost use Rattle.std.specs.Option.{option_map_or};
 ghost use Rattle.units.specs.Apart.{AllApart};
 ghost use Rattle.units.specs.Canonical.{AreCanonical};
-ghost use Rattle.units.specs.Intervals.{mark_at, AreKept, marks_that};
+ghost use Rattle.units.specs.Intervals.{label_at, AreKept, labels_that};
 ghost use Rattle.units.specs.Spans.{interval_at, intervals_of};
 ghost use Rattle.units.specs.Unit.{has_unit, covers};
 ghost use Rattle.units.specs.declared.block.Block.{Block};
@@ -21,7 +21,7 @@ mod walking;
 
 use crate::block::{Block, Unit};
 use crate::counting::count_where;
-use crate::interval::{Interval, Mark};
+use crate::interval::{Interval, Label};
 use crate::memory::NoMemory;
 use crate::ordering::in_order;
 use finding::interval_with;
@@ -34,14 +34,15 @@ use std::collections::BTreeMap;
 use std::marker::Model;
 use walking::change_in;
 
-/// The last number and the mark of units in a row, of which an ordered map has the first one as its key.
+/// The last number and the label of units in a row, of which an ordered map has the first one as its key.
 #[derive(Clone, Copy, Debug, PartialEq, Eq)]
 pub struct Span<M> {
+    /// The number of the last unit, at most `LAST_UNIT`.
     pub last: u64,
-    pub mark: M,
+    pub label: M,
 }
 
-/// Which units there are, and the mark of each, kept as intervals in order that share no unit, with no two that could
+/// Which units there are, and the label of each, kept as intervals in order that share no unit, with no two that could
 /// be one.
 #[derive(Debug, Drop)]
 pub struct UnitMap<M> {
@@ -51,7 +52,7 @@ pub struct UnitMap<M> {
 
 impl<M> Model for UnitMap<M> {
     ghost use Rattle.std.specs.FinMap as map;
-    ghost use Rattle.units.specs.Intervals.{marks_of};
+    ghost use Rattle.units.specs.Intervals.{labels_of};
     ghost use Rattle.units.specs.Keys.{unit_cmp};
     ghost use Rattle.units.specs.Spans.{intervals_of, IsSpanMap};
     ghost use Rattle.units.specs.contracts.block.Unit as serial;
@@ -60,7 +61,7 @@ impl<M> Model for UnitMap<M> {
 
     ghost coded = { map.code serial.the_row.coded M.code };
 
-    ghost view = { λ s. marks_of (intervals_of s.spans.entries) };
+    ghost view = { λ s. labels_of (intervals_of s.spans.entries) };
 
     ghost invariant = { λ s. IsSpanMap s.spans };
 }
@@ -75,7 +76,7 @@ impl<M: Copy> Span<M> {
             period: at.period,
             first: at.number,
             last: self.last,
-            mark: self.mark,
+            label: self.label,
         }
     }
 }
@@ -91,24 +92,24 @@ impl<M> UnitMap<M> {
         }
     }
 
-    /// The intervals, by their first units: none shares a unit with another, and neighbours with equal marks are one.
+    /// The intervals, by their first units: none shares a unit with another, and neighbours with equal labels are one.
     /// Takes no memory.
     pub fn pieces(&self) -> &BTreeMap<Unit, Span<M>>
         ensures kept { AreKept (intervals_of result.now.entries) }
         ensures joined { AreCanonical (λ _. 0) (intervals_of result.now.entries) }
-        ensures means { (u : Serial) → mark_at (intervals_of result.now.entries) u ≡ map.get self.now u }
+        ensures means { (u : Serial) → label_at (intervals_of result.now.entries) u ≡ map.get self.now u }
     {
         &self.spans
     }
 }
 
 impl<M: Copy> UnitMap<M> {
-    /// The mark of a unit that is there. Takes no memory.
+    /// The label of a unit that is there. Takes no memory.
     pub fn get(&self, unit: &Unit) -> Option<M>
         ensures { result ≡ map.get self.now unit.now }
     {
         let interval = interval_with(&self.spans, unit)?;
-        Some(interval.mark)
+        Some(interval.label)
     }
 
     /// An equal map, or `NoMemory`.
@@ -130,7 +131,7 @@ impl<M: Copy> UnitMap<M> {
         !some_passes(&self.spans, block, |_| true)
     }
 
-    /// Whether each of the block's units is there with a mark that passes the test. Takes no memory.
+    /// Whether each of the block's units is there with a label that passes the test. Takes no memory.
     pub fn has_all_of<F: Fn(M) -> bool>(&self, block: &Block, test: F) -> bool
         requires { F.IsAlwaysCallable test }
         ensures all { (passes : M → Bool) → ((m : M) (r : Bool) → F.post test m r → r ≡ passes m) → OnTrue result ((u : Serial) → IsTrue (has_unit block.now.raw u) → option_map passes (map.get self.now u) ≡ Some true) }
@@ -139,7 +140,7 @@ impl<M: Copy> UnitMap<M> {
         all_pass(&self.spans, block, test)
     }
 
-    /// Whether one of the block's units is there with a mark that passes the test. Takes no memory.
+    /// Whether one of the block's units is there with a label that passes the test. Takes no memory.
     pub fn has_some_of<F: Fn(M) -> bool>(&self, block: &Block, test: F) -> bool
         requires { F.IsAlwaysCallable test }
         ensures some { (passes : M → Bool) → ((m : M) (r : Bool) → F.post test m r → r ≡ passes m) → OnTrue result ((u : Serial) × IsTrue (has_unit block.now.raw u) × (option_map passes (map.get self.now u) ≡ Some true)) }
@@ -148,7 +149,7 @@ impl<M: Copy> UnitMap<M> {
         some_passes(&self.spans, block, test)
     }
 
-    /// How many units are there whose mark passes the test. Takes no memory.
+    /// How many units are there whose label passes the test. Takes no memory.
     pub fn count_where<F: Fn(M) -> bool>(&self, test: F) -> u64
         requires { F.IsAlwaysCallable test }
         ensures { (passes : M → Bool) → ((m : M) (r : Bool) → F.post test m r → r ≡ passes m) → result ≡ count_by (λ e. passes e.1) (map.entries self.now) }
@@ -156,65 +157,65 @@ impl<M: Copy> UnitMap<M> {
         count_where(&self.spans, test)
     }
 
-    /// Takes out the units whose marks pass the test. Only units of the blocks have such marks. Takes no memory.
+    /// Takes out the units whose labels pass the test. Only units of the blocks have such labels. Takes no memory.
     pub fn remove_in<F: Fn(M) -> bool>(&mut self, blocks: &[Block], test: F)
         requires callable { F.IsAlwaysCallable test }
         requires only { (u : Serial) (m : M) → map.get self.old u ≡ Some m → F.post test m false ⊎ IsTrue (covers blocks.now u) }
-        ensures { (passes : M → Bool) → ((m : M) (r : Bool) → F.post test m r → r ≡ passes m) → (u : Serial) → map.get self.new u ≡ marks_that (λ m. not (passes m)) (map.get self.old u) }
+        ensures { (passes : M → Bool) → ((m : M) (r : Bool) → F.post test m r → r ≡ passes m) → (u : Serial) → map.get self.new u ≡ labels_that (λ m. not (passes m)) (map.get self.old u) }
     {
         change_in(
             &mut self.spans,
             blocks,
-            |mark| if test(mark) { None } else { Some(mark) },
+            |label| if test(label) { None } else { Some(label) },
         );
     }
 }
 
-impl<M: Mark> UnitMap<M> {
-    /// Gives the block's units that mark, whether they are there or not, or takes them out. After
+impl<M: Label> UnitMap<M> {
+    /// Gives the block's units that label, whether they are there or not, or takes them out. After
     /// `NoMemory` nothing has changed.
-    pub fn set(&mut self, block: &Block, mark: Option<M>) -> Result<(), NoMemory>
-        ensures ok { OnOk result ((u : Serial) → map.get self.new u ≡ (if has_unit block.now.raw u then mark else map.get self.old u)) }
+    pub fn set(&mut self, block: &Block, label: Option<M>) -> Result<(), NoMemory>
+        ensures ok { OnOk result ((u : Serial) → map.get self.new u ≡ (if has_unit block.now.raw u then label else map.get self.old u)) }
         ensures err { OnErr result (self.new ≡ self.old) }
     {
-        self.set_all(&[*block], |_| mark)
+        self.set_all(&[*block], |_| label)
     }
 
-    /// Gives the units of each block the mark that the function gives the block, whether they are there or not, or
+    /// Gives the units of each block the label that the function gives the block, whether they are there or not, or
     /// takes them out. After `NoMemory` nothing has changed.
     pub fn set_all<F: Fn(Block) -> Option<M>>(
         &mut self,
         blocks: &[Block],
-        mark: F,
+        label: F,
     ) -> Result<(), NoMemory>
-        requires callable { F.IsAlwaysCallable mark }
+        requires callable { F.IsAlwaysCallable label }
         requires apart { AllApart blocks.now }
-        ensures ok { (marks : Block → Option M) → ((b : Block) (r : Option M) → F.post mark b r → r ≡ marks b) → OnOk result ((u : Serial) → map.get self.new u ≡ option_map_or marks (find (λ b. has_unit b.raw u) blocks.now) (map.get self.old u)) }
+        ensures ok { (labels : Block → Option M) → ((b : Block) (r : Option M) → F.post label b r → r ≡ labels b) → OnOk result ((u : Serial) → map.get self.new u ≡ option_map_or labels (find (λ b. has_unit b.raw u) blocks.now) (map.get self.old u)) }
         ensures err { OnErr result (self.new ≡ self.old) }
     {
-        set_each(&mut self.spans, blocks, &mark)?;
+        set_each(&mut self.spans, blocks, &label)?;
         join_along(&mut self.spans, blocks);
         Ok(())
     }
 
-    /// Changes each mark to what the function gives. Only units of the blocks have marks that it changes. Takes no
+    /// Changes each label to what the function gives. Only units of the blocks have labels that it changes. Takes no
     /// memory.
-    pub fn remark_in<F: Fn(M) -> M>(&mut self, blocks: &[Block], change: F)
+    pub fn relabel_in<F: Fn(M) -> M>(&mut self, blocks: &[Block], change: F)
         requires callable { F.IsAlwaysCallable change }
         requires only { (u : Serial) (m r : M) → map.get self.old u ≡ Some m → F.post change m r → (r ≡ m) ⊎ IsTrue (covers blocks.now u) }
         requires same { (u : Serial) (m : M) → map.get self.old u ≡ Some m → F.post change m m ⊎ IsTrue (covers blocks.now u) }
         ensures { (after : M → M) → ((m r : M) → F.post change m r → r ≡ after m) → ((m : M) → after (after m) ≡ after m) → (u : Serial) → map.get self.new u ≡ option_map after (map.get self.old u) }
     {
-        change_in(&mut self.spans, blocks, |mark| Some(change(mark)));
+        change_in(&mut self.spans, blocks, |label| Some(change(label)));
         join_along(&mut self.spans, blocks);
     }
 
-    /// The units as intervals in order: by the groups of their marks and then by origin, period and
-    /// number, neighbours with one mark joined. Or `NoMemory`.
+    /// The units as intervals in order: by the groups of their labels and then by origin, period and
+    /// number, neighbours with one label joined. Or `NoMemory`.
     pub fn in_order(&self) -> Result<Vec<Interval<M>>, NoMemory>
         ensures ordered { IfOk result (λ v. AreCanonical M.group v.items) }
         ensures kept { IfOk result (λ v. AreKept v.items) }
-        ensures same { IfOk result (λ v. (u : Serial) → mark_at v.items u ≡ map.get self.now u) }
+        ensures same { IfOk result (λ v. (u : Serial) → label_at v.items u ≡ map.get self.now u) }
     {
         let intervals = intervals(self.alloc, &self.spans)?;
         Ok(in_order(self.alloc, &intervals)?)

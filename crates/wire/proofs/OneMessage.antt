@@ -11,12 +11,12 @@ use Rattle.status.specs.Content.{Content}
 use Rattle.status.specs.Id.{id_text}
 use Rattle.status.specs.Status.{status_text}
 use Rattle.status.specs.declared.id.TransactionId.{TransactionId}
-use Rattle.status.specs.declared.words.Status.{Status}
-use Rattle.status.specs.declared.words.Status.TheVariants as status
+use Rattle.status.specs.declared.status.Status.{Status}
+use Rattle.status.specs.declared.status.Status.TheVariants as status
 use Rattle.status.proofs.Ids.{id_text_same}
 use Rattle.wire.specs.Messages.{IsMessage, IsLine}
-use Rattle.wire.specs.Notices.{notice_status, notice_codes, proposal_status}
-use Rattle.wire.specs.Reading.{HasContent, HasNotice, IsProposal, IsNotification, IsRequest}
+use Rattle.wire.specs.NotifiedStatuses.{notified_status, notified_codes, proposal_status}
+use Rattle.wire.specs.Reading.{HasContent, HasNotified, IsProposal, IsNotification, IsRequest}
 use Rattle.wire.specs.declared.message.Message.{Message}
 use Rattle.wire.specs.declared.message.Message.TheVariants as message
 use Rattle.wire.specs.declared.message.Notification.{Notification}
@@ -24,8 +24,8 @@ use Rattle.wire.specs.declared.message.Proposal.{Proposal}
 use Rattle.wire.specs.declared.message.ProposalStatus.{ProposalStatus}
 use Rattle.wire.specs.declared.message.ProposalStatus.TheVariants.{Proposed, Checked}
 use Rattle.wire.specs.declared.message.Request.{Request}
-use Rattle.wire.specs.declared.notice.Notice.{Notice}
-use Rattle.wire.specs.declared.notice.Notice.TheVariants.{Accepted, Rejected, Terminated, Cancelled, Completed}
+use Rattle.wire.specs.declared.notified.NotifiedStatus.{NotifiedStatus}
+use Rattle.wire.specs.declared.notified.NotifiedStatus.TheVariants.{Accepted, Rejected, Terminated, Cancelled, Completed}
 use Rattle.fields.proofs.OneAtKey.{text_once, whole_once}
 use Rattle.wire.proofs.Told.{numbers_once, blocks_once, short_blocks}
 
@@ -67,7 +67,7 @@ proposal_status_same Proposed Checked e = absurd (cc)
 proposal_status_same Checked Proposed e = absurd (cc)
 proposal_status_same Checked Checked e = refl
 
--- ---- contents and notices
+-- ---- contents and notified statuses
 
 content_once : (d : Data) (a b : Content) → HasContent d a → HasContent d b → a ≡ b
 content_once d a b p q =
@@ -77,27 +77,27 @@ content_once d a b p q =
     let lists = blocks_once d (codes "units") a.units b.units (short_blocks a.units p.4.in_range) (short_blocks b.units q.4.in_range) p.3 q.3 in
     λ i. record { account = accounts i; acquirer = acquirers i; to_account = others i; units = lists i }
 
--- the notice of a status and codes
-notice_made : Status → List ℕ → Notice
-notice_made status.Rejected cs = Rejected cs
-notice_made status.Terminated cs = Terminated cs
-notice_made status.Cancelled cs = Cancelled
-notice_made status.Completed cs = Completed
-notice_made _ cs = Accepted
+-- the notified status of a status and codes
+notified_made : Status → List ℕ → NotifiedStatus
+notified_made status.Rejected cs = Rejected cs
+notified_made status.Terminated cs = Terminated cs
+notified_made status.Cancelled cs = Cancelled
+notified_made status.Completed cs = Completed
+notified_made _ cs = Accepted
 
-notice_again : (n : Notice) → notice_made (notice_status n) (notice_codes n) ≡ n
-unfolding notice_made
-notice_again Accepted = refl
-notice_again (Rejected cs) = refl
-notice_again (Terminated cs) = refl
-notice_again Cancelled = refl
-notice_again Completed = refl
+notified_again : (n : NotifiedStatus) → notified_made (notified_status n) (notified_codes n) ≡ n
+unfolding notified_made
+notified_again Accepted = refl
+notified_again (Rejected cs) = refl
+notified_again (Terminated cs) = refl
+notified_again Cancelled = refl
+notified_again Completed = refl
 
-notice_once : (d : Data) (m n : Notice) → HasNotice d m → HasNotice d n → m ≡ n
-notice_once d m n p q =
-    let told = numbers_once d (codes "codes") (notice_codes m) (notice_codes n) p.0 q.0 in
-    let said = status_once d (codes "status") (notice_status m) (notice_status n) p.1 q.1 in
-    sym (notice_again m) ∙ ap (λ s. notice_made s (notice_codes m)) said ∙ ap (notice_made (notice_status n)) told ∙ notice_again n
+notified_once : (d : Data) (m n : NotifiedStatus) → HasNotified d m → HasNotified d n → m ≡ n
+notified_once d m n p q =
+    let told = numbers_once d (codes "codes") (notified_codes m) (notified_codes n) p.0 q.0 in
+    let said = status_once d (codes "status") (notified_status m) (notified_status n) p.1 q.1 in
+    sym (notified_again m) ∙ ap (λ s. notified_made s (notified_codes m)) said ∙ ap (notified_made (notified_status n)) told ∙ notified_again n
 
 -- ---- messages
 
@@ -123,8 +123,8 @@ notification_once d m n h k =
     let froms = node_once d (codes "from") m.from n.from f.1.1.0 g.1.1.0 in
     let tos = node_once d (codes "to") m.to n.to f.1.1.1.1.0 g.1.1.1.1.0 in
     let ids = id_once d (codes "transaction") m.id n.id f.1.1.1.1.1.0 g.1.1.1.1.1.0 in
-    let notices = notice_once d m.notice n.notice (f.1.0, f.1.1.1.0, h.1) (g.1.0, g.1.1.1.0, k.1) in
-    λ i. record { from = froms i; to = tos i; id = ids i; notice = notices i }
+    let notified_statuses = notified_once d m.notified n.notified (f.1.0, f.1.1.1.0, h.1) (g.1.0, g.1.1.1.0, k.1) in
+    λ i. record { from = froms i; to = tos i; id = ids i; notified = notified_statuses i }
 
 pub request_once : (d : Data) (r s : Request) → IsRequest d r → IsRequest d s → r ≡ s
 request_once d r s h k =

@@ -22,19 +22,19 @@ use Rattle.status.specs.Content.{IsContent}
 use Rattle.status.specs.Id.{id_text}
 use Rattle.status.specs.Status.{status_text}
 use Rattle.status.specs.declared.id.TransactionId.{TransactionId}
-use Rattle.status.specs.declared.words.Status.{Status}
-use Rattle.status.specs.declared.words.Status.TheVariants as status
+use Rattle.status.specs.declared.status.Status.{Status}
+use Rattle.status.specs.declared.status.Status.TheVariants as status
 use Rattle.wire.specs.Codes.{Ascends}
 use Rattle.wire.specs.Messages.{proposal_fields, notification_fields, request_fields, message_fields, message_data, message_text, IsSound, IsLine}
-use Rattle.wire.specs.Notices.{notice_status, notice_codes, IsNotice, proposal_status}
+use Rattle.wire.specs.NotifiedStatuses.{notified_status, notified_codes, IsNotified, proposal_status}
 use Rattle.wire.specs.Objects.{Field, HasExactly, object_of, members_of, whole_items, block_items}
 use Rattle.wire.specs.declared.message.Message.{Message}
 use Rattle.wire.specs.declared.message.Message.TheVariants as message
 use Rattle.wire.specs.declared.message.Notification.{Notification}
 use Rattle.wire.specs.declared.message.Proposal.{Proposal}
 use Rattle.wire.specs.declared.message.Request.{Request}
-use Rattle.wire.specs.declared.notice.Notice.{Notice}
-use Rattle.wire.specs.declared.notice.Notice.TheVariants.{Accepted, Rejected, Terminated, Cancelled, Completed}
+use Rattle.wire.specs.declared.notified.NotifiedStatus.{NotifiedStatus}
+use Rattle.wire.specs.declared.notified.NotifiedStatus.TheVariants.{Accepted, Rejected, Terminated, Cancelled, Completed}
 
 -- ---- no float
 
@@ -48,7 +48,7 @@ whole_no_float (n ∷ ns) = whole_no_float ns
 
 pub message_no_float : (m : Message) → has_float (message_data m) ≡ false
 message_no_float (message.Proposal p) = rw (blocks_no_float p.content.units) refl
-message_no_float (message.Notification n) = rw (whole_no_float (notice_codes n.notice)) refl
+message_no_float (message.Notification n) = rw (whole_no_float (notified_codes n.notified)) refl
 message_no_float (message.Request r) = refl
 
 -- ---- at most two levels
@@ -63,7 +63,7 @@ whole_flat (n ∷ ns) = rw (whole_flat ns) refl
 
 pub message_depth : (m : Message) → depth (message_data m) ≤ 2
 message_depth (message.Proposal p) = rw (blocks_flat p.content.units) (lit≤ tt)
-message_depth (message.Notification n) = rw (whole_flat (notice_codes n.notice)) (lit≤ tt)
+message_depth (message.Notification n) = rw (whole_flat (notified_codes n.notified)) (lit≤ tt)
 message_depth (message.Request r) = lit≤ tt
 
 -- ---- the fields that were wanted
@@ -142,12 +142,12 @@ ascends_short later first last (c ∷ cs) are lt =
     let k = comma_short later in
     omega (arith, length-append (comma_if later) (decimal c ++ items_text true (whole_items cs)), length-append (decimal c) (items_text true (whole_items cs)))
 
-notice_short : (n : Notice) → IsNotice n → length (items_text false (whole_items (notice_codes n))) ≤ 153
-notice_short Accepted is = lit≤ tt
-notice_short (Rejected cs) is = let f = ascends_few 301 304 cs is.1 (omega arith) in let s = ascends_short false 301 304 cs is.1 (omega arith) in omega arith
-notice_short (Terminated cs) is = let f = ascends_few 201 208 cs is.1 (omega arith) in let s = ascends_short false 201 208 cs is.1 (omega arith) in omega arith
-notice_short Cancelled is = lit≤ tt
-notice_short Completed is = lit≤ tt
+notified_short : (n : NotifiedStatus) → IsNotified n → length (items_text false (whole_items (notified_codes n))) ≤ 153
+notified_short Accepted is = lit≤ tt
+notified_short (Rejected cs) is = let f = ascends_few 301 304 cs is.1 (omega arith) in let s = ascends_short false 301 304 cs is.1 (omega arith) in omega arith
+notified_short (Terminated cs) is = let f = ascends_few 201 208 cs is.1 (omega arith) in let s = ascends_short false 201 208 cs is.1 (omega arith) in omega arith
+notified_short Cancelled is = lit≤ tt
+notified_short Completed is = lit≤ tt
 
 node_short : (n : Node) → length (node_text n) ≤ 3
 node_short Itl = lit≤ tt
@@ -204,16 +204,16 @@ proposal_short p is =
       blocks_short false p.content.units is.in_range,
     )
 
-notification_short : (n : Notification) → IsNotice n.notice → most (notification_fields n) ≤ 8191
+notification_short : (n : Notification) → IsNotified n.notified → most (notification_fields n) ≤ 8191
 notification_short n is =
     omega (
       arith,
       quoted_short (codes "AcceptNotification"),
-      notice_short n.notice is,
+      notified_short n.notified is,
       quoted_short (node_text n.from),
       node_short n.from,
-      quoted_short (status_text (notice_status n.notice)),
-      status_short (notice_status n.notice),
+      quoted_short (status_text (notified_status n.notified)),
+      status_short (notified_status n.notified),
       quoted_short (node_text n.to),
       node_short n.to,
       quoted_short (id_text n.id),

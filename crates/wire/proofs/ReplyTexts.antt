@@ -1,4 +1,5 @@
--- Replies and the objects that write them: the two parts of an object, one reply for each value, and the texts read back.
+-- Replies and the objects that write them: the two parts of an object, one reply for each value, and the texts read
+-- back.
 use Rattle.std.proofs.Common.{◌≡◌, ℕ, ◌+◌, ◌/◌, ◌%◌, ◌≤◌, zero, suc, List, [], ◌∷◌, ◌++◌, length, decimal, Bool, true, false, not, codes, Option, Some, refl, sym, ap, subst, ◌∙◌, arith}
 use Rattle.std.specs.Coded.{×_prop, le_prop}
 use Rattle.std.proofs.lemmas.Slice.Eq.{bytes_eq-Decides}

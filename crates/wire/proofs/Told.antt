@@ -18,11 +18,11 @@ use Rattle.units.proofs.OneText.{code_text_same, raw_same}
 use Rattle.status.specs.Content.{Content, IsContent, raws}
 use Rattle.status.specs.Status.{status_text}
 use Rattle.wire.specs.Codes.{Ascends}
-use Rattle.wire.specs.Notices.{notice_status, notice_codes, IsNotice}
+use Rattle.wire.specs.NotifiedStatuses.{notified_status, notified_codes, IsNotified}
 use Rattle.wire.specs.Objects.{whole, whole_items, numbers, block_items, blocks}
-use Rattle.wire.specs.Reading.{HasContent, Says, HasNotice}
-use Rattle.wire.specs.declared.notice.Notice.{Notice}
-use Rattle.wire.specs.declared.notice.Notice.TheVariants.{Accepted, Rejected, Terminated, Cancelled, Completed}
+use Rattle.wire.specs.Reading.{HasContent, Says, HasNotified}
+use Rattle.wire.specs.declared.notified.NotifiedStatus.{NotifiedStatus}
+use Rattle.wire.specs.declared.notified.NotifiedStatus.TheVariants.{Accepted, Rejected, Terminated, Cancelled, Completed}
 use Rattle.wire.proofs.Items.{AreShort}
 
 -- ---- contents
@@ -82,13 +82,13 @@ content_found d account to_account acquirer units None a t r u range some valid 
     let lists : c.units ≡ units = blocks_once d (codes "units") c.units units (short_blocks c.units valid.in_range) (short_blocks units range) h.3 u in
     none (subst (λ us. IsContent (record { account = account; acquirer = acquirer; to_account = to_account; units = us })) lists valid)
 
--- ---- notices
+-- ---- notified statuses
 
 small_codes : (first last : ℕ) (cs : List ℕ) → last < 2 ^ 16 → Ascends first last cs → AllByRecursion (λ c. c < 2 ^ 16) cs
 small_codes first last [] lt a = tt
 small_codes first last (c ∷ cs) lt a = (omega (arith, lt, a.0.1), small_codes (c + 1) last cs lt a.1)
 
-pub own_codes : (n : Notice) → IsNotice n → AllByRecursion (λ c. c < 2 ^ 16) (notice_codes n)
+pub own_codes : (n : NotifiedStatus) → IsNotified n → AllByRecursion (λ c. c < 2 ^ 16) (notified_codes n)
 own_codes Accepted is = tt
 own_codes (Rejected cs) is = small_codes 301 304 cs (omega arith) is.1
 own_codes (Terminated cs) is = small_codes 201 208 cs (omega arith) is.1
@@ -104,9 +104,9 @@ items_same (m ∷ ms) (n ∷ ns) e = let here : m ≡ n = cc (e) in let rest : w
 pub numbers_once : (d : Data) (key : List ℕ) (ms ns : List ℕ) → HasAt d key (numbers ms) → HasAt d key (numbers ns) → ms ≡ ns
 numbers_once d key ms ns p q = let e = at_once d key (numbers ms) (numbers ns) p q in items_same ms ns (cc (e))
 
-pub notice_found : (d : Data) (text told : List ℕ) (o : Option Notice) → Some text ≡ text_at (codes "status") d → HasAt d (codes "codes") (numbers told) → IfSome o (λ n. Says text told n)
-    → IfNone o ((n : Notice) → Says text told n → ⊥) → Finds (HasNotice d) (ok_or o Shape)
-notice_found d text told (Some n) at has some none =
+pub notified_found : (d : Data) (text told : List ℕ) (o : Option NotifiedStatus) → Some text ≡ text_at (codes "status") d → HasAt d (codes "codes") (numbers told) → IfSome o (λ n. Says text told n)
+    → IfNone o ((n : NotifiedStatus) → Says text told n → ⊥) → Finds (HasNotified d) (ok_or o Shape)
+notified_found d text told (Some n) at has some none =
     (subst (λ cs. HasAt d (codes "codes") (numbers cs)) some.1 has, subst (λ s. HasAt d (codes "status") (string s)) some.0 (string_at d (codes "status") text at), some.2)
-notice_found d text told None at has some none = λ n h.
-    none n (text_once d (codes "status") text (status_text (notice_status n)) (string_at d (codes "status") text at) h.1, numbers_once d (codes "codes") told (notice_codes n) has h.0, h.2)
+notified_found d text told None at has some none = λ n h.
+    none n (text_once d (codes "status") text (status_text (notified_status n)) (string_at d (codes "status") text at) h.1, numbers_once d (codes "codes") told (notified_codes n) has h.0, h.2)

@@ -2,7 +2,7 @@ pub mod Held
 pub mod Lines
 pub mod Splitting
 pub mod Codes
-pub mod Notices
+pub mod NotifiedStatuses
 pub mod Objects
 pub mod Parties
 pub mod Messages

@@ -8,7 +8,7 @@ use Rattle.units.specs.Limits.{longest_line}
 use Rattle.status.specs.Content.{IsContent}
 use Rattle.status.specs.Id.{id_text}
 use Rattle.status.specs.Status.{status_text}
-use Rattle.wire.specs.Notices.{notice_status, notice_codes, IsNotice, proposal_status}
+use Rattle.wire.specs.NotifiedStatuses.{notified_status, notified_codes, IsNotified, proposal_status}
 use Rattle.wire.specs.Objects.{Field, HasExactly, object_of, whole, numbers, blocks}
 use Rattle.wire.specs.declared.message.Message.{Message}
 use Rattle.wire.specs.declared.message.Message.TheVariants as message
@@ -26,8 +26,8 @@ proposal_fields p =
 -- the fields of a notification, keys in byte order
 abbrev pub notification_fields : Notification → List Field
 notification_fields n =
-    (codes "call", string (codes "AcceptNotification")) ∷ (codes "codes", numbers (notice_codes n.notice)) ∷ (codes "from", string (node_text n.from))
-    ∷ (codes "status", string (status_text (notice_status n.notice))) ∷ (codes "to", string (node_text n.to)) ∷ (codes "transaction", string (id_text n.id)) ∷ []
+    (codes "call", string (codes "AcceptNotification")) ∷ (codes "codes", numbers (notified_codes n.notified)) ∷ (codes "from", string (node_text n.from))
+    ∷ (codes "status", string (status_text (notified_status n.notified))) ∷ (codes "to", string (node_text n.to)) ∷ (codes "transaction", string (id_text n.id)) ∷ []
 
 -- the fields of a request, keys in byte order
 abbrev pub request_fields : Request → List Field
@@ -50,7 +50,7 @@ message_text m = compact_text (message_data m)
 -- values in their ranges
 abbrev pub IsSound : Message → Type 0
 IsSound (message.Proposal p) = IsContent p.content
-IsSound (message.Notification n) = IsNotice n.notice
+IsSound (message.Notification n) = IsNotified n.notified
 IsSound (message.Request r) = Unit {0}
 
 -- the value writes the message

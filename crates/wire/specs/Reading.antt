@@ -11,7 +11,7 @@ use Rattle.status.specs.Content.{Content, IsContent}
 use Rattle.status.specs.Status.{status_text}
 use Rattle.status.specs.declared.moment.Moment.{Moment}
 use Rattle.wire.specs.Messages.{proposal_fields, notification_fields, request_fields, IsMessage}
-use Rattle.wire.specs.Notices.{notice_status, notice_codes, IsNotice, proposal_status}
+use Rattle.wire.specs.NotifiedStatuses.{notified_status, notified_codes, IsNotified, proposal_status}
 use Rattle.wire.specs.Objects.{HasExactly, whole, numbers, blocks}
 use Rattle.wire.specs.declared.input.Number.{Number}
 use Rattle.wire.specs.declared.message.Message.{Message}
@@ -19,7 +19,7 @@ use Rattle.wire.specs.declared.message.Notification.{Notification}
 use Rattle.wire.specs.declared.message.Proposal.{Proposal}
 use Rattle.wire.specs.declared.message.ProposalStatus.{ProposalStatus}
 use Rattle.wire.specs.declared.message.Request.{Request}
-use Rattle.wire.specs.declared.notice.Notice.{Notice}
+use Rattle.wire.specs.declared.notified.NotifiedStatus.{NotifiedStatus}
 
 -- an item that is the text of a block
 abbrev pub IsBlockItem : Data → Block → Type 0
@@ -39,19 +39,19 @@ HasContent d c =
     HasAt d (codes "account") (whole c.account) × HasAt d (codes "to_account") (whole c.to_account) × HasAt d (codes "to_registry") (string (code_text c.acquirer))
     × HasAt d (codes "units") (blocks c.units) × IsContent c
 
--- the text and the codes say the notice
-abbrev pub Says : List ℕ → List ℕ → Notice → Type 0
-Says text told n = (text ≡ status_text (notice_status n)) × (told ≡ notice_codes n) × IsNotice n
+-- the text and the codes say the notified status
+abbrev pub Says : List ℕ → List ℕ → NotifiedStatus → Type 0
+Says text told n = (text ≡ status_text (notified_status n)) × (told ≡ notified_codes n) × IsNotified n
 
--- the object has the notice at its two keys
-abbrev pub HasNotice : Data → Notice → Type 0
-HasNotice d n = HasAt d (codes "codes") (numbers (notice_codes n)) × HasAt d (codes "status") (string (status_text (notice_status n))) × IsNotice n
+-- the object has the notified status at its two keys
+abbrev pub HasNotified : Data → NotifiedStatus → Type 0
+HasNotified d n = HasAt d (codes "codes") (numbers (notified_codes n)) × HasAt d (codes "status") (string (status_text (notified_status n))) × IsNotified n
 
 abbrev pub IsProposal : Data → Proposal → Type 0
 IsProposal d p = HasExactly d (proposal_fields p) × IsContent p.content
 
 abbrev pub IsNotification : Data → Notification → Type 0
-IsNotification d n = HasExactly d (notification_fields n) × IsNotice n.notice
+IsNotification d n = HasExactly d (notification_fields n) × IsNotified n.notified
 
 abbrev pub IsRequest : Data → Request → Type 0
 IsRequest d r = HasExactly d (request_fields r)

@@ -10,6 +10,7 @@ use units::{Code, NoMemory};
 /// A number of at most `MOST_DIGITS` digits.
 #[derive(Clone, Copy, Debug, PartialEq, Eq, PartialOrd, Ord)]
 pub struct Number {
+    /// Less than 10 to the power of `MOST_DIGITS`.
     pub value: u64,
     pub ghost short: { value < too_long },
 }

@@ -7,7 +7,7 @@ ghost use Rattle.units.specs.declared.block.Block.{Block};
 ghost use Rattle.units.specs.declared.block.RawBlock.{RawBlock};
 ghost use Rattle.status.specs.Content.{raws};
 ghost use Rattle.fields.specs.Fields.{HasAt, EachIs};
-ghost use Rattle.fields.specs.Found.{Finds};
+ghost use Rattle.fields.specs.Found.{Finds, Reads};
 ghost use Rattle.wire.specs.Objects.{numbers, blocks};
 ghost use Rattle.wire.specs.Reading.{IsBlockItem, IsRawItem, IsCodeItem};
 
@@ -18,8 +18,7 @@ use units::{Block, Items, RawBlock};
 
 // The block that the value writes.
 fn block(value: &Value) -> Option<Block>
-    ensures some { IfSome result (λ b. IsBlockItem (view value.now) b) }
-    ensures none { IfNone result ((b : Block) → IsBlockItem (view value.now) b → ⊥) }
+    ensures { Reads (IsBlockItem (view value.now)) result }
 {
     let text = value.as_str()?;
     Block::read(text).ok()
@@ -27,8 +26,7 @@ fn block(value: &Value) -> Option<Block>
 
 // The block that the value writes, whatever its numbers.
 fn raw_block(value: &Value) -> Option<RawBlock>
-    ensures some { IfSome result (λ r. IsRawItem (view value.now) r) }
-    ensures none { IfNone result ((r : RawBlock) → IsRawItem (view value.now) r → ⊥) }
+    ensures { Reads (IsRawItem (view value.now)) result }
 {
     let text = value.as_str()?;
     RawBlock::read(text)
@@ -36,8 +34,7 @@ fn raw_block(value: &Value) -> Option<RawBlock>
 
 // The code that the value writes.
 fn code(value: &Value) -> Option<u16>
-    ensures some { IfSome result (λ n. IsCodeItem (view value.now) n) }
-    ensures none { IfNone result ((n : ℕ) → IsCodeItem (view value.now) n → ⊥) }
+    ensures { Reads (IsCodeItem (view value.now)) result }
 {
     let number = value.as_u64()?;
     u16::try_from(number).ok()
@@ -49,9 +46,7 @@ fn each_block(alloc: Global, values: &[Value]) -> Result<Items<Block>, ReadFault
 {
     let mut blocks = Vec::new(alloc);
     for value in values {
-        let Some(block) = block(value) else {
-            return Err(ReadFault::Shape);
-        };
+        let block = block(value).ok_or(ReadFault::Shape)?;
         blocks.push(block)?;
     }
     Ok(Items::from_vec(blocks))
@@ -63,9 +58,7 @@ fn each_raw_block(alloc: Global, values: &[Value]) -> Result<Items<RawBlock>, Re
 {
     let mut blocks = Vec::new(alloc);
     for value in values {
-        let Some(block) = raw_block(value) else {
-            return Err(ReadFault::Shape);
-        };
+        let block = raw_block(value).ok_or(ReadFault::Shape)?;
         blocks.push(block)?;
     }
     Ok(Items::from_vec(blocks))
@@ -77,9 +70,7 @@ fn each_code(alloc: Global, values: &[Value]) -> Result<Items<u16>, ReadFault>
 {
     let mut codes = Vec::new(alloc);
     for value in values {
-        let Some(code) = code(value) else {
-            return Err(ReadFault::Shape);
-        };
+        let code = code(value).ok_or(ReadFault::Shape)?;
         codes.push(code)?;
     }
     Ok(Items::from_vec(codes))
@@ -89,9 +80,7 @@ fn each_code(alloc: Global, values: &[Value]) -> Result<Items<u16>, ReadFault>
 pub fn blocks(alloc: Global, value: &Value) -> Result<Items<Block>, ReadFault>
     ensures { Finds (λ bs. HasAt (view value.now) (codes "units") (blocks (raws bs))) result }
 {
-    let Some(list) = list_at(value, "units") else {
-        return Err(ReadFault::Shape);
-    };
+    let list = list_at(value, "units").ok_or(ReadFault::Shape)?;
     each_block(alloc, list.as_slice())
 }
 
@@ -99,9 +88,7 @@ pub fn blocks(alloc: Global, value: &Value) -> Result<Items<Block>, ReadFault>
 pub fn raw_blocks(alloc: Global, value: &Value) -> Result<Items<RawBlock>, ReadFault>
     ensures { Finds (λ rs. HasAt (view value.now) (codes "units") (blocks rs) × AllByRecursion (λ b. (b.first < too_long) × (b.last < too_long)) rs) result }
 {
-    let Some(list) = list_at(value, "units") else {
-        return Err(ReadFault::Shape);
-    };
+    let list = list_at(value, "units").ok_or(ReadFault::Shape)?;
     each_raw_block(alloc, list.as_slice())
 }
 
@@ -109,8 +96,6 @@ pub fn raw_blocks(alloc: Global, value: &Value) -> Result<Items<RawBlock>, ReadF
 pub fn codes(alloc: Global, value: &Value) -> Result<Items<u16>, ReadFault>
     ensures { Finds (λ cs. HasAt (view value.now) (codes "codes") (numbers cs) × AllByRecursion (λ c. c < 2 ^ 16) cs) result }
 {
-    let Some(list) = list_at(value, "codes") else {
-        return Err(ReadFault::Shape);
-    };
+    let list = list_at(value, "codes").ok_or(ReadFault::Shape)?;
     each_code(alloc, list.as_slice())
 }

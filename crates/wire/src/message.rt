@@ -1,9 +1,9 @@
 //! Messages between registries and the log.
 ghost use Rattle.std.specs.Prelude.{◌≡◌, IfOk};
-ghost use Rattle.wire.specs.Notices.{notice_status, notice_codes, proposal_status, IsNotice};
+ghost use Rattle.wire.specs.NotifiedStatuses.{notified_status, notified_codes, proposal_status, IsNotified};
 ghost use Rattle.wire.specs.Parties as parties;
 
-use crate::notice::Notice;
+use crate::notified::NotifiedStatus;
 use status::{Content, Status, TransactionId};
 use units::{NoMemory, Node};
 
@@ -31,7 +31,7 @@ pub struct Notification {
     pub from: Node,
     pub to: Node,
     pub id: TransactionId,
-    pub notice: Notice,
+    pub notified: NotifiedStatus,
 }
 
 /// A registry asks the log to cancel a transfer that it proposed.
@@ -62,42 +62,42 @@ impl ProposalStatus {
     }
 }
 
-impl Notice {
+impl NotifiedStatus {
     /// The status that it tells.
     pub fn status(&self) -> Status
-        ensures { result ≡ notice_status self.now }
+        ensures { result ≡ notified_status self.now }
     {
         match self {
-            Notice::Accepted => Status::Accepted,
-            Notice::Rejected(_) => Status::Rejected,
-            Notice::Terminated(_) => Status::Terminated,
-            Notice::Cancelled => Status::Cancelled,
-            Notice::Completed => Status::Completed,
+            NotifiedStatus::Accepted => Status::Accepted,
+            NotifiedStatus::Rejected(_) => Status::Rejected,
+            NotifiedStatus::Terminated(_) => Status::Terminated,
+            NotifiedStatus::Cancelled => Status::Cancelled,
+            NotifiedStatus::Completed => Status::Completed,
         }
     }
 
     /// The codes of what was found: none but at Rejected and Terminated.
     pub fn codes(&self) -> &[u16]
-        ensures value { result.now ≡ notice_codes self.now }
-        ensures valid { IsNotice self.now }
+        ensures value { result.now ≡ notified_codes self.now }
+        ensures valid { IsNotified self.now }
     {
         match self {
-            Notice::Rejected(codes) => codes.as_slice(),
-            Notice::Terminated(codes) => codes.as_slice(),
+            NotifiedStatus::Rejected(codes) => codes.as_slice(),
+            NotifiedStatus::Terminated(codes) => codes.as_slice(),
             _ => &[],
         }
     }
 
-    /// An equal notice, or `NoMemory`.
-    pub fn copy(&self) -> Result<Notice, NoMemory>
+    /// An equal status, or `NoMemory`.
+    pub fn copy(&self) -> Result<NotifiedStatus, NoMemory>
         ensures { IfOk result (λ n. n ≡ self.now) }
     {
         match self {
-            Notice::Accepted => Ok(Notice::Accepted),
-            Notice::Rejected(codes) => Ok(Notice::Rejected(codes.copy()?)),
-            Notice::Terminated(codes) => Ok(Notice::Terminated(codes.copy()?)),
-            Notice::Cancelled => Ok(Notice::Cancelled),
-            Notice::Completed => Ok(Notice::Completed),
+            NotifiedStatus::Accepted => Ok(NotifiedStatus::Accepted),
+            NotifiedStatus::Rejected(codes) => Ok(NotifiedStatus::Rejected(codes.copy()?)),
+            NotifiedStatus::Terminated(codes) => Ok(NotifiedStatus::Terminated(codes.copy()?)),
+            NotifiedStatus::Cancelled => Ok(NotifiedStatus::Cancelled),
+            NotifiedStatus::Completed => Ok(NotifiedStatus::Completed),
         }
     }
 }
@@ -126,7 +126,7 @@ impl Notification {
             from: self.from,
             to: self.to,
             id: self.id,
-            notice: self.notice.copy()?,
+            notified: self.notified.copy()?,
         })
     }
 }

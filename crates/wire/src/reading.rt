@@ -6,14 +6,14 @@ ghost use Rattle.fields.specs.Found.{Finds, Reads};
 ghost use Rattle.units.specs.RefusalCodes.{not_a_message, out_of_memory};
 ghost use Rattle.status.specs.Content.{Content};
 ghost use Rattle.wire.specs.Messages.{IsMessage, IsLine};
-ghost use Rattle.wire.specs.Reading.{HasContent, Says, HasNotice, HasProposalStatus, IsProposal, IsNotification, IsRequest};
+ghost use Rattle.wire.specs.Reading.{HasContent, Says, HasNotified, HasProposalStatus, IsProposal, IsNotification, IsRequest};
 ghost use Rattle.wire.specs.declared.message.Message.{Message};
-ghost use Rattle.wire.specs.declared.notice.Notice.{Notice};
+ghost use Rattle.wire.specs.declared.notified.NotifiedStatus.{NotifiedStatus};
 
 use crate::codes::{AcquirerCodes, LogCodes};
 use crate::lists::{blocks, codes};
 use crate::message::{Message, Notification, Proposal, ProposalStatus, Request};
-use crate::notice::Notice;
+use crate::notified::NotifiedStatus;
 use crate::values::{code_at, has_text, id_at, node_at, whole_at};
 use fields::{ReadFault, has_keys, text_at};
 use serde_json::Value;
@@ -51,44 +51,46 @@ fn proposal_status(value: &Value) -> Option<ProposalStatus>
     None
 }
 
-// The notice, which has no codes.
-fn without_codes(notice: Notice, codes: &[u16]) -> Option<Notice>
-    ensures some { IfSome result (λ n. (n ≡ notice) × (codes.now ≡ [])) }
+// The status, which has no codes.
+fn without_codes(notified: NotifiedStatus, codes: &[u16]) -> Option<NotifiedStatus>
+    ensures some { IfSome result (λ n. (n ≡ notified) × (codes.now ≡ [])) }
     ensures none { IfNone result (codes.now ≡ [] → ⊥) }
 {
-    if codes.is_empty() { Some(notice) } else { None }
+    if codes.is_empty() {
+        Some(notified)
+    } else {
+        None
+    }
 }
 
-// The notice of that text and those codes.
-fn notice_of(text: &str, codes: Items<u16>) -> Option<Notice>
+// The status of that text and those codes.
+fn notified_of(text: &str, codes: Items<u16>) -> Option<NotifiedStatus>
     ensures some { IfSome result (λ n. Says text.now codes n) }
-    ensures none { IfNone result ((n : Notice) → Says text.now codes n → ⊥) }
+    ensures none { IfNone result ((n : NotifiedStatus) → Says text.now codes n → ⊥) }
 {
     match Status::read(text)? {
-        Status::Accepted => without_codes(Notice::Accepted, codes.as_slice()),
+        Status::Accepted => without_codes(NotifiedStatus::Accepted, codes.as_slice()),
         Status::Rejected => {
             let codes = AcquirerCodes::new(codes)?;
-            Some(Notice::Rejected(codes))
+            Some(NotifiedStatus::Rejected(codes))
         }
         Status::Terminated => {
             let codes = LogCodes::new(codes)?;
-            Some(Notice::Terminated(codes))
+            Some(NotifiedStatus::Terminated(codes))
         }
-        Status::Cancelled => without_codes(Notice::Cancelled, codes.as_slice()),
-        Status::Completed => without_codes(Notice::Completed, codes.as_slice()),
+        Status::Cancelled => without_codes(NotifiedStatus::Cancelled, codes.as_slice()),
+        Status::Completed => without_codes(NotifiedStatus::Completed, codes.as_slice()),
         _ => None,
     }
 }
 
 // What a notification says.
-fn notice(alloc: Global, value: &Value) -> Result<Notice, ReadFault>
-    ensures { Finds (HasNotice (view value.now)) result }
+fn notified(alloc: Global, value: &Value) -> Result<NotifiedStatus, ReadFault>
+    ensures { Finds (HasNotified (view value.now)) result }
 {
     let codes = codes(alloc, value)?;
-    let Some(text) = text_at(value, "status") else {
-        return Err(ReadFault::Shape);
-    };
-    notice_of(text, codes).ok_or(ReadFault::Shape)
+    let text = text_at(value, "status").ok_or(ReadFault::Shape)?;
+    notified_of(text, codes).ok_or(ReadFault::Shape)
 }
 
 fn proposal(alloc: Global, value: &Value) -> Result<Proposal, ReadFault>
@@ -120,12 +122,12 @@ fn notification(alloc: Global, value: &Value) -> Result<Notification, ReadFault>
     let from = node_at(value, "from").ok_or(ReadFault::Shape)?;
     let to = node_at(value, "to").ok_or(ReadFault::Shape)?;
     let id = id_at(value, "transaction").ok_or(ReadFault::Shape)?;
-    let notice = notice(alloc, value)?;
+    let notified = notified(alloc, value)?;
     Ok(Notification {
         from,
         to,
         id,
-        notice,
+        notified,
     })
 }
 

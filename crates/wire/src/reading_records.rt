@@ -94,9 +94,7 @@ fn eligibility(value: &Value) -> Option<(Code, bool)>
 fn message_at(alloc: Global, value: &Value) -> Result<Message, ReadFault>
     ensures { Finds (HasMessage (view value.now)) result }
 {
-    let Some(inner) = value_at(value, "message") else {
-        return Err(ReadFault::Shape);
-    };
+    let inner = value_at(value, "message").ok_or(ReadFault::Shape)?;
     message(alloc, inner)
 }
 

@@ -7,6 +7,7 @@ use units::refusal_code::{NOT_A_MESSAGE, OUT_OF_MEMORY};
 /// Why a message was refused: a code from `NOT_A_MESSAGE` to `OUT_OF_MEMORY`.
 #[derive(Clone, Copy, Debug, PartialEq, Eq)]
 pub struct ReplyCode {
+    /// `NOT_A_MESSAGE` to `OUT_OF_MEMORY`.
     pub number: u16,
     pub ghost in_range: { (not_a_message ≤ number) × (number ≤ out_of_memory) },
 }

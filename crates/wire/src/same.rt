@@ -3,7 +3,7 @@ ghost use Rattle.std.specs.Prelude.{◌≡◌, ◌↔◌, IsTrue};
 
 use crate::input::{Input, Number};
 use crate::message::{Message, Notification, Proposal, ProposalStatus, Request};
-use crate::notice::Notice;
+use crate::notified::NotifiedStatus;
 use status::{Moment, Status, TransactionId};
 use units::{Code, Node};
 
@@ -61,9 +61,9 @@ fn are_both(a: bool, b: bool) -> bool
     a == b
 }
 
-impl Notice {
+impl NotifiedStatus {
     /// Whether both are the same, with the same codes. Takes no memory.
-    pub fn same(&self, other: &Notice) -> bool
+    pub fn same(&self, other: &NotifiedStatus) -> bool
         ensures { IsTrue result ↔ self.now ≡ other.now }
     {
         are_same_statuses(self.status(), other.status())
@@ -92,7 +92,7 @@ impl Notification {
         are_same_nodes(self.from, other.from)
             && are_same_nodes(self.to, other.to)
             && are_same_ids(self.id, other.id)
-            && self.notice.same(&other.notice)
+            && self.notified.same(&other.notified)
     }
 }
 

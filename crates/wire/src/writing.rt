@@ -3,7 +3,7 @@ ghost use Rattle.std.specs.Prelude.{◌≡◌, IfOk, OnOk, take, drop};
 ghost use Rattle.serde_json.specs.View.{view, members_view};
 ghost use Rattle.status.specs.Content.{IsContent};
 ghost use Rattle.wire.specs.Messages.{proposal_fields, notification_fields, request_fields, message_data, message_text, IsSound, IsLine};
-ghost use Rattle.wire.specs.Notices.{IsNotice};
+ghost use Rattle.wire.specs.NotifiedStatuses.{IsNotified};
 ghost use Rattle.wire.specs.Objects.{object_of};
 ghost use Rattle.wire.specs.Writing.{put_all};
 
@@ -54,16 +54,16 @@ fn proposal_value(alloc: Global, proposal: &Proposal) -> Result<Value, NoMemory>
 }
 
 // The first three fields of a notification.
-fn put_notice(
+fn put_notified(
     alloc: Global,
     map: &mut Map<String, Value>,
     notification: &Notification,
 ) -> Result<(), NoMemory>
     ensures members { OnOk result (members_view map.new.entries ≡ put_all (take 3 (notification_fields notification.now)) (members_view map.old.entries)) }
-    ensures sound { OnOk result (IsNotice notification.now.notice) }
+    ensures sound { OnOk result (IsNotified notification.now.notified) }
 {
     put_text(alloc, map, "call", "AcceptNotification")?;
-    let codes = numbers(alloc, notification.notice.codes())?;
+    let codes = numbers(alloc, notification.notified.codes())?;
     put(alloc, map, "codes", Value::Array(codes))?;
     put_node(alloc, map, "from", notification.from)
 }
@@ -76,17 +76,17 @@ fn put_standing(
 ) -> Result<(), NoMemory>
     ensures { OnOk result (members_view map.new.entries ≡ put_all (drop 3 (notification_fields notification.now)) (members_view map.old.entries)) }
 {
-    put_text(alloc, map, "status", notification.notice.status().name())?;
+    put_text(alloc, map, "status", notification.notified.status().name())?;
     put_node(alloc, map, "to", notification.to)?;
     put_id(alloc, map, "transaction", notification.id)
 }
 
 fn notification_value(alloc: Global, notification: &Notification) -> Result<Value, NoMemory>
     ensures value { IfOk result (λ v. view v ≡ object_of (notification_fields notification.now)) }
-    ensures sound { IfOk result (λ _. IsNotice notification.now.notice) }
+    ensures sound { IfOk result (λ _. IsNotified notification.now.notified) }
 {
     let mut map = Map::new(alloc);
-    put_notice(alloc, &mut map, notification)?;
+    put_notified(alloc, &mut map, notification)?;
     put_standing(alloc, &mut map, notification)?;
     Ok(Value::Object(map))
 }

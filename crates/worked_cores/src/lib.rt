@@ -1,5 +1,5 @@
-//! Worked rows of whole registries and of the log: values from outside, each public function with enough memory, and what
-//! no clause says.
+//! Worked rows of whole registries and of the log: values from outside, each public function with enough memory, and
+//! what no clause says.
 #![tactic(auto)]
 
 #[cfg(test)]

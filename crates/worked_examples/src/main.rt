@@ -1,8 +1,8 @@
 //! Runs the examples that its words name, and tells of each whether it comes to what its folder has.
 //!
-//! An example is a folder with the file `input`, and beside it `output`, what `rehearse` writes of it, or `error`, the line of its fault;
-//! or with the file `words`, words of a command line, and beside it `output`, the help or the version that they ask for, or `error`, what is
-//! written of wrong words, before each line gets the program's name.
+//! An example is a folder with the file `input`, and beside it `output`, what `rehearse` writes of it, or `error`,
+//! the line of its fault; or with the file `words`, words of a command line, and beside it `output`, the help or the
+//! version that they ask for, or `error`, what is written of wrong words, before each line gets the program's name.
 #![tactic(auto)]
 
 use operator::{OpFault, UsageFault, parse_words, rehearse};

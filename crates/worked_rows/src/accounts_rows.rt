@@ -1,4 +1,4 @@
-use accounts::{Holdings, Line};
+use accounts::{HeldBlock, Holdings};
 use status::TransactionId;
 use std::alloc::Global;
 use std::process::Abort;
@@ -18,8 +18,8 @@ fn id(rt: &impl Abort, text: &str) -> TransactionId {
 }
 
 // A line of account 1.
-fn line(rt: &impl Abort, text: &str, reserving: Option<TransactionId>) -> Line {
-    Line {
+fn line(rt: &impl Abort, text: &str, reserving: Option<TransactionId>) -> HeldBlock {
+    HeldBlock {
         account: 1,
         block: block(rt, text),
         reserving,
@@ -34,7 +34,7 @@ fn hundred(alloc: Global) -> Result<Holdings, Fail> {
 }
 
 // The holdings are these lines.
-fn assert_lines(rt: &impl Abort, holdings: &Holdings, alloc: Global, wanted: &[Line]) {
+fn assert_lines(rt: &impl Abort, holdings: &Holdings, alloc: Global, wanted: &[HeldBlock]) {
     let lines = holdings.lines(alloc).expect(rt, "memory");
     assert!(rt; lines.as_slice() == wanted);
 }
@@ -116,7 +116,7 @@ fn one_transaction_reserves_twice(rt: HostRuntime) -> Result<(), Fail> {
     assert_released(&rt, &mut holdings, first, 100);
     assert_reserved(&rt, &mut holdings, &shared, first, 60);
     assert_removed(&rt, &mut holdings, first, 60);
-    assert_eq!(rt; holdings.lot(&shared[0].first_unit()), None);
+    assert_eq!(rt; holdings.unit_holding(&shared[0].first_unit()), None);
     Ok(())
 }
 

@@ -1,4 +1,4 @@
-use scheme::{Allotment, Holder, Member, Scheme, SchemeFault};
+use scheme::{Allotment, Holder, Scheme, SchemeFault, SchemeRegistry};
 use std::alloc::Global;
 use std::process::Abort;
 use std::test::Fail;
@@ -51,7 +51,7 @@ fn repeated(alloc: Global, count: u64, before: &str, after: &str) -> Result<Stri
 }
 
 /// The registry has that code and these accounts, and is eligible.
-fn assert_member(rt: &impl Abort, member: &Member, code: &str, accounts: &[u64]) {
+fn assert_member(rt: &impl Abort, member: &SchemeRegistry, code: &str, accounts: &[u64]) {
     let code = Code::read(code).expect(rt, "two letters");
     assert_eq!(rt; member.code, code);
     assert!(rt; member.accounts.as_slice() == accounts);

@@ -1,5 +1,6 @@
 use status::{
-    Content, Known, Moment, MomentFault, Order, Role, Row, RowInput, Status, TransactionId, row,
+    Content, Moment, MomentFault, Order, RecordedStatus, Role, Row, RowInput, Status,
+    TransactionId, row,
 };
 use std::alloc::Global;
 use std::process::Abort;
@@ -79,9 +80,12 @@ fn each_role_answers_by_its_own_table(rt: HostRuntime) {
         (Role::Initiator, Status::Proposed, Status::Completed),
         (Role::Itl, Status::Checked, Status::Accepted),
     ] {
-        assert_eq!(rt; row(role, Known::Stands(old), accepted), Row::Move(to));
+        assert_eq!(rt;
+            row(role, RecordedStatus::Stands(old), accepted),
+            Row::Move(to)
+        );
     }
-    let old = Known::Stands(Status::Accepted);
+    let old = RecordedStatus::Stands(Status::Accepted);
     assert_eq!(rt; row(Role::Acquirer, old, accepted), Row::Refused);
     assert_eq!(rt; Status::Terminated.name(), "Terminated");
 }
@@ -89,23 +93,31 @@ fn each_role_answers_by_its_own_table(rt: HostRuntime) {
 #[test]
 fn orders_and_requests_for_cancellation(rt: HostRuntime) {
     use RowInput::{CleanUp, RepeatedRequestOrder, Request, RequestOrder};
-    let proposed = Known::Stands(Status::Proposed);
+    let proposed = RecordedStatus::Stands(Status::Proposed);
     for (old, order, to) in [
         (proposed, RequestOrder, Row::Move(Status::Proposed)),
         (proposed, RepeatedRequestOrder, Row::Repeat),
-        (Known::Unknown, RequestOrder, Row::Refused),
+        (RecordedStatus::Unknown, RequestOrder, Row::Refused),
     ] {
         assert_eq!(rt; row(Role::Initiator, old, order), to);
     }
-    let checked = Known::Stands(Status::Checked);
-    let completed = Known::Stands(Status::Completed);
+    let checked = RecordedStatus::Stands(Status::Checked);
+    let completed = RecordedStatus::Stands(Status::Completed);
     for (old, input, to) in [
-        (Known::Unknown, Request, Row::Move(Status::Cancelled)),
+        (
+            RecordedStatus::Unknown,
+            Request,
+            Row::Move(Status::Cancelled),
+        ),
         (checked, Request, Row::Move(Status::Cancelled)),
         (completed, Request, Row::Late),
-        (Known::Bare, Request, Row::Late),
-        (Known::Bare, RowInput::ProposalWithoutFinding, Row::Late),
-        (Known::Bare, CleanUp, Row::Refused),
+        (RecordedStatus::Bare, Request, Row::Late),
+        (
+            RecordedStatus::Bare,
+            RowInput::ProposalWithoutFinding,
+            Row::Late,
+        ),
+        (RecordedStatus::Bare, CleanUp, Row::Refused),
     ] {
         assert_eq!(rt; row(Role::Itl, old, input), to);
     }

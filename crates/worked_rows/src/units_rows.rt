@@ -145,7 +145,7 @@ fn blocks_that_share_a_unit(rt: HostRuntime) {
 }
 
 #[test]
-fn marks_of_units(rt: HostRuntime) -> Result<(), Fail> {
+fn labels_of_units(rt: HostRuntime) -> Result<(), Fail> {
     let block = aau(&rt, 1, 10);
     let (origin, period) = (block.raw.origin, block.raw.period);
     let unit = Unit {

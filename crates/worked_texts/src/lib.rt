@@ -1,5 +1,5 @@
-//! Worked rows of messages, records, lines, replies, the command line, `rehearse` and `show`: texts from outside, each public function
-//! with enough memory, and streams that fail midway.
+//! Worked rows of messages, records, lines, replies, the command line, `rehearse` and `show`: texts from outside,
+//! each public function with enough memory, and streams that fail midway.
 #![tactic(auto)]
 
 #[cfg(test)]

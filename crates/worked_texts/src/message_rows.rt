@@ -4,8 +4,8 @@ use std::process::Abort;
 use std::test::Fail;
 use units::{Block, Code, Items, Node, Refusal};
 use wire::{
-    AcquirerCodes, LogCodes, Message, Notice, Notification, Proposal, ProposalStatus, Request,
-    decode, encode,
+    AcquirerCodes, LogCodes, Message, Notification, NotifiedStatus, Proposal, ProposalStatus,
+    Request, decode, encode,
 };
 
 pub const PROPOSAL: &str =
@@ -43,16 +43,16 @@ fn id(text: &str) -> Result<TransactionId, Fail> {
     Ok(TransactionId::read(text).ok_or("no transaction")?)
 }
 
-fn rejected(alloc: Global, codes: &[u16]) -> Result<Notice, Fail> {
+fn rejected(alloc: Global, codes: &[u16]) -> Result<NotifiedStatus, Fail> {
     let codes = Items::from_vec(Vec::from_slice(alloc, codes)?);
     let codes = AcquirerCodes::new(codes).ok_or("no codes of the acquirer")?;
-    Ok(Notice::Rejected(codes))
+    Ok(NotifiedStatus::Rejected(codes))
 }
 
-fn terminated(alloc: Global, codes: &[u16]) -> Result<Notice, Fail> {
+fn terminated(alloc: Global, codes: &[u16]) -> Result<NotifiedStatus, Fail> {
     let codes = Items::from_vec(Vec::from_slice(alloc, codes)?);
     let codes = LogCodes::new(codes).ok_or("no codes of the log")?;
-    Ok(Notice::Terminated(codes))
+    Ok(NotifiedStatus::Terminated(codes))
 }
 
 fn blocks(alloc: Global, texts: &[&str]) -> Result<Items<Block>, Fail> {
@@ -63,12 +63,12 @@ fn blocks(alloc: Global, texts: &[&str]) -> Result<Items<Block>, Fail> {
     Ok(Items::from_vec(blocks))
 }
 
-fn notification(from: Node, to: Node, notice: Notice) -> Result<Message, Fail> {
+fn notification(from: Node, to: Node, notified: NotifiedStatus) -> Result<Message, Fail> {
     Ok(Message::Notification(Notification {
         from,
         to,
         id: id("NZ1")?,
-        notice,
+        notified,
     }))
 }
 
@@ -174,11 +174,11 @@ fn the_ends_of_a_message(rt: HostRuntime) -> Result<(), Fail> {
 }
 
 #[test]
-fn the_parts_of_notices_are_compared(rt: HostRuntime) -> Result<(), Fail> {
+fn the_parts_of_notified_statuses_are_compared(rt: HostRuntime) -> Result<(), Fail> {
     let alloc = rt.alloc();
-    let notice = rejected(alloc, &[301])?;
-    assert!(rt; notice.same(&rejected(alloc, &[301])?));
-    assert!(rt; !notice.same(&rejected(alloc, &[301, 303])?));
+    let notified = rejected(alloc, &[301])?;
+    assert!(rt; notified.same(&rejected(alloc, &[301])?));
+    assert!(rt; !notified.same(&rejected(alloc, &[301, 303])?));
     Ok(())
 }
 

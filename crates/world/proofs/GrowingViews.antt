@@ -4,8 +4,8 @@ use Rattle.std.specs.Prelude.{option_and_then, slice_get}
 use Rattle.std.specs.List.{filter_map, cons_option}
 use Rattle.std.specs.Option.{option_to_list}
 use Rattle.std.proofs.lemmas.List.{map-append, take_more}
-use Rattle.accounts.specs.declared.lot.Line.{Line}
-use Rattle.scheme.specs.declared.members.Member.{Member}
+use Rattle.accounts.specs.declared.unit_holding.HeldBlock.{HeldBlock}
+use Rattle.scheme.specs.declared.members.SchemeRegistry.{SchemeRegistry}
 use Rattle.protocol.specs.World.{World}
 use Rattle.registry_core.specs.Reported.{AreHoldings}
 use Rattle.totals.specs.RegistryLines.{AreLines, registry_at}
@@ -41,18 +41,18 @@ filter_map_next f xs k = let same : k + 1 ≡ suc k = omega arith in ap (λ i. f
 
 -- ---- what the registries hold
 
-lines_push : (w : World) (ms : List Member) (lss : List (List Line)) (m : Member) (ls : List Line) → AreLines w ms lss → AreHoldings (registry_at w m.code) ls → AreLines w (ms ++ m ∷ []) (lss ++ ls ∷ [])
+lines_push : (w : World) (ms : List SchemeRegistry) (lss : List (List HeldBlock)) (m : SchemeRegistry) (ls : List HeldBlock) → AreLines w ms lss → AreHoldings (registry_at w m.code) ls → AreLines w (ms ++ m ∷ []) (lss ++ ls ∷ [])
 lines_push w [] [] m ls are holds = (holds, tt)
 lines_push w [] (l ∷ lss) m ls are holds = absurd are
 lines_push w (n ∷ ms) [] m ls are holds = absurd are
 lines_push w (n ∷ ms) (l ∷ lss) m ls are holds = (are.0, lines_push w ms lss m ls are.1 holds)
 
-stocks_push : (w : World) (ms : List Member) (ss : List Stock) (m : Member) (s : Stock) → AreStocks w ms ss → s.code ≡ m.code → AreHoldings (registry_at w m.code) s.lines → AreStocks w (ms ++ m ∷ []) (ss ++ s ∷ [])
+stocks_push : (w : World) (ms : List SchemeRegistry) (ss : List Stock) (m : SchemeRegistry) (s : Stock) → AreStocks w ms ss → s.code ≡ m.code → AreHoldings (registry_at w m.code) s.lines → AreStocks w (ms ++ m ∷ []) (ss ++ s ∷ [])
 stocks_push w ms ss m s are code holds = record {
-  codes = map-append (λ (x : Stock). x.code) ss (s ∷ []) ∙ ap (λ l. l ++ s.code ∷ []) are.codes ∙ ap (λ c. map (λ (x : Member). x.code) ms ++ c ∷ []) code ∙ sym (map-append (λ (x : Member). x.code) ms (m ∷ []));
+  codes = map-append (λ (x : Stock). x.code) ss (s ∷ []) ∙ ap (λ l. l ++ s.code ∷ []) are.codes ∙ ap (λ c. map (λ (x : SchemeRegistry). x.code) ms ++ c ∷ []) code ∙ sym (map-append (λ (x : SchemeRegistry). x.code) ms (m ∷ []));
   lines = subst (AreLines w (ms ++ m ∷ [])) (sym (map-append (λ (x : Stock). x.lines) ss (s ∷ []))) (lines_push w ms (map (λ (x : Stock). x.lines) ss) m s.lines are.lines holds);
 }
 
-pub stocks_more : (w : World) (ms : List Member) (i : ℕ) (ss : List Stock) (m : Member) (s : Stock) → i < length ms → m ≡ get_or ms i m → AreStocks w (take i ms) ss → s.code ≡ m.code → AreHoldings (registry_at w m.code) s.lines
+pub stocks_more : (w : World) (ms : List SchemeRegistry) (i : ℕ) (ss : List Stock) (m : SchemeRegistry) (s : Stock) → i < length ms → m ≡ get_or ms i m → AreStocks w (take i ms) ss → s.code ≡ m.code → AreHoldings (registry_at w m.code) s.lines
     → AreStocks w (take (i + 1) ms) (ss ++ s ∷ [])
-stocks_more w ms i ss m s h is are code holds = subst (λ (l : List Member). AreStocks w l (ss ++ s ∷ [])) (sym (front_more ms i m h is)) (stocks_push w (take i ms) ss m s are code holds)
+stocks_more w ms i ss m s h is are code holds = subst (λ (l : List SchemeRegistry). AreStocks w l (ss ++ s ∷ [])) (sym (front_more ms i m h is)) (stocks_push w (take i ms) ss m s are code holds)

@@ -17,7 +17,7 @@ use Rattle.units.specs.declared.code.Node.TheVariants.{Itl, Registry}
 use Rattle.units.proofs.Same.{node_of_same, same_node-refl}
 use Rattle.wire.specs.declared.message.Message.{Message}
 use Rattle.scheme.specs.Order.{member}
-use Rattle.scheme.specs.declared.members.Member.{Member}
+use Rattle.scheme.specs.declared.members.SchemeRegistry.{SchemeRegistry}
 use Rattle.scheme.specs.declared.registries.Scheme.{Scheme}
 use Rattle.protocol.specs.Registries.{is_node}
 use Rattle.protocol.specs.World.{Station, posted, sent, station, was_posted}
@@ -37,7 +37,7 @@ use Rattle.world.proofs.Worlds.{after}
 abbrev pub place : Scheme → Node → Option ℕ
 place scheme n = position_from (λ x. same_node x n) 0 (nodes scheme)
 
-members_there : (c : Code) (k : ℕ) (ms : List Member) → is_some (position_from (has_code c) k ms) ≡ is_some (member ms c)
+members_there : (c : Code) (k : ℕ) (ms : List SchemeRegistry) → is_some (position_from (has_code c) k ms) ≡ is_some (member ms c)
 members_there c k [] = refl
 members_there c k (m ∷ ms) = pick (members_there c (k + 1) ms) (same_code m.code c)
   where

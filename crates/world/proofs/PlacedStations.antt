@@ -6,7 +6,7 @@ use Rattle.units.specs.declared.code.Code.{Code}
 use Rattle.units.specs.declared.code.Node.{Node}
 use Rattle.units.specs.declared.code.Node.TheVariants.{Itl, Registry}
 use Rattle.scheme.specs.Order.{member}
-use Rattle.scheme.specs.declared.members.Member.{Member}
+use Rattle.scheme.specs.declared.members.SchemeRegistry.{SchemeRegistry}
 use Rattle.scheme.specs.declared.registries.Scheme.{Scheme}
 use Rattle.node.specs.Cores.{node_of}
 use Rattle.protocol.specs.Registries.{is_node}
@@ -41,7 +41,7 @@ found_seen n (s ∷ ss) = pick (found_seen n ss) (same_node (node_of s.core) n)
     pick rest true = refl
     pick rest false = rest
 
-found_code : (c : Code) (ms : List Member) → is_some (find (λ x. same_node x (Registry c)) (map (λ m. Registry m.code) ms)) ≡ is_some (member ms c)
+found_code : (c : Code) (ms : List SchemeRegistry) → is_some (find (λ x. same_node x (Registry c)) (map (λ m. Registry m.code) ms)) ≡ is_some (member ms c)
 found_code c [] = refl
 found_code c (m ∷ ms) = pick (found_code c ms) (same_code m.code c)
   where

@@ -13,14 +13,14 @@ use Rattle.units.specs.declared.code.Node.TheVariants.{Itl, Registry}
 use Rattle.units.proofs.Same.{code_of_same, same_code-refl}
 use Rattle.units.proofs.UnitOrder.{code_below}
 use Rattle.scheme.specs.Order.{member}
-use Rattle.scheme.specs.declared.members.Member.{Member}
+use Rattle.scheme.specs.declared.members.SchemeRegistry.{SchemeRegistry}
 use Rattle.scheme.specs.declared.registries.Scheme.{Scheme}
 use Rattle.world.specs.Kept.{nodes}
 
-abbrev pub AreOrdered : List Member → Type 0
+abbrev pub AreOrdered : List SchemeRegistry → Type 0
 AreOrdered ms = Pairwise (λ a b. code_cmp a.code b.code ≡ Less) ms
 
-abbrev pub has_code : Code → Member → Bool
+abbrev pub has_code : Code → SchemeRegistry → Bool
 has_code c m = same_code m.code c
 
 pub position_map : {X Y : Type 0} (f : X → Y) (p : Y → Bool) (k : ℕ) (xs : List X) → position_from p k (map f xs) ≡ position_from (λ x. p (f x)) k xs
@@ -31,29 +31,29 @@ position_map f p k (x ∷ xs) = ap (cond (p (f x)) (Some k)) (position_map f p (
 not_below : (a b : Code) → code_cmp a b ≡ Less → same_code a b ≡ true → ⊥
 not_below a b less same = let e = code_of_same a b same in let l = subst (λ (x : Code). code_cmp a x ≡ Less) (sym e) less in let r = code_below a a l in omega arith
 
-found_code : (ms : List Member) (c : Code) (m : Member) → member ms c ≡ Some m → same_code m.code c ≡ true
+found_code : (ms : List SchemeRegistry) (c : Code) (m : SchemeRegistry) → member ms c ≡ Some m → same_code m.code c ≡ true
 found_code [] c m e = cc
 found_code (x ∷ ms) c m e = pick (found_code ms c m) (same_code x.code c) refl e
   where
     pick : (member ms c ≡ Some m → same_code m.code c ≡ true) → (b : Bool) → same_code x.code c ≡ b → cond b (Some x) (member ms c) ≡ Some m → same_code m.code c ≡ true
-    pick rest true is h = let same : x ≡ m = cc in subst (λ (y : Member). same_code y.code c ≡ true) same is
+    pick rest true is h = let same : x ≡ m = cc in subst (λ (y : SchemeRegistry). same_code y.code c ≡ true) same is
     pick rest false is h = rest h
 
 -- none of those after a registry has its code
-none_has : (c : Code) (m : Member) (ms : List Member) (i : ℕ) (x : Member) → same_code m.code c ≡ true → AllByRecursion (λ b. code_cmp m.code b.code ≡ Less) ms → slice_get ms i ≡ Some x → same_code x.code c ≡ true → ⊥
+none_has : (c : Code) (m : SchemeRegistry) (ms : List SchemeRegistry) (i : ℕ) (x : SchemeRegistry) → same_code m.code c ≡ true → AllByRecursion (λ b. code_cmp m.code b.code ≡ Less) ms → slice_get ms i ≡ Some x → same_code x.code c ≡ true → ⊥
 none_has c m [] i x is all e same = cc
 none_has c m (y ∷ ms) zero x is all e same =
     let here : y ≡ x = cc in
     let one = code_of_same m.code c is in
     let other = code_of_same x.code c same in
-    not_below m.code y.code all.0 (subst (λ (z : Code). same_code m.code z ≡ true) (one ∙ sym other ∙ ap (λ (z : Member). z.code) (sym here)) (same_code-refl m.code))
+    not_below m.code y.code all.0 (subst (λ (z : Code). same_code m.code z ≡ true) (one ∙ sym other ∙ ap (λ (z : SchemeRegistry). z.code) (sym here)) (same_code-refl m.code))
 none_has c m (y ∷ ms) (suc i) x is all e same = none_has c m ms i x is all.1 e same
 
-at_place : (ms : List Member) (c : Code) (k i : ℕ) (x : Member) → AreOrdered ms → slice_get ms i ≡ Some x → same_code x.code c ≡ true → position_from (has_code c) k ms ≡ Some (k + i)
+at_place : (ms : List SchemeRegistry) (c : Code) (k i : ℕ) (x : SchemeRegistry) → AreOrdered ms → slice_get ms i ≡ Some x → same_code x.code c ≡ true → position_from (has_code c) k ms ≡ Some (k + i)
 at_place [] c k i x ordered e same = cc
 at_place (m ∷ ms) c k zero x ordered e same =
     let here : m ≡ x = cc in
-    let is = subst (λ (y : Member). same_code y.code c ≡ true) (sym here) same in
+    let is = subst (λ (y : SchemeRegistry). same_code y.code c ≡ true) (sym here) same in
     rw is (ap Some (omega arith))
 at_place (m ∷ ms) c k (suc i) x ordered e same = pick (at_place ms c (k + 1) i x ordered.1 e same) (same_code m.code c) refl
   where
@@ -61,7 +61,7 @@ at_place (m ∷ ms) c k (suc i) x ordered e same = pick (at_place ms c (k + 1) i
     pick rest true is = absurd (none_has c m ms i x is ordered.0 e same)
     pick rest false is = rest ∙ ap Some (omega arith)
 
-no_place : (ms : List Member) (c : Code) (k : ℕ) → member ms c ≡ None → position_from (has_code c) k ms ≡ None
+no_place : (ms : List SchemeRegistry) (c : Code) (k : ℕ) → member ms c ≡ None → position_from (has_code c) k ms ≡ None
 no_place [] c k e = refl
 no_place (m ∷ ms) c k e = pick (no_place ms c (k + 1)) (same_code m.code c) e
   where
@@ -69,13 +69,13 @@ no_place (m ∷ ms) c k e = pick (no_place ms c (k + 1)) (same_code m.code c) e
     pick rest true h = cc
     pick rest false h = rest h
 
-within : (ms : List Member) (i : ℕ) → i < length ms → (x : Member) × (slice_get ms i ≡ Some x)
+within : (ms : List SchemeRegistry) (i : ℕ) → i < length ms → (x : SchemeRegistry) × (slice_get ms i ≡ Some x)
 within [] i l = absurd (omega arith)
 within (m ∷ ms) zero l = (m, refl)
 within (m ∷ ms) (suc i) l = within ms i (omega arith)
 
 -- what a search says is the place
-pub searched_place : (ms : List Member) (c : Code) (r : Result ℕ ℕ) → AreOrdered ms → MatchResult r (λ i. i < length ms) (λ i. i ≤ length ms)
+pub searched_place : (ms : List SchemeRegistry) (c : Code) (r : Result ℕ ℕ) → AreOrdered ms → MatchResult r (λ i. i < length ms) (λ i. i ≤ length ms)
     → MatchResult r (λ i. member ms c ≡ slice_get ms i) (λ i. member ms c ≡ None) → result_ok r ≡ position_from (has_code c) 0 ms
 searched_place ms c (Ok i) ordered l e =
     let x = within ms i l in
@@ -84,10 +84,10 @@ searched_place ms c (Ok i) ordered l e =
 searched_place ms c (Err i) ordered l e = sym (no_place ms c 0 e)
 
 -- the place among a scheme's nodes
-pub later_place : (k : ℕ) (c : Code) (ms : List Member) → position_from (λ n. same_node n (Registry c)) k (map (λ m. Registry m.code) ms) ≡ position_from (has_code c) k ms
-later_place k c ms = position_map (λ (m : Member). Registry m.code) (λ n. same_node n (Registry c)) k ms
+pub later_place : (k : ℕ) (c : Code) (ms : List SchemeRegistry) → position_from (λ n. same_node n (Registry c)) k (map (λ m. Registry m.code) ms) ≡ position_from (has_code c) k ms
+later_place k c ms = position_map (λ (m : SchemeRegistry). Registry m.code) (λ n. same_node n (Registry c)) k ms
 
-pub later : (p : Member → Bool) (k : ℕ) (ms : List Member) (i : ℕ) → position_from p k ms ≡ Some i → position_from p (k + 1) ms ≡ Some (i + 1)
+pub later : (p : SchemeRegistry → Bool) (k : ℕ) (ms : List SchemeRegistry) (i : ℕ) → position_from p k ms ≡ Some i → position_from p (k + 1) ms ≡ Some (i + 1)
 later p k [] i e = cc
 later p k (m ∷ ms) i e = pick (later p (k + 1) ms i) (p m) e
   where
@@ -95,7 +95,7 @@ later p k (m ∷ ms) i e = pick (later p (k + 1) ms i) (p m) e
     pick rest true h = let same : k ≡ i = cc in ap (λ j. Some (j + 1)) same
     pick rest false h = rest h
 
-pub later_none : (p : Member → Bool) (k : ℕ) (ms : List Member) → position_from p k ms ≡ None → position_from p (k + 1) ms ≡ None
+pub later_none : (p : SchemeRegistry → Bool) (k : ℕ) (ms : List SchemeRegistry) → position_from p k ms ≡ None → position_from p (k + 1) ms ≡ None
 later_none p k [] e = refl
 later_none p k (m ∷ ms) e = pick (later_none p (k + 1) ms) (p m) e
   where
@@ -108,7 +108,7 @@ later_none p k (m ∷ ms) e = pick (later_none p (k + 1) ms) (p m) e
 abbrev pub Differ : Node → Node → Type 0
 Differ a b = same_node a b ≡ false
 
-others_differ : (m : Member) (ms : List Member) → AllByRecursion (λ b. code_cmp m.code b.code ≡ Less) ms → AllByRecursion (Differ (Registry m.code)) (map (λ b. Registry b.code) ms)
+others_differ : (m : SchemeRegistry) (ms : List SchemeRegistry) → AllByRecursion (λ b. code_cmp m.code b.code ≡ Less) ms → AllByRecursion (Differ (Registry m.code)) (map (λ b. Registry b.code) ms)
 others_differ m [] all = tt
 others_differ m (b ∷ ms) all = (differs (same_code m.code b.code) refl, others_differ m ms all.1)
   where
@@ -116,11 +116,11 @@ others_differ m (b ∷ ms) all = (differs (same_code m.code b.code) refl, others
     differs true e = absurd (not_below m.code b.code all.0 e)
     differs false e = refl
 
-registries_differ : (ms : List Member) → AreOrdered ms → Pairwise Differ (map (λ b. Registry b.code) ms)
+registries_differ : (ms : List SchemeRegistry) → AreOrdered ms → Pairwise Differ (map (λ b. Registry b.code) ms)
 registries_differ [] ordered = tt
 registries_differ (m ∷ ms) ordered = (others_differ m ms ordered.0, registries_differ ms ordered.1)
 
-log_differs : (ms : List Member) → AllByRecursion (Differ Itl) (map (λ b. Registry b.code) ms)
+log_differs : (ms : List SchemeRegistry) → AllByRecursion (Differ Itl) (map (λ b. Registry b.code) ms)
 log_differs [] = tt
 log_differs (m ∷ ms) = (refl, log_differs ms)
 
@@ -145,5 +145,5 @@ place_below p k (x ∷ xs) i e = pick (place_below p (k + 1) xs i) (p x) e
     pick rest true h = let same : k ≡ i = cc in omega (arith, same)
     pick rest false h = omega (arith, rest h)
 
-pub registry_within : (c : Code) (ms : List Member) (i : ℕ) → position_from (has_code c) 0 ms ≡ Some i → i < length ms
+pub registry_within : (c : Code) (ms : List SchemeRegistry) (i : ℕ) → position_from (has_code c) 0 ms ≡ Some i → i < length ms
 registry_within c ms i e = omega (arith, place_below (has_code c) 0 ms i e)

@@ -1,7 +1,7 @@
 -- What the registries of a world hold.
 use Rattle.std.specs.Prelude.{◌≡◌, Bool, true, false, List, map, Option, Some, None}
-use Rattle.accounts.specs.declared.lot.Line.{Line}
-use Rattle.scheme.specs.declared.members.Member.{Member}
+use Rattle.accounts.specs.declared.unit_holding.HeldBlock.{HeldBlock}
+use Rattle.scheme.specs.declared.members.SchemeRegistry.{SchemeRegistry}
 use Rattle.protocol.specs.World.{World}
 use Rattle.registry_core.specs.Registry.{Registry}
 use Rattle.registry_core.specs.Reported.{AreHoldings}
@@ -9,12 +9,12 @@ use Rattle.totals.specs.RegistryLines.{AreLines}
 use Rattle.world.specs.declared.views.Stock.{Stock}
 
 -- the holdings of a registry that the scheme has, and none of another
-abbrev pub HoldsIf : Registry → Bool → Option (List Line) → Type 0
+abbrev pub HoldsIf : Registry → Bool → Option (List HeldBlock) → Type 0
 HoldsIf r true (Some lines) = AreHoldings r lines
 HoldsIf r false None = Unit {0}
 HoldsIf r _ _ = ⊥
 
 -- what each registry holds, in the scheme's order
-pub record AreStocks (w : World) (members : List Member) (stocks : List Stock) : Type 0 where
+pub record AreStocks (w : World) (members : List SchemeRegistry) (stocks : List Stock) : Type 0 where
   pub codes : map (λ s. s.code) stocks ≡ map (λ m. m.code) members
   pub lines : AreLines w members (map (λ s. s.lines) stocks)

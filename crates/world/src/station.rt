@@ -101,8 +101,8 @@ impl Station {
         }
     }
 
-    /// Stops the node, where it runs and its tail has `kept` records: these are committed, and the others are lost. Only where
-    /// records are lost is the journal that is left replayed. After `NoMemory` the node is as it was.
+    /// Stops the node, where it runs and its tail has `kept` records: these are committed, and the others are lost.
+    /// Only where records are lost is the journal that is left replayed. After `NoMemory` the node is as it was.
     pub(crate) fn crash(&mut self, kept: u64) -> Result<Outcome, NoMemory>
         ensures ok { IfOk result (λ o. record { station = station_of self.new; outcome = o } ≡ worlds.crash kept (station_of self.old)) }
         ensures err { OnErr result (station_of self.new ≡ station_of self.old) }

@@ -12,12 +12,12 @@ ghost use Rattle.world.specs.Stations.{station_of};
 
 use crate::station::Station;
 use node::Core;
-use scheme::{Member, Scheme};
+use scheme::{Scheme, SchemeRegistry};
 use std::alloc::Global;
 use units::{Code, NoMemory, Node};
 
 // The place of the registry of that code.
-fn registry_place(members: &[Member], code: Code) -> Option<usize>
+fn registry_place(members: &[SchemeRegistry], code: Code) -> Option<usize>
     requires { Pairwise (λ a b. code_cmp a.code b.code ≡ Less) members.now }
     ensures { result ≡ position_from (λ m. same_code m.code code) 0 members.now }
 {

@@ -17,7 +17,7 @@ ghost use Rattle.world.specs.Stocks.{AreStocks, HoldsIf};
 use crate::station::Station;
 use crate::stations::place_of;
 use crate::world::World;
-use accounts::Line;
+use accounts::HeldBlock;
 use node::Core;
 use protocol::{NodeCore, Posted};
 use registry_core::RegistryCore;
@@ -31,7 +31,7 @@ use wire::{Input, Message, Proposal};
 #[derive(Debug, Drop)]
 pub struct Stock {
     pub code: Code,
-    pub lines: Items<Line>,
+    pub lines: Items<HeldBlock>,
 }
 
 fn is_completed(status: Option<Status>) -> bool
@@ -165,9 +165,9 @@ impl World {
         }
     }
 
-    /// What a registry holds, as lines by account and then in the order of units; or `None` where the scheme has no such registry.
-    /// Fails with `NoMemory`.
-    pub fn holdings(&self, registry: Code) -> Result<Option<Vec<Line>>, NoMemory>
+    /// What a registry holds, as lines by account and then in the order of units; or `None` where the scheme has no
+    /// such registry. Fails with `NoMemory`.
+    pub fn holdings(&self, registry: Code) -> Result<Option<Vec<HeldBlock>>, NoMemory>
         ensures { IfOk result (λ found. HoldsIf (registry_at self.now registry) (has_member self.now.scheme registry) (option_map (λ v. v.items) found)) }
     {
         match self.registry(registry) {
@@ -199,8 +199,8 @@ impl World {
             && !is_completed(self.status(acquirer, proposal.id))
     }
 
-    /// The transfers that owe their units, by code and then by number: Completed at their initiators and not at their acquirers.
-    /// Looks at each transfer once. Or `NoMemory`.
+    /// The transfers that owe their units, by code and then by number: Completed at their initiators and not at their
+    /// acquirers. Looks at each transfer once. Or `NoMemory`.
     pub fn due(&self, alloc: Global) -> Result<Vec<&Proposal>, NoMemory>
         ensures { IfOk result (λ v. map (λ p. p.now) v.items ≡ due self.now) }
     {

@@ -18,8 +18,8 @@ use std::marker::Model;
 use units::{NoMemory, Node};
 use wire::{Input, Message};
 
-/// All nodes of a scheme, the log first and then the registries in byte order, and the bag of all messages that were ever posted.
-/// In contracts it is the protocol's world.
+/// All nodes of a scheme, the log first and then the registries in byte order, and the bag of all messages that were
+/// ever posted. In contracts it is the protocol's world.
 #[derive(Debug, Drop)]
 pub struct World {
     alloc: Global,
@@ -204,8 +204,9 @@ impl World {
 
     /// Moves the world by an event, and returns what it came to. After `NoMemory` the world is as it was.
     ///
-    /// Where events led to the world, no tonne is in two places after this one and none is lost, by journals with their tails and by
-    /// committed journals: see `run`. And the event moves a unit's owner only by committing Completed of a transfer with it.
+    /// Where events led to the world, no tonne is in two places after this one and none is lost, by journals with
+    /// their tails and by committed journals: see `run`. And the event moves a unit's owner only by committing
+    /// Completed of a transfer with it.
     pub fn apply(&mut self, event: &WorldEvent) -> Result<Outcome, NoMemory>
         ensures ok { IfOk result (λ o. record { world = self.new; outcome = o } ≡ step self.old event.now) }
         ensures err { OnErr result (self.new ≡ self.old) }
@@ -220,11 +221,12 @@ impl World {
 
     /// The world that all these events lead to from the opening one, one after another, none left out. Or `NoMemory`.
     ///
-    /// By journals with their tails and by committed journals, no tonne is in two places and none is lost: an allotted unit is held
-    /// by one registry and owed by no transfer, or held by none and owed by exactly one completed transfer; no unit is spendable
-    /// in two registries; a registry that holds a unit is its owner in the log's book; and no node has Completed for a transaction
-    /// that another one has Rejected, Terminated or Cancelled. No delivery to such a world is refused but where a journal is full.
-    /// And starts, commits and messages alone lead from it to a world at rest, where each allotted unit is spendable.
+    /// By journals with their tails and by committed journals, no tonne is in two places and none is lost: an
+    /// allotted unit is held by one registry and owed by no transfer, or held by none and owed by exactly one
+    /// completed transfer; no unit is spendable in two registries; a registry that holds a unit is its owner in the
+    /// log's book; and no node has Completed for a transaction that another one has Rejected, Terminated or
+    /// Cancelled. No delivery to such a world is refused but where a journal is full. And starts, commits and
+    /// messages alone lead from it to a world at rest, where each allotted unit is spendable.
     pub fn run(alloc: Global, scheme: &Scheme, events: &[WorldEvent]) -> Result<World, NoMemory>
         ensures world { IfOk result (λ w. w ≡ run (opening scheme.now) events.now) }
         ensures live { IfOk result (λ w. IsSafe scheme.now (live_of w)) }

@@ -11,8 +11,8 @@ use Rattle.units.specs.declared.code.Node.{Node}
 use Rattle.units.specs.declared.code.Node.TheVariants.{Itl, Registry}
 use Rattle.status.specs.Content.{Content}
 use Rattle.status.specs.declared.id.TransactionId.{TransactionId}
-use Rattle.status.specs.declared.words.Status.{Status}
-use Rattle.status.specs.declared.words.Status.TheVariants.{Proposed, Accepted, Rejected, Terminated, Cancelled, Completed}
+use Rattle.status.specs.declared.status.Status.{Status}
+use Rattle.status.specs.declared.status.Status.TheVariants.{Proposed, Accepted, Rejected, Terminated, Cancelled, Completed}
 use Rattle.wire.specs.declared.message.Message.{Message}
 use Rattle.wire.specs.declared.message.Message.TheVariants as message
 use Rattle.scheme.specs.declared.registries.Scheme.{Scheme}
@@ -35,7 +35,8 @@ completed_rejected e = cc (e)
 cancelled_rejected : Cancelled ≡ Rejected → ⊥
 cancelled_rejected e = cc (e)
 
--- every node's history was made by its verdicts, and each message that a node received was sent by the node that it names
+-- every node's history was made by its verdicts, and each message that a node received was sent by the node that it
+-- names
 pub record Causal (scheme : Scheme) (f : Node → List Entry) : Type 0 where
   pub made : (n : Node) → Made scheme n (f n)
   pub sent : (n : Node) (m : Message) → Got (f n) m → In m (sends (f (sender m)))

@@ -9,7 +9,7 @@ use Rattle.units.specs.declared.code.Node.{Node}
 use Rattle.units.specs.declared.code.Node.TheVariants.{Itl, Registry}
 use Rattle.status.specs.Content.{Content}
 use Rattle.status.specs.declared.id.TransactionId.{TransactionId}
-use Rattle.status.specs.declared.words.Status.TheVariants.{Completed}
+use Rattle.status.specs.declared.status.Status.TheVariants.{Completed}
 use Rattle.wire.specs.declared.message.Message.TheVariants as message
 use Rattle.scheme.specs.declared.registries.Scheme.{Scheme}
 use Rattle.protocol.specs.History.{Transition, Entry, transitions_of, newest, sends}

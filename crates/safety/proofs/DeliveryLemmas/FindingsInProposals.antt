@@ -1,8 +1,9 @@
 -- The log finds nothing in a proposal that was sent, but that a registry is not eligible. As long as the log does not
--- know the proposal, its initiator has had no answer, and so the transfer still waits there and its units are held. Each
--- of the other six findings is then refuted: the acquirer is a registry of the scheme, the units are allotted, they are
--- the initiator's in the log's book (`HoldersInLog`), each is there once and of its kind (`KindsOfOffers`), and none is
--- under way. A unit that is under way by another transfer would have a second owner, or wait twice at one registry.
+-- know the proposal, its initiator has had no answer, and so the transfer still waits there and its units are held.
+-- Each of the other six findings is then refuted: the acquirer is a registry of the scheme, the units are allotted,
+-- they are the initiator's in the log's book (`HoldersInLog`), each is there once and of its kind (`KindsOfOffers`),
+-- and none is under way. A unit that is under way by another transfer would have a second owner, or wait twice at one
+-- registry.
 use Rattle.units.specs.Unit.{have_unit}
 use Rattle.std.proofs.Common.{◌≡◌, ℕ, ◌+◌, List, [], ◌∷◌, Bool, true, false, not, Option, Some, None, ◌⊎◌, inl, inr, refl, sym, ap, subst, ◌∙◌, arith}
 use Rattle.std.specs.Prelude.{◌&&◌, ◌||◌, is_some, is_none, filter}
@@ -17,8 +18,8 @@ use Rattle.units.specs.declared.code.Node.{Node}
 use Rattle.units.specs.declared.code.Node.TheVariants.{Itl, Registry}
 use Rattle.status.specs.Content.{Content}
 use Rattle.status.specs.declared.id.TransactionId.{TransactionId}
-use Rattle.status.specs.declared.words.Status.{Status}
-use Rattle.status.specs.declared.words.Status.TheVariants.{Proposed, Checked, Accepted, Rejected, Terminated, Cancelled, Completed}
+use Rattle.status.specs.declared.status.Status.{Status}
+use Rattle.status.specs.declared.status.Status.TheVariants.{Proposed, Checked, Accepted, Rejected, Terminated, Cancelled, Completed}
 use Rattle.wire.specs.declared.message.Message.TheVariants as message
 use Rattle.wire.specs.declared.message.Proposal.{Proposal}
 use Rattle.scheme.specs.declared.members.Holder.{Holder}

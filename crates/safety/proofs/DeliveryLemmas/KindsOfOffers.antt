@@ -1,6 +1,6 @@
 -- A unit keeps the kind that it was allotted with: what a registry offers has each unit once, and of that kind.
--- The log only passes on offers without units of another kind, so what a registry takes in has the right kinds. What it holds was
--- allotted to it or taken in, and an offer is the canonical form of units that are held.
+-- The log only passes on offers without units of another kind, so what a registry takes in has the right kinds. What
+-- it holds was allotted to it or taken in, and an offer is the canonical form of units that are held.
 use Rattle.std.proofs.Common.{◌≡◌, ℕ, List, [], ◌∷◌, true, false, not, Option, Some, None, inl, inr, refl, sym, ap, subst, ◌∙◌}
 use Rattle.std.specs.Prelude.{◌&&◌, ◌==◌, find, option_map}
 use Rattle.std.proofs.lemmas.Bool.{and_parts, not-false, cond-true, cond-false, cases_Bool, eq-eqb}
@@ -13,7 +13,7 @@ use Rattle.units.specs.declared.code.Node.{Node}
 use Rattle.units.specs.declared.code.Node.TheVariants.{Itl, Registry}
 use Rattle.status.specs.Content.{Content}
 use Rattle.status.specs.declared.id.TransactionId.{TransactionId}
-use Rattle.status.specs.declared.words.Status.TheVariants.{Cancelled, Completed}
+use Rattle.status.specs.declared.status.Status.TheVariants.{Cancelled, Completed}
 use Rattle.wire.specs.declared.input.Input.{Input}
 use Rattle.wire.specs.declared.message.Message.TheVariants as message
 use Rattle.wire.specs.declared.message.Proposal.{Proposal}

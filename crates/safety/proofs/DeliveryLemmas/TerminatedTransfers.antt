@@ -13,26 +13,26 @@ use Rattle.units.specs.declared.code.Node.{Node}
 use Rattle.units.specs.declared.code.Node.TheVariants.{Itl, Registry}
 use Rattle.status.specs.Rows.{log_row}
 use Rattle.status.specs.declared.moment.Moment.{Moment}
-use Rattle.status.specs.declared.words.Known.TheVariants.{Stands}
-use Rattle.status.specs.declared.words.Row.TheVariants.{Move}
-use Rattle.status.specs.declared.words.RowInput.TheVariants.{Notified}
-use Rattle.status.specs.declared.words.Status.{Status}
-use Rattle.status.specs.declared.words.Status.TheVariants.{Accepted, Rejected, Terminated, Completed}
-use Rattle.wire.specs.Notices.{notice_status}
+use Rattle.status.specs.declared.rows.RecordedStatus.TheVariants.{Stands}
+use Rattle.status.specs.declared.rows.Row.TheVariants.{Move}
+use Rattle.status.specs.declared.rows.RowInput.TheVariants.{Notified}
+use Rattle.status.specs.declared.status.Status.{Status}
+use Rattle.status.specs.declared.status.Status.TheVariants.{Accepted, Rejected, Terminated, Completed}
+use Rattle.wire.specs.NotifiedStatuses.{notified_status}
 use Rattle.wire.specs.declared.input.Input.{Input}
 use Rattle.wire.specs.declared.input.Input.TheVariants.{Received}
 use Rattle.wire.specs.declared.message.Message.{Message}
 use Rattle.wire.specs.declared.message.Message.TheVariants as message
 use Rattle.wire.specs.declared.message.Notification.{Notification}
 use Rattle.wire.specs.declared.message.Proposal.{Proposal}
-use Rattle.wire.specs.declared.notice.Notice.TheVariants as notice
+use Rattle.wire.specs.declared.notified.NotifiedStatus.TheVariants as notified
 use Rattle.scheme.specs.declared.registries.Scheme.{Scheme}
 use Rattle.protocol.specs.AtLog.{ledger}
 use Rattle.protocol.specs.Checks.{log_findings}
 use Rattle.protocol.specs.Claims.{TerminatesForEligibility, committed_of, live_of, whole}
-use Rattle.protocol.specs.Deciding.{Verdict, Enters, IsRepeat, IsLate, IsRefused}
+use Rattle.protocol.specs.Deciding.{Verdict, IsRecorded, IsRepeat, IsLate, IsRefused}
 use Rattle.protocol.specs.History.{Transition, Entry, transitions_of, newest, sends, messages_of}
-use Rattle.protocol.specs.Verdict.{verdict, history, made}
+use Rattle.protocol.specs.Verdict.{verdict, history, transitions_made}
 use Rattle.wire.specs.Parties.{sender, receiver}
 use Rattle.protocol.specs.World.{World, Station, Turn, station, journal, put, stays, opening, rests, answered, take_input, commit, crash, restart, sent, at_node, is_order, posted, deliver, step, run}
 use Rattle.protocol.specs.declared.event.Outcome.TheVariants.{NotPossible}
@@ -43,7 +43,7 @@ use Rattle.safety.proofs.DeliveryLemmas.FindingsInProposals.{only_eligibility}
 use Rattle.safety.proofs.MovesAndHistories.TransitionForms.{checked_message}
 use Rattle.protocol.proofs.Histories.{history_from_append}
 use Rattle.safety.proofs.MovesAndHistories.LongerHistories.{sends_append}
-use Rattle.safety.proofs.MovesAndHistories.NewestTransitions.{one_notice}
+use Rattle.safety.proofs.MovesAndHistories.NewestTransitions.{one_notified}
 use Rattle.lemmas.proofs.Membership.{In, In_cases, In_flat_map, In_slice_get}
 use Rattle.safety.proofs.MovesAndHistories.TableMoves.{LogMove, checks, passes, cancels, forestalls, log_moves}
 use Rattle.safety.proofs.WorldLemmas.NodesWithStation.{AllPlaced, step_placed, opening_placed, live_unplaced, take_node, commit_node, crash_node, restart_node}
@@ -58,19 +58,19 @@ use Rattle.safety.proofs.MovesAndHistories.TableRows.{log_from}
 one_message : (a b : Message) (s t : Moment) → Received a s ≡ Received b t → a ≡ b
 one_message a b s t e = cc (e)
 
-one_list : (a b : List ℕ) → notice.Terminated a ≡ notice.Terminated b → a ≡ b
+one_list : (a b : List ℕ) → notified.Terminated a ≡ notified.Terminated b → a ≡ b
 one_list a b e = cc (e)
 
-not_cancelled : (found : List ℕ) → notice.Cancelled ≡ notice.Terminated found → ⊥
+not_cancelled : (found : List ℕ) → notified.Cancelled ≡ notified.Terminated found → ⊥
 not_cancelled found e = cc (e)
 
 -- a notification of Terminated has codes of eligibility alone
 abbrev IsFair : Notification → Type 0
-IsFair n = (found : List ℕ) (code : ℕ) → n.notice ≡ notice.Terminated found → In code found → (code ≡ initiator_not_eligible) ⊎ (code ≡ acquirer_not_eligible)
+IsFair n = (found : List ℕ) (code : ℕ) → n.notified ≡ notified.Terminated found → In code found → (code ≡ initiator_not_eligible) ⊎ (code ≡ acquirer_not_eligible)
 
 -- one that the log tells of a cancellation
-cancels_fair : (a n : Notification) → a.notice ≡ notice.Cancelled → message.Notification a ≡ message.Notification n → IsFair n
-cancels_fair a n is e found code said i = absurd (not_cancelled found (sym is ∙ ap (λ (z : Notification). z.notice) (one_notice a n e) ∙ said))
+cancels_fair : (a n : Notification) → a.notified ≡ notified.Cancelled → message.Notification a ≡ message.Notification n → IsFair n
+cancels_fair a n is e found code said i = absurd (not_cancelled found (sym is ∙ ap (λ (z : Notification). z.notified) (one_notified a n e) ∙ said))
 
 -- the log passes no notification of Terminated on
 passed_on : {X : Type 0} (a told new : Status) → log_row (Stands a) (Notified told) ≡ Move new → told ≡ Terminated → X
@@ -93,7 +93,7 @@ module _ (w : World) (sound : Sound w) (placed : AllPlaced w) where
   terminated_codes p [] is came none n (inl e) codes code said i = absurd (cc (e))
   terminated_codes p [] is came none n (inr h) codes code said i = absurd h
   terminated_codes p (c ∷ cs) is came none n (inl e) codes code said i =
-      let same = one_list (c ∷ cs) codes (ap (λ (z : Notification). z.notice) (one_notice _ n e) ∙ said) in
+      let same = one_list (c ∷ cs) codes (ap (λ (z : Notification). z.notified) (one_notified _ n e) ∙ said) in
       only_eligibility w.scheme (live_of w) (live_causal w sound) (live_unplaced w placed) p.id.code p came none code (subst (In code) (sym same ∙ is) i)
   terminated_codes p (c ∷ cs) is came none n (inr h) codes code said i = absurd h
 
@@ -103,7 +103,7 @@ module _ (w : World) (sound : Sound w) (placed : AllPlaced w) where
       let live = live_sends w p.from (message.Proposal p) committed in
       terminated_codes p found findings (subst (λ z. In (message.Proposal p) (sends (live_of w z))) from live) none n h
   move_fair input x came (passes k moment q held new old kept member right move) n (inl e) = λ found code said i.
-      passed_on q.new (notice_status k.notice) new move (ap notice_status (ap (λ (z : Notification). z.notice) (one_notice _ n e) ∙ said))
+      passed_on q.new (notified_status k.notified) new move (ap notified_status (ap (λ (z : Notification). z.notified) (one_notified _ n e) ∙ said))
   move_fair input x came (passes k moment q held new old kept member right move) n (inr h) = absurd h
   move_fair input x came (cancels given moment t q held why old kept was) n (inl e) = cancels_fair _ n refl e
   move_fair input x came (cancels given moment t q held why old kept was) n (inr (inl e)) = cancels_fair _ n refl e
@@ -111,10 +111,10 @@ module _ (w : World) (sound : Sound w) (placed : AllPlaced w) where
   move_fair input x came (forestalls r moment from member none) n (inl e) = cancels_fair _ n refl e
   move_fair input x came (forestalls r moment from member none) n (inr h) = absurd h
 
-  input_fair : (input : Input) → WasSent w input → (n : Notification) → In (message.Notification n) (messages_of (made (verdict w.scheme Itl (live_of w Itl) input))) → IsFair n
+  input_fair : (input : Input) → WasSent w input → (n : Notification) → In (message.Notification n) (messages_of (transitions_made (verdict w.scheme Itl (live_of w Itl) input))) → IsFair n
   unfolding verdict
   input_fair input came n h =
-      let xs = made (verdict w.scheme Itl (live_of w Itl) input) in
+      let xs = transitions_made (verdict w.scheme Itl (live_of w Itl) input) in
       let g = In_flat_map (λ (x : Transition). x.messages) (message.Notification n) xs h in
       move_fair input g.0 came (log_moves w.scheme (live_of w Itl) input g.0 g.1) n g.2
 
@@ -137,7 +137,7 @@ cond_goes w s true t u h i = h
 cond_goes w s false t u h i = i
 
 answered_goes : (w : World) (s : Station) (i : Input) (v : Verdict) → WasSent w i → Goes w s (answered s i v).station
-answered_goes w s i (Enters xs) came = inr (i, came, sym (append_assoc s.committed s.tail (i ∷ [])))
+answered_goes w s i (IsRecorded xs) came = inr (i, came, sym (append_assoc s.committed s.tail (i ∷ [])))
 answered_goes w s i IsRepeat came = same_goes w s s refl
 answered_goes w s i IsLate came = same_goes w s s refl
 answered_goes w s i (IsRefused code) came = same_goes w s s refl
@@ -179,7 +179,7 @@ module _ (w : World) (sound : Sound w) (placed : AllPlaced w) (old : AllFair (li
       let whole_now = whole (station w Itl) in
       let longer : ys ≡ whole_now ++ r.0 ∷ [] = r.2 ∙ ap (λ zs. zs ++ r.0 ∷ []) (sym is) in
       let later = subst (λ (es : List Entry). In (message.Notification n) (sends es)) (ap (history w.scheme Itl) longer ∙ history_from_append w.scheme Itl [] whole_now (r.0 ∷ [])) h in
-      elim (In_cases (message.Notification n) (sends (live_of w Itl)) (messages_of (made (verdict w.scheme Itl (live_of w Itl) r.0))) later) [
+      elim (In_cases (message.Notification n) (sends (live_of w Itl)) (messages_of (transitions_made (verdict w.scheme Itl (live_of w Itl) r.0))) later) [
         | inl i ↦ old n i
         | inr i ↦ input_fair w sound placed r.0 r.1 n i
       ]

@@ -14,12 +14,12 @@ use Rattle.units.specs.declared.code.Node.TheVariants.{Itl, Registry}
 use Rattle.status.specs.Content.{Content}
 use Rattle.status.specs.Rows.{log_row}
 use Rattle.status.specs.declared.moment.Moment.{Moment}
-use Rattle.status.specs.declared.words.Known.TheVariants.{Stands}
-use Rattle.status.specs.declared.words.Row.TheVariants.{Refused}
-use Rattle.status.specs.declared.words.RowInput.TheVariants.{Notified}
-use Rattle.status.specs.declared.words.Status.{Status}
-use Rattle.status.specs.declared.words.Status.TheVariants.{Proposed, Checked, Accepted, Rejected, Terminated, Cancelled, Completed}
-use Rattle.wire.specs.Notices.{notice_status, notice_codes}
+use Rattle.status.specs.declared.rows.RecordedStatus.TheVariants.{Stands}
+use Rattle.status.specs.declared.rows.Row.TheVariants.{Refused}
+use Rattle.status.specs.declared.rows.RowInput.TheVariants.{Notified}
+use Rattle.status.specs.declared.status.Status.{Status}
+use Rattle.status.specs.declared.status.Status.TheVariants.{Proposed, Checked, Accepted, Rejected, Terminated, Cancelled, Completed}
+use Rattle.wire.specs.NotifiedStatuses.{notified_status, notified_codes}
 use Rattle.wire.specs.declared.input.Input.TheVariants.{Received}
 use Rattle.wire.specs.declared.message.Message.{Message}
 use Rattle.wire.specs.declared.message.Message.TheVariants as message
@@ -125,12 +125,12 @@ module _ (scheme : Scheme) (f : Node → List Entry) (causal : Causal scheme f) 
 
   -- ---- a notification
 
-  notice_welcome : (c : Code) (n : Notification) (moment : Moment) (x : Transition) (k : Content) → newest (transitions_of (f Itl)) n.id ≡ Some x → x.content ≡ Some k → n.from ≡ Registry c → n.to ≡ Itl
-      → In (message.Notification n) (sends (f (Registry c))) → is_from_another (Registry c) n.id x.content (notice_status n.notice) ≡ false
-      → (log_row (Stands x.new) (Notified (notice_status n.notice)) ≡ Refused → ⊥) → Welcome (log_verdict scheme (f Itl) (Received (message.Notification n) moment))
-  notice_welcome c n moment x k last content from to h right row =
+  notified_welcome : (c : Code) (n : Notification) (moment : Moment) (x : Transition) (k : Content) → newest (transitions_of (f Itl)) n.id ≡ Some x → x.content ≡ Some k → n.from ≡ Registry c → n.to ≡ Itl
+      → In (message.Notification n) (sends (f (Registry c))) → is_from_another (Registry c) n.id x.content (notified_status n.notified) ≡ false
+      → (log_row (Stands x.new) (Notified (notified_status n.notified)) ≡ Refused → ⊥) → Welcome (log_verdict scheme (f Itl) (Received (message.Notification n) moment))
+  notified_welcome c n moment x k last content from to h right row =
       let es = transitions_of (f Itl) in
-      let s = notice_status n.notice in
+      let s = notified_status n.notified in
       welcome_refuse (log_refusals scheme (f Itl) (message.Notification n)) (log_answer scheme (f Itl) moment.seconds (message.Notification n)) (
         right_node n.to Itl to,
         (
@@ -141,10 +141,10 @@ module _ (scheme : Scheme) (f : Node → List Entry) (causal : Causal scheme f) 
           ),
         ),
       )
-      (subst (λ o. Welcome (told scheme (f Itl) n.id o (notice_codes n.notice) moment.seconds (Notified s))) (sym last)
+      (subst (λ o. Welcome (told scheme (f Itl) n.id o (notified_codes n.notified) moment.seconds (Notified s))) (sym last)
       (welcome_row scheme (f Itl) _ _ (subst (λ z. log_row z (Notified s) ≡ Refused → ⊥) (sym (known_status x k content)) row)))
 
-  completed_welcome : (c : Code) (n : Notification) (moment : Moment) → n.from ≡ Registry c → n.to ≡ Itl → notice_status n.notice ≡ Completed → same_code n.id.code c ≡ true
+  completed_welcome : (c : Code) (n : Notification) (moment : Moment) → n.from ≡ Registry c → n.to ≡ Itl → notified_status n.notified ≡ Completed → same_code n.id.code c ≡ true
       → In (message.Notification n) (sends (f (Registry c))) → Welcome (log_verdict scheme (f Itl) (Received (message.Notification n) moment))
   completed_welcome c n moment from to said own h =
       let es = f (Registry c) in
@@ -152,13 +152,13 @@ module _ (scheme : Scheme) (f : Node → List Entry) (causal : Causal scheme f) 
       let last = subst (λ z. newest (transitions_of es) z ≡ Some q.0) q.2 (ends_last scheme c es (causal.made (Registry c)) q.0 q.1 q.3) in
       let a = completed_agrees scheme f causal (Registry c) n.id (stands_so (transitions_of es) n.id q.0 Completed last q.3) in
       let p = proposer scheme (f Itl) (causal.made Itl) n.id a.0 a.1 (λ e. subst IsAgreed e a.2) in
-      notice_welcome c n moment a.0 p.content a.1 p.is from to h
+      notified_welcome c n moment a.0 p.content a.1 p.is from to h
       (subst (λ s. is_from_another (Registry c) n.id a.0.content s ≡ false) (sym said)
       (right_node (Registry c) (Registry n.id.code) (ap (λ (z : Code). Registry z) (sym (code_of_same n.id.code c own)))))
       (subst (λ s. log_row (Stands a.0.new) (Notified s) ≡ Refused → ⊥) (sym said) (completed_row a.0.new a.2))
 
   -- no acquirer both accepts and rejects
-  not_both : (c : Code) (n m : Notification) → n.id ≡ m.id → notice_status n.notice ≡ Accepted → notice_status m.notice ≡ Rejected → In (message.Notification n) (sends (f (Registry c)))
+  not_both : (c : Code) (n m : Notification) → n.id ≡ m.id → notified_status n.notified ≡ Accepted → notified_status m.notified ≡ Rejected → In (message.Notification n) (sends (f (Registry c)))
       → In (message.Notification m) (sends (f (Registry c))) → ⊥
   not_both c n m same yes_said no_said h i =
       let es = f (Registry c) in
@@ -166,7 +166,7 @@ module _ (scheme : Scheme) (f : Node → List Entry) (causal : Causal scheme f) 
       let r = rejected_sent scheme c es (causal.made (Registry c)) m i no_said in
       taken_not_rejected r.0.new r.2 (subst IsTaken (ap (newest (transitions_of es)) same ∙ r.1) a.1)
 
-  answer_welcome : (c : Code) (n : Notification) (moment : Moment) (k : Content) → n.from ≡ Registry c → n.to ≡ Itl → (notice_status n.notice ≡ Accepted) ⊎ (notice_status n.notice ≡ Rejected)
+  answer_welcome : (c : Code) (n : Notification) (moment : Moment) (k : Content) → n.from ≡ Registry c → n.to ≡ Itl → (notified_status n.notified ≡ Accepted) ⊎ (notified_status n.notified ≡ Rejected)
       → Offered (f (Registry c)) Itl n.id proposal.Checked k → k.acquirer ≡ c → In (message.Notification n) (sends (f (Registry c))) → Welcome (log_verdict scheme (f Itl) (Received (message.Notification n) moment))
   answer_welcome c n moment k from to which got here h =
       let log = f Itl in
@@ -181,12 +181,12 @@ module _ (scheme : Scheme) (f : Node → List Entry) (causal : Causal scheme f) 
       subst (λ z. is_not_acquirer (Registry c) z ≡ false) (sym o.2) (right_node (Registry c) (Registry k.acquirer) (ap (λ (z : Code). Registry z) (sym here))) in
       elim which [
         | inl e ↦
-            notice_welcome c n moment o.0 k o.1 o.2 from to h (subst (λ s. is_from_another (Registry c) n.id o.0.content s ≡ false) (sym e) right)
+            notified_welcome c n moment o.0 k o.1 o.2 from to h (subst (λ s. is_from_another (Registry c) n.id o.0.content s ≡ false) (sym e) right)
             (subst (λ s. log_row (Stands o.0.new) (Notified s) ≡ Refused → ⊥) (sym e) (accepted_row o.0.new started open_still (λ x.
             let g = refusal scheme log (causal.made Itl) n.id o.0 o.1 x in
             not_both c n g.2.notification (sym g.2.about) e g.2.told h (subst (λ z. In (message.Notification g.2.notification) (sends (f (Registry z)))) (at_c g.0 g.1) (heard_sent scheme f causal Itl (Registry g.0.acquirer) n.id Rejected g.2)))))
         | inr e ↦
-            notice_welcome c n moment o.0 k o.1 o.2 from to h (subst (λ s. is_from_another (Registry c) n.id o.0.content s ≡ false) (sym e) right)
+            notified_welcome c n moment o.0 k o.1 o.2 from to h (subst (λ s. is_from_another (Registry c) n.id o.0.content s ≡ false) (sym e) right)
             (subst (λ s. log_row (Stands o.0.new) (Notified s) ≡ Refused → ⊥) (sym e) (rejected_row o.0.new started open_still (λ x.
             let g = log_backed scheme log (causal.made Itl) n.id o.0 o.1 x in
             not_both c g.heard.notification n g.heard.about g.heard.told e

@@ -17,13 +17,13 @@ use Rattle.status.specs.Rows.{initiator_row, acquirer_row}
 use Rattle.status.specs.Status.{same_status}
 use Rattle.status.specs.declared.id.TransactionId.{TransactionId}
 use Rattle.status.specs.declared.moment.Moment.{Moment}
-use Rattle.status.specs.declared.words.Known.TheVariants.{Stands, Bare}
-use Rattle.status.specs.declared.words.Row.{Row}
-use Rattle.status.specs.declared.words.Row.TheVariants.{Move, Repeat, Late, Refused}
-use Rattle.status.specs.declared.words.RowInput.TheVariants.{Notified}
-use Rattle.status.specs.declared.words.Status.{Status}
-use Rattle.status.specs.declared.words.Status.TheVariants.{Proposed, Checked, Accepted, Rejected, Terminated, Cancelled, Completed}
-use Rattle.wire.specs.Notices.{notice_status}
+use Rattle.status.specs.declared.rows.RecordedStatus.TheVariants.{Stands, Bare}
+use Rattle.status.specs.declared.rows.Row.{Row}
+use Rattle.status.specs.declared.rows.Row.TheVariants.{Move, Repeat, Late, Refused}
+use Rattle.status.specs.declared.rows.RowInput.TheVariants.{Notified}
+use Rattle.status.specs.declared.status.Status.{Status}
+use Rattle.status.specs.declared.status.Status.TheVariants.{Proposed, Checked, Accepted, Rejected, Terminated, Cancelled, Completed}
+use Rattle.wire.specs.NotifiedStatuses.{notified_status}
 use Rattle.wire.specs.declared.input.Input.TheVariants.{Received}
 use Rattle.wire.specs.declared.message.Message.{Message}
 use Rattle.wire.specs.declared.message.Message.TheVariants as message
@@ -38,7 +38,7 @@ use Rattle.protocol.specs.Effects.{acquirer_sends}
 use Rattle.protocol.specs.Checks.{acquirer_findings}
 use Rattle.std.specs.Option.{option_map_or}
 use Rattle.protocol.specs.Claims.{at_registry, is_received}
-use Rattle.protocol.specs.Deciding.{enters}
+use Rattle.protocol.specs.Deciding.{recorded_if_room}
 use Rattle.protocol.specs.History.{Transition, Entry, transitions_of, newest, is_status, is_known, stands_at, sends, holds, has_serial}
 use Rattle.protocol.specs.Owner.{Owing}
 use Rattle.protocol.specs.Pieces.{Piece, pieces, repeats}
@@ -171,21 +171,21 @@ module _ (scheme : Scheme) (f : Node → List Entry) (causal : Causal scheme f) 
 
     -- ---- a notification
 
-    notice_welcome : (n : Notification) (moment : Moment) → In (message.Notification n) (sends (f Itl)) → n.to ≡ Registry c
-        → (not (is_known (transitions_of here) n.id) && not (same_status (notice_status n.notice) Cancelled && not (same_code n.id.code c))) ≡ false
-        → Welcome (in_role scheme c here n.id (newest (transitions_of here) n.id) moment.seconds (Notified (notice_status n.notice)))
+    notified_welcome : (n : Notification) (moment : Moment) → In (message.Notification n) (sends (f Itl)) → n.to ≡ Registry c
+        → (not (is_known (transitions_of here) n.id) && not (same_status (notified_status n.notified) Cancelled && not (same_code n.id.code c))) ≡ false
+        → Welcome (in_role scheme c here n.id (newest (transitions_of here) n.id) moment.seconds (Notified (notified_status n.notified)))
         → Welcome (registry_verdict scheme c here (Received (message.Notification n) moment))
-    notice_welcome n moment h to about w =
-        welcome_refuse (registry_refusals c here (message.Notification n)) (in_role scheme c here n.id (newest (transitions_of here) n.id) moment.seconds (Notified (notice_status n.notice)))
+    notified_welcome n moment h to about w =
+        welcome_refuse (registry_refusals c here (message.Notification n)) (in_role scheme c here n.id (newest (transitions_of here) n.id) moment.seconds (Notified (notified_status n.notified)))
         (right_node n.to (Registry c) to, (right_node n.from Itl (sender_sends scheme Itl (f Itl) (causal.made Itl) (message.Notification n) h), (about, tt)))
         w
 
     -- to the initiator
 
-    initiator_welcome : (n : Notification) (moment : Moment) → In (message.Notification n) (sends (f Itl)) → n.to ≡ Registry c → n.id.code ≡ c → (notice_status n.notice ≡ Completed → ⊥)
+    initiator_welcome : (n : Notification) (moment : Moment) → In (message.Notification n) (sends (f Itl)) → n.to ≡ Registry c → n.id.code ≡ c → (notified_status n.notified ≡ Completed → ⊥)
         → Welcome (registry_verdict scheme c here (Received (message.Notification n) moment))
     initiator_welcome n moment h to code not_completed =
-        let s = notice_status n.notice in
+        let s = notified_status n.notified in
         let past = log_sent scheme (f Itl) (causal.made Itl) n h in
         let l = past_transition s (newest (transitions_of (f Itl)) n.id) past.0 in
         let b = initiated scheme f causal n.id l.0 l.1 in
@@ -206,7 +206,7 @@ module _ (scheme : Scheme) (f : Node → List Entry) (causal : Causal scheme f) 
           | inl d ↦ never_proposed scheme (f Itl) (causal.made Itl) l.0 (newest_id (transitions_of (f Itl)) n.id l.0 l.1).0 (d ∙ e)
           | inr d ↦ let y : Accepted ≡ Proposed = sym d.0 ∙ e in cc (y)
         ] in
-        notice_welcome n moment h to (and_left (not (is_known (transitions_of here) n.id)) _ (known_by_newest (transitions_of here) n.id x last))
+        notified_welcome n moment h to (and_left (not (is_known (transitions_of here) n.id)) _ (known_by_newest (transitions_of here) n.id x last))
         (subst (λ z. Welcome (in_role scheme c here n.id z moment.seconds (Notified s))) (sym last)
         (welcome_true (same_code n.id.code c) _ _ own
         (welcome_row scheme here _ _
@@ -319,7 +319,7 @@ module _ (scheme : Scheme) (f : Node → List Entry) (causal : Causal scheme f) 
 
     acquirer_welcome : (n : Notification) (moment : Moment) → In (message.Notification n) (sends (f Itl)) → n.to ≡ Registry c → ToKnown (f Itl) n → Welcome (registry_verdict scheme c here (Received (message.Notification n) moment))
     acquirer_welcome n moment h to g =
-        let s = notice_status n.notice in
+        let s = notified_status n.notified in
         let t = n.id in
         let l = g.last in
         let k = g.goes.content in
@@ -342,7 +342,7 @@ module _ (scheme : Scheme) (f : Node → List Entry) (causal : Causal scheme f) 
               let accepted = subst (λ z. In (message.Notification a.heard.notification) (sends (f (Registry z)))) who (heard_sent scheme f causal Itl (Registry a.content.acquirer) t Accepted a.heard) in
               let taken = subst (λ z. IsTaken (newest (transitions_of here) z)) a.heard.about (accepted_sent scheme c here (causal.made (Registry c)) a.heard.notification accepted a.heard.told).1 in
               let x = taken_known (newest (transitions_of here) t) taken in
-              notice_welcome n moment h to (and_left (not (is_known (transitions_of here) t)) _ (known_by_newest (transitions_of here) t x.0 x.1))
+              notified_welcome n moment h to (and_left (not (is_known (transitions_of here) t)) _ (known_by_newest (transitions_of here) t x.0 x.1))
               (subst (λ z. Welcome (in_role scheme c here t z moment.seconds (Notified s))) (sym x.1)
               (welcome_false (same_code t.code c) _ _ foreign
               (subst (λ z. Welcome (finish t (Some x.0) moment.seconds z)) (sym e)
@@ -354,7 +354,7 @@ module _ (scheme : Scheme) (f : Node → List Entry) (causal : Causal scheme f) 
               ] in
               let cancels : (same_status s Cancelled && not (same_code t.code c)) ≡ true =
               and_from (same_status s Cancelled) (not (same_code t.code c)) (subst (λ z. same_status z Cancelled ≡ true) (sym e) refl) (ap not foreign) in
-              notice_welcome n moment h to (and_right (not (is_known (transitions_of here) t)) _ (not_from_true (same_status s Cancelled && not (same_code t.code c)) cancels))
+              notified_welcome n moment h to (and_right (not (is_known (transitions_of here) t)) _ (not_from_true (same_status s Cancelled && not (same_code t.code c)) cancels))
               (subst (λ z. Welcome (in_role scheme c here t (newest (transitions_of here) t) moment.seconds (Notified z))) (sym e)
               (told_cancelled t l (newest (transitions_of here) t) moment.seconds foreign g.is done refl))
         ]

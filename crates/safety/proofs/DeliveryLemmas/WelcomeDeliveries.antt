@@ -7,7 +7,7 @@ use Rattle.wire.specs.declared.input.Input.{Input}
 use Rattle.wire.specs.declared.input.Input.TheVariants.{Received}
 use Rattle.scheme.specs.declared.registries.Scheme.{Scheme}
 use Rattle.protocol.specs.Claims.{DeliversWelcome, live_of, whole}
-use Rattle.protocol.specs.Deciding.{Verdict, Enters, IsRepeat, IsLate, IsRefused}
+use Rattle.protocol.specs.Deciding.{Verdict, IsRecorded, IsRepeat, IsLate, IsRefused}
 use Rattle.protocol.specs.History.{sends}
 use Rattle.protocol.specs.Verdict.{verdict, history}
 use Rattle.wire.specs.Parties.{sender, receiver}
@@ -25,7 +25,7 @@ use Rattle.safety.proofs.DeliveryLemmas.WelcomeMessages.{welcome}
 -- a turn that is refused is refused by the verdict
 refused_turn : (b : Bool) (s : Station) (input : Input) (v : Verdict) (code : ℕ) → (cond b (answered s input v) (rests s NotPossible)).outcome ≡ Refused code → v ≡ IsRefused code
 refused_turn false s input v code h = absurd (cc (h))
-refused_turn true s input (Enters xs) code h = absurd (cc (h))
+refused_turn true s input (IsRecorded xs) code h = absurd (cc (h))
 refused_turn true s input IsRepeat code h = absurd (cc (h))
 refused_turn true s input IsLate code h = absurd (cc (h))
 refused_turn true s input (IsRefused c) code h = let same : c ≡ code = cc (h) in ap IsRefused same

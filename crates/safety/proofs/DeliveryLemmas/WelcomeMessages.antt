@@ -1,4 +1,5 @@
--- Where each received message was sent, a message that was sent is refused by its addressee only where the journal is full.
+-- Where each received message was sent, a message that was sent is refused by its addressee only where the journal is
+-- full.
 use Rattle.std.proofs.Common.{◌≡◌, List, inl, inr, sym, ◌∙◌}
 use Rattle.units.specs.declared.code.Code.{Code}
 use Rattle.units.specs.declared.code.Node.{Node}

@@ -16,7 +16,7 @@ use Rattle.wire.specs.declared.input.Input.TheVariants.{Propose, Request, OpenAc
 use Rattle.wire.specs.declared.input.Number.{Number}
 use Rattle.scheme.specs.declared.registries.Scheme.{Scheme}
 use Rattle.protocol.specs.Claims.{committed_part, committed_of}
-use Rattle.protocol.specs.Deciding.{Verdict, Enters, IsRepeat, IsRefused, enters, acknowledge}
+use Rattle.protocol.specs.Deciding.{Verdict, IsRecorded, IsRepeat, IsRefused, recorded_if_room, acknowledge}
 use Rattle.protocol.specs.History.{Transition, Entry, sends, is_acknowledged}
 use Rattle.protocol.specs.Registries.{is_node}
 use Rattle.protocol.specs.Verdict.{verdict, history}
@@ -36,25 +36,25 @@ use Rattle.safety.proofs.WorldLemmas.StationsAfterPut.{other_way}
 use Rattle.safety.proofs.JournalWeaves.RecordOrders.{journals_here, journals_there, sent_later}
 
 -- an acknowledgement that enters is of a message that was sent
-pub ack_below : (scheme : Scheme) (es : List Entry) (key : ℕ) (xs : List Transition) → acknowledge scheme es key ≡ Enters xs → key < length (sends es)
-ack_below scheme es key xs says = leb-false (length (sends es)) key (not_refused (nat_le (length (sends es)) key) (cond (is_acknowledged es key) IsRepeat (enters scheme es [])) says)
+pub ack_below : (scheme : Scheme) (es : List Entry) (key : ℕ) (xs : List Transition) → acknowledge scheme es key ≡ IsRecorded xs → key < length (sends es)
+ack_below scheme es key xs says = leb-false (length (sends es)) key (not_refused (nat_le (length (sends es)) key) (cond (is_acknowledged es key) IsRepeat (recorded_if_room scheme es [])) says)
   where
-    not_refused : (b : Bool) (v : Verdict) → cond b (IsRefused no_row) v ≡ Enters xs → b ≡ false
+    not_refused : (b : Bool) (v : Verdict) → cond b (IsRefused no_row) v ≡ IsRecorded xs → b ≡ false
     not_refused true v e = absurd (cc (e))
     not_refused false v e = refl
 
 module _ (w : World) (quiet : Quiet w) where
-  take_on : (n : Node) (input : Input) (xs : List Transition) → is_node w.scheme n ≡ true → is_order w n input ≡ true → verdict w.scheme n (committed_of w n) input ≡ Enters xs → (events : List WorldEvent) × Grown w events n input
+  take_on : (n : Node) (input : Input) (xs : List Transition) → is_node w.scheme n ≡ true → is_order w n input ≡ true → verdict w.scheme n (committed_of w n) input ≡ IsRecorded xs → (events : List WorldEvent) × Grown w events n input
   take_on n input xs node order says =
       let s = there w quiet n node in (
         Take n input ∷ Commit n 1 ∷ [],
-        record_on w n s.0 input xs (Take n input) s.1 (quiet.idle n s.0 s.1) (subst (λ o. verdict w.scheme n (history w.scheme n (committed_part o)) input ≡ Enters xs) s.1 says) (take_step w n input order),
+        record_on w n s.0 input xs (Take n input) s.1 (quiet.idle n s.0 s.1) (subst (λ o. verdict w.scheme n (history w.scheme n (committed_part o)) input ≡ IsRecorded xs) s.1 says) (take_step w n input order),
       )
 
   -- the message is posted, then acknowledged
   ack_on : (n : Node) (key : Number) (xs : List Transition) → is_node w.scheme n ≡ true
       → ((bag : List Posted) → was_posted (record w { bag = bag }) n key.value ≡ true → is_order (record w { bag = bag }) n (Ack key) ≡ true)
-      → verdict w.scheme n (committed_of w n) (Ack key) ≡ Enters xs → key.value < length (sends (committed_of w n)) → (events : List WorldEvent) × Grown w events n (Ack key)
+      → verdict w.scheme n (committed_of w n) (Ack key) ≡ IsRecorded xs → key.value < length (sends (committed_of w n)) → (events : List WorldEvent) × Grown w events n (Ack key)
   ack_on n key xs node order says below =
       let s = there w quiet n node in
       let m = some_at (sends (committed_of w n)) key.value below in
@@ -66,17 +66,17 @@ module _ (w : World) (quiet : Quiet w) where
         Post n key.value ∷ Take n (Ack key) ∷ Commit n 1 ∷ [],
         bag_on w (Post n key.value) bag (Take n (Ack key) ∷ Commit n 1 ∷ []) n (Ack key) (post_step w n s.0 key.value m.0 s.1 (quiet.idle n s.0 s.1).0 m.1)
             (record_on (record w { bag = bag }) n s.0 (Ack key) xs (Take n (Ack key)) s.1 (quiet.idle n s.0 s.1)
-            (subst (λ o. verdict w.scheme n (history w.scheme n (committed_part o)) (Ack key) ≡ Enters xs) s.1 says) (take_step (record w { bag = bag }) n (Ack key) (order bag in_bag))),
+            (subst (λ o. verdict w.scheme n (history w.scheme n (committed_part o)) (Ack key) ≡ IsRecorded xs) s.1 says) (take_step (record w { bag = bag }) n (Ack key) (order bag in_bag))),
       )
 
-  next_on : (n : Node) (input : Input) (xs : List Transition) → is_node w.scheme n ≡ true → verdict w.scheme n (committed_of w n) input ≡ Enters xs
+  next_on : (n : Node) (input : Input) (xs : List Transition) → is_node w.scheme n ≡ true → verdict w.scheme n (committed_of w n) input ≡ IsRecorded xs
       → WasSent w.scheme (λ m. committed_part (station w m)) n input → (events : List WorldEvent) × Grown w events n input
   unfolding verdict
   next_on n (Received m moment) xs node says sent =
       let to = sent.0 in
       let g =
       delivers w quiet m moment xs (subst (λ z. is_node w.scheme z ≡ true) (sym to) node) (In_contains (sends (committed_of w (sender m))) m sent.1)
-      (subst (λ z. verdict w.scheme z (committed_of w z) (Received m moment) ≡ Enters xs) (sym to) says) in
+      (subst (λ z. verdict w.scheme z (committed_of w z) (Received m moment) ≡ IsRecorded xs) (sym to) says) in
       let events : List WorldEvent = Post (sender m) g.0 ∷ Deliver (length w.bag) moment ∷ Commit (receiver m) 1 ∷ [] in
       (events, subst (λ z. Grown w events z (Received m moment)) to g.1)
   next_on (Registry c) (Ack key) xs node says sent = ack_on (Registry c) key xs node (λ bag h. h) says (ack_below w.scheme (committed_of w (Registry c)) key.value xs says)

@@ -16,7 +16,7 @@ use Rattle.wire.specs.declared.input.Input.TheVariants.{Propose, Request, OpenAc
 use Rattle.wire.specs.declared.message.Message.{Message}
 use Rattle.scheme.specs.declared.registries.Scheme.{Scheme}
 use Rattle.protocol.specs.Claims.{committed_part, whole}
-use Rattle.protocol.specs.Deciding.{Verdict, Enters, IsRepeat, IsLate, IsRefused}
+use Rattle.protocol.specs.Deciding.{Verdict, IsRecorded, IsRepeat, IsLate, IsRefused}
 use Rattle.protocol.specs.History.{Transition, sends}
 use Rattle.protocol.specs.Registries.{is_node}
 use Rattle.protocol.specs.Verdict.{verdict, history}
@@ -50,13 +50,13 @@ EachSent scheme journals xs = (m : Message) (moment : Moment) → In (Received m
 -- the records that wait after the past were recorded each after the earlier ones
 abbrev Waiting : Scheme → Node → List Input → List Input → Type 0
 Waiting scheme n past [] = Unit {0}
-Waiting scheme n past (i ∷ is) = ((xs : List Transition) × (verdict scheme n (history scheme n past) i ≡ Enters xs)) × Addressed n i × Waiting scheme n (past ++ i ∷ []) is
+Waiting scheme n past (i ∷ is) = ((xs : List Transition) × (verdict scheme n (history scheme n past) i ≡ IsRecorded xs)) × Addressed n i × Waiting scheme n (past ++ i ∷ []) is
 
 module _ (scheme : Scheme) (n : Node) where
-  waiting_more : (past is : List Input) (i : Input) (xs : List Transition) → Waiting scheme n past is → verdict scheme n (history scheme n (past ++ is)) i ≡ Enters xs → Addressed n i → Waiting scheme n past (is ++ i ∷ [])
-  waiting_more past [] i xs h e a = ((xs, subst (λ zs. verdict scheme n (history scheme n zs) i ≡ Enters xs) (append-nil past) e), a, tt)
+  waiting_more : (past is : List Input) (i : Input) (xs : List Transition) → Waiting scheme n past is → verdict scheme n (history scheme n (past ++ is)) i ≡ IsRecorded xs → Addressed n i → Waiting scheme n past (is ++ i ∷ [])
+  waiting_more past [] i xs h e a = ((xs, subst (λ zs. verdict scheme n (history scheme n zs) i ≡ IsRecorded xs) (append-nil past) e), a, tt)
   waiting_more past (x ∷ is) i xs h e a =
-      (h.0, h.1, waiting_more (past ++ x ∷ []) is i xs h.2 (subst (λ zs. verdict scheme n (history scheme n zs) i ≡ Enters xs) (sym (append_assoc past (x ∷ []) is)) e) a)
+      (h.0, h.1, waiting_more (past ++ x ∷ []) is i xs h.2 (subst (λ zs. verdict scheme n (history scheme n zs) i ≡ IsRecorded xs) (sym (append_assoc past (x ∷ []) is)) e) a)
 
   was_sent : (journals : Node → List Input) (x : Input) (xs : List Input) → EachSent scheme journals (x ∷ xs) → Addressed n x → WasSent scheme journals n x
   was_sent journals (Received m moment) xs sent a = (a, contains_in (sends (history scheme (sender m) (journals (sender m)))) m (sent m moment (inl refl)))
@@ -87,7 +87,7 @@ module _ (scheme : Scheme) (n : Node) where
   }
   commit_more (x ∷ xs) ys past order node turn e waits sent =
       let r : Placed = record { node = n; input = x } in
-      let next : IsNext scheme (journals_of order) r = (node, (waits.0.0, subst (λ zs. verdict scheme n (history scheme n zs) x ≡ Enters waits.0.0) (sym e) waits.0.1), was_sent (journals_of order) x xs sent waits.1) in
+      let next : IsNext scheme (journals_of order) r = (node, (waits.0.0, subst (λ zs. verdict scheme n (history scheme n zs) x ≡ IsRecorded waits.0.0) (sym e) waits.0.1), was_sent (journals_of order) x xs sent waits.1) in
       let later : EachSent scheme (journals_of (r ∷ order)) xs = λ m moment i.
       elim (cases_Bool (same_node (sender m) n)) [
         | inl y ↦
@@ -148,9 +148,9 @@ module _ (w : World) (sound : Sound w) (o : Ordered w) (n : Node) (s : Station) 
   turned_if false t k = still
 
   turned_answered : (i : Input) (v : Verdict) → Addressed n i → verdict w.scheme s.node (history w.scheme s.node (journal s)) i ≡ v → Turned w n s (answered s i v).station
-  turned_answered i (Enters xs) a says =
+  turned_answered i (IsRecorded xs) a says =
       waiting_still (record s { tail = s.tail ++ i ∷ [] }) refl refl
-      (waiting_more w.scheme n s.committed s.tail i xs (o.waits n s is) (subst (λ z. verdict w.scheme z (history w.scheme z (journal s)) i ≡ Enters xs) own says) a)
+      (waiting_more w.scheme n s.committed s.tail i xs (o.waits n s is) (subst (λ z. verdict w.scheme z (history w.scheme z (journal s)) i ≡ IsRecorded xs) own says) a)
   turned_answered i IsRepeat a says = still
   turned_answered i IsLate a says = still
   turned_answered i (IsRefused code) a says = still

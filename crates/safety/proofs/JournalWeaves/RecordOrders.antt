@@ -11,7 +11,7 @@ use Rattle.units.specs.declared.code.Node.{Node}
 use Rattle.wire.specs.declared.input.Input.{Input}
 use Rattle.wire.specs.declared.input.Input.TheVariants.{Propose, Request, OpenAccount, CloseAccount, Ack, CleanUp, Eligible, Received}
 use Rattle.scheme.specs.declared.registries.Scheme.{Scheme}
-use Rattle.protocol.specs.Deciding.{Enters}
+use Rattle.protocol.specs.Deciding.{IsRecorded}
 use Rattle.protocol.specs.History.{sends}
 use Rattle.protocol.specs.Verdict.{verdict, history}
 use Rattle.protocol.specs.Weave.{Placed, journals_of, WasSent, InTurn, ArePrefixes, HasNext}
@@ -72,7 +72,7 @@ module _ (scheme : Scheme) (past whole : Node → List Input) (on : ArePrefixes 
             r,
             (
               next.0,
-              (next.1.0, subst (λ xs. verdict scheme r.node (history scheme r.node xs) r.input ≡ Enters next.1.0) (sym same) next.1.1),
+              (next.1.0, subst (λ xs. verdict scheme r.node (history scheme r.node xs) r.input ≡ IsRecorded next.1.0) (sym same) next.1.1),
               sent_later scheme (journals_of rs) past covers r.node r.input next.2,
             ),
             ((inside r.node).0, subst (λ xs. whole r.node ≡ xs ++ r.input ∷ (inside r.node).0) (sym same) whole_is),

@@ -11,7 +11,7 @@ use Rattle.units.specs.declared.code.Node.TheVariants.{Itl, Registry}
 use Rattle.wire.specs.declared.input.Input.{Input}
 use Rattle.wire.specs.declared.input.Input.TheVariants.{Propose, Request, OpenAccount, CloseAccount, Ack, CleanUp, Eligible, Received}
 use Rattle.protocol.specs.Claims.{committed_part, committed_of}
-use Rattle.protocol.specs.Deciding.{Enters}
+use Rattle.protocol.specs.Deciding.{IsRecorded}
 use Rattle.protocol.specs.History.{Transition, sends}
 use Rattle.protocol.specs.Registries.{is_node}
 use Rattle.protocol.specs.Verdict.{verdict, history}
@@ -31,20 +31,20 @@ use Rattle.safety.proofs.WorldLemmas.StationsAfterPut.{found_at_node}
 
 module _ (w : World) (all : IsQuiet w) where
   -- one event makes the node record the input
-  abbrev IsRecorded : Node → Input → Type 0
-  IsRecorded n input = (e : WorldEvent) × Gives w e n input × ((place : ℕ) × ((step w e).outcome ≡ Recorded place))
+  abbrev GetsRecorded : Node → Input → Type 0
+  GetsRecorded n input = (e : WorldEvent) × Gives w e n input × ((place : ℕ) × ((step w e).outcome ≡ Recorded place))
 
-  node_records : (n : Node) (input : Input) (xs : List Transition) → is_node w.scheme n ≡ true → verdict w.scheme n (committed_of w n) input ≡ Enters xs
+  node_records : (n : Node) (input : Input) (xs : List Transition) → is_node w.scheme n ≡ true → verdict w.scheme n (committed_of w n) input ≡ IsRecorded xs
       → (place : ℕ) × ((at_node w (station w n) (take_input w.scheme input)).outcome ≡ Recorded place)
   node_records n input xs node says =
       let idle = all.idle n node in
-      let here = subst (λ o. verdict w.scheme n (history w.scheme n (committed_part o)) input ≡ Enters xs) idle.is says in (
+      let here = subst (λ o. verdict w.scheme n (history w.scheme n (committed_part o)) input ≡ IsRecorded xs) idle.is says in (
         _,
         ap (λ o. (at_node w o (take_input w.scheme input)).outcome) idle.is
             ∙ ap (λ (turn : Turn). turn.outcome) (takes w.scheme n idle.at input xs (found_at_node n w.stations idle.at idle.is) idle.runs idle.settled here),
       )
 
-  take_recorded : (n : Node) (input : Input) (xs : List Transition) → is_node w.scheme n ≡ true → is_order w n input ≡ true → verdict w.scheme n (committed_of w n) input ≡ Enters xs → IsRecorded n input
+  take_recorded : (n : Node) (input : Input) (xs : List Transition) → is_node w.scheme n ≡ true → is_order w n input ≡ true → verdict w.scheme n (committed_of w n) input ≡ IsRecorded xs → GetsRecorded n input
   unfolding step
   take_recorded n input xs node order says =
       let r = node_records n input xs node says in (
@@ -61,8 +61,8 @@ module _ (w : World) (all : IsQuiet w) where
       list_any_in (λ (q : Posted). same_node q.node n && (q.key == key)) w.bag p (In_contains w.bag p (all.posted n key m.0 m.1))
       (and_from (same_node n n) (key == key) (same_node-refl n) (eq-eqb key key refl))
 
-  next_recorded : (n : Node) (input : Input) (xs : List Transition) → is_node w.scheme n ≡ true → verdict w.scheme n (committed_of w n) input ≡ Enters xs
-      → WasSent w.scheme (λ m. committed_part (station w m)) n input → IsRecorded n input
+  next_recorded : (n : Node) (input : Input) (xs : List Transition) → is_node w.scheme n ≡ true → verdict w.scheme n (committed_of w n) input ≡ IsRecorded xs
+      → WasSent w.scheme (λ m. committed_part (station w m)) n input → GetsRecorded n input
   unfolding step verdict
   next_recorded n (Received m moment) xs node says sent =
       let key = place_of (sends (committed_of w (sender m))) m (In_contains (sends (committed_of w (sender m))) m sent.1) in

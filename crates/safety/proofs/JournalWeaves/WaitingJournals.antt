@@ -21,9 +21,9 @@ use Rattle.wire.specs.declared.input.Input.{Input}
 use Rattle.wire.specs.declared.input.Input.TheVariants.{Propose, CleanUp, Received}
 use Rattle.wire.specs.declared.message.Message.TheVariants as message
 use Rattle.wire.specs.declared.message.ProposalStatus.TheVariants as proposal
-use Rattle.wire.specs.declared.notice.Notice.TheVariants as notice
+use Rattle.wire.specs.declared.notified.NotifiedStatus.TheVariants as notified
 use Rattle.scheme.specs.Order.{AreFew, AreMembers}
-use Rattle.scheme.specs.declared.members.Member.{Member}
+use Rattle.scheme.specs.declared.members.SchemeRegistry.{SchemeRegistry}
 use Rattle.scheme.specs.declared.registries.Scheme.{Scheme}
 use Rattle.protocol.proofs.WorkedScheme.{nz, jp, nz_node, nz1, first_of_may, a_day_after, thousand}
 use Rattle.protocol.proofs.Replaying.{replays_from}
@@ -43,10 +43,10 @@ one_of c = record { origin = c; period = First; kind = Aau; first = 1; last = 1 
 abbrev block_of : Code → Block
 block_of c = record { raw = one_of c; in_range = (lit≤ tt, lit≤ tt, lit≤ tt) }
 
-abbrev member_of : Code → Member
+abbrev member_of : Code → SchemeRegistry
 member_of c = record { code = c; accounts = 1 ∷ []; allotted = record { account = 1; units = block_of c ∷ [] } ∷ []; eligible = true; kinds = Aau ∷ [] }
 
-abbrev members : List Member
+abbrev members : List SchemeRegistry
 members = member_of jp ∷ member_of nz ∷ []
 
 codes_differ : jp ≡ nz → ⊥
@@ -86,7 +86,7 @@ nz_content = record { account = 1; acquirer = jp; to_account = 1; units = one_of
 
 -- before it proposes, NZ hears of an end that comes after its own proposal
 abbrev nz_hears : Input
-nz_hears = Received (message.Notification (record { from = Itl; to = nz_node; id = jp1; notice = notice.Cancelled })) first_of_may
+nz_hears = Received (message.Notification (record { from = Itl; to = nz_node; id = jp1; notified = notified.Cancelled })) first_of_may
 
 abbrev log_hears_nz : Input
 log_hears_nz = Received (message.Proposal (record { from = nz_node; to = Itl; id = nz1; status = proposal.Proposed; content = nz_content })) first_of_may

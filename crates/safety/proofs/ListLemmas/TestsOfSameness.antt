@@ -5,8 +5,8 @@ use Rattle.units.proofs.Same.{code_of_same, same_code-refl}
 use Rattle.units.specs.Code.{same_code}
 use Rattle.units.specs.declared.code.Code.{Code}
 use Rattle.status.specs.Status.{same_status, status_index}
-use Rattle.status.specs.declared.words.Status.{Status}
-use Rattle.status.specs.declared.words.Status.TheVariants.{Proposed, Checked, Accepted, Rejected, Terminated, Cancelled, Completed}
+use Rattle.status.specs.declared.status.Status.{Status}
+use Rattle.status.specs.declared.status.Status.TheVariants.{Proposed, Checked, Accepted, Rejected, Terminated, Cancelled, Completed}
 
 pub codes_differ : (a b : Code) → same_code a b ≡ false → a ≡ b → ⊥
 codes_differ a b other e = let x : true ≡ false = sym (same_code-refl a) ∙ ap (same_code a) e ∙ other in cc (x)

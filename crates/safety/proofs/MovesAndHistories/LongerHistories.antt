@@ -1,6 +1,6 @@
 -- Histories that get longer by more inputs of the journal.
--- The entries of a longer journal stand in front of the older entries, and nothing that was sent or received before is lost.
--- With one input more, a received message is that input or was received before.
+-- The entries of a longer journal stand in front of the older entries, and nothing that was sent or received before
+-- is lost. With one input more, a received message is that input or was received before.
 use Rattle.std.proofs.Common.{◌≡◌, List, [], ◌∷◌, ◌++◌, ◌⊎◌, inl, inr, refl, sym, subst, ◌∙◌, append_assoc}
 use Rattle.units.specs.declared.code.Node.{Node}
 use Rattle.status.specs.declared.moment.Moment.{Moment}
@@ -9,21 +9,21 @@ use Rattle.wire.specs.declared.input.Input.TheVariants.{Received}
 use Rattle.wire.specs.declared.message.Message.{Message}
 use Rattle.scheme.specs.declared.registries.Scheme.{Scheme}
 use Rattle.protocol.specs.History.{Transition, Entry, transitions_of, sends, messages_of}
-use Rattle.protocol.specs.Verdict.{verdict, extend, history_from, history, made}
+use Rattle.protocol.specs.Verdict.{verdict, extend, history_from, history, transitions_made}
 use Rattle.protocol.proofs.Histories.{history_from_append}
 use Rattle.safety.proofs.MovesAndHistories.NewestTransitions.{Made, Got}
 use Rattle.lemmas.proofs.Membership.{In, In_left}
 
 made_from : (scheme : Scheme) (n : Node) (es : List Entry) (xs : List Input) → Made scheme n es → Made scheme n (history_from scheme n es xs)
-made_from scheme n es [] made = made
-made_from scheme n es (x ∷ xs) made = made_from scheme n (extend scheme n es x) xs (refl, made)
+made_from scheme n es [] transitions_made = transitions_made
+made_from scheme n es (x ∷ xs) transitions_made = made_from scheme n (extend scheme n es x) xs (refl, transitions_made)
 
 pub made_history : (scheme : Scheme) (n : Node) (xs : List Input) → Made scheme n (history scheme n xs)
 made_history scheme n xs = made_from scheme n [] xs tt
 
 sends_from : (scheme : Scheme) (n : Node) (es : List Entry) (xs : List Input) (m : Message) → In m (sends es) → In m (sends (history_from scheme n es xs))
 sends_from scheme n es [] m h = h
-sends_from scheme n es (x ∷ xs) m h = sends_from scheme n (extend scheme n es x) xs m (In_left m (sends es) (messages_of (made (verdict scheme n es x))) h)
+sends_from scheme n es (x ∷ xs) m h = sends_from scheme n (extend scheme n es x) xs m (In_left m (sends es) (messages_of (transitions_made (verdict scheme n es x))) h)
 
 got_from : (scheme : Scheme) (n : Node) (es : List Entry) (xs : List Input) (m : Message) → Got es m → Got (history_from scheme n es xs) m
 got_from scheme n es [] m h = h
@@ -50,4 +50,4 @@ pub transitions_from : (scheme : Scheme) (n : Node) (es : List Entry) (xs : List
 transitions_from scheme n es [] = ([], refl)
 transitions_from scheme n es (x ∷ xs) =
     let r = transitions_from scheme n (extend scheme n es x) xs in
-    (r.0 ++ made (verdict scheme n es x), r.1 ∙ sym (append_assoc r.0 (made (verdict scheme n es x)) (transitions_of es)))
+    (r.0 ++ transitions_made (verdict scheme n es x), r.1 ∙ sym (append_assoc r.0 (transitions_made (verdict scheme n es x)) (transitions_of es)))

@@ -13,8 +13,8 @@ use Rattle.status.specs.Content.{Content}
 use Rattle.status.specs.Id.{same_id}
 use Rattle.status.specs.declared.id.TransactionId.{TransactionId}
 use Rattle.status.specs.declared.moment.Moment.{Moment}
-use Rattle.status.specs.declared.words.Status.{Status}
-use Rattle.wire.specs.Notices.{notice_status}
+use Rattle.status.specs.declared.status.Status.{Status}
+use Rattle.wire.specs.NotifiedStatuses.{notified_status}
 use Rattle.wire.specs.declared.input.Input.TheVariants.{Received}
 use Rattle.wire.specs.declared.message.Message.{Message}
 use Rattle.wire.specs.declared.message.Message.TheVariants as message
@@ -24,14 +24,14 @@ use Rattle.wire.specs.declared.message.Request.{Request}
 use Rattle.wire.specs.declared.message.ProposalStatus.{ProposalStatus}
 use Rattle.scheme.specs.declared.registries.Scheme.{Scheme}
 use Rattle.protocol.specs.History.{Transition, Entry, newest, stands}
-use Rattle.protocol.specs.Verdict.{verdict, made}
+use Rattle.protocol.specs.Verdict.{verdict, transitions_made}
 use Rattle.lemmas.proofs.Membership.{In, In_find}
 use Rattle.safety.proofs.MovesAndHistories.TableMoves.{RegistryMove, LogMove, registry_moves, log_moves}
 
 -- each entry's transitions are those of its input after the older ones
 abbrev pub Made : Scheme → Node → List Entry → Type 0
 Made scheme n [] = Unit {0}
-Made scheme n (e ∷ es) = (e.transitions ≡ made (verdict scheme n es e.input)) × Made scheme n es
+Made scheme n (e ∷ es) = (e.transitions ≡ transitions_made (verdict scheme n es e.input)) × Made scheme n es
 
 -- the message was received
 abbrev pub Got : List Entry → Message → Type 0
@@ -44,7 +44,7 @@ pub record Heard (es : List Entry) (from : Node) (t : TransactionId) (s : Status
   pub got : Got es (message.Notification notification)
   pub sender : notification.from ≡ from
   pub about : notification.id ≡ t
-  pub told : notice_status notification.notice ≡ s
+  pub told : notified_status notification.notified ≡ s
 
 -- a proposal that was received
 pub record Offered (es : List Entry) (from : Node) (t : TransactionId) (s : ProposalStatus) (k : Content) : Type 0 where
@@ -55,8 +55,8 @@ pub record Offered (es : List Entry) (from : Node) (t : TransactionId) (s : Prop
   pub status : proposal.status ≡ s
   pub content : proposal.content ≡ k
 
-pub one_notice : (a b : Notification) → message.Notification a ≡ message.Notification b → a ≡ b
-one_notice a b e = cc (e)
+pub one_notified : (a b : Notification) → message.Notification a ≡ message.Notification b → a ≡ b
+one_notified a b e = cc (e)
 
 pub one_proposal : (a b : Proposal) → message.Proposal a ≡ message.Proposal b → a ≡ b
 one_proposal a b e = cc (e)
@@ -72,11 +72,11 @@ offered_later e es from t s k h = record { proposal = h.proposal; got = inr h.go
 
 pub made_registry : (scheme : Scheme) (c : Code) (e : Entry) (es : List Entry) (x : Transition) → Made scheme (Registry c) (e ∷ es) → In x e.transitions → RegistryMove scheme c es e.input x
 unfolding verdict
-made_registry scheme c e es x made h = registry_moves scheme c es e.input x (subst (λ xs. In x xs) made.0 h)
+made_registry scheme c e es x transitions_made h = registry_moves scheme c es e.input x (subst (λ xs. In x xs) transitions_made.0 h)
 
 pub made_log : (scheme : Scheme) (e : Entry) (es : List Entry) (x : Transition) → Made scheme Itl (e ∷ es) → In x e.transitions → LogMove scheme es e.input x
 unfolding verdict
-made_log scheme e es x made h = log_moves scheme es e.input x (subst (λ xs. In x xs) made.0 h)
+made_log scheme e es x transitions_made h = log_moves scheme es e.input x (subst (λ xs. In x xs) transitions_made.0 h)
 
 -- ---- the newest transition of a transaction
 

@@ -1,7 +1,7 @@
 -- Answers that refuse for a full journal alone, and the causes of a refusal one by one.
-use Rattle.status.specs.declared.words.Status.{Status}
-use Rattle.status.specs.declared.words.Row.TheVariants.{Move, Repeat, Late, Refused}
-use Rattle.status.specs.declared.words.Row.{Row}
+use Rattle.status.specs.declared.status.Status.{Status}
+use Rattle.status.specs.declared.rows.Row.TheVariants.{Move, Repeat, Late, Refused}
+use Rattle.status.specs.declared.rows.Row.{Row}
 use Rattle.std.proofs.Common.{◌≡◌, ℕ, List, [], ◌∷◌, Bool, true, false, not, cond, Option, Some, None, ◌⊎◌, inl, inr, refl, sym, ap, subst, ◌∙◌}
 use Rattle.std.specs.Prelude.{nat_le, length, is_some}
 use Rattle.std.proofs.lemmas.Bool.{cond-true, cond-false, not_from_true}
@@ -14,7 +14,7 @@ use Rattle.status.specs.Content.{Content}
 use Rattle.status.specs.declared.id.TransactionId.{TransactionId}
 use Rattle.scheme.specs.declared.registries.Scheme.{Scheme}
 use Rattle.protocol.specs.Checks.{Causes}
-use Rattle.protocol.specs.Deciding.{Verdict, Enters, IsRepeat, IsLate, IsRefused, refuse, enters, has_other, by_row}
+use Rattle.protocol.specs.Deciding.{Verdict, IsRecorded, IsRepeat, IsLate, IsRefused, refuse, recorded_if_room, has_other, by_row}
 use Rattle.protocol.specs.History.{Transition, Entry, newest, is_known}
 use Rattle.safety.proofs.MovesAndHistories.TableMoves.{NoneStands}
 
@@ -25,10 +25,10 @@ Welcome v = (code : ℕ) → v ≡ IsRefused code → code ≡ journal_full
 refused_code : (a b : ℕ) → IsRefused a ≡ IsRefused b → a ≡ b
 refused_code a b e = cc (e)
 
-pub welcome_enters : (scheme : Scheme) (es : List Entry) (xs : List Transition) → Welcome (enters scheme es xs)
+pub welcome_enters : (scheme : Scheme) (es : List Entry) (xs : List Transition) → Welcome (recorded_if_room scheme es xs)
 welcome_enters scheme es xs code h = go (nat_le scheme.records (length es)) h
   where
-    go : (b : Bool) → cond b (IsRefused journal_full) (Enters xs) ≡ IsRefused code → code ≡ journal_full
+    go : (b : Bool) → cond b (IsRefused journal_full) (IsRecorded xs) ≡ IsRefused code → code ≡ journal_full
     go true e = sym (refused_code journal_full code e)
     go false e = absurd (cc (e))
 

@@ -20,14 +20,14 @@ use Rattle.status.specs.Rows.{initiator_row, log_row, acquirer_row}
 use Rattle.status.specs.Status.{same_status}
 use Rattle.status.specs.declared.id.TransactionId.{TransactionId}
 use Rattle.status.specs.declared.moment.Moment.{Moment}
-use Rattle.status.specs.declared.words.Known.TheVariants.{Stands}
-use Rattle.status.specs.declared.words.Row.{Row}
-use Rattle.status.specs.declared.words.Row.TheVariants.{Move, Repeat, Late, Refused}
-use Rattle.status.specs.declared.words.RowInput.TheVariants as column
-use Rattle.status.specs.declared.words.RowInput.TheVariants.{Notified}
-use Rattle.status.specs.declared.words.Status.{Status}
-use Rattle.status.specs.declared.words.Status.TheVariants.{Proposed, Checked, Cancelled, Completed}
-use Rattle.wire.specs.Notices.{notice_status, notice_codes}
+use Rattle.status.specs.declared.rows.RecordedStatus.TheVariants.{Stands}
+use Rattle.status.specs.declared.rows.Row.{Row}
+use Rattle.status.specs.declared.rows.Row.TheVariants.{Move, Repeat, Late, Refused}
+use Rattle.status.specs.declared.rows.RowInput.TheVariants as column
+use Rattle.status.specs.declared.rows.RowInput.TheVariants.{Notified}
+use Rattle.status.specs.declared.status.Status.{Status}
+use Rattle.status.specs.declared.status.Status.TheVariants.{Proposed, Checked, Cancelled, Completed}
+use Rattle.wire.specs.NotifiedStatuses.{notified_status, notified_codes}
 use Rattle.wire.specs.declared.input.Input.{Input}
 use Rattle.wire.specs.declared.input.Input.TheVariants.{Propose, Request, OpenAccount, CloseAccount, Ack, CleanUp, Eligible, Received}
 use Rattle.wire.specs.declared.message.Message.{Message}
@@ -37,18 +37,18 @@ use Rattle.wire.specs.declared.message.Proposal.{Proposal}
 use Rattle.wire.specs.declared.message.ProposalStatus.{ProposalStatus}
 use Rattle.wire.specs.declared.message.ProposalStatus.TheVariants as proposal
 use Rattle.wire.specs.declared.message.Request.{Request as Asking}
-use Rattle.wire.specs.declared.notice.Notice.{Notice}
-use Rattle.wire.specs.declared.notice.Notice.TheVariants as notice
+use Rattle.wire.specs.declared.notified.NotifiedStatus.{NotifiedStatus}
+use Rattle.wire.specs.declared.notified.NotifiedStatus.TheVariants as notified
 use Rattle.scheme.specs.declared.registries.Scheme.{Scheme}
 use Rattle.protocol.specs.History.{Transition, Entry, transitions_of, newest, is_acknowledged, is_eligible, is_requested, proposals}
 use Rattle.protocol.specs.Checks.{Causes, propose_refusals, acquirer_findings, log_findings}
 use Rattle.protocol.specs.Deciding as decide
-use Rattle.protocol.specs.Deciding.{Verdict, Enters, IsRepeat, IsRefused, refuse, enters, known, content_in, moved_by, by_row, ack_refusals, acknowledge}
+use Rattle.protocol.specs.Deciding.{Verdict, IsRecorded, IsRepeat, IsRefused, refuse, recorded_if_room, known, content_in, moved_by, by_row, ack_refusals, acknowledge}
 use Rattle.protocol.specs.Effects.{notifies, requests, initiator_sends, log_sends, acquirer_sends}
-use Rattle.protocol.specs.AtRegistry.{holding, content_of, offer, arrival, in_role, unless_held, holds_some, is_checked, request_refusals, request_column, registry_refusals, registry_answer, registry_message, open_refusals, close_refusals, registry_verdict}
+use Rattle.protocol.specs.AtRegistry.{holding, content_of, new_transfer_verdict, arrival, in_role, unless_held, holds_some, is_checked, request_refusals, request_column, registry_refusals, registry_answer, registry_message, open_refusals, close_refusals, registry_verdict}
 use Rattle.protocol.specs.AtLog as log
 use Rattle.protocol.specs.AtLog.{ledger, is_proposed, is_no_registry, is_from_another, log_refusals, log_answer, log_message, newest_of_each, is_old, put_transition, by_id, cleaned, due, clean_up, same_bool, eligible_refusals, log_verdict}
-use Rattle.protocol.specs.Verdict.{made}
+use Rattle.protocol.specs.Verdict.{transitions_made}
 use Rattle.safety.proofs.MovesAndHistories.TransitionForms.{moved, proposed, asking, arrived, settled_messages, bare, checked, told_to, cancelled, forestalled}
 use Rattle.lemmas.proofs.Membership.{In, In_cond, In_filter, In_flat_map}
 use Rattle.safety.proofs.MovesAndHistories.TableRows.{nothing_known, status_known, initiator_proposes, initiator_asks, initiator_asks_once, initiator_unasked, acquirer_unasked, initiator_notified, log_notified, acquirer_notified, log_asked, log_cleans, acquirer_offered, log_offered, unless_moves, settled_sends, passed_sends}
@@ -65,13 +65,13 @@ pub data RegistryMove (scheme : Scheme) (c : Code) (es : List Entry) : Input →
   arrives : (p : Proposal) (moment : Moment) (found : List ℕ) → p.from ≡ Itl → p.status ≡ proposal.Checked → found ≡ acquirer_findings scheme c (holding scheme c es) p.content
       → newest (transitions_of es) p.id ≡ None → same_code p.id.code c ≡ false → same_code p.content.acquirer c ≡ true
       → RegistryMove scheme c es (Received (message.Proposal p) moment) (arrived c p.id p.content moment.seconds found)
-  bares : (n : Notification) (moment : Moment) → n.from ≡ Itl → notice_status n.notice ≡ Cancelled → newest (transitions_of es) n.id ≡ None → same_code n.id.code c ≡ false
+  bares : (n : Notification) (moment : Moment) → n.from ≡ Itl → notified_status n.notified ≡ Cancelled → newest (transitions_of es) n.id ≡ None → same_code n.id.code c ≡ false
       → RegistryMove scheme c es (Received (message.Notification n) moment) (bare n.id moment.seconds)
   settles : (n : Notification) (moment : Moment) (x : Transition) (new : Status) → n.from ≡ Itl → newest (transitions_of es) n.id ≡ Some x → same_code n.id.code c ≡ true
-      → initiator_row (Stands x.new) (Notified (notice_status n.notice)) ≡ Move new
+      → initiator_row (Stands x.new) (Notified (notified_status n.notified)) ≡ Move new
       → RegistryMove scheme c es (Received (message.Notification n) moment) (moved x new moment.seconds (settled_messages c x.id new))
   finishes : (n : Notification) (moment : Moment) (x : Transition) (new : Status) → n.from ≡ Itl → newest (transitions_of es) n.id ≡ Some x → same_code n.id.code c ≡ false
-      → acquirer_row (Stands x.new) (Notified (notice_status n.notice)) ≡ Move new → (same_status new Completed && holds_some scheme c (transitions_of es) x.content) ≡ false
+      → acquirer_row (Stands x.new) (Notified (notified_status n.notified)) ≡ Move new → (same_status new Completed && holds_some scheme c (transitions_of es) x.content) ≡ false
       → RegistryMove scheme c es (Received (message.Notification n) moment) (moved x new moment.seconds [])
 
 -- an input that cancels the transaction while the log has it Checked
@@ -84,25 +84,25 @@ pub data LogMove (scheme : Scheme) (es : List Entry) : Input → Transition → 
       → newest (transitions_of es) p.id ≡ None → is_no_registry scheme p.from ≡ false
       → LogMove scheme es (Received (message.Proposal p) moment) (checked p.id p.content moment.seconds found)
   passes : (n : Notification) (moment : Moment) (x : Transition) (k : Content) (new : Status) → newest (transitions_of es) n.id ≡ Some x → x.content ≡ Some k → is_no_registry scheme n.from ≡ false
-      → is_from_another n.from n.id x.content (notice_status n.notice) ≡ false → log_row (Stands x.new) (Notified (notice_status n.notice)) ≡ Move new
-      → LogMove scheme es (Received (message.Notification n) moment) (moved x new moment.seconds (notifies Itl (told_to x.id k new) x.id n.notice ∷ []))
+      → is_from_another n.from n.id x.content (notified_status n.notified) ≡ false → log_row (Stands x.new) (Notified (notified_status n.notified)) ≡ Move new
+      → LogMove scheme es (Received (message.Notification n) moment) (moved x new moment.seconds (notifies Itl (told_to x.id k new) x.id n.notified ∷ []))
   cancels : (given : Input) (moment : Moment) (t : TransactionId) (x : Transition) (k : Content) → Withdraws given t moment → newest (transitions_of es) t ≡ Some x → x.content ≡ Some k
       → x.new ≡ Checked → LogMove scheme es given (cancelled moment.seconds x k)
   forestalls : (r : Asking) (moment : Moment) → r.from ≡ Registry r.id.code → is_no_registry scheme r.from ≡ false → newest (transitions_of es) r.id ≡ None
       → LogMove scheme es (Received (message.Request r) moment) (forestalled r.id moment.seconds)
 
-pub refuse_made : (cs : Causes) (v : Verdict) (x : Transition) → In x (made (refuse cs v)) → NoneStands cs × In x (made v)
+pub refuse_made : (cs : Causes) (v : Verdict) (x : Transition) → In x (transitions_made (refuse cs v)) → NoneStands cs × In x (transitions_made v)
 refuse_made [] v x h = (tt, h)
 refuse_made (c ∷ cs) v x h = go c.0 c.1 (refuse cs v) (refuse_made cs v x) h
   where
-    go : (b : Bool) (n : ℕ) (u : Verdict) → (In x (made u) → NoneStands cs × In x (made v)) → In x (made (cond b (IsRefused n) u)) → ((b ≡ false) × NoneStands cs) × In x (made v)
+    go : (b : Bool) (n : ℕ) (u : Verdict) → (In x (transitions_made u) → NoneStands cs × In x (transitions_made v)) → In x (transitions_made (cond b (IsRefused n) u)) → ((b ≡ false) × NoneStands cs) × In x (transitions_made v)
     go true n u f h = absurd h
     go false n u f h = let q = f h in ((refl, q.0), q.1)
 
-enters_made : (scheme : Scheme) (es : List Entry) (xs : List Transition) (x : Transition) → In x (made (enters scheme es xs)) → In x xs
+enters_made : (scheme : Scheme) (es : List Entry) (xs : List Transition) (x : Transition) → In x (transitions_made (recorded_if_room scheme es xs)) → In x xs
 enters_made scheme es xs x h = go (nat_le scheme.records (length es)) h
   where
-    go : (b : Bool) → In x (made (cond b (IsRefused journal_full) (Enters xs))) → In x xs
+    go : (b : Bool) → In x (transitions_made (cond b (IsRefused journal_full) (IsRecorded xs))) → In x xs
     go true h = absurd h
     go false h = h
 
@@ -110,12 +110,12 @@ only : {X : Type 0} (x y : X) → In y (x ∷ []) → x ≡ y
 only x y (inl e) = e
 only x y (inr h) = absurd h
 
-choice_made : (b : Bool) (u v : Verdict) (x : Transition) → In x (made (cond b u v)) → ((b ≡ true) × In x (made u)) ⊎ ((b ≡ false) × In x (made v))
+choice_made : (b : Bool) (u v : Verdict) (x : Transition) → In x (transitions_made (cond b u v)) → ((b ≡ true) × In x (transitions_made u)) ⊎ ((b ≡ false) × In x (transitions_made v))
 choice_made true u v x h = inl (refl, h)
 choice_made false u v x h = inr (refl, h)
 
 -- what a row that moves makes
-by_row_made : (scheme : Scheme) (es : List Entry) (to : Status → Transition) (row : Row) (x : Transition) → In x (made (by_row scheme es to row)) → (new : Status) × (row ≡ Move new) × (to new ≡ x)
+by_row_made : (scheme : Scheme) (es : List Entry) (to : Status → Transition) (row : Row) (x : Transition) → In x (transitions_made (by_row scheme es to row)) → (new : Status) × (row ≡ Move new) × (to new ≡ x)
 by_row_made scheme es to (Move new) x h = (new, refl, only _ x (enters_made scheme es _ x h))
 by_row_made scheme es to Repeat x h = absurd h
 by_row_made scheme es to Late x h = absurd h
@@ -144,18 +144,18 @@ pub settled_transition : (c : Code) (t : TransactionId) (x : Transition) (told n
 settled_transition c t x told new moment id row =
     same_moved t x.id x.content x.content moment _ _ new (sym id) refl (settled_sends c t x.content x.new told new row ∙ ap (λ z. settled_messages c z new) (sym id))
 
-pub passed_transition : (t : TransactionId) (x : Transition) (k : Content) (said : Notice) (new : Status) (moment : ℕ) → x.id ≡ t → x.content ≡ Some k → log_row (Stands x.new) (Notified (notice_status said)) ≡ Move new
-    → decide.moved t x.content moment (log_sends t x.content (notice_codes said) (Notified (notice_status said))) new ≡ moved x new moment (notifies Itl (told_to x.id k new) x.id said ∷ [])
+pub passed_transition : (t : TransactionId) (x : Transition) (k : Content) (said : NotifiedStatus) (new : Status) (moment : ℕ) → x.id ≡ t → x.content ≡ Some k → log_row (Stands x.new) (Notified (notified_status said)) ≡ Move new
+    → decide.moved t x.content moment (log_sends t x.content (notified_codes said) (Notified (notified_status said))) new ≡ moved x new moment (notifies Itl (told_to x.id k new) x.id said ∷ [])
 passed_transition t x k said new moment id content row =
     same_moved t x.id x.content x.content moment _ _ new (sym id) refl
-    (ap (λ z. log_sends t z (notice_codes said) (Notified (notice_status said))) content ∙ ap (λ z. log_sends z (Some k) (notice_codes said) (Notified (notice_status said))) (sym id) ∙ passed_sends x k said new row)
+    (ap (λ z. log_sends t z (notified_codes said) (Notified (notified_status said))) content ∙ ap (λ z. log_sends z (Some k) (notified_codes said) (Notified (notified_status said))) (sym id) ∙ passed_sends x k said new row)
 
 pub finished_transition : (t : TransactionId) (x : Transition) (new : Status) (moment : ℕ) → x.id ≡ t → decide.moved t x.content moment [] new ≡ moved x new moment []
 finished_transition t x new moment id = same_moved t x.id x.content x.content moment [] [] new (sym id) refl refl
 
 module _ (scheme : Scheme) (c : Code) (es : List Entry) where
   offer_made : (o : Order) (x : Transition) (t : Option TransactionId) → id_at c (proposals es + 1) ≡ t → NoneStands (propose_refusals scheme c (holding scheme c es) o)
-      → In x (made (offer scheme c es (content_of o) t)) → RegistryMove scheme c es (Propose o) x
+      → In x (transitions_made (new_transfer_verdict scheme c es (content_of o) t)) → RegistryMove scheme c es (Propose o) x
   offer_made o x None e none h = absurd h
   offer_made o x (Some t) e none h =
       let k = content_of o in
@@ -167,22 +167,22 @@ module _ (scheme : Scheme) (c : Code) (es : List Entry) where
 
   arrival_made : (p : Proposal) (moment : Moment) (last : Option Transition) (found : List ℕ) (x : Transition) → p.from ≡ Itl → p.status ≡ proposal.Checked → newest (transitions_of es) p.id ≡ last
       → same_code p.id.code c ≡ false → same_code p.content.acquirer c ≡ true → found ≡ acquirer_findings scheme c (holding scheme c es) p.content
-      → In x (made (arrival scheme c es p.id last p.content moment.seconds found)) → RegistryMove scheme c es (Received (message.Proposal p) moment) x
+      → In x (transitions_made (arrival scheme c es p.id last p.content moment.seconds found)) → RegistryMove scheme c es (Received (message.Proposal p) moment) x
   arrival_made p moment None [] x f s e a b is h =
       subst (λ y. RegistryMove scheme c es (Received (message.Proposal p) moment) y) (only _ x (enters_made scheme es _ x h)) (arrives p moment [] f s is e a b)
   arrival_made p moment None (y ∷ ys) x f s e a b is h =
       subst (λ y. RegistryMove scheme c es (Received (message.Proposal p) moment) y) (only _ x (enters_made scheme es _ x h)) (arrives p moment (y ∷ ys) f s is e a b)
   arrival_made p moment (Some q) found x f s e a b is h =
-      let input = decide.offered (content_in (Some q)) found in
+      let input = decide.column_of_proposal (content_in (Some q)) found in
       let g = by_row_made scheme es (decide.moved p.id (Some p.content) moment.seconds (acquirer_sends c p.id found input)) (acquirer_row (known (Some q)) input) x h in
       absurd (acquirer_offered q found g.0 g.1)
 
   -- a notification to the initiator
   settle_made : (n : Notification) (moment : Moment) (last : Option Transition) (x : Transition) → n.from ≡ Itl → newest (transitions_of es) n.id ≡ last → same_code n.id.code c ≡ true
-      → In x (made (by_row scheme es (decide.moved n.id (content_in last) moment.seconds (initiator_sends c n.id (content_in last) (Notified (notice_status n.notice)))) (initiator_row (known last) (Notified (notice_status n.notice)))))
+      → In x (transitions_made (by_row scheme es (decide.moved n.id (content_in last) moment.seconds (initiator_sends c n.id (content_in last) (Notified (notified_status n.notified)))) (initiator_row (known last) (Notified (notified_status n.notified)))))
       → RegistryMove scheme c es (Received (message.Notification n) moment) x
   settle_made n moment last x f e a h =
-      let told = notice_status n.notice in
+      let told = notified_status n.notified in
       let ms = initiator_sends c n.id (content_in last) (Notified told) in
       let g = by_row_made scheme es (decide.moved n.id (content_in last) moment.seconds ms) (initiator_row (known last) (Notified told)) x h in
       let k = initiator_notified (known last) told g.0 g.1 in
@@ -198,10 +198,10 @@ module _ (scheme : Scheme) (c : Code) (es : List Entry) where
 
   -- a notification to the acquirer
   finish_made : (n : Notification) (moment : Moment) (last : Option Transition) (x : Transition) → n.from ≡ Itl → newest (transitions_of es) n.id ≡ last → same_code n.id.code c ≡ false
-      → In x (made (by_row scheme es (decide.moved n.id (content_in last) moment.seconds []) (unless_held (holds_some scheme c (transitions_of es) (content_in last)) (acquirer_row (known last) (Notified (notice_status n.notice))))))
+      → In x (transitions_made (by_row scheme es (decide.moved n.id (content_in last) moment.seconds []) (unless_held (holds_some scheme c (transitions_of es) (content_in last)) (acquirer_row (known last) (Notified (notified_status n.notified))))))
       → RegistryMove scheme c es (Received (message.Notification n) moment) x
   finish_made n moment last x f e a h =
-      let told = notice_status n.notice in
+      let told = notified_status n.notified in
       let held = holds_some scheme c (transitions_of es) (content_in last) in
       let g = by_row_made scheme es (decide.moved n.id (content_in last) moment.seconds []) (unless_held held (acquirer_row (known last) (Notified told))) x h in
       let u = unless_moves held (acquirer_row (known last) (Notified told)) g.0 g.1 in
@@ -222,16 +222,16 @@ module _ (scheme : Scheme) (c : Code) (es : List Entry) where
             (bares n moment f k.1 (e ∙ none) a)
       ]
 
-  notice_made : (n : Notification) (moment : Moment) (last : Option Transition) (x : Transition) → n.from ≡ Itl → newest (transitions_of es) n.id ≡ last
-      → In x (made (in_role scheme c es n.id last moment.seconds (Notified (notice_status n.notice)))) → RegistryMove scheme c es (Received (message.Notification n) moment) x
-  notice_made n moment last x f e h =
+  notified_made : (n : Notification) (moment : Moment) (last : Option Transition) (x : Transition) → n.from ≡ Itl → newest (transitions_of es) n.id ≡ last
+      → In x (transitions_made (in_role scheme c es n.id last moment.seconds (Notified (notified_status n.notified)))) → RegistryMove scheme c es (Received (message.Notification n) moment) x
+  notified_made n moment last x f e h =
       elim (choice_made (same_code n.id.code c) _ _ x h) [
         | inl i ↦ settle_made n moment last x f e i.0 i.1
         | inr i ↦ finish_made n moment last x f e i.0 i.1
       ]
 
   -- a request never goes to a registry
-  unasked : (t : TransactionId) (last : Option Transition) (moment : ℕ) (x : Transition) → In x (made (in_role scheme c es t last moment column.Request)) → ⊥
+  unasked : (t : TransactionId) (last : Option Transition) (moment : ℕ) (x : Transition) → In x (transitions_made (in_role scheme c es t last moment column.Request)) → ⊥
   unasked t last moment x h =
       elim (choice_made (same_code t.code c) _ _ x h) [
         | inl i ↦ let g = by_row_made scheme es _ _ x i.1 in initiator_unasked (known last) g.0 g.1
@@ -242,7 +242,7 @@ module _ (scheme : Scheme) (c : Code) (es : List Entry) where
       ]
 
   request_made : (t : TransactionId) (last : Option Transition) (again : Bool) (x : Transition) → newest (transitions_of es) t ≡ last → same_code t.code c ≡ true
-      → In x (made (in_role scheme c es t last 0 (cond again column.RepeatedRequestOrder column.RequestOrder))) → RegistryMove scheme c es (Request t) x
+      → In x (transitions_made (in_role scheme c es t last 0 (cond again column.RepeatedRequestOrder column.RequestOrder))) → RegistryMove scheme c es (Request t) x
   request_made t last true x e own h =
       elim (choice_made (same_code t.code c) _ _ x h) [
         | inl i ↦ let g = by_row_made scheme es _ _ x i.1 in absurd (initiator_asks_once (known last) g.0 g.1)
@@ -268,7 +268,7 @@ module _ (scheme : Scheme) (c : Code) (es : List Entry) where
   checked_told proposal.Proposed e = absurd (cc)
   checked_told proposal.Checked e = refl
 
-  message_made : (m : Message) (moment : Moment) (x : Transition) → In x (made (registry_message scheme c es moment.seconds m)) → RegistryMove scheme c es (Received m moment) x
+  message_made : (m : Message) (moment : Moment) (x : Transition) → In x (transitions_made (registry_message scheme c es moment.seconds m)) → RegistryMove scheme c es (Received m moment) x
   message_made (message.Proposal p) moment x h =
       let g = refuse_made (registry_refusals c es (message.Proposal p)) (registry_answer scheme c es moment.seconds (message.Proposal p)) x h in
       let from = node_of_same p.from Itl (not-false _ g.0.1.0) in
@@ -277,15 +277,15 @@ module _ (scheme : Scheme) (c : Code) (es : List Entry) where
       arrival_made p moment (newest (transitions_of es) p.id) (acquirer_findings scheme c (holding scheme c es) p.content) x from (checked_told p.status g.0.1.1.1.1.0) refl foreign.0 (not-false _ own.0) refl g.1
   message_made (message.Notification n) moment x h =
       let g = refuse_made (registry_refusals c es (message.Notification n)) (registry_answer scheme c es moment.seconds (message.Notification n)) x h in
-      notice_made n moment (newest (transitions_of es) n.id) x (node_of_same n.from Itl (not-false _ g.0.1.0)) refl g.1
+      notified_made n moment (newest (transitions_of es) n.id) x (node_of_same n.from Itl (not-false _ g.0.1.0)) refl g.1
   message_made (message.Request r) moment x h =
       let g = refuse_made (registry_refusals c es (message.Request r)) (registry_answer scheme c es moment.seconds (message.Request r)) x h in
       absurd (unasked r.id (newest (transitions_of es) r.id) moment.seconds x g.1)
 
-  acknowledge_made : (key : ℕ) (x : Transition) → In x (made (acknowledge scheme es key)) → ⊥
+  acknowledge_made : (key : ℕ) (x : Transition) → In x (transitions_made (acknowledge scheme es key)) → ⊥
   acknowledge_made key x h =
-      let g = refuse_made (ack_refusals es key) (cond (is_acknowledged es key) IsRepeat (enters scheme es [])) x h in
-      elim (choice_made (is_acknowledged es key) IsRepeat (enters scheme es []) x g.1) [
+      let g = refuse_made (ack_refusals es key) (cond (is_acknowledged es key) IsRepeat (recorded_if_room scheme es [])) x h in
+      elim (choice_made (is_acknowledged es key) IsRepeat (recorded_if_room scheme es []) x g.1) [
         | inl i ↦ i.1
         | inr i ↦ enters_made scheme es [] x i.1
       ]
@@ -294,7 +294,7 @@ module _ (scheme : Scheme) (c : Code) (es : List Entry) where
   and_first true b h = refl
   and_first false b h = absurd (cc (h))
 
-  pub registry_moves : (input : Input) (x : Transition) → In x (made (registry_verdict scheme c es input)) → RegistryMove scheme c es input x
+  pub registry_moves : (input : Input) (x : Transition) → In x (transitions_made (registry_verdict scheme c es input)) → RegistryMove scheme c es input x
   registry_moves (Propose o) x h =
       let g = refuse_made (propose_refusals scheme c (holding scheme c es) o) _ x h in
       offer_made o x (id_at c (proposals es + 1)) refl g.0 g.1
@@ -302,8 +302,8 @@ module _ (scheme : Scheme) (c : Code) (es : List Entry) where
       let g = refuse_made (request_refusals c es t) (in_role scheme c es t (newest (transitions_of es) t) 0 (request_column es t)) x h in
       let own = and_first (same_code t.code c) _ (not-false _ g.0.0) in
       request_made t (newest (transitions_of es) t) (is_requested es t) x refl own g.1
-  registry_moves (OpenAccount n) x h = let g = refuse_made (open_refusals scheme c es n.value) (enters scheme es []) x h in absurd (enters_made scheme es [] x g.1)
-  registry_moves (CloseAccount n) x h = let g = refuse_made (close_refusals scheme c es n.value) (enters scheme es []) x h in absurd (enters_made scheme es [] x g.1)
+  registry_moves (OpenAccount n) x h = let g = refuse_made (open_refusals scheme c es n.value) (recorded_if_room scheme es []) x h in absurd (enters_made scheme es [] x g.1)
+  registry_moves (CloseAccount n) x h = let g = refuse_made (close_refusals scheme c es n.value) (recorded_if_room scheme es []) x h in absurd (enters_made scheme es [] x g.1)
   registry_moves (Ack n) x h = absurd (acknowledge_made n.value x h)
   registry_moves (CleanUp t) x h = absurd h
   registry_moves (Eligible d may) x h = absurd h
@@ -323,22 +323,22 @@ newest_some (p ∷ ps) x (inr i) =
 module _ (scheme : Scheme) (es : List Entry) where
   proposal_made : (p : Proposal) (moment : Moment) (last : Option Transition) (found : List ℕ) (x : Transition) → p.from ≡ Registry p.id.code → p.status ≡ proposal.Proposed → newest (transitions_of es) p.id ≡ last
       → is_no_registry scheme p.from ≡ false → found ≡ log_findings scheme (ledger scheme es) p.id.code p.content
-      → In x (made (log.checked scheme es p.id last p.content moment.seconds found)) → LogMove scheme es (Received (message.Proposal p) moment) x
+      → In x (transitions_made (log.checked scheme es p.id last p.content moment.seconds found)) → LogMove scheme es (Received (message.Proposal p) moment) x
   proposal_made p moment None [] x f s e b is h =
       subst (λ y. LogMove scheme es (Received (message.Proposal p) moment) y) (only _ x (enters_made scheme es _ x h)) (checks p moment [] f s is e b)
   proposal_made p moment None (y ∷ ys) x f s e b is h =
       subst (λ y. LogMove scheme es (Received (message.Proposal p) moment) y) (only _ x (enters_made scheme es _ x h)) (checks p moment (y ∷ ys) f s is e b)
   proposal_made p moment (Some q) found x f s e b is h =
-      let input = decide.offered (content_in (Some q)) found in
+      let input = decide.column_of_proposal (content_in (Some q)) found in
       let g = by_row_made scheme es (decide.moved p.id (Some p.content) moment.seconds (log_sends p.id (Some p.content) found input)) (log_row (known (Some q)) input) x h in
       absurd (log_offered q found g.0 g.1)
 
-  log_notice_made : (n : Notification) (moment : Moment) (last : Option Transition) (x : Transition) → newest (transitions_of es) n.id ≡ last → is_no_registry scheme n.from ≡ false
-      → is_from_another n.from n.id (content_in last) (notice_status n.notice) ≡ false
-      → In x (made (log.told scheme es n.id last (notice_codes n.notice) moment.seconds (Notified (notice_status n.notice)))) → LogMove scheme es (Received (message.Notification n) moment) x
-  log_notice_made n moment last x e b a h =
-      let told = notice_status n.notice in
-      let ms = log_sends n.id (content_in last) (notice_codes n.notice) (Notified told) in
+  log_notified_made : (n : Notification) (moment : Moment) (last : Option Transition) (x : Transition) → newest (transitions_of es) n.id ≡ last → is_no_registry scheme n.from ≡ false
+      → is_from_another n.from n.id (content_in last) (notified_status n.notified) ≡ false
+      → In x (transitions_made (log.told scheme es n.id last (notified_codes n.notified) moment.seconds (Notified (notified_status n.notified)))) → LogMove scheme es (Received (message.Notification n) moment) x
+  log_notified_made n moment last x e b a h =
+      let told = notified_status n.notified in
+      let ms = log_sends n.id (content_in last) (notified_codes n.notified) (Notified told) in
       let g = by_row_made scheme es (decide.moved n.id (content_in last) moment.seconds ms) (log_row (known last) (Notified told)) x h in
       let k = log_notified (known last) told g.0 g.1 in
       let r = status_known last k.0 k.1 in
@@ -346,20 +346,20 @@ module _ (scheme : Scheme) (es : List Entry) where
       let row : log_row (Stands q.new) (Notified told) ≡ Move g.0 = ap (λ z. log_row z (Notified told)) (ap Stands r.new ∙ sym k.1) ∙ g.1 in
       let id : q.id ≡ n.id = of_newest (transitions_of es) n.id q (e ∙ r.is) in
       let content : q.content ≡ content_in last = sym (ap content_in r.is) in
-      let sent : notifies Itl (told_to q.id r.content g.0) q.id n.notice ∷ [] ≡ ms =
-      sym (passed_sends q r.content n.notice g.0 row) ∙ ap (λ z. log_sends z (Some r.content) (notice_codes n.notice) (Notified told)) id
-      ∙ ap (λ z. log_sends n.id z (notice_codes n.notice) (Notified told)) (sym r.known ∙ content) in
+      let sent : notifies Itl (told_to q.id r.content g.0) q.id n.notified ∷ [] ≡ ms =
+      sym (passed_sends q r.content n.notified g.0 row) ∙ ap (λ z. log_sends z (Some r.content) (notified_codes n.notified) (Notified told)) id
+      ∙ ap (λ z. log_sends n.id z (notified_codes n.notified) (Notified told)) (sym r.known ∙ content) in
       subst (λ y. LogMove scheme es (Received (message.Notification n) moment) y)
-      (same_moved q.id n.id q.content (content_in last) moment.seconds (notifies Itl (told_to q.id r.content g.0) q.id n.notice ∷ []) ms g.0 id content sent ∙ g.2)
+      (same_moved q.id n.id q.content (content_in last) moment.seconds (notifies Itl (told_to q.id r.content g.0) q.id n.notified ∷ []) ms g.0 id content sent ∙ g.2)
       (passes n moment q r.content g.0 (e ∙ r.is) r.known b (subst (λ z. is_from_another n.from n.id z told ≡ false) (sym content) a) row)
 
   -- what goes out where the transaction is cancelled
   cancelled_sends : (t : TransactionId) (q : Transition) (k : Content) → q.id ≡ t
-      → notifies Itl (Registry q.id.code) q.id notice.Cancelled ∷ notifies Itl (Registry k.acquirer) q.id notice.Cancelled ∷ [] ≡ log_sends t (Some k) [] column.Request
-  cancelled_sends t q k id = ap (λ z. notifies Itl (Registry z.code) z notice.Cancelled ∷ notifies Itl (Registry k.acquirer) z notice.Cancelled ∷ []) id
+      → notifies Itl (Registry q.id.code) q.id notified.Cancelled ∷ notifies Itl (Registry k.acquirer) q.id notified.Cancelled ∷ [] ≡ log_sends t (Some k) [] column.Request
+  cancelled_sends t q k id = ap (λ z. notifies Itl (Registry z.code) z notified.Cancelled ∷ notifies Itl (Registry k.acquirer) z notified.Cancelled ∷ []) id
 
   log_request_made : (r : Asking) (moment : Moment) (last : Option Transition) (x : Transition) → r.from ≡ Registry r.id.code → newest (transitions_of es) r.id ≡ last → is_no_registry scheme r.from ≡ false
-      → In x (made (log.told scheme es r.id last [] moment.seconds column.Request)) → LogMove scheme es (Received (message.Request r) moment) x
+      → In x (transitions_made (log.told scheme es r.id last [] moment.seconds column.Request)) → LogMove scheme es (Received (message.Request r) moment) x
   log_request_made r moment last x f e b h =
       let ms = log_sends r.id (content_in last) [] column.Request in
       let to = decide.moved r.id (content_in last) moment.seconds ms in
@@ -387,14 +387,14 @@ module _ (scheme : Scheme) (es : List Entry) where
   proposed_told proposal.Proposed e = refl
   proposed_told proposal.Checked e = absurd (cc)
 
-  log_message_made : (m : Message) (moment : Moment) (x : Transition) → In x (made (log_message scheme es moment.seconds m)) → LogMove scheme es (Received m moment) x
+  log_message_made : (m : Message) (moment : Moment) (x : Transition) → In x (transitions_made (log_message scheme es moment.seconds m)) → LogMove scheme es (Received m moment) x
   log_message_made (message.Proposal p) moment x h =
       let g = refuse_made (log_refusals scheme es (message.Proposal p)) (log_answer scheme es moment.seconds (message.Proposal p)) x h in
       let own = node_of_same p.from (Registry p.id.code) (not-false _ g.0.1.1.0) in
       proposal_made p moment (newest (transitions_of es) p.id) (log_findings scheme (ledger scheme es) p.id.code p.content) x own (proposed_told p.status g.0.1.1.1.1.0) refl g.0.1.0 refl g.1
   log_message_made (message.Notification n) moment x h =
       let g = refuse_made (log_refusals scheme es (message.Notification n)) (log_answer scheme es moment.seconds (message.Notification n)) x h in
-      log_notice_made n moment (newest (transitions_of es) n.id) x refl g.0.1.0 g.0.1.1.1.0 g.1
+      log_notified_made n moment (newest (transitions_of es) n.id) x refl g.0.1.0 g.0.1.1.1.0 g.1
   log_message_made (message.Request r) moment x h =
       let g = refuse_made (log_refusals scheme es (message.Request r)) (log_answer scheme es moment.seconds (message.Request r)) x h in
       let own = node_of_same r.from (Registry r.id.code) (not-false _ g.0.1.1.0) in
@@ -437,7 +437,7 @@ module _ (scheme : Scheme) (es : List Entry) where
       ] in
       cond-false (same_id p.id x.id) (Some p) (newest ps x.id) other ∙ In_newest x ps i.0
 
-  clean_made : (xs : List Transition) (x : Transition) → In x (made (clean_up scheme es xs)) → In x xs
+  clean_made : (xs : List Transition) (x : Transition) → In x (transitions_made (clean_up scheme es xs)) → In x xs
   clean_made [] x h = absurd h
   clean_made (q ∷ qs) x h = enters_made scheme es (q ∷ qs) x h
 
@@ -460,7 +460,7 @@ module _ (scheme : Scheme) (es : List Entry) where
       let sent = cancelled_sends q.id q r.content refl ∙ ap (λ z. log_sends q.id z [] column.CleanUp) (sym content) in
       (r.content, content, ap (λ (z : Transition). z.new) same ∙ r.new, same_moved q.id q.id q.content q.content moment _ ms Cancelled refl refl sent ∙ ap to (sym k.1) ∙ g.2)
 
-  pub log_moves : (input : Input) (x : Transition) → In x (made (log_verdict scheme es input)) → LogMove scheme es input x
+  pub log_moves : (input : Input) (x : Transition) → In x (transitions_made (log_verdict scheme es input)) → LogMove scheme es input x
   log_moves (CleanUp moment) x h =
       let all = transitions_of es in
       let old = filter (is_old moment.seconds) (newest_of_each all) in
@@ -469,14 +469,14 @@ module _ (scheme : Scheme) (es : List Entry) where
       let m = cleaned_made moment.seconds g.0 x g.2 in
       subst (λ q. LogMove scheme es (CleanUp moment) q) m.3 (cancels (CleanUp moment) moment g.0.id g.0 m.0 (cleans moment g.0.id) (In_newest g.0 all i.0) m.1 m.2)
   log_moves (Eligible c may) x h =
-      let g = refuse_made (eligible_refusals scheme c) (cond (same_bool (is_eligible scheme es c) may) IsRepeat (enters scheme es [])) x h in
-      elim (choice_made (same_bool (is_eligible scheme es c) may) IsRepeat (enters scheme es []) x g.1) [
+      let g = refuse_made (eligible_refusals scheme c) (cond (same_bool (is_eligible scheme es c) may) IsRepeat (recorded_if_room scheme es [])) x h in
+      elim (choice_made (same_bool (is_eligible scheme es c) may) IsRepeat (recorded_if_room scheme es []) x g.1) [
         | inl i ↦ absurd i.1
         | inr i ↦ absurd (enters_made scheme es [] x i.1)
       ]
   log_moves (Ack n) x h =
-      let g = refuse_made (ack_refusals es n.value) (cond (is_acknowledged es n.value) IsRepeat (enters scheme es [])) x h in
-      elim (choice_made (is_acknowledged es n.value) IsRepeat (enters scheme es []) x g.1) [
+      let g = refuse_made (ack_refusals es n.value) (cond (is_acknowledged es n.value) IsRepeat (recorded_if_room scheme es [])) x h in
+      elim (choice_made (is_acknowledged es n.value) IsRepeat (recorded_if_room scheme es []) x g.1) [
         | inl i ↦ absurd i.1
         | inr i ↦ absurd (enters_made scheme es [] x i.1)
       ]

@@ -12,19 +12,19 @@ use Rattle.status.specs.Content.{Content}
 use Rattle.status.specs.Status.{same_status}
 use Rattle.status.specs.declared.id.TransactionId.{TransactionId}
 use Rattle.status.specs.Rows.{initiator_row, log_row, acquirer_row}
-use Rattle.status.specs.declared.words.Known.{Known}
-use Rattle.status.specs.declared.words.Known.TheVariants.{Unknown, Bare, Stands}
-use Rattle.status.specs.declared.words.Row.{Row}
-use Rattle.status.specs.declared.words.Row.TheVariants.{Move, Repeat, Late, Refused}
-use Rattle.status.specs.declared.words.RowInput.{RowInput}
-use Rattle.status.specs.declared.words.RowInput.TheVariants.{Propose, EqualProposal, Notified, CleanUp, RequestOrder, RepeatedRequestOrder, Request}
-use Rattle.status.specs.declared.words.Status.{Status}
-use Rattle.status.specs.declared.words.Status.TheVariants.{Proposed, Checked, Accepted, Rejected, Terminated, Cancelled, Completed}
-use Rattle.wire.specs.Notices.{notice_status, notice_codes}
-use Rattle.wire.specs.declared.notice.Notice.{Notice}
-use Rattle.wire.specs.declared.notice.Notice.TheVariants as notice
+use Rattle.status.specs.declared.rows.RecordedStatus.{RecordedStatus}
+use Rattle.status.specs.declared.rows.RecordedStatus.TheVariants.{Unknown, Bare, Stands}
+use Rattle.status.specs.declared.rows.Row.{Row}
+use Rattle.status.specs.declared.rows.Row.TheVariants.{Move, Repeat, Late, Refused}
+use Rattle.status.specs.declared.rows.RowInput.{RowInput}
+use Rattle.status.specs.declared.rows.RowInput.TheVariants.{Propose, EqualProposal, Notified, CleanUp, RequestOrder, RepeatedRequestOrder, Request}
+use Rattle.status.specs.declared.status.Status.{Status}
+use Rattle.status.specs.declared.status.Status.TheVariants.{Proposed, Checked, Accepted, Rejected, Terminated, Cancelled, Completed}
+use Rattle.wire.specs.NotifiedStatuses.{notified_status, notified_codes}
+use Rattle.wire.specs.declared.notified.NotifiedStatus.{NotifiedStatus}
+use Rattle.wire.specs.declared.notified.NotifiedStatus.TheVariants as notified
 use Rattle.protocol.specs.AtRegistry.{unless_held}
-use Rattle.protocol.specs.Deciding.{known, content_in, offered}
+use Rattle.protocol.specs.Deciding.{known, content_in, column_of_proposal}
 use Rattle.protocol.specs.Effects.{notifies, initiator_sends, log_sends}
 use Rattle.protocol.specs.History.{Transition}
 use Rattle.lemmas.proofs.Membership.{In, filter_In}
@@ -109,10 +109,10 @@ known_status x k e = ap (λ (o : Option Content). option_map_or (λ c. Stands x.
 -- ---- rows that move, whatever is known
 
 -- whatever can be known of a transaction
-every : List Known
+every : List RecordedStatus
 every = Unknown ∷ Bare ∷ Stands Proposed ∷ Stands Checked ∷ Stands Accepted ∷ Stands Rejected ∷ Stands Terminated ∷ Stands Cancelled ∷ Stands Completed ∷ []
 
-in_every : (k : Known) → In k every
+in_every : (k : RecordedStatus) → In k every
 unfolding every
 in_every Unknown = inl refl
 in_every Bare = inr (inl refl)
@@ -129,44 +129,44 @@ moves (Move new) = true
 moves _ = false
 
 -- the rows of a column that move, by what is known
-abbrev Moving : (Known → Row) → List Known
+abbrev Moving : (RecordedStatus → Row) → List RecordedStatus
 Moving row = filter (λ k. moves (row k)) every
 
-moving : (row : Known → Row) (k : Known) (new : Status) → row k ≡ Move new → In k (Moving row)
+moving : (row : RecordedStatus → Row) (k : RecordedStatus) (new : Status) → row k ≡ Move new → In k (Moving row)
 moving row k new h = filter_In (λ o. moves (row o)) k every (in_every k) (ap moves h)
 
 -- a column with one row that moves
-one_moves : (row : Known → Row) (old : Known) (to : Status) → Moving row ≡ old ∷ [] → row old ≡ Move to → (k : Known) (new : Status) → row k ≡ Move new → (k ≡ old) × (new ≡ to)
+one_moves : (row : RecordedStatus → Row) (old : RecordedStatus) (to : Status) → Moving row ≡ old ∷ [] → row old ≡ Move to → (k : RecordedStatus) (new : Status) → row k ≡ Move new → (k ≡ old) × (new ≡ to)
 one_moves row old to only there k new h = elim (subst (In k) only (moving row k new h)) [
   | inl e ↦ let m : Move to ≡ Move new = sym there ∙ ap row e ∙ h in (sym e, cc (m))
   | inr none ↦ absurd none
 ]
 
-pub initiator_proposes : (k : Known) (new : Status) → initiator_row k Propose ≡ Move new → (k ≡ Unknown) × (new ≡ Proposed)
+pub initiator_proposes : (k : RecordedStatus) (new : Status) → initiator_row k Propose ≡ Move new → (k ≡ Unknown) × (new ≡ Proposed)
 unfolding every
 initiator_proposes = one_moves (λ k. initiator_row k Propose) Unknown Proposed refl refl
 
-pub initiator_asks : (k : Known) (new : Status) → initiator_row k RequestOrder ≡ Move new → (k ≡ Stands Proposed) × (new ≡ Proposed)
+pub initiator_asks : (k : RecordedStatus) (new : Status) → initiator_row k RequestOrder ≡ Move new → (k ≡ Stands Proposed) × (new ≡ Proposed)
 unfolding every
 initiator_asks = one_moves (λ k. initiator_row k RequestOrder) (Stands Proposed) Proposed refl refl
 
-pub log_cleans : (k : Known) (new : Status) → log_row k CleanUp ≡ Move new → (k ≡ Stands Checked) × (new ≡ Cancelled)
+pub log_cleans : (k : RecordedStatus) (new : Status) → log_row k CleanUp ≡ Move new → (k ≡ Stands Checked) × (new ≡ Cancelled)
 unfolding every
 log_cleans = one_moves (λ k. log_row k CleanUp) (Stands Checked) Cancelled refl refl
 
-pub initiator_asks_once : (k : Known) (new : Status) → initiator_row k RepeatedRequestOrder ≡ Move new → ⊥
+pub initiator_asks_once : (k : RecordedStatus) (new : Status) → initiator_row k RepeatedRequestOrder ≡ Move new → ⊥
 unfolding every
 initiator_asks_once k new h = moving (λ o. initiator_row o RepeatedRequestOrder) k new h
 
-pub initiator_unasked : (k : Known) (new : Status) → initiator_row k Request ≡ Move new → ⊥
+pub initiator_unasked : (k : RecordedStatus) (new : Status) → initiator_row k Request ≡ Move new → ⊥
 unfolding every
 initiator_unasked k new h = moving (λ o. initiator_row o Request) k new h
 
-pub acquirer_unasked : (k : Known) (new : Status) → acquirer_row k Request ≡ Move new → ⊥
+pub acquirer_unasked : (k : RecordedStatus) (new : Status) → acquirer_row k Request ≡ Move new → ⊥
 unfolding every
 acquirer_unasked k new h = moving (λ o. acquirer_row o Request) k new h
 
-pub initiator_notified : (k : Known) (told new : Status) → initiator_row k (Notified told) ≡ Move new → (a : Status) × (k ≡ Stands a)
+pub initiator_notified : (k : RecordedStatus) (told new : Status) → initiator_row k (Notified told) ≡ Move new → (a : Status) × (k ≡ Stands a)
 initiator_notified (Stands a) told new h = (a, refl)
 initiator_notified Unknown Proposed new h = absurd (cc (h))
 initiator_notified Unknown Checked new h = absurd (cc (h))
@@ -183,7 +183,7 @@ initiator_notified Bare Terminated new h = absurd (cc (h))
 initiator_notified Bare Cancelled new h = absurd (cc (h))
 initiator_notified Bare Completed new h = absurd (cc (h))
 
-pub log_notified : (k : Known) (told new : Status) → log_row k (Notified told) ≡ Move new → (a : Status) × (k ≡ Stands a)
+pub log_notified : (k : RecordedStatus) (told new : Status) → log_row k (Notified told) ≡ Move new → (a : Status) × (k ≡ Stands a)
 log_notified (Stands a) told new h = (a, refl)
 log_notified Unknown Proposed new h = absurd (cc (h))
 log_notified Unknown Checked new h = absurd (cc (h))
@@ -200,7 +200,7 @@ log_notified Bare Terminated new h = absurd (cc (h))
 log_notified Bare Cancelled new h = absurd (cc (h))
 log_notified Bare Completed new h = absurd (cc (h))
 
-pub acquirer_notified : (k : Known) (told new : Status) → acquirer_row k (Notified told) ≡ Move new → ((a : Status) × (k ≡ Stands a)) ⊎ ((k ≡ Unknown) × (told ≡ Cancelled) × (new ≡ Cancelled))
+pub acquirer_notified : (k : RecordedStatus) (told new : Status) → acquirer_row k (Notified told) ≡ Move new → ((a : Status) × (k ≡ Stands a)) ⊎ ((k ≡ Unknown) × (told ≡ Cancelled) × (new ≡ Cancelled))
 acquirer_notified (Stands a) told new h = inl (a, refl)
 acquirer_notified Unknown Cancelled new h = inr (refl, refl, cc)
 acquirer_notified Unknown Proposed new h = absurd (cc (h))
@@ -217,7 +217,7 @@ acquirer_notified Bare Terminated new h = absurd (cc (h))
 acquirer_notified Bare Cancelled new h = absurd (cc (h))
 acquirer_notified Bare Completed new h = absurd (cc (h))
 
-pub log_asked : (k : Known) (new : Status) → log_row k Request ≡ Move new → ((k ≡ Unknown) ⊎ (k ≡ Stands Checked)) × (new ≡ Cancelled)
+pub log_asked : (k : RecordedStatus) (new : Status) → log_row k Request ≡ Move new → ((k ≡ Unknown) ⊎ (k ≡ Stands Checked)) × (new ≡ Cancelled)
 log_asked Unknown new h = (inl refl, cc)
 log_asked Bare new h = absurd (cc (h))
 log_asked (Stands Checked) new h = (inr refl, cc)
@@ -248,23 +248,23 @@ log_equal Terminated = refl
 log_equal Cancelled = refl
 log_equal Completed = refl
 
-acquirer_bare : (found : List ℕ) → acquirer_row Bare (offered None found) ≡ Late
+acquirer_bare : (found : List ℕ) → acquirer_row Bare (column_of_proposal None found) ≡ Late
 acquirer_bare [] = refl
 acquirer_bare (c ∷ cs) = refl
 
-log_bare : (found : List ℕ) → log_row Bare (offered None found) ≡ Late
+log_bare : (found : List ℕ) → log_row Bare (column_of_proposal None found) ≡ Late
 log_bare [] = refl
 log_bare (c ∷ cs) = refl
 
 -- it is a repeat, or late where the record has no content, by the table of the acquirer and by that of the log
-module _ (row : Known → RowInput → Row) (equal : (s : Status) → row (Stands s) EqualProposal ≡ Repeat) (bare : (found : List ℕ) → row Bare (offered None found) ≡ Late) where
+module _ (row : RecordedStatus → RowInput → Row) (equal : (s : Status) → row (Stands s) EqualProposal ≡ Repeat) (bare : (found : List ℕ) → row Bare (column_of_proposal None found) ≡ Late) where
   abbrev OfferRow : Transition → List ℕ → Row
-  OfferRow x found = row (known (Some x)) (offered (content_in (Some x)) found)
+  OfferRow x found = row (known (Some x)) (column_of_proposal (content_in (Some x)) found)
 
   known_offer : (x : Transition) (found : List ℕ) → (OfferRow x found ≡ Repeat) ⊎ (OfferRow x found ≡ Late)
   known_offer x found = go x.content
     where
-      go : (k : Option Content) → (row (option_map_or (λ c. Stands x.new) k Bare) (offered k found) ≡ Repeat) ⊎ (row (option_map_or (λ c. Stands x.new) k Bare) (offered k found) ≡ Late)
+      go : (k : Option Content) → (row (option_map_or (λ c. Stands x.new) k Bare) (column_of_proposal k found) ≡ Repeat) ⊎ (row (option_map_or (λ c. Stands x.new) k Bare) (column_of_proposal k found) ≡ Late)
       go None = inr (bare found)
       go (Some k) = inl (equal x.new)
 
@@ -280,10 +280,10 @@ module _ (row : Known → RowInput → Row) (equal : (s : Status) → row (Stand
     | inr e ↦ let y : Late ≡ Refused = sym e ∙ h in cc (y)
   ]
 
-pub acquirer_offered : (x : Transition) (found : List ℕ) (new : Status) → acquirer_row (known (Some x)) (offered (content_in (Some x)) found) ≡ Move new → ⊥
+pub acquirer_offered : (x : Transition) (found : List ℕ) (new : Status) → acquirer_row (known (Some x)) (column_of_proposal (content_in (Some x)) found) ≡ Move new → ⊥
 acquirer_offered = moves_nothing acquirer_row acquirer_equal acquirer_bare
 
-pub log_offered : (x : Transition) (found : List ℕ) (new : Status) → log_row (known (Some x)) (offered (content_in (Some x)) found) ≡ Move new → ⊥
+pub log_offered : (x : Transition) (found : List ℕ) (new : Status) → log_row (known (Some x)) (column_of_proposal (content_in (Some x)) found) ≡ Move new → ⊥
 log_offered = moves_nothing log_row log_equal log_bare
 
 -- ---- the acquirer takes no unit in that it holds
@@ -337,22 +337,22 @@ settled_sends c t k a told new h = let m = initiator_from a told new h in subst 
         never Accepted Accepted h = cc (h)
         never _ _ h = cc (h)
 
-pub passed_sends : (x : Transition) (k : Content) (said : Notice) (new : Status) → log_row (Stands x.new) (Notified (notice_status said)) ≡ Move new
-    → log_sends x.id (Some k) (notice_codes said) (Notified (notice_status said)) ≡ notifies Itl (told_to x.id k new) x.id said ∷ []
-passed_sends x k said new h = go said (log_from x.new (notice_status said) new h)
+pub passed_sends : (x : Transition) (k : Content) (said : NotifiedStatus) (new : Status) → log_row (Stands x.new) (Notified (notified_status said)) ≡ Move new
+    → log_sends x.id (Some k) (notified_codes said) (Notified (notified_status said)) ≡ notifies Itl (told_to x.id k new) x.id said ∷ []
+passed_sends x k said new h = go said (log_from x.new (notified_status said) new h)
   where
-    go : (said : Notice) → ((x.new ≡ Checked) × (new ≡ notice_status said) × ((notice_status said ≡ Accepted) ⊎ (notice_status said ≡ Rejected))) ⊎ ((x.new ≡ Accepted) × (new ≡ Completed) × (notice_status said ≡ Completed))
-        → log_sends x.id (Some k) (notice_codes said) (Notified (notice_status said)) ≡ notifies Itl (told_to x.id k new) x.id said ∷ []
-    go notice.Accepted (inl m) = subst (λ s. log_sends x.id (Some k) [] (Notified Accepted) ≡ notifies Itl (told_to x.id k s) x.id notice.Accepted ∷ []) (sym m.1) refl
-    go notice.Accepted (inr m) = absurd (let y = m.2 in cc (y))
-    go (notice.Rejected codes) (inl m) = subst (λ s. log_sends x.id (Some k) codes (Notified Rejected) ≡ notifies Itl (told_to x.id k s) x.id (notice.Rejected codes) ∷ []) (sym m.1) refl
-    go (notice.Rejected codes) (inr m) = absurd (let y = m.2 in cc (y))
-    go (notice.Terminated codes) (inl m) = absurd (elim m.2 [ inl y ↦ cc (y) | inr y ↦ cc (y) ])
-    go (notice.Terminated codes) (inr m) = absurd (let y = m.2 in cc (y))
-    go notice.Cancelled (inl m) = absurd (elim m.2 [ inl y ↦ cc (y) | inr y ↦ cc (y) ])
-    go notice.Cancelled (inr m) = absurd (let y = m.2 in cc (y))
-    go notice.Completed (inl m) = absurd (elim m.2 [ inl y ↦ cc (y) | inr y ↦ cc (y) ])
-    go notice.Completed (inr m) = subst (λ s. log_sends x.id (Some k) [] (Notified Completed) ≡ notifies Itl (told_to x.id k s) x.id notice.Completed ∷ []) (sym m.1) refl
+    go : (said : NotifiedStatus) → ((x.new ≡ Checked) × (new ≡ notified_status said) × ((notified_status said ≡ Accepted) ⊎ (notified_status said ≡ Rejected))) ⊎ ((x.new ≡ Accepted) × (new ≡ Completed) × (notified_status said ≡ Completed))
+        → log_sends x.id (Some k) (notified_codes said) (Notified (notified_status said)) ≡ notifies Itl (told_to x.id k new) x.id said ∷ []
+    go notified.Accepted (inl m) = subst (λ s. log_sends x.id (Some k) [] (Notified Accepted) ≡ notifies Itl (told_to x.id k s) x.id notified.Accepted ∷ []) (sym m.1) refl
+    go notified.Accepted (inr m) = absurd (let y = m.2 in cc (y))
+    go (notified.Rejected codes) (inl m) = subst (λ s. log_sends x.id (Some k) codes (Notified Rejected) ≡ notifies Itl (told_to x.id k s) x.id (notified.Rejected codes) ∷ []) (sym m.1) refl
+    go (notified.Rejected codes) (inr m) = absurd (let y = m.2 in cc (y))
+    go (notified.Terminated codes) (inl m) = absurd (elim m.2 [ inl y ↦ cc (y) | inr y ↦ cc (y) ])
+    go (notified.Terminated codes) (inr m) = absurd (let y = m.2 in cc (y))
+    go notified.Cancelled (inl m) = absurd (elim m.2 [ inl y ↦ cc (y) | inr y ↦ cc (y) ])
+    go notified.Cancelled (inr m) = absurd (let y = m.2 in cc (y))
+    go notified.Completed (inl m) = absurd (elim m.2 [ inl y ↦ cc (y) | inr y ↦ cc (y) ])
+    go notified.Completed (inr m) = subst (λ s. log_sends x.id (Some k) [] (Notified Completed) ≡ notifies Itl (told_to x.id k s) x.id notified.Completed ∷ []) (sym m.1) refl
 
 pub unless_same : (held : Bool) (row : Row) → (row ≡ Move Completed → held ≡ false) → unless_held held row ≡ row
 unless_same false row h = refl
@@ -369,18 +369,18 @@ unless_same true Refused h = refl
 
 -- ---- rows that are there
 
-pub acquirer_offer_row : (o : Option Transition) (found : List ℕ) → acquirer_row (known o) (offered (content_in o) found) ≡ Refused → ⊥
+pub acquirer_offer_row : (o : Option Transition) (found : List ℕ) → acquirer_row (known o) (column_of_proposal (content_in o) found) ≡ Refused → ⊥
 acquirer_offer_row None [] h = cc (h)
 acquirer_offer_row None (c ∷ cs) h = cc (h)
 acquirer_offer_row (Some x) found h = has_row acquirer_row acquirer_equal acquirer_bare x found h
 
-pub log_offer_row : (o : Option Transition) (found : List ℕ) → log_row (known o) (offered (content_in o) found) ≡ Refused → ⊥
+pub log_offer_row : (o : Option Transition) (found : List ℕ) → log_row (known o) (column_of_proposal (content_in o) found) ≡ Refused → ⊥
 log_offer_row None [] h = cc (h)
 log_offer_row None (c ∷ cs) h = cc (h)
 log_offer_row (Some x) found h = has_row log_row log_equal log_bare x found h
 
 -- nothing stands Proposed at the log, so a request has a row
-pub log_request_row : (k : Known) → (k ≡ Stands Proposed → ⊥) → log_row k Request ≡ Refused → ⊥
+pub log_request_row : (k : RecordedStatus) → (k ≡ Stands Proposed → ⊥) → log_row k Request ≡ Refused → ⊥
 log_request_row Unknown other h = cc (h)
 log_request_row Bare other h = cc (h)
 log_request_row (Stands Proposed) other h = other refl

@@ -5,12 +5,12 @@ use Rattle.units.specs.declared.code.Node.{Node}
 use Rattle.units.specs.declared.code.Node.TheVariants.{Itl, Registry}
 use Rattle.status.specs.Content.{Content}
 use Rattle.status.specs.declared.id.TransactionId.{TransactionId}
-use Rattle.status.specs.declared.words.Status.{Status}
-use Rattle.status.specs.declared.words.Status.TheVariants.{Proposed, Checked, Accepted, Rejected, Terminated, Cancelled, Completed}
+use Rattle.status.specs.declared.status.Status.{Status}
+use Rattle.status.specs.declared.status.Status.TheVariants.{Proposed, Checked, Accepted, Rejected, Terminated, Cancelled, Completed}
 use Rattle.wire.specs.declared.message.Message.{Message}
 use Rattle.wire.specs.declared.message.ProposalStatus.TheVariants as proposal
-use Rattle.wire.specs.declared.notice.Notice.{Notice}
-use Rattle.wire.specs.declared.notice.Notice.TheVariants as notice
+use Rattle.wire.specs.declared.notified.NotifiedStatus.{NotifiedStatus}
+use Rattle.wire.specs.declared.notified.NotifiedStatus.TheVariants as notified
 use Rattle.protocol.specs.Effects.{proposes, notifies, requests}
 use Rattle.protocol.specs.History.{Transition}
 
@@ -31,9 +31,9 @@ abbrev pub arrived_status : List ℕ → Status
 arrived_status [] = Accepted
 arrived_status (c ∷ cs) = Rejected
 
-abbrev pub arrived_notice : List ℕ → Notice
-arrived_notice [] = notice.Accepted
-arrived_notice (c ∷ cs) = notice.Rejected (c ∷ cs)
+abbrev pub arrived_notified : List ℕ → NotifiedStatus
+arrived_notified [] = notified.Accepted
+arrived_notified (c ∷ cs) = notified.Rejected (c ∷ cs)
 
 abbrev pub arrived : Code → TransactionId → Content → ℕ → List ℕ → Transition
 arrived c t k moment found = record {
@@ -41,12 +41,12 @@ arrived c t k moment found = record {
   new = arrived_status found;
   content = Some k;
   moment = moment;
-  messages = notifies (Registry c) Itl t (arrived_notice found) ∷ [];
+  messages = notifies (Registry c) Itl t (arrived_notified found) ∷ [];
 }
 
 -- what the initiator sends when its transfer has come to this status
 abbrev pub settled_messages : Code → TransactionId → Status → List Message
-settled_messages c t Completed = notifies (Registry c) Itl t notice.Completed ∷ []
+settled_messages c t Completed = notifies (Registry c) Itl t notified.Completed ∷ []
 settled_messages c t _ = []
 
 -- cancelled before its proposal came
@@ -61,7 +61,7 @@ checked_status (c ∷ cs) = Terminated
 
 abbrev pub checked_message : TransactionId → Content → List ℕ → Message
 checked_message t k [] = proposes Itl (Registry k.acquirer) t proposal.Checked k
-checked_message t k (c ∷ cs) = notifies Itl (Registry t.code) t (notice.Terminated (c ∷ cs))
+checked_message t k (c ∷ cs) = notifies Itl (Registry t.code) t (notified.Terminated (c ∷ cs))
 
 abbrev pub checked : TransactionId → Content → ℕ → List ℕ → Transition
 checked t k moment found = record { id = t; new = checked_status found; content = Some k; moment = moment; messages = checked_message t k found ∷ [] }
@@ -72,8 +72,8 @@ told_to t k Completed = Registry k.acquirer
 told_to t k _ = Registry t.code
 
 abbrev pub cancelled : ℕ → Transition → Content → Transition
-cancelled moment x k = moved x Cancelled moment (notifies Itl (Registry x.id.code) x.id notice.Cancelled ∷ notifies Itl (Registry k.acquirer) x.id notice.Cancelled ∷ [])
+cancelled moment x k = moved x Cancelled moment (notifies Itl (Registry x.id.code) x.id notified.Cancelled ∷ notifies Itl (Registry k.acquirer) x.id notified.Cancelled ∷ [])
 
 -- cancelled at the log before its proposal came
 abbrev pub forestalled : TransactionId → ℕ → Transition
-forestalled t moment = record { id = t; new = Cancelled; content = None; moment = moment; messages = notifies Itl (Registry t.code) t notice.Cancelled ∷ [] }
+forestalled t moment = record { id = t; new = Cancelled; content = None; moment = moment; messages = notifies Itl (Registry t.code) t notified.Cancelled ∷ [] }

@@ -11,9 +11,9 @@ use Rattle.units.specs.declared.code.Node.TheVariants.{Itl, Registry}
 use Rattle.status.specs.Content.{Content}
 use Rattle.status.specs.declared.id.TransactionId.{TransactionId}
 use Rattle.status.specs.declared.moment.Moment.{Moment}
-use Rattle.status.specs.declared.words.Status.{Status}
-use Rattle.status.specs.declared.words.Status.TheVariants.{Checked, Accepted, Rejected, Terminated, Cancelled, Completed}
-use Rattle.wire.specs.Notices.{notice_status}
+use Rattle.status.specs.declared.status.Status.{Status}
+use Rattle.status.specs.declared.status.Status.TheVariants.{Checked, Accepted, Rejected, Terminated, Cancelled, Completed}
+use Rattle.wire.specs.NotifiedStatuses.{notified_status}
 use Rattle.wire.specs.declared.input.Input.{Input}
 use Rattle.wire.specs.declared.input.Input.TheVariants.{Received}
 use Rattle.wire.specs.declared.message.Message.TheVariants as message
@@ -25,7 +25,7 @@ use Rattle.protocol.specs.AtLog.{ledger, is_no_registry, is_not_acquirer, is_fro
 use Rattle.protocol.specs.Checks.{log_findings}
 use Rattle.protocol.specs.History.{Transition, Entry, transitions_of, newest, sends, messages_of}
 use Rattle.safety.proofs.MovesAndHistories.TransitionForms.{checked_status, checked_message}
-use Rattle.safety.proofs.MovesAndHistories.NewestTransitions.{Made, Heard, heard_later, made_log, newest_id, newest_append, newest_in, one_notice}
+use Rattle.safety.proofs.MovesAndHistories.NewestTransitions.{Made, Heard, heard_later, made_log, newest_id, newest_append, newest_in, one_notified}
 use Rattle.lemmas.proofs.Membership.{In, In_cases, In_flat_map}
 use Rattle.lemmas.proofs.OneValue.{one_some}
 use Rattle.safety.proofs.MovesAndHistories.TableMoves.{LogMove, checks, passes, cancels, forestalls, Withdraws, cleans, requested}
@@ -60,7 +60,7 @@ module _ (scheme : Scheme) where
   backed_move es e t input x i (forestalls r moment f member none) same h older = absurd h
   backed_move es e t input x i (passes n moment q held new old kept member right move) same h older =
       let about : n.id ≡ t = sym (newest_id (transitions_of es) n.id q old).1 ∙ same in
-      elim (log_from q.new (notice_status n.notice) new move) [
+      elim (log_from q.new (notified_status n.notified) new move) [
         | inl m ↦
             elim m.2 [
               | inl a ↦
@@ -97,12 +97,12 @@ abbrev pub IsPast : Status → Option Transition → Type 0
 IsPast s None = ⊥
 IsPast s (Some x) = (x.new ≡ s) ⊎ ((s ≡ Accepted) × (x.new ≡ Completed))
 
-checked_notice : (t : TransactionId) (k : Content) (found : List ℕ) (n : Notification) → In (message.Notification n) (checked_message t k found ∷ [])
-    → (t ≡ n.id) × (checked_status found ≡ notice_status n.notice) × (notice_status n.notice ≡ Terminated)
-checked_notice t k [] n (inl e) = absurd (cc (e))
-checked_notice t k [] n (inr h) = absurd h
-checked_notice t k (c ∷ cs) n (inl e) = let s = one_notice _ n e in (ap (λ (z : Notification). z.id) s, ap (λ (z : Notification). notice_status z.notice) s, sym (ap (λ (z : Notification). notice_status z.notice) s))
-checked_notice t k (c ∷ cs) n (inr h) = absurd h
+checked_notified : (t : TransactionId) (k : Content) (found : List ℕ) (n : Notification) → In (message.Notification n) (checked_message t k found ∷ [])
+    → (t ≡ n.id) × (checked_status found ≡ notified_status n.notified) × (notified_status n.notified ≡ Terminated)
+checked_notified t k [] n (inl e) = absurd (cc (e))
+checked_notified t k [] n (inr h) = absurd h
+checked_notified t k (c ∷ cs) n (inl e) = let s = one_notified _ n e in (ap (λ (z : Notification). z.id) s, ap (λ (z : Notification). notified_status z.notified) s, sym (ap (λ (z : Notification). notified_status z.notified) s))
+checked_notified t k (c ∷ cs) n (inr h) = absurd h
 
 module _ (scheme : Scheme) where
   told_new : (a new told : Status) → new ≡ told → ((a ≡ Checked) × (new ≡ told) × ((told ≡ Accepted) ⊎ (told ≡ Rejected))) ⊎ ((a ≡ Accepted) × (new ≡ Completed) × (told ≡ Completed)) → told ≡ Checked → ⊥
@@ -117,27 +117,27 @@ module _ (scheme : Scheme) where
   new_told a told new (inl m) = m.1
   new_told a told new (inr m) = m.1 ∙ sym m.2
 
-  pub log_notice_move : (es : List Entry) (input : Input) (x : Transition) (n : Notification) → LogMove scheme es input x → In (message.Notification n) x.messages
-      → (x.id ≡ n.id) × (x.new ≡ notice_status n.notice) × (notice_status n.notice ≡ Checked → ⊥)
-  log_notice_move es input x n (checks p moment found f s is none member) h =
-      let g = checked_notice p.id p.content found n h in (g.0, g.1, λ e. absurd (let y : Terminated ≡ Checked = sym g.2 ∙ e in cc (y)))
-  log_notice_move es input x n (passes m moment q held new old kept member right move) (inr h) = absurd h
-  log_notice_move es input x n (passes m moment q held new old kept member right move) (inl h) =
-      let s = one_notice _ n h in
-      let from = log_from q.new (notice_status m.notice) new move in
-      let same : notice_status m.notice ≡ notice_status n.notice = ap (λ (z : Notification). notice_status z.notice) s in
-      (ap (λ (z : Notification). z.id) s, new_told q.new (notice_status m.notice) new from ∙ same, λ e. told_new q.new new (notice_status m.notice) (new_told q.new (notice_status m.notice) new from) from (same ∙ e))
-  log_notice_move es input x n (cancels given moment t q held why old kept was) (inl e) =
-      let s = one_notice _ n e in
-      (ap (λ (z : Notification). z.id) s, ap (λ (z : Notification). notice_status z.notice) s, λ c. let y : Cancelled ≡ Checked = ap (λ (z : Notification). notice_status z.notice) s ∙ c in absurd (cc (y)))
-  log_notice_move es input x n (cancels given moment t q held why old kept was) (inr (inl e)) =
-      let s = one_notice _ n e in
-      (ap (λ (z : Notification). z.id) s, ap (λ (z : Notification). notice_status z.notice) s, λ c. let y : Cancelled ≡ Checked = ap (λ (z : Notification). notice_status z.notice) s ∙ c in absurd (cc (y)))
-  log_notice_move es input x n (cancels given moment t q held why old kept was) (inr (inr h)) = absurd h
-  log_notice_move es input x n (forestalls r moment f member none) (inl e) =
-      let s = one_notice _ n e in
-      (ap (λ (z : Notification). z.id) s, ap (λ (z : Notification). notice_status z.notice) s, λ c. let y : Cancelled ≡ Checked = ap (λ (z : Notification). notice_status z.notice) s ∙ c in absurd (cc (y)))
-  log_notice_move es input x n (forestalls r moment f member none) (inr h) = absurd h
+  pub log_notified_move : (es : List Entry) (input : Input) (x : Transition) (n : Notification) → LogMove scheme es input x → In (message.Notification n) x.messages
+      → (x.id ≡ n.id) × (x.new ≡ notified_status n.notified) × (notified_status n.notified ≡ Checked → ⊥)
+  log_notified_move es input x n (checks p moment found f s is none member) h =
+      let g = checked_notified p.id p.content found n h in (g.0, g.1, λ e. absurd (let y : Terminated ≡ Checked = sym g.2 ∙ e in cc (y)))
+  log_notified_move es input x n (passes m moment q held new old kept member right move) (inr h) = absurd h
+  log_notified_move es input x n (passes m moment q held new old kept member right move) (inl h) =
+      let s = one_notified _ n h in
+      let from = log_from q.new (notified_status m.notified) new move in
+      let same : notified_status m.notified ≡ notified_status n.notified = ap (λ (z : Notification). notified_status z.notified) s in
+      (ap (λ (z : Notification). z.id) s, new_told q.new (notified_status m.notified) new from ∙ same, λ e. told_new q.new new (notified_status m.notified) (new_told q.new (notified_status m.notified) new from) from (same ∙ e))
+  log_notified_move es input x n (cancels given moment t q held why old kept was) (inl e) =
+      let s = one_notified _ n e in
+      (ap (λ (z : Notification). z.id) s, ap (λ (z : Notification). notified_status z.notified) s, λ c. let y : Cancelled ≡ Checked = ap (λ (z : Notification). notified_status z.notified) s ∙ c in absurd (cc (y)))
+  log_notified_move es input x n (cancels given moment t q held why old kept was) (inr (inl e)) =
+      let s = one_notified _ n e in
+      (ap (λ (z : Notification). z.id) s, ap (λ (z : Notification). notified_status z.notified) s, λ c. let y : Cancelled ≡ Checked = ap (λ (z : Notification). notified_status z.notified) s ∙ c in absurd (cc (y)))
+  log_notified_move es input x n (cancels given moment t q held why old kept was) (inr (inr h)) = absurd h
+  log_notified_move es input x n (forestalls r moment f member none) (inl e) =
+      let s = one_notified _ n e in
+      (ap (λ (z : Notification). z.id) s, ap (λ (z : Notification). notified_status z.notified) s, λ c. let y : Cancelled ≡ Checked = ap (λ (z : Notification). notified_status z.notified) s ∙ c in absurd (cc (y)))
+  log_notified_move es input x n (forestalls r moment f member none) (inr h) = absurd h
 
   -- what cancels a transaction is no proposal and no notification, and a request cancels none that is not known
   no_proposal : {X : Type 0} (given : Input) (t : TransactionId) (moment : Moment) (p : Proposal) (at_moment : Moment) → Withdraws given t moment → given ≡ Received (message.Proposal p) at_moment → X
@@ -169,9 +169,9 @@ module _ (scheme : Scheme) where
       let a : n ≡ n' = cc (e) in
       let b : Some q ≡ Some q' = sym old ∙ ap (λ (z : Notification). newest (transitions_of es) z.id) a ∙ old' in
       let c : q ≡ q' = cc (b) in
-      let told = ap (λ (z : Notification). notice_status z.notice) a in
-      let here = new_told q.new (notice_status n.notice) new (log_from q.new (notice_status n.notice) new move) in
-      let there = new_told q'.new (notice_status n'.notice) new' (log_from q'.new (notice_status n'.notice) new' move') in
+      let told = ap (λ (z : Notification). notified_status z.notified) a in
+      let here = new_told q.new (notified_status n.notified) new (log_from q.new (notified_status n.notified) new move) in
+      let there = new_told q'.new (notified_status n'.notified) new' (log_from q'.new (notified_status n'.notified) new' move') in
       (here ∙ told ∙ sym there, ap (λ (z : Transition). z.content) c)
   log_pair es i j x y e same (passes n moment q held new old kept member right move) (cancels given' moment' t' q' held' why' old' kept' was') = no_notification j t' moment' n moment why' (sym e)
   log_pair es i j x y e same (passes n moment q held new old kept member right move) (forestalls r' moment' f' member' none') = absurd (cc (e))
@@ -193,7 +193,7 @@ module _ (scheme : Scheme) where
   log_keeps es input x s not_checked (checks p moment found f t is none member) past = absurd (subst (IsPast s) none past)
   log_keeps es input x s not_checked (passes n moment q held new old kept member right move) past =
       let at_q : IsPast s (Some q) = subst (IsPast s) (subst (λ z. newest (transitions_of es) z ≡ Some q) (sym (newest_id (transitions_of es) n.id q old).1) old) past in
-      elim (log_from q.new (notice_status n.notice) new move) [
+      elim (log_from q.new (notified_status n.notified) new move) [
         | inl m ↦
             elim at_q [
               | inl e ↦ absurd (not_checked (sym e ∙ m.0))
@@ -213,13 +213,13 @@ module _ (scheme : Scheme) where
         | inr e ↦ absurd (let y : Completed ≡ Checked = sym e.1 ∙ was in cc (y))
       ]
 
-  pub log_sent : (es : List Entry) → Made scheme Itl es → (n : Notification) → In (message.Notification n) (sends es) → IsPast (notice_status n.notice) (newest (transitions_of es) n.id) × (notice_status n.notice ≡ Checked → ⊥)
+  pub log_sent : (es : List Entry) → Made scheme Itl es → (n : Notification) → In (message.Notification n) (sends es) → IsPast (notified_status n.notified) (newest (transitions_of es) n.id) × (notified_status n.notified ≡ Checked → ⊥)
   log_sent [] made n h = absurd h
   log_sent (e ∷ es) made n h =
       elim (In_cases (message.Notification n) (sends es) (messages_of e.transitions) h) [
         | inl old ↦
             let p = log_sent es made.1 n old in
-            let s = notice_status n.notice in (
+            let s = notified_status n.notified in (
               elim (newest_append e.transitions (transitions_of es) n.id) [
                 | inl u ↦ subst (IsPast s) (sym u) p.0
                 | inr u ↦ subst (IsPast s) (sym u.3) (log_keeps es e.input u.0 s p.1 (made_log scheme e es u.0 made u.1) (subst (λ z. IsPast s (newest (transitions_of es) z)) (sym u.2) p.0))
@@ -229,9 +229,9 @@ module _ (scheme : Scheme) where
         | inr new ↦
             let g = In_flat_map (λ (q : Transition). q.messages) (message.Notification n) e.transitions new in
             let move = made_log scheme e es g.0 made g.1 in
-            let m = log_notice_move es e.input g.0 n move g.2 in
+            let m = log_notified_move es e.input g.0 n move g.2 in
             let u = newest_in e.transitions (transitions_of es) g.0 n.id g.1 m.0 in (
-              subst (IsPast (notice_status n.notice)) (sym u.3) (inl ((log_pair es e.input e.input u.0 g.0 refl (u.2 ∙ sym m.0) (made_log scheme e es u.0 made u.1) move).0 ∙ m.1)),
+              subst (IsPast (notified_status n.notified)) (sym u.3) (inl ((log_pair es e.input e.input u.0 g.0 refl (u.2 ∙ sym m.0) (made_log scheme e es u.0 made u.1) move).0 ∙ m.1)),
               m.2,
             )
       ]

@@ -7,12 +7,12 @@ use Rattle.std.specs.Prelude.{nat_le, length, filter, flat_map}
 use Rattle.units.specs.RefusalCodes.{journal_full}
 use Rattle.units.specs.declared.code.Node.TheVariants.{Itl}
 use Rattle.status.specs.Rows.{log_row}
-use Rattle.status.specs.declared.words.Row.{Row}
-use Rattle.status.specs.declared.words.Row.TheVariants.{Move, Repeat, Late, Refused}
-use Rattle.status.specs.declared.words.RowInput.TheVariants.{Notified, Request}
-use Rattle.status.specs.declared.words.Status.{Status}
-use Rattle.status.specs.declared.words.Status.TheVariants.{Cancelled}
-use Rattle.wire.specs.Notices.{notice_status}
+use Rattle.status.specs.declared.rows.Row.{Row}
+use Rattle.status.specs.declared.rows.Row.TheVariants.{Move, Repeat, Late, Refused}
+use Rattle.status.specs.declared.rows.RowInput.TheVariants.{Notified, Request}
+use Rattle.status.specs.declared.status.Status.{Status}
+use Rattle.status.specs.declared.status.Status.TheVariants.{Cancelled}
+use Rattle.wire.specs.NotifiedStatuses.{notified_status}
 use Rattle.wire.specs.declared.input.Input.{Input}
 use Rattle.wire.specs.declared.input.Input.TheVariants.{Propose, Request as Ask, OpenAccount, CloseAccount, Ack, CleanUp, Eligible, Received}
 use Rattle.wire.specs.declared.message.Message.{Message}
@@ -20,9 +20,9 @@ use Rattle.wire.specs.declared.message.Message.TheVariants as message
 use Rattle.scheme.specs.declared.registries.Scheme.{Scheme}
 use Rattle.protocol.specs.AtLog.{log_refusals, log_answer, newest_of_each, is_old, by_id, cleaned, due, clean_up, same_bool, eligible_refusals, log_verdict}
 use Rattle.protocol.specs.Checks.{Causes, codes_of}
-use Rattle.protocol.specs.Deciding.{Enters, IsRepeat, IsRefused, enters, known, by_row, ack_refusals}
+use Rattle.protocol.specs.Deciding.{IsRecorded, IsRepeat, IsRefused, recorded_if_room, known, by_row, ack_refusals}
 use Rattle.protocol.specs.History.{Transition, Entry, transitions_of, newest, is_acknowledged, is_eligible}
-use Rattle.protocol.specs.Verdict.{verdict, made as made_of}
+use Rattle.protocol.specs.Verdict.{verdict, transitions_made as made_of}
 use Rattle.safety.proofs.MovesAndHistories.NewestTransitions.{Made, made_log}
 use Rattle.safety.proofs.OneRegistry.UnitsCountedOnce.{Single, single_refuse, single_cond, none_enter, one_enters}
 use Rattle.lemmas.proofs.Membership.{In, In_flat_map}
@@ -54,7 +54,7 @@ module _ (scheme : Scheme) (es : List Entry) where
 
   shape_answer : (m : Message) (moment : ℕ) → Single (made_of (log_answer scheme es moment m))
   shape_answer (message.Proposal p) moment = shape_row _ (log_row (known (newest (transitions_of es) p.id)) _)
-  shape_answer (message.Notification n) moment = shape_row _ (log_row (known (newest (transitions_of es) n.id)) (Notified (notice_status n.notice)))
+  shape_answer (message.Notification n) moment = shape_row _ (log_row (known (newest (transitions_of es) n.id)) (Notified (notified_status n.notified)))
   shape_answer (message.Request r) moment = shape_row _ (log_row (known (newest (transitions_of es) r.id)) Request)
 
   all_cleaned : (moment : ℕ) (qs : List Transition) → AllCancelled (flat_map (cleaned moment) qs)
@@ -64,7 +64,7 @@ module _ (scheme : Scheme) (es : List Entry) where
   shape_clean [] all x i = absurd i
   shape_clean (q ∷ qs) all x i = go (nat_le scheme.records (length es)) i
     where
-      go : (b : Bool) → In x (made_of (cond b (IsRefused journal_full) (Enters (q ∷ qs)))) → x.new ≡ Cancelled
+      go : (b : Bool) → In x (made_of (cond b (IsRefused journal_full) (IsRecorded (q ∷ qs)))) → x.new ≡ Cancelled
       go true i = absurd i
       go false i = all x i
 
@@ -72,12 +72,12 @@ module _ (scheme : Scheme) (es : List Entry) where
   shape (CleanUp t) = inr (shape_clean (due (transitions_of es) t.seconds) (all_cleaned t.seconds (by_id (filter (is_old t.seconds) (newest_of_each (transitions_of es))))))
   shape (Eligible c may) =
       inl
-      (single_refuse (eligible_refusals scheme c) (cond (same_bool (is_eligible scheme es c) may) IsRepeat (enters scheme es []))
-      (single_cond (same_bool (is_eligible scheme es c) may) IsRepeat (enters scheme es []) (inl refl) (none_enter scheme es)))
+      (single_refuse (eligible_refusals scheme c) (cond (same_bool (is_eligible scheme es c) may) IsRepeat (recorded_if_room scheme es []))
+      (single_cond (same_bool (is_eligible scheme es c) may) IsRepeat (recorded_if_room scheme es []) (inl refl) (none_enter scheme es)))
   shape (Ack n) =
       inl
-      (single_refuse (ack_refusals es n.value) (cond (is_acknowledged es n.value) IsRepeat (enters scheme es []))
-      (single_cond (is_acknowledged es n.value) IsRepeat (enters scheme es []) (inl refl) (none_enter scheme es)))
+      (single_refuse (ack_refusals es n.value) (cond (is_acknowledged es n.value) IsRepeat (recorded_if_room scheme es []))
+      (single_cond (is_acknowledged es n.value) IsRepeat (recorded_if_room scheme es []) (inl refl) (none_enter scheme es)))
   shape (Received m t) = inl (single_refuse (log_refusals scheme es m) (log_answer scheme es t.seconds m) (shape_answer m t.seconds))
   shape (Propose o) = inl (inl refl)
   shape (Ask t) = inl (inl refl)
@@ -86,7 +86,7 @@ module _ (scheme : Scheme) (es : List Entry) where
 
 made_shape : (scheme : Scheme) (e : Entry) (es : List Entry) → Made scheme Itl (e ∷ es) → Shaped e.transitions
 unfolding verdict
-made_shape scheme e es made = subst Shaped (sym made.0) (shape scheme es e.input)
+made_shape scheme e es transitions_made = subst Shaped (sym transitions_made.0) (shape scheme es e.input)
 
 module _ (scheme : Scheme) where
   -- what each transition keeps, given the older ones, holds of all
@@ -96,20 +96,20 @@ module _ (scheme : Scheme) where
       → P (front ++ transitions_of es) → P (x ∷ front ++ transitions_of es)) where
     all_cancelled : (es : List Entry) (input : Input) (xs : List Transition) → Made scheme Itl es → ((x : Transition) → In x xs → LogMove scheme es input x) → AllCancelled xs → P (transitions_of es)
         → P (xs ++ transitions_of es)
-    all_cancelled es input [] made move all old = old
-    all_cancelled es input (x ∷ xs) made move all old =
-        more es input x xs made (move x (inl refl)) (all x (inl refl)) (λ q i. all q (inr i)) old (all_cancelled es input xs made (λ q i. move q (inr i)) (λ q i. all q (inr i)) old)
+    all_cancelled es input [] transitions_made move all old = old
+    all_cancelled es input (x ∷ xs) transitions_made move all old =
+        more es input x xs transitions_made (move x (inl refl)) (all x (inl refl)) (λ q i. all q (inr i)) old (all_cancelled es input xs transitions_made (λ q i. move q (inr i)) (λ q i. all q (inr i)) old)
 
     pub each_log_move : (es : List Entry) → Made scheme Itl es → P (transitions_of es)
-    each_log_move [] made = none
-    each_log_move (e ∷ es) made =
-        elim (made_shape scheme e es made) [
+    each_log_move [] transitions_made = none
+    each_log_move (e ∷ es) transitions_made =
+        elim (made_shape scheme e es transitions_made) [
           | inl s ↦
               elim s [
-                | inl z ↦ subst (λ xs. P (xs ++ transitions_of es)) (sym z) (each_log_move es made.1)
+                | inl z ↦ subst (λ xs. P (xs ++ transitions_of es)) (sym z) (each_log_move es transitions_made.1)
                 | inr z ↦
                     subst (λ xs. P (xs ++ transitions_of es)) (sym z.1)
-                    (one es e.input z.0 made.1 (made_log scheme e es z.0 made (subst (λ xs. In z.0 xs) (sym z.1) (inl refl))) (each_log_move es made.1))
+                    (one es e.input z.0 transitions_made.1 (made_log scheme e es z.0 transitions_made (subst (λ xs. In z.0 xs) (sym z.1) (inl refl))) (each_log_move es transitions_made.1))
               ]
-          | inr all ↦ all_cancelled es e.input e.transitions made.1 (λ x i. made_log scheme e es x made i) all (each_log_move es made.1)
+          | inr all ↦ all_cancelled es e.input e.transitions transitions_made.1 (λ x i. made_log scheme e es x transitions_made i) all (each_log_move es transitions_made.1)
         ]

@@ -9,9 +9,9 @@ use Rattle.units.specs.Code.{same_code}
 use Rattle.units.specs.declared.code.Node.TheVariants.{Itl, Registry}
 use Rattle.status.specs.Content.{Content}
 use Rattle.status.specs.declared.id.TransactionId.{TransactionId}
-use Rattle.status.specs.declared.words.Status.{Status}
-use Rattle.status.specs.declared.words.Status.TheVariants.{Proposed, Checked, Accepted, Rejected, Terminated, Cancelled, Completed}
-use Rattle.wire.specs.Notices.{notice_status}
+use Rattle.status.specs.declared.status.Status.{Status}
+use Rattle.status.specs.declared.status.Status.TheVariants.{Proposed, Checked, Accepted, Rejected, Terminated, Cancelled, Completed}
+use Rattle.wire.specs.NotifiedStatuses.{notified_status}
 use Rattle.wire.specs.declared.input.Input.{Input}
 use Rattle.wire.specs.declared.message.Message.TheVariants as message
 use Rattle.wire.specs.declared.message.Notification.{Notification}
@@ -25,12 +25,12 @@ use Rattle.protocol.specs.History.{Transition, Entry, transitions_of, newest, se
 use Rattle.protocol.specs.Pieces.{Piece, pieces, repeats}
 use Rattle.protocol.specs.Registries.{allotted, has_member}
 use Rattle.safety.proofs.MovesAndHistories.TransitionForms.{checked_status, checked_message, told_to}
-use Rattle.safety.proofs.MovesAndHistories.NewestTransitions.{Made, Heard, heard_later, made_log, newest_id, newest_append, newest_in, one_notice, one_proposal}
+use Rattle.safety.proofs.MovesAndHistories.NewestTransitions.{Made, Heard, heard_later, made_log, newest_id, newest_append, newest_in, one_notified, one_proposal}
 use Rattle.safety.proofs.OneLog.LogInputs.{none_stand}
 use Rattle.lemmas.proofs.Membership.{In, In_cases, In_flat_map}
 use Rattle.lemmas.proofs.OneValue.{one_some}
 use Rattle.safety.proofs.MovesAndHistories.TableMoves.{LogMove, checks, passes, cancels, forestalls}
-use Rattle.safety.proofs.OneLog.LogHearings.{from_acquirer, log_pair, log_notice_move, log_keeps_content}
+use Rattle.safety.proofs.OneLog.LogHearings.{from_acquirer, log_pair, log_notified_move, log_keeps_content}
 use Rattle.safety.proofs.MovesAndHistories.TableRows.{log_from}
 
 -- a unit of another kind than it was allotted with
@@ -46,12 +46,12 @@ pub record Passed (scheme : Scheme) (p : Proposal) : Type 0 where
 
 -- a notification to the initiator
 pub record ToInitiator (n : Notification) : Type 0 where
-  pub said : notice_status n.notice ≡ Completed → ⊥
+  pub said : notified_status n.notified ≡ Completed → ⊥
   pub to : n.to ≡ Registry n.id.code
 
 -- a notification to the acquirer of the content
 pub record ToAcquirer (n : Notification) (k : Option Content) : Type 0 where
-  pub said : (notice_status n.notice ≡ Completed) ⊎ (notice_status n.notice ≡ Cancelled)
+  pub said : (notified_status n.notified ≡ Completed) ⊎ (notified_status n.notified ≡ Cancelled)
   pub content : Content
   pub known : k ≡ Some content
   pub to : n.to ≡ Registry content.acquirer
@@ -107,7 +107,7 @@ module _ (scheme : Scheme) where
   pub never_terminates : (es : List Entry) (input : Input) (x q : Transition) → LogMove scheme es input x → newest (transitions_of es) x.id ≡ Some q → x.new ≡ Terminated → ⊥
   never_terminates es input x q (checks p moment found f s is none member) h e = let z = sym none ∙ h in cc (z)
   never_terminates es input x q (passes n moment p held new old kept member right move) h e =
-      elim (log_from p.new (notice_status n.notice) new move) [
+      elim (log_from p.new (notified_status n.notified) new move) [
         | inl m ↦
             elim m.2 [
               | inl a ↦ let y : Accepted ≡ Terminated = sym a ∙ sym m.1 ∙ e in cc (y)
@@ -140,7 +140,7 @@ module _ (scheme : Scheme) where
 
   -- ---- notifications
 
-  passed_to : (q : Transition) (new : Status) (n : Notification) → q.id ≡ n.id → new ≡ notice_status n.notice → (k : Content) → told_to q.id k new ≡ n.to → q.content ≡ Some k → ToInitiator n ⊎ ToAcquirer n q.content
+  passed_to : (q : Transition) (new : Status) (n : Notification) → q.id ≡ n.id → new ≡ notified_status n.notified → (k : Content) → told_to q.id k new ≡ n.to → q.content ≡ Some k → ToInitiator n ⊎ ToAcquirer n q.content
   passed_to q Completed n about said k to known = inr (record { said = inl (sym said); content = k; known = known; to = sym to })
   passed_to q Proposed n about said k to known = inl (record { said = λ e. let y : Proposed ≡ Completed = said ∙ e in cc (y); to = sym to ∙ ap (λ (z : TransactionId). Registry z.code) about })
   passed_to q Checked n about said k to known = inl (record { said = λ e. let y : Checked ≡ Completed = said ∙ e in cc (y); to = sym to ∙ ap (λ (z : TransactionId). Registry z.code) about })
@@ -155,21 +155,21 @@ module _ (scheme : Scheme) where
       go : (g : List ℕ) → In (message.Notification n) (checked_message p.id p.content g ∷ []) → ToInitiator n
       go [] (inl e) = absurd (cc (e))
       go [] (inr h) = absurd h
-      go (c ∷ cs) (inl e) = let s = one_notice _ n e in subst ToInitiator s (record { said = λ d. let y : Terminated ≡ Completed = d in cc (y); to = refl })
+      go (c ∷ cs) (inl e) = let s = one_notified _ n e in subst ToInitiator s (record { said = λ d. let y : Terminated ≡ Completed = d in cc (y); to = refl })
       go (c ∷ cs) (inr h) = absurd h
   goes_move es input x n made (passes m moment q held new old kept member right move) (inl e) =
-      let s = one_notice _ n e in
-      let g = log_notice_move scheme es input x n (passes m moment q held new old kept member right move) (inl e) in
+      let s = one_notified _ n e in
+      let g = log_notified_move scheme es input x n (passes m moment q held new old kept member right move) (inl e) in
       passed_to q new n g.0 g.1 held (ap (λ (z : Notification). z.to) s) kept
   goes_move es input x n made (passes m moment q held new old kept member right move) (inr h) = absurd h
   goes_move es input x n made (cancels given moment t q held why old kept was) (inl e) =
-      let s = one_notice _ n e in inl (subst ToInitiator s (record { said = λ d. let y : Cancelled ≡ Completed = d in cc (y); to = refl }))
+      let s = one_notified _ n e in inl (subst ToInitiator s (record { said = λ d. let y : Cancelled ≡ Completed = d in cc (y); to = refl }))
   goes_move es input x n made (cancels given moment t q held why old kept was) (inr (inl e)) =
-      let s = one_notice _ n e in
+      let s = one_notified _ n e in
       inr (subst (λ z. ToAcquirer z q.content) s (record { said = inr refl; content = held; known = kept; to = refl }))
   goes_move es input x n made (cancels given moment t q held why old kept was) (inr (inr h)) = absurd h
   goes_move es input x n made (forestalls r moment f member none) (inl e) =
-      let s = one_notice _ n e in inl (subst ToInitiator s (record { said = λ d. let y : Cancelled ≡ Completed = d in cc (y); to = refl }))
+      let s = one_notified _ n e in inl (subst ToInitiator s (record { said = λ d. let y : Cancelled ≡ Completed = d in cc (y); to = refl }))
   goes_move es input x n made (forestalls r moment f member none) (inr h) = absurd h
 
   -- to whom the log's notifications go
@@ -191,7 +191,7 @@ module _ (scheme : Scheme) where
         | inr new ↦
             let g = In_flat_map (λ (q : Transition). q.messages) (message.Notification n) e.transitions new in
             let move = made_log scheme e es g.0 made g.1 in
-            let m = log_notice_move scheme es e.input g.0 n move g.2 in
+            let m = log_notified_move scheme es e.input g.0 n move g.2 in
             let u = newest_in e.transitions (transitions_of es) g.0 n.id g.1 m.0 in
             elim (goes_move es e.input g.0 n made.1 move g.2) [
               | inl i ↦ inl i
@@ -243,9 +243,9 @@ module _ (scheme : Scheme) where
   refusal_move es e t input x i (checks p moment found f s is none member) same h = absurd (checked_rejects found h)
   refusal_move es e t input x i (passes n moment q held new old kept member right move) same h =
       let about : n.id ≡ t = sym (newest_id (transitions_of es) n.id q old).1 ∙ same in
-      elim (log_from q.new (notice_status n.notice) new move) [
+      elim (log_from q.new (notified_status n.notified) new move) [
         | inl m ↦
-            let said : notice_status n.notice ≡ Rejected = sym m.1 ∙ h in
+            let said : notified_status n.notified ≡ Rejected = sym m.1 ∙ h in
             let f = from_acquirer scheme n.from q.content member (subst (λ s. is_from_another n.from n.id q.content s ≡ false) said right) in
             (f.0, f.1, record { notification = n; got = inl (moment, i); sender = f.2; about = about; told = said })
         | inr m ↦ absurd (let y : Completed ≡ Rejected = sym m.1 ∙ h in cc (y))
@@ -272,7 +272,7 @@ module _ (scheme : Scheme) where
   proposes_move : (es : List Entry) (input : Input) (x : Transition) → LogMove scheme es input x → x.new ≡ Proposed → ⊥
   proposes_move es input x (checks p moment found f s is none member) h = checked_proposes found h
   proposes_move es input x (passes n moment q held new old kept member right move) h =
-      elim (log_from q.new (notice_status n.notice) new move) [
+      elim (log_from q.new (notified_status n.notified) new move) [
         | inl m ↦
             elim m.2 [
               | inl a ↦ let y : Accepted ≡ Proposed = sym a ∙ sym m.1 ∙ h in cc (y)

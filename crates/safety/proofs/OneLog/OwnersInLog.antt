@@ -1,8 +1,8 @@
 -- The log by itself, whatever messages come: whose units the book says they are, and which transfers are under way.
--- The invariant `InBook` is about one unit: a transfer of it that is under way was proposed by the unit's owner, at most one is under way, and for each
--- registry the book's moves to it and from it make up whether the registry is the owner.
--- A check without findings puts a transfer under way, and a completion moves the unit; all other moves leave the unit alone (`still`). That ended
--- transfers stay as they are follows from the log's table.
+-- The invariant `InBook` is about one unit: a transfer of it that is under way was proposed by the unit's owner, at
+-- most one is under way, and for each registry the book's moves to it and from it make up whether the registry is the
+-- owner. A check without findings puts a transfer under way, and a completion moves the unit; all other moves leave
+-- the unit alone (`still`). That ended transfers stay as they are follows from the log's table.
 use Rattle.std.specs.List.{count_by}
 use Rattle.std.proofs.Common.{◌≡◌, ℕ, ◌+◌, List, [], ◌∷◌, ◌++◌, Bool, true, false, cond, Option, Some, None, ◌⊎◌, inl, inr, refl, sym, ap, subst, ◌∙◌, arith}
 use Rattle.std.specs.Prelude.{◌&&◌, ◌||◌, option_map, is_none}
@@ -17,9 +17,9 @@ use Rattle.status.specs.Content.{Content}
 use Rattle.status.specs.Id.{same_id}
 use Rattle.status.specs.Status.{same_status}
 use Rattle.status.specs.declared.id.TransactionId.{TransactionId}
-use Rattle.status.specs.declared.words.Status.{Status}
-use Rattle.status.specs.declared.words.Status.TheVariants.{Proposed, Checked, Accepted, Rejected, Terminated, Cancelled, Completed}
-use Rattle.wire.specs.Notices.{notice_status}
+use Rattle.status.specs.declared.status.Status.{Status}
+use Rattle.status.specs.declared.status.Status.TheVariants.{Proposed, Checked, Accepted, Rejected, Terminated, Cancelled, Completed}
+use Rattle.wire.specs.NotifiedStatuses.{notified_status}
 use Rattle.wire.specs.declared.input.Input.{Input}
 use Rattle.scheme.specs.declared.members.Holder.{Holder}
 use Rattle.scheme.specs.declared.registries.Scheme.{Scheme}
@@ -30,7 +30,7 @@ use Rattle.protocol.specs.Effects.{notifies}
 use Rattle.protocol.specs.History.{Transition, Entry, transitions_of, newest, stands, stands_at, is_status, has_serial, carries, gives, at_start, is_with, book_owner, busy}
 use Rattle.protocol.specs.Pieces.{Piece, pieces}
 use Rattle.protocol.specs.Registries.{allotted}
-use Rattle.protocol.specs.Verdict.{verdict, made as made_of, extend, history_from, history}
+use Rattle.protocol.specs.Verdict.{verdict, transitions_made as made_of, extend, history_from, history}
 use Rattle.safety.proofs.MovesAndHistories.TransitionForms.{checked, checked_status, told_to, moved}
 use Rattle.lemmas.proofs.NoRepeats.{NoRepeat}
 use Rattle.lemmas.proofs.SomePass.{list_any_none, list_any_in}
@@ -67,7 +67,8 @@ brings_to (Some k) c = same_code k.acquirer c
 abbrev pub brings : Code → Serial → Transition → Bool
 brings c s x = same_status x.new Completed && (brings_to x.content c && carries x s)
 
--- the book has a unit under way with its initiator, it is under way once, and the book's owner is who it was brought to and not moved away from
+-- the book has a unit under way with its initiator, it is under way once, and the book's owner is who it was brought
+-- to and not moved away from
 pub record InBook (scheme : Scheme) (s : Serial) (xs : List Transition) : Type 0 where
   pub owner : (t : TransactionId) → Busy s xs t → book_owner scheme xs s ≡ Some t.code
   pub one : (t u : TransactionId) → Busy s xs t → Busy s xs u → t ≡ u
@@ -236,7 +237,7 @@ module _ (scheme : Scheme) (s : Serial) where
   passed_move : (es : List Entry) (told : Status) (q x : Transition) → Made scheme Itl es → newest (transitions_of es) q.id ≡ Some q → x.id ≡ q.id → x.content ≡ q.content
       → ((q.new ≡ Checked) × (x.new ≡ told) × ((told ≡ Accepted) ⊎ (told ≡ Rejected))) ⊎ ((q.new ≡ Accepted) × (x.new ≡ Completed) × (told ≡ Completed)) → InBook scheme s (transitions_of es)
       → InBook scheme s (x ∷ transitions_of es)
-  passed_move es told q x made was same contents (inl m) old =
+  passed_move es told q x transitions_made was same contents (inl m) old =
       elim m.2 [
         | inl a ↦
             still x (transitions_of es) (and_left (same_status x.new Completed) (carries x s) (subst (λ z. same_status z Completed ≡ false) (sym (m.1 ∙ a)) refl))
@@ -253,20 +254,20 @@ module _ (scheme : Scheme) (s : Serial) where
             old
         | inr a ↦ quiet x (transitions_of es) (subst (λ z. same_status z Completed ≡ false) (sym (m.1 ∙ a)) refl) (λ h. subst IsBusy (m.1 ∙ a) h) old
       ]
-  passed_move es told q x made was same contents (inr m) old =
-      let p = proposer scheme es made q.id q was (λ e. let y : Accepted ≡ Cancelled = sym m.0 ∙ e in cc (y)) in
+  passed_move es told q x transitions_made was same contents (inr m) old =
+      let p = proposer scheme es transitions_made q.id q was (λ e. let y : Accepted ≡ Cancelled = sym m.0 ∙ e in cc (y)) in
       elim (cases_Bool (carries x s)) [
         | inl y ↦ booked es q x p.content m.1 same contents (contents ∙ p.is) y was (subst IsBusy (sym m.0) tt) old
         | inr n ↦ still x (transitions_of es) (and_right (same_status x.new Completed) (carries x s) n) (λ t b. (busy_older x (transitions_of es) t (λ h. subst IsBusy m.1 h) b).0) old
       ]
 
   book_move : (es : List Entry) (input : Input) (x : Transition) → Made scheme Itl es → LogMove scheme es input x → InBook scheme s (transitions_of es) → InBook scheme s (x ∷ transitions_of es)
-  book_move es input x made (checks p moment found f st is none member) old = checked_move es p.id p.content moment.seconds found is old
-  book_move es input x made (passes n moment q held new was kept member right move) old =
-      passed_move es (notice_status n.notice) q (moved q new moment.seconds (notifies Itl (told_to q.id held new) q.id n.notice ∷ [])) made
-      (subst (λ z. newest (transitions_of es) z ≡ Some q) (sym (newest_id (transitions_of es) n.id q was).1) was) refl refl (log_from q.new (notice_status n.notice) new move) old
-  book_move es input x made (forestalls r moment f member none) old = quiet x (transitions_of es) refl (λ h. h) old
-  book_move es input x made (cancels given moment t q held why was kept stood) old = quiet x (transitions_of es) refl (λ h. h) old
+  book_move es input x transitions_made (checks p moment found f st is none member) old = checked_move es p.id p.content moment.seconds found is old
+  book_move es input x transitions_made (passes n moment q held new was kept member right move) old =
+      passed_move es (notified_status n.notified) q (moved q new moment.seconds (notifies Itl (told_to q.id held new) q.id n.notified ∷ [])) transitions_made
+      (subst (λ z. newest (transitions_of es) z ≡ Some q) (sym (newest_id (transitions_of es) n.id q was).1) was) refl refl (log_from q.new (notified_status n.notified) new move) old
+  book_move es input x transitions_made (forestalls r moment f member none) old = quiet x (transitions_of es) refl (λ h. h) old
+  book_move es input x transitions_made (cancels given moment t q held why was kept stood) old = quiet x (transitions_of es) refl (λ h. h) old
 
   pub in_book : (es : List Entry) → Made scheme Itl es → InBook scheme s (transitions_of es)
   in_book =
@@ -277,7 +278,7 @@ module _ (scheme : Scheme) (s : Serial) where
         counts = λ c. start_count (allotted scheme s) c;
       })
       book_move
-      (λ es input x front made move gone all old new. quiet x (front ++ transitions_of es) (subst (λ z. same_status z Completed ≡ false) (sym gone) refl) (λ h. subst IsBusy gone h) new)
+      (λ es input x front transitions_made move gone all old new. quiet x (front ++ transitions_of es) (subst (λ z. same_status z Completed ≡ false) (sym gone) refl) (λ h. subst IsBusy gone h) new)
 
 -- ---- what has ended stays
 
@@ -289,7 +290,7 @@ module _ (scheme : Scheme) where
       let w : newest (transitions_of es) q.id ≡ Some q = subst (λ z. newest (transitions_of es) z ≡ Some q) (sym (newest_id (transitions_of es) n.id q was).1) was in
       let e = sym w ∙ h in
       let same : q ≡ y = cc (e) in
-      elim (log_from q.new (notice_status n.notice) new move) [
+      elim (log_from q.new (notified_status n.notified) new move) [
         | inl m ↦ subst (λ (z : Transition). IsBusy z.new) same (subst IsBusy (sym m.0) tt)
         | inr m ↦ subst (λ (z : Transition). IsBusy z.new) same (subst IsBusy (sym m.0) tt)
       ]
@@ -311,14 +312,14 @@ module _ (scheme : Scheme) where
 
   end_stays : (es : List Entry) (more : List Input) (t : TransactionId) (x : Transition) → Made scheme Itl es → IsEnd x.new → newest (transitions_of es) t ≡ Some x
       → newest (transitions_of (history_from scheme Itl es more)) t ≡ Some x
-  end_stays es [] t x made end h = h
-  end_stays es (i ∷ is) t x made end h =
-      end_stays (extend scheme Itl es i) is t x (refl, made) end
+  end_stays es [] t x transitions_made end h = h
+  end_stays es (i ∷ is) t x transitions_made end h =
+      end_stays (extend scheme Itl es i) is t x (refl, transitions_made) end
       (elim (newest_append (made_of (verdict scheme Itl es i)) (transitions_of es) t) [
         | inl u ↦ u ∙ h
         | inr u ↦
             absurd (end_not_busy x.new end
-            (log_live es i u.0 x (made_log scheme (record { input = i; transitions = made_of (verdict scheme Itl es i) }) es u.0 (refl, made) u.1)
+            (log_live es i u.0 x (made_log scheme (record { input = i; transitions = made_of (verdict scheme Itl es i) }) es u.0 (refl, transitions_made) u.1)
             (subst (λ z. newest (transitions_of es) z ≡ Some x) (sym u.2) h)))
       ])
 
@@ -344,12 +345,12 @@ module _ (scheme : Scheme) where
 
   completed_owned : (es : List Entry) (input : Input) (x : Transition) → Made scheme Itl es → LogMove scheme es input x → x.new ≡ Completed → (s : Serial) → carries x s ≡ true
       → book_owner scheme (transitions_of es) s ≡ Some x.id.code
-  completed_owned es input x made (checks p moment found f st is none member) done s has = absurd (not_completed found done)
-  completed_owned es input x made (passes n moment q held new was kept member right move) done s has =
+  completed_owned es input x transitions_made (checks p moment found f st is none member) done s has = absurd (not_completed found done)
+  completed_owned es input x transitions_made (passes n moment q held new was kept member right move) done s has =
       let w : newest (transitions_of es) q.id ≡ Some q = subst (λ z. newest (transitions_of es) z ≡ Some q) (sym (newest_id (transitions_of es) n.id q was).1) was in
-      (in_book scheme s es made).owner q.id (record { last = q; is = w; new = log_live es input x q (passes n moment q held new was kept member right move) w; has = has })
-  completed_owned es input x made (forestalls r moment f member none) done s has = absurd (let y : Cancelled ≡ Completed = done in cc (y))
-  completed_owned es input x made (cancels given moment t q held why was kept stood) done s has = absurd (let y : Cancelled ≡ Completed = done in cc (y))
+      (in_book scheme s es transitions_made).owner q.id (record { last = q; is = w; new = log_live es input x q (passes n moment q held new was kept member right move) w; has = has })
+  completed_owned es input x transitions_made (forestalls r moment f member none) done s has = absurd (let y : Cancelled ≡ Completed = done in cc (y))
+  completed_owned es input x transitions_made (cancels given moment t q held why was kept stood) done s has = absurd (let y : Cancelled ≡ Completed = done in cc (y))
 
   pub owned_by_initiator : OwnedByInitiator scheme
   unfolding verdict
@@ -383,23 +384,23 @@ module _ (scheme : Scheme) where
 
   pub log_ends_last : (es : List Entry) → Made scheme Itl es → LogEnds (transitions_of es)
   log_ends_last =
-      each_log_move scheme LogEnds (λ x i done. absurd i) (λ es input x made move old. ends_more es input x [] move (λ q i. absurd i) old old)
-      (λ es input x front made move gone all old new. ends_more es input x front move all old new)
+      each_log_move scheme LogEnds (λ x i done. absurd i) (λ es input x transitions_made move old. ends_more es input x [] move (λ q i. absurd i) old old)
+      (λ es input x front transitions_made move gone all old new. ends_more es input x front move all old new)
 
   once_more : (p : Transition → Bool) → ((x : Transition) → p x ≡ true → x.new ≡ Completed) → (es : List Entry) (input : Input) (x : Transition) (front : List Transition) → Made scheme Itl es → LogMove scheme es input x
       → AllCancelled front → NoRepeat (picked p (front ++ transitions_of es)) → (b : Bool) → NoRepeat (cond b (x.id ∷ picked p (front ++ transitions_of es)) (picked p (front ++ transitions_of es)))
-  once_more p done es input x front made move all new true = (
+  once_more p done es input x front transitions_made move all new true = (
     (λ h.
         let q = In_picked p (front ++ transitions_of es) x.id h in
         elim (In_cases q.0 front (transitions_of es) q.1) [
           | inl i ↦ let z : Cancelled ≡ Completed = sym (all q.0 i) ∙ done q.0 q.2 in cc (z)
-          | inr i ↦ log_alive es input x q.0 move (subst (λ z. newest (transitions_of es) z ≡ Some q.0) q.3 (log_ends_last es made q.0 i (done q.0 q.2))) (done q.0 q.2)
+          | inr i ↦ log_alive es input x q.0 move (subst (λ z. newest (transitions_of es) z ≡ Some q.0) q.3 (log_ends_last es transitions_made q.0 i (done q.0 q.2))) (done q.0 q.2)
         ]),
     new,
   )
-  once_more p done es input x front made move all new false = new
+  once_more p done es input x front transitions_made move all new false = new
 
   pub log_picked_once : (p : Transition → Bool) → ((x : Transition) → p x ≡ true → x.new ≡ Completed) → (es : List Entry) → Made scheme Itl es → NoRepeat (picked p (transitions_of es))
   log_picked_once p done =
-      each_log_move scheme (λ xs. NoRepeat (picked p xs)) tt (λ es input x made move old. once_more p done es input x [] made move (λ q i. absurd i) old (p x))
-      (λ es input x front made move gone all old new. once_more p done es input x front made move all new (p x))
+      each_log_move scheme (λ xs. NoRepeat (picked p xs)) tt (λ es input x transitions_made move old. once_more p done es input x [] transitions_made move (λ q i. absurd i) old (p x))
+      (λ es input x front transitions_made move gone all old new. once_more p done es input x front transitions_made move all new (p x))

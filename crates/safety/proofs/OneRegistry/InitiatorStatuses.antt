@@ -1,16 +1,17 @@
 -- The statuses of a transfer at its initiator: it never stands Checked or Accepted there.
--- The initiator's table has no row to these two statuses, and an induction over the moves of a registry carries this to the whole history.
+-- The initiator's table has no row to these two statuses, and an induction over the moves of a registry carries this
+-- to the whole history.
 use Rattle.std.proofs.Common.{◌≡◌, List, true, inl, inr, sym, subst}
 use Rattle.units.specs.Code.{same_code}
 use Rattle.units.specs.declared.code.Code.{Code}
 use Rattle.units.specs.declared.code.Node.TheVariants.{Registry}
 use Rattle.status.specs.Rows.{initiator_row}
-use Rattle.status.specs.declared.words.Known.TheVariants.{Stands}
-use Rattle.status.specs.declared.words.Row.TheVariants.{Move}
-use Rattle.status.specs.declared.words.RowInput.TheVariants.{Notified}
-use Rattle.status.specs.declared.words.Status.{Status}
-use Rattle.status.specs.declared.words.Status.TheVariants.{Proposed, Checked, Accepted, Rejected, Terminated, Cancelled, Completed}
-use Rattle.wire.specs.Notices.{notice_status}
+use Rattle.status.specs.declared.rows.RecordedStatus.TheVariants.{Stands}
+use Rattle.status.specs.declared.rows.Row.TheVariants.{Move}
+use Rattle.status.specs.declared.rows.RowInput.TheVariants.{Notified}
+use Rattle.status.specs.declared.status.Status.{Status}
+use Rattle.status.specs.declared.status.Status.TheVariants.{Proposed, Checked, Accepted, Rejected, Terminated, Cancelled, Completed}
+use Rattle.wire.specs.NotifiedStatuses.{notified_status}
 use Rattle.wire.specs.declared.input.Input.{Input}
 use Rattle.scheme.specs.declared.registries.Scheme.{Scheme}
 use Rattle.protocol.specs.History.{Transition, Entry, transitions_of}
@@ -53,7 +54,7 @@ module _ (scheme : Scheme) (c : Code) where
   own_status_move es input x (asks t q old mine stood) own = tt
   own_status_move es input x (arrives p moment found f s is none foreign mine) own = clash (same_code p.id.code c) own foreign
   own_status_move es input x (bares n moment f cancelled none foreign) own = tt
-  own_status_move es input x (settles n moment q new f was mine move) own = own_status q.new (notice_status n.notice) new move
+  own_status_move es input x (settles n moment q new f was mine move) own = own_status q.new (notified_status n.notified) new move
   own_status_move es input x (finishes n moment q new f was foreign move none) own = clash (same_code n.id.code c) (own_about scheme c es n.id q was own) foreign
 
   pub own_statuses : (es : List Entry) → Made scheme (Registry c) es → OwnStatuses (transitions_of es)

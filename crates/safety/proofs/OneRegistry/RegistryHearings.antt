@@ -11,10 +11,10 @@ use Rattle.units.specs.declared.code.Node.TheVariants.{Itl, Registry}
 use Rattle.status.specs.Content.{Content}
 use Rattle.status.specs.declared.id.TransactionId.{TransactionId}
 use Rattle.status.specs.declared.moment.Moment.{Moment}
-use Rattle.status.specs.declared.words.Status.{Status}
-use Rattle.status.specs.declared.words.Status.TheVariants.{Proposed, Checked, Accepted, Rejected, Terminated, Cancelled, Completed}
+use Rattle.status.specs.declared.status.Status.{Status}
+use Rattle.status.specs.declared.status.Status.TheVariants.{Proposed, Checked, Accepted, Rejected, Terminated, Cancelled, Completed}
 use Rattle.status.proofs.Ids.{id_at-code}
-use Rattle.wire.specs.Notices.{notice_status}
+use Rattle.wire.specs.NotifiedStatuses.{notified_status}
 use Rattle.wire.specs.declared.input.Input.{Input}
 use Rattle.wire.specs.declared.input.Input.TheVariants.{Received}
 use Rattle.wire.specs.declared.message.Message.TheVariants as message
@@ -25,8 +25,8 @@ use Rattle.scheme.specs.declared.registries.Scheme.{Scheme}
 use Rattle.protocol.specs.AtRegistry.{holding}
 use Rattle.protocol.specs.Checks.{acquirer_findings}
 use Rattle.protocol.specs.History.{Transition, Entry, transitions_of, newest, sends, messages_of, proposals}
-use Rattle.safety.proofs.MovesAndHistories.TransitionForms.{arrived_status, arrived_notice, settled_messages}
-use Rattle.safety.proofs.MovesAndHistories.NewestTransitions.{Made, Heard, Offered, heard_later, offered_later, made_registry, newest_id, newest_append, newest_in, one_notice}
+use Rattle.safety.proofs.MovesAndHistories.TransitionForms.{arrived_status, arrived_notified, settled_messages}
+use Rattle.safety.proofs.MovesAndHistories.NewestTransitions.{Made, Heard, Offered, heard_later, offered_later, made_registry, newest_id, newest_append, newest_in, one_notified}
 use Rattle.lemmas.proofs.Membership.{In, In_cases, In_flat_map}
 use Rattle.lemmas.proofs.OneValue.{clash}
 use Rattle.safety.proofs.MovesAndHistories.TableMoves.{RegistryMove, proposes, asks, arrives, bares, settles, finishes}
@@ -58,19 +58,19 @@ abbrev pub IsTaken : Option Transition → Type 0
 IsTaken None = ⊥
 IsTaken (Some x) = (x.new ≡ Accepted) ⊎ ((x.new ≡ Completed) ⊎ (x.new ≡ Cancelled))
 
-pub settled_notice : (c : Code) (u : TransactionId) (new : Status) (n : Notification) → In (message.Notification n) (settled_messages c u new) → notice_status n.notice ≡ Completed
-settled_notice c u Completed n (inl e) = let s = one_notice _ n e in sym (ap (λ (z : Notification). notice_status z.notice) s)
-settled_notice c u Completed n (inr h) = absurd h
-settled_notice c u Proposed n h = absurd h
-settled_notice c u Checked n h = absurd h
-settled_notice c u Accepted n h = absurd h
-settled_notice c u Rejected n h = absurd h
-settled_notice c u Terminated n h = absurd h
-settled_notice c u Cancelled n h = absurd h
+pub settled_notified : (c : Code) (u : TransactionId) (new : Status) (n : Notification) → In (message.Notification n) (settled_messages c u new) → notified_status n.notified ≡ Completed
+settled_notified c u Completed n (inl e) = let s = one_notified _ n e in sym (ap (λ (z : Notification). notified_status z.notified) s)
+settled_notified c u Completed n (inr h) = absurd h
+settled_notified c u Proposed n h = absurd h
+settled_notified c u Checked n h = absurd h
+settled_notified c u Accepted n h = absurd h
+settled_notified c u Rejected n h = absurd h
+settled_notified c u Terminated n h = absurd h
+settled_notified c u Cancelled n h = absurd h
 
-pub arrived_notice_status : (found : List ℕ) → notice_status (arrived_notice found) ≡ arrived_status found
-arrived_notice_status [] = refl
-arrived_notice_status (n ∷ ns) = refl
+pub arrived_notified_status : (found : List ℕ) → notified_status (arrived_notified found) ≡ arrived_status found
+arrived_notified_status [] = refl
+arrived_notified_status (n ∷ ns) = refl
 
 module _ (scheme : Scheme) (c : Code) where
   own_and_foreign : {X : Type 0} (t u : TransactionId) → t ≡ u → same_code t.code c ≡ true → same_code u.code c ≡ false → X
@@ -82,7 +82,7 @@ module _ (scheme : Scheme) (c : Code) where
   told_own_move es e t input x i (arrives p moment found f s is none foreign mine) same own = own_and_foreign t p.id (sym same) own foreign
   told_own_move es e t input x i (bares n moment f cancelled none foreign) same own = own_and_foreign t n.id (sym same) own foreign
   told_own_move es e t input x i (settles n moment q new f old mine move) same own =
-      let m = initiator_from q.new (notice_status n.notice) new move in
+      let m = initiator_from q.new (notified_status n.notified) new move in
       let about : n.id ≡ t = sym (newest_id (transitions_of es) n.id q old).1 ∙ same in
       inr (record { notification = n; got = inl (moment, i); sender = f; about = about; told = sym m.1 })
   told_own_move es e t input x i (finishes n moment q new f old foreign move none) same own =
@@ -122,7 +122,7 @@ module _ (scheme : Scheme) (c : Code) where
       own_and_foreign n.id t about own foreign
   told_move es e t input x i (finishes n moment q new f old foreign' move none) same foreign =
       let about : n.id ≡ t = sym (newest_id (transitions_of es) n.id q old).1 ∙ same in
-      let m = acquirer_from q.new (notice_status n.notice) new move in
+      let m = acquirer_from q.new (notified_status n.notified) new move in
       elim m.2 [
         | inl a ↦ subst (λ s. Cause c (e ∷ es) t s) (sym (m.1 ∙ a)) (record { notification = n; got = inl (moment, i); sender = f; about = about; told = a })
         | inr a ↦ subst (λ s. Cause c (e ∷ es) t s) (sym (m.1 ∙ a)) (record { notification = n; got = inl (moment, i); sender = f; about = about; told = a })
@@ -152,14 +152,14 @@ module _ (scheme : Scheme) (c : Code) where
   arrive_pair es i p moment x e (settles n moment' q new f old own move) = absurd (cc (e))
   arrive_pair es i p moment x e (finishes n moment' q new f old foreign move none) = absurd (cc (e))
 
-  accepted_move : (es : List Entry) (input : Input) (q : Transition) (n : Notification) → RegistryMove scheme c es input q → In (message.Notification n) q.messages → notice_status n.notice ≡ Accepted
+  accepted_move : (es : List Entry) (input : Input) (q : Transition) (n : Notification) → RegistryMove scheme c es input q → In (message.Notification n) q.messages → notified_status n.notified ≡ Accepted
       → (q.id ≡ n.id) × (same_code n.id.code c ≡ false) × ((x : Transition) → RegistryMove scheme c es input x → x.id ≡ n.id → x.new ≡ Accepted)
   accepted_move es input q n (proposes o u none is fresh) (inl e) said = absurd (cc (e))
   accepted_move es input q n (proposes o u none is fresh) (inr h) said = absurd h
   accepted_move es input q n (arrives p moment found f s is none foreign mine) (inl e) said =
-      let m = one_notice _ n e in
+      let m = one_notified _ n e in
       let about = ap (λ (z : Notification). z.id) m in
-      let accepted : arrived_status found ≡ Accepted = sym (arrived_notice_status found) ∙ ap (λ (z : Notification). notice_status z.notice) m ∙ said in (
+      let accepted : arrived_status found ≡ Accepted = sym (arrived_notified_status found) ∙ ap (λ (z : Notification). notified_status z.notified) m ∙ said in (
         about,
         subst (λ (z : TransactionId). same_code z.code c ≡ false) about foreign,
         λ x move same. arrive_pair es (Received (message.Proposal p) moment) p moment x refl move ∙ sym (ap arrived_status is) ∙ accepted,
@@ -168,7 +168,7 @@ module _ (scheme : Scheme) (c : Code) where
   accepted_move es input q n (asks u p old own stood) (inl e) said = absurd (cc (e))
   accepted_move es input q n (asks u p old own stood) (inr h) said = absurd h
   accepted_move es input q n (bares m moment f was none foreign) h said = absurd h
-  accepted_move es input q n (settles m moment p new f old own move) h said = let x : Completed ≡ Accepted = sym (settled_notice c p.id new n h) ∙ said in absurd (cc (x))
+  accepted_move es input q n (settles m moment p new f old own move) h said = let x : Completed ≡ Accepted = sym (settled_notified c p.id new n h) ∙ said in absurd (cc (x))
   accepted_move es input q n (finishes m moment p new f old foreign move none) h said = absurd h
 
   taken_keeps : (es : List Entry) (input : Input) (x : Transition) → RegistryMove scheme c es input x → same_code x.id.code c ≡ false → IsTaken (newest (transitions_of es) x.id) → IsTaken (Some x)
@@ -180,13 +180,13 @@ module _ (scheme : Scheme) (c : Code) where
   taken_keeps es input x (bares n moment f cancelled none foreign') foreign taken = absurd (subst IsTaken none taken)
   taken_keeps es input x (settles n moment q new f old own move) foreign taken = own_and_foreign n.id q.id (sym (newest_id (transitions_of es) n.id q old).1) own foreign
   taken_keeps es input x (finishes n moment q new f old foreign' move none) foreign taken =
-      let m = acquirer_from q.new (notice_status n.notice) new move in
+      let m = acquirer_from q.new (notified_status n.notified) new move in
       elim m.2 [
         | inl a ↦ inr (inl (m.1 ∙ a))
         | inr a ↦ inr (inr (m.1 ∙ a))
       ]
 
-  pub accepted_sent : (es : List Entry) → Made scheme (Registry c) es → (n : Notification) → In (message.Notification n) (sends es) → notice_status n.notice ≡ Accepted
+  pub accepted_sent : (es : List Entry) → Made scheme (Registry c) es → (n : Notification) → In (message.Notification n) (sends es) → notified_status n.notified ≡ Accepted
       → (same_code n.id.code c ≡ false) × IsTaken (newest (transitions_of es) n.id)
   accepted_sent [] made n h said = absurd h
   accepted_sent (e ∷ es) made n h said =

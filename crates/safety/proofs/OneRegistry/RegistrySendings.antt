@@ -1,7 +1,7 @@
 -- What a registry sends: what it offers, what it answers as acquirer, and that its own transfers completed.
--- `Says` lists the kinds of message, each with what the history had recorded when it was sent. An induction over the moves shows
--- that every message that was sent is of one of these kinds. From them it follows that who asked for a cancellation had
--- proposed the transfer, and that a Rejected that was sent stands for good.
+-- `Says` lists the kinds of message, each with what the history had recorded when it was sent. An induction over the
+-- moves shows that every message that was sent is of one of these kinds. From them it follows that who asked for a
+-- cancellation had proposed the transfer, and that a Rejected that was sent stands for good.
 use Rattle.std.proofs.Common.{◌≡◌, ℕ, ◌+◌, List, [], ◌∷◌, true, false, Some, ◌⊎◌, inl, inr, refl, sym, ap, subst, ◌∙◌}
 use Rattle.units.proofs.Same.{code_of_same}
 use Rattle.units.specs.Code.{same_code}
@@ -9,9 +9,9 @@ use Rattle.units.specs.declared.code.Code.{Code}
 use Rattle.units.specs.declared.code.Node.TheVariants.{Itl, Registry}
 use Rattle.status.specs.Content.{Content}
 use Rattle.status.specs.declared.id.TransactionId.{TransactionId}
-use Rattle.status.specs.declared.words.Status.{Status}
-use Rattle.status.specs.declared.words.Status.TheVariants.{Proposed, Checked, Accepted, Rejected, Terminated, Cancelled, Completed}
-use Rattle.wire.specs.Notices.{notice_status}
+use Rattle.status.specs.declared.status.Status.{Status}
+use Rattle.status.specs.declared.status.Status.TheVariants.{Proposed, Checked, Accepted, Rejected, Terminated, Cancelled, Completed}
+use Rattle.wire.specs.NotifiedStatuses.{notified_status}
 use Rattle.wire.specs.declared.input.Input.{Input}
 use Rattle.wire.specs.declared.message.Message.{Message}
 use Rattle.wire.specs.declared.message.Message.TheVariants as message
@@ -23,13 +23,13 @@ use Rattle.scheme.specs.declared.registries.Scheme.{Scheme}
 use Rattle.protocol.specs.History.{Transition, Entry, transitions_of, newest, sends, messages_of, proposals}
 use Rattle.safety.proofs.MovesAndHistories.TransitionForms.{arrived_status, settled_messages}
 use Rattle.safety.proofs.OneRegistry.TransactionEnds.{single_same, own_code, newest_own}
-use Rattle.safety.proofs.MovesAndHistories.NewestTransitions.{Made, Offered, offered_later, made_registry, newest_id, newest_append, newest_in, one_notice, one_request}
+use Rattle.safety.proofs.MovesAndHistories.NewestTransitions.{Made, Offered, offered_later, made_registry, newest_id, newest_append, newest_in, one_notified, one_request}
 use Rattle.safety.proofs.OneRegistry.UnitsCountedOnce.{made_single}
 use Rattle.lemmas.proofs.Membership.{In, In_cases, In_flat_map}
 use Rattle.lemmas.proofs.OneValue.{clash}
 use Rattle.safety.proofs.MovesAndHistories.TableMoves.{RegistryMove, proposes, asks, arrives, bares, settles, finishes}
 use Rattle.safety.proofs.MovesAndHistories.TableRows.{acquirer_from}
-use Rattle.safety.proofs.OneRegistry.RegistryHearings.{settled_notice, arrived_notice_status}
+use Rattle.safety.proofs.OneRegistry.RegistryHearings.{settled_notified, arrived_notified_status}
 
 arrived_answers : (found : List ℕ) → (arrived_status found ≡ Accepted) ⊎ (arrived_status found ≡ Rejected)
 arrived_answers [] = inl refl
@@ -40,9 +40,9 @@ module _ (scheme : Scheme) (c : Code) where
 
   pub data Says (es : List Entry) : Message → Type 0 where
     offers : (p : Proposal) → p.from ≡ Registry c → p.to ≡ Itl → p.status ≡ proposal.Proposed → same_code p.id.code c ≡ true → Says es (message.Proposal p)
-    answers : (n : Notification) (k : Content) → n.from ≡ Registry c → n.to ≡ Itl → (notice_status n.notice ≡ Accepted) ⊎ (notice_status n.notice ≡ Rejected) → same_code n.id.code c ≡ false
+    answers : (n : Notification) (k : Content) → n.from ≡ Registry c → n.to ≡ Itl → (notified_status n.notified ≡ Accepted) ⊎ (notified_status n.notified ≡ Rejected) → same_code n.id.code c ≡ false
         → Offered es Itl n.id proposal.Checked k → k.acquirer ≡ c → Says es (message.Notification n)
-    completes : (n : Notification) → n.from ≡ Registry c → n.to ≡ Itl → notice_status n.notice ≡ Completed → same_code n.id.code c ≡ true → Says es (message.Notification n)
+    completes : (n : Notification) → n.from ≡ Registry c → n.to ≡ Itl → notified_status n.notified ≡ Completed → same_code n.id.code c ≡ true → Says es (message.Notification n)
     asks_log : (r : Request) → r.from ≡ Registry c → r.to ≡ Itl → same_code r.id.code c ≡ true → Says es (message.Request r)
 
   says_later : (e : Entry) (es : List Entry) (m : Message) → Says es m → Says (e ∷ es) m
@@ -57,7 +57,7 @@ module _ (scheme : Scheme) (c : Code) where
   says_move es e input x m i (arrives p moment found f s is none foreign mine) (inl h) =
       let got : Offered (e ∷ es) Itl p.id proposal.Checked p.content = record { proposal = p; got = inl (moment, i); sender = f; about = refl; status = s; content = refl } in
       subst (Says (e ∷ es)) h
-      (answers _ p.content refl refl (subst (λ z. (z ≡ Accepted) ⊎ (z ≡ Rejected)) (sym (arrived_notice_status found)) (arrived_answers found)) foreign got (code_of_same p.content.acquirer c mine))
+      (answers _ p.content refl refl (subst (λ z. (z ≡ Accepted) ⊎ (z ≡ Rejected)) (sym (arrived_notified_status found)) (arrived_answers found)) foreign got (code_of_same p.content.acquirer c mine))
   says_move es e input x m i (arrives p moment found f s is none foreign mine) (inr h) = absurd h
   says_move es e input x m i (asks t q old own stood) (inl h) = subst (Says (e ∷ es)) h (asks_log _ refl refl (subst (λ (z : TransactionId). same_code z.code c ≡ true) (sym (newest_id (transitions_of es) t q old).1) own))
   says_move es e input x m i (asks t q old own stood) (inr h) = absurd h
@@ -129,22 +129,22 @@ module _ (scheme : Scheme) (c : Code) where
 
   -- ---- a Rejected that was sent stands
 
-  rejected_move : (es : List Entry) (input : Input) (q : Transition) (n : Notification) → RegistryMove scheme c es input q → In (message.Notification n) q.messages → notice_status n.notice ≡ Rejected
+  rejected_move : (es : List Entry) (input : Input) (q : Transition) (n : Notification) → RegistryMove scheme c es input q → In (message.Notification n) q.messages → notified_status n.notified ≡ Rejected
       → (q.id ≡ n.id) × (q.new ≡ Rejected) × (same_code n.id.code c ≡ false)
   rejected_move es input q n (proposes o t none is fresh) (inl e) said = absurd (cc (e))
   rejected_move es input q n (proposes o t none is fresh) (inr h) said = absurd h
   rejected_move es input q n (arrives p moment found f s is none foreign mine) (inl e) said =
-      let m = one_notice _ n e in
+      let m = one_notified _ n e in
       let about = ap (λ (z : Notification). z.id) m in (
         about,
-        sym (arrived_notice_status found) ∙ ap (λ (z : Notification). notice_status z.notice) m ∙ said,
+        sym (arrived_notified_status found) ∙ ap (λ (z : Notification). notified_status z.notified) m ∙ said,
         subst (λ (z : TransactionId). same_code z.code c ≡ false) about foreign,
       )
   rejected_move es input q n (arrives p moment found f s is none foreign mine) (inr h) said = absurd h
   rejected_move es input q n (asks t p old own stood) (inl e) said = absurd (cc (e))
   rejected_move es input q n (asks t p old own stood) (inr h) said = absurd h
   rejected_move es input q n (bares m moment f cancelled none foreign) h said = absurd h
-  rejected_move es input q n (settles m moment p new f was mine move) h said = let x : Completed ≡ Rejected = sym (settled_notice c p.id new n h) ∙ said in absurd (cc (x))
+  rejected_move es input q n (settles m moment p new f was mine move) h said = let x : Completed ≡ Rejected = sym (settled_notified c p.id new n h) ∙ said in absurd (cc (x))
   rejected_move es input q n (finishes m moment p new f was foreign move none) h said = absurd h
 
   stays_rejected : (es : List Entry) (input : Input) (x q : Transition) → RegistryMove scheme c es input x → newest (transitions_of es) x.id ≡ Some q → q.new ≡ Rejected → same_code x.id.code c ≡ false → ⊥
@@ -157,10 +157,10 @@ module _ (scheme : Scheme) (c : Code) where
       clash (same_code n.id.code c) own (subst (λ (z : TransactionId). same_code z.code c ≡ false) (newest_id (transitions_of es) n.id p old).1 foreign)
   stays_rejected es input x q (finishes n moment p new f old foreign' move none) h was foreign =
       let same = newest_own scheme c es n.id p q old h in
-      let y : Accepted ≡ Rejected = sym (acquirer_from p.new (notice_status n.notice) new move).0 ∙ ap (λ (z : Transition). z.new) same ∙ was in
+      let y : Accepted ≡ Rejected = sym (acquirer_from p.new (notified_status n.notified) new move).0 ∙ ap (λ (z : Transition). z.new) same ∙ was in
       cc (y)
 
-  pub rejected_sent : (es : List Entry) → Made scheme (Registry c) es → (n : Notification) → In (message.Notification n) (sends es) → notice_status n.notice ≡ Rejected
+  pub rejected_sent : (es : List Entry) → Made scheme (Registry c) es → (n : Notification) → In (message.Notification n) (sends es) → notified_status n.notified ≡ Rejected
       → (x : Transition) × (newest (transitions_of es) n.id ≡ Some x) × (x.new ≡ Rejected) × (same_code n.id.code c ≡ false)
   rejected_sent [] made n h said = absurd h
   rejected_sent (e ∷ es) made n h said =

@@ -1,8 +1,9 @@
 -- A completed transition is the last of its transaction, and the content of a transfer never changes.
--- `each_move` is the induction that all parts use: what each single transition keeps, given the older ones, holds of the whole history.
--- No move starts from Completed, so a second completion of one transaction is impossible (`ends_last`, `completed_is_last`).
--- The last two parts say where a content comes from. An acquirer has it from the log's offer (`known`), and the log has it from the initiator's
--- proposal (`proposer`), unless a request cancelled the transaction before its proposal came.
+-- `each_move` is the induction that all parts use: what each single transition keeps, given the older ones, holds of
+-- the whole history. No move starts from Completed, so a second completion of one transaction is impossible
+-- (`ends_last`, `completed_is_last`). The last two parts say where a content comes from. An acquirer has it from the
+-- log's offer (`known`), and the log has it from the initiator's proposal (`proposer`), unless a request cancelled
+-- the transaction before its proposal came.
 use Rattle.std.specs.List.{count_by}
 use Rattle.std.proofs.Common.{◌≡◌, ℕ, ◌+◌, List, [], ◌∷◌, ◌++◌, Bool, true, false, not, Some, None, ◌⊎◌, inl, inr, refl, sym, ap, subst, ◌∙◌, arith}
 use Rattle.std.specs.Prelude.{◌&&◌}
@@ -17,13 +18,13 @@ use Rattle.status.specs.Content.{Content}
 use Rattle.status.specs.Id.{same_id, id_at}
 use Rattle.status.specs.Rows.{log_row}
 use Rattle.status.specs.Status.{same_status}
-use Rattle.status.specs.declared.words.Known.TheVariants.{Stands}
-use Rattle.status.specs.declared.words.Row.TheVariants.{Move}
-use Rattle.status.specs.declared.words.RowInput.TheVariants.{Notified}
+use Rattle.status.specs.declared.rows.RecordedStatus.TheVariants.{Stands}
+use Rattle.status.specs.declared.rows.Row.TheVariants.{Move}
+use Rattle.status.specs.declared.rows.RowInput.TheVariants.{Notified}
 use Rattle.status.specs.declared.id.TransactionId.{TransactionId}
-use Rattle.status.specs.declared.words.Status.{Status}
-use Rattle.status.specs.declared.words.Status.TheVariants.{Proposed, Checked, Accepted, Rejected, Terminated, Cancelled, Completed}
-use Rattle.wire.specs.Notices.{notice_status}
+use Rattle.status.specs.declared.status.Status.{Status}
+use Rattle.status.specs.declared.status.Status.TheVariants.{Proposed, Checked, Accepted, Rejected, Terminated, Cancelled, Completed}
+use Rattle.wire.specs.NotifiedStatuses.{notified_status}
 use Rattle.wire.specs.declared.input.Input.{Input}
 use Rattle.wire.specs.declared.message.Message.TheVariants as message
 use Rattle.wire.specs.declared.message.Notification.{Notification}
@@ -39,7 +40,7 @@ use Rattle.protocol.specs.AtLog.{is_no_registry, is_from_another}
 use Rattle.safety.proofs.MovesAndHistories.TransitionForms.{arrived_status, settled_messages, checked_status}
 use Rattle.lemmas.proofs.SomePass.{list_any_not}
 use Rattle.protocol.proofs.CountsInLists.{number_none, count_no, count_yes}
-use Rattle.safety.proofs.MovesAndHistories.NewestTransitions.{Made, Got, Heard, Offered, heard_later, offered_later, made_registry, made_log, newest_append, newest_id, newest_in, one_notice, one_proposal}
+use Rattle.safety.proofs.MovesAndHistories.NewestTransitions.{Made, Got, Heard, Offered, heard_later, offered_later, made_registry, made_log, newest_append, newest_id, newest_in, one_notified, one_proposal}
 use Rattle.safety.proofs.OneRegistry.UnitsCountedOnce.{made_single, Single}
 use Rattle.lemmas.proofs.Membership.{In, In_cases, In_flat_map, In_left, In_right}
 use Rattle.lemmas.proofs.OneValue.{one_some, clash}
@@ -47,7 +48,7 @@ use Rattle.safety.proofs.ListLemmas.TestsOfSameness.{status_of_same}
 use Rattle.safety.proofs.MovesAndHistories.TableMoves.{RegistryMove, proposes, asks, arrives, bares, settles, finishes, LogMove, checks, passes, cancels, forestalls}
 use Rattle.lemmas.proofs.Positions.{In_contains}
 use Rattle.safety.proofs.MovesAndHistories.TableRows.{initiator_from, acquirer_from, log_from}
-use Rattle.safety.proofs.OneRegistry.RegistryHearings.{arrived_notice_status}
+use Rattle.safety.proofs.OneRegistry.RegistryHearings.{arrived_notified_status}
 
 arrived_open : (found : List ℕ) → arrived_status found ≡ Completed → ⊥
 arrived_open [] h = cc (h)
@@ -55,7 +56,7 @@ arrived_open (n ∷ ns) h = cc (h)
 
 -- what an initiator sends where its transfer comes to stand so is that it completed
 settled_completed : (c : Code) (u : TransactionId) (new : Status) (n : Notification) → In (message.Notification n) (settled_messages c u new) → (u ≡ n.id) × (new ≡ Completed)
-settled_completed c u Completed n (inl e) = let s = one_notice _ n e in (ap (λ (z : Notification). z.id) s, refl)
+settled_completed c u Completed n (inl e) = let s = one_notified _ n e in (ap (λ (z : Notification). z.id) s, refl)
 settled_completed c u Completed n (inr h) = absurd h
 settled_completed c u Proposed n h = absurd h
 settled_completed c u Checked n h = absurd h
@@ -137,11 +138,11 @@ module _ (scheme : Scheme) (c : Code) where
   alive es input x y made (bares n moment f cancelled none foreign) h done = let e = sym none ∙ h in cc (e)
   alive es input x y made (settles n moment q new f was mine move) h done =
       let same = newest_own es n.id q y was h in
-      let a : Proposed ≡ Completed = sym (initiator_from q.new (notice_status n.notice) new move).0 ∙ ap (λ (z : Transition). z.new) same ∙ done in
+      let a : Proposed ≡ Completed = sym (initiator_from q.new (notified_status n.notified) new move).0 ∙ ap (λ (z : Transition). z.new) same ∙ done in
       cc (a)
   alive es input x y made (finishes n moment q new f was foreign move none) h done =
       let same = newest_own es n.id q y was h in
-      let a : Accepted ≡ Completed = sym (acquirer_from q.new (notice_status n.notice) new move).0 ∙ ap (λ (z : Transition). z.new) same ∙ done in
+      let a : Accepted ≡ Completed = sym (acquirer_from q.new (notified_status n.notified) new move).0 ∙ ap (λ (z : Transition). z.new) same ∙ done in
       cc (a)
 
   pub ends_last : (es : List Entry) → Made scheme (Registry c) es → EndsLast (transitions_of es)
@@ -274,13 +275,13 @@ module _ (scheme : Scheme) (c : Code) where
 
   -- ---- what was said to be completed
 
-  completed_move : (es : List Entry) (input : Input) (x : Transition) (n : Notification) → RegistryMove scheme c es input x → In (message.Notification n) x.messages → notice_status n.notice ≡ Completed
+  completed_move : (es : List Entry) (input : Input) (x : Transition) (n : Notification) → RegistryMove scheme c es input x → In (message.Notification n) x.messages → notified_status n.notified ≡ Completed
       → (x.id ≡ n.id) × (x.new ≡ Completed) × (same_code n.id.code c ≡ true)
   completed_move es input x n (proposes o t none is fresh) (inl e) said = absurd (cc (e))
   completed_move es input x n (proposes o t none is fresh) (inr h) said = absurd h
   completed_move es input x n (arrives p moment found f s is none foreign mine) (inl e) said =
-      let m = one_notice _ n e in
-      absurd (arrived_open found (sym (arrived_notice_status found) ∙ ap (λ (z : Notification). notice_status z.notice) m ∙ said))
+      let m = one_notified _ n e in
+      absurd (arrived_open found (sym (arrived_notified_status found) ∙ ap (λ (z : Notification). notified_status z.notified) m ∙ said))
   completed_move es input x n (arrives p moment found f s is none foreign mine) (inr h) said = absurd h
   completed_move es input x n (asks t q was own stood) (inl e) said = absurd (cc (e))
   completed_move es input x n (asks t q was own stood) (inr h) said = absurd h
@@ -291,7 +292,7 @@ module _ (scheme : Scheme) (c : Code) where
   completed_move es input x n (finishes m moment q new f was foreign move none) h said = absurd h
 
   -- a Completed that was sent was recorded
-  pub completed_sent : (es : List Entry) → Made scheme (Registry c) es → (n : Notification) → In (message.Notification n) (sends es) → notice_status n.notice ≡ Completed
+  pub completed_sent : (es : List Entry) → Made scheme (Registry c) es → (n : Notification) → In (message.Notification n) (sends es) → notified_status n.notified ≡ Completed
       → (x : Transition) × In x (transitions_of es) × (x.id ≡ n.id) × (x.new ≡ Completed) × (same_code n.id.code c ≡ true)
   completed_sent [] made n h said = absurd h
   completed_sent (e ∷ es) made n h said =
@@ -311,16 +312,16 @@ pub record Taken (c : Code) (es : List Entry) (t : TransactionId) (x : Transitio
   pub got : Offered es Itl t proposal.Checked content
   pub here : content.acquirer ≡ c
 
-abbrev pub Known : Code → List Entry → TransactionId → Transition → Type 0
-Known c es t x = ((x.new ≡ Cancelled) × (x.content ≡ None)) ⊎ Taken c es t x
+abbrev pub RecordedStatus : Code → List Entry → TransactionId → Transition → Type 0
+RecordedStatus c es t x = ((x.new ≡ Cancelled) × (x.content ≡ None)) ⊎ Taken c es t x
 
-known_later : (c : Code) (e : Entry) (es : List Entry) (t : TransactionId) (x : Transition) → Known c es t x → Known c (e ∷ es) t x
+known_later : (c : Code) (e : Entry) (es : List Entry) (t : TransactionId) (x : Transition) → RecordedStatus c es t x → RecordedStatus c (e ∷ es) t x
 known_later c e es t x (inl h) = inl h
 known_later c e es t x (inr h) = inr (record { content = h.content; is = h.is; got = offered_later e es Itl t proposal.Checked h.content h.got; here = h.here })
 
 module _ (scheme : Scheme) (c : Code) where
   known_move : (es : List Entry) (e : Entry) (t : TransactionId) (input : Input) (x : Transition) → e.input ≡ input → RegistryMove scheme c es input x → x.id ≡ t → same_code t.code c ≡ false
-      → ((q : Transition) → newest (transitions_of es) t ≡ Some q → Known c es t q) → Known c (e ∷ es) t x
+      → ((q : Transition) → newest (transitions_of es) t ≡ Some q → RecordedStatus c es t q) → RecordedStatus c (e ∷ es) t x
   known_move es e t input x i (proposes o u none is fresh) same foreign old =
       let own : same_code u.code c ≡ true = own_code scheme c (proposals es + 1) u is in
       clash (same_code t.code c) (subst (λ (z : TransactionId). same_code z.code c ≡ true) same own) foreign
@@ -341,11 +342,11 @@ module _ (scheme : Scheme) (c : Code) where
   known_move es e t input x i (finishes n moment q new f was foreign' move none) same foreign old =
       let about : n.id ≡ t = sym (newest_id (transitions_of es) n.id q was).1 ∙ same in
       elim (old q (subst (λ z. newest (transitions_of es) z ≡ Some q) about was)) [
-        | inl h ↦ let y : Accepted ≡ Cancelled = sym (acquirer_from q.new (notice_status n.notice) new move).0 ∙ h.0 in absurd (cc (y))
+        | inl h ↦ let y : Accepted ≡ Cancelled = sym (acquirer_from q.new (notified_status n.notified) new move).0 ∙ h.0 in absurd (cc (y))
         | inr h ↦ inr (record { content = h.content; is = h.is; got = offered_later e es Itl t proposal.Checked h.content h.got; here = h.here })
       ]
 
-  pub known : (es : List Entry) → Made scheme (Registry c) es → (t : TransactionId) (x : Transition) → newest (transitions_of es) t ≡ Some x → same_code t.code c ≡ false → Known c es t x
+  pub known : (es : List Entry) → Made scheme (Registry c) es → (t : TransactionId) (x : Transition) → newest (transitions_of es) t ≡ Some x → same_code t.code c ≡ false → RecordedStatus c es t x
   known [] made t x h foreign = absurd (cc (h))
   known (e ∷ es) made t x h foreign =
       elim (newest_append e.transitions (transitions_of es) t) [
@@ -405,13 +406,13 @@ module _ (scheme : Scheme) where
   proposer_move es e t input x i (passes n moment q held new was kept member right move) same old =
       let about : n.id ≡ t = sym (newest_id (transitions_of es) n.id q was).1 ∙ same in
       elim (old q (subst (λ z. newest (transitions_of es) z ≡ Some q) about was)) [
-        | inl b ↦ went_on q.new (notice_status n.notice) new move b.new
+        | inl b ↦ went_on q.new (notified_status n.notified) new move b.new
         | inr p ↦ inr (record {
           content = p.content;
           is = p.is;
           got = offered_later e es (Registry t.code) t proposal.Proposed p.content p.got;
           initiator_known = p.initiator_known;
-          ended = λ h. elim (log_from q.new (notice_status n.notice) new move) [
+          ended = λ h. elim (log_from q.new (notified_status n.notified) new move) [
             | inl m ↦
                 elim m.2 [
                   | inl a ↦ let y : Accepted ≡ Completed = sym a ∙ sym m.1 ∙ h in absurd (cc (y))

@@ -1,8 +1,9 @@
 -- One registry by itself, whatever messages it is given: a unit is counted there once or not at all.
--- The proof is an induction over the registry's transitions with the invariant `Local`: a unit is given away at most as often as it was there or
--- came, it came at most once more than it went, and at most one transfer of it waits, which then has it there.
--- The cases are the moves of `RegistryMove`, grouped by what they do to one unit: nothing, propose it, give it away, or take it in. The checks of a
--- proposal refuse a second transfer of the unit, and an acquirer does not complete a transfer of a unit that it holds.
+-- The proof is an induction over the registry's transitions with the invariant `Local`: a unit is given away at most
+-- as often as it was there or came, it came at most once more than it went, and at most one transfer of it waits,
+-- which then has it there. The cases are the moves of `RegistryMove`, grouped by what they do to one unit: nothing,
+-- propose it, give it away, or take it in. The checks of a proposal refuse a second transfer of the unit, and an
+-- acquirer does not complete a transfer of a unit that it holds.
 use Rattle.std.specs.List.{count_by}
 use Rattle.std.proofs.Common.{◌≡◌, ℕ, ◌+◌, ◌≤◌, List, [], ◌∷◌, ◌++◌, Bool, true, false, not, cond, Option, Some, None, ◌⊎◌, inl, inr, refl, sym, ap, subst, ◌∙◌, arith}
 use Rattle.std.specs.Prelude.{◌&&◌, nat_le, length, option_map}
@@ -18,15 +19,15 @@ use Rattle.status.specs.Id.{same_id, id_at}
 use Rattle.status.specs.Rows.{initiator_row, acquirer_row}
 use Rattle.status.specs.Status.{same_status}
 use Rattle.status.specs.declared.id.TransactionId.{TransactionId}
-use Rattle.status.specs.declared.words.Known.TheVariants.{Stands}
-use Rattle.status.specs.declared.words.Row.{Row}
-use Rattle.status.specs.declared.words.Row.TheVariants.{Move, Repeat, Late, Refused}
-use Rattle.status.specs.declared.words.RowInput.{RowInput}
-use Rattle.status.specs.declared.words.RowInput.TheVariants as column
-use Rattle.status.specs.declared.words.RowInput.TheVariants.{Notified}
-use Rattle.status.specs.declared.words.Status.{Status}
-use Rattle.status.specs.declared.words.Status.TheVariants.{Proposed, Cancelled, Completed}
-use Rattle.wire.specs.Notices.{notice_status}
+use Rattle.status.specs.declared.rows.RecordedStatus.TheVariants.{Stands}
+use Rattle.status.specs.declared.rows.Row.{Row}
+use Rattle.status.specs.declared.rows.Row.TheVariants.{Move, Repeat, Late, Refused}
+use Rattle.status.specs.declared.rows.RowInput.{RowInput}
+use Rattle.status.specs.declared.rows.RowInput.TheVariants as column
+use Rattle.status.specs.declared.rows.RowInput.TheVariants.{Notified}
+use Rattle.status.specs.declared.status.Status.{Status}
+use Rattle.status.specs.declared.status.Status.TheVariants.{Proposed, Cancelled, Completed}
+use Rattle.wire.specs.NotifiedStatuses.{notified_status}
 use Rattle.wire.specs.declared.input.Input.{Input}
 use Rattle.wire.specs.declared.input.Input.TheVariants.{Propose, Request, OpenAccount, CloseAccount, Ack, CleanUp, Eligible, Received}
 use Rattle.wire.specs.declared.message.Message.{Message}
@@ -36,10 +37,10 @@ use Rattle.protocol.specs.Pieces.{Piece, pieces}
 use Rattle.protocol.specs.Registries.{allotted}
 use Rattle.protocol.specs.History.{Transition, Entry, transitions_of, newest, stands_at, is_status, has_serial, carries, gives, credits, is_with, at_start, holds, reserved, place, is_acknowledged, proposals}
 use Rattle.protocol.specs.Checks.{Causes, propose_refusals}
-use Rattle.protocol.specs.Deciding.{Verdict, Enters, IsRepeat, IsRefused, refuse, enters, known, content_in, by_row, ack_refusals}
-use Rattle.protocol.specs.AtRegistry.{holding, is_place, content_of, offer, in_role, unless_held, holds_some, request_refusals, request_column, registry_refusals, registry_answer, open_refusals, close_refusals, registry_verdict}
+use Rattle.protocol.specs.Deciding.{Verdict, IsRecorded, IsRepeat, IsRefused, refuse, recorded_if_room, known, content_in, by_row, ack_refusals}
+use Rattle.protocol.specs.AtRegistry.{holding, is_place, content_of, new_transfer_verdict, in_role, unless_held, holds_some, request_refusals, request_column, registry_refusals, registry_answer, open_refusals, close_refusals, registry_verdict}
 use Rattle.protocol.specs.Claims.{CountedOnce}
-use Rattle.protocol.specs.Verdict.{verdict, made as made_of}
+use Rattle.protocol.specs.Verdict.{verdict, transitions_made as made_of}
 use Rattle.safety.proofs.MovesAndHistories.TransitionForms.{proposed, asking, arrived, arrived_status, settled_messages, bare, moved}
 use Rattle.protocol.proofs.CanonicalBlocks.{canonical_piece}
 use Rattle.lemmas.proofs.SomePass.{list_any_none, list_any_in}
@@ -77,11 +78,11 @@ pub single_cond : (b : Bool) (u v : Verdict) → Single (made_of u) → Single (
 single_cond true u v h i = h
 single_cond false u v h i = i
 
-pub none_enter : (scheme : Scheme) (es : List Entry) → Single (made_of (enters scheme es []))
-none_enter scheme es = single_cond (nat_le scheme.records (length es)) (IsRefused journal_full) (Enters []) (inl refl) (inl refl)
+pub none_enter : (scheme : Scheme) (es : List Entry) → Single (made_of (recorded_if_room scheme es []))
+none_enter scheme es = single_cond (nat_le scheme.records (length es)) (IsRefused journal_full) (IsRecorded []) (inl refl) (inl refl)
 
-pub one_enters : (scheme : Scheme) (es : List Entry) (x : Transition) → Single (made_of (enters scheme es (x ∷ [])))
-one_enters scheme es x = single_cond (nat_le scheme.records (length es)) (IsRefused journal_full) (Enters (x ∷ [])) (inl refl) (inr (x, refl))
+pub one_enters : (scheme : Scheme) (es : List Entry) (x : Transition) → Single (made_of (recorded_if_room scheme es (x ∷ [])))
+one_enters scheme es x = single_cond (nat_le scheme.records (length es)) (IsRefused journal_full) (IsRecorded (x ∷ [])) (inl refl) (inr (x, refl))
 
 module _ (scheme : Scheme) (c : Code) (es : List Entry) where
   single_row : (to : Status → Transition) (row : Row) → Single (made_of (by_row scheme es to row))
@@ -90,7 +91,7 @@ module _ (scheme : Scheme) (c : Code) (es : List Entry) where
   single_row to Late = inl refl
   single_row to Refused = inl refl
 
-  single_offer : (k : Content) (t : Option TransactionId) → Single (made_of (offer scheme c es k t))
+  single_offer : (k : Content) (t : Option TransactionId) → Single (made_of (new_transfer_verdict scheme c es k t))
   single_offer k None = inl refl
   single_offer k (Some t) = single_row _ (initiator_row (known (newest (transitions_of es) t)) column.Propose)
 
@@ -101,28 +102,28 @@ module _ (scheme : Scheme) (c : Code) (es : List Entry) where
 
   single_answer : (m : Message) (moment : ℕ) → Single (made_of (registry_answer scheme c es moment m))
   single_answer (message.Proposal p) moment = single_row _ (acquirer_row (known (newest (transitions_of es) p.id)) _)
-  single_answer (message.Notification n) moment = single_in_role n.id (newest (transitions_of es) n.id) moment (column.Notified (notice_status n.notice))
+  single_answer (message.Notification n) moment = single_in_role n.id (newest (transitions_of es) n.id) moment (column.Notified (notified_status n.notified))
   single_answer (message.Request r) moment = single_in_role r.id (newest (transitions_of es) r.id) moment column.Request
 
   single_transitions : (input : Input) → Single (made_of (registry_verdict scheme c es input))
   single_transitions (Propose o) =
-      single_refuse (propose_refusals scheme c (holding scheme c es) o) (offer scheme c es (content_of o) (id_at c (proposals es + 1)))
+      single_refuse (propose_refusals scheme c (holding scheme c es) o) (new_transfer_verdict scheme c es (content_of o) (id_at c (proposals es + 1)))
       (single_offer (content_of o) (id_at c (proposals es + 1)))
   single_transitions (Request t) =
       single_refuse (request_refusals c es t) (in_role scheme c es t (newest (transitions_of es) t) 0 (request_column es t))
       (single_in_role t (newest (transitions_of es) t) 0 (request_column es t))
-  single_transitions (OpenAccount n) = single_refuse (open_refusals scheme c es n.value) (enters scheme es []) (none_enter scheme es)
-  single_transitions (CloseAccount n) = single_refuse (close_refusals scheme c es n.value) (enters scheme es []) (none_enter scheme es)
+  single_transitions (OpenAccount n) = single_refuse (open_refusals scheme c es n.value) (recorded_if_room scheme es []) (none_enter scheme es)
+  single_transitions (CloseAccount n) = single_refuse (close_refusals scheme c es n.value) (recorded_if_room scheme es []) (none_enter scheme es)
   single_transitions (Ack n) =
-      single_refuse (ack_refusals es n.value) (cond (is_acknowledged es n.value) IsRepeat (enters scheme es []))
-      (single_cond (is_acknowledged es n.value) IsRepeat (enters scheme es []) (inl refl) (none_enter scheme es))
+      single_refuse (ack_refusals es n.value) (cond (is_acknowledged es n.value) IsRepeat (recorded_if_room scheme es []))
+      (single_cond (is_acknowledged es n.value) IsRepeat (recorded_if_room scheme es []) (inl refl) (none_enter scheme es))
   single_transitions (CleanUp t) = inl refl
   single_transitions (Eligible d may) = inl refl
   single_transitions (Received m moment) = single_refuse (registry_refusals c es m) (registry_answer scheme c es moment.seconds m) (single_answer m moment.seconds)
 
 pub made_single : (scheme : Scheme) (c : Code) (e : Entry) (es : List Entry) → Made scheme (Registry c) (e ∷ es) → Single e.transitions
 unfolding verdict
-made_single scheme c e es made = subst Single (sym made.0) (single_transitions scheme c es e.input)
+made_single scheme c e es transitions_made = subst Single (sym transitions_made.0) (single_transitions scheme c es e.input)
 
 -- ---- no notification brings a transfer back to Proposed
 
@@ -348,24 +349,24 @@ module _ (scheme : Scheme) (c : Code) (s : Serial) where
   local_move es input x (asks t q old own stood) l =
       again (asking c q) q (transitions_of es) refl refl (subst (λ z. newest (transitions_of es) z ≡ Some q) (sym (newest_id (transitions_of es) t q old).1) old) stood refl l
   local_move es input x (bares n moment f cancelled none foreign) l = quiet (bare n.id moment.seconds) (transitions_of es) refl refl (λ e. cc (e)) l
-  local_move es input x (settles n moment q new f old own move) l = settled_move es n.id (notice_status n.notice) moment.seconds q new (settled_messages c q.id new) old own move l
-  local_move es input x (finishes n moment q new f old foreign move none) l = finished_move es n.id (notice_status n.notice) moment.seconds q new old foreign move none l
+  local_move es input x (settles n moment q new f old own move) l = settled_move es n.id (notified_status n.notified) moment.seconds q new (settled_messages c q.id new) old own move l
+  local_move es input x (finishes n moment q new f old foreign move none) l = finished_move es n.id (notified_status n.notified) moment.seconds q new old foreign move none l
 
   pub local_history : (es : List Entry) → Made scheme (Registry c) es → Local scheme c s (transitions_of es)
-  local_history [] made =
+  local_history [] transitions_made =
       record {
         low = omega arith;
         high = start_once (is_with c (allotted scheme s));
         kept = λ t w. absurd (let e = w.is in cc (e));
         one = λ t u w v. absurd (let e = w.is in cc (e));
       }
-  local_history (e ∷ es) made =
-      elim (made_single scheme c e es made) [
-        | inl z ↦ subst (λ xs. Local scheme c s (xs ++ transitions_of es)) (sym z) (local_history es made.1)
+  local_history (e ∷ es) transitions_made =
+      elim (made_single scheme c e es transitions_made) [
+        | inl z ↦ subst (λ xs. Local scheme c s (xs ++ transitions_of es)) (sym z) (local_history es transitions_made.1)
         | inr z ↦
             subst (λ xs. Local scheme c s (xs ++ transitions_of es)) (sym z.1)
-            (local_move es e.input z.0 (made_registry scheme c e es z.0 made (subst (λ xs. In z.0 xs) (sym z.1) (inl refl))) (local_history es made.1))
+            (local_move es e.input z.0 (made_registry scheme c e es z.0 transitions_made (subst (λ xs. In z.0 xs) (sym z.1) (inl refl))) (local_history es transitions_made.1))
       ]
 
 pub counted_once : (scheme : Scheme) (c : Code) (es : List Entry) → Made scheme (Registry c) es → CountedOnce scheme c (transitions_of es)
-counted_once scheme c es made = λ s. let l = local_history scheme c s es made in (l.low, l.high)
+counted_once scheme c es transitions_made = λ s. let l = local_history scheme c s es transitions_made in (l.low, l.high)

@@ -1,6 +1,7 @@
 -- The transfers that are due and have a unit are as many as the completed transfers that owe it.
--- At one registry both are lists of transactions without repeats and with the same members: a proposal is of a transaction whose newest transition has
--- its content, and a transition to Completed is the newest of its transaction, which was proposed. The rest is sums over registries.
+-- At one registry both are lists of transactions without repeats and with the same members: a proposal is of a
+-- transaction whose newest transition has its content, and a transition to Completed is the newest of its
+-- transaction, which was proposed. The rest is sums over registries.
 use Rattle.std.specs.List.{count_by, sum_by}
 use Rattle.std.proofs.Common.{◌≡◌, ℕ, ◌+◌, List, [], ◌∷◌, Bool, true, false, not, cond, Some, option_map, inl, inr, refl, sym, ap, subst, ◌∙◌, arith, flat_map}
 use Rattle.std.specs.Prelude.{◌&&◌, filter}
@@ -15,9 +16,9 @@ use Rattle.units.specs.declared.code.Code.{Code}
 use Rattle.units.specs.declared.code.Node.{Node}
 use Rattle.units.specs.declared.code.Node.TheVariants.{Registry}
 use Rattle.status.specs.declared.id.TransactionId.{TransactionId}
-use Rattle.status.specs.declared.words.Status.TheVariants.{Completed}
+use Rattle.status.specs.declared.status.Status.TheVariants.{Completed}
 use Rattle.wire.specs.declared.message.Proposal.{Proposal}
-use Rattle.scheme.specs.declared.members.Member.{Member}
+use Rattle.scheme.specs.declared.members.SchemeRegistry.{SchemeRegistry}
 use Rattle.scheme.specs.declared.registries.Scheme.{Scheme}
 use Rattle.protocol.specs.Claims.{at_registry, is_received, live_of, owes, owed}
 use Rattle.protocol.specs.History.{Transition, Entry, newest, stands_at, is_status, has_serial, gives, sends}
@@ -58,7 +59,7 @@ count_filter {X} p q (x ∷ xs) = go (q x) (count_filter p q xs) (sum_by-cons (�
     go true e s = let u = sum_by-cons (λ (z : X). cond {A = ℕ} (p z) 1 0) x (filter q xs) in omega arith
     go false e s = omega arith
 
-count_flat : (p : Proposal → Bool) (g : Member → List Proposal) (ms : List Member) → count_by p (flat_map g ms) ≡ sum_by (λ m. count_by p (g m)) ms
+count_flat : (p : Proposal → Bool) (g : SchemeRegistry → List Proposal) (ms : List SchemeRegistry) → count_by p (flat_map g ms) ≡ sum_by (λ m. count_by p (g m)) ms
 count_flat p g [] = refl
 count_flat p g (m ∷ ms) =
     let a = number_append p (g m) (flat_map g ms) in
@@ -131,7 +132,7 @@ module _ (scheme : Scheme) (f : Node → List Entry) (s : Serial) where
   pub debts : ((c : Code) → Made scheme (Registry c) (f (Registry c)))
       → count_by (λ p. have_unit p.content.units s) (filter (is_due f) (flat_map (λ m. proposed (f (Registry m.code))) scheme.members)) ≡ owed scheme f s
   debts made =
-      let all = flat_map (λ (m : Member). proposed (f (Registry m.code))) scheme.members in
+      let all = flat_map (λ (m : SchemeRegistry). proposed (f (Registry m.code))) scheme.members in
       count_filter (λ p. have_unit p.content.units s) (is_due f) all ∙ count_flat is_due_with (λ m. proposed (f (Registry m.code))) scheme.members
       ∙ over_same (λ m. count_by is_due_with (proposed (f (Registry m.code)))) (λ m. count_by (owes f m.code s) (at_registry f m.code)) (λ m. due_as_owed m.code (made m.code)) scheme.members
 
@@ -140,5 +141,5 @@ pub reached_debts : (scheme : Scheme) (events : List WorldEvent) (s : Serial) �
 reached_debts scheme events s =
     let w = reached scheme events in
     let f = live_of w in
-    ap (λ (z : Scheme). count_by (λ (p : Proposal). have_unit p.content.units s) (filter (is_due f) (flat_map (λ (m : Member). proposed (f (Registry m.code))) z.members))) (reached_scheme scheme events)
+    ap (λ (z : Scheme). count_by (λ (p : Proposal). have_unit p.content.units s) (filter (is_due f) (flat_map (λ (m : SchemeRegistry). proposed (f (Registry m.code))) z.members))) (reached_scheme scheme events)
     ∙ debts scheme f s (λ c. (reached_live scheme events).made (Registry c))

@@ -14,7 +14,7 @@ use Rattle.units.specs.declared.code.Node.{Node}
 use Rattle.units.specs.declared.code.Node.TheVariants.{Itl, Registry}
 use Rattle.status.specs.Status.{same_status}
 use Rattle.status.specs.declared.id.TransactionId.{TransactionId}
-use Rattle.status.specs.declared.words.Status.TheVariants.{Cancelled, Completed}
+use Rattle.status.specs.declared.status.Status.TheVariants.{Cancelled, Completed}
 use Rattle.scheme.specs.declared.registries.Scheme.{Scheme}
 use Rattle.protocol.specs.Checks.{is_owner}
 use Rattle.protocol.specs.Claims.{HolderOwns}

@@ -22,7 +22,7 @@ use Rattle.status.specs.declared.id.TransactionId.{TransactionId}
 use Rattle.scheme.specs.Allotted as start
 use Rattle.scheme.specs.declared.members.Allotment.{Allotment}
 use Rattle.scheme.specs.declared.members.Holder.{Holder}
-use Rattle.scheme.specs.declared.members.Member.{Member}
+use Rattle.scheme.specs.declared.members.SchemeRegistry.{SchemeRegistry}
 use Rattle.scheme.specs.declared.registries.Scheme.{Scheme}
 use Rattle.protocol.specs.History.{at_start, holds, is_with}
 use Rattle.protocol.specs.Registries.{allotted, has_member}
@@ -33,23 +33,23 @@ use Rattle.safety.proofs.ListLemmas.TestsOfSameness.{other_code}
 
 -- ---- sums
 
-pub over_parts : (g h k : Member → ℕ) → ((m : Member) → g m ≡ h m + k m) → (ms : List Member) → sum_by g ms ≡ sum_by h ms + sum_by k ms
+pub over_parts : (g h k : SchemeRegistry → ℕ) → ((m : SchemeRegistry) → g m ≡ h m + k m) → (ms : List SchemeRegistry) → sum_by g ms ≡ sum_by h ms + sum_by k ms
 over_parts g h k e [] = refl
 over_parts g h k e (m ∷ ms) =
     let a = e m in let b = over_parts g h k e ms in let x = sum_by-cons g m ms in let y = sum_by-cons h m ms in let z = sum_by-cons k m ms in omega arith
 
-pub over_same : (g h : Member → ℕ) → ((m : Member) → g m ≡ h m) → (ms : List Member) → sum_by g ms ≡ sum_by h ms
+pub over_same : (g h : SchemeRegistry → ℕ) → ((m : SchemeRegistry) → g m ≡ h m) → (ms : List SchemeRegistry) → sum_by g ms ≡ sum_by h ms
 over_same g h e [] = refl
 over_same g h e (m ∷ ms) = let a = e m in let b = over_same g h e ms in let x = sum_by-cons g m ms in let y = sum_by-cons h m ms in omega arith
 
 -- where at each registry what is had and what is gone make up what was there and what came, so do the sums
-pub over_balance : (p : Member → Bool) (gone there came : Member → ℕ) → ((m : Member) → cond (p m) 1 0 + gone m ≡ there m + came m) → (ms : List Member)
+pub over_balance : (p : SchemeRegistry → Bool) (gone there came : SchemeRegistry → ℕ) → ((m : SchemeRegistry) → cond (p m) 1 0 + gone m ≡ there m + came m) → (ms : List SchemeRegistry)
     → count_by p ms + sum_by gone ms ≡ sum_by there ms + sum_by came ms
 over_balance p gone there came e [] = refl
 over_balance p gone there came e (m ∷ ms) =
     let a = e m in
     let b = over_balance p gone there came e ms in
-    let x = sum_by-cons (λ (z : Member). cond {A = ℕ} (p z) 1 0) m ms in
+    let x = sum_by-cons (λ (z : SchemeRegistry). cond {A = ℕ} (p z) 1 0) m ms in
     let y = sum_by-cons gone m ms in
     let z = sum_by-cons there m ms in
     let u = sum_by-cons came m ms in
@@ -67,93 +67,93 @@ pub one_or_none : (b : Bool) → cond b 1 0 ≤ 1
 one_or_none true = omega arith
 one_or_none false = omega arith
 
-pub over_least : (g : Member → ℕ) (ms : List Member) (m : Member) (k : ℕ) → In m ms → k ≤ g m → k ≤ sum_by g ms
+pub over_least : (g : SchemeRegistry → ℕ) (ms : List SchemeRegistry) (m : SchemeRegistry) (k : ℕ) → In m ms → k ≤ g m → k ≤ sum_by g ms
 over_least g [] m k i h = absurd i
 over_least g (n ∷ ms) m k (inl e) h = let a = subst (λ z. k ≤ g z) (sym e) h in let x = sum_by-cons g n ms in omega arith
 over_least g (n ∷ ms) m k (inr i) h = let a = over_least g ms m k i h in let x = sum_by-cons g n ms in omega arith
 
-pub over_some : (g : Member → ℕ) (ms : List Member) → 1 ≤ sum_by g ms → (m : Member) × In m ms × (1 ≤ g m)
+pub over_some : (g : SchemeRegistry → ℕ) (ms : List SchemeRegistry) → 1 ≤ sum_by g ms → (m : SchemeRegistry) × In m ms × (1 ≤ g m)
 over_some g [] h = absurd (omega arith)
 over_some g (m ∷ ms) h = go (g m) refl (λ k. over_some g ms k)
   where
-    go : (k : ℕ) → g m ≡ k → (1 ≤ sum_by g ms → (n : Member) × In n ms × (1 ≤ g n)) → (n : Member) × In n (m ∷ ms) × (1 ≤ g n)
+    go : (k : ℕ) → g m ≡ k → (1 ≤ sum_by g ms → (n : SchemeRegistry) × In n ms × (1 ≤ g n)) → (n : SchemeRegistry) × In n (m ∷ ms) × (1 ≤ g n)
     go zero e rest = let x = sum_by-cons g m ms in let r = rest (omega arith) in (r.0, inr r.1, r.2)
     go (suc k) e rest = (m, inl refl, omega arith)
 
 -- two registries of other codes count twice
-pub over_two : (g : Member → ℕ) (ms : List Member) (m n : Member) → In m ms → In n ms → (m.code ≡ n.code → ⊥) → 1 ≤ g m → 1 ≤ g n → 2 ≤ sum_by g ms
+pub over_two : (g : SchemeRegistry → ℕ) (ms : List SchemeRegistry) (m n : SchemeRegistry) → In m ms → In n ms → (m.code ≡ n.code → ⊥) → 1 ≤ g m → 1 ≤ g n → 2 ≤ sum_by g ms
 over_two g [] m n i j other a b = absurd i
-over_two g (k ∷ ks) m n (inl e) (inl d) other a b = absurd (other (ap (λ (z : Member). z.code) (sym e ∙ d)))
+over_two g (k ∷ ks) m n (inl e) (inl d) other a b = absurd (other (ap (λ (z : SchemeRegistry). z.code) (sym e ∙ d)))
 over_two g (k ∷ ks) m n (inl e) (inr j) other a b = let x = subst (λ z. 1 ≤ g z) (sym e) a in let y = over_least g ks n 1 j b in let u = sum_by-cons g k ks in omega arith
 over_two g (k ∷ ks) m n (inr i) (inl d) other a b = let x = subst (λ z. 1 ≤ g z) (sym d) b in let y = over_least g ks m 1 i a in let u = sum_by-cons g k ks in omega arith
 over_two g (k ∷ ks) m n (inr i) (inr j) other a b = let x = over_two g ks m n i j other a b in let u = sum_by-cons g k ks in omega arith
 
 -- ---- the registries of a scheme
 
-pub some_member : (scheme : Scheme) (c : Code) → has_member scheme c ≡ true → (m : Member) × In m scheme.members × (m.code ≡ c)
-some_member scheme c h = go (find (λ (m : Member). same_code m.code c) scheme.members) refl h
+pub some_member : (scheme : Scheme) (c : Code) → has_member scheme c ≡ true → (m : SchemeRegistry) × In m scheme.members × (m.code ≡ c)
+some_member scheme c h = go (find (λ (m : SchemeRegistry). same_code m.code c) scheme.members) refl h
   where
-    go : (o : Option Member) → find (λ (m : Member). same_code m.code c) scheme.members ≡ o → is_some o ≡ true → (m : Member) × In m scheme.members × (m.code ≡ c)
+    go : (o : Option SchemeRegistry) → find (λ (m : SchemeRegistry). same_code m.code c) scheme.members ≡ o → is_some o ≡ true → (m : SchemeRegistry) × In m scheme.members × (m.code ≡ c)
     go None e y = absurd (cc (y))
-    go (Some m) e y = let g = In_find (λ (n : Member). same_code n.code c) scheme.members m e in (m, g.0, code_of_same m.code c g.1)
+    go (Some m) e y = let g = In_find (λ (n : SchemeRegistry). same_code n.code c) scheme.members m e in (m, g.0, code_of_same m.code c g.1)
 
-pub is_member : (scheme : Scheme) (m : Member) → In m scheme.members → has_member scheme m.code ≡ true
+pub is_member : (scheme : Scheme) (m : SchemeRegistry) → In m scheme.members → has_member scheme m.code ≡ true
 is_member scheme m i = go scheme.members i
   where
-    found : (b : Bool) (n : Member) (o : Option Member) → is_some o ≡ true → is_some (cond b (Some n) o) ≡ true
+    found : (b : Bool) (n : SchemeRegistry) (o : Option SchemeRegistry) → is_some o ≡ true → is_some (cond b (Some n) o) ≡ true
     found true n o e = refl
     found false n o e = e
 
-    first : (b : Bool) (n : Member) (o : Option Member) → b ≡ true → is_some (cond b (Some n) o) ≡ true
+    first : (b : Bool) (n : SchemeRegistry) (o : Option SchemeRegistry) → b ≡ true → is_some (cond b (Some n) o) ≡ true
     first true n o e = refl
     first false n o e = absurd (cc (e))
 
-    go : (ms : List Member) → In m ms → is_some (find (λ (n : Member). same_code n.code m.code) ms) ≡ true
+    go : (ms : List SchemeRegistry) → In m ms → is_some (find (λ (n : SchemeRegistry). same_code n.code m.code) ms) ≡ true
     go [] h = absurd h
-    go (n ∷ ms) (inl e) = first (same_code n.code m.code) n (find (λ (k : Member). same_code k.code m.code) ms) (subst (λ (z : Member). same_code n.code z.code ≡ true) e (same_code-refl n.code))
-    go (n ∷ ms) (inr h) = found (same_code n.code m.code) n (find (λ (k : Member). same_code k.code m.code) ms) (go ms h)
+    go (n ∷ ms) (inl e) = first (same_code n.code m.code) n (find (λ (k : SchemeRegistry). same_code k.code m.code) ms) (subst (λ (z : SchemeRegistry). same_code n.code z.code ≡ true) e (same_code-refl n.code))
+    go (n ∷ ms) (inr h) = found (same_code n.code m.code) n (find (λ (k : SchemeRegistry). same_code k.code m.code) ms) (go ms h)
 
 -- the codes rise, so they differ
-abbrev pub CodesRise : List Member → Type 0
+abbrev pub CodesRise : List SchemeRegistry → Type 0
 CodesRise ms = Pairwise (λ a b. code_cmp a.code b.code ≡ Less) ms
 
 pub codes_rise : (scheme : Scheme) → CodesRise scheme.members
 codes_rise scheme = scheme.sound.ordered
 
-pub other_member : (m : Member) (ms : List Member) → AllByRecursion (λ n. code_cmp m.code n.code ≡ Less) ms → (n : Member) → In n ms → m.code ≡ n.code → ⊥
+pub other_member : (m : SchemeRegistry) (ms : List SchemeRegistry) → AllByRecursion (λ n. code_cmp m.code n.code ≡ Less) ms → (n : SchemeRegistry) → In n ms → m.code ≡ n.code → ⊥
 other_member m [] rise n i e = absurd i
 other_member m (k ∷ ks) rise n (inl d) e =
     let lt = code_below m.code k.code rise.0 in
-    let same : code_rank m.code ≡ code_rank k.code = ap code_rank (e ∙ sym (ap (λ (z : Member). z.code) d)) in
+    let same : code_rank m.code ≡ code_rank k.code = ap code_rank (e ∙ sym (ap (λ (z : SchemeRegistry). z.code) d)) in
     omega arith
 other_member m (k ∷ ks) rise n (inr i) e = other_member m ks rise.1 n i e
 
 -- ---- where a unit starts
 
 -- exactly one registry has a code that some registry has
-none_at : (c : Code) (ms : List Member) → ((m : Member) → In m ms → m.code ≡ c → ⊥) → sum_by (λ m. cond (same_code c m.code) 1 0) ms ≡ 0
+none_at : (c : Code) (ms : List SchemeRegistry) → ((m : SchemeRegistry) → In m ms → m.code ≡ c → ⊥) → sum_by (λ m. cond (same_code c m.code) 1 0) ms ≡ 0
 none_at c [] other = refl
 none_at c (m ∷ ms) other =
     let a = cond-false {A = ℕ} (same_code c m.code) 1 0 (other_code c m.code (λ e. other m (inl refl) (sym e))) in
     let b = none_at c ms (λ n i. other n (inr i)) in
-    let u = sum_by-cons (λ (z : Member). cond {A = ℕ} (same_code c z.code) 1 0) m ms in
+    let u = sum_by-cons (λ (z : SchemeRegistry). cond {A = ℕ} (same_code c z.code) 1 0) m ms in
     omega arith
 
-one_at : (c : Code) (ms : List Member) → CodesRise ms → (m : Member) → In m ms → c ≡ m.code → sum_by (λ m. cond (same_code c m.code) 1 0) ms ≡ 1
+one_at : (c : Code) (ms : List SchemeRegistry) → CodesRise ms → (m : SchemeRegistry) → In m ms → c ≡ m.code → sum_by (λ m. cond (same_code c m.code) 1 0) ms ≡ 1
 one_at c [] rise m h e = absurd h
 one_at c (n ∷ ms) rise m (inl i) e =
-    let x : c ≡ n.code = e ∙ sym (ap (λ (z : Member). z.code) i) in
+    let x : c ≡ n.code = e ∙ sym (ap (λ (z : SchemeRegistry). z.code) i) in
     let a = cond-true {A = ℕ} (same_code c n.code) 1 0 (subst (λ z. same_code c z ≡ true) x (same_code-refl c)) in
     let b = none_at c ms (λ k j d. other_member n ms rise.0 k j (sym x ∙ sym d)) in
-    let u = sum_by-cons (λ (z : Member). cond {A = ℕ} (same_code c z.code) 1 0) n ms in
+    let u = sum_by-cons (λ (z : SchemeRegistry). cond {A = ℕ} (same_code c z.code) 1 0) n ms in
     omega arith
 one_at c (n ∷ ms) rise m (inr i) e =
     let a = cond-false {A = ℕ} (same_code c n.code) 1 0 (other_code c n.code (λ d. other_member n ms rise.0 m i (sym d ∙ e))) in
     let b = one_at c ms rise.1 m i e in
-    let u = sum_by-cons (λ (z : Member). cond {A = ℕ} (same_code c z.code) 1 0) n ms in
+    let u = sum_by-cons (λ (z : SchemeRegistry). cond {A = ℕ} (same_code c z.code) 1 0) n ms in
     omega arith
 
-over_none : (ms : List Member) → sum_by (λ m. 0) ms ≡ 0
+over_none : (ms : List SchemeRegistry) → sum_by (λ m. 0) ms ≡ 0
 over_none [] = refl
 over_none (m ∷ ms) = let b = over_none ms in omega arith
 
@@ -166,12 +166,12 @@ allotted_code c (a ∷ rest) s h e = go (find (λ (b : Block). has_unit b.raw s)
     go None d older = older d
     go (Some b) d older = let same : start.holder c a.account b.raw.kind ≡ h = cc (d) in sym (ap (λ (z : Holder). z.registry) same)
 
-pub holder_member : (ms : List Member) (s : Serial) (h : Holder) → start.allotted ms s ≡ Some h → (m : Member) × In m ms × (h.registry ≡ m.code)
+pub holder_member : (ms : List SchemeRegistry) (s : Serial) (h : Holder) → start.allotted ms s ≡ Some h → (m : SchemeRegistry) × In m ms × (h.registry ≡ m.code)
 holder_member [] s h e = absurd (cc (e))
 holder_member (m ∷ ms) s h e = go (start.allotted_in m.code m.allotted s) refl e (λ d. holder_member ms s h d)
   where
-    go : (o : Option Holder) → start.allotted_in m.code m.allotted s ≡ o → option_or o (start.allotted ms s) ≡ Some h → (start.allotted ms s ≡ Some h → (n : Member) × In n ms × (h.registry ≡ n.code))
-        → (n : Member) × In n (m ∷ ms) × (h.registry ≡ n.code)
+    go : (o : Option Holder) → start.allotted_in m.code m.allotted s ≡ o → option_or o (start.allotted ms s) ≡ Some h → (start.allotted ms s ≡ Some h → (n : SchemeRegistry) × In n ms × (h.registry ≡ n.code))
+        → (n : SchemeRegistry) × In n (m ∷ ms) × (h.registry ≡ n.code)
     go None d f older = let r = older f in (r.0, inr r.1, r.2)
     go (Some k) d f older = (m, inl refl, allotted_code m.code m.allotted s h (d ∙ f))
 
@@ -210,17 +210,17 @@ none_held scheme c s none = ap (λ z. (z + 0) == (0 + 1)) (no_start scheme c s n
 
 -- ---- lists of identifiers, registry by registry
 
-pub In_flat : (g : Member → List TransactionId) (ms : List Member) (m : Member) (t : TransactionId) → In m ms → In t (g m) → In t (flat_map g ms)
+pub In_flat : (g : SchemeRegistry → List TransactionId) (ms : List SchemeRegistry) (m : SchemeRegistry) (t : TransactionId) → In m ms → In t (g m) → In t (flat_map g ms)
 In_flat g [] m t i h = absurd i
 In_flat g (n ∷ ms) m t (inl e) h = In_left t (g n) (flat_map g ms) (subst (λ z. In t (g z)) (sym e) h)
 In_flat g (n ∷ ms) m t (inr i) h = In_right t (g n) (flat_map g ms) (In_flat g ms m t i h)
 
-pub length_flat : (g : Member → List TransactionId) (ms : List Member) → length (flat_map g ms) ≡ sum_by (λ m. length (g m)) ms
+pub length_flat : (g : SchemeRegistry → List TransactionId) (ms : List SchemeRegistry) → length (flat_map g ms) ≡ sum_by (λ m. length (g m)) ms
 length_flat g [] = refl
 length_flat g (m ∷ ms) = let a = length-append (g m) (flat_map g ms) in let b = length_flat g ms in let u = sum_by-cons (λ z. length (g z)) m ms in omega arith
 
 -- no identifier is there twice, where none is there twice at one registry nor at two
-pub no_repeat_flat : (g : Member → List TransactionId) → ((m : Member) → NoRepeat (g m)) → ((m n : Member) (t : TransactionId) → In t (g m) → In t (g n) → m.code ≡ n.code) → (ms : List Member) → CodesRise ms
+pub no_repeat_flat : (g : SchemeRegistry → List TransactionId) → ((m : SchemeRegistry) → NoRepeat (g m)) → ((m n : SchemeRegistry) (t : TransactionId) → In t (g m) → In t (g n) → m.code ≡ n.code) → (ms : List SchemeRegistry) → CodesRise ms
     → NoRepeat (flat_map g ms)
 no_repeat_flat g one same [] rise = tt
 no_repeat_flat g one same (m ∷ ms) rise =

@@ -1,7 +1,8 @@
 -- A unit is held once or owed once, in histories whose received messages were all sent.
--- At each registry, what it gave away and what it has make up what it started with and what it took in (`local_history`). The sum over all
--- registries leaves one unit, provided that as many transfers were handed over as were taken in.
--- The two lists of transfers have the same members by `CompletionsAgree` and no repeats, so they are equally long.
+-- At each registry, what it gave away and what it has make up what it started with and what it took in
+-- (`local_history`). The sum over all registries leaves one unit, provided that as many transfers were handed over as
+-- were taken in. The two lists of transfers have the same members by `CompletionsAgree` and no repeats, so they are
+-- equally long.
 use Rattle.std.specs.List.{count_by, sum_by}
 use Rattle.std.proofs.Common.{◌≡◌, ℕ, ◌+◌, List, Bool, true, false, not, cond, Some, is_some, option_map, inl, inr, sym, ap, subst, ◌∙◌, arith, length, flat_map}
 use Rattle.std.specs.Prelude.{◌&&◌}
@@ -14,8 +15,8 @@ use Rattle.units.specs.declared.code.Node.{Node}
 use Rattle.units.specs.declared.code.Node.TheVariants.{Registry}
 use Rattle.status.specs.Content.{Content}
 use Rattle.status.specs.declared.id.TransactionId.{TransactionId}
-use Rattle.status.specs.declared.words.Status.TheVariants.{Completed}
-use Rattle.scheme.specs.declared.members.Member.{Member}
+use Rattle.status.specs.declared.status.Status.TheVariants.{Completed}
+use Rattle.scheme.specs.declared.members.SchemeRegistry.{SchemeRegistry}
 use Rattle.scheme.specs.declared.registries.Scheme.{Scheme}
 use Rattle.protocol.specs.Claims.{at_registry, is_received, owes, holders, owed, OnePlace, SpentOnce}
 use Rattle.protocol.specs.History.{Transition, Entry, transitions_of, newest, stands_at, is_status, has_serial, gives, credits, at_start, holds, reserved}
@@ -39,17 +40,17 @@ module _ (scheme : Scheme) (f : Node → List Entry) (causal : Causal scheme f) 
   hands_over c x = gives c s x && is_received f x.id x.content
 
   -- the transfers of the unit that a registry has handed over, and those that it has taken in
-  abbrev handed : Member → List TransactionId
+  abbrev handed : SchemeRegistry → List TransactionId
   handed m = picked (hands_over m.code) (at_registry f m.code)
 
-  abbrev taken : Member → List TransactionId
+  abbrev taken : SchemeRegistry → List TransactionId
   taken m = picked (credits m.code s) (at_registry f m.code)
 
   handed_given : (c : Code) (x : Transition) → hands_over c x ≡ true → (gives c s x ≡ true) × (is_received f x.id x.content ≡ true)
   handed_given c x h = and_parts (gives c s x) (is_received f x.id x.content) h
 
   -- what is handed over is taken in
-  handed_taken : (m : Member) (t : TransactionId) → In t (handed m) → (n : Member) × In n scheme.members × In t (taken n)
+  handed_taken : (m : SchemeRegistry) (t : TransactionId) → In t (handed m) → (n : SchemeRegistry) × In n scheme.members × In t (taken n)
   handed_taken m t h =
       let x = In_picked (hands_over m.code) (at_registry f m.code) t h in
       let parts = handed_given m.code x.0 x.2 in
@@ -74,7 +75,7 @@ module _ (scheme : Scheme) (f : Node → List Entry) (causal : Causal scheme f) 
       )
 
   -- what is taken in was handed over
-  taken_handed : (n : Member) (t : TransactionId) → In t (taken n) → (m : Member) × In m scheme.members × In t (handed m)
+  taken_handed : (n : SchemeRegistry) (t : TransactionId) → In t (taken n) → (m : SchemeRegistry) × In m scheme.members × In t (handed m)
   taken_handed n t h =
       let y = In_picked (credits n.code s) (at_registry f n.code) t h in
       let came = credited n.code s y.0 y.2 in
@@ -99,7 +100,7 @@ module _ (scheme : Scheme) (f : Node → List Entry) (causal : Causal scheme f) 
       )
 
   -- each transfer is handed over by one registry, and taken in by one
-  handed_apart : (m n : Member) (t : TransactionId) → In t (handed m) → In t (handed n) → m.code ≡ n.code
+  handed_apart : (m n : SchemeRegistry) (t : TransactionId) → In t (handed m) → In t (handed n) → m.code ≡ n.code
   handed_apart m n t i j =
       let x = In_picked (hands_over m.code) (at_registry f m.code) t i in
       let y = In_picked (hands_over n.code) (at_registry f n.code) t j in
@@ -107,7 +108,7 @@ module _ (scheme : Scheme) (f : Node → List Entry) (causal : Causal scheme f) 
       let b = given n.code s y.0 (handed_given n.code y.0 y.2).0 in
       sym (code_of_same x.0.id.code m.code a.1) ∙ ap (λ (z : TransactionId). z.code) (x.3 ∙ sym y.3) ∙ code_of_same y.0.id.code n.code b.1
 
-  taken_apart : (m n : Member) (t : TransactionId) → In t (taken m) → In t (taken n) → m.code ≡ n.code
+  taken_apart : (m n : SchemeRegistry) (t : TransactionId) → In t (taken m) → In t (taken n) → m.code ≡ n.code
   taken_apart m n t i j =
       let x = In_picked (credits m.code s) (at_registry f m.code) t i in
       let y = In_picked (credits n.code s) (at_registry f n.code) t j in
@@ -120,20 +121,20 @@ module _ (scheme : Scheme) (f : Node → List Entry) (causal : Causal scheme f) 
       let content : p.content ≡ q.content = one_some p.content q.content (sym p.content_there ∙ ap (λ (z : Transition). z.content) same ∙ q.content_there) in
       sym p.here ∙ ap (λ (z : Content). z.acquirer) content ∙ q.here
 
-  handed_once : (m : Member) → NoRepeat (handed m)
+  handed_once : (m : SchemeRegistry) → NoRepeat (handed m)
   handed_once m =
       completed_once scheme m.code (hands_over m.code) (λ x h. (given m.code s x (handed_given m.code x h).0).0) (f (Registry m.code)) (causal.made (Registry m.code))
 
-  taken_once : (m : Member) → NoRepeat (taken m)
+  taken_once : (m : SchemeRegistry) → NoRepeat (taken m)
   taken_once m = completed_once scheme m.code (credits m.code s) (λ x h. (credited m.code s x h).0) (f (Registry m.code)) (causal.made (Registry m.code))
 
-  abbrev count_handed : Member → ℕ
+  abbrev count_handed : SchemeRegistry → ℕ
   count_handed m = count_by (hands_over m.code) (at_registry f m.code)
 
-  abbrev count_given : Member → ℕ
+  abbrev count_given : SchemeRegistry → ℕ
   count_given m = count_by (gives m.code s) (at_registry f m.code)
 
-  abbrev count_taken : Member → ℕ
+  abbrev count_taken : SchemeRegistry → ℕ
   count_taken m = count_by (credits m.code s) (at_registry f m.code)
 
   -- so as much is handed over as is taken in
@@ -150,7 +151,7 @@ module _ (scheme : Scheme) (f : Node → List Entry) (causal : Causal scheme f) 
 
   in_one_place : holders scheme f s + owed scheme f s ≡ cond (is_some (allotted scheme s)) 1 0
   in_one_place =
-      let local = λ (m : Member). local_history scheme m.code s (f (Registry m.code)) (causal.made (Registry m.code)) in
+      let local = λ (m : SchemeRegistry). local_history scheme m.code s (f (Registry m.code)) (causal.made (Registry m.code)) in
       let a =
       over_balance (λ m. holds scheme m.code (at_registry f m.code) s) count_given (λ m. at_start scheme m.code s) count_taken
       (λ m. one_above (at_start scheme m.code s + count_taken m) (count_given m) (local m).low (local m).high) scheme.members in
@@ -185,8 +186,8 @@ spent_once scheme f unplaced place s c d spend_c spend_d =
           let m = some_member scheme c (holding_member scheme f unplaced s c a) in
           let k = some_member scheme d (holding_member scheme f unplaced s d b) in
           let two =
-          number_two (λ (m : Member). holds scheme m.code (at_registry f m.code) s) scheme.members m.0 k.0 m.1 k.1 (subst (λ z. holds scheme z (at_registry f z) s ≡ true) (sym m.2) a)
-          (subst (λ z. holds scheme z (at_registry f z) s ≡ true) (sym k.2) b) (λ e. codes_differ c d other (sym m.2 ∙ ap (λ (z : Member). z.code) e ∙ k.2)) in
+          number_two (λ (m : SchemeRegistry). holds scheme m.code (at_registry f m.code) s) scheme.members m.0 k.0 m.1 k.1 (subst (λ z. holds scheme z (at_registry f z) s ≡ true) (sym m.2) a)
+          (subst (λ z. holds scheme z (at_registry f z) s ≡ true) (sym k.2) b) (λ e. codes_differ c d other (sym m.2 ∙ ap (λ (z : SchemeRegistry). z.code) e ∙ k.2)) in
           let p = place s in
           let q = one_or_none (is_some (allotted scheme s)) in
           absurd (omega arith)

@@ -1,7 +1,7 @@
 -- A unit that is in one place has one owner.
--- An owner is a registry that holds the unit, or a transfer that owes it. Each owner adds one to a sum over registries, and by
--- `UnitsInOnePlace` the two sums together are one. Two owners would make the sum two, no owner would make it zero, and a unit that is
--- not allotted has the sum zero and so no owner.
+-- An owner is a registry that holds the unit, or a transfer that owes it. Each owner adds one to a sum over
+-- registries, and by `UnitsInOnePlace` the two sums together are one. Two owners would make the sum two, no owner
+-- would make it zero, and a unit that is not allotted has the sum zero and so no owner.
 use Rattle.std.specs.List.{count_by}
 use Rattle.std.proofs.Common.{◌≡◌, ℕ, zero, suc, ◌+◌, ◌≤◌, List, Bool, true, false, not, is_some, Some, inl, inr, refl, sym, ap, subst, ◌∙◌, arith}
 use Rattle.std.proofs.lemmas.Bool.{cases_Bool, cond-true, cond-false, and_parts, and_from, not-true, not-false}
@@ -14,8 +14,8 @@ use Rattle.units.specs.declared.code.Node.TheVariants.{Itl, Registry}
 use Rattle.status.proofs.Ids.{id_of_same, same_id-refl}
 use Rattle.status.specs.Id.{same_id}
 use Rattle.status.specs.declared.id.TransactionId.{TransactionId}
-use Rattle.status.specs.declared.words.Status.TheVariants.{Completed}
-use Rattle.scheme.specs.declared.members.Member.{Member}
+use Rattle.status.specs.declared.status.Status.TheVariants.{Completed}
+use Rattle.scheme.specs.declared.members.SchemeRegistry.{SchemeRegistry}
 use Rattle.scheme.specs.declared.registries.Scheme.{Scheme}
 use Rattle.protocol.specs.Claims.{StandsAt, at_registry, is_received, owes, holders, owed}
 use Rattle.protocol.specs.History.{Transition, Entry, newest, gives, holds}
@@ -38,10 +38,10 @@ ids_differ t u other e = let x : true ≡ false = sym (same_id-refl t) ∙ ap (s
 module _ (scheme : Scheme) (f : Node → List Entry) (causal : Causal scheme f) where
   -- ---- an owner is counted
 
-  abbrev holds_at : Serial → Member → Bool
+  abbrev holds_at : Serial → SchemeRegistry → Bool
   holds_at s m = holds scheme m.code (at_registry f m.code) s
 
-  abbrev owed_by : Serial → Member → ℕ
+  abbrev owed_by : Serial → SchemeRegistry → ℕ
   owed_by s m = count_by (owes f m.code s) (at_registry f m.code)
 
   -- the transition by which a transfer owes the unit
@@ -69,13 +69,13 @@ module _ (scheme : Scheme) (f : Node → List Entry) (causal : Causal scheme f) 
         known = initiator_is_member t (stands_so (at_registry f t.code) t o.last Completed o.is o.new);
       }
 
-  holder_counts : (s : Serial) (c : Code) → Owns scheme f s (At c) → (m : Member) × In m scheme.members × (m.code ≡ c) × (holds_at s m ≡ true)
+  holder_counts : (s : Serial) (c : Code) → Owns scheme f s (At c) → (m : SchemeRegistry) × In m scheme.members × (m.code ≡ c) × (holds_at s m ≡ true)
   holder_counts s c h = let m = some_member scheme c h.0 in (m.0, m.1, m.2, subst (λ z. holds scheme z (at_registry f z) s ≡ true) (sym m.2) h.1)
 
   one_holder : (s : Serial) (c : Code) → Owns scheme f s (At c) → 1 ≤ holders scheme f s
   one_holder s c h = let m = holder_counts s c h in number_one (holds_at s) scheme.members m.0 m.1 m.3
 
-  ower_counts : (s : Serial) (t : TransactionId) → Owing f s t → (m : Member) × In m scheme.members × (m.code ≡ t.code) × (1 ≤ owed_by s m)
+  ower_counts : (s : Serial) (t : TransactionId) → Owing f s t → (m : SchemeRegistry) × In m scheme.members × (m.code ≡ t.code) × (1 ≤ owed_by s m)
   ower_counts s t o =
       let k = counted s t o in
       let m = some_member scheme t.code k.known in
@@ -96,7 +96,7 @@ module _ (scheme : Scheme) (f : Node → List Entry) (causal : Causal scheme f) 
   two_holders s c d h k other =
       let m = holder_counts s c h in
       let n = holder_counts s d k in
-      let two = number_two (holds_at s) scheme.members m.0 n.0 m.1 n.1 m.3 n.3 (λ e. codes_differ c d other (sym m.2 ∙ ap (λ (z : Member). z.code) e ∙ n.2)) in
+      let two = number_two (holds_at s) scheme.members m.0 n.0 m.1 n.1 m.3 n.3 (λ e. codes_differ c d other (sym m.2 ∙ ap (λ (z : SchemeRegistry). z.code) e ∙ n.2)) in
       let top = one_at_most s in
       omega arith
 

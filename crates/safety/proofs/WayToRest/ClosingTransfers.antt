@@ -18,14 +18,14 @@ use Rattle.status.specs.Content.{Content}
 use Rattle.status.specs.Rows.{initiator_row, log_row, acquirer_row}
 use Rattle.status.specs.declared.id.TransactionId.{TransactionId}
 use Rattle.status.specs.declared.moment.Moment.{Moment}
-use Rattle.status.specs.declared.words.Known.TheVariants.{Stands}
-use Rattle.status.specs.declared.words.Row.TheVariants.{Move}
-use Rattle.status.specs.declared.words.RowInput.TheVariants.{Notified}
-use Rattle.status.specs.declared.words.Status.{Status}
-use Rattle.status.specs.declared.words.Status.TheVariants.{Proposed, Checked, Accepted, Rejected, Terminated, Cancelled, Completed}
+use Rattle.status.specs.declared.rows.RecordedStatus.TheVariants.{Stands}
+use Rattle.status.specs.declared.rows.Row.TheVariants.{Move}
+use Rattle.status.specs.declared.rows.RowInput.TheVariants.{Notified}
+use Rattle.status.specs.declared.status.Status.{Status}
+use Rattle.status.specs.declared.status.Status.TheVariants.{Proposed, Checked, Accepted, Rejected, Terminated, Cancelled, Completed}
 use Rattle.wire.specs.declared.message.Message.TheVariants as message
 use Rattle.wire.specs.declared.message.ProposalStatus.TheVariants as proposal
-use Rattle.wire.specs.declared.notice.Notice.TheVariants as notice
+use Rattle.wire.specs.declared.notified.NotifiedStatus.TheVariants as notified
 use Rattle.scheme.specs.declared.registries.Scheme.{Scheme}
 use Rattle.protocol.specs.AtLog.{ledger}
 use Rattle.protocol.specs.AtRegistry.{holding}
@@ -48,7 +48,7 @@ use Rattle.safety.proofs.WayToRest.SendingMessages.{Calm, Went, send}
 use Rattle.safety.proofs.WayToRest.SentByTransitions.{SaysAtLog, Tells, transition_sends}
 use Rattle.safety.proofs.WayToRest.TransferStages.{Closes, Stage, already, at_most, cau, closed_when, ended_not_open, foreign, id_at, log_content, log_tells, log_tells_acquirer, newest_next, other_tells, own_offer, own_tells, room_less, room_log, room_registry, stage_next, table_at, then_log, then_registry, told_by}
 use Rattle.safety.proofs.WorldLemmas.StationsAfterPut.{other_way}
-use Rattle.safety.proofs.WayToRest.TakenMessages.{Last, Room, acquirer_takes, acquirer_takes_offer, causal, initiator_takes, log_takes_notice, log_takes_offer, unplaced}
+use Rattle.safety.proofs.WayToRest.TakenMessages.{Last, Room, acquirer_takes, acquirer_takes_offer, causal, initiator_takes, log_takes_notified, log_takes_offer, unplaced}
 use Rattle.safety.proofs.OneRegistry.RegistryHearings.{Cause, IsTaken, accepted_sent, told, OwnCause, told_own}
 
 -- ---- the stages, the last one first
@@ -95,7 +95,7 @@ module _ (scheme : Scheme) (moment : Moment) (t : TransactionId) where
       let sent = told_by scheme t w x k s (Registry t.code) x Itl says.0 s.is says.2 in
       let y : Transition = moved l Completed moment.seconds (notifies Itl (told_to l.id k Completed) l.id says.0 ∷ []) in
       let v =
-      log_takes_notice scheme moment w s.calm t.code t says.0 l k Completed (log_content scheme t w x k s l log (λ e. let y : Accepted ≡ Cancelled = sym log_accepted ∙ e in cc (y))) sent log (table_at log_row l.new Accepted _ Completed log_accepted says.1)
+      log_takes_notified scheme moment w s.calm t.code t says.0 l k Completed (log_content scheme t w x k s l log (λ e. let y : Accepted ≡ Cancelled = sym log_accepted ∙ e in cc (y))) sent log (table_at log_row l.new Accepted _ Completed log_accepted says.1)
       (let a = room.0 in omega arith) in
       let g : Went scheme w t Itl y = send scheme w s.calm (notifies (Registry t.code) Itl t says.0) moment t y refl sent v (id_at scheme t w x k s Itl l log).1 in
       let next = stage_next scheme t w Itl y x k g s refl in
@@ -205,11 +205,11 @@ module _ (scheme : Scheme) (moment : Moment) (t : TransactionId) where
           let content : l.content ≡ Some k = ap (λ (y : Transition). y.content) (one_some l o.0 (sym log ∙ o.1)) ∙ q.is ∙ ap Some named in
           let sent = log_tells_acquirer scheme t w x k s l log log_cancelled content in
           let v =
-          acquirer_takes scheme moment w s.calm k.acquirer t notice.Cancelled p has.0 Cancelled has.1 sent there s.other (table_at acquirer_row p.new Accepted Cancelled Cancelled e refl)
+          acquirer_takes scheme moment w s.calm k.acquirer t notified.Cancelled p has.0 Cancelled has.1 sent there s.other (table_at acquirer_row p.new Accepted Cancelled Cancelled e refl)
           (let a = room.1 k.acquirer in omega arith) in
           let y : Transition = moved p Cancelled moment.seconds [] in
           let g : Went scheme w t (Registry k.acquirer) y =
-          send scheme w s.calm (notifies Itl (Registry k.acquirer) t notice.Cancelled) moment t y s.acquirer sent v (id_at scheme t w x k s (Registry k.acquirer) p there).1 in
+          send scheme w s.calm (notifies Itl (Registry k.acquirer) t notified.Cancelled) moment t y s.acquirer sent v (id_at scheme t w x k s (Registry k.acquirer) p there).1 in
           let next = stage_next scheme t w (Registry k.acquirer) y x k g s (foreign scheme t w x k s) in
           let log_then = newest_next scheme t w (Registry k.acquirer) Itl y (Some l) g refl log in
           then_registry scheme t w k.acquirer y 0 0 g
@@ -307,7 +307,7 @@ module _ (scheme : Scheme) (moment : Moment) (t : TransactionId) where
           let sent = told_by scheme t w x k s (Registry k.acquirer) p Itl says.0 there says.2 in
           let y : Transition = moved l st moment.seconds (notifies Itl (told_to l.id k st) l.id says.0 ∷ []) in
           let v =
-          log_takes_notice scheme moment w s.calm k.acquirer t says.0 l k st (log_content scheme t w x k s l log (λ e. let y : Checked ≡ Cancelled = sym log_checked ∙ e in cc (y))) sent log (table_at log_row l.new Checked _ st log_checked says.1 ∙ row)
+          log_takes_notified scheme moment w s.calm k.acquirer t says.0 l k st (log_content scheme t w x k s l log (λ e. let y : Checked ≡ Cancelled = sym log_checked ∙ e in cc (y))) sent log (table_at log_row l.new Checked _ st log_checked says.1 ∙ row)
           (let a = room.0 in omega arith) in
           let g : Went scheme w t Itl y = send scheme w s.calm (notifies (Registry k.acquirer) Itl t says.0) moment t y refl sent v (id_at scheme t w x k s Itl l log).1 in
           let next = stage_next scheme t w Itl y x k g s refl in

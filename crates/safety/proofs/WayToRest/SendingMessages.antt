@@ -15,10 +15,10 @@ use Rattle.wire.specs.declared.input.Input.TheVariants.{Received}
 use Rattle.wire.specs.declared.message.Message.{Message}
 use Rattle.scheme.specs.declared.registries.Scheme.{Scheme}
 use Rattle.protocol.specs.Claims.{committed_of, committed_part}
-use Rattle.protocol.specs.Deciding.{Verdict, Enters}
+use Rattle.protocol.specs.Deciding.{Verdict, IsRecorded}
 use Rattle.protocol.specs.History.{Entry, Transition, newest, sends, transitions_of}
 use Rattle.protocol.specs.Registries.{is_node}
-use Rattle.protocol.specs.Verdict.{history, made, verdict}
+use Rattle.protocol.specs.Verdict.{history, transitions_made, verdict}
 use Rattle.protocol.specs.WayOut.{OnlyTransport}
 use Rattle.wire.specs.Parties.{receiver, sender}
 use Rattle.protocol.specs.World.{World, run, station}
@@ -40,11 +40,11 @@ module _ (w : World) (events : List WorldEvent) (n : Node) (input : Input) (g : 
       ap (λ (z : Scheme). history z m (committed_part (station (run w events) m))) (run_scheme w events) ∙ ap (λ o. history w.scheme m (committed_part o)) (g.elsewhere m other)
 
   -- with the transitions that its verdict enters
-  grown_entry : (xs : List Transition) → verdict w.scheme n (committed_of w n) input ≡ Enters xs
+  grown_entry : (xs : List Transition) → verdict w.scheme n (committed_of w n) input ≡ IsRecorded xs
       → committed_of (run w events) n ≡ record { input = input; transitions = xs } ∷ committed_of w n
   grown_entry xs says =
       grown_here ∙ history_from_append w.scheme n [] (committed_part (station w n)) (input ∷ [])
-      ∙ ap {B = List Entry} (λ (z : Verdict). record { input = input; transitions = made z } ∷ committed_of w n) says
+      ∙ ap {B = List Entry} (λ (z : Verdict). record { input = input; transitions = transitions_made z } ∷ committed_of w n) says
 
 -- ---- a message goes
 
@@ -67,10 +67,10 @@ pub record Went (scheme : Scheme) (w : World) (t : TransactionId) (n : Node) (x 
   pub longer : (m : Node) → length (committed_of (run w events) m) ≤ length (committed_of w m) + cond (same_node n m) 1 0
 
 pub send : (scheme : Scheme) (w : World) → Calm scheme w → (m : Message) (moment : Moment) (t : TransactionId) (x : Transition) → is_node scheme (receiver m) ≡ true → In m (sends (committed_of w (sender m)))
-    → verdict scheme (receiver m) (committed_of w (receiver m)) (Received m moment) ≡ Enters (x ∷ []) → x.id ≡ t → Went scheme w t (receiver m) x
+    → verdict scheme (receiver m) (committed_of w (receiver m)) (Received m moment) ≡ IsRecorded (x ∷ []) → x.id ≡ t → Went scheme w t (receiver m) x
 send scheme w calm m moment t x node sent says id =
     let n = receiver m in
-    let says_here : verdict w.scheme n (committed_of w n) (Received m moment) ≡ Enters (x ∷ []) = subst (λ (z : Scheme). verdict z n (committed_of w n) (Received m moment) ≡ Enters (x ∷ [])) (sym calm.same) says in
+    let says_here : verdict w.scheme n (committed_of w n) (Received m moment) ≡ IsRecorded (x ∷ []) = subst (λ (z : Scheme). verdict z n (committed_of w n) (Received m moment) ≡ IsRecorded (x ∷ [])) (sym calm.same) says in
     let d = delivers w calm.quiet m moment (x ∷ []) (subst (λ (z : Scheme). is_node z n ≡ true) (sym calm.same) node) sent says_here in
     let events : List WorldEvent = Post (sender m) d.0 ∷ Deliver (length w.bag) moment ∷ Commit (receiver m) 1 ∷ [] in
     let here = grown_entry w events n (Received m moment) d.1 (x ∷ []) says_here in

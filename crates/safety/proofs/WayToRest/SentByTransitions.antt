@@ -9,14 +9,14 @@ use Rattle.units.specs.declared.code.Node.{Node}
 use Rattle.units.specs.declared.code.Node.TheVariants.{Itl, Registry}
 use Rattle.status.specs.Content.{Content}
 use Rattle.status.specs.declared.id.TransactionId.{TransactionId}
-use Rattle.status.specs.declared.words.Status.{Status}
-use Rattle.status.specs.declared.words.Status.TheVariants.{Proposed, Checked, Accepted, Rejected, Terminated, Cancelled, Completed}
-use Rattle.wire.specs.Notices.{notice_status}
+use Rattle.status.specs.declared.status.Status.{Status}
+use Rattle.status.specs.declared.status.Status.TheVariants.{Proposed, Checked, Accepted, Rejected, Terminated, Cancelled, Completed}
+use Rattle.wire.specs.NotifiedStatuses.{notified_status}
 use Rattle.wire.specs.declared.input.Input.{Input}
 use Rattle.wire.specs.declared.message.Message.{Message}
 use Rattle.wire.specs.declared.message.ProposalStatus.TheVariants as proposal
-use Rattle.wire.specs.declared.notice.Notice.{Notice}
-use Rattle.wire.specs.declared.notice.Notice.TheVariants as notice
+use Rattle.wire.specs.declared.notified.NotifiedStatus.{NotifiedStatus}
+use Rattle.wire.specs.declared.notified.NotifiedStatus.TheVariants as notified
 use Rattle.scheme.specs.declared.registries.Scheme.{Scheme}
 use Rattle.protocol.specs.AtRegistry.{content_of}
 use Rattle.protocol.specs.Effects.{notifies, proposes as to_propose}
@@ -49,7 +49,7 @@ transition_sends (e ∷ es) x m i h =
 
 -- a notification of that status is among its messages
 abbrev pub Tells : Transition → Node → Node → Status → Type 0
-Tells x from to s = (said : Notice) × (notice_status said ≡ s) × In (notifies from to x.id said) x.messages
+Tells x from to s = (said : NotifiedStatus) × (notified_status said ≡ s) × In (notifies from to x.id said) x.messages
 
 -- of a transfer of one's own
 abbrev pub SaysOwn : Code → Transition → Status → Type 0
@@ -72,7 +72,7 @@ SaysAtLog x s = Tells x Itl (Registry x.id.code) s
 module _ (scheme : Scheme) (c : Code) where
   settled_says : (q : Transition) (moment : ℕ) (new : Status) → (new ≡ Proposed → ⊥) → SaysOwn c (moved q new moment (settled_messages c q.id new)) new
   settled_says q moment Proposed h = tt
-  settled_says q moment Completed h = (notice.Completed, refl, inl refl)
+  settled_says q moment Completed h = (notified.Completed, refl, inl refl)
   settled_says q moment Checked h = tt
   settled_says q moment Accepted h = tt
   settled_says q moment Rejected h = tt
@@ -84,7 +84,7 @@ module _ (scheme : Scheme) (c : Code) where
   own_says es input x (asks t q old mine stood) own = tt
   own_says es input x (arrives p moment found f s is none foreign mine) own = clash (same_code p.id.code c) own foreign
   own_says es input x (bares n moment f told none foreign) own = clash (same_code n.id.code c) own foreign
-  own_says es input x (settles n moment q new f old mine move) own = settled_says q moment.seconds new (initiator_new q.new (notice_status n.notice) new move)
+  own_says es input x (settles n moment q new f old mine move) own = settled_says q moment.seconds new (initiator_new q.new (notified_status n.notified) new move)
   own_says es input x (finishes n moment q new f old foreign move none) own = clash (same_code n.id.code c) (own_about scheme c es n.id q old own) foreign
 
   other_says : (es : List Entry) (input : Input) (x : Transition) → RegistryMove scheme c es input x → same_code x.id.code c ≡ false → SaysOther c x x.new
@@ -92,14 +92,14 @@ module _ (scheme : Scheme) (c : Code) where
   other_says es input x (arrives p moment found f s is none other mine) foreign = go found
     where
       go : (found : List ℕ) → SaysOther c (arrived c p.id p.content moment.seconds found) (arrived_status found)
-      go [] = (notice.Accepted, refl, inl refl)
-      go (n ∷ ns) = (notice.Rejected (n ∷ ns), refl, inl refl)
+      go [] = (notified.Accepted, refl, inl refl)
+      go (n ∷ ns) = (notified.Rejected (n ∷ ns), refl, inl refl)
   other_says es input x (asks t q old own stood) foreign = clash (same_code q.id.code c) (subst (λ (z : TransactionId). same_code z.code c ≡ true) (sym (newest_id (transitions_of es) t q old).1) own) foreign
   other_says es input x (bares n moment f told none other) foreign = tt
   other_says es input x (settles n moment q new f old mine move) foreign =
       clash (same_code q.id.code c) (subst (λ (z : TransactionId). same_code z.code c ≡ true) (sym (newest_id (transitions_of es) n.id q old).1) mine) foreign
   other_says es input x (finishes n moment q new f old other move none) foreign =
-      let m = acquirer_from q.new (notice_status n.notice) new move in
+      let m = acquirer_from q.new (notified_status n.notified) new move in
       elim m.2 [
         | inl e ↦ subst (SaysOther c (moved q new moment.seconds [])) (sym (m.1 ∙ e)) tt
         | inr e ↦ subst (SaysOther c (moved q new moment.seconds [])) (sym (m.1 ∙ e)) tt
@@ -149,7 +149,7 @@ module _ (scheme : Scheme) (c : Code) where
 -- ---- at the log
 
 -- what it passes on is told as it was heard
-log_passed : (q : Transition) (k : Content) (moment : ℕ) (said : Notice) (new : Status) → q.content ≡ Some k → notice_status said ≡ new → (new ≡ Accepted) ⊎ ((new ≡ Rejected) ⊎ (new ≡ Completed))
+log_passed : (q : Transition) (k : Content) (moment : ℕ) (said : NotifiedStatus) (new : Status) → q.content ≡ Some k → notified_status said ≡ new → (new ≡ Accepted) ⊎ ((new ≡ Rejected) ⊎ (new ≡ Completed))
     → SaysAtLog (moved q new moment (notifies Itl (told_to q.id k new) q.id said ∷ [])) new
 log_passed q k moment said Accepted content same h = (said, same, inl refl)
 log_passed q k moment said Rejected content same h = (said, same, inl refl)
@@ -164,14 +164,14 @@ log_says scheme es input x (checks p moment found f s is none member) = go found
   where
     go : (found : List ℕ) → SaysAtLog (checked p.id p.content moment.seconds found) (checked_status found)
     go [] = (p.content, refl, inl refl)
-    go (n ∷ ns) = (notice.Terminated (n ∷ ns), refl, inl refl)
+    go (n ∷ ns) = (notified.Terminated (n ∷ ns), refl, inl refl)
 log_says scheme es input x (passes n moment q held new old kept member right move) =
-    elim (log_from q.new (notice_status n.notice) new move) [
-      | inl m ↦ log_passed q held moment.seconds n.notice new kept (sym m.1) (elim m.2 [ inl a ↦ inl (m.1 ∙ a) | inr a ↦ inr (inl (m.1 ∙ a)) ])
-      | inr m ↦ log_passed q held moment.seconds n.notice new kept (m.2 ∙ sym m.1) (inr (inr m.1))
+    elim (log_from q.new (notified_status n.notified) new move) [
+      | inl m ↦ log_passed q held moment.seconds n.notified new kept (sym m.1) (elim m.2 [ inl a ↦ inl (m.1 ∙ a) | inr a ↦ inr (inl (m.1 ∙ a)) ])
+      | inr m ↦ log_passed q held moment.seconds n.notified new kept (m.2 ∙ sym m.1) (inr (inr m.1))
     ]
-log_says scheme es input x (cancels given moment t q held why old kept was) = (notice.Cancelled, refl, inl refl)
-log_says scheme es input x (forestalls r moment f member none) = (notice.Cancelled, refl, inl refl)
+log_says scheme es input x (cancels given moment t q held why old kept was) = (notified.Cancelled, refl, inl refl)
+log_says scheme es input x (forestalls r moment f member none) = (notified.Cancelled, refl, inl refl)
 
 pub log_has_said : (scheme : Scheme) (es : List Entry) → Made scheme Itl es → (x : Transition) → In x (transitions_of es) → SaysAtLog x x.new
 log_has_said scheme [] made x i = absurd i
@@ -184,14 +184,14 @@ log_has_said scheme (e ∷ es) made x i =
 -- ---- what is cancelled with a content is told to its acquirer too
 
 cancelled_move : (scheme : Scheme) (es : List Entry) (input : Input) (x : Transition) → LogMove scheme es input x → x.new ≡ Cancelled → (k : Content) → x.content ≡ Some k
-    → In (notifies Itl (Registry k.acquirer) x.id notice.Cancelled) x.messages
+    → In (notifies Itl (Registry k.acquirer) x.id notified.Cancelled) x.messages
 cancelled_move scheme es input x (checks p moment found f s is none member) e k content = absurd (go found e)
   where
     go : (found : List ℕ) → checked_status found ≡ Cancelled → ⊥
     go [] e = cc (e)
     go (n ∷ ns) e = cc (e)
 cancelled_move scheme es input x (passes n moment q held new old kept member right move) e k content =
-    elim (log_from q.new (notice_status n.notice) new move) [
+    elim (log_from q.new (notified_status n.notified) new move) [
       | inl m ↦
           elim m.2 [
             | inl a ↦ let y : Accepted ≡ Cancelled = sym a ∙ sym m.1 ∙ e in absurd (cc (y))
@@ -200,11 +200,11 @@ cancelled_move scheme es input x (passes n moment q held new old kept member rig
       | inr m ↦ let y : Completed ≡ Cancelled = sym m.1 ∙ e in absurd (cc (y))
     ]
 cancelled_move scheme es input x (cancels given moment t q held why old kept was) e k content =
-    inr (inl (ap (λ (z : Content). notifies Itl (Registry z.acquirer) q.id notice.Cancelled) (one_some held k (sym kept ∙ content))))
+    inr (inl (ap (λ (z : Content). notifies Itl (Registry z.acquirer) q.id notified.Cancelled) (one_some held k (sym kept ∙ content))))
 cancelled_move scheme es input x (forestalls r moment f member none) e k content = absurd (cc (content))
 
 pub cancelled_said : (scheme : Scheme) (es : List Entry) → Made scheme Itl es → (x : Transition) → In x (transitions_of es) → x.new ≡ Cancelled → (k : Content) → x.content ≡ Some k
-    → In (notifies Itl (Registry k.acquirer) x.id notice.Cancelled) x.messages
+    → In (notifies Itl (Registry k.acquirer) x.id notified.Cancelled) x.messages
 cancelled_said scheme [] made x i e k content = absurd i
 cancelled_said scheme (e ∷ es) made x i c k content =
     elim (In_cases x e.transitions (transitions_of es) i) [

@@ -1,7 +1,7 @@
 -- In a quiet world with room, a message that moves a transfer is recorded with the transition of its table. A
 -- message that was sent is refused for want of room alone (`WelcomeMessages`), and there is room. So the verdict
 -- is the row of the table, and the lemmas say for each kind of message and node which transition that row makes.
-use Rattle.status.specs.declared.words.Row.{Row}
+use Rattle.status.specs.declared.rows.Row.{Row}
 use Rattle.safety.proofs.MovesAndHistories.NewestTransitions.{newest_id}
 use Rattle.safety.proofs.MovesAndHistories.TableRows.{known_status, unless_same}
 use Rattle.safety.proofs.MovesAndHistories.TableMoves.{settled_transition, passed_transition, finished_transition}
@@ -17,15 +17,15 @@ use Rattle.status.specs.Content.{Content}
 use Rattle.status.specs.Rows.{initiator_row, log_row, acquirer_row}
 use Rattle.status.specs.declared.id.TransactionId.{TransactionId}
 use Rattle.status.specs.declared.moment.Moment.{Moment}
-use Rattle.status.specs.declared.words.Known.TheVariants.{Stands}
-use Rattle.status.specs.declared.words.Row.TheVariants.{Move, Refused}
-use Rattle.status.specs.declared.words.RowInput.TheVariants.{Notified}
-use Rattle.status.specs.declared.words.Status.{Status}
-use Rattle.wire.specs.Notices.{notice_status, notice_codes}
+use Rattle.status.specs.declared.rows.RecordedStatus.TheVariants.{Stands}
+use Rattle.status.specs.declared.rows.Row.TheVariants.{Move, Refused}
+use Rattle.status.specs.declared.rows.RowInput.TheVariants.{Notified}
+use Rattle.status.specs.declared.status.Status.{Status}
+use Rattle.wire.specs.NotifiedStatuses.{notified_status, notified_codes}
 use Rattle.wire.specs.declared.input.Input.TheVariants.{Received}
 use Rattle.wire.specs.declared.message.Message.{Message}
 use Rattle.wire.specs.declared.message.ProposalStatus.TheVariants as proposal
-use Rattle.wire.specs.declared.notice.Notice.{Notice}
+use Rattle.wire.specs.declared.notified.NotifiedStatus.{NotifiedStatus}
 use Rattle.scheme.specs.declared.registries.Scheme.{Scheme}
 use Rattle.protocol.specs.AtLog as log
 use Rattle.protocol.specs.AtLog.{ledger, log_refusals, log_answer}
@@ -33,7 +33,7 @@ use Rattle.protocol.specs.AtRegistry.{holding, arrival, in_role, unless_held, ho
 use Rattle.protocol.specs.Checks.{Causes, acquirer_findings, log_findings}
 use Rattle.protocol.specs.Claims.{committed_of}
 use Rattle.protocol.specs.Deciding as decide
-use Rattle.protocol.specs.Deciding.{Verdict, Enters, IsRefused, enters, refuse, known, by_row}
+use Rattle.protocol.specs.Deciding.{Verdict, IsRecorded, IsRefused, recorded_if_room, refuse, known, by_row}
 use Rattle.protocol.specs.Effects.{notifies, proposes, initiator_sends, log_sends, acquirer_sends}
 use Rattle.protocol.specs.History.{Entry, Transition, newest, sends, transitions_of}
 use Rattle.protocol.specs.Registries.{is_node}
@@ -63,17 +63,17 @@ unrefused (c ∷ cs) v w n =
       | inr o ↦ let e = cond-false c.0 (IsRefused c.1) (refuse cs v) o in e ∙ unrefused cs v (subst Welcome e w) n.1
     ]
 
-enters_here : (scheme : Scheme) (es : List Entry) (xs : List Transition) → length es + 1 ≤ scheme.records → enters scheme es xs ≡ Enters xs
-enters_here scheme es xs room = cond-false (nat_le scheme.records (length es)) (IsRefused journal_full) (Enters xs) (lt-leb scheme.records (length es) (omega arith))
+enters_here : (scheme : Scheme) (es : List Entry) (xs : List Transition) → length es + 1 ≤ scheme.records → recorded_if_room scheme es xs ≡ IsRecorded xs
+enters_here scheme es xs room = cond-false (nat_le scheme.records (length es)) (IsRefused journal_full) (IsRecorded xs) (lt-leb scheme.records (length es) (omega arith))
 
 -- a proposal of a transaction that is not known
 checked_here : (scheme : Scheme) (es : List Entry) (t : TransactionId) (k : Content) (moment : ℕ) (found : List ℕ) → length es + 1 ≤ scheme.records
-    → log.checked scheme es t None k moment found ≡ Enters (checked t k moment found ∷ [])
+    → log.checked scheme es t None k moment found ≡ IsRecorded (checked t k moment found ∷ [])
 checked_here scheme es t k moment [] room = enters_here scheme es _ room
 checked_here scheme es t k moment (c ∷ cs) room = enters_here scheme es _ room
 
 arrived_here : (scheme : Scheme) (c : Code) (es : List Entry) (t : TransactionId) (k : Content) (moment : ℕ) (found : List ℕ) → length es + 1 ≤ scheme.records
-    → arrival scheme c es t None k moment found ≡ Enters (arrived c t k moment found ∷ [])
+    → arrival scheme c es t None k moment found ≡ IsRecorded (arrived c t k moment found ∷ [])
 arrived_here scheme c es t k moment [] room = enters_here scheme es _ room
 arrived_here scheme c es t k moment (n ∷ ns) room = enters_here scheme es _ room
 
@@ -109,7 +109,7 @@ module _ (scheme : Scheme) (moment : Moment) (w : World) (calm : Calm scheme w) 
   pub log_takes_offer : (c : Code) (t : TransactionId) (k : Content) → In (proposes (Registry c) Itl t proposal.Proposed k) (sends (committed_of w (Registry c)))
       → newest (transitions_of (committed_of w Itl)) t ≡ None → length (committed_of w Itl) + 1 ≤ scheme.records
       → verdict scheme Itl (committed_of w Itl) (Received (proposes (Registry c) Itl t proposal.Proposed k) moment)
-      ≡ Enters (checked t k moment.seconds (log_findings scheme (ledger scheme (committed_of w Itl)) t.code k) ∷ [])
+      ≡ IsRecorded (checked t k moment.seconds (log_findings scheme (ledger scheme (committed_of w Itl)) t.code k) ∷ [])
   unfolding verdict
   log_takes_offer c t k h none room =
       let m : Message = proposes (Registry c) Itl t proposal.Proposed k in
@@ -117,17 +117,17 @@ module _ (scheme : Scheme) (moment : Moment) (w : World) (calm : Calm scheme w) 
       ∙ ap (λ o. log.checked scheme (committed_of w Itl) t o k moment.seconds (log_findings scheme (ledger scheme (committed_of w Itl)) t.code k)) none
       ∙ checked_here scheme (committed_of w Itl) t k moment.seconds (log_findings scheme (ledger scheme (committed_of w Itl)) t.code k) room
 
-  pub log_takes_notice : (c : Code) (t : TransactionId) (said : Notice) (l : Transition) (k : Content) (new : Status) → l.content ≡ Some k → In (notifies (Registry c) Itl t said) (sends (committed_of w (Registry c))) → Last w Itl t l
-      → log_row (Stands l.new) (Notified (notice_status said)) ≡ Move new → length (committed_of w Itl) + 1 ≤ scheme.records
-      → verdict scheme Itl (committed_of w Itl) (Received (notifies (Registry c) Itl t said) moment) ≡ Enters (moved l new moment.seconds (notifies Itl (told_to l.id k new) l.id said ∷ []) ∷ [])
+  pub log_takes_notified : (c : Code) (t : TransactionId) (said : NotifiedStatus) (l : Transition) (k : Content) (new : Status) → l.content ≡ Some k → In (notifies (Registry c) Itl t said) (sends (committed_of w (Registry c))) → Last w Itl t l
+      → log_row (Stands l.new) (Notified (notified_status said)) ≡ Move new → length (committed_of w Itl) + 1 ≤ scheme.records
+      → verdict scheme Itl (committed_of w Itl) (Received (notifies (Registry c) Itl t said) moment) ≡ IsRecorded (moved l new moment.seconds (notifies Itl (told_to l.id k new) l.id said ∷ []) ∷ [])
   unfolding verdict
-  log_takes_notice c t said l k new content h is move room =
+  log_takes_notified c t said l k new content h is move room =
       let m : Message = notifies (Registry c) Itl t said in
       unrefused (log_refusals scheme (committed_of w Itl) m) (log_answer scheme (committed_of w Itl) moment.seconds m) (heard m h) (refl, (refl, (refl, (refl, tt))))
-      ∙ ap (λ o. log.told scheme (committed_of w Itl) t o (notice_codes said) moment.seconds (Notified (notice_status said))) is
-      ∙ ap (by_row scheme (committed_of w Itl) (decide.moved t l.content moment.seconds (log_sends t l.content (notice_codes said) (Notified (notice_status said)))))
-      (ap (λ z. log_row z (Notified (notice_status said))) (known_status l k content) ∙ move)
-      ∙ ap (λ x. enters scheme (committed_of w Itl) (x ∷ []))
+      ∙ ap (λ o. log.told scheme (committed_of w Itl) t o (notified_codes said) moment.seconds (Notified (notified_status said))) is
+      ∙ ap (by_row scheme (committed_of w Itl) (decide.moved t l.content moment.seconds (log_sends t l.content (notified_codes said) (Notified (notified_status said)))))
+      (ap (λ z. log_row z (Notified (notified_status said))) (known_status l k content) ∙ move)
+      ∙ ap (λ x. recorded_if_room scheme (committed_of w Itl) (x ∷ []))
       (passed_transition t l k said new moment.seconds (newest_id (transitions_of (committed_of w Itl)) t l is).1 content move)
       ∙ enters_here scheme (committed_of w Itl) (moved l new moment.seconds (notifies Itl (told_to l.id k new) l.id said ∷ []) ∷ []) room
 
@@ -136,7 +136,7 @@ module _ (scheme : Scheme) (moment : Moment) (w : World) (calm : Calm scheme w) 
   pub acquirer_takes_offer : (c : Code) (t : TransactionId) (k : Content) → In (proposes Itl (Registry c) t proposal.Checked k) (sends (committed_of w Itl))
       → newest (transitions_of (committed_of w (Registry c))) t ≡ None → length (committed_of w (Registry c)) + 1 ≤ scheme.records
       → verdict scheme (Registry c) (committed_of w (Registry c)) (Received (proposes Itl (Registry c) t proposal.Checked k) moment)
-      ≡ Enters (arrived c t k moment.seconds (acquirer_findings scheme c (holding scheme c (committed_of w (Registry c))) k) ∷ [])
+      ≡ IsRecorded (arrived c t k moment.seconds (acquirer_findings scheme c (holding scheme c (committed_of w (Registry c))) k) ∷ [])
   unfolding verdict
   acquirer_takes_offer c t k h none room =
       let m : Message = proposes Itl (Registry c) t proposal.Checked k in
@@ -144,43 +144,43 @@ module _ (scheme : Scheme) (moment : Moment) (w : World) (calm : Calm scheme w) 
       ∙ ap (λ o. arrival scheme c (committed_of w (Registry c)) t o k moment.seconds (acquirer_findings scheme c (holding scheme c (committed_of w (Registry c))) k)) none
       ∙ arrived_here scheme c (committed_of w (Registry c)) t k moment.seconds (acquirer_findings scheme c (holding scheme c (committed_of w (Registry c))) k) room
 
-  notice_open : (c : Code) (t : TransactionId) (said : Notice) (x : Transition) → In (notifies Itl (Registry c) t said) (sends (committed_of w Itl)) → Last w (Registry c) t x
+  notified_open : (c : Code) (t : TransactionId) (said : NotifiedStatus) (x : Transition) → In (notifies Itl (Registry c) t said) (sends (committed_of w Itl)) → Last w (Registry c) t x
       → (verdict scheme (Registry c) (committed_of w (Registry c)) (Received (notifies Itl (Registry c) t said) moment)
-      ≡ in_role scheme c (committed_of w (Registry c)) t (Some x) moment.seconds (Notified (notice_status said)))
-      × Welcome (in_role scheme c (committed_of w (Registry c)) t (Some x) moment.seconds (Notified (notice_status said)))
+      ≡ in_role scheme c (committed_of w (Registry c)) t (Some x) moment.seconds (Notified (notified_status said)))
+      × Welcome (in_role scheme c (committed_of w (Registry c)) t (Some x) moment.seconds (Notified (notified_status said)))
   unfolding verdict
-  notice_open c t said x h is =
+  notified_open c t said x h is =
       let m : Message = notifies Itl (Registry c) t said in
       let e =
       unrefused (registry_refusals c (committed_of w (Registry c)) m) (registry_answer scheme c (committed_of w (Registry c)) moment.seconds m) (heard m h) (refl, (refl, (refl, tt)))
-      ∙ ap (λ o. in_role scheme c (committed_of w (Registry c)) t o moment.seconds (Notified (notice_status said))) is in
+      ∙ ap (λ o. in_role scheme c (committed_of w (Registry c)) t o moment.seconds (Notified (notified_status said))) is in
       (e, subst Welcome e (heard m h))
 
-  pub initiator_takes : (c : Code) (t : TransactionId) (said : Notice) (x : Transition) (k : Content) (new : Status) → x.content ≡ Some k → In (notifies Itl (Registry c) t said) (sends (committed_of w Itl))
-      → Last w (Registry c) t x → same_code t.code c ≡ true → initiator_row (Stands x.new) (Notified (notice_status said)) ≡ Move new → length (committed_of w (Registry c)) + 1 ≤ scheme.records
-      → verdict scheme (Registry c) (committed_of w (Registry c)) (Received (notifies Itl (Registry c) t said) moment) ≡ Enters (moved x new moment.seconds (settled_messages c x.id new) ∷ [])
+  pub initiator_takes : (c : Code) (t : TransactionId) (said : NotifiedStatus) (x : Transition) (k : Content) (new : Status) → x.content ≡ Some k → In (notifies Itl (Registry c) t said) (sends (committed_of w Itl))
+      → Last w (Registry c) t x → same_code t.code c ≡ true → initiator_row (Stands x.new) (Notified (notified_status said)) ≡ Move new → length (committed_of w (Registry c)) + 1 ≤ scheme.records
+      → verdict scheme (Registry c) (committed_of w (Registry c)) (Received (notifies Itl (Registry c) t said) moment) ≡ IsRecorded (moved x new moment.seconds (settled_messages c x.id new) ∷ [])
   initiator_takes c t said x k new content h is own move room =
       let es = committed_of w (Registry c) in
-      let told = notice_status said in
-      (notice_open c t said x h is).0
+      let told = notified_status said in
+      (notified_open c t said x h is).0
       ∙ cond-true (same_code t.code c) _ _ own
       ∙ ap (by_row scheme es (decide.moved t x.content moment.seconds (initiator_sends c t x.content (Notified told)))) (ap (λ z. initiator_row z (Notified told)) (known_status x k content) ∙ move)
-      ∙ ap (λ y. enters scheme es (y ∷ [])) (settled_transition c t x told new moment.seconds (newest_id (transitions_of es) t x is).1 move)
+      ∙ ap (λ y. recorded_if_room scheme es (y ∷ [])) (settled_transition c t x told new moment.seconds (newest_id (transitions_of es) t x is).1 move)
       ∙ enters_here scheme es (moved x new moment.seconds (settled_messages c x.id new) ∷ []) room
 
-  pub acquirer_takes : (c : Code) (t : TransactionId) (said : Notice) (x : Transition) (k : Content) (new : Status) → x.content ≡ Some k → In (notifies Itl (Registry c) t said) (sends (committed_of w Itl))
-      → Last w (Registry c) t x → same_code t.code c ≡ false → acquirer_row (Stands x.new) (Notified (notice_status said)) ≡ Move new → length (committed_of w (Registry c)) + 1 ≤ scheme.records
-      → verdict scheme (Registry c) (committed_of w (Registry c)) (Received (notifies Itl (Registry c) t said) moment) ≡ Enters (moved x new moment.seconds [] ∷ [])
+  pub acquirer_takes : (c : Code) (t : TransactionId) (said : NotifiedStatus) (x : Transition) (k : Content) (new : Status) → x.content ≡ Some k → In (notifies Itl (Registry c) t said) (sends (committed_of w Itl))
+      → Last w (Registry c) t x → same_code t.code c ≡ false → acquirer_row (Stands x.new) (Notified (notified_status said)) ≡ Move new → length (committed_of w (Registry c)) + 1 ≤ scheme.records
+      → verdict scheme (Registry c) (committed_of w (Registry c)) (Received (notifies Itl (Registry c) t said) moment) ≡ IsRecorded (moved x new moment.seconds [] ∷ [])
   acquirer_takes c t said x k new content h is foreign move room =
       let es = committed_of w (Registry c) in
-      let told = notice_status said in
+      let told = notified_status said in
       let held = holds_some scheme c (transitions_of es) x.content in
       let to = decide.moved t x.content moment.seconds (acquirer_sends c t [] (Notified told)) in
-      let o = notice_open c t said x h is in
+      let o = notified_open c t said x h is in
       let e =
       cond-false (same_code t.code c) _ (by_row scheme es to (unless_held held (acquirer_row (known (Some x)) (Notified told)))) foreign
       ∙ ap (λ row. by_row scheme es to (unless_held held row)) (ap (λ z. acquirer_row z (Notified told)) (known_status x k content) ∙ move) in
       o.0 ∙ e
       ∙ ap (by_row scheme es to) (free_row scheme es to held (Move new) (λ h. cc (h)) (subst Welcome e o.1))
-      ∙ ap (λ y. enters scheme es (y ∷ [])) (finished_transition t x new moment.seconds (newest_id (transitions_of es) t x is).1)
+      ∙ ap (λ y. recorded_if_room scheme es (y ∷ [])) (finished_transition t x new moment.seconds (newest_id (transitions_of es) t x is).1)
       ∙ enters_here scheme es (moved x new moment.seconds [] ∷ []) room

@@ -13,16 +13,16 @@ use Rattle.units.specs.declared.code.Node.TheVariants.{Itl, Registry}
 use Rattle.status.specs.Content.{Content}
 use Rattle.status.specs.Id.{same_id}
 use Rattle.status.specs.declared.id.TransactionId.{TransactionId}
-use Rattle.status.specs.declared.words.Known.{Known}
-use Rattle.status.specs.declared.words.Known.TheVariants.{Stands}
-use Rattle.status.specs.declared.words.Row.{Row}
-use Rattle.status.specs.declared.words.RowInput.{RowInput}
-use Rattle.status.specs.declared.words.RowInput.TheVariants.{Notified}
-use Rattle.status.specs.declared.words.Status.{Status}
-use Rattle.status.specs.declared.words.Status.TheVariants.{Proposed, Completed, Cancelled, Checked, Accepted, Rejected, Terminated}
+use Rattle.status.specs.declared.rows.RecordedStatus.{RecordedStatus}
+use Rattle.status.specs.declared.rows.RecordedStatus.TheVariants.{Stands}
+use Rattle.status.specs.declared.rows.Row.{Row}
+use Rattle.status.specs.declared.rows.RowInput.{RowInput}
+use Rattle.status.specs.declared.rows.RowInput.TheVariants.{Notified}
+use Rattle.status.specs.declared.status.Status.{Status}
+use Rattle.status.specs.declared.status.Status.TheVariants.{Proposed, Completed, Cancelled, Checked, Accepted, Rejected, Terminated}
 use Rattle.wire.specs.declared.message.ProposalStatus.TheVariants as proposal
-use Rattle.wire.specs.declared.notice.Notice.{Notice}
-use Rattle.wire.specs.declared.notice.Notice.TheVariants as notice
+use Rattle.wire.specs.declared.notified.NotifiedStatus.{NotifiedStatus}
+use Rattle.wire.specs.declared.notified.NotifiedStatus.TheVariants as notified
 use Rattle.scheme.specs.declared.registries.Scheme.{Scheme}
 use Rattle.protocol.specs.Claims.{committed_of, IsEnd, IsUnderWay, StandsAt}
 use Rattle.protocol.specs.Effects.{notifies, proposes}
@@ -43,7 +43,8 @@ use Rattle.safety.proofs.OwnersOfUnits.SumsOverRegistries.{one_or_none}
 use Rattle.safety.proofs.WayToRest.TakenMessages.{Last, Room, causal}
 use Rattle.safety.proofs.WayToRest.WakingNodes.{Reaches, reaches_on}
 
--- the transfer was brought to its end, by a limited number of records at the log and at each registry, and no other was touched
+-- the transfer was brought to its end, by a limited number of records at the log and at each registry, and no other
+-- was touched
 pub record Closes (scheme : Scheme) (w : World) (t : TransactionId) (i j : ℕ) : Type 0 where
   pub world : World
   pub reaches : Reaches w world
@@ -63,7 +64,7 @@ pub record Stage (scheme : Scheme) (w : World) (t : TransactionId) (x : Transiti
   pub other : same_code t.code k.acquirer ≡ false
 
 -- a table is read at what stands and what is told
-pub table_at : (table : Known → RowInput → Row) (a b c d : Status) → a ≡ b → c ≡ d → table (Stands a) (Notified c) ≡ table (Stands b) (Notified d)
+pub table_at : (table : RecordedStatus → RowInput → Row) (a b c d : Status) → a ≡ b → c ≡ d → table (Stands a) (Notified c) ≡ table (Stands b) (Notified d)
 table_at table a b c d e h = ap (λ z. table (Stands z) (Notified c)) e ∙ ap (λ z. table (Stands b) (Notified z)) h
 
 -- what has ended is not open
@@ -224,7 +225,7 @@ module _ (scheme : Scheme) (t : TransactionId) where
     id_at n y is = newest_id (transitions_of (committed_of w n)) t y is
 
     -- what the nodes' newest transitions sent
-    pub told_by : (n : Node) (y : Transition) (to : Node) (said : Notice) → Last w n t y → In (notifies n to y.id said) y.messages → In (notifies n to t said) (sends (committed_of w n))
+    pub told_by : (n : Node) (y : Transition) (to : Node) (said : NotifiedStatus) → Last w n t y → In (notifies n to y.id said) y.messages → In (notifies n to t said) (sends (committed_of w n))
     told_by n y to said is h =
         let id = id_at n y is in
         subst (λ z. In (notifies n to z said) (sends (committed_of w n))) id.1 (transition_sends (committed_of w n) y (notifies n to y.id said) id.0 h)
@@ -233,8 +234,8 @@ module _ (scheme : Scheme) (t : TransactionId) where
     log_tells l is st e = subst (SaysAtLog l) e (log_has_said scheme (committed_of w Itl) (cau.made Itl) l (id_at Itl l is).0)
 
     -- what the log cancelled with a content, its acquirer was told
-    pub log_tells_acquirer : (l : Transition) → Last w Itl t l → l.new ≡ Cancelled → l.content ≡ Some k → In (notifies Itl (Registry k.acquirer) t notice.Cancelled) (sends (committed_of w Itl))
-    log_tells_acquirer l is e content = told_by Itl l (Registry k.acquirer) notice.Cancelled is (cancelled_said scheme (committed_of w Itl) (cau.made Itl) l (id_at Itl l is).0 e k content)
+    pub log_tells_acquirer : (l : Transition) → Last w Itl t l → l.new ≡ Cancelled → l.content ≡ Some k → In (notifies Itl (Registry k.acquirer) t notified.Cancelled) (sends (committed_of w Itl))
+    log_tells_acquirer l is e content = told_by Itl l (Registry k.acquirer) notified.Cancelled is (cancelled_said scheme (committed_of w Itl) (cau.made Itl) l (id_at Itl l is).0 e k content)
 
     pub own_tells : (st : Status) → x.new ≡ st → SaysOwn t.code x st
     own_tells st e =

@@ -9,7 +9,7 @@ use Rattle.wire.specs.declared.input.Input.TheVariants.{Received}
 use Rattle.wire.specs.declared.message.Message.{Message}
 use Rattle.scheme.specs.declared.registries.Scheme.{Scheme}
 use Rattle.protocol.specs.Claims.{committed_part}
-use Rattle.protocol.specs.Deciding.{Verdict, Enters, IsRepeat, IsLate, IsRefused}
+use Rattle.protocol.specs.Deciding.{Verdict, IsRecorded, IsRepeat, IsLate, IsRefused}
 use Rattle.protocol.specs.Verdict.{verdict, history}
 use Rattle.wire.specs.Parties.{receiver}
 use Rattle.protocol.specs.World.{World, Station, Turn, Stepped, station, journal, put, stays, rests, answered, take_input, commit, crash, restart, sent, at_node, is_order, posted, deliver, step}
@@ -34,7 +34,7 @@ cond_grows s true t u h i = h
 cond_grows s false t u h i = i
 
 answered_grows : (s : Station) (i : Input) (v : Verdict) → Grows s (answered s i v).station
-answered_grows s i (Enters xs) = same_grows s (answered s i (Enters xs)).station refl
+answered_grows s i (IsRecorded xs) = same_grows s (answered s i (IsRecorded xs)).station refl
 answered_grows s i IsRepeat = same_grows s s refl
 answered_grows s i IsLate = same_grows s s refl
 answered_grows s i (IsRefused code) = same_grows s s refl

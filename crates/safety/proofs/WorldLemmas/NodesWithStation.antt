@@ -12,10 +12,10 @@ use Rattle.wire.specs.declared.input.Input.{Input}
 use Rattle.wire.specs.declared.input.Input.TheVariants.{Received}
 use Rattle.wire.specs.declared.message.Message.{Message}
 use Rattle.scheme.specs.Order as order
-use Rattle.scheme.specs.declared.members.Member.{Member}
+use Rattle.scheme.specs.declared.members.SchemeRegistry.{SchemeRegistry}
 use Rattle.scheme.specs.declared.registries.Scheme.{Scheme}
 use Rattle.protocol.specs.Claims.{live_of, committed_of, whole, committed_part}
-use Rattle.protocol.specs.Deciding.{Verdict, Enters, IsRepeat, IsLate, IsRefused}
+use Rattle.protocol.specs.Deciding.{Verdict, IsRecorded, IsRepeat, IsLate, IsRefused}
 use Rattle.protocol.specs.History.{Entry}
 use Rattle.protocol.specs.Registries.{is_node}
 use Rattle.protocol.specs.Verdict.{verdict, history}
@@ -35,7 +35,7 @@ cond_node n true t u h i = h
 cond_node n false t u h i = i
 
 answered_node : (s : Station) (i : Input) (v : Verdict) → (answered s i v).station.node ≡ s.node
-answered_node s i (Enters xs) = refl
+answered_node s i (IsRecorded xs) = refl
 answered_node s i IsRepeat = refl
 answered_node s i IsLate = refl
 answered_node s i (IsRefused code) = refl
@@ -107,7 +107,7 @@ run_placed w (e ∷ es) all = run_placed (step w e).world es (step_placed w e al
 
 -- ---- the opening world
 
-opening_members : (c : Code) (members : List Member) → is_some (at (Registry c) (map (λ m. opening_station (Registry m.code)) members)) ≡ is_some (order.member members c)
+opening_members : (c : Code) (members : List SchemeRegistry) → is_some (at (Registry c) (map (λ m. opening_station (Registry m.code)) members)) ≡ is_some (order.member members c)
 opening_members c [] = refl
 opening_members c (m ∷ ms) = go (same_code m.code c) (opening_members c ms)
   where

@@ -14,10 +14,10 @@ use Rattle.status.specs.declared.moment.Moment.{Moment}
 use Rattle.wire.specs.declared.input.Input.{Input}
 use Rattle.wire.specs.declared.input.Input.TheVariants.{Received}
 use Rattle.wire.specs.declared.message.Message.{Message}
-use Rattle.scheme.specs.declared.members.Member.{Member}
+use Rattle.scheme.specs.declared.members.SchemeRegistry.{SchemeRegistry}
 use Rattle.scheme.specs.declared.registries.Scheme.{Scheme}
 use Rattle.protocol.specs.Claims.{committed_part, committed_of}
-use Rattle.protocol.specs.Deciding.{Enters}
+use Rattle.protocol.specs.Deciding.{IsRecorded}
 use Rattle.protocol.specs.History.{Transition, sends}
 use Rattle.protocol.specs.Registries.{is_node}
 use Rattle.protocol.specs.Verdict.{verdict, history}
@@ -54,12 +54,12 @@ pub record Grown (w : World) (events : List WorldEvent) (n : Node) (input : Inpu
 -- ---- an idle station
 
 -- it takes what its verdict enters
-pub takes : (scheme : Scheme) (n : Node) (s : Station) (input : Input) (xs : List Transition) → s.node ≡ n → s.runs ≡ true → s.tail ≡ [] → verdict scheme n (history scheme n s.committed) input ≡ Enters xs
-    → take_input scheme input s ≡ answered s input (Enters xs)
+pub takes : (scheme : Scheme) (n : Node) (s : Station) (input : Input) (xs : List Transition) → s.node ≡ n → s.runs ≡ true → s.tail ≡ [] → verdict scheme n (history scheme n s.committed) input ≡ IsRecorded xs
+    → take_input scheme input s ≡ answered s input (IsRecorded xs)
 takes scheme n s input xs own runs settled says =
     let whole : journal s ≡ s.committed = ap (λ zs. s.committed ++ zs) settled ∙ append-nil s.committed in
-    let here : verdict scheme s.node (history scheme s.node (journal s)) input ≡ Enters xs =
-    ap (λ zs. verdict scheme s.node (history scheme s.node zs) input) whole ∙ subst (λ z. verdict scheme z (history scheme z s.committed) input ≡ Enters xs) (sym own) says in
+    let here : verdict scheme s.node (history scheme s.node (journal s)) input ≡ IsRecorded xs =
+    ap (λ zs. verdict scheme s.node (history scheme s.node zs) input) whole ∙ subst (λ z. verdict scheme z (history scheme z s.committed) input ≡ IsRecorded xs) (sym own) says in
     cond-true s.runs (answered s input (verdict scheme s.node (history scheme s.node (journal s)) input)) (rests s NotPossible) runs ∙ ap (answered s input) here
 
 -- and commits it
@@ -76,7 +76,7 @@ commits s input runs settled = go s.runs s.tail runs settled
 -- ---- an event by which a node takes an input, and a commit
 
 pub record_on : (w : World) (n : Node) (s : Station) (input : Input) (xs : List Transition) (e : WorldEvent) → station w n ≡ Some s → (s.runs ≡ true) × (s.tail ≡ [])
-    → verdict w.scheme n (history w.scheme n s.committed) input ≡ Enters xs → (step w e).world ≡ (at_node w (station w n) (take_input w.scheme input)).world → Grown w (e ∷ Commit n 1 ∷ []) n input
+    → verdict w.scheme n (history w.scheme n s.committed) input ≡ IsRecorded xs → (step w e).world ≡ (at_node w (station w n) (take_input w.scheme input)).world → Grown w (e ∷ Commit n 1 ∷ []) n input
 unfolding step
 record_on w n s input xs e is idle says first = record {
   at = u;
@@ -155,7 +155,7 @@ sending w n m i = go (station w n) refl
 
 -- a message that was sent can be posted, delivered and committed
 pub delivers : (w : World) → Quiet w → (m : Message) (moment : Moment) (xs : List Transition) → is_node w.scheme (receiver m) ≡ true → In m (sends (committed_of w (sender m)))
-    → verdict w.scheme (receiver m) (committed_of w (receiver m)) (Received m moment) ≡ Enters xs
+    → verdict w.scheme (receiver m) (committed_of w (receiver m)) (Received m moment) ≡ IsRecorded xs
     → (key : ℕ) × Grown w (Post (sender m) key ∷ Deliver (length w.bag) moment ∷ Commit (receiver m) 1 ∷ []) (receiver m) (Received m moment)
 delivers w quiet m moment xs node sent says =
     let n = receiver m in
@@ -167,7 +167,7 @@ delivers w quiet m moment xs node sent says =
       bag_on w (Post (sender m) key.0) (w.bag ++ p ∷ []) (Deliver (length w.bag) moment ∷ Commit n 1 ∷ []) n (Received m moment)
           (post_step w (sender m) from.0 key.0 m from.1 (quiet.idle (sender m) from.0 from.1).0 key.1)
           (record_on (record w { bag = w.bag ++ p ∷ [] }) n to.0 (Received m moment) xs (Deliver (length w.bag) moment) to.1 (quiet.idle n to.0 to.1)
-          (subst (λ o. verdict w.scheme n (history w.scheme n (committed_part o)) (Received m moment) ≡ Enters xs) to.1 says) (deliver_step w p moment n refl)),
+          (subst (λ o. verdict w.scheme n (history w.scheme n (committed_part o)) (Received m moment) ≡ IsRecorded xs) to.1 says) (deliver_step w p moment n refl)),
     )
 
 -- ---- quiet worlds
@@ -180,7 +180,7 @@ opening_quiet scheme = record {
       elim (In_find (λ (x : Station). same_node x.node n) (opening scheme).stations s is).0 [
         | inl e ↦ subst (λ (z : Station). (z.runs ≡ true) × (z.tail ≡ [])) e (refl, refl)
         | inr i ↦
-            let m = In_map (λ (k : Member). opening_station (Registry k.code)) s scheme.members i in
+            let m = In_map (λ (k : SchemeRegistry). opening_station (Registry k.code)) s scheme.members i in
             subst (λ (z : Station). (z.runs ≡ true) × (z.tail ≡ [])) m.2 (refl, refl)
       ];
 }

@@ -15,10 +15,10 @@ use Rattle.status.specs.declared.moment.Moment.{Moment}
 use Rattle.wire.specs.declared.input.Input.{Input}
 use Rattle.wire.specs.declared.input.Input.TheVariants.{Received}
 use Rattle.wire.specs.declared.message.Message.{Message}
-use Rattle.scheme.specs.declared.members.Member.{Member}
+use Rattle.scheme.specs.declared.members.SchemeRegistry.{SchemeRegistry}
 use Rattle.scheme.specs.declared.registries.Scheme.{Scheme}
 use Rattle.protocol.specs.Claims.{committed_of, live_of, committed_part, whole}
-use Rattle.protocol.specs.Deciding.{Verdict, Enters, IsRepeat, IsLate, IsRefused}
+use Rattle.protocol.specs.Deciding.{Verdict, IsRecorded, IsRepeat, IsLate, IsRefused}
 use Rattle.protocol.specs.History.{sends}
 use Rattle.protocol.specs.Verdict.{verdict, history}
 use Rattle.wire.specs.Parties.{sender, receiver}
@@ -63,7 +63,7 @@ module _ (w : World) (sound : Sound w) (n : Node) (s : Station) (is : station w 
   keeps_if false t k = still
 
   keeps_answered : (i : Input) (v : Verdict) → ((m : Message) (moment : Moment) → i ≡ Received m moment → In m (sends (committed_of w (sender m)))) → Keeps w s (answered s i v).station
-  keeps_answered i (Enters xs) fair = record {
+  keeps_answered i (IsRecorded xs) fair = record {
     node = refl;
     more = [];
     grown = sym (append-nil s.committed);
@@ -218,7 +218,7 @@ run_sound w (e ∷ es) sound = run_sound (step w e).world es (step_sound w e sou
 
 -- ---- the opening world
 
-opening_empty : (n : Node) (members : List Member) → whole (at n (map (λ m. opening_station (Registry m.code)) members)) ≡ []
+opening_empty : (n : Node) (members : List SchemeRegistry) → whole (at n (map (λ m. opening_station (Registry m.code)) members)) ≡ []
 opening_empty n [] = refl
 opening_empty n (m ∷ ms) = go (same_node (Registry m.code) n) (opening_empty n ms)
   where

@@ -55,7 +55,7 @@ fn cut<M: Copy>(
     spans.insert(unit, span)?;
     let left = Span {
         last: unit.number - 1,
-        mark: span.mark,
+        label: span.label,
     };
     overwrite(spans, at, left);
     Ok(Step::Cut(at, unit, span))
@@ -65,36 +65,36 @@ fn cut<M: Copy>(
 fn put<M: Copy>(
     spans: &mut BTreeMap<Unit, Span<M>>,
     unit: Unit,
-    mark: M,
+    label: M,
 ) -> Result<Step<M>, AllocError>
     requires none { (at : Serial) (span : Span M) → tree.get unit_cmp spans.old at ≡ Some span → has (interval_at at span) unit ≡ false }
     requires absent { tree.get unit_cmp spans.old unit ≡ None }
     requires parted { AreParted (tree.get unit_cmp spans.old) }
     requires range { IsRange unit.number unit.number }
-    ensures begun { OnOk result (IsBegun unit (Some mark) (tree.get unit_cmp spans.old) (tree.get unit_cmp spans.new)) }
+    ensures begun { OnOk result (IsBegun unit (Some label) (tree.get unit_cmp spans.old) (tree.get unit_cmp spans.new)) }
     ensures undo { IfOk result (λ step. Restores step (tree.get unit_cmp spans.old) (tree.get unit_cmp spans.new)) }
     ensures ordered { IsOrdered unit_cmp spans.new }
     ensures err { OnErr result (IsUnchanged spans.old spans.new) }
 {
     let span = Span {
         last: unit.number,
-        mark,
+        label,
     };
     spans.insert(unit, span)?;
     Ok(Step::Put(unit))
 }
 
-// Makes an interval begin at the unit where one has it, and where none has it puts one in that has the mark, if there
+// Makes an interval begin at the unit where one has it, and where none has it puts one in that has the label, if there
 // is one. After an error nothing has changed.
 pub(super) fn begin<M: Copy>(
     spans: &mut BTreeMap<Unit, Span<M>>,
     unit: Unit,
-    mark: Option<M>,
+    label: Option<M>,
 ) -> Result<Step<M>, AllocError>
     requires parted { AreParted (tree.get unit_cmp spans.old) }
     requires ordered { IsOrdered unit_cmp spans.old }
-    requires range { IsSome mark → IsRange unit.number unit.number }
-    ensures begun { OnOk result (IsBegun unit mark (tree.get unit_cmp spans.old) (tree.get unit_cmp spans.new)) }
+    requires range { IsSome label → IsRange unit.number unit.number }
+    ensures begun { OnOk result (IsBegun unit label (tree.get unit_cmp spans.old) (tree.get unit_cmp spans.new)) }
     ensures undo { IfOk result (λ step. Restores step (tree.get unit_cmp spans.old) (tree.get unit_cmp spans.new)) }
     ensures ordered { IsOrdered unit_cmp spans.new }
     ensures err { OnErr result (IsUnchanged spans.old spans.new) }
@@ -106,8 +106,8 @@ pub(super) fn begin<M: Copy>(
             }
             cut(spans, at, span, unit)
         }
-        _ => match mark {
-            Some(mark) => put(spans, unit, mark),
+        _ => match label {
+            Some(label) => put(spans, unit, label),
             None => Ok(Step::Nothing),
         },
     }

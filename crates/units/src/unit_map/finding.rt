@@ -6,7 +6,7 @@ ghost use Rattle.std.specs.BTreeMap.Range.{IsLeBy};
 ghost use Rattle.std.specs.Ordering.{is_lt};
 ghost use Rattle.units.specs.Intervals.{has};
 ghost use Rattle.units.specs.Keys.{unit_cmp};
-ghost use Rattle.units.specs.Spans.{AreParted, marks_in};
+ghost use Rattle.units.specs.Spans.{AreParted, labels_in};
 ghost use Rattle.units.specs.declared.block.Unit.{Unit as Serial};
 
 use super::Span;
@@ -41,8 +41,8 @@ pub(super) fn interval_with<M: Copy>(
 ) -> Option<Interval<M>>
     requires parted { AreParted (tree.get unit_cmp spans.now) }
     requires ordered { IsOrdered unit_cmp spans.now }
-    ensures some { IfSome result (λ i. (has i unit.now ≡ true) × ((u : Serial) → has i u ≡ true → marks_in spans.now u ≡ Some i.mark)) }
-    ensures none { IfNone result (marks_in spans.now unit.now ≡ None) }
+    ensures some { IfSome result (λ i. (has i unit.now ≡ true) × ((u : Serial) → has i u ≡ true → labels_in spans.now u ≡ Some i.label)) }
+    ensures none { IfNone result (labels_in spans.now unit.now ≡ None) }
 {
     let (at, span) = floor(spans, *unit)?;
     let interval = span.interval(at);

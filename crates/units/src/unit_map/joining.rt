@@ -1,4 +1,4 @@
-//! Neighbours with one mark made one interval.
+//! Neighbours with one label made one interval.
 ghost use Rattle.std.specs.Prelude.{◌≡◌, ◌≤◌, ◌+◌, Option, false, Some, IsSome};
 ghost use Rattle.std.specs.BTreeMap as tree;
 ghost use Rattle.std.specs.BTreeMap.{IsOrdered};
@@ -12,17 +12,17 @@ use super::Span;
 use super::cutting::overwrite;
 use super::finding::{floor, is_past, next};
 use crate::block::{Block, Unit};
-use crate::interval::Mark;
+use crate::interval::Label;
 use crate::ordering::goes_on;
 use std::collections::BTreeMap;
 
-// Makes the interval that begins at the unit a part of the one that ends before it, where the two have one mark.
-fn join<M: Mark>(spans: &mut BTreeMap<Unit, Span<M>>, unit: Unit)
+// Makes the interval that begins at the unit a part of the one that ends before it, where the two have one label.
+fn join<M: Label>(spans: &mut BTreeMap<Unit, Span<M>>, unit: Unit)
     requires parted { AreParted (tree.get unit_cmp spans.old) }
     requires ordered { IsOrdered unit_cmp spans.old }
     requires first { 1 ≤ unit.number }
     ensures parted { AreParted (tree.get unit_cmp spans.new) }
-    ensures means { (marks : Serial → Option M) → Mean (tree.get unit_cmp spans.old) marks → Mean (tree.get unit_cmp spans.new) marks }
+    ensures means { (labels : Serial → Option M) → Mean (tree.get unit_cmp spans.old) labels → Mean (tree.get unit_cmp spans.new) labels }
     ensures seams { (q : Serial) → IsSeam (tree.get unit_cmp spans.new) q → IsSeam (tree.get unit_cmp spans.old) q × (unit ≡ q → ⊥) }
     ensures keys { (q : Serial) → IsSome (tree.get unit_cmp spans.new q) → IsSome (tree.get unit_cmp spans.old q) }
     ensures ordered { IsOrdered unit_cmp spans.new }
@@ -38,7 +38,7 @@ fn join<M: Mark>(spans: &mut BTreeMap<Unit, Span<M>>, unit: Unit)
         if goes_on(&left.interval(at), &right.interval(unit)) {
             let joined = Span {
                 last: right.last,
-                mark: left.mark,
+                label: left.label,
             };
             overwrite(spans, at, joined);
             spans.remove(&unit);
@@ -47,12 +47,12 @@ fn join<M: Mark>(spans: &mut BTreeMap<Unit, Span<M>>, unit: Unit)
 }
 
 // Joins each interval that begins from one unit to another, both included, with the one that it goes on from.
-fn join_between<M: Mark>(spans: &mut BTreeMap<Unit, Span<M>>, from: Unit, to: Unit)
+fn join_between<M: Label>(spans: &mut BTreeMap<Unit, Span<M>>, from: Unit, to: Unit)
     requires parted { AreParted (tree.get unit_cmp spans.old) }
     requires ordered { IsOrdered unit_cmp spans.old }
     requires start { from.number ≤ last_unit + 1 }
     ensures parted { AreParted (tree.get unit_cmp spans.new) }
-    ensures means { (marks : Serial → Option M) → Mean (tree.get unit_cmp spans.old) marks → Mean (tree.get unit_cmp spans.new) marks }
+    ensures means { (labels : Serial → Option M) → Mean (tree.get unit_cmp spans.old) labels → Mean (tree.get unit_cmp spans.new) labels }
     ensures seams { (q : Serial) → IsSeam (tree.get unit_cmp spans.new) q → IsSeam (tree.get unit_cmp spans.old) q × (is_between from to q ≡ false) }
     ensures ordered { IsOrdered unit_cmp spans.new }
 {
@@ -67,7 +67,7 @@ fn join_between<M: Mark>(spans: &mut BTreeMap<Unit, Span<M>>, from: Unit, to: Un
 }
 
 // Joins intervals in the blocks and at their ends.
-pub(super) fn join_along<M: Mark>(spans: &mut BTreeMap<Unit, Span<M>>, blocks: &[Block])
+pub(super) fn join_along<M: Label>(spans: &mut BTreeMap<Unit, Span<M>>, blocks: &[Block])
     requires parted { AreParted (tree.get unit_cmp spans.old) }
     requires ordered { IsOrdered unit_cmp spans.old }
     ensures { AreJoinedIn blocks.now spans.old spans.new }

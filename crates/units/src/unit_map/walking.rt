@@ -1,11 +1,11 @@
-//! Marks that change, and intervals that are taken out, which takes no memory.
+//! Labels that change, and intervals that are taken out, which takes no memory.
 ghost use Rattle.std.specs.Prelude.{◌≡◌, ◌≤◌, ◌+◌, Option, Some, None, true, false};
 ghost use Rattle.std.specs.BTreeMap as tree;
 ghost use Rattle.std.specs.BTreeMap.{IsOrdered};
 ghost use Rattle.units.specs.Keys.{unit_cmp};
 ghost use Rattle.units.specs.Limits.{last_unit};
 ghost use Rattle.units.specs.SpanSteps.{AreChangedIn};
-ghost use Rattle.units.specs.Spans.{AreParted, IsChanged, Puts, is_between, remarked};
+ghost use Rattle.units.specs.Spans.{AreParted, IsChanged, Puts, is_between, relabelled};
 ghost use Rattle.units.specs.declared.block.Unit.{Unit as Serial};
 
 use super::Span;
@@ -14,21 +14,21 @@ use super::finding::{is_past, next};
 use crate::block::{Block, Unit};
 use std::collections::BTreeMap;
 
-// Gives an interval that is there the mark, or takes it out.
-fn respan<M: Copy>(spans: &mut BTreeMap<Unit, Span<M>>, at: Unit, span: Span<M>, mark: Option<M>)
+// Gives an interval that is there the label, or takes it out.
+fn respan<M: Copy>(spans: &mut BTreeMap<Unit, Span<M>>, at: Unit, span: Span<M>, label: Option<M>)
     requires { tree.get unit_cmp spans.old at ≡ Some span }
-    ensures puts { Puts at (remarked span mark) (tree.get unit_cmp spans.old) (tree.get unit_cmp spans.new) }
+    ensures puts { Puts at (relabelled span label) (tree.get unit_cmp spans.old) (tree.get unit_cmp spans.new) }
     ensures ordered { IsOrdered unit_cmp spans.new }
 {
-    match mark {
-        Some(mark) => overwrite(spans, at, Span { mark, ..span }),
+    match label {
+        Some(label) => overwrite(spans, at, Span { label, ..span }),
         None => {
             spans.remove(&at);
         }
     }
 }
 
-// Gives each interval that begins from one unit to another, both included, the mark that becomes of its own, or takes
+// Gives each interval that begins from one unit to another, both included, the label that becomes of its own, or takes
 // it out.
 pub(super) fn change_between<M: Copy, F: Fn(M) -> Option<M>>(
     spans: &mut BTreeMap<Unit, Span<M>>,
@@ -50,12 +50,12 @@ pub(super) fn change_between<M: Copy, F: Fn(M) -> Option<M>>(
         if is_past(&unit, &to) {
             break;
         }
-        respan(spans, unit, span, change(span.mark));
+        respan(spans, unit, span, change(span.label));
         cursor = unit.after();
     }
 }
 
-// Gives each interval that begins in one of the blocks the mark that becomes of its own, or takes it out.
+// Gives each interval that begins in one of the blocks the label that becomes of its own, or takes it out.
 pub(super) fn change_in<M: Copy, F: Fn(M) -> Option<M>>(
     spans: &mut BTreeMap<Unit, Span<M>>,
     blocks: &[Block],

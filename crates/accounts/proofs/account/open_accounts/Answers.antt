@@ -6,7 +6,7 @@ use Rattle.std.proofs.lemmas.Bool.Decides.{nat_tests}
 use Rattle.std.proofs.lemmas.List.{take_more}
 use Rattle.std.proofs.lemmas.List.Folds.{list_any-append}
 use Rattle.accounts.specs.Accounts.{opened}
-use Rattle.accounts.proofs.Standings.{tied}
+use Rattle.accounts.proofs.AccountStatuses.{tied}
 use Rattle.accounts.proofs.account.open_accounts.Goals as goal
 
 turned : (m n : ℕ) → eqb m n ≡ eqb n m

@@ -5,14 +5,14 @@ use Rattle.std.proofs.lemmas.Bool.{cases_Bool}
 use Rattle.std.proofs.lemmas.List.{take_more, take_all}
 use Rattle.std.proofs.lemmas.List.Folds.{list_any-append}
 use Rattle.std.proofs.lemmas.Option.{none-some, same_Some}
-use Rattle.units.specs.Intervals.{AreKept, mark_at}
+use Rattle.units.specs.Intervals.{AreKept, label_at}
 use Rattle.units.specs.Keys.{unit_cmp}
 use Rattle.units.specs.Unit.{has_unit, covers}
 use Rattle.units.specs.declared.block.Block.{Block}
 use Rattle.units.specs.declared.block.Kind.{Kind}
 use Rattle.units.specs.declared.block.Unit.{Unit as Serial}
 use Rattle.accounts.specs.Refusals.{IsUnitOf}
-use Rattle.accounts.proofs.Parts.{apart_from_kept, there_covered, marked, among_front, among_last}
+use Rattle.accounts.proofs.Parts.{apart_from_kept, there_covered, labelled, among_front, among_last}
 use Rattle.accounts.proofs.apart.apart.Goals as goal
 
 pub loop-block-init : goal.loop-block-init
@@ -58,7 +58,7 @@ returns-clause-same c s =
     let parts = c.in_ok-blocks_of.field-0.items in
     let same = c.in_ok-blocks_of.ensures ∙ c.deref.ensures.value in
     sym (there_covered parts s)
-    ∙ ap (λ is. is_some (mark_at is s)) same
+    ∙ ap (λ is. is_some (label_at is s)) same
     ∙ ap is_some (c.in_ok-intervals.ensures.same s)
     ∙ c.loop-block.invariant.there s
     ∙ ap (λ bs. covers bs s) (take_all c.loop-block.block-index c.args.blocks.now (omega arith))
@@ -68,5 +68,5 @@ returns-clause-kinds c p s of =
     let parts = c.in_ok-blocks_of.field-0.items in
     let same = c.in_ok-blocks_of.ensures ∙ c.deref.ensures.value in
     let apart = apart_from_kept parts (subst AreKept (sym same) c.in_ok-intervals.ensures.kept) in
-    let is : get c.loop-block.kinds s ≡ Some p.raw.kind = sym (ap (λ is. mark_at is s) same ∙ c.in_ok-intervals.ensures.same s) ∙ marked parts p s apart of in
+    let is : get c.loop-block.kinds s ≡ Some p.raw.kind = sym (ap (λ is. label_at is s) same ∙ c.in_ok-intervals.ensures.same s) ∙ labelled parts p s apart of in
     subst (λ bs. (b : Block) × IsUnitOf bs b s × (b.raw.kind ≡ p.raw.kind)) (take_all c.loop-block.block-index c.args.blocks.now (omega arith)) (c.loop-block.invariant.kinds s p.raw.kind is)

@@ -1,4 +1,4 @@
-use Rattle.checks.proofs.MarkedUnits.{some_there}
+use Rattle.checks.proofs.LabelledUnits.{some_there}
 use Rattle.checks.proofs.log.is_busy.Goals as goal
 
 pub returns : goal.returns

@@ -1,5 +1,5 @@
 use Rattle.std.proofs.Common.{rules, true}
-use Rattle.checks.proofs.MarkedUnits.{some_missing}
+use Rattle.checks.proofs.LabelledUnits.{some_missing}
 use Rattle.checks.proofs.log.is_unallotted.Goals as goal
 
 pub returns : goal.returns

@@ -5,7 +5,7 @@ use Rattle.units.specs.RefusalCodes.{unit_repeated, unit_not_allotted, other_own
 use Rattle.status.specs.Content.{raws}
 use Rattle.protocol.specs.Checks.{Causes, codes_of, has_other_kind}
 use Rattle.checks.proofs.CodesInOrder.{noted_after}
-use Rattle.checks.proofs.MarkedUnits.{each_block}
+use Rattle.checks.proofs.LabelledUnits.{each_block}
 use Rattle.checks.specs.Following.{is_of_other, unit_causes}
 use Rattle.checks.proofs.log.note_units.Goals as goal
 

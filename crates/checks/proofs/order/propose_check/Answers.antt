@@ -33,7 +33,7 @@ pub returns-clause-reservable : goal.returns-clause-reservable
 returns-clause-reservable c = λ blocks e.
     let held = c.args.holdings.now in
     let order = c.args.order.now in
-    let offered = c.in_ok-content.ensures in
+    let new_content = c.in_ok-content.ensures in
     let same = ap raws c.deref.ensures.value ∙ c.in_ok-blocks.ensures.blocks in
-    subst (λ (n : ℕ). MayReserve held n blocks) (sym (ap (λ (k : Content). k.account) offered))
-    (may_canonical held order.account c.deref.result.now blocks (e ∙ ap (λ (k : Content). k.units) offered ∙ ap canonical (sym same)) c.in_ok-check_holdings.ensures.may)
+    subst (λ (n : ℕ). MayReserve held n blocks) (sym (ap (λ (k : Content). k.account) new_content))
+    (may_canonical held order.account c.deref.result.now blocks (e ∙ ap (λ (k : Content). k.units) new_content ∙ ap canonical (sym same)) c.in_ok-check_holdings.ensures.may)

@@ -1,4 +1,5 @@
--- A connection's invariant has the fact, and no call of it says so. A `&` to a connection holds a `&` to fields of which the invariant is true, so the fact is read there before the walk that Rattle made.
+-- A connection's invariant has the fact, and no call of it says so. A `&` to a connection holds a `&` to fields of
+-- which the invariant is true, so the fact is read there before the walk that Rattle made.
 use Rattle.std.proofs.Common.{◌≡◌, IsTrue, false, sym, ap, subst, ◌∷◌, []}
 use base.Logic.{via, mono_r, fst∗, snd∗, sep}
 use base.Fml.{ftrue, fsep}

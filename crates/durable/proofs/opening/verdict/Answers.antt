@@ -1,5 +1,5 @@
 use Rattle.std.proofs.Common.{◌≡◌, subst, rules}
-use Rattle.durable.specs.declared.shown.Owner.TheVariants.{OtherFormat, OtherNode, Asker}
+use Rattle.durable.specs.declared.owner_row.Owner.TheVariants.{OtherFormat, OtherNode, ThisNode}
 use Rattle.durable.specs.Opening.{IsOwner, IsNegative}
 use Rattle.durable.proofs.Verdicts.{below_zero, other_format, other_node, a_store}
 use Rattle.durable.proofs.opening.verdict.Goals as goal
@@ -19,8 +19,8 @@ returns-in-OtherNode-default-clause-verdict c node db has owner end =
     let high : IsNegative c.args.least → ⊥ = search rules in
     other_node node db c.args.least has (subst (IsOwner node db) is owner) end high
 
-pub returns-in-Asker-default-clause-verdict : goal.returns-in-Asker-default-clause-verdict
-returns-in-Asker-default-clause-verdict c node db has owner end =
-    let is : c.args.owner ≡ Asker = search rules in
+pub returns-in-ThisNode-default-clause-verdict : goal.returns-in-ThisNode-default-clause-verdict
+returns-in-ThisNode-default-clause-verdict c node db has owner end =
+    let is : c.args.owner ≡ ThisNode = search rules in
     let high : IsNegative c.args.least → ⊥ = search rules in
     a_store node db c.args.least has (subst (IsOwner node db) is owner) end high

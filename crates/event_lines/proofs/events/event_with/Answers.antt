@@ -1,5 +1,13 @@
+use Rattle.std.proofs.Common.{◌≡◌, ◌∷◌}
+use Rattle.event_lines.specs.declared.line.LineFault.TheVariants.{Order}
+use Rattle.event_lines.specs.declared.verbs.Verb.{Verb}
+use Rattle.event_lines.specs.Verbs.{verb_text}
+use Rattle.event_lines.specs.Words.{texts}
 use Rattle.event_lines.proofs.OneEvent.{no_verb}
+use Rattle.event_lines.proofs.WantedParts.{part_so, lack_so}
 use Rattle.event_lines.proofs.events.event_with.Goals as goal
 
-pub returns-in_default-read-clause-order : goal.returns-in_default-read-clause-order
-returns-in_default-read-clause-order c = λ was. no_verb _ _ _ c.in-Some.ensures.some c.in_default-read.ensures.none
+pub returns-in_err-verb-clause-order : goal.returns-in_err-verb-clause-order
+returns-in_err-verb-clause-order c = λ was. no_verb _ _ _
+    (part_so (λ p. texts c.args.words.now ≡ p.0.now ∷ texts p.1.now) c.first_of.result Order _ c.in_ok-word.ensures.value c.first_of.ensures.some)
+    (lack_so ((v : Verb) → _ ≡ verb_text v → ⊥) c.read.result Order _ c.in_err-verb.ensures.value c.read.ensures.none)

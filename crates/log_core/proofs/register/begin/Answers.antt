@@ -6,7 +6,7 @@ use Rattle.std.proofs.lemmas.Result.{on_ok_weaker}
 use Rattle.units.specs.declared.block.Block.{Block}
 use Rattle.checks.specs.declared.register.UnderWay.{UnderWay}
 use Rattle.protocol.specs.History.{has_serial}
-use Rattle.log_core.proofs.MarkedBlocks.{one_mark}
+use Rattle.log_core.proofs.LabelledBlocks.{one_label}
 use Rattle.log_core.proofs.register.begin.Goals as goal
 
 pub set_all-requires-clause-apart : goal.set_all-requires-clause-apart
@@ -14,8 +14,8 @@ set_all-requires-clause-apart c = c.requires c.in-Some.content.now c.units.resul
 
 pub returns-in-Some-clause-ok : goal.returns-in-Some-clause-ok
 returns-in-Some-clause-ok c =
-    let mark : UnderWay = record { id = c.args.id } in
-    let all = c.set_all.ensures.ok (λ (b : Block). Some mark) (λ b r h. search (rules, h)) in
+    let label : UnderWay = record { id = c.args.id } in
+    let all = c.set_all.ensures.ok (λ (b : Block). Some label) (λ b r h. search (rules, h)) in
     on_ok_weaker c.set_all.result
-    (λ h s. h s ∙ one_mark mark c.units.result.now c.in-Some.content.now.units s (get c.args.under_way.now s) c.units.ensures.value
-    ∙ ap (λ k. if has_serial (option_copied k) s then Some mark else get c.args.under_way.now s) (sym c.in-Some.is)) all
+    (λ h s. h s ∙ one_label label c.units.result.now c.in-Some.content.now.units s (get c.args.under_way.now s) c.units.ensures.value
+    ∙ ap (λ k. if has_serial (option_copied k) s then Some label else get c.args.under_way.now s) (sym c.in-Some.is)) all

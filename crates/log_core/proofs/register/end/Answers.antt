@@ -6,7 +6,7 @@ use Rattle.protocol.specs.History.{has_serial}
 use Rattle.status.specs.Id.{same_id}
 use Rattle.status.proofs.UnitsOfContents.{covered}
 use Rattle.checks.specs.declared.register.UnderWay.{UnderWay}
-use Rattle.log_core.proofs.CheckedTransfers.{none_marked}
+use Rattle.log_core.proofs.CheckedTransfers.{none_labelled}
 use Rattle.log_core.proofs.register.end.Goals as goal
 
 pub remove_in-requires-clause-only : goal.remove_in-requires-clause-only
@@ -20,6 +20,6 @@ remove_in-requires-clause-only c s u e =
 
 pub returns-in_default : goal.returns-in_default
 returns-in_default c s =
-    none_marked (λ (u : UnderWay). same_id u.id c.args.id) (get c.args.under_way.now s)
+    none_labelled (λ (u : UnderWay). same_id u.id c.args.id) (get c.args.under_way.now s)
     (λ u e. false_from_ne_true (same_id u.id c.args.id) (λ y.
     let none : false ≡ _ = ap (λ k. has_serial (option_copied k) s) (sym c.in_default.is) ∙ c.requires s u e y in cc (none)))

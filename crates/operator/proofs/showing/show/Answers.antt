@@ -1,11 +1,50 @@
-use Rattle.std.proofs.Common.{subst, sym, rules}
-use Rattle.operator.specs.Show.{FailsToShow}
-use Rattle.operator.proofs.ShowFaults.{fails}
+use Rattle.std.proofs.Common.{codes, sym, ◌∙◌}
+use Rattle.std.proofs.KnownBytes.{Appends-trans}
+use Rattle.operator.specs.declared.fault.OpFault.{OpFault}
+use Rattle.operator.specs.Show.{FailsToShow, record_lines}
+use Rattle.operator.proofs.Pages.{passed-on, read-twice}
+use Rattle.operator.proofs.ShowFaults.{fails-second, fails-last}
 use Rattle.operator.proofs.showing.show.Goals as goal
 
-pub returns-in-Err-clause-err : goal.returns-in-Err-clause-err
-returns-in-Err-clause-err g c =
-    let places = g.S.NodeStore.content c.args.store.now in
-    let written = g.W.Write.contents c.args.writer.now in
-    subst (λ e. FailsToShow e c.args.node (g.S.NodeStore.is_honest c.load.new.self) places written written) (sym c.store_fault.ensures)
-    (fails c.args.node c.in-Err.fault (g.S.NodeStore.is_honest c.load.new.self) places written (search rules) c.in-Err.ensures.loads.damaged)
+pub returns-in_err-written-clause-err : goal.returns-in_err-written-clause-err
+returns-in_err-written-clause-err g c =
+    let s = g.S.NodeStore in
+    let new = c.write_records.new.store in
+    let v = g.W.Write.contents c.args.writer.now in
+    let w = g.W.Write.contents c.write_records.new.writer in
+    let e = c.in_err-written.field-0.0 in
+    let first = c.in-Ok.ensures.ok in
+    let stops = c.in_err-written.ensures.stops in
+    passed-on (λ (e : OpFault). FailsToShow e c.args.node (s.is_honest new) (s.content c.args.store.now) v w) e c.from_residual.result c.from_residual.ensures.1
+    (fails-second e c.args.node c.in-Ok.count (s.is_honest new) (s.content c.count_records.new.store) (s.content c.args.store.now) v w first.0 c.in_err-written.ensures.err
+    (λ h. first.2.kept (stops.1.honest h)) (λ h. first.3 (stops.1.honest h)) first.1)
+
+pub returns-in_err-write_more-clause-err : goal.returns-in_err-write_more-clause-err
+returns-in_err-write_more-clause-err g c =
+    let s = g.S.NodeStore in
+    let old = c.args.store.now in
+    let mid = c.count_records.new.store in
+    let new = c.write_records.new.store in
+    let v = g.W.Write.contents c.args.writer.now in
+    let x = g.W.Write.contents c.write_records.new.writer in
+    let w = g.W.Write.contents c.write_more.new.writer in
+    let e = c.in_err-write_more.field-0.0 in
+    let first = c.in-Ok.ensures.ok in
+    let second = c.in_ok-written.ensures.ok in
+    let are = read-twice s.is_honest s.content s.must_reopen s.faults old mid new first.0 second.inputs first.2 first.3 second.reads (second.many ∙ sym first.1) in
+    passed-on (λ (e : OpFault). FailsToShow e c.args.node (s.is_honest new) (s.content old) v w) e c.from_residual-in_err-write_more.result c.from_residual-in_err-write_more.ensures.1
+    (fails-last e c.args.node c.in_ok-written.written (s.is_honest new) (s.content old) v x w second.inputs c.in_err-write_more.ensures.err are second.size second.lines)
+
+pub returns-clause-ok : goal.returns-clause-ok
+returns-clause-ok g c =
+    let s = g.S.NodeStore in
+    let new = c.write_records.new.store in
+    let v = g.W.Write.contents c.args.writer.now in
+    let x = g.W.Write.contents c.write_records.new.writer in
+    let w = g.W.Write.contents c.write_more.new.writer in
+    let first = c.in-Ok.ensures.ok in
+    let second = c.in_ok-written.ensures.ok in (
+      second.inputs,
+      read-twice s.is_honest s.content s.must_reopen s.faults c.args.store.now c.count_records.new.store new first.0 second.inputs first.2 first.3 second.reads (second.many ∙ sym first.1),
+      Appends-trans v x w (record_lines 0 second.inputs) (codes "end\n") second.lines c.in_ok-write_more.ensures.ok.1,
+    )

@@ -5,12 +5,12 @@ use Rattle.std.specs.FinMap.{get-empty}
 use Rattle.std.specs.Option.{option_or}
 use Rattle.units.specs.Apart.{AllApart}
 use Rattle.units.specs.Unit.{covers}
-use Rattle.accounts.specs.Holdings.{free_lot, kind_in}
-use Rattle.registry_core.proofs.OpeningLots.{allotment_more}
+use Rattle.accounts.specs.Holdings.{free_unit_holding, kind_in}
+use Rattle.registry_core.proofs.OpeningUnitHoldings.{allotment_more}
 use Rattle.registry_core.proofs.opening.credit_each.Goals as goal
 
 pub loop-allotment-init : goal.loop-allotment-init
-loop-allotment-init c = record { accounts = refl; lots = λ s. ap (λ m. map.get m s) c.requires.empty ∙ get-empty unit_cmp s }
+loop-allotment-init c = record { accounts = refl; unit_holdings = λ s. ap (λ m. map.get m s) c.requires.empty ∙ get-empty unit_cmp s }
 
 pub credit-requires-clause-apart : goal.credit-requires-clause-apart
 credit-requires-clause-apart c =
@@ -20,7 +20,7 @@ credit-requires-clause-apart c =
 pub credit-requires-clause-absent : goal.credit-requires-clause-absent
 credit-requires-clause-absent c s y =
     let f = allotment_more c.args.allotted.now c.loop-allotment.allotment-index c.allotment-item.result c.requires.apart c.loop-allotment-test.true c.allotment-item.is in
-    c.loop-allotment.invariant.lots s ∙ f.absent s (ap (λ bs. covers bs s) (sym c.as_slice.ensures) ∙ y)
+    c.loop-allotment.invariant.unit_holdings s ∙ f.absent s (ap (λ bs. covers bs s) (sym c.as_slice.ensures) ∙ y)
 
 pub loop-allotment-preserved : goal.loop-allotment-preserved
 loop-allotment-preserved c =
@@ -29,7 +29,7 @@ loop-allotment-preserved c =
     let put = c.in_ok-credit.ensures.ok in
     record {
       accounts = put.0 ∙ c.loop-allotment.invariant.accounts;
-      lots = λ s.
-          put.1 s ∙ ap (λ bs. option_or (option_map (free_lot a.account) (kind_in bs s)) (map.get c.loop-allotment.holdings.lots s)) c.as_slice.ensures
-          ∙ ap (option_or (option_map (free_lot a.account) (kind_in a.units s))) (c.loop-allotment.invariant.lots s) ∙ sym (f.credited s);
+      unit_holdings = λ s.
+          put.1 s ∙ ap (λ bs. option_or (option_map (free_unit_holding a.account) (kind_in bs s)) (map.get c.loop-allotment.holdings.unit_holdings s)) c.as_slice.ensures
+          ∙ ap (option_or (option_map (free_unit_holding a.account) (kind_in a.units s))) (c.loop-allotment.invariant.unit_holdings s) ∙ sym (f.credited s);
     }

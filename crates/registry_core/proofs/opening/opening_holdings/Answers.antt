@@ -8,17 +8,17 @@ use Rattle.std.specs.FinMap.{get-empty}
 use Rattle.std.specs.Prelude.{None, Some}
 use Rattle.units.specs.Apart.{AllApart}
 use Rattle.accounts.specs.Refusals.{IsOpen}
-use Rattle.accounts.specs.declared.lot.Standing.TheVariants.{Open}
+use Rattle.accounts.specs.declared.unit_holding.AccountStatus.TheVariants.{Open}
 use Rattle.scheme.specs.Order.{HasAccount, blocks_of, has_account}
 use Rattle.scheme.proofs.Pairs.{each_weaker}
-use Rattle.registry_core.specs.Opening.{allotted_lot}
-use Rattle.registry_core.proofs.OpeningLots.{member_accounts, member_apart, opening_of_member, opening_of_none}
+use Rattle.registry_core.specs.Opening.{allotted_unit_holding}
+use Rattle.registry_core.proofs.OpeningUnitHoldings.{member_accounts, member_apart, opening_of_member, opening_of_none}
 use Rattle.registry_core.proofs.opening.opening_holdings.Goals as goal
 
-pub returns-in_default-clause-lots : goal.returns-in_default-clause-lots
-returns-in_default-clause-lots c =
+pub returns-in_default-clause-unit_holdings : goal.returns-in_default-clause-unit_holdings
+returns-in_default-clause-unit_holdings c =
     let none = sym c.member.ensures ∙ ap option_copied c.in_default.is in
-    IfOk-weaker c.new.result _ _ (λ h e s. ap (λ m. map.get m s) e ∙ get-empty unit_cmp s ∙ sym (opening_of_none c.args.scheme.now c.args.code none s)) c.new.ensures.lots
+    IfOk-weaker c.new.result _ _ (λ h e s. ap (λ m. map.get m s) e ∙ get-empty unit_cmp s ∙ sym (opening_of_none c.args.scheme.now c.args.code none s)) c.new.ensures.unit_holdings
 
 pub credit_each-requires-clause-open_accounts : goal.credit_each-requires-clause-open_accounts
 credit_each-requires-clause-open_accounts c =
@@ -35,7 +35,7 @@ credit_each-requires-clause-apart c =
     let there = sym c.member.ensures ∙ ap option_copied c.in-Some.is in
     subst (λ parts. AllApart (blocks_of parts)) (sym c.as_slice-2.ensures) (member_apart c.args.scheme.now c.args.code c.in-Some.member.now there)
 
-pub returns-clause-lots : goal.returns-clause-lots
-returns-clause-lots c s =
+pub returns-clause-unit_holdings : goal.returns-clause-unit_holdings
+returns-clause-unit_holdings c s =
     let there = sym c.member.ensures ∙ ap option_copied c.in-Some.is in
-    c.in_ok-credit_each.ensures.lots s ∙ ap (λ parts. allotted_lot parts s) c.as_slice-2.ensures ∙ sym (opening_of_member c.args.scheme.now c.args.code c.in-Some.member.now there s)
+    c.in_ok-credit_each.ensures.unit_holdings s ∙ ap (λ parts. allotted_unit_holding parts s) c.as_slice-2.ensures ∙ sym (opening_of_member c.args.scheme.now c.args.code c.in-Some.member.now there s)

@@ -4,7 +4,7 @@ use Rattle.std.proofs.lemmas.Bool.{cond-true, cond-false}
 use Rattle.std.proofs.lemmas.List.Sums.{sum_by-cons}
 use Rattle.units.specs.Intervals.{size, AreKept}
 use Rattle.units.specs.Spans.{interval_at, intervals_of}
-use Rattle.units.proofs.CountingUnits.{weight, passing_marks, sizes_bound}
+use Rattle.units.proofs.CountingUnits.{weight, passing_labels, sizes_bound}
 use Rattle.units.proofs.counting.count_where.Goals as goal
 
 pub overflow_sub-count : goal.overflow_sub-count
@@ -41,8 +41,8 @@ loop-unit-preserved-then-test g c =
     record {
       fits = omega arith;
       counted = λ passes means.
-          let passed : passes i.mark ≡ true = sym (means i.mark c.test.result c.test.ensures) ∙ c.if-test.true in
-          let counted = cond-true (passes i.mark) (size i) 0 passed in
+          let passed : passes i.label ≡ true = sym (means i.label c.test.result c.test.ensures) ∙ c.if-test.true in
+          let counted = cond-true (passes i.label) (size i) 0 passed in
           let split' = ap (λ es. sum_by (weight passes) (intervals_of es)) c.in-Some.ensures.steps in
           let more' = sum_by-cons (weight passes) i (intervals_of c.next.new.self) in
           omega (arith, c.loop-unit.invariant.counted passes means);
@@ -59,8 +59,8 @@ loop-unit-preserved g c =
     record {
       fits = omega arith;
       counted = λ passes means.
-          let failed : passes i.mark ≡ false = sym (means i.mark c.test.result c.test.ensures) ∙ c.if-test.false in
-          let skipped = cond-false (passes i.mark) (size i) 0 failed in
+          let failed : passes i.label ≡ false = sym (means i.label c.test.result c.test.ensures) ∙ c.if-test.false in
+          let skipped = cond-false (passes i.label) (size i) 0 failed in
           let split' = ap (λ es. sum_by (weight passes) (intervals_of es)) c.in-Some.ensures.steps in
           let more' = sum_by-cons (weight passes) i (intervals_of c.next.new.self) in
           omega (arith, c.loop-unit.invariant.counted passes means);
@@ -73,4 +73,4 @@ returns g c passes means =
     let none : sum_by (weight passes) (intervals_of c.loop-unit.unit-iterator) ≡ 0 = ap (λ es. sum_by (weight passes) (intervals_of es)) c.in-None.ensures.steps.0 in
     let all = c.loop-unit.invariant.counted passes means in
     let count : c.loop-unit.count ≡ sum_by (weight passes) is = omega arith in
-    count ∙ sym (passing_marks passes is c.requires.kept)
+    count ∙ sym (passing_labels passes is c.requires.kept)

@@ -3,4 +3,4 @@ use Rattle.units.proofs.OrderingJoins.{Joins}
 use Rattle.units.proofs.ordering.in_order.Given as goal
 
 abbrev pub invariant-loop-next : goal.invariant-loop-next
-invariant-loop-next g l = Joins g.M.Mark.group l.next-items l.joined.items (drop l.next-index l.next-items)
+invariant-loop-next g l = Joins g.M.Label.group l.next-items l.joined.items (drop l.next-index l.next-items)

@@ -10,7 +10,7 @@ returns-clause-all c =
     let held = c.args.self.now in
     let k = c.args.block.now.raw.kind in
     let passes = is_held_as c.args.account k in
-    let same : c.self.inside.lots ≡ held.lots = ap (λ h. h.lots) c.self.view_is in
+    let same : c.self.inside.unit_holdings ≡ held.unit_holdings = ap (λ h. h.unit_holdings) c.self.view_is in
     let found = c.has_all_of.ensures.all passes (λ m r h. search (rules, h)) in
     OnTrue_from c.has_all_of.result _ (λ e s h. held_as held c.args.account k s (ap (λ m. option_map passes (get m s)) (sym same) ∙ OnTrue_at e found s h))
 
@@ -18,4 +18,4 @@ pub returns-clause-lacking : goal.returns-clause-lacking
 returns-clause-lacking c =
     let k = c.args.block.now.raw.kind in
     let found = c.has_all_of.ensures.some (is_held_as c.args.account k) (λ m r h. search (rules, h)) in
-    OnFalse_from c.has_all_of.result _ (λ e. let w = OnFalse_at e found in (w.0, w.1, not_held c.args.self.now c.args.account k w.0 c.self.inside.lots (ap (λ h. h.lots) c.self.view_is) w.2))
+    OnFalse_from c.has_all_of.result _ (λ e. let w = OnFalse_at e found in (w.0, w.1, not_held c.args.self.now c.args.account k w.0 c.self.inside.unit_holdings (ap (λ h. h.unit_holdings) c.self.view_is) w.2))

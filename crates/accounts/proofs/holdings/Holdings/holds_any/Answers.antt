@@ -11,10 +11,10 @@ use Rattle.accounts.proofs.Blocks.{all_at, covered, covers_from}
 use Rattle.accounts.proofs.holdings.Holdings.holds_any.Goals as goal
 
 abbrev are_absent : Held → Block → Type 0
-are_absent held b = (s : Serial) → IsTrue (has_unit b.raw s) → get held.lots s ≡ None
+are_absent held b = (s : Serial) → IsTrue (has_unit b.raw s) → get held.unit_holdings s ≡ None
 
 abbrev is_there : Held → Block → Type 0
-is_there held b = (s : Serial) × IsTrue (has_unit b.raw s) × IsSome (get held.lots s)
+is_there held b = (s : Serial) × IsTrue (has_unit b.raw s) × IsSome (get held.unit_holdings s)
 
 pub returns-clause-some : goal.returns-clause-some
 returns-clause-some c =

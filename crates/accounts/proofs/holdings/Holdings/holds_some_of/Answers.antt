@@ -8,4 +8,4 @@ pub returns-clause-some : goal.returns-clause-some
 returns-clause-some c =
     OnTrue_from _ _ (λ e.
     let w = OnFalse_at (not-true c.has_none_of.result e) c.has_none_of.ensures.some in
-    (w.0, w.1, ap (λ m. is_some (get m w.0)) (sym (ap (λ h. h.lots) c.self.view_is)) ∙ w.2))
+    (w.0, w.1, ap (λ m. is_some (get m w.0)) (sym (ap (λ h. h.unit_holdings) c.self.view_is)) ∙ w.2))

@@ -13,19 +13,19 @@ use Rattle.accounts.proofs.Holding.{is_unreserved, free_from}
 use Rattle.accounts.proofs.holdings.Holdings.is_each_free.Goals as goal
 
 abbrev are_free : Held → Block → Type 0
-are_free held b = (s : Serial) → IsTrue (has_unit b.raw s) → option_map is_unreserved (get held.lots s) ≡ Some true
+are_free held b = (s : Serial) → IsTrue (has_unit b.raw s) → option_map is_unreserved (get held.unit_holdings s) ≡ Some true
 
 abbrev is_lacking : Held → Block → Type 0
-is_lacking held b = (s : Serial) × IsTrue (has_unit b.raw s) × (option_map is_unreserved (get held.lots s) ≢ Some true)
+is_lacking held b = (s : Serial) × IsTrue (has_unit b.raw s) × (option_map is_unreserved (get held.unit_holdings s) ≢ Some true)
 
 pub returns-clause-all : goal.returns-clause-all
 returns-clause-all c =
     let held = c.args.self.now in
     let blocks = c.args.blocks.now in
     let cases = cases_from_all _ _ c.all.result (are_free held) (is_lacking held) c.all.ensures.ran (YieldsList-from_slice blocks cc) (λ x q k. search rules) (λ x q k. search rules) in
-    OnTrue_from c.all.result _ (λ e s lot h is.
+    OnTrue_from c.all.result _ (λ e s unit_holding h is.
     let b = covered blocks s h in
-    free_from held s lot (all_at (are_free held) blocks (MatchBool-at_true _ _ e cases) b.0 b.1.among s b.1.has) is)
+    free_from held s unit_holding (all_at (are_free held) blocks (MatchBool-at_true _ _ e cases) b.0 b.1.among s b.1.has) is)
 
 pub returns-clause-lacking : goal.returns-clause-lacking
 returns-clause-lacking c =

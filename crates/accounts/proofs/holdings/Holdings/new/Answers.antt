@@ -10,18 +10,18 @@ use Rattle.accounts.proofs.InStep.{kept_empty}
 use Rattle.std.specs.List.{list_any}
 use Rattle.std.specs.Prelude.{◌==◌}
 use Rattle.accounts.specs.Accounts.{opened}
-use Rattle.accounts.specs.declared.lot.Standing.TheVariants.{Open}
-use Rattle.accounts.proofs.Standings.{get-standings}
+use Rattle.accounts.specs.declared.unit_holding.AccountStatus.TheVariants.{Open}
+use Rattle.accounts.proofs.AccountStatuses.{get-account_statuses}
 use Rattle.accounts.proofs.holdings.Holdings.new.Goals as goal
 
-all_open : (t : Bool) → option_map (λ a. a.standing) (cond t (Some opened) None) ≡ cond t (Some Open) None
+all_open : (t : Bool) → option_map (λ a. a.account_status) (cond t (Some opened) None) ≡ cond t (Some Open) None
 all_open true = refl
 all_open false = refl
 
 pub returns-clause-accounts : goal.returns-clause-accounts
 returns-clause-accounts c n =
-    get-standings c.in_ok-accounts.accounts n
-    ∙ ap (option_map (λ a. a.standing)) (c.in_ok-accounts.ensures n)
+    get-account_statuses c.in_ok-accounts.accounts n
+    ∙ ap (option_map (λ a. a.account_status)) (c.in_ok-accounts.ensures n)
     ∙ all_open (list_any (λ a. a == n) c.args.accounts.now)
 
 zero_counts : (t : Bool) → (option_map_or (λ a. a.held) (cond t (Some opened) None) 0 ≡ 0) × (option_map_or (λ a. a.free) (cond t (Some opened) None) 0 ≡ 0)

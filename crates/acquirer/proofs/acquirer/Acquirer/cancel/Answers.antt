@@ -1,7 +1,7 @@
 use Rattle.std.proofs.Common.{ap}
 use Rattle.std.specs.Option.{option_map}
 use Rattle.status.specs.Id.{same_id}
-use Rattle.status.specs.declared.words.Status.TheVariants as words
+use Rattle.status.specs.declared.status.Status.TheVariants as words
 use Rattle.acquirer.specs.Transfers.{finished}
 use Rattle.acquirer.proofs.Tables.{changed_at}
 use Rattle.acquirer.proofs.acquirer.Acquirer.cancel.Goals as goal

@@ -3,7 +3,7 @@ use Rattle.std.specs.Map.{lookup}
 use Rattle.std.specs.Ordering.{is_eq}
 use Rattle.std.specs.Prelude.{Result, Ok, Err, OnErr, OnOk}
 use Rattle.status.specs.Id.{same_id, id_cmp}
-use Rattle.status.specs.declared.words.Status.TheVariants as words
+use Rattle.status.specs.declared.status.Status.TheVariants as words
 use Rattle.acquirer.proofs.Tables.{same_by_id, seen, changed_at}
 use Rattle.acquirer.proofs.acquirer.Acquirer.forestall.Goals as goal
 

@@ -27,14 +27,14 @@ returns-clause-loads g c =
     let h = c.load_page-2.ensures.loads in
     let v = sym c.load_page.view_is in
     let places = content g.S.Store c.args.self.now in
-    let counted : HasCleanDisk (state g.S.Store c.load_page-2.new.self.conn) → c.args.self.now.is_waiting ≡ false → c.load_page.inside.count ≡ length places =
+    let counted : HasCleanDisk (state g.S.Store c.load_page-2.new.self.conn) → c.args.self.now.must_reopen ≡ false → c.load_page.inside.count ≡ length places =
     λ clean runs. let early = subst (λ k. HasCleanDisk (state g.S.Store k.conn)) v (h.honest clean) in
-    subst (λ k. c.load_page.inside.count ≡ length (content g.S.Store k)) (sym v) (c.load_page.invariant.2 early (subst (λ k. k.is_waiting ≡ false) v runs)).counted in
+    subst (λ k. c.load_page.inside.count ≡ length (content g.S.Store k)) (sym v) (c.load_page.invariant.2 early (subst (λ k. k.must_reopen ≡ false) v runs)).counted in
     record {
       reopen = h.reopen;
       honest = h.honest;
-      ok = λ clean. all places c.args.self.now.is_waiting c.load_page.inside.count (λ found. IfOk c.load_page-2.result (λ inputs. AreRecords found inputs.items)) (λ w. ok_waiting places c.load_page-2.result (h.reopen w).0) (counted clean) (h.ok clean);
-      damaged = λ clean. all places c.args.self.now.is_waiting c.load_page.inside.count (λ found. IfErr c.load_page-2.result (λ e. (p : ℕ) → e ≡ Damaged p → (0 ≤ p) × IsDamagedAt (p - 0) found))
+      ok = λ clean. all places c.args.self.now.must_reopen c.load_page.inside.count (λ found. IfOk c.load_page-2.result (λ inputs. AreRecords found inputs.items)) (λ w. ok_waiting places c.load_page-2.result (h.reopen w).0) (counted clean) (h.ok clean);
+      damaged = λ clean. all places c.args.self.now.must_reopen c.load_page.inside.count (λ found. IfErr c.load_page-2.result (λ e. (p : ℕ) → e ≡ Damaged p → (0 ≤ p) × IsDamagedAt (p - 0) found))
           (λ w. damaged_waiting places c.load_page-2.result (h.reopen w).0) (counted clean) (h.damaged clean);
       named = h.named;
       stops = h.stops;

@@ -29,7 +29,7 @@ places g c = take (c.args.until - c.args.first) (drop c.args.first (content g.S.
 counted : (g : _) (c : goal.After-drop-rows-2 g) → HasCleanDisk (state g.S.Store c.rows_of.new.conn) → IsCounted g.S.Store c.args.self.now
 counted g c clean =
     let v = sym c.self.view_is in
-    subst (IsCounted g.S.Store) (sym v) (c.self.invariant.2 (c.rows_of.ensures.clean clean) (subst (λ k. k.is_waiting ≡ false) v c.requires.runs))
+    subst (IsCounted g.S.Store) (sym v) (c.self.invariant.2 (c.rows_of.ensures.clean clean) (subst (λ k. k.must_reopen ≡ false) v c.requires.runs))
 
 long : (g : _) (c : goal.After-drop-rows-2 g) → HasCleanDisk (state g.S.Store c.rows_of.new.conn) → length (places g c) ≡ c.args.until - c.args.first
 long g c clean = let k = (counted g c clean).counted in let w = c.requires.within in as-many c.args.first c.args.until (content g.S.Store c.args.self.now) (omega (arith, k, w))

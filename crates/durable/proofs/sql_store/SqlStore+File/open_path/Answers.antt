@@ -4,10 +4,10 @@ use Rattle.units.specs.Code.{node_text}
 use Rattle.durable.specs.Held.{node_in}
 use Rattle.durable.proofs.sql_store.SqlStore+File.open_path.Goals as goal
 
-pub settled-requires-clause-opened : goal.settled-requires-clause-opened
-settled-requires-clause-opened c clean = (c.in-Ok-open_from.ensures.opened clean).0
+pub store_over-requires-clause-opened : goal.store_over-requires-clause-opened
+store_over-requires-clause-opened c clean = (c.in-Ok-open_from.ensures.opened clean).0
 
-pub returns-in-Ok-settled-clause-owner : goal.returns-in-Ok-settled-clause-owner
-returns-in-Ok-settled-clause-owner c clean =
+pub returns-in-Ok-store_over-clause-owner : goal.returns-in-Ok-store_over-clause-owner
+returns-in-Ok-store_over-clause-owner c clean =
     let named : c.deref.result.now ≡ node_text c.args.node = search rules in
-    subst (λ (n : List ℕ). node_in (file_state c.in-Ok-settled.store.conn).committed.trees ≡ n) named (c.in-Ok-settled.ensures.owner clean)
+    subst (λ (n : List ℕ). node_in (file_state c.in-Ok-store_over.store.conn).committed.trees ≡ n) named (c.in-Ok-store_over.ensures.owner clean)

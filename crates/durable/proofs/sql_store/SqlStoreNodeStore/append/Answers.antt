@@ -6,7 +6,7 @@ pub returns-in-Err-clause-appends : goal.returns-in-Err-clause-appends
 returns-in-Err-clause-appends g c =
     let h = c.in-Err.ensures.appends in
     record {
-      reopen = λ waits. let same = h.reopen waits in (same.0, same-store c.args.self.now c.append.new.self c.counted-self.result _ same.1 (search rules));
+      reopen = λ waits. let same = h.reopen waits in (same.0, same-store c.args.self.now c.append.new.self c.count_fault-self.result _ same.1 (search rules));
       named = h.named;
       stops = h.stops;
       runs = h.runs;

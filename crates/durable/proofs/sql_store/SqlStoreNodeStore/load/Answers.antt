@@ -6,7 +6,7 @@ pub returns-in-Err-clause-loads : goal.returns-in-Err-clause-loads
 returns-in-Err-clause-loads g c =
     let h = c.in-Err.ensures.loads in
     record {
-      reopen = λ waits. let same = h.reopen waits in (same.0, same-store c.args.self.now c.load.new.self c.counted-self.result _ same.1 (search rules));
+      reopen = λ waits. let same = h.reopen waits in (same.0, same-store c.args.self.now c.load.new.self c.count_fault-self.result _ same.1 (search rules));
       honest = h.honest;
       ok = h.ok;
       damaged = h.damaged;

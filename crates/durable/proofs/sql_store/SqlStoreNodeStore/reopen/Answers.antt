@@ -8,9 +8,9 @@ returns-in-Ok-clause-reopens g c = record {
   named = search rules;
   runs = search rules;
   stops = search rules;
-  honest = λ clean. subst (λ link. IsHonest g.D.Disk link) c.replace.ensures.value (c.into_files-files.ensures.honest (c.in-Ok.ensures.found clean).1.honest);
+  honest = λ clean. subst (λ store_state. IsHonest g.D.Disk store_state) c.replace.ensures.value (c.into_files-files.ensures.honest (c.in-Ok.ensures.found clean).1.honest);
   settles = λ clean.
-      settled-again g.D.Disk c.args.self.now.link c.replace.result c.into_files-files.result _ c.replace.ensures.value g.met.D.Disk.seen_may_stay c.into_files-files.ensures.left (c.in-Ok.ensures.found clean);
+      settled-again g.D.Disk c.args.self.now.store_state c.replace.result c.into_files-files.result _ c.replace.ensures.value g.met.D.Disk.seen_may_stay c.into_files-files.ensures.left (c.in-Ok.ensures.found clean);
   settled = λ clean runs next held. c.in-Ok.ensures.durable clean next held;
 }
 
@@ -18,8 +18,8 @@ pub returns-in-Err-clause-fault : goal.returns-in-Err-clause-fault
 returns-in-Err-clause-fault g c clean = (
   c.into_files-files.result,
   (
-    subst (λ link. AreFilesOf g.D.Disk link c.into_files-files.result) c.replace.ensures.value c.into_files-files.ensures.files,
-    had-files g.D.Disk c.args.self.now.link c.replace.result c.into_files-files.result c.replace.ensures.value c.into_files-files.ensures.left,
+    subst (λ store_state. AreFilesOf g.D.Disk store_state c.into_files-files.result) c.replace.ensures.value c.into_files-files.ensures.files,
+    had-files g.D.Disk c.args.self.now.store_state c.replace.result c.into_files-files.result c.replace.ensures.value c.into_files-files.ensures.left,
   ),
   c.in-Err.ensures.fault clean,
 )

@@ -3,7 +3,7 @@ use Rattle.protocol.specs.Decisions.{decided}
 use Rattle.protocol.specs.Effects.{initiator_sends}
 use Rattle.protocol.specs.declared.decision.Decision.TheVariants.{Moves}
 use Rattle.status.specs.Rows.{initiator_row}
-use Rattle.status.specs.declared.words.RowInput.TheVariants.{Notified}
+use Rattle.status.specs.declared.rows.RowInput.TheVariants.{Notified}
 use Rattle.initiator.specs.Transfers.{known_transfer}
 use Rattle.initiator.proofs.initiator.Initiator.notice.Goals as goal
 

@@ -24,7 +24,7 @@ returns-in_err-open-clause-err c =
 
 pub returns-in-Err-clause-err : goal.returns-in-Err-clause-err
 returns-in-Err-clause-err c =
-    let same = same_again c.args.offer.now.id c.forget.new.transfers c.open.new.transfers c.self.inside.transfers (sym (seen c.self.inside.transfers c.args.self.now.transfers (ap (λ i. i.transfers) c.self.view_is) c.args.offer.now.id) ∙ c.requires.absent) c.in_ok-open.ensures.ok c.forget.ensures in
+    let same = same_again c.args.new_transfer.now.id c.forget.new.transfers c.open.new.transfers c.self.inside.transfers (sym (seen c.self.inside.transfers c.args.self.now.transfers (ap (λ i. i.transfers) c.self.view_is) c.args.new_transfer.now.id) ∙ c.requires.absent) c.in_ok-open.ensures.ok c.forget.ensures in
     (ap (λ m. record { code = c.self.inside.code; last = c.self.inside.last; transfers = m }) same ∙ c.self.view_is, c.in-Err.ensures.err)
 
 pub returns-in-Err-clause-refused : goal.returns-in-Err-clause-refused
@@ -36,10 +36,10 @@ pub returns-clause-ok : goal.returns-clause-ok
 returns-clause-ok c = (
   ap (λ i. i.code) c.self.view_is,
   refl,
-  λ t. changed_at (λ _. Some opened) (same_id c.args.offer.now.id t) c.open.new.transfers c.self.inside.transfers c.args.self.now.transfers t (ap (λ i. i.transfers) c.self.view_is) (c.in_ok-open.ensures.ok t),
+  λ t. changed_at (λ _. Some opened) (same_id c.args.new_transfer.now.id t) c.open.new.transfers c.self.inside.transfers c.args.self.now.transfers t (ap (λ i. i.transfers) c.self.view_is) (c.in_ok-open.ensures.ok t),
 )
 
-pub returns-clause-lots : goal.returns-clause-lots
-returns-clause-lots c s =
-    let lot = get c.args.holdings.now.lots s in
-    c.in_default.ensures.ok.1 s ∙ ap (λ b. cond b (option_map (reserved c.args.offer.now.id) lot) lot) (covered c.units-units.result.now c.args.offer.now.content.units s c.units-units.ensures.value)
+pub returns-clause-unit_holdings : goal.returns-clause-unit_holdings
+returns-clause-unit_holdings c s =
+    let unit_holding = get c.args.holdings.now.unit_holdings s in
+    c.in_default.ensures.ok.1 s ∙ ap (λ b. cond b (option_map (reserved c.args.new_transfer.now.id) unit_holding) unit_holding) (covered c.units-units.result.now c.args.new_transfer.now.content.units s c.units-units.ensures.value)

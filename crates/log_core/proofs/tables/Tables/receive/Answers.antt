@@ -24,8 +24,8 @@ check-requires-clause-welcome c =
     let es = history s Itl c.args.self.now.journal.items in
     ap (λ m. first_of (log_refusals s es m)) (sym c.in-Proposal.is) ∙ sym (c.message_refusal.ensures es c.requires.kept.kept.transfers) ∙ c.in_default.is
 
-pub hear-requires-clause-welcome : goal.hear-requires-clause-welcome
-hear-requires-clause-welcome c =
+pub take_notification-requires-clause-welcome : goal.take_notification-requires-clause-welcome
+take_notification-requires-clause-welcome c =
     let s = c.args.scheme.now in
     let es = history s Itl c.args.self.now.journal.items in
     ap (λ m. first_of (log_refusals s es m)) (sym c.in-Notification.is) ∙ sym (c.message_refusal.ensures es c.requires.kept.kept.transfers) ∙ c.in_default.is

@@ -3,7 +3,7 @@ use Rattle.outbox.specs.Sending.{Sends}
 use Rattle.log_core.specs.declared.tables.Tables.{Tables}
 use Rattle.log_core.proofs.CarriedEffects.{effect_apart, same_carried}
 use Rattle.log_core.proofs.KeptByMoves.{kept_moved}
-use Rattle.log_core.proofs.KnownMarks.{marked_so}
+use Rattle.log_core.proofs.KnownLabels.{labelled_so}
 use Rattle.log_core.proofs.TakenInputs.{GivenUp, are_same, takes_err, takes_recorded, room_enters, unfitting}
 use Rattle.log_core.proofs.tables.Tables.record.Goals as goal
 
@@ -21,8 +21,8 @@ carry_out-requires-clause-apart c =
     effect_apart c.args.scheme.now c.args.self.now c.args.input.now x.0 c.args.effect c.args.moment.seconds c.requires.kept
     (room_enters c.args.scheme.now c.args.self.now c.args.input.now _ x.1 c.in_ok-record.ensures.ok) x.3
 
-pub carry_out-requires-clause-marked : goal.carry_out-requires-clause-marked
-carry_out-requires-clause-marked c = marked_so c.args.scheme.now c.args.self.now c.requires.kept
+pub carry_out-requires-clause-labelled : goal.carry_out-requires-clause-labelled
+carry_out-requires-clause-labelled c = labelled_so c.args.scheme.now c.args.self.now c.requires.kept
 
 pub returns : goal.returns
 returns c =

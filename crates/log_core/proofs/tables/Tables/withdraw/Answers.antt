@@ -1,5 +1,5 @@
 use Rattle.std.proofs.Common.{Ok, [], ◌∷◌, sym, ap, subst, ◌∙◌}
-use Rattle.status.specs.declared.words.RowInput.TheVariants.{Request}
+use Rattle.status.specs.declared.rows.RowInput.TheVariants.{Request}
 use Rattle.protocol.specs.Deciding.{content_in}
 use Rattle.log_core.specs.Transfers.{IsWithdrawal}
 use Rattle.log_core.proofs.DecidedMessages.{Decides, comes_late, comes_to, given_up, last, moves, request_decided, row_at}

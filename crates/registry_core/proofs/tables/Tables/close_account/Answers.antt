@@ -26,7 +26,7 @@ returns-in_err-may_close c =
     let es = history s (Registry c.args.code) was.journal.items in
     takes_err s c.args.code was was i c.from_residual.result _ kept (are_same was) c.from_residual.ensures.1
     (λ r e. inr (ap (verdict_due s c.args.code was) c.requires.input ∙ due_so s c.args.code was _
-    ∙ closing_refused s c.args.code es was.holdings kept.kept.accounts kept.kept.lots c.args.account r.code (subst (λ q. IsCloseRefusal was.holdings c.args.account.value q.code) (sym e) c.in_err-may_close.ensures.err)))
+    ∙ closing_refused s c.args.code es was.holdings kept.kept.accounts kept.kept.unit_holdings c.args.account r.code (subst (λ q. IsCloseRefusal was.holdings c.args.account.value q.code) (sym e) c.in_err-may_close.ensures.err)))
 
 pub returns-in_err-may_close-2 : goal.returns-in_err-may_close-2
 returns-in_err-may_close-2 c =
@@ -39,7 +39,7 @@ returns-in_err-may_close-2 c =
     let awaited = row_is_awaited s c.args.code was kept c.args.account.value found.1.0 found.1.1 in
     takes_err s c.args.code was was i c.from_residual-in_err-may_close-2.result _ kept (are_same was) c.from_residual-in_err-may_close-2.ensures.1
     (λ r e. inr (ap (verdict_due s c.args.code was) c.requires.input ∙ due_so s c.args.code was _
-    ∙ closing_awaited s c.args.code es was.holdings kept.kept.accounts kept.kept.lots c.args.account c.in_ok-may_close.ensures.ok.0 c.in_ok-may_close.ensures.ok.1 awaited
+    ∙ closing_awaited s c.args.code es was.holdings kept.kept.accounts kept.kept.unit_holdings c.args.account c.in_ok-may_close.ensures.ok.0 c.in_ok-may_close.ensures.ok.1 awaited
     ∙ ap (λ n. IsRefused n) (sym (ap (λ q. q.code) e ∙ found.0))))
 
 pub returns-in_err-record : goal.returns-in_err-record
@@ -53,7 +53,7 @@ returns-in_err-record c =
     let row = awaited_has_row s c.args.code was kept c.args.account.value y in
     clash (is_awaited_by c.args.account.value (get was.acquirer.transfers row.0)) row.1 (c.in_ok-may_close-2.ensures.ok row.0)) in
     let enters = ap (verdict_due s c.args.code was) c.requires.input ∙ due_so s c.args.code was _
-    ∙ closing_enters s c.args.code es was.holdings kept.kept.accounts kept.kept.lots c.args.account c.in_ok-may_close.ensures.ok.0 c.in_ok-may_close.ensures.ok.1 free in
+    ∙ closing_enters s c.args.code es was.holdings kept.kept.accounts kept.kept.unit_holdings c.args.account c.in_ok-may_close.ensures.ok.0 c.in_ok-may_close.ensures.ok.1 free in
     takes_err s c.args.code was was i c.from_residual-in_err-record.result _ kept (are_same was) c.from_residual-in_err-record.ensures.1
     (λ r e. subst (λ q. GivenUp s c.args.code was i q.code) (sym e) (unfitting s c.args.code was i [] c.in_err-record.field-0.0.code enters c.in_err-record.ensures.err))
 
@@ -74,7 +74,7 @@ returns-in-Err c =
     let es = history s (Registry c.args.code) was.journal.items in
     takes_refused s c.args.code was _ i c.in-Err.refused kept
     (record { journal = c.reserve.ensures.items; holdings = c.in-Err.ensures.err; initiator = refl; acquirer = refl; outbox = c.take_back.ensures was.outbox _ c.in_ok-record-2.ensures.ok })
-    (inr (ap (verdict_due s c.args.code was) c.requires.input ∙ due_so s c.args.code was _ ∙ closing_refused s c.args.code es was.holdings kept.kept.accounts kept.kept.lots c.args.account c.in-Err.refused.code c.in-Err.ensures.refused))
+    (inr (ap (verdict_due s c.args.code was) c.requires.input ∙ due_so s c.args.code was _ ∙ closing_refused s c.args.code es was.holdings kept.kept.accounts kept.kept.unit_holdings c.args.account c.in-Err.refused.code c.in-Err.ensures.refused))
 
 pub returns : goal.returns
 returns c =
@@ -87,7 +87,7 @@ returns c =
     let row = awaited_has_row s c.args.code was kept c.args.account.value y in
     clash (is_awaited_by c.args.account.value (get was.acquirer.transfers row.0)) row.1 (c.in_ok-may_close-2.ensures.ok row.0)) in
     let enters = ap (verdict_due s c.args.code was) c.requires.input ∙ due_so s c.args.code was _
-    ∙ closing_enters s c.args.code es was.holdings kept.kept.accounts kept.kept.lots c.args.account c.in_ok-may_close.ensures.ok.0 c.in_ok-may_close.ensures.ok.1 free in
+    ∙ closing_enters s c.args.code es was.holdings kept.kept.accounts kept.kept.unit_holdings c.args.account c.in_ok-may_close.ensures.ok.0 c.in_ok-may_close.ensures.ok.1 free in
     let entered = room_enters s c.args.code was i [] enters c.in_ok-record.ensures.ok in
     let more = c.push_reserved.ensures.items ∙ ap (λ js. js ++ c.in_ok-record.record ∷ []) c.reserve.ensures.items ∙ ap (λ j. was.journal.items ++ j ∷ []) c.in_ok-record.ensures.copy in
     let place = c.len-place.ensures ∙ c.reserve.new.self.ok.0 ∙ ap length c.reserve.ensures.items in

@@ -4,16 +4,16 @@ use Rattle.registry_core.proofs.RolesDecide.{moves_so, order_given_up, proposed,
 use Rattle.registry_core.proofs.TakenInputs.{GivenUp, are_same, takes_err}
 use Rattle.registry_core.proofs.tables.Tables.propose.Goals as goal
 
-pub returns-in_err-offer : goal.returns-in_err-offer
-returns-in_err-offer c =
+pub returns-in_err-new_transfer : goal.returns-in_err-new_transfer
+returns-in_err-new_transfer c =
     takes_err c.args.scheme.now c.args.code c.args.self.now c.args.self.now c.args.input.now c.from_residual.result _ c.requires.kept (are_same c.args.self.now) c.from_residual.ensures.1
-    (λ r e. subst (λ q. GivenUp c.args.scheme.now c.args.code c.args.self.now c.args.input.now q.code) (sym e) (order_given_up c.requires.kept c.requires.input c.in_err-offer.ensures.refused))
+    (λ r e. subst (λ q. GivenUp c.args.scheme.now c.args.code c.args.self.now c.args.input.now q.code) (sym e) (order_given_up c.requires.kept c.requires.input c.in_err-new_transfer.ensures.refused))
 
 pub returns-in_err-messages : goal.returns-in_err-messages
 returns-in_err-messages c =
-    takes_failed c.requires.kept (proposed c.requires.kept c.requires.input c.in_ok-offer.ensures.ok c.in_ok-offer.ensures.id c.in_ok-offer.ensures.content c.propose.ensures) c.in_err-messages.was c.from_residual-in_err-messages.ensures.1
+    takes_failed c.requires.kept (proposed c.requires.kept c.requires.input c.in_ok-new_transfer.ensures.ok c.in_ok-new_transfer.ensures.id c.in_ok-new_transfer.ensures.content c.propose.ensures) c.in_err-messages.was c.from_residual-in_err-messages.ensures.1
 
 pub record-requires-clause-row : goal.record-requires-clause-row
 record-requires-clause-row c =
-    moves_so c.requires.kept (proposed c.requires.kept c.requires.input c.in_ok-offer.ensures.ok c.in_ok-offer.ensures.id c.in_ok-offer.ensures.content c.propose.ensures) (Open c.in_ok-offer.offer) c.requires.input
-    (c.in_ok-messages.was ∙ ap Ok c.in-Moves.is) (refl, ap Some (sym c.in_ok-offer.ensures.content))
+    moves_so c.requires.kept (proposed c.requires.kept c.requires.input c.in_ok-new_transfer.ensures.ok c.in_ok-new_transfer.ensures.id c.in_ok-new_transfer.ensures.content c.propose.ensures) (Open c.in_ok-new_transfer.new_transfer) c.requires.input
+    (c.in_ok-messages.was ∙ ap Ok c.in-Moves.is) (refl, ap Some (sym c.in_ok-new_transfer.ensures.content))

@@ -35,11 +35,11 @@ arrive-requires-clause-welcome c =
     let first = c.message_refusal.ensures es kept.kept.own kept.kept.foreign in
     ap (λ m. first_of (registry_refusals k es m)) (sym c.in-Proposal.is) ∙ sym first ∙ c.in_default.is
 
-pub hear-requires-clause-input : goal.hear-requires-clause-input
-hear-requires-clause-input c = (c.requires.input.0, c.requires.input.1 ∙ ap (λ m. Received m c.requires.input.0) c.in-Notification.is)
+pub take_notification-requires-clause-input : goal.take_notification-requires-clause-input
+take_notification-requires-clause-input c = (c.requires.input.0, c.requires.input.1 ∙ ap (λ m. Received m c.requires.input.0) c.in-Notification.is)
 
-pub hear-requires-clause-welcome : goal.hear-requires-clause-welcome
-hear-requires-clause-welcome c =
+pub take_notification-requires-clause-welcome : goal.take_notification-requires-clause-welcome
+take_notification-requires-clause-welcome c =
     let s = c.args.scheme.now in
     let k = c.args.code in
     let was = c.args.self.now in

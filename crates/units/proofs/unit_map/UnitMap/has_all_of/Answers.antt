@@ -2,8 +2,8 @@ use Rattle.std.proofs.Common.{sym, ap, ◌∙◌}
 use Rattle.std.specs.Option.{option_map}
 use Rattle.units.specs.Spans.{intervals_of}
 use Rattle.units.specs.declared.block.Unit.{Unit as Serial}
-use Rattle.units.proofs.Marks.{get_view}
-use Rattle.units.proofs.MarkTests.{on_true, on_false}
+use Rattle.units.proofs.Labels.{get_view}
+use Rattle.units.proofs.LabelTests.{on_true, on_false}
 use Rattle.units.proofs.unit_map.UnitMap.has_all_of.Goals as goal
 
 pub returns-clause-all : goal.returns-clause-all

@@ -1,6 +1,6 @@
 use Rattle.std.proofs.Common.{sym}
 use Rattle.units.specs.Spans.{intervals_of}
-use Rattle.units.proofs.Marks.{get_view}
+use Rattle.units.proofs.Labels.{get_view}
 use Rattle.units.proofs.SpanLists.{kept, canonical}
 use Rattle.units.proofs.unit_map.UnitMap.pieces.Goals as goal
 

@@ -7,11 +7,11 @@ use Rattle.units.specs.declared.block.Block.{Block}
 use Rattle.units.proofs.unit_map.UnitMap.set.Goals as goal
 
 -- one block alone
-one_block : {M : Type 0} (t : Bool) (b : Block) (mark o : Option M) → option_map_or (λ (x : Block). mark) (cond t (Some b) None) o ≡ cond t mark o
-one_block true b mark o = refl
-one_block false b mark o = refl
+one_block : {M : Type 0} (t : Bool) (b : Block) (label o : Option M) → option_map_or (λ (x : Block). label) (cond t (Some b) None) o ≡ cond t label o
+one_block true b label o = refl
+one_block false b label o = refl
 
 pub returns-clause-ok : goal.returns-clause-ok
 returns-clause-ok g c =
-    on_ok_weaker c.set_all.result (λ f u. f u ∙ one_block (has_unit c.args.block.now.raw u) c.args.block.now c.args.mark (get c.args.self.now u))
-    (c.set_all.ensures.ok (λ b. c.args.mark) (λ b r h. search rules))
+    on_ok_weaker c.set_all.result (λ f u. f u ∙ one_block (has_unit c.args.block.now.raw u) c.args.block.now c.args.label (get c.args.self.now u))
+    (c.set_all.ensures.ok (λ b. c.args.label) (λ b r h. search rules))

@@ -14,7 +14,7 @@ returns-then-at-unit-clause-begun g c =
     let held = tree.get unit_cmp c.args.spans.now in
     let here : has (interval_at c.in-Some.at c.in-Some.span) c.args.unit ≡ true = ap (λ i. has i c.args.unit) (sym c.interval.ensures) ∙ sym c.has.ensures ∙ c.if-has.true in
     let same = same_unit c.in-Some.at c.args.unit (in_true c.in-Some.at c.in-Some.span c.args.unit here).line c.if-at-unit.true in
-    begun_at_key c.args.unit c.args.mark c.in-Some.span held c.requires.parted (ap held (sym same) ∙ c.in-Some.ensures.found.0) (subst (λ k. has (interval_at k c.in-Some.span) c.args.unit ≡ true) same here)
+    begun_at_key c.args.unit c.args.label c.in-Some.span held c.requires.parted (ap held (sym same) ∙ c.in-Some.ensures.found.0) (subst (λ k. has (interval_at k c.in-Some.span) c.args.unit ≡ true) same here)
 
 pub put-requires-clause-none : goal.put-requires-clause-none
 put-requires-clause-none g c =

@@ -10,7 +10,7 @@ returns-in_err-at-clause-none g c = rw c.from_residual.ensures (told_none c.args
 pub returns-then-has-clause-some : goal.returns-then-has-clause-some
 returns-then-has-clause-some g c = (
   sym c.has.ensures ∙ c.if-has.true,
-  λ u h. told_some c.args.spans.now c.requires.parted c.requires.ordered c.in_ok-at.at c.in_ok-at.span c.in_ok-at.ensures.found.0 u (ap (λ i. has i u) (sym c.interval-interval.ensures) ∙ h) ∙ ap (λ i. Some i.mark) (sym c.interval-interval.ensures),
+  λ u h. told_some c.args.spans.now c.requires.parted c.requires.ordered c.in_ok-at.at c.in_ok-at.span c.in_ok-at.ensures.found.0 u (ap (λ i. has i u) (sym c.interval-interval.ensures) ∙ h) ∙ ap (λ i. Some i.label) (sym c.interval-interval.ensures),
 )
 
 pub returns-else-has-clause-none : goal.returns-else-has-clause-none

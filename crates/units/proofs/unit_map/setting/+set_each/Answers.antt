@@ -18,7 +18,7 @@ returns-in_default-clause-means g t c given gives = set_to_none c.args.blocks.no
 pub fill-requires-clause-key : goal.fill-requires-clause-key
 fill-requires-clause-key g t c some =
     let split = c.in-Some.ensures.cases.0 in
-    still_key c.in-Some.block.now c.in-Some.rest.now c.mark-given.result (tree.get unit_cmp c.args.spans.now) (tree.get unit_cmp c.prepare.new.spans) (tree.get unit_cmp c.set_each.new.spans) (subst AllApart split c.requires.apart) c.in_ok-first.ensures.prepared c.in-Ok.ensures.set some
+    still_key c.in-Some.block.now c.in-Some.rest.now c.label-given.result (tree.get unit_cmp c.args.spans.now) (tree.get unit_cmp c.prepare.new.spans) (tree.get unit_cmp c.set_each.new.spans) (subst AllApart split c.requires.apart) c.in_ok-first.ensures.prepared c.in-Ok.ensures.set some
 
 pub returns-in-Ok-clause-set : goal.returns-in-Ok-clause-set
 returns-in-Ok-clause-set g t c =
@@ -26,7 +26,7 @@ returns-in-Ok-clause-set g t c =
     let old = tree.get unit_cmp c.args.spans.now in
     let new = tree.get unit_cmp c.fill.new.spans in
     subst (λ bs. AreSetIn bs old new) (sym split)
-    (set_more c.in-Some.block.now c.in-Some.rest.now c.mark-given.result old (tree.get unit_cmp c.prepare.new.spans) (tree.get unit_cmp c.set_each.new.spans) new (subst AllApart split c.requires.apart) c.in_ok-first.ensures.prepared c.in-Ok.ensures.set c.fill.ensures.filled)
+    (set_more c.in-Some.block.now c.in-Some.rest.now c.label-given.result old (tree.get unit_cmp c.prepare.new.spans) (tree.get unit_cmp c.set_each.new.spans) new (subst AllApart split c.requires.apart) c.in_ok-first.ensures.prepared c.in-Ok.ensures.set c.fill.ensures.filled)
 
 pub returns-in-Ok-clause-means : goal.returns-in-Ok-clause-means
 returns-in-Ok-clause-means g t c given gives =
@@ -34,8 +34,8 @@ returns-in-Ok-clause-means g t c given gives =
     let old = tree.get unit_cmp c.args.spans.now in
     let new = tree.get unit_cmp c.fill.new.spans in
     subst (λ (bs : List Block). (f : Serial → Option g.row.M.Denot) → Mean old f → Mean new (set_to given bs f)) (sym split)
-    (means_more c.in-Some.block.now c.in-Some.rest.now c.mark-given.result old (tree.get unit_cmp c.prepare.new.spans) (tree.get unit_cmp c.set_each.new.spans) new (subst AllApart split c.requires.apart) c.in_ok-first.ensures.prepared c.in-Ok.ensures.set c.fill.ensures.filled
-    given (gives c.in-Some.block.now c.mark-given.result c.mark-given.ensures) (c.in-Ok.ensures.means given gives))
+    (means_more c.in-Some.block.now c.in-Some.rest.now c.label-given.result old (tree.get unit_cmp c.prepare.new.spans) (tree.get unit_cmp c.set_each.new.spans) new (subst AllApart split c.requires.apart) c.in_ok-first.ensures.prepared c.in-Ok.ensures.set c.fill.ensures.filled
+    given (gives c.in-Some.block.now c.label-given.result c.label-given.ensures) (c.in-Ok.ensures.means given gives))
 
 pub returns-in-Err-clause-err : goal.returns-in-Err-clause-err
 returns-in-Err-clause-err g t c =

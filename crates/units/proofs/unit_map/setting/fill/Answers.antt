@@ -11,7 +11,7 @@ returns-in-Some-clause-filled g c q =
     let old = tree.get unit_cmp c.args.spans.now in
     let middle = tree.get unit_cmp c.change_between.new.spans in
     let some = first_stays b old middle c.unit-first.result c.after.result c.unit-last.result c.unit-first.ensures c.after.ensures c.change_between.ensures.outside (c.requires.key (subst (λ o. IsSome o) (sym c.in-Some.is) refl)) in
-    filled_some_at _ b c.in-Some.mark old middle (tree.get unit_cmp c.overwrite.new.spans) c.unit-first.result c.after.result c.unit-last.result c.unit-first.ensures c.after.ensures c.unit-last.ensures
+    filled_some_at _ b c.in-Some.label old middle (tree.get unit_cmp c.overwrite.new.spans) c.unit-first.result c.after.result c.unit-last.result c.unit-first.ensures c.after.ensures c.unit-last.ensures
     (λ m r h. search rules) c.args.block.now.in_range c.change_between.ensures.inside c.change_between.ensures.outside (c.overwrite.ensures.puts some) q
     ∙ ap (λ o. filled b o old q) (sym c.in-Some.is)
 

@@ -14,8 +14,8 @@ returns-in-Ok-clause-prepared g c =
     let old = tree.get unit_cmp c.args.spans.now in
     let middle = tree.get unit_cmp c.begin.new.spans in
     let new = tree.get unit_cmp c.begin-2.new.spans in
-    prepared c.args.block.now.raw c.args.mark old middle new c.args.block.now.in_range
-    (subst (λ u. IsBegun u c.args.mark old middle) c.unit.ensures c.in_ok-first.ensures.begun)
+    prepared c.args.block.now.raw c.args.label old middle new c.args.block.now.in_range
+    (subst (λ u. IsBegun u c.args.label old middle) c.unit.ensures c.in_ok-first.ensures.begun)
     (subst (λ u. IsBegun u None middle new) c.unit-2.ensures c.in-Ok.ensures.begun)
 
 pub returns-in-Err-clause-err : goal.returns-in-Err-clause-err

@@ -1,7 +1,7 @@
 use Rattle.std.proofs.Common.{◌≡◌, ◌∙◌, ◌+◌, List, true, false, is_some, refl, sym, ap, subst, take}
-use Rattle.accounts.specs.declared.lot.Line.{Line}
+use Rattle.accounts.specs.declared.unit_holding.HeldBlock.{HeldBlock}
 use Rattle.scheme.specs.Order.{member}
-use Rattle.scheme.specs.declared.members.Member.{Member}
+use Rattle.scheme.specs.declared.members.SchemeRegistry.{SchemeRegistry}
 use Rattle.protocol.specs.World.{World}
 use Rattle.registry_core.specs.Registry.{Registry}
 use Rattle.registry_core.specs.Reported.{AreHoldings}
@@ -26,10 +26,10 @@ loop-member-preserved c =
       | in-Some+in_ok-lines+in_ok-push w ↦
           let lines = w.from_vec.result in
           let its : AreHoldings (registry_at world m.code) w.in_ok-lines.field-0.items = subst (λ (r : Registry). AreHoldings r w.in_ok-lines.field-0.items) (registry_is world m.code w.in-Some.core.now w.in-Some.ensures.core) w.in_ok-lines.ensures in
-          let holds : AreHoldings (registry_at world m.code) lines = subst (λ (ls : List Line). AreHoldings (registry_at world m.code) ls) (sym w.from_vec.ensures) its in
+          let holds : AreHoldings (registry_at world m.code) lines = subst (λ (ls : List HeldBlock). AreHoldings (registry_at world m.code) ls) (sym w.from_vec.ensures) its in
           let more = stocks_more world ms i c.loop-member.stocks.items m (record { code = m.code; lines = lines }) c.loop-member-test.true c.member-item.is c.loop-member.invariant refl holds in
           subst (λ (ss : List Stock). AreStocks world (take (i + 1) ms) ss) (sym (ap (λ v. v.items) w.stocks-is ∙ w.in_ok-push.ensures.items)) more
       | in_default w ↦
-          let found : is_some (member world.scheme.members m.code) ≡ true = subst (λ (l : List Member). is_some (member l m.code) ≡ true) (c.registries-member-items.ensures ∙ ap (λ (x : World). x.scheme.members) c.self.view_is) (has_found ms i m c.loop-member-test.true c.member-item.is) in
+          let found : is_some (member world.scheme.members m.code) ≡ true = subst (λ (l : List SchemeRegistry). is_some (member l m.code) ≡ true) (c.registries-member-items.ensures ∙ ap (λ (x : World). x.scheme.members) c.self.view_is) (has_found ms i m c.loop-member-test.true c.member-item.is) in
           absurd (never (sym found ∙ lacks world m.code w.in_default.ensures.core))
     ]

@@ -1,0 +1,57 @@
+use Rattle.std.proofs.Common.{◌≡◌, Result, Ok, Err, IfOk, IfErr, IsTrue, List, ℕ, inr, sym, subst, rules}
+use Rattle.sqlite.specs.Files.{over_files, file_state}
+use Rattle.sqlite.specs.State.{HasCleanDisk}
+use Rattle.sqlite.specs.Tree.{Trees}
+use Rattle.sqlite_wal.specs.Reads.{AreClean}
+use Rattle.units.specs.Code.{node_text}
+use Rattle.durable.specs.Backing.{IsFound, Hold}
+use Rattle.durable.specs.Connected as connected
+use Rattle.durable.specs.Held.{slots_in, node_in}
+use Rattle.durable.specs.Opening.{IsOpeningFault}
+use Rattle.durable.specs.Refusals.{IsRefusal, IsUnharmed}
+use Rattle.durable.specs.Faults.{is_judgement}
+use Rattle.durable.proofs.Sparing.{not-looked-at}
+use Rattle.durable.proofs.store_state.store_from_files.Goals as goal
+
+both : {A B : Type 0} (P Q R : A → Type 0) (r : Result A B) → ((k : A) → P k → Q k → R k) → IfOk r P → IfOk r Q → IfOk r R
+both P Q R (Ok k) f p q = f k p q
+both P Q R (Err e) f p q = tt
+
+both-err : {A B : Type 0} (P Q R : B → Type 0) (r : Result A B) → ((e : B) → P e → Q e → R e) → IfErr r P → IfErr r Q → IfErr r R
+both-err P Q R (Ok k) f p q = tt
+both-err P Q R (Err e) f p q = f e p q
+
+name-is : (g : _) (c : goal.After-drop-name-2 g) → c.deref.result.now ≡ node_text c.args.node
+name-is g c = search rules
+
+pub returns-clause-owner : goal.returns-clause-owner
+returns-clause-owner g c =
+    subst (λ (n : List ℕ). IfOk c.store_over.result (λ k. connected.IsHonest over_files k → node_in (file_state k.conn).committed.trees ≡ n)) (name-is g c) c.store_over.ensures.owner
+
+pub returns-clause-found : goal.returns-clause-found
+returns-clause-found g c =
+    both (λ k. connected.IsHonest over_files k → HasCleanDisk (file_state c.in_ok-conn.conn)) (λ k. connected.IsHonest over_files k → connected.content over_files k ≡ slots_in (file_state c.in_ok-conn.conn).committed.trees)
+    (λ k. connected.IsHonest over_files k → (db : Trees) × IsFound g.D.Disk c.args.files db × (connected.content over_files k ≡ slots_in db)) c.store_over.result
+    (λ k honest same clean. ((file_state c.in_ok-conn.conn).committed.trees, c.in_ok-conn.ensures.found (honest clean), same clean)) c.store_over.ensures.honest c.store_over.ensures.same
+
+pub returns-clause-fault : goal.returns-clause-fault
+returns-clause-fault g c =
+    both-err (λ e. AreClean g.D.Disk e.1.log e.1.db → HasCleanDisk (file_state c.in_ok-conn.conn)) (λ e. AreClean g.D.Disk e.1.log e.1.db → IsOpeningFault c.deref.result.now (file_state c.in_ok-conn.conn).committed e.0)
+    (λ e. AreClean g.D.Disk e.1.log e.1.db → IsRefusal g.D.Disk c.args.files (node_text c.args.node) e.0) c.store_over.result
+    (λ e refused fault clean. let early = refused clean in
+    inr ((file_state c.in_ok-conn.conn).committed, c.in_ok-conn.ensures.sound early, c.in_ok-conn.ensures.found early, subst (λ n. IsOpeningFault n (file_state c.in_ok-conn.conn).committed e.0) (name-is g c) (fault clean)))
+    c.store_over.ensures.refused c.store_over.ensures.fault
+
+pub returns-clause-unharmed : goal.returns-clause-unharmed
+returns-clause-unharmed g c =
+    both-err (λ e. AreClean g.D.Disk e.1.log e.1.db → HasCleanDisk (file_state c.in_ok-conn.conn))
+    (λ e. IsTrue (is_judgement e.0) → Hold g.D.Disk e.1 (λ next. next ≡ (file_state c.in_ok-conn.conn).committed.trees))
+    (λ e. AreClean g.D.Disk e.1.log e.1.db → IsUnharmed g.D.Disk c.args.files e.0 e.1) c.store_over.result
+    (λ e refused held honest judged. inr ((file_state c.in_ok-conn.conn).committed.trees, c.in_ok-conn.ensures.found (refused honest), held judged))
+    c.store_over.ensures.refused c.store_over.ensures.unharmed
+
+pub returns-in_err-conn-clause-unharmed : goal.returns-in_err-conn-clause-unharmed
+returns-in_err-conn-clause-unharmed g c =
+    let same : c.from_residual.result ≡ Err c.in_err-conn.field-0.0 = search rules in
+    let e = c.in_err-conn.field-0.0 in
+    subst (λ r. IfErr r (λ e. AreClean g.D.Disk e.1.log e.1.db → IsUnharmed g.D.Disk c.args.files e.0 e.1)) (sym same) (λ honest. not-looked-at g.D.Disk c.args.files e.1 e.0 (c.in_err-conn.ensures.fault honest))

@@ -1,0 +1,162 @@
+//! A store in files: by its connection while it is open, and by its files while it is shut.
+ghost use Rattle.std.specs.Prelude.{◌≡◌, ◌≢◌, ◌-◌, ℕ, take, drop, false, Ok, Err, IfOk, IfErr, IsTrue};
+ghost use Rattle.sqlite.specs.Files.{over_files, file_state};
+ghost use Rattle.sqlite.specs.State.{HasCleanDisk, Opens};
+ghost use Rattle.sqlite.specs.Tree.{Trees};
+ghost use Rattle.sqlite_wal.specs.Reads.{AreClean};
+ghost use Rattle.units.specs.Code.{node_text};
+ghost use Rattle.durable.specs.Calls.{Appends, Loads};
+ghost use Rattle.durable.specs.Backing.{IsFound, MayFind, Hold};
+ghost use Rattle.durable.specs.Connected as connected;
+ghost use Rattle.durable.specs.Faults.{is_judgement, count_after};
+ghost use Rattle.durable.specs.Held.{slots_in, node_in};
+ghost use Rattle.durable.specs.Kept.{IsHonest, MayHold, content, owner, disk_faults, must_reopen, is_there, AreFilesOf};
+ghost use Rattle.durable.specs.Opening.{IsOpeningFault};
+ghost use Rattle.durable.specs.Records.{Places, written};
+ghost use Rattle.durable.specs.Refusals.{IsRefusal, IsUnharmed};
+ghost use Rattle.durable.specs.declared.fault.StoreFault.TheVariants.{Reopen, NoMemory, Damaged, Full};
+ghost use Rattle.durable.specs.Rooms.{LacksRoom};
+
+use crate::backing::{files_of, open_again};
+use crate::fault::StoreFault;
+use crate::open_store::OpenStore;
+use crate::opening::open_as_store;
+use sqlite::{Connection, FileStore, Options};
+use sqlite_disk::{Disk, Files};
+use std::alloc::Global;
+use units::Node;
+use wire::Input;
+
+/// The store over the connection, or the files after a reopening that failed.
+pub(crate) enum StoreState<D: Disk + Drop> {
+    Open(OpenStore<FileStore<D>>),
+    Shut(Files<D>),
+    /// Within a reopening alone.
+    Absent,
+}
+
+// It is written out, so that a caller does not prove again how each part is dropped.
+impl<D: Disk + Drop> Drop for StoreState<D> {
+    fn drop(self) {
+        match self {
+            StoreState::Open(_store) => {}
+            StoreState::Shut(_files) => {}
+            StoreState::Absent => {}
+        }
+    }
+}
+
+/// How many calls of the device have failed, after this fault too.
+pub(crate) fn count_fault(faults: u64, fault: StoreFault) -> u64
+    ensures { result ≡ count_after faults fault }
+{
+    match fault {
+        StoreFault::Device | StoreFault::Full => faults.wrapping_add(1),
+        _ => faults,
+    }
+}
+
+impl<D: Disk + Drop> StoreState<D> {
+    /// The files, with no call of the device.
+    pub(crate) fn into_files(self) -> Files<D>
+        requires there { IsTrue (is_there D.Disk self) }
+        ensures honest { AreClean D.Disk result.log result.db → IsHonest D.Disk self }
+        ensures left { (db : Trees) → MayFind D.Disk result db → ∥ MayHold D.Disk self (slots_in db) ∥₁ }
+        ensures kept { must_reopen D.Disk self ≡ false → (db : Trees) → MayFind D.Disk result db → ∥ slots_in db ≡ content D.Disk self ∥₁ }
+        ensures files { AreFilesOf D.Disk self result }
+        ensures holds { must_reopen D.Disk self ≡ false → Hold D.Disk result (λ db. (slots_in db ≡ content D.Disk self) × (node_in db ≡ owner D.Disk self)) }
+    {
+        match self {
+            StoreState::Open(store) => files_of(store.into_connection()),
+            StoreState::Shut(files) => files,
+            StoreState::Absent => unreachable!(),
+        }
+    }
+
+    /// Appends the whole batch, or nothing of it.
+    pub(crate) fn append(&mut self, batch: &[Input]) -> Result<(), StoreFault>
+        ensures appends { Appends (IsHonest D.Disk) (content D.Disk) (MayHold D.Disk) (must_reopen D.Disk) self.old self.new batch.now result }
+        ensures there { is_there D.Disk self.new ≡ is_there D.Disk self.old }
+        ensures owner { IsHonest D.Disk self.new → must_reopen D.Disk self.new ≡ false → owner D.Disk self.new ≡ owner D.Disk self.old }
+        ensures full { IsHonest D.Disk self.new → result ≡ Err Full → LacksRoom (content D.Disk self.old) batch.now (disk_faults D.Disk self.old) (disk_faults D.Disk self.new) }
+    {
+        match self {
+            StoreState::Open(store) => store.append(batch),
+            StoreState::Shut(_) | StoreState::Absent => Err(StoreFault::Reopen),
+        }
+    }
+
+    /// The records from place `from` on, at most `max`.
+    pub(crate) fn load_page(&mut self, from: u64, max: u64) -> Result<Vec<Input>, StoreFault>
+        ensures loads { Loads (IsHonest D.Disk) (content D.Disk) (MayHold D.Disk) (must_reopen D.Disk) self.old self.new from (take max (drop from (content D.Disk self.old))) result }
+        ensures there { is_there D.Disk self.new ≡ is_there D.Disk self.old }
+        ensures owner { IsHonest D.Disk self.new → must_reopen D.Disk self.new ≡ false → owner D.Disk self.new ≡ owner D.Disk self.old }
+    {
+        match self {
+            StoreState::Open(store) => store.load_page(from, max),
+            StoreState::Shut(_) | StoreState::Absent => Err(StoreFault::Reopen),
+        }
+    }
+
+    /// All records in their order.
+    pub(crate) fn load(&mut self) -> Result<Vec<Input>, StoreFault>
+        ensures loads { Loads (IsHonest D.Disk) (content D.Disk) (MayHold D.Disk) (must_reopen D.Disk) self.old self.new 0 (content D.Disk self.old) result }
+        ensures there { is_there D.Disk self.new ≡ is_there D.Disk self.old }
+        ensures owner { IsHonest D.Disk self.new → must_reopen D.Disk self.new ≡ false → owner D.Disk self.new ≡ owner D.Disk self.old }
+    {
+        match self {
+            StoreState::Open(store) => store.load(),
+            StoreState::Shut(_) | StoreState::Absent => Err(StoreFault::Reopen),
+        }
+    }
+}
+
+/// A store over an open connection whose file is one of the node, or becomes one. After a fault it gives the files up.
+pub(crate) fn store_over<D: Disk + Drop>(
+    alloc: Global,
+    mut conn: Connection<FileStore<D>>,
+    name: &str,
+) -> Result<OpenStore<FileStore<D>>, (StoreFault, Files<D>)>
+    requires idle { conn.in_transaction ≡ false }
+    requires opened { HasCleanDisk (file_state conn) → Opens (file_state conn) }
+    ensures runs { IfOk result (λ k. k.must_reopen ≡ false) }
+    ensures honest { IfOk result (λ k. connected.IsHonest over_files k → HasCleanDisk (file_state conn)) }
+    ensures owner { IfOk result (λ k. connected.IsHonest over_files k → node_in (file_state k.conn).committed.trees ≡ name.now) }
+    ensures same { IfOk result (λ k. connected.IsHonest over_files k → connected.content over_files k ≡ slots_in (file_state conn).committed.trees) }
+    ensures durable { IfOk result (λ k. connected.IsHonest over_files k → (next : Places) → connected.MayHold over_files k next → next ≡ connected.content over_files k) }
+    ensures named { IfErr result (λ e. e.0 ≢ Reopen) }
+    ensures places { IfErr result (λ e. (p : ℕ) → e.0 ≡ Damaged p → p ≡ 0) }
+    ensures refused { IfErr result (λ e. AreClean D.Disk e.1.log e.1.db → HasCleanDisk (file_state conn)) }
+    ensures fault { IfErr result (λ e. AreClean D.Disk e.1.log e.1.db → IsOpeningFault name.now (file_state conn).committed e.0) }
+    ensures unharmed { IfErr result (λ e. IsTrue (is_judgement e.0) → Hold D.Disk e.1 (λ next. next ≡ (file_state conn).committed.trees)) }
+{
+    match open_as_store(&mut conn, name) {
+        Ok(count) if count <= 1 << 63 => Ok(OpenStore::new(alloc, conn, count)),
+        Ok(_) => Err((StoreFault::Device, files_of(conn))),
+        Err(fault) => Err((fault, files_of(conn))),
+    }
+}
+
+/// Opens the files as a store of the node. An error gives them back, and files that were found to be no store of the
+/// node hold what they held.
+pub(crate) fn store_from_files<D: Disk + Drop>(
+    alloc: Global,
+    files: Files<D>,
+    options: Options,
+    node: Node,
+) -> Result<OpenStore<FileStore<D>>, (StoreFault, Files<D>)>
+    ensures runs { IfOk result (λ k. k.must_reopen ≡ false) }
+    ensures owner { IfOk result (λ k. connected.IsHonest over_files k → node_in (file_state k.conn).committed.trees ≡ node_text node) }
+    ensures found { IfOk result (λ k. connected.IsHonest over_files k → (db : Trees) × IsFound D.Disk files db × (connected.content over_files k ≡ slots_in db)) }
+    ensures durable { IfOk result (λ k. connected.IsHonest over_files k → (next : Places) → connected.MayHold over_files k next → next ≡ connected.content over_files k) }
+    ensures named { IfErr result (λ e. e.0 ≢ Reopen) }
+    ensures places { IfErr result (λ e. (p : ℕ) → e.0 ≡ Damaged p → p ≡ 0) }
+    ensures fault { IfErr result (λ e. AreClean D.Disk e.1.log e.1.db → IsRefusal D.Disk files (node_text node) e.0) }
+    ensures unharmed { IfErr result (λ e. AreClean D.Disk e.1.log e.1.db → IsUnharmed D.Disk files e.0 e.1) }
+{
+    let Ok(name) = format!(in alloc; "{node}") else {
+        return Err((StoreFault::NoMemory, files));
+    };
+    let conn = open_again(alloc, files, options)?;
+    store_over(alloc, conn, &name)
+}

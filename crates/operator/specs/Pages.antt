@@ -1,0 +1,80 @@
+-- Going over a store by pages: what reading them leaves, and what writing their lines does. No public contract cites
+-- it.
+use Rattle.std.specs.Prelude.{◌≡◌, ◌≢◌, ◌≤◌, ◌<◌, ◌+◌, ℕ, Bool, false, List, [], length, take, drop, Option, IsTrue}
+use Rattle.std.specs.Io.KnownBytes.{Appends, Keeps}
+use Rattle.units.specs.declared.code.Node.{Node}
+use Rattle.wire.specs.declared.input.Input.{Input}
+use Rattle.durable.specs.Faults.{is_device_fault, count_after, IsReadFault}
+use Rattle.durable.specs.Records.{Places, AreRecords}
+use Rattle.durable.specs.declared.fault.StoreFault.{StoreFault}
+use Rattle.durable.specs.declared.fault.StoreFault.TheVariants.{Reopen, NoMemory as OutOfMemory}
+use Rattle.operator.specs.declared.fault.OpFault.{OpFault}
+use Rattle.operator.specs.declared.fault.OpFault.TheVariants as op_fault
+use Rattle.operator.specs.Show.{record_lines}
+
+-- ---- the store: it is honest; what each place has; a fault waits for a reopening;
+-- how many calls of its device have failed
+
+module _ {S : Type 0} (is_honest : S → Type 0) (content : S → Places) (must_reopen : S → Bool) (faults : S → ℕ) where
+  -- these are the records from that place on
+  pub record Reads (old new : S) (from : ℕ) (inputs : List Input) : Type 0 where
+    pub are : is_honest new → AreRecords (take (length inputs) (drop from (content old))) inputs
+    pub honest : is_honest new → is_honest old
+    pub kept : is_honest new → content new ≡ content old
+    pub counted : faults new ≡ faults old
+    pub runs : must_reopen old ≡ false → must_reopen new ≡ false
+    pub waits : IsTrue (must_reopen old) → (new ≡ old) × (inputs ≡ [])
+
+  -- reading ended with that fault
+  pub record Stops (old new : S) (fault : StoreFault) : Type 0 where
+    pub honest : is_honest new → is_honest old
+    pub kept : is_honest new → must_reopen new ≡ false → content new ≡ content old
+    pub counted : faults new ≡ count_after (faults old) fault
+    pub named : must_reopen old ≡ false → IsReadFault fault
+    pub reopen : IsTrue (must_reopen old) → (fault ≡ Reopen) × (new ≡ old)
+
+  -- that many records were read from the front, and their lines written, of that many bytes
+  pub record Shows (old new : S) (before after : Option (List ℕ)) (records bytes : ℕ) : Type 0 where
+    pub inputs : List Input
+    pub many : length inputs ≡ records
+    pub reads : Reads old new 0 inputs
+    pub size : bytes ≡ length (record_lines 0 inputs)
+    pub lines : Appends before after (record_lines 0 inputs)
+
+-- ---- the writer
+
+-- that many bytes were written: the first ones of the lines of the first records
+pub record IsBegun (count : ℕ) (honest : Type 0) (places : Places) (before after : Option (List ℕ)) : Type 0 where
+  pub inputs : List Input
+  pub are : honest → AreRecords (take (length inputs) places) inputs
+  pub within : count ≤ length (record_lines 0 inputs)
+  pub written : Appends before after (take count (record_lines 0 inputs))
+
+-- the fault is that of the node's store, and not that memory ran out; where all places had records, the device failed
+pub record FailsAgain (node told : Node) (fault : StoreFault) (records : ℕ) (honest : Type 0) (places : Places) : Type 0 where
+  pub whose : told ≡ node
+  pub named : fault ≢ OutOfMemory
+  pub device : honest → (all : List Input) → AreRecords places all → records ≤ length all → IsTrue (is_device_fault fault)
+
+-- the lines of that many records were to be written, and a fault came before the last byte
+abbrev pub FailsToWrite : OpFault → Node → ℕ → (honest : Type 0) → Places → (before after : Option (List ℕ)) → Type 0
+FailsToWrite (op_fault.Store told fault) node records honest places v w = FailsAgain node told fault records honest places × ((count : ℕ) × IsBegun count honest places v w)
+FailsToWrite op_fault.NoMemory node records honest places v w = (count : ℕ) × IsBegun count honest places v w
+FailsToWrite (op_fault.Write count) node records honest places v w = IsBegun count honest places v w
+FailsToWrite (op_fault.Input line cause) node records honest places v w = ⊥
+FailsToWrite op_fault.Read node records honest places v w = ⊥
+
+-- of a text that comes after `written` bytes, the bytes up to that count were written, and not all
+pub record IsWithin (count written : ℕ) (text : List ℕ) (before after : Option (List ℕ)) : Type 0 where
+  pub more : ℕ
+  pub sum : count ≡ written + more
+  pub fewer : more < length text
+  pub appended : Appends before after (take more text)
+
+-- nothing of the text, which comes after `written` bytes, was written, or not all
+abbrev pub FailsWithin : OpFault → (written : ℕ) → (text : List ℕ) → (before after : Option (List ℕ)) → Type 0
+FailsWithin (op_fault.Write count) written text v w = IsWithin count written text v w
+FailsWithin op_fault.NoMemory written text v w = Keeps v w
+FailsWithin (op_fault.Store told fault) written text v w = ⊥
+FailsWithin (op_fault.Input line cause) written text v w = ⊥
+FailsWithin op_fault.Read written text v w = ⊥

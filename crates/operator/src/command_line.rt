@@ -1,0 +1,205 @@
+//! The command line.
+ghost use Rattle.std.specs.Prelude.{◌≡◌, [], true, false, Some, IfOk, IfErr, IfSome, codes, map, string_bytes};
+ghost use Rattle.clap.specs.Simple.{new_shape};
+ghost use Rattle.clap.specs.Takes.{takes};
+ghost use Rattle.clap.specs.Values.{kind_of};
+ghost use Rattle.clap.specs.Words.{HasMatchesOf, first_value, found_of, rule_of};
+ghost use Rattle.clap.specs.declared.error.kind.ErrorKind.TheVariants.{OutOfMemory};
+ghost use Rattle.clap.specs.declared.parser.matches.ArgMatches.{ArgMatches};
+ghost use Rattle.operator.specs.Words.{NamesAction, IsCommand, IsFaultOf, IsShow, IsSubcommand, IsUsageFault, faults_in, kyoto_link, positional, show_shape};
+
+use clap::error::ErrorKind;
+use clap::{Arg, ArgMatches, Command, Error};
+use std::alloc::{AllocError, Global};
+use std::convert::AsStr;
+
+/// What `--version` writes after the program's name.
+const VERSION: &str = "0.1.0";
+
+/// The end of the program's help.
+const NOTES: &str = "Example:
+  kyoto-link rehearse < examples/one_transfer/input
+
+Exit status:
+  0  done
+  2  the words are wrong
+  3  the input has a fault, or could not be read, or the output could not be written
+  4  a node's store has a fault
+  5  out of memory
+
+A fault is one line on standard error. docs/FORMATS.md describes the texts that are read and written,
+and each fault; docs/PROTOCOL.md describes the protocol, with all codes.";
+
+/// The end of the help of `rehearse`.
+const REHEARSE_NOTES: &str =
+    "The first line of standard input is the scheme, and each other line an event; nothing is written before
+all of it was read and has no fault.
+
+Example:
+  kyoto-link rehearse < examples/one_transfer/input
+
+Exit status:
+  0  done
+  3  a line has a fault (kyoto-link: line 2: order), or the input could not be read or the output written
+  5  out of memory
+
+docs/FORMATS.md describes schemes, events and the table; docs/PROTOCOL.md tells what each outcome means.";
+
+/// The end of the help of `show`.
+const SHOW_NOTES: &str =
+    "The store of a node is the file DIR/NODE.db. A missing store is made, and is empty.
+
+Example:
+  kyoto-link show scheme.json stores NZ
+
+Exit status:
+  0  done
+  3  SCHEME has a fault, SCHEME or DIR could not be read, or the output could not be written
+  4  the store has a fault (kyoto-link: store NZ: device)
+  5  out of memory
+
+docs/FORMATS.md describes schemes, records and stores.";
+
+/// What the words ask for.
+#[derive(Debug, Drop)]
+pub enum Action {
+    /// Run the events that standard input lists, and report.
+    Rehearse,
+    /// Write the records of the store of the node `node`, which is in the folder `folder`. The file `scheme` has the
+    /// scheme.
+    Show {
+        scheme: String,
+        folder: String,
+        node: String,
+    },
+}
+
+/// Why the words name no action. The texts are `clap`'s.
+#[derive(Drop)]
+pub enum UsageFault {
+    /// The words are wrong.
+    Usage(Error),
+    /// The words ask for help or for the version.
+    Help(Error),
+    /// Out of memory.
+    NoMemory,
+}
+
+fn rehearse_command<'a>(alloc: Global) -> Command<'a>
+    ensures { IsSubcommand (new_shape (codes "rehearse")) result }
+{
+    Command::new(alloc, "rehearse")
+        .about(
+            "Run a scheme and its events, read from standard input, and write what each event came to and the table that they lead to",
+        )
+        .after_help(REHEARSE_NOTES)
+}
+
+fn positional<'a>(alloc: Global, name: &'a str, help: &'a str) -> Arg<'a>
+    ensures rule { rule_of result ≡ positional name.now }
+    ensures global { result.global ≡ false }
+{
+    Arg::new(alloc, name).required(true).help(help)
+}
+
+fn show_command<'a>(alloc: Global) -> Result<Command<'a>, AllocError>
+    ensures { IfOk result (IsSubcommand show_shape) }
+{
+    let scheme = positional(alloc, "SCHEME", "The file with the scheme");
+    let folder = positional(alloc, "DIR", "The folder with the nodes' stores");
+    let node = positional(
+        alloc,
+        "NODE",
+        "The node: ITL, or the code of a registry of the scheme",
+    );
+    Command::new(alloc, "show")
+        .about("Write the records of a node's store, each with its place")
+        .after_help(SHOW_NOTES)
+        .arg(scheme)?
+        .arg(folder)?
+        .arg(node)
+}
+
+fn command<'a>(alloc: Global) -> Result<Command<'a>, AllocError>
+    ensures { IfOk result (IsCommand kyoto_link) }
+{
+    let program = Command::new(alloc, "kyoto-link")
+        .about(
+            "The external transfer of emission units between national registries and their transaction log",
+        )
+        .version(VERSION)
+        .after_help(NOTES)
+        .subcommand_required(true);
+    program
+        .subcommand(rehearse_command(alloc))?
+        .subcommand(show_command(alloc)?)
+}
+
+/// The value of an argument, or `None`, where there is none or memory was refused.
+fn value_of(alloc: Global, matches: &ArgMatches, name: &str) -> Option<String>
+    ensures { IfSome result (λ s. first_value (found_of matches.now) name.now ≡ Some (string_bytes s)) }
+{
+    let value = matches.get_str(name)?;
+    String::from_str(alloc, value).ok()
+}
+
+fn show_action(alloc: Global, matches: &ArgMatches) -> Option<Action>
+    ensures { IfSome result (IsShow (first_value (found_of matches.now))) }
+{
+    let scheme = value_of(alloc, matches, "SCHEME")?;
+    let folder = value_of(alloc, matches, "DIR")?;
+    let node = value_of(alloc, matches, "NODE")?;
+    Some(Action::Show {
+        scheme,
+        folder,
+        node,
+    })
+}
+
+/// The action that the matches name. `None` only where memory was refused, if `clap` gave them.
+fn action_of(alloc: Global, matches: &ArgMatches) -> Option<Action>
+    ensures { IfSome result (NamesAction matches.now) }
+{
+    let (name, inner) = matches.subcommand()?;
+    if name == "rehearse" {
+        return Some(Action::Rehearse);
+    }
+    if name == "show" {
+        return show_action(alloc, inner);
+    }
+    None
+}
+
+/// What an error of `clap` is to the program.
+fn fault_of(error: Error) -> UsageFault
+    ensures memory { kind_of error ≡ OutOfMemory → result ≡ UsageFault.NoMemory }
+    ensures kind { IsFaultOf error result }
+{
+    match error.kind() {
+        ErrorKind::OutOfMemory => UsageFault::NoMemory,
+        ErrorKind::DisplayHelp | ErrorKind::DisplayVersion => UsageFault::Help(error),
+        _ => UsageFault::Usage(error),
+    }
+}
+
+/// The action that the words name, the first word being the program's own name.
+///
+/// `Help`: the words ask for help or for the version. `Usage`: the words are wrong. `NoMemory`: out of memory; where
+/// `clap` takes the words, this is the only fault.
+pub fn parse_words<S: AsStr>(alloc: Global, words: &[S]) -> Result<Action, UsageFault>
+    ensures ok { IfOk result (λ a. (m : ArgMatches) × HasMatchesOf kyoto_link (map S.text words.now) m × NamesAction m a) }
+    ensures right { IfOk result (λ a. faults_in (map S.text words.now) ≡ []) }
+    ensures fault { IfErr result (IsUsageFault (map S.text words.now)) }
+    ensures taken { takes kyoto_link (map S.text words.now) ≡ true → IfErr result (λ f. f ≡ UsageFault.NoMemory) }
+{
+    let Ok(command) = command(alloc) else {
+        return Err(UsageFault::NoMemory);
+    };
+    match command.try_get_matches_from(words) {
+        Ok(matches) => match action_of(alloc, &matches) {
+            Some(action) => Ok(action),
+            None => Err(UsageFault::NoMemory),
+        },
+        Err(error) => Err(fault_of(error)),
+    }
+}

@@ -74,7 +74,7 @@ pub(crate) fn reserve(accounts: &mut BTreeMap<u64, Account>, number: u64, count:
     }
 }
 
-// `count` more of the account's units are free.
+/// `count` more of the account's units are free.
 fn release(accounts: &mut BTreeMap<u64, Account>, number: u64, count: u64)
     requires { free_at accounts.old number + count < 2 ^ 64 }
     ensures { (n : ℕ) → tree.get nat_cmp accounts.new n ≡ (if n == number then option_map (with_more_free count) (tree.get nat_cmp accounts.old n) else tree.get nat_cmp accounts.old n) }
@@ -84,7 +84,7 @@ fn release(accounts: &mut BTreeMap<u64, Account>, number: u64, count: u64)
     }
 }
 
-// The account has `count` fewer units.
+/// The account has `count` fewer units.
 fn take_out(accounts: &mut BTreeMap<u64, Account>, number: u64, count: u64)
     requires { count ≤ held_at accounts.old number }
     ensures { (n : ℕ) → tree.get nat_cmp accounts.new n ≡ (if n == number then option_map (with_fewer count) (tree.get nat_cmp accounts.old n) else tree.get nat_cmp accounts.old n) }

@@ -57,14 +57,14 @@ impl Model for Holdings {
     ghost invariant = { λ h. AreInStep h.accounts h.unit_holdings h.reservations };
 }
 
-// Whether the transaction reserves the unit holding.
+/// Whether the transaction reserves the unit holding.
 fn is_reserved_by(unit_holding: &UnitHolding, id: TransactionId) -> bool
     ensures { result ≡ is_reserved_by id unit_holding.now }
 {
     unit_holding.reserving == Some(id)
 }
 
-// The unit holding when the transaction has let it go.
+/// The unit holding when the transaction has let it go.
 fn released(unit_holding: UnitHolding, id: TransactionId) -> UnitHolding
     ensures { result ≡ released id unit_holding }
 {
@@ -78,7 +78,7 @@ fn released(unit_holding: UnitHolding, id: TransactionId) -> UnitHolding
     }
 }
 
-// Puts the units of each block into the account, with their block's kind, so reserved.
+/// Puts the units of each block into the account, with their block's kind, so reserved.
 fn set_unit_holdings(
     unit_holdings: &mut UnitMap<UnitHolding>,
     account: u64,
@@ -122,7 +122,7 @@ impl Holdings {
         Some(matches!(account_status, AccountStatus::Open))
     }
 
-    // The status of the account.
+    /// The status of the account.
     fn account_status(&self, account: u64) -> Option<AccountStatus>
         ensures { result ≡ map.get self.now.accounts account }
     {
@@ -130,7 +130,7 @@ impl Holdings {
         Some(account.account_status)
     }
 
-    // Gives an account of the registry the status.
+    /// Gives an account of the registry the status.
     fn set_account_status(&mut self, account: u64, account_status: AccountStatus)
         requires { IsSome (map.get self.old.accounts account) }
         ensures accounts { (n : ℕ) → map.get self.new.accounts n ≡ (if n == account then Some account_status else map.get self.old.accounts n) }
@@ -139,7 +139,7 @@ impl Holdings {
         set_account_status(&mut self.accounts, account, account_status);
     }
 
-    // Whether each of the block's units is in the account, with the block's kind.
+    /// Whether each of the block's units is in the account, with the block's kind.
     fn holds(&self, account: u64, block: &Block) -> bool
         ensures all { OnTrue result ((s : Serial) → IsTrue (has_unit block.now.raw s) → IsHeldAs self.now account block.now.raw.kind s) }
         ensures lacking { OnFalse result ((s : Serial) × IsTrue (has_unit block.now.raw s) × (IsHeldAs self.now account block.now.raw.kind s → ⊥)) }
@@ -151,7 +151,7 @@ impl Holdings {
         )
     }
 
-    // Whether each unit of the blocks is in the account, with its block's kind.
+    /// Whether each unit of the blocks is in the account, with its block's kind.
     fn holds_each(&self, account: u64, blocks: &[Block]) -> bool
         ensures all { OnTrue result (AreHeld self.now account blocks.now) }
         ensures lacking { OnFalse result (IsLacking self.now account blocks.now) }
@@ -159,7 +159,7 @@ impl Holdings {
         blocks.iter().all(|block| self.holds(account, block))
     }
 
-    // Whether each of the block's units is there, reserved by none.
+    /// Whether each of the block's units is there, reserved by none.
     fn is_free(&self, block: &Block) -> bool
         ensures all { OnTrue result ((s : Serial) → IsTrue (has_unit block.now.raw s) → option_map (λ unit_holding. is_none unit_holding.reserving) (map.get self.now.unit_holdings s) ≡ Some true) }
         ensures lacking { OnFalse result ((s : Serial) × IsTrue (has_unit block.now.raw s) × (option_map (λ unit_holding. is_none unit_holding.reserving) (map.get self.now.unit_holdings s) ≢ Some true)) }
@@ -168,7 +168,7 @@ impl Holdings {
             .has_all_of(block, |unit_holding| unit_holding.reserving.is_none())
     }
 
-    // Whether each unit of the blocks is there, reserved by none.
+    /// Whether each unit of the blocks is there, reserved by none.
     fn is_each_free(&self, blocks: &[Block]) -> bool
         ensures all { OnTrue result (AreFree self.now blocks.now) }
         ensures lacking { OnFalse result ((s : Serial) × IsTrue (covers blocks.now s) × (option_map (λ unit_holding. is_none unit_holding.reserving) (map.get self.now.unit_holdings s) ≢ Some true)) }
@@ -324,7 +324,7 @@ impl Holdings {
         }
     }
 
-    // How many units the account has.
+    /// How many units the account has.
     fn held_count(&self, account: u64) -> u64
         ensures { result ≡ count_by (λ e. is_in account e.1) (map.entries self.now.unit_holdings) }
     {
@@ -334,7 +334,7 @@ impl Holdings {
         }
     }
 
-    // Whether a unit is in the account.
+    /// Whether a unit is in the account.
     fn has_units(&self, account: u64) -> bool
         ensures some { OnTrue result (HasUnits self.now account) }
         ensures none { OnFalse result (HasUnits self.now account → ⊥) }
@@ -372,7 +372,7 @@ impl Holdings {
         self.unit_holdings.pieces()
     }
 
-    // Whether one of the block's units is held.
+    /// Whether one of the block's units is held.
     fn holds_some_of(&self, block: &Block) -> bool
         ensures some { OnTrue result ((s : Serial) × IsTrue (has_unit block.now.raw s) × IsSome (map.get self.now.unit_holdings s)) }
         ensures none { OnFalse result ((s : Serial) → IsTrue (has_unit block.now.raw s) → map.get self.now.unit_holdings s ≡ None) }

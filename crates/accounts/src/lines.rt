@@ -8,7 +8,7 @@ use crate::unit_holding::{HeldBlock, UnitHolding};
 use std::alloc::{AllocError, Global};
 use units::Interval;
 
-// The interval as a line.
+/// The interval as a line.
 fn line(interval: &Interval<UnitHolding>) -> HeldBlock
     requires { IsRange interval.now.first interval.now.last }
     ensures { unit_holding_interval result ≡ interval.now }

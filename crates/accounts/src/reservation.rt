@@ -28,7 +28,7 @@ pub(crate) struct Reservation {
 }
 
 impl Reservation {
-    // More blocks and one more share. After `NoMemory` nothing has changed.
+    /// More blocks and one more share. After `NoMemory` nothing has changed.
     fn extend(&mut self, blocks: &[Block], share: Share) -> Result<(), NoMemory>
         ensures ok { OnOk result ((self.new.blocks.items ≡ self.old.blocks.items ++ blocks.now) × (self.new.shares.items ≡ self.old.shares.items ++ share ∷ [])) }
         ensures err { OnErr result ((self.new.blocks.items ≡ self.old.blocks.items) × (self.new.shares.items ≡ self.old.shares.items)) }
@@ -39,7 +39,7 @@ impl Reservation {
         Ok(())
     }
 
-    // Without its last blocks, as many as that, and without its last share.
+    /// Without its last blocks, as many as that, and without its last share.
     fn shorten(&mut self, count: usize)
         ensures blocks { self.new.blocks.items ≡ take (length self.old.blocks.items - count) self.old.blocks.items }
         ensures shares { self.new.shares.items ≡ take (length self.old.shares.items - 1) self.old.shares.items }

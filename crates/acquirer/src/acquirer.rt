@@ -69,7 +69,7 @@ impl Model for Acquirer {
     ghost invariant = { λ s. AreAwaited s.transfers s.awaited };
 }
 
-// The codes of what was found.
+/// The codes of what was found.
 fn codes_in(found: &Option<AcquirerCodes>) -> &[u16]
     ensures { result.now ≡ codes_in found.now }
 {
@@ -79,7 +79,7 @@ fn codes_in(found: &Option<AcquirerCodes>) -> &[u16]
     }
 }
 
-// The column of a proposal in which these codes were found, and of which no content is recorded.
+/// The column of a proposal in which these codes were found, and of which no content is recorded.
 fn column_of_proposal(codes: &[u16]) -> RowInput
     ensures { result ≡ column_of_proposal None codes.now }
 {
@@ -101,7 +101,7 @@ impl Acquirer {
         }
     }
 
-    // The transfer with that identifier.
+    /// The transfer with that identifier.
     fn transfer(&self, id: TransactionId) -> Option<&Transfer>
         ensures { option_copied result ≡ map.get self.now.transfers id }
     {
@@ -124,7 +124,7 @@ impl Acquirer {
         transfer.content.as_ref()
     }
 
-    // What the table asks of the transfer.
+    /// What the table asks of the transfer.
     fn known(&self, id: TransactionId) -> RecordedStatus
         ensures { result ≡ known_transfer (map.get self.now.transfers id) }
     {
@@ -166,7 +166,7 @@ impl Acquirer {
         }
     }
 
-    // What the table says to a proposal equal to the one that is recorded.
+    /// What the table says to a proposal equal to the one that is recorded.
     fn equal_proposal(&self, alloc: Global, id: TransactionId) -> Result<Decision, Refusal>
         ensures { result ≡ decided (acquirer_row (known_transfer (map.get self.now.transfers id)) column.EqualProposal) [] }
     {
@@ -181,7 +181,7 @@ impl Acquirer {
         }
     }
 
-    // Whether one of the transfer's units is held.
+    /// Whether one of the transfer's units is held.
     fn holds_some_of(&self, holdings: &Holdings, id: TransactionId) -> bool
         ensures { (scheme : Scheme) (known_so : Holding) → Knows scheme self.now.code holdings.now known_so → result ≡ option_map_or (λ k. list_any (λ p. known_so.is_held p.unit) (pieces k.units)) (kept_content (map.get self.now.transfers id)) false }
     {

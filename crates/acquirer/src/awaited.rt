@@ -57,7 +57,7 @@ pub(crate) fn forget(awaited: &mut BTreeSet<Awaited>, place: Option<Awaited>)
     }
 }
 
-// The place of the account before all its transfers.
+/// The place of the account before all its transfers.
 fn start_of(account: u64) -> Awaited
     ensures account { result.account ≡ account }
     ensures least { (t : TransactionId) → is_gt (id_cmp result.id t) ≡ false }

@@ -22,14 +22,14 @@ use units::refusal_code::{KIND_NOT_TAKEN, RECEIVER_CLOSED, RECEIVER_UNKNOWN, UNI
 use units::{Block, Code, Items, Kind, NoMemory};
 use wire::AcquirerCodes;
 
-// Whether the registry has no such account.
+/// Whether the registry has no such account.
 fn is_unknown(holdings: &Holdings, account: u64) -> bool
     ensures { (scheme : Scheme) (code : Code) (known : Holding) → Knows scheme code holdings.now known → result ≡ not (has_account scheme code account) }
 {
     holdings.is_open(account).is_none()
 }
 
-// Whether the registry has the account, and it is closed.
+/// Whether the registry has the account, and it is closed.
 fn is_closed(holdings: &Holdings, account: u64) -> bool
     ensures { (scheme : Scheme) (code : Code) (known : Holding) → Knows scheme code holdings.now known → result ≡ (has_account scheme code account && known.is_closed account) }
 {
@@ -46,14 +46,14 @@ pub fn holds_some(holdings: &Holdings, blocks: &[Block]) -> bool
     holdings.holds_any(blocks)
 }
 
-// Whether the kind is one of these.
+/// Whether the kind is one of these.
 fn has_kind(kinds: &[Kind], kind: Kind) -> bool
     ensures { result ≡ list_any (λ k. same_kind k kind) kinds.now }
 {
     kinds.iter().any(|other| *other == kind)
 }
 
-// Whether the registry takes units of the kind.
+/// Whether the registry takes units of the kind.
 fn takes_kind(scheme: &Scheme, code: Code, kind: Kind) -> bool
     ensures { result ≡ takes_kind scheme.now code kind }
 {
@@ -63,7 +63,7 @@ fn takes_kind(scheme: &Scheme, code: Code, kind: Kind) -> bool
     }
 }
 
-// Whether one of the blocks is of a kind that the registry doesn't take.
+/// Whether one of the blocks is of a kind that the registry doesn't take.
 fn has_untaken(scheme: &Scheme, code: Code, blocks: &[Block]) -> bool
     ensures { result ≡ list_any (λ b. not (takes_kind scheme.now code b.raw.kind)) blocks.now }
 {
@@ -72,7 +72,7 @@ fn has_untaken(scheme: &Scheme, code: Code, blocks: &[Block]) -> bool
         .any(|block| !takes_kind(scheme, code, block.raw.kind))
 }
 
-// The codes, where there is one.
+/// The codes, where there is one.
 fn some_codes(codes: Vec<u16>) -> Option<AcquirerCodes>
     requires { Ascends receiver_unknown kind_not_taken codes.items }
     ensures { codes_in result ≡ codes.items }

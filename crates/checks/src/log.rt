@@ -29,28 +29,28 @@ use units::refusal_code::{
 use units::{Block, Code, Items, NoMemory, UnitMap};
 use wire::LogCodes;
 
-// Whether one of the block's units isn't allotted.
+/// Whether one of the block's units isn't allotted.
 fn is_unallotted(allotments: &UnitMap<Holder>, block: &Block) -> bool
     ensures { result ≡ list_any (λ p. is_none (map.get allotments.now p.unit)) (pieces_of block.now.raw) }
 {
     !allotments.has_all_of(block, |_| true)
 }
 
-// Whether another registry owns one of the block's units.
+/// Whether another registry owns one of the block's units.
 fn is_of_another(book: &UnitMap<Owner>, registry: Code, block: &Block) -> bool
     ensures { result ≡ list_any (λ p. is_of_other registry (map.get book.now p.unit)) (pieces_of block.now.raw) }
 {
     book.has_some_of(block, |owner| owner.registry != registry)
 }
 
-// Whether one of the block's units is in a transfer.
+/// Whether one of the block's units is in a transfer.
 fn is_busy(under_way: &UnitMap<UnderWay>, block: &Block) -> bool
     ensures { result ≡ list_any (λ p. is_some (map.get under_way.now p.unit)) (pieces_of block.now.raw) }
 {
     !under_way.has_none_of(block)
 }
 
-// Whether one of the block's units is allotted with another kind.
+/// Whether one of the block's units is allotted with another kind.
 fn is_of_other_kind(allotments: &UnitMap<Holder>, block: &Block) -> bool
     ensures { result ≡ list_any (λ p. has_other_kind (map.get allotments.now p.unit) p.kind) (pieces_of block.now.raw) }
 {
@@ -58,14 +58,14 @@ fn is_of_other_kind(allotments: &UnitMap<Holder>, block: &Block) -> bool
     allotments.has_some_of(block, |holder| holder.kind != kind)
 }
 
-// Whether one of the blocks' units isn't allotted.
+/// Whether one of the blocks' units isn't allotted.
 fn has_unallotted(allotments: &UnitMap<Holder>, blocks: &[Block]) -> bool
     ensures { result ≡ list_any (λ b. list_any (λ p. is_none (map.get allotments.now p.unit)) (pieces_of b.raw)) blocks.now }
 {
     blocks.iter().any(|block| is_unallotted(allotments, block))
 }
 
-// Whether another registry owns one of the blocks' units.
+/// Whether another registry owns one of the blocks' units.
 fn has_other_owner(book: &UnitMap<Owner>, registry: Code, blocks: &[Block]) -> bool
     ensures { result ≡ list_any (λ b. list_any (λ p. is_of_other registry (map.get book.now p.unit)) (pieces_of b.raw)) blocks.now }
 {
@@ -74,14 +74,14 @@ fn has_other_owner(book: &UnitMap<Owner>, registry: Code, blocks: &[Block]) -> b
         .any(|block| is_of_another(book, registry, block))
 }
 
-// Whether one of the blocks' units is in a transfer.
+/// Whether one of the blocks' units is in a transfer.
 fn has_busy(under_way: &UnitMap<UnderWay>, blocks: &[Block]) -> bool
     ensures { result ≡ list_any (λ b. list_any (λ p. is_some (map.get under_way.now p.unit)) (pieces_of b.raw)) blocks.now }
 {
     blocks.iter().any(|block| is_busy(under_way, block))
 }
 
-// Whether one of the blocks' units is allotted with another kind.
+/// Whether one of the blocks' units is allotted with another kind.
 fn has_other_kind(allotments: &UnitMap<Holder>, blocks: &[Block]) -> bool
     ensures { result ≡ list_any (λ b. list_any (λ p. has_other_kind (map.get allotments.now p.unit) p.kind) (pieces_of b.raw)) blocks.now }
 {
@@ -90,7 +90,7 @@ fn has_other_kind(allotments: &UnitMap<Holder>, blocks: &[Block]) -> bool
         .any(|block| is_of_other_kind(allotments, block))
 }
 
-// Whether the registry may take part in transfers at the start.
+/// Whether the registry may take part in transfers at the start.
 fn starts_eligible(scheme: &Scheme, code: Code) -> bool
     ensures { result ≡ starts_eligible scheme.now code }
 {
@@ -100,7 +100,7 @@ fn starts_eligible(scheme: &Scheme, code: Code) -> bool
     }
 }
 
-// Whether the registry may take part in transfers: as the last order for it says, else as at the start.
+/// Whether the registry may take part in transfers: as the last order for it says, else as at the start.
 fn is_eligible(scheme: &Scheme, orders: &BTreeMap<Code, bool>, code: Code) -> bool
     ensures { result ≡ unwrap_or (tree.get code_cmp orders.now code) (starts_eligible scheme.now code) }
 {
@@ -110,14 +110,14 @@ fn is_eligible(scheme: &Scheme, orders: &BTreeMap<Code, bool>, code: Code) -> bo
     }
 }
 
-// Whether a registry of the scheme may not take part in transfers.
+/// Whether a registry of the scheme may not take part in transfers.
 fn is_barred(scheme: &Scheme, orders: &BTreeMap<Code, bool>, code: Code) -> bool
     ensures { result ≡ (has_member scheme.now code && not (unwrap_or (tree.get code_cmp orders.now code) (starts_eligible scheme.now code))) }
 {
     scheme.member(code).is_some() && !is_eligible(scheme, orders, code)
 }
 
-// Adds the codes of what is found in the blocks.
+/// Adds the codes of what is found in the blocks.
 fn note_units(
     found: &mut Vec<u16>,
     register: &Register,
@@ -138,7 +138,7 @@ fn note_units(
     note(found, has_other_kind(allotments, blocks), OTHER_KIND)
 }
 
-// The codes, where there is one.
+/// The codes, where there is one.
 fn some_codes(codes: Vec<u16>) -> Option<LogCodes>
     requires { Ascends wrong_acquirer acquirer_not_eligible codes.items }
     ensures { codes_in result ≡ codes.items }

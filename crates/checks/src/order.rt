@@ -41,21 +41,21 @@ pub struct NewTransfer {
     pub content: Content,
 }
 
-// Whether there is no block, or more than `MOST_BLOCKS`.
+/// Whether there is no block, or more than `MOST_BLOCKS`.
 fn is_wrong_count(blocks: &[RawBlock]) -> bool
     ensures { result ≡ ((length blocks.now == 0) || nat_lt most_blocks (length blocks.now)) }
 {
     blocks.is_empty() || blocks.len() > MOST_BLOCKS
 }
 
-// Whether its numbers are out of order or out of range.
+/// Whether its numbers are out of order or out of range.
 fn is_out_of_range(block: &RawBlock) -> bool
     ensures { result ≡ is_out_of_range block.now }
 {
     block.last < block.first || (block.first == 0 || block.last > LAST_UNIT)
 }
 
-// The block, whose numbers are in range.
+/// The block, whose numbers are in range.
 fn block_of(raw: RawBlock) -> Block
     requires { is_out_of_range raw ≡ false }
     ensures { result.raw ≡ raw }
@@ -63,7 +63,7 @@ fn block_of(raw: RawBlock) -> Block
     Block { raw }
 }
 
-// The blocks, where the numbers of each are in range.
+/// The blocks, where the numbers of each are in range.
 fn blocks_of(alloc: Global, raw_blocks: &[RawBlock]) -> Result<Vec<Block>, Refusal>
     ensures ok { IfOk result (λ v. raws v.items ≡ raw_blocks.now) }
     ensures refused { IfErr result (λ r. (r.code ≡ out_of_memory) ⊎ ((r.code ≡ block_out_of_range) × (list_any is_out_of_range raw_blocks.now ≡ true))) }
@@ -82,7 +82,7 @@ fn blocks_of(alloc: Global, raw_blocks: &[RawBlock]) -> Result<Vec<Block>, Refus
     Ok(blocks)
 }
 
-// The blocks of an order, of which there are 1 to `MOST_BLOCKS`, whose numbers are in range, and which share no unit.
+/// The blocks of an order, of which there are 1 to `MOST_BLOCKS`, whose numbers are in range, and which share no unit.
 fn checked_blocks(alloc: Global, raw_blocks: &[RawBlock]) -> Result<Vec<Block>, Refusal>
     ensures blocks { IfOk result (λ v. raws v.items ≡ raw_blocks.now) }
     ensures ok { OnOk result (first_of (block_refusals raw_blocks.now) ≡ None) }
@@ -100,7 +100,7 @@ fn checked_blocks(alloc: Global, raw_blocks: &[RawBlock]) -> Result<Vec<Block>, 
     Ok(blocks)
 }
 
-// Checks that the account may reserve the blocks' units.
+/// Checks that the account may reserve the blocks' units.
 fn check_holdings(holdings: &Holdings, order: &Order, blocks: &[Block]) -> Result<(), Refusal>
     requires { raws blocks.now ≡ order.now.units }
     ensures may { OnOk result (MayReserve holdings.now order.now.account blocks.now) }
@@ -110,14 +110,14 @@ fn check_holdings(holdings: &Holdings, order: &Order, blocks: &[Block]) -> Resul
     holdings.check(order.account(), blocks)
 }
 
-// Whether no account can have that number.
+/// Whether no account can have that number.
 fn is_no_account(number: u64) -> bool
     ensures { result ≡ ((number == 0) || nat_lt last_account number) }
 {
     number == 0 || number > LAST_ACCOUNT
 }
 
-// Checks to which registry and which of its accounts the units are to go.
+/// Checks to which registry and which of its accounts the units are to go.
 fn check_receiver(scheme: &Scheme, code: Code, order: &Order) -> Result<(), Refusal>
     ensures ok { OnOk result (first_of (receiver_refusals scheme.now code order.now) ≡ None) }
     ensures refused { IfErr result (λ r. first_of (receiver_refusals scheme.now code order.now) ≡ Some r.code) }
@@ -135,14 +135,14 @@ fn check_receiver(scheme: &Scheme, code: Code, order: &Order) -> Result<(), Refu
     Ok(())
 }
 
-// The identifier under the number after the last one given.
+/// The identifier under the number after the last one given.
 fn next_id(code: Code, last: u32) -> Option<TransactionId>
     ensures { result ≡ id_at code (last + 1) }
 {
     TransactionId::new(code, last.checked_add(1)?)
 }
 
-// The blocks of an order that passes the checks of its blocks.
+/// The blocks of an order that passes the checks of its blocks.
 fn order_blocks(alloc: Global, order: &Order) -> Result<Vec<Block>, Refusal>
     ensures blocks { IfOk result (λ v. raws v.items ≡ order.now.units) }
     ensures ok { OnOk result (first_of (block_refusals order.now.units) ≡ None) }
@@ -151,8 +151,8 @@ fn order_blocks(alloc: Global, order: &Order) -> Result<Vec<Block>, Refusal>
     checked_blocks(alloc, order.units())
 }
 
-// What the order offers, with the units in canonical form. An order that passes its checks offers something where its
-// account has a number that an account can have.
+/// What the order offers, with the units in canonical form. An order that passes its checks offers something where its
+/// account has a number that an account can have.
 fn new_content(order: &Order, units: Vec<Block>) -> Option<Content>
     requires { raws units.items ≡ canonical order.now.units }
     ensures some { IfSome result (λ c. c ≡ content_of order.now) }
@@ -166,7 +166,7 @@ fn new_content(order: &Order, units: Vec<Block>) -> Option<Content>
     )
 }
 
-// What the order offers, with the order's blocks.
+/// What the order offers, with the order's blocks.
 fn content_of(alloc: Global, order: &Order, blocks: &[Block]) -> Result<Content, NoMemory>
     requires { raws blocks.now ≡ order.now.units }
     ensures { IfOk result (λ c. c ≡ content_of order.now) }

@@ -89,7 +89,7 @@ struct Round {
 }
 
 impl Round {
-    // The round of that place.
+    /// The round of that place.
     fn at(codes: &[Code], place: u32) -> Result<Round, Fault> {
         let next = place.saturating_add(1);
         let initiator = codes.get((place % REGISTRIES) as usize);
@@ -101,7 +101,7 @@ impl Round {
         })
     }
 
-    // How many rounds of the initiator are before it.
+    /// How many rounds of the initiator are before it.
     fn turn(&self) -> u32 {
         self.place / REGISTRIES
     }
@@ -111,7 +111,7 @@ impl Round {
         TransactionId::new(self.initiator, number).ok_or(Fault::Input)
     }
 
-    // The round's block of the initiator's units.
+    /// The round's block of the initiator's units.
     fn block(&self) -> Result<Block, Fault> {
         let first = u64::from(self.turn())
             .saturating_mul(UNITS_OF_A_ROUND)
@@ -133,7 +133,7 @@ impl Round {
         }))
     }
 
-    // What that registry tells the log.
+    /// What that registry tells the log.
     fn notification(&self, from: Code, notified: NotifiedStatus) -> Result<Input, Fault> {
         received(Message::Notification(Notification {
             from: Node::Registry(from),
@@ -143,7 +143,7 @@ impl Round {
         }))
     }
 
-    // The acknowledgement of one of the round's messages.
+    /// The acknowledgement of one of the round's messages.
     fn ack(&self, sent: Sent) -> Result<Input, Fault> {
         let place = match sent {
             Sent::Checked => 0,

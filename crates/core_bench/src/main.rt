@@ -75,7 +75,7 @@ struct Task {
     inputs: u32,
 }
 
-// The work that the word names.
+/// The work that the word names.
 fn work_of(word: &str) -> Option<Work> {
     match word {
         "transfers" => Some(Work::Transfers),
@@ -87,7 +87,7 @@ fn work_of(word: &str) -> Option<Work> {
     }
 }
 
-// What the words ask for, the first word being the program's own name.
+/// What the words ask for, the first word being the program's own name.
 fn task_of(words: &[String]) -> Option<Task> {
     let [_, work, inputs] = words else {
         return None;
@@ -108,7 +108,7 @@ struct Taken {
     recorded: u32,
 }
 
-// Gives the core that many inputs, these in turn and again from the first.
+/// Gives the core that many inputs, these in turn and again from the first.
 fn drive<C: NodeCore>(
     clock: &impl Clock,
     core: &mut C,
@@ -126,7 +126,7 @@ fn drive<C: NodeCore>(
     Ok(Taken { time, recorded })
 }
 
-// What a registry takes.
+/// What a registry takes.
 fn at_registry(clock: &impl Clock, alloc: Global, work: Work, count: u32) -> Result<Taken, Fault> {
     let nodes = Nodes::read().ok_or(Fault::Input)?;
     let scheme = Scheme::read(alloc, SCHEME.as_bytes())?;
@@ -139,7 +139,7 @@ fn at_registry(clock: &impl Clock, alloc: Global, work: Work, count: u32) -> Res
     drive(clock, &mut core, &inputs, count)
 }
 
-// What the log takes.
+/// What the log takes.
 fn at_log(clock: &impl Clock, alloc: Global, work: Work, count: u32) -> Result<Taken, Fault> {
     let codes = codes(alloc)?;
     let text = scheme_text(alloc, &codes)?;

@@ -82,13 +82,13 @@ struct Round {
 }
 
 impl Round {
-    // The round's transaction of that registry.
+    /// The round's transaction of that registry.
     fn id(&self, code: Code) -> Result<TransactionId, Fault> {
         let number = self.place.saturating_add(1);
         TransactionId::new(code, number).ok_or(Fault::Input)
     }
 
-    // The round's block of that registry's units.
+    /// The round's block of that registry's units.
     fn block(&self, origin: Code) -> Result<Block, Fault> {
         let first = u64::from(self.place)
             .saturating_mul(UNITS_OF_A_ROUND)
@@ -109,7 +109,7 @@ impl Round {
         Ok(Input::Propose(order.ok_or(Fault::Input)?))
     }
 
-    // The other registry's proposal, as the log passes it on.
+    /// The other registry's proposal, as the log passes it on.
     fn proposal(&self, alloc: Global) -> Result<Input, Fault> {
         let block = self.block(self.nodes.other)?;
         let units = Items::from_vec(Vec::from_slice(alloc, &[block])?);
@@ -123,7 +123,7 @@ impl Round {
         }))
     }
 
-    // What the log tells of the round's transaction of that registry.
+    /// What the log tells of the round's transaction of that registry.
     fn notification(&self, code: Code, notified: NotifiedStatus) -> Result<Input, Fault> {
         received(Message::Notification(Notification {
             from: Node::Itl,
@@ -133,7 +133,7 @@ impl Round {
         }))
     }
 
-    // The acknowledgement of one of the round's messages.
+    /// The acknowledgement of one of the round's messages.
     fn ack(&self, sent: Sent) -> Result<Input, Fault> {
         let place = match sent {
             Sent::Proposal => 0,

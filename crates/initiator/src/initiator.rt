@@ -71,7 +71,7 @@ impl Initiator {
         }
     }
 
-    // The transfer with that identifier.
+    /// The transfer with that identifier.
     fn transfer(&self, id: TransactionId) -> Option<Transfer>
         ensures { result ≡ map.get self.now.transfers id }
     {

@@ -28,8 +28,8 @@ use units::limits::CLEAN_UP_AGE;
 use units::{Items, NoMemory, Refusal};
 use wire::{Input, Message};
 
-// The transactions that have stood Checked for a day at that moment, by age. It looks at no transaction after the
-// first one that hasn't. Or `NoMemory`.
+/// The transactions that have stood Checked for a day at that moment, by age. It looks at no transaction after the
+/// first one that hasn't. Or `NoMemory`.
 fn aged(
     alloc: Global,
     checked: &BTreeSet<Waiting>,
@@ -48,7 +48,7 @@ fn aged(
     Ok(ids)
 }
 
-// The same in ascending order of code and number; or `NoMemory`.
+/// The same in ascending order of code and number; or `NoMemory`.
 fn due(
     alloc: Global,
     checked: &BTreeSet<Waiting>,
@@ -63,7 +63,7 @@ fn due(
     Ok(ids)
 }
 
-// What follows the cancellation of each of the transactions, in their order; or `NoMemory`.
+/// What follows the cancellation of each of the transactions, in their order; or `NoMemory`.
 fn cancellations(
     alloc: Global,
     transfers: &BTreeMap<TransactionId, Transfer>,

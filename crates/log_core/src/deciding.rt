@@ -25,7 +25,7 @@ use units::refusal_code::NO_ROW;
 use units::{Items, Refusal};
 use wire::{LogCodes, NotifiedStatus};
 
-// The codes of what was found.
+/// The codes of what was found.
 fn codes_in(found: &Option<LogCodes>) -> &[u16]
     ensures { result.now ≡ codes_in found.now }
 {
@@ -35,7 +35,7 @@ fn codes_in(found: &Option<LogCodes>) -> &[u16]
     }
 }
 
-// The column of a proposal in which these codes were found, and of which no content is recorded.
+/// The column of a proposal in which these codes were found, and of which no content is recorded.
 fn column_of_proposal(codes: &[u16]) -> RowInput
     ensures { result ≡ column_of_proposal None codes.now }
 {
@@ -77,7 +77,7 @@ impl Tables {
         }
     }
 
-    // What the table says to a proposal equal to the one that is recorded.
+    /// What the table says to a proposal equal to the one that is recorded.
     fn on_equal_proposal(&self, alloc: Global, id: TransactionId) -> Result<Decision, Refusal>
         ensures { result ≡ decided (log_row (known_transfer_state (transfer_state_in self.now id)) column.EqualProposal) [] }
     {

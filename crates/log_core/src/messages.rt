@@ -12,7 +12,7 @@ use std::alloc::Global;
 use units::{Code, Items, NoMemory, Node};
 use wire::{LogCodes, Message, Notification, NotifiedStatus, Proposal, ProposalStatus};
 
-// The notification to that registry.
+/// The notification to that registry.
 fn notification(registry: Code, id: TransactionId, notified: NotifiedStatus) -> Message
     ensures { result ≡ notifies nodes.Itl (nodes.Registry registry) id notified }
 {
@@ -24,7 +24,7 @@ fn notification(registry: Code, id: TransactionId, notified: NotifiedStatus) -> 
     })
 }
 
-// A list of one message.
+/// A list of one message.
 fn one(alloc: Global, message: Message) -> Result<Items<Message>, NoMemory>
     ensures { IfOk result (λ messages. messages ≡ message ∷ []) }
 {

@@ -24,7 +24,7 @@ use status::{Content, Moment, Status, TransactionId};
 use std::collections::{BTreeMap, BTreeSet};
 use units::{NoMemory, UnitMap};
 
-// A transfer with that content stands Checked since that moment. After `NoMemory` nothing has changed.
+/// A transfer with that content stands Checked since that moment. After `NoMemory` nothing has changed.
 fn start(
     under_way: &mut UnitMap<UnderWay>,
     checked: &mut BTreeSet<Waiting>,
@@ -75,7 +75,7 @@ pub(crate) fn begin(
     Ok(())
 }
 
-// The place of the transaction among those that stand Checked isn't there any more.
+/// The place of the transaction among those that stand Checked isn't there any more.
 fn stop_waiting(
     transfers: &BTreeMap<TransactionId, Transfer>,
     checked: &mut BTreeSet<Waiting>,
@@ -90,7 +90,7 @@ fn stop_waiting(
     }
 }
 
-// The transaction comes to that status, which isn't Checked. Takes no memory.
+/// The transaction comes to that status, which isn't Checked. Takes no memory.
 fn leave(
     transfers: &mut BTreeMap<TransactionId, Transfer>,
     checked: &mut BTreeSet<Waiting>,
@@ -108,7 +108,7 @@ fn leave(
     set_status(transfers, id, new, moment);
 }
 
-// The transaction comes to that status, which isn't Checked, and its units aren't under way any more. Takes no memory.
+/// The transaction comes to that status, which isn't Checked, and its units aren't under way any more. Takes no memory.
 fn finish(
     under_way: &mut UnitMap<UnderWay>,
     transfers: &mut BTreeMap<TransactionId, Transfer>,

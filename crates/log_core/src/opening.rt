@@ -19,7 +19,7 @@ use std::alloc::Global;
 use std::collections::{BTreeMap, BTreeSet};
 use units::{Block, NoMemory, RawBlock, Span, Unit, UnitMap};
 
-// The block of the span's units.
+/// The block of the span's units.
 fn block_at(unit: Unit, span: Span<Holder>) -> Block
     requires { IsRange unit.number span.last }
     ensures { (s : Serial) → has_unit result.raw s ≡ has (interval_at unit span) s }
@@ -34,7 +34,7 @@ fn block_at(unit: Unit, span: Span<Holder>) -> Block
     Block { raw }
 }
 
-// The book in which each unit is its holder's; or `NoMemory`.
+/// The book in which each unit is its holder's; or `NoMemory`.
 fn opening_book(alloc: Global, allotments: &UnitMap<Holder>) -> Result<UnitMap<Owner>, NoMemory>
     ensures { IfOk result (λ book. (s : Serial) → map.get book s ≡ option_map owner_of (map.get allotments.now s)) }
 {
@@ -48,7 +48,7 @@ fn opening_book(alloc: Global, allotments: &UnitMap<Holder>) -> Result<UnitMap<O
     Ok(book)
 }
 
-// What the log knows of units and registries at the start; or `NoMemory`.
+/// What the log knows of units and registries at the start; or `NoMemory`.
 fn opening_register(alloc: Global, scheme: &Scheme) -> Result<Register, NoMemory>
     ensures allotments { IfOk result (λ r. (s : Serial) → map.get r.allotments s ≡ allotted scheme.now s) }
     ensures book { IfOk result (λ r. (s : Serial) → map.get r.book s ≡ owner scheme.now [] s) }

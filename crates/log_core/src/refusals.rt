@@ -25,21 +25,21 @@ use units::refusal_code::{
 use units::{Code, Node};
 use wire::{Message, Notification, Proposal, ProposalStatus, Request};
 
-// Whether the node is the log.
+/// Whether the node is the log.
 fn is_log(node: Node) -> bool
     ensures { result ≡ same_node node nodes.Itl }
 {
     node == Node::Itl
 }
 
-// Whether the node is the registry of that code.
+/// Whether the node is the registry of that code.
 fn is_registry(node: Node, code: Code) -> bool
     ensures { result ≡ same_node node (nodes.Registry code) }
 {
     node == Node::Registry(code)
 }
 
-// Whether the node is no registry of the scheme.
+/// Whether the node is no registry of the scheme.
 fn is_no_registry(scheme: &Scheme, node: Node) -> bool
     ensures { result ≡ log.is_no_registry scheme.now node }
 {
@@ -49,7 +49,7 @@ fn is_no_registry(scheme: &Scheme, node: Node) -> bool
     }
 }
 
-// Whether an initiator has proposed it.
+/// Whether an initiator has proposed it.
 fn is_proposed(status: ProposalStatus) -> bool
     ensures { result ≡ log.is_proposed status }
 {
@@ -59,7 +59,7 @@ fn is_proposed(status: ProposalStatus) -> bool
     }
 }
 
-// Whether a transaction has another content than that one.
+/// Whether a transaction has another content than that one.
 fn has_other(
     transfers: &BTreeMap<TransactionId, Transfer>,
     id: TransactionId,
@@ -73,14 +73,14 @@ fn has_other(
     }
 }
 
-// Whether a record is about the transaction.
+/// Whether a record is about the transaction.
 fn is_known(transfers: &BTreeMap<TransactionId, Transfer>, id: TransactionId) -> bool
     ensures { (es : List Entry) → transfer_state_of transfers.now id ≡ option_map of_transition (newest (transitions_of es) id) → result ≡ history.is_known (transitions_of es) id }
 {
     status(transfers, id).is_some()
 }
 
-// Whether the node isn't the acquirer of that content.
+/// Whether the node isn't the acquirer of that content.
 fn is_not_acquirer(from: Node, content: Option<&Content>) -> bool
     ensures { result ≡ log.is_not_acquirer from (option_copied content.entry) }
 {
@@ -90,7 +90,7 @@ fn is_not_acquirer(from: Node, content: Option<&Content>) -> bool
     }
 }
 
-// Whether a notification of that status comes from another node than the one that decides on it.
+/// Whether a notification of that status comes from another node than the one that decides on it.
 fn is_from_another(from: Node, id: TransactionId, content: Option<&Content>, told: Status) -> bool
     ensures { result ≡ log.is_from_another from id (option_copied content.entry) told }
 {

@@ -38,8 +38,8 @@ pub(crate) struct Tables {
 }
 
 impl Tables {
-    // A copy of the input, for which the journal has room. Refused with `JOURNAL_FULL` where it has as many records
-    // as the scheme allows, and with `OUT_OF_MEMORY`.
+    /// A copy of the input, for which the journal has room. Refused with `JOURNAL_FULL` where it has as many records
+    /// as the scheme allows, and with `OUT_OF_MEMORY`.
     fn fitting(&self, scheme: &Scheme, input: &Input) -> Result<Input, Refusal>
         ensures copy { IfOk result (λ i. i ≡ input.now) }
         ensures ok { OnOk result (nat_le scheme.now.records (length self.now.journal.items) ≡ false) }

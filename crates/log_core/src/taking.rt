@@ -50,7 +50,7 @@ impl Tables {
         }
     }
 
-    // Takes a message that came at that moment.
+    /// Takes a message that came at that moment.
     fn receive(
         &mut self,
         alloc: Global,
@@ -75,7 +75,7 @@ impl Tables {
         }
     }
 
-    // Takes a proposal that isn't refused for what it is.
+    /// Takes a proposal that isn't refused for what it is.
     fn check(
         &mut self,
         alloc: Global,
@@ -101,7 +101,7 @@ impl Tables {
         }
     }
 
-    // Takes a notification that isn't refused for what it is.
+    /// Takes a notification that isn't refused for what it is.
     fn take_notification(
         &mut self,
         alloc: Global,
@@ -126,7 +126,7 @@ impl Tables {
         }
     }
 
-    // Takes a request that isn't refused for what it is.
+    /// Takes a request that isn't refused for what it is.
     fn withdraw(
         &mut self,
         alloc: Global,
@@ -151,7 +151,7 @@ impl Tables {
         }
     }
 
-    // What a request by which a transaction moves does; or `NoMemory`.
+    /// What a request by which a transaction moves does; or `NoMemory`.
     fn withdrawal(&self, alloc: Global, id: TransactionId) -> Result<Effect, NoMemory>
         ensures { IfOk result (IsWithdrawal id (transfer_state_in self.now id)) }
     {

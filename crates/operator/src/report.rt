@@ -8,7 +8,7 @@ use units::{NoMemory, Node};
 use wire::Proposal;
 use world::{Stock, World};
 
-// Where a transfer stands at its three nodes.
+/// Where a transfer stands at its three nodes.
 fn row_of(world: &World, proposal: &Proposal) -> TransactionRow
     ensures { result ≡ row_of world.now proposal.now }
 {

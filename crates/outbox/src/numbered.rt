@@ -37,7 +37,7 @@ impl Model for Outbox {
     ghost invariant = { λ s. IsKept (sent_in 0 s.records.items s.messages.items) s.records.items s.messages.items s.places };
 }
 
-// The message with that key.
+/// The message with that key.
 fn message_at(messages: &[Message], key: usize) -> Option<&Message>
     ensures { option_copied result ≡ slice_get messages.now key }
 {

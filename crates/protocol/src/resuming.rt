@@ -7,7 +7,7 @@ use crate::replay_fault::ReplayFault;
 use units::Refusal;
 use wire::Input;
 
-// One more record. Where the input isn't recorded, nothing has changed.
+/// One more record. Where the input isn't recorded, nothing has changed.
 fn resume_one<C: NodeCore>(core: &mut C, input: &Input) -> Result<(), ReplayFault>
     ensures scheme { C.scheme_of core.new ≡ C.scheme_of core.old }
     ensures node { C.node_of core.new ≡ C.node_of core.old }

@@ -14,8 +14,8 @@ use scheme::{Allotment, Scheme, SchemeRegistry};
 use std::alloc::Global;
 use units::{Code, NoMemory};
 
-// Credits what the allotments give, where nothing is held before. Each of their accounts is open, and they share no
-// unit.
+/// Credits what the allotments give, where nothing is held before. Each of their accounts is open, and they share no
+/// unit.
 fn credit_each(holdings: &mut Holdings, allotted: &[Allotment]) -> Result<(), NoMemory>
     requires empty { holdings.old.unit_holdings ≡ map.empty }
     requires open_accounts { AllByRecursion (λ a. IsOpen holdings.old a.account) allotted.now }

@@ -26,21 +26,21 @@ use units::refusal_code::{
 use units::{Code, Node};
 use wire::{Message, Notification, Proposal, ProposalStatus, Request};
 
-// Whether the node is the registry.
+/// Whether the node is the registry.
 fn is_registry(code: Code, node: Node) -> bool
     ensures { result ≡ same_node node (nodes.Registry code) }
 {
     node == Node::Registry(code)
 }
 
-// Whether the node is the log.
+/// Whether the node is the log.
 fn is_log(node: Node) -> bool
     ensures { result ≡ same_node node nodes.Itl }
 {
     node == Node::Itl
 }
 
-// Whether the log has checked the proposal.
+/// Whether the log has checked the proposal.
 fn is_checked(status: ProposalStatus) -> bool
     ensures { result ≡ is_checked status }
 {
@@ -50,7 +50,7 @@ fn is_checked(status: ProposalStatus) -> bool
     }
 }
 
-// Whether the transfer isn't one to the registry from another one, or has a unit twice.
+/// Whether the transfer isn't one to the registry from another one, or has a unit twice.
 fn is_wrong_party(code: Code, proposal: &Proposal) -> bool
     ensures { result ≡ (not (same_code proposal.now.content.acquirer code) || (same_code proposal.now.id.code code || repeats (pieces proposal.now.content.units))) }
 {
@@ -59,7 +59,7 @@ fn is_wrong_party(code: Code, proposal: &Proposal) -> bool
         || has_repeats(proposal.content.units())
 }
 
-// Whether the transfer of another registry has another content than that one.
+/// Whether the transfer of another registry has another content than that one.
 fn has_other(acquirer: &Acquirer, id: TransactionId, content: &Content) -> bool
     ensures { (code : Code) (es : List Entry) → ((t : Id) → map.get acquirer.now.transfers t ≡ row_at (is_foreign code) foreign_row (transitions_of es) t) → same_code id.code code ≡ false → result ≡ deciding.has_other (newest (transitions_of es) id) content.now }
 {
@@ -69,7 +69,7 @@ fn has_other(acquirer: &Acquirer, id: TransactionId, content: &Content) -> bool
     }
 }
 
-// Whether a record is about the transaction.
+/// Whether a record is about the transaction.
 fn is_known(code: Code, initiator: &Initiator, acquirer: &Acquirer, id: TransactionId) -> bool
     ensures { (es : List Entry) → ((t : Id) → map.get initiator.now.transfers t ≡ row_at (is_own code) (own_row es) (transitions_of es) t) → ((t : Id) → map.get acquirer.now.transfers t ≡ row_at (is_foreign code) foreign_row (transitions_of es) t) → result ≡ history.is_known (transitions_of es) id }
 {
@@ -80,7 +80,7 @@ fn is_known(code: Code, initiator: &Initiator, acquirer: &Acquirer, id: Transact
     }
 }
 
-// Whether the notification tells that a transfer of another registry is Cancelled.
+/// Whether the notification tells that a transfer of another registry is Cancelled.
 fn forestalls(code: Code, notification: &Notification) -> bool
     ensures { result ≡ (same_status (notified_status notification.now.notified) statuses.Cancelled && not (same_code notification.now.id.code code)) }
 {

@@ -51,7 +51,7 @@ impl Model for RegistryCore {
     ghost invariant = { λ s. IsKept s.scheme s.code s.tables };
 }
 
-// The tables of that registry before any record; or `NoMemory`.
+/// The tables of that registry before any record; or `NoMemory`.
 fn opening_tables(alloc: Global, scheme: &Scheme, code: Code) -> Result<Tables, NoMemory>
     ensures kept { IfOk result (IsKept scheme.now code) }
     ensures journal { IfOk result (λ t. t.journal.items ≡ []) }

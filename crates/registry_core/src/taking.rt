@@ -97,7 +97,7 @@ impl Tables {
         }
     }
 
-    // Takes a proposal that isn't refused for what it is.
+    /// Takes a proposal that isn't refused for what it is.
     fn arrive(
         &mut self,
         alloc: Global,
@@ -126,7 +126,7 @@ impl Tables {
         }
     }
 
-    // Takes a notification that isn't refused for what it is.
+    /// Takes a notification that isn't refused for what it is.
     fn take_notification(
         &mut self,
         alloc: Global,
@@ -147,7 +147,7 @@ impl Tables {
         }
     }
 
-    // Takes a notification about a transfer out of the registry.
+    /// Takes a notification about a transfer out of the registry.
     fn settle(
         &mut self,
         alloc: Global,
@@ -172,7 +172,7 @@ impl Tables {
         }
     }
 
-    // Takes a notification about a transfer to the registry.
+    /// Takes a notification about a transfer to the registry.
     fn finish(
         &mut self,
         alloc: Global,
@@ -198,7 +198,7 @@ impl Tables {
         }
     }
 
-    // What a notification by which a transfer to the registry comes to that status does.
+    /// What a notification by which a transfer to the registry comes to that status does.
     fn ending(&self, id: TransactionId, new: Status) -> Effect
         ensures { result ≡ ending (is_some (map.get self.now.acquirer.transfers id)) id new }
     {

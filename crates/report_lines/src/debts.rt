@@ -10,7 +10,7 @@ use std::fmt::Write;
 use units::{Block, NoMemory};
 use wire::Proposal;
 
-// The number of units of the blocks and of `before` more, and 2^64 - 1 where there are more.
+/// The number of units of the blocks and of `before` more, and 2^64 - 1 where there are more.
 fn units_in(before: u64, blocks: &[Block]) -> u64
     ensures { result ≡ shown (before + sum_by units_of (raws blocks.now)) }
 {
@@ -21,7 +21,7 @@ fn units_in(before: u64, blocks: &[Block]) -> u64
     count
 }
 
-// The number of units of all the proposals, and 2^64 - 1 where there are more.
+/// The number of units of all the proposals, and 2^64 - 1 where there are more.
 fn owed_in(proposals: &[&Proposal]) -> u64
     ensures { result ≡ owed_shown (map (λ p. p.now) proposals.now) }
 {
@@ -56,7 +56,7 @@ fn push_each_due(text: &mut String, proposals: &[&Proposal]) -> Result<(), NoMem
     Ok(())
 }
 
-// Adds the line of the number of units.
+/// Adds the line of the number of units.
 fn push_number(text: &mut String, proposals: &[&Proposal]) -> Result<(), NoMemory>
     ensures { OnOk result (string_bytes text.new ≡ string_bytes text.old ++ owed_line (map (λ p. p.now) proposals.now)) }
 {

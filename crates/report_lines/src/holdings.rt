@@ -26,7 +26,7 @@ impl fmt::Display for ReservingText {
     }
 }
 
-// The number of units that no transfer reserves.
+/// The number of units that no transfer reserves.
 fn free_units(line: &HeldBlock) -> u64
     ensures { result ≡ free_units line.now }
 {
@@ -36,7 +36,7 @@ fn free_units(line: &HeldBlock) -> u64
     }
 }
 
-// The number of units, and 2^64 - 1 where there are more.
+/// The number of units, and 2^64 - 1 where there are more.
 fn held_in(lines: &[HeldBlock]) -> u64
     ensures { result ≡ held_shown lines.now }
 {
@@ -47,7 +47,7 @@ fn held_in(lines: &[HeldBlock]) -> u64
     count
 }
 
-// The number of free units, and 2^64 - 1 where there are more.
+/// The number of free units, and 2^64 - 1 where there are more.
 fn free_in(lines: &[HeldBlock]) -> u64
     ensures { result ≡ free_shown lines.now }
 {
@@ -58,7 +58,7 @@ fn free_in(lines: &[HeldBlock]) -> u64
     count
 }
 
-// Adds the line of a registry's numbers of units.
+/// Adds the line of a registry's numbers of units.
 fn push_numbers(text: &mut String, code: Code, held: u64, free: u64) -> Result<(), NoMemory>
     ensures { OnOk result (string_bytes text.new ≡ string_bytes text.old ++ registry_line code held free) }
 {

@@ -14,7 +14,7 @@ fn push_number(text: &mut String, n: u64) -> Result<(), NoMemory>
     Ok(())
 }
 
-// Adds a word, a space and a number.
+/// Adds a word, a space and a number.
 fn push_with_number(text: &mut String, word: &str, n: u64) -> Result<(), NoMemory>
     ensures { OnOk result (string_bytes text.new ≡ string_bytes text.old ++ word.now ++ codes " " ++ decimal n) }
 {
@@ -23,7 +23,7 @@ fn push_with_number(text: &mut String, word: &str, n: u64) -> Result<(), NoMemor
     push_number(text, n)
 }
 
-// Adds an outcome without its event.
+/// Adds an outcome without its event.
 fn push_outcome_text(text: &mut String, outcome: Outcome) -> Result<(), NoMemory>
     ensures { OnOk result (string_bytes text.new ≡ string_bytes text.old ++ outcome_text outcome) }
 {

@@ -12,7 +12,7 @@ use crate::registries::Scheme;
 use std::alloc::Global;
 use units::{Block, Code, NoMemory, UnitMap};
 
-// The blocks' units are the account's, also those that were another's.
+/// The blocks' units are the account's, also those that were another's.
 fn put_blocks(
     holders: &mut UnitMap<Holder>,
     registry: Code,
@@ -37,7 +37,7 @@ fn put_blocks(
     Ok(())
 }
 
-// The units that the registry's accounts have at the start are theirs.
+/// The units that the registry's accounts have at the start are theirs.
 fn put_allotted(
     holders: &mut UnitMap<Holder>,
     registry: Code,

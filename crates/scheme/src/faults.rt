@@ -17,7 +17,7 @@ use std::alloc::{AllocError, Global};
 use units::Block;
 use units::limits::{LEAST_REGISTRIES, MOST_ACCOUNTS, MOST_ALLOTTED, MOST_REGISTRIES};
 
-// Adds the blocks of all the allotments after those that are there.
+/// Adds the blocks of all the allotments after those that are there.
 fn push_units(all: &mut Vec<Block>, allotted: &[Allotment]) -> Result<(), AllocError>
     ensures { OnOk result (all.new.items ≡ all.old.items ++ blocks_of allotted.now) }
 {
@@ -27,7 +27,7 @@ fn push_units(all: &mut Vec<Block>, allotted: &[Allotment]) -> Result<(), AllocE
     Ok(())
 }
 
-// All blocks that the registries allot.
+/// All blocks that the registries allot.
 fn allotted_blocks(alloc: Global, members: &[SchemeRegistry]) -> Result<Vec<Block>, AllocError>
     ensures { IfOk result (λ v. v.items ≡ all_blocks members.now) }
 {
@@ -38,7 +38,7 @@ fn allotted_blocks(alloc: Global, members: &[SchemeRegistry]) -> Result<Vec<Bloc
     Ok(all)
 }
 
-// Whether none of the registries has too many accounts.
+/// Whether none of the registries has too many accounts.
 fn have_few_accounts(members: &[SchemeRegistry]) -> bool
     ensures { IsTrue result ↔ AllByRecursion (λ m. length m.accounts ≤ most_accounts) members.now }
 {
@@ -50,7 +50,7 @@ fn have_few_accounts(members: &[SchemeRegistry]) -> bool
     true
 }
 
-// Whether neither the registries nor their accounts nor their blocks, `blocks` in number, are too many.
+/// Whether neither the registries nor their accounts nor their blocks, `blocks` in number, are too many.
 fn are_few(members: &[SchemeRegistry], blocks: usize) -> bool
     requires { blocks ≡ length (all_blocks members.now) }
     ensures { IsTrue result ↔ AreFew members.now }
@@ -61,7 +61,7 @@ fn are_few(members: &[SchemeRegistry], blocks: usize) -> bool
     have_few_accounts(members)
 }
 
-// Whether the codes rise: of registries in order, two with one code are neighbours.
+/// Whether the codes rise: of registries in order, two with one code are neighbours.
 fn have_different_codes(members: &[SchemeRegistry]) -> bool
     requires { AreSorted members.now }
     ensures { IsTrue result ↔ Pairwise (λ a b. code_cmp a.code b.code ≡ Less) members.now }
@@ -74,7 +74,7 @@ fn have_different_codes(members: &[SchemeRegistry]) -> bool
     true
 }
 
-// The numbers in ascending order.
+/// The numbers in ascending order.
 fn ascending(alloc: Global, numbers: &[u64]) -> Result<Vec<u64>, AllocError>
     ensures moved { IfOk result (λ v. IsPermutation numbers.now v.items) }
     ensures sorted { IfOk result (λ v. IsNonDecreasing v.items) }
@@ -84,7 +84,7 @@ fn ascending(alloc: Global, numbers: &[u64]) -> Result<Vec<u64>, AllocError>
     Ok(sorted)
 }
 
-// Whether no two of the numbers are the same.
+/// Whether no two of the numbers are the same.
 fn are_different(numbers: &[u64]) -> bool
     requires { IsNonDecreasing numbers.now }
     ensures { IsTrue result ↔ HasNoTwins numbers.now }
@@ -97,7 +97,7 @@ fn are_different(numbers: &[u64]) -> bool
     true
 }
 
-// Whether each allotment is to one of the accounts.
+/// Whether each allotment is to one of the accounts.
 fn are_known(accounts: &[u64], allotted: &[Allotment]) -> bool
     requires { IsNonDecreasing accounts.now }
     ensures { IsTrue result ↔ AllByRecursion (λ a. IsKnown accounts.now a.account) allotted.now }
@@ -110,7 +110,7 @@ fn are_known(accounts: &[u64], allotted: &[Allotment]) -> bool
     true
 }
 
-// Whether no registry has an account twice.
+/// Whether no registry has an account twice.
 fn have_different_accounts(alloc: Global, members: &[SchemeRegistry]) -> Result<bool, AllocError>
     ensures { IfOk result (λ free. IsTrue free ↔ IsFreeOf AccountTwice members.now) }
 {
@@ -123,7 +123,7 @@ fn have_different_accounts(alloc: Global, members: &[SchemeRegistry]) -> Result<
     Ok(true)
 }
 
-// Whether no allotment is to an account that its registry doesn't have.
+/// Whether no allotment is to an account that its registry doesn't have.
 fn have_known_accounts(alloc: Global, members: &[SchemeRegistry]) -> Result<bool, AllocError>
     ensures { IfOk result (λ free. IsTrue free ↔ IsFreeOf UnknownAccount members.now) }
 {
@@ -136,7 +136,7 @@ fn have_known_accounts(alloc: Global, members: &[SchemeRegistry]) -> Result<bool
     Ok(true)
 }
 
-// Puts the blocks in the order of their first units.
+/// Puts the blocks in the order of their first units.
 fn sort(blocks: &mut [Block])
     ensures moved { IsPermutation blocks.old blocks.new }
     ensures sorted { IsSortedByKey (λ b. first_unit b.raw) unit_cmp blocks.new }
@@ -144,8 +144,8 @@ fn sort(blocks: &mut [Block])
     blocks.sort_unstable_by_key(|block| block.first_unit());
 }
 
-// Whether no unit is in two of the blocks. Puts them in the order of their first units: a block
-// that has a unit of a later one has the first unit of its neighbour.
+/// Whether no unit is in two of the blocks. Puts them in the order of their first units: a block
+/// that has a unit of a later one has the first unit of its neighbour.
 fn are_apart(blocks: &mut [Block]) -> bool
     ensures { IsTrue result ↔ AllApart blocks.old }
 {

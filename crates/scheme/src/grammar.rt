@@ -18,7 +18,7 @@ use std::alloc::Global;
 use units::limits::{LAST_ACCOUNT, MOST_RECORDS};
 use units::{Block, Code, Items, Kind};
 
-// The number at the key, from 1 to `most`.
+/// The number at the key, from 1 to `most`.
 fn count_at(value: &Value, key: &str, most: u64) -> Option<u64>
     ensures { Reads (IsCount key.now most (view value.now)) result }
 {
@@ -30,7 +30,7 @@ fn count_at(value: &Value, key: &str, most: u64) -> Option<u64>
     }
 }
 
-// The registry's code.
+/// The registry's code.
 fn code(value: &Value) -> Option<Code>
     ensures { Reads (λ c. HasAt (view value.now) (codes "code") (string (code_text c))) result }
 {
@@ -38,14 +38,14 @@ fn code(value: &Value) -> Option<Code>
     Code::read(text)
 }
 
-// Whether the registry may take part in transfers.
+/// Whether the registry may take part in transfers.
 fn eligible(value: &Value) -> Option<bool>
     ensures { Reads (λ b. HasAt (view value.now) (codes "eligible") (boolean b)) result }
 {
     bool_at(value, "eligible")
 }
 
-// The account of that number.
+/// The account of that number.
 fn account(value: &Value) -> Option<u64>
     ensures { Reads (IsAccount (view value.now)) result }
 {
@@ -57,7 +57,7 @@ fn account(value: &Value) -> Option<u64>
     }
 }
 
-// The kind that the value names.
+/// The kind that the value names.
 fn kind(value: &Value) -> Option<Kind>
     ensures { Reads (IsKind (view value.now)) result }
 {
@@ -65,7 +65,7 @@ fn kind(value: &Value) -> Option<Kind>
     Kind::read(text)
 }
 
-// The block that the value writes.
+/// The block that the value writes.
 fn block(value: &Value) -> Option<Block>
     ensures { Reads (IsBlock (view value.now)) result }
 {
@@ -73,7 +73,7 @@ fn block(value: &Value) -> Option<Block>
     Block::read(text).ok()
 }
 
-// The accounts of an array.
+/// The accounts of an array.
 fn each_account(alloc: Global, values: &[Value]) -> Result<Items<u64>, ReadFault>
     ensures { Finds (EachIs IsAccount (items_view values.now)) result }
 {
@@ -85,7 +85,7 @@ fn each_account(alloc: Global, values: &[Value]) -> Result<Items<u64>, ReadFault
     Ok(Items::from_vec(accounts))
 }
 
-// The kinds of an array, where none stands twice.
+/// The kinds of an array, where none stands twice.
 fn different_kinds(alloc: Global, values: &[Value]) -> Result<Items<Kind>, ReadFault>
     ensures { Finds (λ xs. EachIs IsKind (items_view values.now) xs × HasNoTwins xs) result }
 {
@@ -100,7 +100,7 @@ fn different_kinds(alloc: Global, values: &[Value]) -> Result<Items<Kind>, ReadF
     Ok(Items::from_vec(kinds))
 }
 
-// The blocks of an array.
+/// The blocks of an array.
 fn each_block(alloc: Global, values: &[Value]) -> Result<Items<Block>, ReadFault>
     ensures { Finds (EachIs IsBlock (items_view values.now)) result }
 {
@@ -112,7 +112,7 @@ fn each_block(alloc: Global, values: &[Value]) -> Result<Items<Block>, ReadFault
     Ok(Items::from_vec(blocks))
 }
 
-// The registry's accounts.
+/// The registry's accounts.
 fn accounts(alloc: Global, value: &Value) -> Result<Items<u64>, ReadFault>
     ensures { Finds (HasList IsAccount (view value.now) (codes "accounts")) result }
 {
@@ -120,7 +120,7 @@ fn accounts(alloc: Global, value: &Value) -> Result<Items<u64>, ReadFault>
     each_account(alloc, list.as_slice())
 }
 
-// The kinds of units that the registry takes.
+/// The kinds of units that the registry takes.
 fn kinds(alloc: Global, value: &Value) -> Result<Items<Kind>, ReadFault>
     ensures { Finds (AreKinds (view value.now)) result }
 {
@@ -128,7 +128,7 @@ fn kinds(alloc: Global, value: &Value) -> Result<Items<Kind>, ReadFault>
     different_kinds(alloc, list.as_slice())
 }
 
-// The blocks of an allotment.
+/// The blocks of an allotment.
 fn units(alloc: Global, value: &Value) -> Result<Items<Block>, ReadFault>
     ensures { Finds (HasList IsBlock (view value.now) (codes "units")) result }
 {
@@ -136,7 +136,7 @@ fn units(alloc: Global, value: &Value) -> Result<Items<Block>, ReadFault>
     each_block(alloc, list.as_slice())
 }
 
-// What an account has at the start.
+/// What an account has at the start.
 fn allotment(alloc: Global, value: &Value) -> Result<Allotment, ReadFault>
     ensures { Finds (IsAllotment (view value.now)) result }
 {
@@ -148,7 +148,7 @@ fn allotment(alloc: Global, value: &Value) -> Result<Allotment, ReadFault>
     Ok(Allotment { account, units })
 }
 
-// The allotments of an array.
+/// The allotments of an array.
 fn each_allotment(alloc: Global, values: &[Value]) -> Result<Items<Allotment>, ReadFault>
     ensures { Finds (EachIs IsAllotment (items_view values.now)) result }
 {
@@ -160,7 +160,7 @@ fn each_allotment(alloc: Global, values: &[Value]) -> Result<Items<Allotment>, R
     Ok(Items::from_vec(allotted))
 }
 
-// What the registry's accounts have at the start.
+/// What the registry's accounts have at the start.
 fn allotted(alloc: Global, value: &Value) -> Result<Items<Allotment>, ReadFault>
     ensures { Finds (HasList IsAllotment (view value.now) (codes "allotted")) result }
 {
@@ -168,7 +168,7 @@ fn allotted(alloc: Global, value: &Value) -> Result<Items<Allotment>, ReadFault>
     each_allotment(alloc, list.as_slice())
 }
 
-// A registry.
+/// A registry.
 fn member(alloc: Global, value: &Value) -> Result<SchemeRegistry, ReadFault>
     ensures { Finds (IsMember (view value.now)) result }
 {
@@ -189,7 +189,7 @@ fn member(alloc: Global, value: &Value) -> Result<SchemeRegistry, ReadFault>
     })
 }
 
-// The registries of an array.
+/// The registries of an array.
 fn each_member(alloc: Global, values: &[Value]) -> Result<UnsortedRegistries, ReadFault>
     ensures { Finds (EachIs IsMember (items_view values.now)) result }
 {
@@ -201,7 +201,7 @@ fn each_member(alloc: Global, values: &[Value]) -> Result<UnsortedRegistries, Re
     Ok(UnsortedRegistries::from_vec(members))
 }
 
-// The registries of a scheme.
+/// The registries of a scheme.
 fn members(alloc: Global, value: &Value) -> Result<UnsortedRegistries, ReadFault>
     ensures { Finds (HasList IsMember (view value.now) (codes "registries")) result }
 {

@@ -15,7 +15,7 @@ use crate::registries::Scheme;
 use serde_json::Value;
 use std::alloc::Global;
 
-// The scheme that the value writes.
+/// The scheme that the value writes.
 fn scheme(alloc: Global, value: &Value) -> Result<Scheme, SchemeFault>
     ensures ok { IfOk result (IsSchemeOf (view value.now)) }
     ensures fault { IfErr result (IsFaultOf (view value.now)) }

@@ -24,7 +24,7 @@ pub struct Scheme {
     pub ghost sound: { AreMembers members } by { AreMembers-prop members },
 }
 
-// Where the registry of that code stands.
+/// Where the registry of that code stands.
 fn place_of(members: &[SchemeRegistry], code: Code) -> Option<usize>
     requires { AreMembers members.now }
     ensures some { IfSome result (λ i. member members.now code ≡ slice_get members.now i) }
@@ -35,14 +35,14 @@ fn place_of(members: &[SchemeRegistry], code: Code) -> Option<usize>
         .ok()
 }
 
-// The block of the allotment that has the unit.
+/// The block of the allotment that has the unit.
 fn block_of<'a>(allotment: &'a Allotment, unit: &Unit) -> Option<&'a Block>
     ensures { option_copied result ≡ find (λ b. has_unit b.raw unit.now) allotment.now.units }
 {
     allotment.units.as_slice().iter().find(|b| b.has(unit))
 }
 
-// Who holds the unit by the allotments of a registry.
+/// Who holds the unit by the allotments of a registry.
 fn holder_in(code: Code, allotted: &[Allotment], unit: &Unit) -> Option<Holder>
     ensures { result ≡ allotted_in code allotted.now unit.now }
 {

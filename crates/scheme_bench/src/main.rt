@@ -72,7 +72,7 @@ impl From<io::Error> for Fault {
 }
 
 impl Fault {
-    // The program's exit status.
+    /// The program's exit status.
     fn status(&self) -> u8 {
         match self {
             Fault::System(_) => 1,
@@ -83,7 +83,7 @@ impl Fault {
     }
 }
 
-// The number of rounds that the words name, the first word being the program's own name.
+/// The number of rounds that the words name, the first word being the program's own name.
 fn rounds(words: &[String]) -> Option<u16>
     ensures { IfSome result (λ n. n ≤ 1_000) }
 {
@@ -98,21 +98,21 @@ fn rounds(words: &[String]) -> Option<u16>
     }
 }
 
-// How long the text takes as a JSON value, with the drop of the value.
+/// How long the text takes as a JSON value, with the drop of the value.
 fn json_time(clock: &impl Clock, alloc: Global, text: &[u8]) -> Result<Duration, Fault> {
     let start = Instant::now(clock)?;
     drop(Value::from_slice(alloc, text)?);
     Ok(start.elapsed(clock)?)
 }
 
-// How long the text takes as a scheme, with the drop of the scheme.
+/// How long the text takes as a scheme, with the drop of the scheme.
 fn scheme_time(clock: &impl Clock, alloc: Global, text: &[u8]) -> Result<Duration, Fault> {
     let start = Instant::now(clock)?;
     drop(Scheme::read(alloc, text)?);
     Ok(start.elapsed(clock)?)
 }
 
-// Prints the two times of that many rounds. Of no rounds it tells only whether the text is a scheme.
+/// Prints the two times of that many rounds. Of no rounds it tells only whether the text is a scheme.
 fn measure(
     rt: &(impl Clock + Print),
     alloc: Global,

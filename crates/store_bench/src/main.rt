@@ -99,7 +99,7 @@ impl From<io::Error> for Fault {
 }
 
 impl Fault {
-    // The program's exit status.
+    /// The program's exit status.
     fn status(&self) -> u8 {
         match self {
             Fault::System(_) => 1,
@@ -120,7 +120,7 @@ struct Task<'a> {
     ghost sized: { 0 < size },
 }
 
-// The number that the word writes, where it is neither too small nor too large.
+/// The number that the word writes, where it is neither too small nor too large.
 fn number(word: &str, least: u32, most: u32) -> Option<u32>
     ensures { IfSome result (λ n. (least ≤ n) × (n ≤ most)) }
 {
@@ -132,7 +132,7 @@ fn number(word: &str, least: u32, most: u32) -> Option<u32>
     }
 }
 
-// What the words ask for, the first word being the program's own name.
+/// What the words ask for, the first word being the program's own name.
 fn wanted(words: &[String]) -> Option<Task<'_>> {
     let [_, path, records, size, loads] = words else {
         return None;
@@ -145,7 +145,7 @@ fn wanted(words: &[String]) -> Option<Task<'_>> {
     })
 }
 
-// The records to append.
+/// The records to append.
 fn records(alloc: Global, count: u32) -> Result<Vec<Input>, Fault> {
     let record = decode_input(alloc, RECORD.as_bytes())?;
     let mut records = Vec::new(alloc);
@@ -155,7 +155,7 @@ fn records(alloc: Global, count: u32) -> Result<Vec<Input>, Fault> {
     Ok(records)
 }
 
-// How long the store takes to append the records in batches.
+/// How long the store takes to append the records in batches.
 fn append_time<S: NodeStore>(
     clock: &impl Clock,
     store: &mut S,
@@ -171,7 +171,7 @@ fn append_time<S: NodeStore>(
     Ok(start.elapsed(clock)?)
 }
 
-// How long the store takes to load its records, with the drop of the records.
+/// How long the store takes to load its records, with the drop of the records.
 fn load_time<S: NodeStore>(
     clock: &impl Clock,
     store: &mut S,
@@ -184,7 +184,7 @@ fn load_time<S: NodeStore>(
     Ok(start.elapsed(clock)?)
 }
 
-// Prints the time of appending, and of each loading.
+/// Prints the time of appending, and of each loading.
 fn measure<S: NodeStore>(
     rt: &(impl Clock + Print),
     store: &mut S,

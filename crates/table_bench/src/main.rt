@@ -30,9 +30,9 @@ const MOST: u64 = 10_000_000;
 const UNITS_OF_AN_INTERVAL: u64 = 10;
 
 const BLOCKS_OF_A_CALL: u64 = 16;
-// One of this many messages isn't acknowledged.
+/// One of this many messages isn't acknowledged.
 const WAITING: usize = 2;
-// What the next interval is found by: a step that shares no factor with the usual numbers of intervals.
+/// What the next interval is found by: a step that shares no factor with the usual numbers of intervals.
 const STEP: u64 = 7_919;
 
 /// Why nothing is measured, or no more.
@@ -74,7 +74,7 @@ impl From<io::Error> for Fault {
 }
 
 impl Fault {
-    // The program's exit status.
+    /// The program's exit status.
     fn status(&self) -> u8 {
         match self {
             Fault::System(_) => 1,
@@ -92,7 +92,7 @@ struct Sizes {
     calls: u64,
 }
 
-// The number that the word names, if it is one from 16 to 10,000,000.
+/// The number that the word names, if it is one from 16 to 10,000,000.
 fn size(word: &String) -> Option<u64>
     ensures { IfSome result (λ n. (16 ≤ n) × (n ≤ 10_000_000)) }
 {
@@ -104,7 +104,7 @@ fn size(word: &String) -> Option<u64>
     }
 }
 
-// The sizes that the words name, the first word being the program's own name.
+/// The sizes that the words name, the first word being the program's own name.
 fn sizes_of(words: &[String]) -> Option<Sizes> {
     let [_, intervals, messages, calls] = words else {
         return None;
@@ -116,19 +116,19 @@ fn sizes_of(words: &[String]) -> Option<Sizes> {
     })
 }
 
-// The kind of the interval at that place.
+/// The kind of the interval at that place.
 fn kind_at(place: u64) -> Kind {
     if place % 2 == 0 { Kind::Aau } else { Kind::Cer }
 }
 
-// The block of the interval at that place.
+/// The block of the interval at that place.
 fn block_at(origin: Code, place: u64) -> Option<Block> {
     let first = place.saturating_mul(UNITS_OF_AN_INTERVAL).saturating_add(1);
     let last = first.saturating_add(UNITS_OF_AN_INTERVAL - 1);
     Block::new(origin, Period::First, kind_at(place), first, last).ok()
 }
 
-// A map of that many intervals.
+/// A map of that many intervals.
 fn map_of(alloc: Global, origin: Code, intervals: u64) -> Result<UnitMap<Kind>, Fault> {
     let mut kinds = UnitMap::new(alloc);
     for place in 0..intervals {
@@ -139,7 +139,7 @@ fn map_of(alloc: Global, origin: Code, intervals: u64) -> Result<UnitMap<Kind>, 
     Ok(kinds)
 }
 
-// The blocks of a call, one in each of 16 intervals that lie apart.
+/// The blocks of a call, one in each of 16 intervals that lie apart.
 fn blocks_from(
     alloc: Global,
     origin: Code,
@@ -157,7 +157,7 @@ fn blocks_from(
     Ok(blocks)
 }
 
-// How long it takes to give 16 blocks another kind and their own again, that many times.
+/// How long it takes to give 16 blocks another kind and their own again, that many times.
 fn map_time(
     clock: &impl Clock,
     alloc: Global,
@@ -177,7 +177,7 @@ fn map_time(
     Ok(start.elapsed(clock)?)
 }
 
-// An outbox of that many messages, of which every other is acknowledged.
+/// An outbox of that many messages, of which every other is acknowledged.
 fn outbox_of(alloc: Global, origin: Code, messages: u64) -> Result<Outbox, Fault> {
     let mut outbox = Outbox::new(alloc);
     let Some(id) = TransactionId::new(origin, 1) else {
@@ -205,7 +205,7 @@ struct Found {
     count: u64,
 }
 
-// How long it takes to look for the next message that waits, that many times.
+/// How long it takes to look for the next message that waits, that many times.
 fn outbox_time(clock: &impl Clock, outbox: &Outbox, sizes: Sizes) -> Result<Found, Fault> {
     let start = Instant::now(clock)?;
     let mut count: u64 = 0;
@@ -222,8 +222,8 @@ fn outbox_time(clock: &impl Clock, outbox: &Outbox, sizes: Sizes) -> Result<Foun
     Ok(Found { time, count })
 }
 
-// Prints the two times and how many look-ups found a message. With no more than the least number of calls, which take
-// too little time to tell, it prints nothing.
+/// Prints the two times and how many look-ups found a message. With no more than the least number of calls, which take
+/// too little time to tell, it prints nothing.
 fn measure(rt: &(impl Clock + Print), alloc: Global, sizes: Sizes) -> Result<(), Fault> {
     let Some(origin) = Code::read("NZ") else {
         return Ok(());

@@ -44,7 +44,7 @@ impl Model for AcquirerCodes {
     ghost invariant = { λ c. AreAcquirerCodes c.held };
 }
 
-// Whether the codes ascend strictly from `first` to `last`.
+/// Whether the codes ascend strictly from `first` to `last`.
 fn ascends(codes: &[u16], first: u16, last: u16) -> bool
     requires { last < 1_000 }
     ensures { IsTrue result ↔ Ascends first last codes.now }

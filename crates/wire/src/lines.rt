@@ -55,14 +55,14 @@ pub enum LineFault {
     NoMemory,
 }
 
-// Bytes cut into lines, and what follows the last of them.
+/// Bytes cut into lines, and what follows the last of them.
 #[derive(Drop)]
 enum Cut {
     Whole(Items<Line>, Vec<u8>),
     Over(Items<Line>),
 }
 
-// The lines of `held` followed by `piece`.
+/// The lines of `held` followed by `piece`.
 fn cut_lines(alloc: Global, limit: usize, held: &[u8], piece: &[u8]) -> Result<Cut, AllocError>
     requires { IsWithin limit held.now }
     ensures { IfOk result (λ c. IsCut limit (held.now ++ piece.now) c) }

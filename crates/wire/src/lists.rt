@@ -16,7 +16,7 @@ use serde_json::Value;
 use std::alloc::Global;
 use units::{Block, Items, RawBlock};
 
-// The block that the value writes.
+/// The block that the value writes.
 fn block(value: &Value) -> Option<Block>
     ensures { Reads (IsBlockItem (view value.now)) result }
 {
@@ -24,7 +24,7 @@ fn block(value: &Value) -> Option<Block>
     Block::read(text).ok()
 }
 
-// The block that the value writes, whatever its numbers.
+/// The block that the value writes, whatever its numbers.
 fn raw_block(value: &Value) -> Option<RawBlock>
     ensures { Reads (IsRawItem (view value.now)) result }
 {
@@ -32,7 +32,7 @@ fn raw_block(value: &Value) -> Option<RawBlock>
     RawBlock::read(text)
 }
 
-// The code that the value writes.
+/// The code that the value writes.
 fn code(value: &Value) -> Option<u16>
     ensures { Reads (IsCodeItem (view value.now)) result }
 {
@@ -40,7 +40,7 @@ fn code(value: &Value) -> Option<u16>
     u16::try_from(number).ok()
 }
 
-// The blocks of an array.
+/// The blocks of an array.
 fn each_block(alloc: Global, values: &[Value]) -> Result<Items<Block>, ReadFault>
     ensures { Finds (EachIs IsBlockItem (items_view values.now)) result }
 {
@@ -52,7 +52,7 @@ fn each_block(alloc: Global, values: &[Value]) -> Result<Items<Block>, ReadFault
     Ok(Items::from_vec(blocks))
 }
 
-// The blocks of an array, whatever their numbers.
+/// The blocks of an array, whatever their numbers.
 fn each_raw_block(alloc: Global, values: &[Value]) -> Result<Items<RawBlock>, ReadFault>
     ensures { Finds (EachIs IsRawItem (items_view values.now)) result }
 {
@@ -64,7 +64,7 @@ fn each_raw_block(alloc: Global, values: &[Value]) -> Result<Items<RawBlock>, Re
     Ok(Items::from_vec(blocks))
 }
 
-// The codes of an array.
+/// The codes of an array.
 fn each_code(alloc: Global, values: &[Value]) -> Result<Items<u16>, ReadFault>
     ensures { Finds (EachIs IsCodeItem (items_view values.now)) result }
 {

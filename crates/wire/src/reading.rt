@@ -27,7 +27,7 @@ const NO_MESSAGE: Refusal = Refusal {
     code: NOT_A_MESSAGE,
 };
 
-// What a proposal carries.
+/// What a proposal carries.
 fn content(alloc: Global, value: &Value) -> Result<Content, ReadFault>
     ensures { Finds (HasContent (view value.now)) result }
 {
@@ -38,7 +38,7 @@ fn content(alloc: Global, value: &Value) -> Result<Content, ReadFault>
     Content::new(account, acquirer, to_account, units).ok_or(ReadFault::Shape)
 }
 
-// The status of a proposal.
+/// The status of a proposal.
 fn proposal_status(value: &Value) -> Option<ProposalStatus>
     ensures { Reads (HasProposalStatus (view value.now)) result }
 {
@@ -51,7 +51,7 @@ fn proposal_status(value: &Value) -> Option<ProposalStatus>
     None
 }
 
-// The status, which has no codes.
+/// The status, which has no codes.
 fn without_codes(notified: NotifiedStatus, codes: &[u16]) -> Option<NotifiedStatus>
     ensures some { IfSome result (λ n. (n ≡ notified) × (codes.now ≡ [])) }
     ensures none { IfNone result (codes.now ≡ [] → ⊥) }
@@ -63,7 +63,7 @@ fn without_codes(notified: NotifiedStatus, codes: &[u16]) -> Option<NotifiedStat
     }
 }
 
-// The status of that text and those codes.
+/// The status of that text and those codes.
 fn notified_of(text: &str, codes: Items<u16>) -> Option<NotifiedStatus>
     ensures some { IfSome result (λ n. Says text.now codes n) }
     ensures none { IfNone result ((n : NotifiedStatus) → Says text.now codes n → ⊥) }
@@ -84,7 +84,7 @@ fn notified_of(text: &str, codes: Items<u16>) -> Option<NotifiedStatus>
     }
 }
 
-// What a notification says.
+/// What a notification says.
 fn notified(alloc: Global, value: &Value) -> Result<NotifiedStatus, ReadFault>
     ensures { Finds (HasNotified (view value.now)) result }
 {
@@ -159,7 +159,7 @@ pub fn message(alloc: Global, value: &Value) -> Result<Message, ReadFault>
     }
 }
 
-// The message that the line writes.
+/// The message that the line writes.
 fn read_line(alloc: Global, line: &[u8]) -> Result<Message, ReadFault>
     ensures { Finds (IsLine line.now) result }
 {

@@ -24,7 +24,7 @@ use status::{Moment, Order, TransactionId};
 use std::alloc::Global;
 use units::Code;
 
-// An order to transfer units.
+/// An order to transfer units.
 fn order(alloc: Global, value: &Value) -> Result<Order, ReadFault>
     ensures { Finds (λ o. HasExactly (view value.now) (order_fields o) × IsOrder o) result }
 {
@@ -38,7 +38,7 @@ fn order(alloc: Global, value: &Value) -> Result<Order, ReadFault>
     Order::new(account, to_registry, to_account, units).ok_or(ReadFault::Shape)
 }
 
-// The transaction of an order to ask for cancellation.
+/// The transaction of an order to ask for cancellation.
 fn request_order(value: &Value) -> Option<TransactionId>
     ensures { Reads (λ t. HasExactly (view value.now) ((codes "input", string (codes "request")) ∷ (codes "transaction", string (id_text t)) ∷ [])) result }
 {
@@ -48,7 +48,7 @@ fn request_order(value: &Value) -> Option<TransactionId>
     id_at(value, "transaction")
 }
 
-// The account of an order of that word.
+/// The account of an order of that word.
 fn account_order(value: &Value, word: &str) -> Option<Number>
     ensures { Reads (IsAccountOrder (view value.now) word.now) result }
 {
@@ -58,7 +58,7 @@ fn account_order(value: &Value, word: &str) -> Option<Number>
     short_at(value, "account")
 }
 
-// The key of an acknowledgement.
+/// The key of an acknowledgement.
 fn acknowledgement(value: &Value) -> Option<Number>
     ensures { Reads (λ n. HasExactly (view value.now) ((codes "input", string (codes "ack")) ∷ (codes "key", whole n.value) ∷ [])) result }
 {
@@ -68,7 +68,7 @@ fn acknowledgement(value: &Value) -> Option<Number>
     short_at(value, "key")
 }
 
-// The moment of a clean-up.
+/// The moment of a clean-up.
 fn clean_up(value: &Value) -> Option<Moment>
     ensures { Reads (λ t. HasExactly (view value.now) ((codes "input", string (codes "clean_up")) ∷ (codes "moment", whole t.seconds) ∷ [])) result }
 {
@@ -78,7 +78,7 @@ fn clean_up(value: &Value) -> Option<Moment>
     moment_at(value, "moment")
 }
 
-// The registry of an eligibility order, and whether it may take part.
+/// The registry of an eligibility order, and whether it may take part.
 fn eligibility(value: &Value) -> Option<(Code, bool)>
     ensures { Reads (λ p. HasExactly (view value.now) ((codes "input", string (codes "eligible")) ∷ (codes "may", boolean p.1) ∷ (codes "registry", string (code_text p.0)) ∷ [])) result }
 {
@@ -90,7 +90,7 @@ fn eligibility(value: &Value) -> Option<(Code, bool)>
     Some((registry, may))
 }
 
-// The message at the key `message`.
+/// The message at the key `message`.
 fn message_at(alloc: Global, value: &Value) -> Result<Message, ReadFault>
     ensures { Finds (HasMessage (view value.now)) result }
 {
@@ -98,7 +98,7 @@ fn message_at(alloc: Global, value: &Value) -> Result<Message, ReadFault>
     message(alloc, inner)
 }
 
-// A message and the moment at which it came.
+/// A message and the moment at which it came.
 fn received(alloc: Global, value: &Value) -> Result<(Message, Moment), ReadFault>
     ensures { Finds (λ p. IsReceived (view value.now) p.0 p.1) result }
 {
@@ -110,7 +110,7 @@ fn received(alloc: Global, value: &Value) -> Result<(Message, Moment), ReadFault
     Ok((message, moment))
 }
 
-// An input that is no order to transfer units and no message.
+/// An input that is no order to transfer units and no message.
 fn small_input(value: &Value) -> Option<Input>
     requires propose { HasAt (view value.now) (codes "input") (string (codes "propose")) → ⊥ }
     requires received { HasAt (view value.now) (codes "input") (string (codes "received")) → ⊥ }
@@ -138,7 +138,7 @@ fn small_input(value: &Value) -> Option<Input>
     None
 }
 
-// The input that the value writes.
+/// The input that the value writes.
 fn input(alloc: Global, value: &Value) -> Result<Input, ReadFault>
     ensures { Finds (IsRecord (view value.now)) result }
 {

@@ -33,7 +33,7 @@ pub enum ReplyFault {
     NoMemory,
 }
 
-// The reply that the value writes.
+/// The reply that the value writes.
 fn reply_in(value: &Value) -> Option<Reply>
     ensures some { IfSome result (λ r. HasExactly (view value.now) (reply_fields r)) }
     ensures none { IfNone result ((r : Reply) → HasExactly (view value.now) (reply_fields r) → ⊥) }

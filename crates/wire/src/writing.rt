@@ -13,7 +13,7 @@ use serde_json::{Map, Value};
 use std::alloc::Global;
 use units::NoMemory;
 
-// The first four fields of a proposal.
+/// The first four fields of a proposal.
 fn put_sender(
     alloc: Global,
     map: &mut Map<String, Value>,
@@ -27,7 +27,7 @@ fn put_sender(
     put_text(alloc, map, "status", proposal.status.status().name())
 }
 
-// The next four fields.
+/// The next four fields.
 fn put_receiver(
     alloc: Global,
     map: &mut Map<String, Value>,
@@ -53,7 +53,7 @@ fn proposal_value(alloc: Global, proposal: &Proposal) -> Result<Value, NoMemory>
     Ok(Value::Object(map))
 }
 
-// The first three fields of a notification.
+/// The first three fields of a notification.
 fn put_notified(
     alloc: Global,
     map: &mut Map<String, Value>,
@@ -68,7 +68,7 @@ fn put_notified(
     put_node(alloc, map, "from", notification.from)
 }
 
-// The last three fields of a notification.
+/// The last three fields of a notification.
 fn put_standing(
     alloc: Global,
     map: &mut Map<String, Value>,

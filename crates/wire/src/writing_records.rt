@@ -19,7 +19,7 @@ use status::{Moment, Order, TransactionId};
 use std::alloc::Global;
 use units::{Code, NoMemory};
 
-// The first four fields of an order to transfer units.
+/// The first four fields of an order to transfer units.
 fn put_accounts(alloc: Global, map: &mut Map<String, Value>, order: &Order) -> Result<(), NoMemory>
     ensures { OnOk result (members_view map.new.entries ≡ put_all (take 4 (order_fields order.now)) (members_view map.old.entries)) }
 {
@@ -40,7 +40,7 @@ fn order_value(alloc: Global, order: &Order) -> Result<Value, NoMemory>
     Ok(Value::Object(map))
 }
 
-// An order to ask for cancellation.
+/// An order to ask for cancellation.
 fn request_order_value(alloc: Global, id: TransactionId) -> Result<Value, NoMemory>
     ensures { IfOk result (λ v. view v ≡ object_of ((codes "input", string (codes "request")) ∷ (codes "transaction", string (id_text id)) ∷ [])) }
 {
@@ -50,7 +50,7 @@ fn request_order_value(alloc: Global, id: TransactionId) -> Result<Value, NoMemo
     Ok(Value::Object(map))
 }
 
-// An order to open or to close an account.
+/// An order to open or to close an account.
 fn account_value(alloc: Global, number: u64, name: &str) -> Result<Value, NoMemory>
     ensures { IfOk result (λ v. view v ≡ object_of ((codes "account", whole number) ∷ (codes "input", string name.now) ∷ [])) }
 {

@@ -32,7 +32,7 @@ pub trait Seen: NodeCore {
     fn is_like(&self, other: &Self) -> Result<bool, Fail>;
 }
 
-// Asserts that the core is as its journal says.
+/// Asserts that the core is as its journal says.
 fn assert_as_replayed<C: Seen>(rt: &impl Abort, core: &C) -> Result<(), Fail> {
     let replayed = replay(core, core.journal())?;
     assert_eq!(rt; core.sends(), replayed.sends());
@@ -54,7 +54,7 @@ fn outcome(stepped: Result<Stepped, Refusal>) -> Outcome {
     }
 }
 
-// Steps the core by the input. Where memory ran out nothing has changed, and the core is stepped once more.
+/// Steps the core by the input. Where memory ran out nothing has changed, and the core is stepped once more.
 fn step<C: Seen>(rt: &impl Abort, core: &mut C, input: &Input) -> Result<Outcome, Fail> {
     let (records, sends) = (core.records(), core.sends());
     let first = core.step(input);

@@ -96,7 +96,7 @@ fn order(alloc: Global, text: &str) -> Result<Order, Fail> {
     }
 }
 
-// Why NZ refuses the order once it has numbered that many transactions.
+/// Why NZ refuses the order once it has numbered that many transactions.
 fn refusal_after(alloc: Global, order: &Order, last: u32) -> Result<Option<Refusal>, Fail> {
     let scheme = scheme(alloc, ROOM)?;
     let code = Code::read("NZ").ok_or("a code")?;
@@ -134,7 +134,7 @@ const ACKNOWLEDGEMENTS: &[(&str, Outcome)] = &[
     (ACK_1, Refused(46)),
 ];
 
-// Asserts that the message of the first record is acknowledged, and that there is no other.
+/// Asserts that the message of the first record is acknowledged, and that there is no other.
 fn assert_acknowledged(rt: &impl Abort, nz: &RegistryCore) {
     assert!(rt; nz.acknowledged(0));
     assert_eq!(rt; nz.next_unacknowledged(Node::Itl, 0), None);
@@ -186,7 +186,7 @@ const TRANSFER_OUT: &[(&str, Outcome)] = &[
 const COMPLETED: &str =
     r#"{"call":"AcceptNotification","codes":[],"from":"NZ","status":"Completed","to":"ITL","transaction":"NZ1"}"#;
 
-// Asserts that the units of the first transaction are out of the registry for good.
+/// Asserts that the units of the first transaction are out of the registry for good.
 fn assert_completed(rt: &impl Abort, nz: &RegistryCore) -> Result<(), Fail> {
     let id = TransactionId::read("NZ1").ok_or("an identifier")?;
     assert_eq!(rt; nz.status_of(id), Some(Status::Completed));
@@ -203,7 +203,7 @@ fn transfers_out_end_once(rt: HostRuntime) -> Result<(), Fail> {
     assert_sent(&rt, alloc, &nz, 2, &[COMPLETED])
 }
 
-// The inputs with these texts.
+/// The inputs with these texts.
 fn inputs(alloc: Global, texts: &[&str]) -> Result<Vec<Input>, Fail> {
     let mut inputs = Vec::new(alloc);
     for text in texts {
@@ -212,7 +212,7 @@ fn inputs(alloc: Global, texts: &[&str]) -> Result<Vec<Input>, Fail> {
     Ok(inputs)
 }
 
-// What is wrong with these texts as a journal.
+/// What is wrong with these texts as a journal.
 fn fault_of_all(
     alloc: Global,
     nz: &RegistryCore,
@@ -228,7 +228,7 @@ fn assert_of_two_records(rt: &impl Abort, replayed: &RegistryCore, node: Node) {
     assert_eq!(rt; replayed.node(), node);
 }
 
-// Asserts that the two records are a journal, and that they aren't recorded after it.
+/// Asserts that the two records are a journal, and that they aren't recorded after it.
 fn assert_replayed(rt: &impl Abort, nz: &RegistryCore, records: &[Input]) -> Result<(), Fail> {
     let mut replayed = replay(nz, records)?;
     assert_of_two_records(rt, &replayed, nz.node());

@@ -17,7 +17,7 @@ fn id(rt: &impl Abort, text: &str) -> TransactionId {
     TransactionId::read(text).expect(rt, "an identifier")
 }
 
-// A line of account 1.
+/// A line of account 1.
 fn line(rt: &impl Abort, text: &str, reserving: Option<TransactionId>) -> HeldBlock {
     HeldBlock {
         account: 1,
@@ -26,20 +26,20 @@ fn line(rt: &impl Abort, text: &str, reserving: Option<TransactionId>) -> HeldBl
     }
 }
 
-// Accounts 1 and 2, and a hundred units in the first.
+/// Accounts 1 and 2, and a hundred units in the first.
 fn hundred(alloc: Global) -> Result<Holdings, Fail> {
     let mut holdings = Holdings::new(alloc, &[1, 2])?;
     holdings.credit(1, &[Block::read("NZ:1:1-100:AAU")?])?;
     Ok(holdings)
 }
 
-// The holdings are these lines.
+/// The holdings are these lines.
 fn assert_lines(rt: &impl Abort, holdings: &Holdings, alloc: Global, wanted: &[HeldBlock]) {
     let lines = holdings.lines(alloc).expect(rt, "memory");
     assert!(rt; lines.as_slice() == wanted);
 }
 
-// `check` refuses the block of that text with the code, and so does `reserve` for NZ2.
+/// `check` refuses the block of that text with the code, and so does `reserve` for NZ2.
 fn assert_refused(rt: &impl Abort, holdings: &mut Holdings, account: u64, text: &str, code: u16) {
     let blocks = [block(rt, text)];
     let checked = holdings.check(account, &blocks);
@@ -47,7 +47,7 @@ fn assert_refused(rt: &impl Abort, holdings: &mut Holdings, account: u64, text: 
     assert_eq!(rt; (checked, reserved), (refusal(code), refusal(code)));
 }
 
-// The transaction reserves the blocks of account 1, in which that many units are free then.
+/// The transaction reserves the blocks of account 1, in which that many units are free then.
 fn assert_reserved(
     rt: &impl Abort,
     holdings: &mut Holdings,
@@ -59,13 +59,13 @@ fn assert_reserved(
     assert_eq!(rt; (reserved, holdings.free_count(1)), (Ok(()), free));
 }
 
-// After the transaction's release that many units of account 1 are free.
+/// After the transaction's release that many units of account 1 are free.
 fn assert_released(rt: &impl Abort, holdings: &mut Holdings, id: TransactionId, free: u64) {
     holdings.release(id);
     assert_eq!(rt; holdings.free_count(1), free);
 }
 
-// After the transaction's removal that many units of account 1 are free.
+/// After the transaction's removal that many units of account 1 are free.
 fn assert_removed(rt: &impl Abort, holdings: &mut Holdings, id: TransactionId, free: u64) {
     holdings.remove(id);
     assert_eq!(rt; holdings.free_count(1), free);
@@ -165,7 +165,7 @@ impl Call {
     }
 }
 
-// One after another, the calls with these accounts are refused with these codes, or aren't refused.
+/// One after another, the calls with these accounts are refused with these codes, or aren't refused.
 fn assert_calls(rt: &impl Abort, holdings: &mut Holdings, calls: &[(Call, u64, Option<u16>)]) {
     for (call, account, code) in calls {
         assert_eq!(rt; call.code(holdings, *account), *code);

@@ -10,7 +10,7 @@ fn nz() -> Result<Code, Fail> {
     Ok(Code::read("NZ").ok_or("no code")?)
 }
 
-// That many requests from NZ to the log, of its transactions from 1 on.
+/// That many requests from NZ to the log, of its transactions from 1 on.
 fn requests(alloc: Global, count: u32) -> Result<Vec<Message>, Fail> {
     let from = Node::Registry(nz()?);
     let to = Node::Itl;
@@ -22,7 +22,7 @@ fn requests(alloc: Global, count: u32) -> Result<Vec<Message>, Fail> {
     Ok(messages)
 }
 
-// An outbox of two requests, the first acknowledged.
+/// An outbox of two requests, the first acknowledged.
 fn acknowledged(rt: &impl Abort, alloc: Global) -> Result<Outbox, Fail> {
     let mut outbox = Outbox::new(alloc);
     outbox.record(requests(alloc, 2)?)?;

@@ -68,7 +68,7 @@ fn aau(rt: &impl Abort, first: u64, last: u64) -> Block {
     nz(rt, Kind::Aau, first, last)
 }
 
-// A hundred units, put in as two blocks.
+/// A hundred units, put in as two blocks.
 fn hundred(rt: &impl Abort, alloc: Global) -> BlockSet {
     let mut set = BlockSet::new(alloc);
     for block in [aau(rt, 1, 50), aau(rt, 51, 100)] {
@@ -77,7 +77,7 @@ fn hundred(rt: &impl Abort, alloc: Global) -> BlockSet {
     set
 }
 
-// The set is these blocks, and has `count` units.
+/// The set is these blocks, and has `count` units.
 fn assert_set(rt: &impl Abort, set: &BlockSet, alloc: Global, wanted: &[Block], count: u64) {
     assert_eq!(rt; set.count(), count);
     let blocks = set.canonical(alloc).expect(rt, "memory");
@@ -117,7 +117,7 @@ fn blocks_of_a_set(rt: HostRuntime) {
     }
 }
 
-// The set has that many units, in that many intervals.
+/// The set has that many units, in that many intervals.
 fn assert_size(rt: &impl Abort, set: &BlockSet, units: u64, intervals: usize) {
     assert_eq!(rt; (set.count(), set.pieces().len()), (units, intervals));
 }

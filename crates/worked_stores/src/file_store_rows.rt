@@ -28,7 +28,7 @@ fn options() -> Options {
     Options::new(7)
 }
 
-// Files of which that many calls may be made.
+/// Files of which that many calls may be made.
 fn new_files(alloc: Global, log_calls: u64, db_calls: u64) -> Stored {
     Files {
         log: Fuse::new(Memory::new(alloc), log_calls),
@@ -36,7 +36,7 @@ fn new_files(alloc: Global, log_calls: u64, db_calls: u64) -> Stored {
     }
 }
 
-// The machine comes back, with fuses that don't blow.
+/// The machine comes back, with fuses that don't blow.
 fn after_a_crash(mut files: Stored) -> Stored {
     files.log.crash();
     files.db.crash();
@@ -85,7 +85,7 @@ fn refusal(alloc: Global, files: Stored, code: &str) -> Result<(StoreFault, Stor
     }
 }
 
-// The files after statements that no store makes.
+/// The files after statements that no store makes.
 fn changed(alloc: Global, files: Stored, statements: &[&str]) -> Result<Stored, Fail> {
     if !files.may_be_used() {
         return Err("files that may be used")?;
@@ -100,7 +100,7 @@ fn changed(alloc: Global, files: Stored, statements: &[&str]) -> Result<Stored, 
     Ok(conn.into_store().close())
 }
 
-// The files of NZ's store of two records.
+/// The files of NZ's store of two records.
 fn files_of_two(alloc: Global) -> Result<Stored, Fail> {
     let mut store = open_as(alloc, new_files(alloc, FOREVER, FOREVER), "NZ")?;
     store.append(&two(alloc)?)?;
@@ -220,7 +220,7 @@ fn a_place_that_is_missing_is_named(rt: HostRuntime) -> Result<(), Fail> {
     Ok(())
 }
 
-// How far a run came before a call of its files failed.
+/// How far a run came before a call of its files failed.
 #[derive(Drop)]
 struct Run {
     files: Stored,
@@ -231,7 +231,7 @@ struct Run {
     waited: bool,
 }
 
-// Appends two records, opens the store again, and so once more, up to the first fault.
+/// Appends two records, opens the store again, and so once more, up to the first fault.
 fn drive(alloc: Global, mut store: SqlStore<Fuse<Memory>>) -> Result<Run, Fail> {
     let batch = two(alloc)?;
     let mut answered = 0;
@@ -255,7 +255,7 @@ fn drive(alloc: Global, mut store: SqlStore<Fuse<Memory>>) -> Result<Run, Fail> 
     })
 }
 
-// Whether a run stopped at that call of its files, and left what it should: nothing of a batch, or all of it.
+/// Whether a run stopped at that call of its files, and left what it should: nothing of a batch, or all of it.
 fn stops_well(rt: &impl Abort, alloc: Global, log_calls: u64, db_calls: u64) -> Result<bool, Fail> {
     let files = new_files(alloc, log_calls, db_calls);
     let node = registry("NZ")?;

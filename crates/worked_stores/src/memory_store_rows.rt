@@ -13,7 +13,7 @@ fn number(value: u64) -> Result<Number, Fail> {
     Ok(Number::new(value).ok_or("a short number")?)
 }
 
-// Account 8 is opened, and closed.
+/// Account 8 is opened, and closed.
 fn two(alloc: Global) -> Result<Vec<Input>, Fail> {
     let mut batch = Vec::new(alloc);
     batch.push(Input::OpenAccount(number(8)?))?;
@@ -36,7 +36,7 @@ fn are_two(inputs: &[Input]) -> bool {
     }
 }
 
-// Through the bound, as callers of any store do.
+/// Through the bound, as callers of any store do.
 fn append_and_load<S: NodeStore>(store: &mut S, batch: &[Input]) -> Result<Vec<Input>, StoreFault> {
     store.append(batch)?;
     store.reopen()?;

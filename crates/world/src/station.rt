@@ -24,7 +24,7 @@ pub(crate) struct Station {
     pub ghost within: { committed ≤ length (journal_of core) },
 }
 
-// What an input comes to that isn't refused.
+/// What an input comes to that isn't refused.
 fn outcome_of(stepped: Stepped) -> Outcome
     ensures { result ≡ outcome_of stepped }
 {
@@ -35,7 +35,7 @@ fn outcome_of(stepped: Stepped) -> Outcome
     }
 }
 
-// The core of the first `records` records of the journal.
+/// The core of the first `records` records of the journal.
 fn core_before(core: &Core, records: usize) -> Result<Core, NoMemory>
     requires { records ≤ length (journal_of core.now) }
     ensures scheme { IfOk result (λ c. scheme_of c ≡ scheme_of core.now) }

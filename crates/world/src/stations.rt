@@ -16,7 +16,7 @@ use scheme::{Scheme, SchemeRegistry};
 use std::alloc::Global;
 use units::{Code, NoMemory, Node};
 
-// The place of the registry of that code.
+/// The place of the registry of that code.
 fn registry_place(members: &[SchemeRegistry], code: Code) -> Option<usize>
     requires { Pairwise (λ a b. code_cmp a.code b.code ≡ Less) members.now }
     ensures { result ≡ position_from (λ m. same_code m.code code) 0 members.now }
@@ -39,7 +39,7 @@ pub(crate) fn place_of(scheme: &Scheme, node: Node) -> Option<usize>
     }
 }
 
-// A station of that node, which has recorded nothing.
+/// A station of that node, which has recorded nothing.
 fn opening_station(alloc: Global, scheme: &Scheme, node: Node) -> Result<Station, NoMemory>
     ensures opens { IfOk result (λ s. station_of s ≡ opening_station node) }
     ensures fresh { IfOk result (IsFresh scheme.now) }

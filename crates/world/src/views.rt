@@ -43,21 +43,21 @@ fn is_completed(status: Option<Status>) -> bool
     }
 }
 
-// Whether one of the blocks has the unit.
+/// Whether one of the blocks has the unit.
 fn has_unit_in(blocks: &[Block], unit: &Unit) -> bool
     ensures { result ≡ covers blocks.now unit.now }
 {
     blocks.iter().any(|b| b.has(unit))
 }
 
-// Whether the transfer has the unit.
+/// Whether the transfer has the unit.
 fn has_unit(proposal: &Proposal, unit: &Unit) -> bool
     ensures { result ≡ have_unit proposal.now.content.units unit.now }
 {
     has_unit_in(proposal.content.units(), unit)
 }
 
-// Adds the message, if it is a proposal.
+/// Adds the message, if it is a proposal.
 fn add_proposal<'a>(
     proposals: &mut Vec<&'a Proposal>,
     message: Option<&'a Message>,
@@ -70,7 +70,7 @@ fn add_proposal<'a>(
     Ok(())
 }
 
-// Adds the proposals that the registry sent, in the order of their keys.
+/// Adds the proposals that the registry sent, in the order of their keys.
 fn add_proposals<'a>(
     proposals: &mut Vec<&'a Proposal>,
     core: &'a RegistryCore,
@@ -91,7 +91,7 @@ impl World {
         &self.scheme
     }
 
-    // The station of that node, if the scheme has such a node.
+    /// The station of that node, if the scheme has such a node.
     fn station(&self, node: Node) -> Option<&Station>
         ensures seen { option_map station_of (option_copied result) ≡ station self.now node }
         ensures there { is_some result ≡ is_node self.now.scheme node }
@@ -134,7 +134,7 @@ impl World {
         self.bag.get(index as usize)
     }
 
-    // The core of the registry of that code, if the scheme has such a registry.
+    /// The core of the registry of that code, if the scheme has such a registry.
     fn registry(&self, code: Code) -> Option<&RegistryCore>
         ensures core { option_copied result ≡ cond (has_member self.now.scheme code) (Some (registry_at self.now code)) None }
         ensures none { IfNone result (live_of self.now (Node.Registry code) ≡ []) }
@@ -189,7 +189,7 @@ impl World {
         Ok(proposals)
     }
 
-    // Whether the transfer stands Completed at its initiator and not at its acquirer.
+    /// Whether the transfer stands Completed at its initiator and not at its acquirer.
     fn is_due(&self, proposal: &Proposal) -> bool
         ensures { result ≡ is_due (live_of self.now) proposal.now }
     {

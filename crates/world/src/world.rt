@@ -82,7 +82,7 @@ impl World {
         })
     }
 
-    // Whether the node posted the message with that key.
+    /// Whether the node posted the message with that key.
     fn was_posted(&self, node: Node, key: u64) -> bool
         ensures { result ≡ was_posted self.now node key }
     {
@@ -92,7 +92,7 @@ impl World {
         }
     }
 
-    // Whether the node takes such inputs as orders, or the input acknowledges a message that it posted.
+    /// Whether the node takes such inputs as orders, or the input acknowledges a message that it posted.
     fn is_order(&self, node: Node, input: &Input) -> bool
         ensures { result ≡ is_order self.now node input.now }
     {
@@ -107,7 +107,7 @@ impl World {
         }
     }
 
-    // The node takes an input.
+    /// The node takes an input.
     fn take(&mut self, node: Node, input: &Input) -> Result<Outcome, NoMemory>
         ensures ok { IfOk result (λ o. record { world = self.new; outcome = o } ≡ at_node self.old (station self.old node) (take_input self.old.scheme input.now)) }
         ensures err { OnErr result (self.new ≡ self.old) }
@@ -118,7 +118,7 @@ impl World {
         }
     }
 
-    // The node takes an order.
+    /// The node takes an order.
     fn order(&mut self, node: Node, input: &Input) -> Result<Outcome, NoMemory>
         ensures ok { IfOk result (λ o. record { world = self.new; outcome = o } ≡ step self.old (WorldEvent.Take node input.now)) }
         ensures err { OnErr result (self.new ≡ self.old) }
@@ -187,7 +187,7 @@ impl World {
         }
     }
 
-    // Moves the world by an event.
+    /// Moves the world by an event.
     fn move_by(&mut self, event: &WorldEvent) -> Result<Outcome, NoMemory>
         ensures ok { IfOk result (λ o. record { world = self.new; outcome = o } ≡ step self.old event.now) }
         ensures err { OnErr result (self.new ≡ self.old) }

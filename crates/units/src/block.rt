@@ -198,7 +198,7 @@ impl fmt::Display for RawBlock {
 impl Unit {
     ghost use Rattle.units.specs.Spans.{after_unit};
 
-    // The unit after it.
+    /// The unit after it.
     pub(crate) fn after(&self) -> Unit
         requires { self.now.number ≤ last_unit }
         ensures { result ≡ after_unit self.now }
@@ -272,7 +272,7 @@ impl Block {
             && unit.number <= self.raw.last
     }
 
-    // The unit of its origin and period with this number.
+    /// The unit of its origin and period with this number.
     pub(crate) fn unit(&self, number: u64) -> Unit
         ensures { result ≡ unit_numbered self.now.raw number }
     {

@@ -110,7 +110,7 @@ impl BlockSet {
         Ok(())
     }
 
-    // Whether each of the block's units is there, of its kind.
+    /// Whether each of the block's units is there, of its kind.
     fn holds(&self, block: &Block) -> bool
         ensures all { OnTrue result ((u : Serial) → IsTrue (has_unit block.now.raw u) → map.get self.now u ≡ Some block.now.raw.kind) }
         ensures lacking { OnFalse result ((u : Serial) × IsTrue (has_unit block.now.raw u) × (map.get self.now u ≢ Some block.now.raw.kind)) }
@@ -119,7 +119,7 @@ impl BlockSet {
         self.kinds.has_all_of(block, |kind| kind == wanted)
     }
 
-    // Whether each unit of the blocks is there, of its block's kind.
+    /// Whether each unit of the blocks is there, of its block's kind.
     fn holds_each(&self, blocks: &[Block]) -> bool
         ensures all { OnTrue result ((b : Block) (u : Serial) → IsAmong blocks.now b → IsTrue (has_unit b.raw u) → map.get self.now u ≡ Some b.raw.kind) }
         ensures lacking { OnFalse result ((b : Block) × (u : Serial) × IsAmong blocks.now b × IsTrue (has_unit b.raw u) × (map.get self.now u ≢ Some b.raw.kind)) }

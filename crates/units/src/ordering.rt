@@ -12,7 +12,7 @@ use crate::block::Unit;
 use crate::interval::{Interval, Label};
 use std::alloc::{AllocError, Global};
 
-// The first of its units.
+/// The first of its units.
 fn first_unit<M>(interval: &Interval<M>) -> Unit
     ensures { result ≡ numbered interval.now interval.now.first }
 {
@@ -23,7 +23,7 @@ fn first_unit<M>(interval: &Interval<M>) -> Unit
     }
 }
 
-// Whether the next one begins where an interval ends.
+/// Whether the next one begins where an interval ends.
 fn is_next<M>(interval: &Interval<M>, next: &Interval<M>) -> bool
     ensures { result ≡ is_next interval.now next.now }
 {
@@ -40,7 +40,7 @@ pub(crate) fn goes_on<M: Label>(interval: &Interval<M>, next: &Interval<M>) -> b
     is_next(interval, next) && interval.label.is_same(&next.label)
 }
 
-// Adds an interval after the others, or lengthens their last one where it goes on there.
+/// Adds an interval after the others, or lengthens their last one where it goes on there.
 fn push_joined<M: Label>(
     intervals: &mut Vec<Interval<M>>,
     next: Interval<M>,

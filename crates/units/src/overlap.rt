@@ -7,7 +7,7 @@ ghost use Rattle.units.specs.Cutting.{blocks_meet};
 
 use crate::block::Block;
 
-// Whether the two have one origin and period, and numbers that meet.
+/// Whether the two have one origin and period, and numbers that meet.
 fn meet(a: &Block, b: &Block) -> bool
     ensures { result ≡ blocks_meet a.now.raw b.now.raw }
 {
@@ -17,7 +17,7 @@ fn meet(a: &Block, b: &Block) -> bool
         && b.raw.first <= a.raw.last
 }
 
-// Whether the block meets one of the others.
+/// Whether the block meets one of the others.
 fn meets_any(block: &Block, others: &[Block]) -> bool
     ensures { result ≡ list_any (λ o. blocks_meet block.now.raw o.raw) others.now }
 {

@@ -67,7 +67,7 @@ impl<M> Model for UnitMap<M> {
 }
 
 impl<M: Copy> Span<M> {
-    // The interval from its first unit on.
+    /// The interval from its first unit on.
     fn interval(&self, at: Unit) -> Interval<M>
         ensures { result ≡ interval_at at self.now }
     {

@@ -26,7 +26,7 @@ pub(super) enum Step<M> {
     Cut(Unit, Unit, Span<M>),
 }
 
-// Writes over an interval that is there, which takes no memory.
+/// Writes over an interval that is there, which takes no memory.
 pub(super) fn overwrite<M: Copy>(spans: &mut BTreeMap<Unit, Span<M>>, at: Unit, span: Span<M>)
     ensures puts { IsSome (tree.get unit_cmp spans.old at) → Puts at (Some span) (tree.get unit_cmp spans.old) (tree.get unit_cmp spans.new) }
     ensures ordered { IsOrdered unit_cmp spans.new }
@@ -36,7 +36,7 @@ pub(super) fn overwrite<M: Copy>(spans: &mut BTreeMap<Unit, Span<M>>, at: Unit, 
     }
 }
 
-// Cuts the interval that begins at a unit in two, so that the second one begins at another unit that it has.
+/// Cuts the interval that begins at a unit in two, so that the second one begins at another unit that it has.
 fn cut<M: Copy>(
     spans: &mut BTreeMap<Unit, Span<M>>,
     at: Unit,
@@ -61,7 +61,7 @@ fn cut<M: Copy>(
     Ok(Step::Cut(at, unit, span))
 }
 
-// Puts in an interval of one unit, which no interval has.
+/// Puts in an interval of one unit, which no interval has.
 fn put<M: Copy>(
     spans: &mut BTreeMap<Unit, Span<M>>,
     unit: Unit,
@@ -84,8 +84,8 @@ fn put<M: Copy>(
     Ok(Step::Put(unit))
 }
 
-// Makes an interval begin at the unit where one has it, and where none has it puts one in that has the label, if there
-// is one. After an error nothing has changed.
+/// Makes an interval begin at the unit where one has it, and where none has it puts one in that has the label, if there
+/// is one. After an error nothing has changed.
 pub(super) fn begin<M: Copy>(
     spans: &mut BTreeMap<Unit, Span<M>>,
     unit: Unit,
@@ -113,7 +113,7 @@ pub(super) fn begin<M: Copy>(
     }
 }
 
-// Takes the step back. Takes no memory.
+/// Takes the step back. Takes no memory.
 pub(super) fn undo<M: Copy>(spans: &mut BTreeMap<Unit, Span<M>>, step: Step<M>)
     requires { IsOrdered unit_cmp spans.old }
     ensures restored { (before : Serial → Option (Span M)) → Restores step before (tree.get unit_cmp spans.old) → (q : Serial) → tree.get unit_cmp spans.new q ≡ before q }

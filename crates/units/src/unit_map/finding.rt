@@ -14,7 +14,7 @@ use crate::block::Unit;
 use crate::interval::Interval;
 use std::collections::BTreeMap;
 
-// The interval that begins last, of those that begin at the unit or before it.
+/// The interval that begins last, of those that begin at the unit or before it.
 pub(super) fn floor<M: Copy>(spans: &BTreeMap<Unit, Span<M>>, unit: Unit) -> Option<(Unit, Span<M>)>
     ensures found { IfSome result (λ e. (tree.get unit_cmp spans.now e.0 ≡ Some e.1) × IsLeBy unit_cmp e.0 unit) }
     ensures last { IfSome result (λ e. (q : Serial) → IsLeBy unit_cmp q unit → IsSome (tree.get unit_cmp spans.now q) → is_lt (unit_cmp e.0 q) ≡ false) }
@@ -24,7 +24,7 @@ pub(super) fn floor<M: Copy>(spans: &BTreeMap<Unit, Span<M>>, unit: Unit) -> Opt
     Some((*at, *span))
 }
 
-// The interval that begins first, of those that begin at the unit or after it.
+/// The interval that begins first, of those that begin at the unit or after it.
 pub(super) fn next<M: Copy>(spans: &BTreeMap<Unit, Span<M>>, unit: Unit) -> Option<(Unit, Span<M>)>
     ensures found { IfSome result (λ e. (tree.get unit_cmp spans.now e.0 ≡ Some e.1) × IsLeBy unit_cmp unit e.0) }
     ensures first { IfSome result (λ e. (q : Serial) → IsLeBy unit_cmp unit q → IsSome (tree.get unit_cmp spans.now q) → IsLeBy unit_cmp e.0 q) }
@@ -34,7 +34,7 @@ pub(super) fn next<M: Copy>(spans: &BTreeMap<Unit, Span<M>>, unit: Unit) -> Opti
     Some((*at, *span))
 }
 
-// The interval that has the unit.
+/// The interval that has the unit.
 pub(super) fn interval_with<M: Copy>(
     spans: &BTreeMap<Unit, Span<M>>,
     unit: &Unit,
@@ -53,7 +53,7 @@ pub(super) fn interval_with<M: Copy>(
     }
 }
 
-// Whether the unit comes after another one.
+/// Whether the unit comes after another one.
 pub(super) fn is_past(unit: &Unit, other: &Unit) -> bool
     ensures { result ≡ is_lt (unit_cmp other.now unit.now) }
 {

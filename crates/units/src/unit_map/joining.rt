@@ -16,7 +16,7 @@ use crate::interval::Label;
 use crate::ordering::goes_on;
 use std::collections::BTreeMap;
 
-// Makes the interval that begins at the unit a part of the one that ends before it, where the two have one label.
+/// Makes the interval that begins at the unit a part of the one that ends before it, where the two have one label.
 fn join<M: Label>(spans: &mut BTreeMap<Unit, Span<M>>, unit: Unit)
     requires parted { AreParted (tree.get unit_cmp spans.old) }
     requires ordered { IsOrdered unit_cmp spans.old }
@@ -46,7 +46,7 @@ fn join<M: Label>(spans: &mut BTreeMap<Unit, Span<M>>, unit: Unit)
     }
 }
 
-// Joins each interval that begins from one unit to another, both included, with the one that it goes on from.
+/// Joins each interval that begins from one unit to another, both included, with the one that it goes on from.
 fn join_between<M: Label>(spans: &mut BTreeMap<Unit, Span<M>>, from: Unit, to: Unit)
     requires parted { AreParted (tree.get unit_cmp spans.old) }
     requires ordered { IsOrdered unit_cmp spans.old }
@@ -66,7 +66,7 @@ fn join_between<M: Label>(spans: &mut BTreeMap<Unit, Span<M>>, from: Unit, to: U
     }
 }
 
-// Joins intervals in the blocks and at their ends.
+/// Joins intervals in the blocks and at their ends.
 pub(super) fn join_along<M: Label>(spans: &mut BTreeMap<Unit, Span<M>>, blocks: &[Block])
     requires parted { AreParted (tree.get unit_cmp spans.old) }
     requires ordered { IsOrdered unit_cmp spans.old }

@@ -10,7 +10,7 @@ use crate::interval::Interval;
 use std::alloc::{AllocError, Global};
 use std::collections::BTreeMap;
 
-// The intervals by their first units.
+/// The intervals by their first units.
 pub(super) fn intervals<M: Copy>(
     alloc: Global,
     spans: &BTreeMap<Unit, Span<M>>,
@@ -23,7 +23,7 @@ pub(super) fn intervals<M: Copy>(
         .collect(alloc)
 }
 
-// An equal map.
+/// An equal map.
 pub(super) fn copied<M: Copy>(
     alloc: Global,
     spans: &BTreeMap<Unit, Span<M>>,

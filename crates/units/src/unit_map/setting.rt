@@ -15,8 +15,8 @@ use crate::block::{Block, Unit};
 use std::alloc::AllocError;
 use std::collections::BTreeMap;
 
-// Makes an interval begin at the block's first unit, where it is to have a label or is there, and another after its last.
-// After an error nothing has changed.
+/// Makes an interval begin at the block's first unit, where it is to have a label or is there, and another after its last.
+/// After an error nothing has changed.
 fn prepare<M: Copy>(
     spans: &mut BTreeMap<Unit, Span<M>>,
     block: &Block,
@@ -39,7 +39,7 @@ fn prepare<M: Copy>(
     }
 }
 
-// Puts one interval in the place of those that begin in the block, or none.
+/// Puts one interval in the place of those that begin in the block, or none.
 fn fill<M: Copy>(spans: &mut BTreeMap<Unit, Span<M>>, block: &Block, label: Option<M>)
     requires parted { AreParted (tree.get unit_cmp spans.old) }
     requires ordered { IsOrdered unit_cmp spans.old }
@@ -62,8 +62,8 @@ fn fill<M: Copy>(spans: &mut BTreeMap<Unit, Span<M>>, block: &Block, label: Opti
     }
 }
 
-// Gives the units of each block their label. Each block is prepared before the first one is filled, so that only
-// preparing takes memory; after an error what was prepared is undone.
+/// Gives the units of each block their label. Each block is prepared before the first one is filled, so that only
+/// preparing takes memory; after an error what was prepared is undone.
 pub(super) fn set_each<M: Copy, F: Fn(Block) -> Option<M>>(
     spans: &mut BTreeMap<Unit, Span<M>>,
     blocks: &[Block],

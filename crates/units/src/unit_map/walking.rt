@@ -14,7 +14,7 @@ use super::finding::{is_past, next};
 use crate::block::{Block, Unit};
 use std::collections::BTreeMap;
 
-// Gives an interval that is there the label, or takes it out.
+/// Gives an interval that is there the label, or takes it out.
 fn respan<M: Copy>(spans: &mut BTreeMap<Unit, Span<M>>, at: Unit, span: Span<M>, label: Option<M>)
     requires { tree.get unit_cmp spans.old at ≡ Some span }
     ensures puts { Puts at (relabelled span label) (tree.get unit_cmp spans.old) (tree.get unit_cmp spans.new) }
@@ -28,8 +28,8 @@ fn respan<M: Copy>(spans: &mut BTreeMap<Unit, Span<M>>, at: Unit, span: Span<M>,
     }
 }
 
-// Gives each interval that begins from one unit to another, both included, the label that becomes of its own, or takes
-// it out.
+/// Gives each interval that begins from one unit to another, both included, the label that becomes of its own, or takes
+/// it out.
 pub(super) fn change_between<M: Copy, F: Fn(M) -> Option<M>>(
     spans: &mut BTreeMap<Unit, Span<M>>,
     from: Unit,
@@ -55,7 +55,7 @@ pub(super) fn change_between<M: Copy, F: Fn(M) -> Option<M>>(
     }
 }
 
-// Gives each interval that begins in one of the blocks the label that becomes of its own, or takes it out.
+/// Gives each interval that begins in one of the blocks the label that becomes of its own, or takes it out.
 pub(super) fn change_in<M: Copy, F: Fn(M) -> Option<M>>(
     spans: &mut BTreeMap<Unit, Span<M>>,
     blocks: &[Block],

@@ -71,8 +71,8 @@ impl BlockSet {
     }
 
     /// Takes the block's units out. Fails with `UNIT_NOT_HELD` where one of them isn't there or is of another kind, and
-    /// with `OUT_OF_MEMORY`, since what is left may be more blocks, only where all are there. After a refusal nothing has
-    /// changed.
+    /// with `OUT_OF_MEMORY`, since what is left may be more blocks, only where all are there. After a refusal nothing
+    /// has changed.
     pub fn take(&mut self, block: Block) -> Result<(), Refusal>
         ensures ok { OnOk result ((u : Serial) → map.get self.new u ≡ (if has_unit block.raw u then None else map.get self.old u)) }
         ensures held { OnOk result ((u : Serial) → IsTrue (has_unit block.raw u) → map.get self.old u ≡ Some block.raw.kind) }
@@ -88,9 +88,9 @@ impl BlockSet {
         Ok(())
     }
 
-    /// Adds the units of all the blocks, or of none. Fails with `BLOCKS_OVERLAP` where two of the blocks share a unit or one
-    /// of their units is there, of whatever kind, and with `OUT_OF_MEMORY` only where neither is so. After a refusal
-    /// nothing has changed.
+    /// Adds the units of all the blocks, or of none. Fails with `BLOCKS_OVERLAP` where two of the blocks share a unit
+    /// or one of their units is there, of whatever kind, and with `OUT_OF_MEMORY` only where neither is so. After a
+    /// refusal nothing has changed.
     pub fn add_all(&mut self, blocks: &[Block]) -> Result<(), Refusal>
         ensures ok { OnOk result ((u : Serial) → map.get self.new u ≡ option_map_or (λ b. Some b.raw.kind) (find (λ b. has_unit b.raw u) blocks.now) (map.get self.old u)) }
         ensures apart { OnOk result (AllApart blocks.now) }
@@ -127,9 +127,9 @@ impl BlockSet {
         blocks.iter().all(|block| self.holds(block))
     }
 
-    /// Takes the units of all the blocks out, or of none. Fails with `BLOCKS_OVERLAP` where two of the blocks share a unit,
-    /// else with `UNIT_NOT_HELD` where a unit isn't there or is of another kind than its block, and with `OUT_OF_MEMORY`
-    /// only where neither is so. After a refusal nothing has changed.
+    /// Takes the units of all the blocks out, or of none. Fails with `BLOCKS_OVERLAP` where two of the blocks share a
+    /// unit, else with `UNIT_NOT_HELD` where a unit isn't there or is of another kind than its block, and with
+    /// `OUT_OF_MEMORY` only where neither is so. After a refusal nothing has changed.
     pub fn take_all(&mut self, blocks: &[Block]) -> Result<(), Refusal>
         ensures ok { OnOk result ((u : Serial) → map.get self.new u ≡ (if covers blocks.now u then None else map.get self.old u)) }
         ensures apart { OnOk result (AllApart blocks.now) }
@@ -176,8 +176,8 @@ impl BlockSet {
         true
     }
 
-    /// The units with their kinds as intervals, by their first units: none shares a unit with another, and neighbours of
-    /// one kind are one. Takes no memory.
+    /// The units with their kinds as intervals, by their first units: none shares a unit with another, and neighbours
+    /// of one kind are one. Takes no memory.
     pub fn pieces(&self) -> &BTreeMap<Unit, Span<Kind>>
         ensures kept { AreKept (intervals_of result.now.entries) }
         ensures joined { AreCanonical (λ _. 0) (intervals_of result.now.entries) }

@@ -15,8 +15,8 @@ use crate::block::{Block, Unit};
 use std::alloc::AllocError;
 use std::collections::BTreeMap;
 
-/// Makes an interval begin at the block's first unit, where it is to have a label or is there, and another after its last.
-/// After an error nothing has changed.
+/// Makes an interval begin at the block's first unit, where it is to have a label or is there, and another after its
+/// last. After an error nothing has changed.
 fn prepare<M: Copy>(
     spans: &mut BTreeMap<Unit, Span<M>>,
     block: &Block,

@@ -1,7 +1,8 @@
 -- The orders of codes and of units in numbers.
--- A comparison of codes is one of their ranks (`codes_compare`). Of two units one comes before the other where its rank is lower, or as low
--- with a lower number: `below` and `less_from_below` go from the comparison to that and back, `up_to_from_sorted` reads what a sort leaves.
--- Where numbers are bounded, the order is that of one number for each unit, its `index`.
+-- A comparison of codes is one of their ranks (`codes_compare`). Of two units one comes before the other where its rank
+-- is lower, or as low with a lower number: `below` and `less_from_below` go from the comparison to that and back,
+-- `up_to_from_sorted` reads what a sort leaves. Where numbers are bounded, the order is that of one number for each
+-- unit, its `index`.
 use Rattle.std.proofs.Common.{◌≡◌, ◌⊎◌, inl, inr, ℕ, ◌+◌, ◌*◌, ◌^◌, ◌<◌, ◌≤◌, true, false, refl, sym, arith, subst}
 use Rattle.std.specs.declared.cmp.Ordering.{Ordering}
 use Rattle.std.specs.declared.cmp.Ordering.TheVariants.{Less, Equal, Greater}

@@ -40,7 +40,8 @@ pub record IsPrepared {M : Type 0} (b : RawBlock) (given : Option M) (old new : 
   pub keys : (q : Serial) → IsSome (old q) → IsSome (new q)
   pub seams : (q : Serial) → IsSeam new q → IsSeam old q ⊎ (reaches b q ≡ true)
 
--- one span for each block that was given a label, in the place of those of its units; spans may go on where others end only at the blocks
+-- one span for each block that was given a label, in the place of those of its units; spans may go on where others end
+-- only at the blocks
 pub record AreSetIn {M : Type 0} (blocks : List Block) (old new : Serial → Option (Span M)) : Type 0 where
   pub parted : AreParted new
   pub cuts : (q : Serial) → AllByRecursion (λ b. has_unit b.raw q ≡ true → q ≡ first_unit b.raw) blocks → IsCutAt old q → IsCutAt new q
@@ -51,14 +52,16 @@ pub record AreSetIn {M : Type 0} (blocks : List Block) (old new : Serial → Opt
 abbrev pub set_to : {M : Type 0} → (Block → Option M) → List Block → (Serial → Option M) → Serial → Option M
 set_to given blocks labels u = option_map_or given (find (λ b. has_unit b.raw u) blocks) (labels u)
 
--- spans that go on are one in the blocks and at their ends; the labels stay, and spans go on where others end only beyond
+-- spans that go on are one in the blocks and at their ends; the labels stay, and spans go on where others end only
+-- beyond
 pub record AreJoinedIn {M : Type 0} (blocks : List Block) (old new : BTreeMap Serial (Span M)) : Type 0 where
   pub parted : AreParted (get unit_cmp new)
   pub ordered : IsOrdered unit_cmp new
   pub means : (f : Serial → Option M) → Mean (get unit_cmp old) f → Mean (get unit_cmp new) f
   pub seams : (q : Serial) → IsSeam (get unit_cmp new) q → IsSeam (get unit_cmp old) q × (reached blocks q ≡ false)
 
--- spans that begin in the blocks have labels that the relation gives, where a label that it gave it gives again, or are out
+-- spans that begin in the blocks have labels that the relation gives, where a label that it gave it gives again, or are
+-- out
 pub record AreChangedIn {M : Type 0} (R : M → Option M → Type 0) (blocks : List Block) (old new : BTreeMap Serial (Span M)) : Type 0 where
   pub parted : AreParted (get unit_cmp new)
   pub ordered : IsOrdered unit_cmp new

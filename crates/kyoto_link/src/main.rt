@@ -7,8 +7,8 @@ ghost use Rattle.units.specs.Code.{node_text};
 use clap::Error;
 use durable::SqlStore;
 use operator::{
-    Action, OpFault, UsageFault, node_of, parse_words, read_scheme, rehearse, show, store_fault,
-    write_out,
+    Action, OpFault, UsageFault, chart, node_of, parse_words, read_scheme, rehearse, show,
+    store_fault, write_out,
 };
 use scheme::Scheme;
 use std::alloc::{AllocError, Global};
@@ -69,6 +69,7 @@ fn show_node(rt: &HostRuntime, scheme: &str, folder: &str, node: &str) -> Result
 fn run(rt: &HostRuntime, action: &Action) -> Result<(), OpFault> {
     match action {
         Action::Rehearse => rehearse(rt.alloc(), &mut rt.reader(), &mut io::writer(rt)),
+        Action::Chart => chart(rt.alloc(), &mut rt.reader(), &mut io::writer(rt)),
         Action::Show {
             scheme,
             folder,

@@ -5,7 +5,7 @@ use Rattle.std.proofs.lemmas.List.Sums.{sum_by-cons}
 use Rattle.accounts.specs.declared.unit_holding.HeldBlock.{HeldBlock}
 use Rattle.scheme.specs.declared.registries.Scheme.{Scheme}
 use Rattle.protocol.specs.Table.{due}
-use Rattle.protocol.specs.World.{World, opening, outcomes, run}
+use Rattle.protocol.specs.World.{World, opening, run}
 use Rattle.protocol.specs.declared.event.WorldEvent.{WorldEvent}
 use Rattle.totals.specs.NumberOfUnits.{allotted_units, due_units, held_units}
 use Rattle.totals.specs.RegistryLines.{AreLines}
@@ -13,7 +13,8 @@ use Rattle.world.specs.Stocks.{AreStocks}
 use Rattle.world.specs.declared.views.Stock.{Stock}
 use Rattle.report_lines.specs.ReportLines.{greatest_shown, held_shown, owed_shown, shown}
 use Rattle.safety.proofs.WorldLemmas.ReachedWorlds.{reached_scheme}
-use Rattle.operator.specs.Table.{AddUp, IsReport, IsTable, outcome_lines}
+use Rattle.operator.specs.Rehearsal.{HasRun}
+use Rattle.operator.specs.Table.{AddUp, IsReport, IsTable}
 
 -- the law: the units of all lines and of all that is due are those that the scheme allots
 abbrev pub Sums : Type 0
@@ -50,13 +51,12 @@ counted sums fits scheme events stocks are =
     omega arith
 
 -- the report of a list of events: their outcomes' lines and then the table of the world that they lead to
-pub reported : Sums → Fits → (scheme : Scheme) (events : List WorldEvent) (start w : World) (empty lines table text : List ℕ) → start ≡ opening scheme → empty ≡ [] → w ≡ run start events
-    → lines ≡ empty ++ outcome_lines 1 (outcomes start events) → IsTable w table → text ≡ lines ++ table → IsReport scheme events text
-reported sums fits scheme events start w empty lines table text opens none led outcome is spelled =
-    let there = subst (λ (v : World). IsTable v table) (led ∙ ap (λ (v : World). run v events) opens) is in
+pub reported : Sums → Fits → (scheme : Scheme) (events : List WorldEvent) (w : World) (lines table text : List ℕ) → HasRun scheme events w lines → IsTable w table → text ≡ lines ++ table → IsReport scheme events text
+reported sums fits scheme events w lines table text ran is spelled =
+    let there = subst (λ (v : World). IsTable v table) ran.world is in
     record {
       table = table;
       is_table = there;
-      spelled = spelled ∙ ap (λ (l : List ℕ). l ++ table) (outcome ∙ ap (λ (l : List ℕ). l ++ outcome_lines 1 (outcomes start events)) none ∙ ap (λ (v : World). outcome_lines 1 (outcomes v events)) opens);
+      spelled = spelled ∙ ap (λ (l : List ℕ). l ++ table) ran.spelled;
       counted = counted sums fits scheme events there.stocks there.are;
     }

@@ -2,6 +2,8 @@ pub mod FirstLines
 pub mod Texts
 pub mod CountedUnits
 pub mod Runs
+pub mod FirstNodes
+pub mod Charts
 pub mod NoFault
 pub mod RecordLines
 pub mod ShowWords

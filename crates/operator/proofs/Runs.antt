@@ -1,38 +1,38 @@
--- A run over the event lines.
-use Rattle.std.proofs.Common.{◌≡◌, ℕ, suc, ◌+◌, ◌<◌, ◌≤◌, List, [], ◌∷◌, ◌++◌, length, true, false, true≢false, ◌==◌, refl, inr, Result, Ok, Err, IfErr, sym, ap, ◌∙◌, subst, arith, append_assoc, append-nil, length-append}
+-- A run over the event lines, of whose events a reporter is told.
+use Rattle.std.proofs.Common.{◌≡◌, ℕ, suc, ◌+◌, ◌<◌, ◌≤◌, List, [], ◌∷◌, ◌++◌, length, true, false, true≢false, ◌==◌, refl, inl, inr, Result, Ok, Err, IfErr, sym, ap, ◌∙◌, subst, arith, append_assoc, append-nil, length-append}
 use Rattle.std.proofs.lemmas.List.{nil_from_length}
 use Rattle.std.proofs.lemmas.Bool.{eqb-true}
-use Rattle.std.specs.Result.{IsErrAnd, OnOk, is_err}
+use Rattle.std.specs.Result.{IsErrAnd}
 use Rattle.scheme.specs.declared.registries.Scheme.{Scheme}
 use Rattle.scheme.specs.Text.{IsSchemeText}
 use Rattle.operator.specs.Streams.{longest_input}
 use Rattle.protocol.specs.declared.event.Outcome.{Outcome}
 use Rattle.protocol.specs.declared.event.WorldEvent.{WorldEvent}
-use Rattle.protocol.specs.World.{World, step, run, outcomes}
+use Rattle.protocol.specs.World.{World, opening, step, run, outcomes}
 use Rattle.operator.specs.declared.fault.Cause.{Cause}
 use Rattle.operator.specs.declared.fault.OpFault.{OpFault}
 use Rattle.operator.specs.declared.fault.OpFault.TheVariants.{Input, Read, Write, Store, NoMemory}
 use Rattle.event_lines.specs.EventLines.{IsEventLine}
 use Rattle.operator.specs.Lines.{IsLine}
+use Rattle.operator.specs.SchemeFile.{IsSchemeLineFault}
 use Rattle.report_lines.specs.ReportLines.{outcome_line}
 use Rattle.operator.specs.Table.{outcome_lines}
 use Rattle.operator.proofs.NumberedLines.{lines_more}
-use Rattle.operator.specs.Rehearsal.{room_after, AreEvents, IsEventFault, IsNextFault, IsLinesFault, IsEarlyFault}
+use Rattle.operator.specs.Rehearsal.{HasRun, room_after, AreEvents, IsEventFault, IsNextFault, IsLinesFault, IsEarlyFault}
 
--- what the loop has done: the events so far, the world that they reach, their outcomes' lines, and
--- that what the rest writes, or lacks, the whole does
-pub record Ran (opened : World) (before lines : List ℕ) (all : ℕ) (w : World) (text rest : List ℕ) (room number : ℕ) : Type 0 where
+-- what the loop has done: the events so far, of which the reporter was told, and that what the rest writes, or lacks,
+-- the whole does
+pub record Told (WasTold : List WorldEvent → Type 0) (lines : List ℕ) (all : ℕ) (rest : List ℕ) (room number : ℕ) : Type 0 where
   pub done : List WorldEvent
   pub count : number ≡ length done
   pub few : number + length rest ≤ length lines
-  pub world : w ≡ run opened done
-  pub spelled : text ≡ before ++ outcome_lines 1 (outcomes opened done)
+  pub told : WasTold done
   pub more : (es : List WorldEvent) → AreEvents rest room es → AreEvents lines all (done ++ es)
   pub fault : (good : ℕ) (cause : Cause) → IsEventFault rest room good cause → IsEventFault lines all (length done + good) cause
 
 -- ---- one more event
 
-run-snoc : (w : World) (es : List WorldEvent) (e : WorldEvent) → run w (es ++ e ∷ []) ≡ (step (run w es) e).world
+pub run-snoc : (w : World) (es : List WorldEvent) (e : WorldEvent) → run w (es ++ e ∷ []) ≡ (step (run w es) e).world
 run-snoc w [] e = refl
 run-snoc w (x ∷ es) e = run-snoc (step w x).world es e
 
@@ -58,47 +58,52 @@ lines-snoc w es e =
 length_line : (bytes line rest : List ℕ) → bytes ≡ line ++ 10 ∷ rest → length bytes ≡ length line + (1 + length rest)
 length_line bytes line rest e = let all = ap length e in let sum : length (line ++ 10 ∷ rest) ≡ length line + length (10 ∷ rest) = length-append line (10 ∷ rest) in omega arith
 
-pub ran_more : (opened : World) (before lines : List ℕ) (all : ℕ) (w new : World) (text longer rest : List ℕ) (room number : ℕ) (words others : List ℕ) (left : ℕ) (e : WorldEvent)
-    → Ran opened before lines all w text rest room number → IsLine rest room words others → IsEventLine words e → left ≡ room_after room words
-    → new ≡ (step w e).world → longer ≡ text ++ outcome_line (number + 1) (step w e).outcome → Ran opened before lines all new longer others left (number + 1)
-ran_more opened before lines all w new text longer rest room number words others left e ran line event is stepped told = record {
-  done = ran.done ++ e ∷ [];
-  count = let sum = length-append ran.done (e ∷ []) in omega (arith, ran.count);
-  few = omega (arith, ran.few, length_line rest words others line.begins.spelled);
-  world = stepped ∙ ap (λ (v : World). (step v e).world) ran.world ∙ sym (run-snoc opened ran.done e);
+pub run_more : (scheme : Scheme) (events : List WorldEvent) (w new : World) (lines longer : List ℕ) (number : ℕ) (e : WorldEvent) → HasRun scheme events w lines → number ≡ length events + 1
+    → new ≡ (step w e).world → longer ≡ lines ++ outcome_line number (step w e).outcome → HasRun scheme (events ++ e ∷ []) new longer
+run_more scheme events w new lines longer number e ran count stepped told = record {
+  world = stepped ∙ ap (λ (v : World). (step v e).world) ran.world ∙ sym (run-snoc (opening scheme) events e);
   spelled =
       told
-      ∙ ap (λ (l : List ℕ). l ++ outcome_line (number + 1) (step w e).outcome) ran.spelled
-      ∙ append_assoc before (outcome_lines 1 (outcomes opened ran.done)) (outcome_line (number + 1) (step w e).outcome)
-      ∙ ap (λ (v : World). before ++ (outcome_lines 1 (outcomes opened ran.done) ++ outcome_line (number + 1) (step v e).outcome)) ran.world
-      ∙ ap (λ (k : ℕ). before ++ (outcome_lines 1 (outcomes opened ran.done) ++ outcome_line (k + 1) (step (run opened ran.done) e).outcome)) ran.count
-      ∙ ap (λ (l : List ℕ). before ++ l) (sym (lines-snoc opened ran.done e));
+      ∙ ap (λ (l : List ℕ). l ++ outcome_line number (step w e).outcome) ran.spelled
+      ∙ ap (λ (v : World). outcome_lines 1 (outcomes (opening scheme) events) ++ outcome_line number (step v e).outcome) ran.world
+      ∙ ap (λ (k : ℕ). outcome_lines 1 (outcomes (opening scheme) events) ++ outcome_line k (step (run (opening scheme) events) e).outcome) count
+      ∙ sym (lines-snoc (opening scheme) events e);
+}
+
+pub told_more : (Was Is : List WorldEvent → Type 0) (lines : List ℕ) (all : ℕ) (rest : List ℕ) (room number : ℕ) (words others : List ℕ) (left : ℕ) (e : WorldEvent)
+    → (told : Told Was lines all rest room number) → IsLine rest room words others → IsEventLine words e → left ≡ room_after room words
+    → ((es : List WorldEvent) → Was es → number + 1 ≡ length es + 1 → Is (es ++ e ∷ [])) → Told Is lines all others left (number + 1)
+told_more Was Is lines all rest room number words others left e told line event is tells = record {
+  done = told.done ++ e ∷ [];
+  count = let sum = length-append told.done (e ∷ []) in omega (arith, told.count);
+  few = omega (arith, told.few, length_line rest words others line.begins.spelled);
+  told = tells told.done told.told (ap (λ k. k + 1) told.count);
   more = λ es are.
-      subst (λ (l : List WorldEvent). AreEvents lines all l) (sym (append_assoc ran.done (e ∷ []) es))
-      (ran.more (e ∷ es) (words, others, line, event, subst (λ (r : ℕ). AreEvents others r es) is are));
+      subst (λ (l : List WorldEvent). AreEvents lines all l) (sym (append_assoc told.done (e ∷ []) es))
+      (told.more (e ∷ es) (words, others, line, event, subst (λ (r : ℕ). AreEvents others r es) is are));
   fault = λ good cause wrong.
-      let same : length ran.done + suc good ≡ length (ran.done ++ e ∷ []) + good = omega (arith, length-append ran.done (e ∷ [])) in
+      let same : length told.done + suc good ≡ length (told.done ++ e ∷ []) + good = omega (arith, length-append told.done (e ∷ [])) in
       subst (λ (k : ℕ). IsEventFault lines all k cause) same
-      (ran.fault (suc good) cause (words, others, e, line, event, subst (λ (r : ℕ). IsEventFault others r good cause) is wrong));
+      (told.fault (suc good) cause (words, others, e, line, event, subst (λ (r : ℕ). IsEventFault others r good cause) is wrong));
 }
 
 -- ---- the end
 
-pub next_fault : (opened : World) (before lines : List ℕ) (all : ℕ) (w : World) (text rest : List ℕ) (room number : ℕ) (f : OpFault) → Ran opened before lines all w text rest room number → 0 < length rest
+pub next_fault : (Was : List WorldEvent → Type 0) (lines : List ℕ) (all : ℕ) (rest : List ℕ) (room number : ℕ) (f : OpFault) → Told Was lines all rest room number → 0 < length rest
     → IsNextFault rest room (number + 1 + 1) f → IsLinesFault lines all f
-next_fault opened before lines all w text rest room number (Input line cause) ran some wrong =
-    let here : IsEventFault lines all (length ran.done + 0) cause = ran.fault 0 cause (some, wrong.1) in
-    let same : length ran.done + 0 ≡ length ran.done = omega arith in
-    (length ran.done, omega (arith, wrong.0, ran.count), subst (λ (k : ℕ). IsEventFault lines all k cause) same here)
-next_fault opened before lines all w text rest room number NoMemory ran some wrong = tt
-next_fault opened before lines all w text rest room number Read ran some wrong = absurd wrong
-next_fault opened before lines all w text rest room number (Write count) ran some wrong = absurd wrong
-next_fault opened before lines all w text rest room number (Store node fault) ran some wrong = absurd wrong
+next_fault Was lines all rest room number (Input line cause) told some wrong =
+    let here : IsEventFault lines all (length told.done + 0) cause = told.fault 0 cause (some, wrong.1) in
+    let same : length told.done + 0 ≡ length told.done = omega arith in
+    (length told.done, omega (arith, wrong.0, told.count), subst (λ (k : ℕ). IsEventFault lines all k cause) same here)
+next_fault Was lines all rest room number NoMemory told some wrong = tt
+next_fault Was lines all rest room number Read told some wrong = absurd wrong
+next_fault Was lines all rest room number (Write count) told some wrong = absurd wrong
+next_fault Was lines all rest room number (Store node fault) told some wrong = absurd wrong
 
-pub ran_all : (opened : World) (before lines : List ℕ) (all : ℕ) (w : World) (text rest : List ℕ) (room number : ℕ) → Ran opened before lines all w text rest room number → length rest ≡ 0
-    → (events : List WorldEvent) × AreEvents lines all events × (w ≡ run opened events) × (text ≡ before ++ outcome_lines 1 (outcomes opened events))
-ran_all opened before lines all w text rest room number ran none =
-    (ran.done, subst (λ (l : List WorldEvent). AreEvents lines all l) (append-nil ran.done) (ran.more [] (nil_from_length rest none)), ran.world, ran.spelled)
+pub told_all : (Was : List WorldEvent → Type 0) (lines : List ℕ) (all : ℕ) (rest : List ℕ) (room number : ℕ) → Told Was lines all rest room number → length rest ≡ 0
+    → (events : List WorldEvent) × AreEvents lines all events × Was events
+told_all Was lines all rest room number told none =
+    (told.done, subst (λ (l : List WorldEvent). AreEvents lines all l) (append-nil told.done) (told.more [] (nil_from_length rest none)), told.told)
 
 -- ---- what the loop's tests say
 
@@ -109,12 +114,8 @@ pub is_some : (rest : List ℕ) → false ≡ (length rest == 0) → 0 < length 
 is_some [] e = absurd (true≢false (sym e))
 is_some (x ∷ rest) e = omega arith
 
-pub went_on : {E P : Type 0} (r : Result (Unit {0}) E) → false ≡ is_err r → OnOk r P → P
-went_on (Ok u) e p = p
-went_on (Err f) e p = absurd cc
-
-pub stops_so : (lines : List ℕ) (room : ℕ) (f : OpFault) (r : Result (Unit {0}) OpFault) → IsErrAnd r (λ e. e ≡ f) → IsLinesFault lines room f → IfErr r (IsLinesFault lines room)
-stops_so lines room f (Ok u) same wrong = tt
+pub stops_so : {T : Type 0} (lines : List ℕ) (room : ℕ) (f : OpFault) (r : Result T OpFault) → IsErrAnd r (λ e. e ≡ f) → IsLinesFault lines room f → IfErr r (IsLinesFault lines room)
+stops_so lines room f (Ok t) same wrong = tt
 stops_so lines room f (Err e) same wrong = subst (IsLinesFault lines room) (sym same) wrong
 
 -- ---- the whole input
@@ -132,3 +133,14 @@ pub early_too : {T : Type 0} (input first lines : List ℕ) (scheme : Scheme) (r
     → IfErr r (IsLinesFault lines (room_after longest_input first)) → IfErr r (IsEarlyFault input)
 early_too input first lines scheme (Ok t) begins is wrong = tt
 early_too input first lines scheme (Err f) begins is wrong = early input first lines scheme f begins is wrong
+
+scheme_early : (input first lines : List ℕ) (f : OpFault) → IsLine input longest_input first lines → IsSchemeLineFault first f → IsEarlyFault input f
+scheme_early input first lines (Input line cause) begins wrong = inl (record { number = wrong.0; fault = inr (first, lines, begins, wrong.1) })
+scheme_early input first lines NoMemory begins wrong = tt
+scheme_early input first lines Read begins wrong = absurd wrong
+scheme_early input first lines (Write count) begins wrong = absurd wrong
+scheme_early input first lines (Store node fault) begins wrong = absurd wrong
+
+pub scheme_too : {T : Type 0} (input first lines : List ℕ) (f : OpFault) (r : Result T OpFault) → IsErrAnd r (λ e. e ≡ f) → IsLine input longest_input first lines → IsSchemeLineFault first f → IfErr r (IsEarlyFault input)
+scheme_too input first lines f (Ok t) same begins wrong = tt
+scheme_too input first lines f (Err e) same begins wrong = subst (IsEarlyFault input) (sym same) (scheme_early input first lines f begins wrong)

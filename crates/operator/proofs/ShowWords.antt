@@ -4,15 +4,17 @@ use Rattle.clap.specs.Words.{Row, rows_of, first_of, first_value, found_of, subc
 use Rattle.clap.specs.declared.parser.matches.ArgMatches.{ArgMatches}
 use Rattle.clap.proofs.WalkLemmas.{first_value-rows}
 use Rattle.operator.specs.declared.command_line.Action.{Action}
-use Rattle.operator.specs.declared.command_line.Action.TheVariants.{Rehearse, Show}
+use Rattle.operator.specs.declared.command_line.Action.TheVariants.{Chart, Rehearse, Show}
 use Rattle.operator.specs.Words.{NamesAction, IsShow, argument_of}
 
 same_values : (v w : List ℕ → Option (List ℕ)) → ((name : List ℕ) → v name ≡ w name) → (a : Action) → IsShow v a → IsShow w a
 same_values v w same Rehearse is = is
+same_values v w same Chart is = is
 same_values v w same (Show scheme folder node) is = (sym (same _) ∙ is.0, sym (same _) ∙ is.1, sym (same _) ∙ is.2)
 
 named : (m : ArgMatches) (a : Action) → subcommand_name_of m ≡ Some (codes "show") → IsShow (argument_of m) a → NamesAction m a
 named m Rehearse name is = absurd is
+named m Chart name is = absurd is
 named m (Show scheme folder node) name is = (name, is)
 
 pub names_show : (m inner : ArgMatches) (a : Option Action) → subcommand_name_of m ≡ Some (codes "show") → Some (rows_of (found_of inner)) ≡ option_map (λ p. p.1) (subcommand_rows_of m)

@@ -15,3 +15,7 @@ pub parts_more : {X Y : Type 0} (part : Y → X) (f : X → List ℕ) (start now
 parts_more part f start now new ys i y low item so_far step =
     step ∙ ap (λ s. s ++ f (part y)) so_far ∙ flat_map_more f start (map part (take i ys)) (part y)
     ∙ ap (λ xs. start ++ flat_map f xs) (sym (ap (map part) (take_more ys i y low ∙ ap (λ z. take i ys ++ z ∷ []) (sym item)) ∙ map-append part (take i ys) (y ∷ [])))
+
+-- a text that grew four times
+pub four_more : (old first second third new a b c d : List ℕ) → first ≡ old ++ a → second ≡ first ++ b → third ≡ second ++ c → new ≡ third ++ d → new ≡ old ++ a ++ b ++ c ++ d
+four_more old first second third new a b c d one two three four = four ∙ ap (λ t. t ++ d) (three ∙ ap (λ t. t ++ c) (two ∙ ap (λ t. t ++ b) one))

@@ -4,11 +4,13 @@ use Rattle.units.specs.Code.{node_text}
 use Rattle.units.specs.declared.code.Node.{Node}
 use Rattle.durable.specs.FaultTexts.{fault_text}
 use Rattle.durable.specs.declared.fault.StoreFault.{StoreFault}
-use Rattle.durable.specs.declared.fault.StoreFault.TheVariants.{NoMemory as OutOfMemory}
+use Rattle.durable.specs.declared.fault.StoreFault.TheVariants as store_faults
 use Rattle.operator.specs.declared.fault.Cause.{Cause}
 use Rattle.operator.specs.declared.fault.Cause.TheVariants.{NotJson, Shape, TooMany, TooFew, CodeTwice, AccountTwice, UnknownAccount, AllotmentOverlap, Order, Truncated, TooLong}
 use Rattle.operator.specs.declared.fault.OpFault.{OpFault}
 use Rattle.operator.specs.declared.fault.OpFault.TheVariants.{Input, Read, Write, Store, NoMemory}
+use Rattle.operator.specs.declared.streams.ReadFault.{ReadFault}
+use Rattle.operator.specs.declared.streams.ReadFault.TheVariants as reading
 
 abbrev pub cause_text : Cause → List ℕ
 cause_text NotJson = codes "not-json"
@@ -31,9 +33,14 @@ op_fault_text (Write count) = codes "write failed after " ++ decimal count ++ co
 op_fault_text (Store node fault) = codes "store " ++ node_text node ++ codes ": " ++ fault_text fault
 op_fault_text NoMemory = codes "out of memory"
 
+-- what a fault of a reader is to a command
+abbrev pub of_reading : ReadFault → OpFault
+of_reading (reading.Read calls) = Read
+of_reading reading.NoMemory = NoMemory
+
 -- out of memory is the command's own fault, and every other one the store's
 abbrev pub of_store : Node → StoreFault → OpFault
-of_store node OutOfMemory = NoMemory
+of_store node store_faults.NoMemory = NoMemory
 of_store node fault = Store node fault
 
 -- 3: the input, or what it came by; 4: a store; 5: memory

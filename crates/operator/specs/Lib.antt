@@ -4,6 +4,7 @@ pub mod Lines
 pub mod Streams
 pub mod Words
 pub mod Table
+pub mod Chart
 pub mod SchemeFile
 pub mod Rehearsal
 pub mod Show

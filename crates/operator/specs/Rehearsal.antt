@@ -2,6 +2,7 @@
 use Rattle.std.specs.Prelude.{◌≡◌, ℕ, zero, suc, ◌+◌, ◌-◌, ◌<◌, ◌⊎◌, List, [], ◌∷◌, length, take, Option}
 use Rattle.std.specs.Io.KnownBytes.{Appends, Keeps}
 use Rattle.protocol.specs.declared.event.WorldEvent.{WorldEvent}
+use Rattle.protocol.specs.World.{World, opening, outcomes, run}
 use Rattle.scheme.specs.Text.{IsSchemeText}
 use Rattle.scheme.specs.declared.registries.Scheme.{Scheme}
 use Rattle.operator.specs.declared.fault.Cause.{Cause}
@@ -12,7 +13,7 @@ use Rattle.event_lines.specs.EventLines.{IsEventLine}
 use Rattle.operator.specs.Lines.{IsLine, IsLineFault}
 use Rattle.operator.specs.SchemeFile.{IsSchemeFault}
 use Rattle.operator.specs.Streams.{longest_input, Takes}
-use Rattle.operator.specs.Table.{IsReport}
+use Rattle.operator.specs.Table.{outcome_lines}
 
 -- how many more bytes an input may have after a line
 abbrev pub room_after : ℕ → List ℕ → ℕ
@@ -70,14 +71,14 @@ IsInputFault input line cause = IsFirstFault input line cause ⊎ IsFaultAfterEv
 
 -- ---- what a rehearsal comes to
 
--- all of the input was read, it has no fault, and the text is its report
-pub record Reports (read_old read_new : Option (List ℕ)) (text : List ℕ) : Type 0 where
+-- all of the input was read, it has no fault, and the text is what `IsText` says of its scheme and events
+pub record Reports (IsText : Scheme → List WorldEvent → List ℕ → Type 0) (read_old read_new : Option (List ℕ)) (text : List ℕ) : Type 0 where
   pub input : List ℕ
   pub taken : Takes read_old read_new input
   pub scheme : Scheme
   pub events : List WorldEvent
   pub is : IsRehearsal input scheme events
-  pub report : IsReport scheme events text
+  pub report : IsText scheme events text
 
 -- the fault is the first of the input that was read
 pub record Finds (read_old read_new : Option (List ℕ)) (line : ℕ) (cause : Cause) : Type 0 where
@@ -86,12 +87,12 @@ pub record Finds (read_old read_new : Option (List ℕ)) (line : ℕ) (cause : C
   pub fault : IsInputFault input line cause
 
 -- nothing was written, or the first bytes of the report, fewer than all
-abbrev pub FailsSo : OpFault → (read_old read_new written_old written_new : Option (List ℕ)) → Type 0
-FailsSo (Input line cause) r s v w = Finds r s line cause × Keeps v w
-FailsSo Read r s v w = Keeps v w
-FailsSo NoMemory r s v w = Keeps v w
-FailsSo (Store node fault) r s v w = ⊥
-FailsSo (Write count) r s v w = (text : List ℕ) × Reports r s text × (count < length text) × Appends v w (take count text)
+abbrev pub FailsSo : (Scheme → List WorldEvent → List ℕ → Type 0) → OpFault → (read_old read_new written_old written_new : Option (List ℕ)) → Type 0
+FailsSo IsText (Input line cause) r s v w = Finds r s line cause × Keeps v w
+FailsSo IsText Read r s v w = Keeps v w
+FailsSo IsText NoMemory r s v w = Keeps v w
+FailsSo IsText (Store node fault) r s v w = ⊥
+FailsSo IsText (Write count) r s v w = (text : List ℕ) × Reports IsText r s text × (count < length text) × Appends v w (take count text)
 
 -- what the command has done so far, where it goes on only without a fault
 abbrev pub IsEarlyFault : List ℕ → OpFault → Type 0
@@ -116,3 +117,8 @@ IsNextFault lines room number NoMemory = Unit {0}
 IsNextFault lines room number Read = ⊥
 IsNextFault lines room number (Write count) = ⊥
 IsNextFault lines room number (Store node fault) = ⊥
+
+-- the world that the events lead to, and the lines of their outcomes
+pub record HasRun (scheme : Scheme) (events : List WorldEvent) (w : World) (lines : List ℕ) : Type 0 where
+  pub world : w ≡ run (opening scheme) events
+  pub spelled : lines ≡ outcome_lines 1 (outcomes (opening scheme) events)

@@ -6,7 +6,7 @@ ghost use Rattle.clap.specs.Values.{kind_of};
 ghost use Rattle.clap.specs.Words.{HasMatchesOf, first_value, found_of, rule_of};
 ghost use Rattle.clap.specs.declared.error.kind.ErrorKind.TheVariants.{OutOfMemory};
 ghost use Rattle.clap.specs.declared.parser.matches.ArgMatches.{ArgMatches};
-ghost use Rattle.operator.specs.Words.{NamesAction, IsCommand, IsFaultOf, IsShow, IsSubcommand, IsUsageFault, faults_in, kyoto_link, positional, show_shape};
+ghost use Rattle.operator.specs.Words.{NamesAction, IsCommand, IsFaultOf, IsShow, IsSubcommand, IsUsageFault, faults_in, kyoto_link, positional, show_shape, with_events};
 
 use clap::error::ErrorKind;
 use clap::{Arg, ArgMatches, Command, Error};
@@ -45,6 +45,21 @@ Exit status:
 
 docs/FORMATS.md describes schemes, events and the table; docs/PROTOCOL.md tells what each outcome means.";
 
+/// The end of the help of `chart`.
+const CHART_NOTES: &str =
+    "The first line of standard input is the scheme, and each other line an event, as for rehearse. A message that
+comes to a node is an arrow, one that doesn't ends in a cross, and the last note has the table.
+
+Example:
+  kyoto-link chart < examples/one_transfer/input > one_transfer.mmd
+
+Exit status:
+  0  done
+  3  a line has a fault (kyoto-link: line 2: order), or the input could not be read or the output written
+  5  out of memory
+
+docs/FORMATS.md describes schemes, events and charts.";
+
 /// The end of the help of `show`.
 const SHOW_NOTES: &str =
     "The store of a node is the file DIR/NODE.db. A missing store is made, and is empty.
@@ -65,6 +80,8 @@ docs/FORMATS.md describes schemes, records and stores.";
 pub enum Action {
     /// Run the events that standard input lists, and report.
     Rehearse,
+    /// Run the events that standard input lists, and draw them.
+    Chart,
     /// Write the records of the store of the node `node`, which is in the folder `folder`. The file `scheme` has the
     /// scheme.
     Show {
@@ -95,6 +112,16 @@ fn rehearse_command<'a>(alloc: Global) -> Command<'a>
         .after_help(REHEARSE_NOTES)
 }
 
+fn chart_command<'a>(alloc: Global) -> Command<'a>
+    ensures { IsSubcommand (new_shape (codes "chart")) result }
+{
+    Command::new(alloc, "chart")
+        .about(
+            "Run a scheme and its events, read from standard input, and draw them as a Mermaid sequence diagram",
+        )
+        .after_help(CHART_NOTES)
+}
+
 fn positional<'a>(alloc: Global, name: &'a str, help: &'a str) -> Arg<'a>
     ensures rule { rule_of result ≡ positional name.now }
     ensures global { result.global ≡ false }
@@ -120,19 +147,27 @@ fn show_command<'a>(alloc: Global) -> Result<Command<'a>, AllocError>
         .arg(node)
 }
 
-fn command<'a>(alloc: Global) -> Result<Command<'a>, AllocError>
-    ensures { IfOk result (IsCommand kyoto_link) }
+/// The program, with the subcommands that read events.
+fn event_commands<'a>(alloc: Global) -> Result<Command<'a>, AllocError>
+    ensures { IfOk result (IsCommand with_events) }
 {
-    let program = Command::new(alloc, "kyoto-link")
+    Command::new(alloc, "kyoto-link")
         .about(
             "The external transfer of emission units between national registries and their transaction log",
         )
         .version(VERSION)
         .after_help(NOTES)
-        .subcommand_required(true);
-    program
+        .subcommand_required(true)
         .subcommand(rehearse_command(alloc))?
-        .subcommand(show_command(alloc)?)
+        .subcommand(chart_command(alloc))
+}
+
+/// The program, with all its subcommands.
+fn command<'a>(alloc: Global) -> Result<Command<'a>, AllocError>
+    ensures { IfOk result (IsCommand kyoto_link) }
+{
+    let program = event_commands(alloc)?;
+    program.subcommand(show_command(alloc)?)
 }
 
 /// The value of an argument, or `None`, where there is none or memory was refused.
@@ -163,6 +198,9 @@ fn action_of(alloc: Global, matches: &ArgMatches) -> Option<Action>
     let (name, inner) = matches.subcommand()?;
     if name == "rehearse" {
         return Some(Action::Rehearse);
+    }
+    if name == "chart" {
+        return Some(Action::Chart);
     }
     if name == "show" {
         return show_action(alloc, inner);

@@ -6,7 +6,7 @@ ghost use Rattle.operator.specs.Faults.{exit_status, of_store};
 use durable::StoreFault;
 use std::error::Error;
 use std::fmt;
-use units::Node;
+use units::{NoMemory, Node};
 
 /// What is wrong with a line of an input.
 #[derive(Clone, Copy, Debug, PartialEq, Eq)]
@@ -92,6 +92,16 @@ impl fmt::Display for OpFault {
 }
 
 impl Error for OpFault {}
+
+impl From<NoMemory> for OpFault {
+    ghost use Rattle.operator.specs.declared.fault.OpFault.TheVariants as faults;
+
+    ghost from_gives = { λ _ e. e ≡ faults.NoMemory };
+
+    fn from(_: NoMemory) -> OpFault {
+        OpFault::NoMemory
+    }
+}
 
 impl OpFault {
     /// The program's exit status.

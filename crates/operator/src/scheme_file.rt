@@ -7,7 +7,7 @@ ghost use Rattle.protocol.specs.Registries.{is_node};
 ghost use Rattle.operator.specs.SchemeFile.{IsSchemeLineFault, IsTextIn, ReadsScheme, FailsToRead};
 
 use crate::fault::{Cause, OpFault};
-use crate::streams::{LONGEST_LINE, ReadFault, read_input};
+use crate::streams::{LONGEST_LINE, read_input};
 use scheme::{Scheme, SchemeFault};
 use std::alloc::Global;
 use std::io::Read;
@@ -50,11 +50,7 @@ pub fn read_scheme<R: Read>(alloc: Global, reader: &mut R) -> Result<Scheme, OpF
     ensures ok { IfOk result (λ s. ReadsScheme (R.remaining reader.old) (R.remaining reader.new) s) }
     ensures err { IfErr result (λ e. FailsToRead e (R.remaining reader.old) (R.remaining reader.new)) }
 {
-    let input = match read_input(alloc, reader) {
-        Ok(input) => input,
-        Err(ReadFault::Read(_)) => return Err(OpFault::Read),
-        Err(ReadFault::NoMemory) => return Err(OpFault::NoMemory),
-    };
+    let input = read_input(alloc, reader)?;
     let text = text_in(input.as_slice());
     if text.len() > LONGEST_LINE {
         let cause = Cause::TooLong;

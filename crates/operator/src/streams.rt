@@ -43,6 +43,29 @@ pub struct WriteFault {
     pub calls: Calls,
 }
 
+impl From<ReadFault> for OpFault {
+    ghost use Rattle.operator.specs.Faults.{of_reading};
+
+    ghost from_gives = { λ f e. e ≡ of_reading f };
+
+    fn from(fault: ReadFault) -> OpFault {
+        match fault {
+            ReadFault::Read(_) => OpFault::Read,
+            ReadFault::NoMemory => OpFault::NoMemory,
+        }
+    }
+}
+
+impl From<WriteFault> for OpFault {
+    ghost use Rattle.operator.specs.declared.fault.OpFault.TheVariants as faults;
+
+    ghost from_gives = { λ f e. e ≡ faults.Write f.written };
+
+    fn from(fault: WriteFault) -> OpFault {
+        OpFault::Write(fault.written as u64)
+    }
+}
+
 /// All that the reader gives, up to one byte more than an input may have. An interrupted read is tried again.
 ///
 /// `Read`: a read failed and was not interrupted, or the end didn't come in 16,777,217 reads; what was read is lost.
@@ -112,8 +135,6 @@ pub fn write_out<W: Write>(writer: &mut W, text: &str) -> Result<(), OpFault>
     ensures ok { OnOk result (Appends (W.contents writer.old) (W.contents writer.new) text.now) }
     ensures err { IfErr result (λ e. (count : ℕ) × (e ≡ OpFault.Write count) × (count < length text.now) × Appends (W.contents writer.old) (W.contents writer.new) (take count text.now)) }
 {
-    match write_text(writer, text.as_bytes()) {
-        Ok(()) => Ok(()),
-        Err(fault) => Err(OpFault::Write(fault.written as u64)),
-    }
+    write_text(writer, text.as_bytes())?;
+    Ok(())
 }

@@ -8,5 +8,5 @@ mod transactions;
 
 pub use debts::push_owed;
 pub use holdings::push_registry;
-pub use outcomes::push_outcome;
+pub use outcomes::{push_outcome, push_outcome_text};
 pub use transactions::{TransactionRow, push_transaction};

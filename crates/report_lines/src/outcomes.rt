@@ -24,7 +24,11 @@ fn push_with_number(text: &mut String, word: &str, n: u64) -> Result<(), NoMemor
 }
 
 /// Adds an outcome without its event.
-fn push_outcome_text(text: &mut String, outcome: Outcome) -> Result<(), NoMemory>
+///
+/// # Errors
+///
+/// Fails with `NoMemory` where there is no room for the words. The text may then have a part of them.
+pub fn push_outcome_text(text: &mut String, outcome: Outcome) -> Result<(), NoMemory>
     ensures { OnOk result (string_bytes text.new ≡ string_bytes text.old ++ outcome_text outcome) }
 {
     match outcome {

@@ -1,12 +1,13 @@
 //! Runs the examples that its words name, and tells of each whether it comes to what its folder has.
 //!
 //! An example is a folder with the file `input`, and beside it `output`, what `rehearse` writes of it, or `error`,
-//! the line of its fault; or with the file `words`, words of a command line, and beside it `output`, the help or the
-//! version that they ask for, or `error`, what is written of wrong words, before each line gets the program's name.
+//! the line of its fault, and for some also `chart.mmd`, what `chart` writes of it; or with the file `words`, words of
+//! a command line, and beside it `output`, the help or the version that they ask for, or `error`, what is written of
+//! wrong words, before each line gets the program's name.
 #![tactic(auto)]
 
-use operator::{OpFault, UsageFault, parse_words, rehearse};
-use std::io::{self, Read};
+use operator::{OpFault, UsageFault, chart, parse_words, rehearse};
+use std::io::{self, ErrorKind, Read};
 use std::{env, fs, str};
 
 fn file_in(rt: &HostRuntime, folder: &str, name: &str) -> io::Result<Vec<u8>> {
@@ -23,13 +24,35 @@ fn has_error(rt: &HostRuntime, folder: &str, fault: OpFault) -> io::Result<bool>
     Ok(wanted.as_slice() == told.as_str().as_bytes())
 }
 
-fn is_so(rt: &HostRuntime, folder: &str) -> io::Result<bool> {
+fn is_rehearsed(rt: &HostRuntime, folder: &str, input: &[u8]) -> io::Result<bool> {
     let alloc = rt.alloc();
-    let input = file_in(rt, folder, "input")?;
+    let mut reader = input;
     let mut written = Vec::new(alloc);
-    match rehearse(alloc, &mut input.as_slice(), &mut written) {
+    match rehearse(alloc, &mut reader, &mut written) {
         Ok(()) => Ok(written.as_slice() == file_in(rt, folder, "output")?.as_slice()),
         Err(fault) => has_error(rt, folder, fault),
+    }
+}
+
+fn is_charted(rt: &HostRuntime, input: &[u8], wanted: &[u8]) -> bool {
+    let alloc = rt.alloc();
+    let mut reader = input;
+    let mut written = Vec::new(alloc);
+    match chart(alloc, &mut reader, &mut written) {
+        Ok(()) => written.as_slice() == wanted,
+        Err(_) => false,
+    }
+}
+
+fn is_so(rt: &HostRuntime, folder: &str) -> io::Result<bool> {
+    let input = file_in(rt, folder, "input")?;
+    if !is_rehearsed(rt, folder, input.as_slice())? {
+        return Ok(false);
+    }
+    match file_in(rt, folder, "chart.mmd") {
+        Ok(wanted) => Ok(is_charted(rt, input.as_slice(), wanted.as_slice())),
+        Err(error) if error.kind() == ErrorKind::NotFound => Ok(true),
+        Err(error) => Err(error),
     }
 }
 

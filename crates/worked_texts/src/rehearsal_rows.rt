@@ -361,6 +361,7 @@ fn faults_of_schemes(rt: HostRuntime) {
 #[derive(Clone, Copy, PartialEq, Eq, Debug)]
 enum Outcome {
     Rehearse,
+    Chart,
     Show,
     Help,
     Usage,
@@ -370,6 +371,7 @@ enum Outcome {
 fn outcome_of(alloc: Global, words: &[&str]) -> Outcome {
     match parse_words(alloc, words) {
         Ok(Action::Rehearse) => Outcome::Rehearse,
+        Ok(Action::Chart) => Outcome::Chart,
         Ok(Action::Show { .. }) => Outcome::Show,
         Err(UsageFault::Help(_)) => Outcome::Help,
         Err(UsageFault::Usage(_)) => Outcome::Usage,
@@ -379,8 +381,9 @@ fn outcome_of(alloc: Global, words: &[&str]) -> Outcome {
 
 #[test]
 fn command_words(rt: HostRuntime) {
-    let cases: [(&[&str], Outcome); 14] = [
+    let cases: [(&[&str], Outcome); 16] = [
         (&["kyoto-link", "rehearse"], Outcome::Rehearse),
+        (&["kyoto-link", "chart"], Outcome::Chart),
         (&["kyoto-link", "--help"], Outcome::Help),
         (&["kyoto-link", "-h"], Outcome::Help),
         (&["kyoto-link", "help"], Outcome::Help),
@@ -392,6 +395,7 @@ fn command_words(rt: HostRuntime) {
         (&["kyoto-link", ""], Outcome::Usage),
         (&["kyoto-link"], Outcome::Usage),
         (&["kyoto-link", "rehearse", "input"], Outcome::Usage),
+        (&["kyoto-link", "chart", "input"], Outcome::Usage),
         (&["kyoto-link", "show", "s.json", "d"], Outcome::Usage),
         (
             &["kyoto-link", "show", "s.json", "d", "NZ", "JP"],

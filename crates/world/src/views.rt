@@ -134,6 +134,13 @@ impl World {
         self.bag.get(index as usize)
     }
 
+    /// The bag: every message that was ever posted, the oldest first.
+    pub fn bag(&self) -> &[Posted]
+        ensures { result.now ≡ self.now.bag }
+    {
+        self.bag.as_slice()
+    }
+
     /// The core of the registry of that code, if the scheme has such a registry.
     fn registry(&self, code: Code) -> Option<&RegistryCore>
         ensures core { option_copied result ≡ cond (has_member self.now.scheme code) (Some (registry_at self.now code)) None }

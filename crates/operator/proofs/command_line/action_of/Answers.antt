@@ -3,7 +3,7 @@ use Rattle.clap.specs.Words.{subcommand_name_of}
 use Rattle.operator.proofs.ShowWords.{names_show}
 use Rattle.operator.proofs.command_line.action_of.Goals as goal
 
-pub returns-then-eq-2 : goal.returns-then-eq-2
-returns-then-eq-2 c =
+pub returns-then-eq-3 : goal.returns-then-eq-3
+returns-then-eq-3 c =
     let name : subcommand_name_of c.args.matches.now ≡ Some (codes "show") = search rules in
     names_show c.args.matches.now c.in_ok-name.inner.now c.show_action.result name c.in_ok-name.ensures.rows c.show_action.ensures

@@ -1,4 +1,4 @@
-use Rattle.std.proofs.Common.{◌≡◌, ◌++◌, ℕ, IsTrue, length, refl, ◌∙◌, arith}
+use Rattle.std.proofs.Common.{◌≡◌, ◌++◌, length, refl, ◌∙◌, arith}
 use Rattle.durable.specs.declared.fault.StoreFault.{StoreFault}
 use Rattle.durable.specs.declared.fault.StoreFault.TheVariants.{NoMemory}
 use Rattle.operator.specs.declared.fault.OpFault.{OpFault}

@@ -109,14 +109,14 @@ filtered first last from (row ∷ rows) h =
 
 -- ---- ORDER BY
 
--- what a row is sorted by and shown as
+-- what a row is sorted by and shown as: in whichever tree the entries are
 abbrev out : Row → Output
 out row = (column row 0 ∷ [], shown row)
 
 abbrev key : Output → ℕ
 key o = whole_number (column o.0 0)
 
-outputs : (first last : ℕ) (rows : List Row) → map (output page_query) (map (env_of (between first last)) rows) ≡ map out rows
+outputs : (first last : ℕ) (rows : List Row) → map (output (page_query 1)) (map (env_of (between first last)) rows) ≡ map out rows
 outputs first last [] = refl
 outputs first last (r ∷ rows) = ap (λ all. out r ∷ all) (outputs first last rows)
 
@@ -150,26 +150,26 @@ not-less v w m n e f low h =
     let x : true ≡ false = subst (λ (o : Ordering). is_lt (ordering_then o Equal) ≡ false) less h in
     cc (x)
 
-not-below : (a b : Output) → HasPlace a → HasPlace b → is_lt (output_cmp page_query a b) ≡ false → key b ≤ key a
+not-below : (a b : Output) → HasPlace a → HasPlace b → is_lt (output_cmp (page_query 1) a b) ≡ false → key b ≤ key a
 not-below a b ha hb h = elim (cases_lt (key a) (key b)) [
   | inl low ↦ absurd (not-less (column a.0 0) (column b.0 0) (key a) (key b) ha hb low h)
   | inr up ↦ up
 ]
 
-sorted-tail : (x : Output) (xs : List Output) → IsSorted (output_cmp page_query) (x ∷ xs) → IsSorted (output_cmp page_query) xs
+sorted-tail : (x : Output) (xs : List Output) → IsSorted (output_cmp (page_query 1)) (x ∷ xs) → IsSorted (output_cmp (page_query 1)) xs
 sorted-tail x xs up = λ k d low lt.
     let e : k + 1 ≡ suc k = omega arith in
     let f : k + 1 + 1 ≡ suc (k + 1) = omega arith in
-    subst (λ n. is_lt (output_cmp page_query (get_or (x ∷ xs) n d) (get_or (x ∷ xs) (suc k) d)) ≡ false) f
-    (subst (λ m. is_lt (output_cmp page_query (get_or (x ∷ xs) (k + 1 + 1) d) (get_or (x ∷ xs) m d)) ≡ false) e (up (k + 1) d (omega arith) (omega (arith, lt))))
+    subst (λ n. is_lt (output_cmp (page_query 1) (get_or (x ∷ xs) n d) (get_or (x ∷ xs) (suc k) d)) ≡ false) f
+    (subst (λ m. is_lt (output_cmp (page_query 1) (get_or (x ∷ xs) (k + 1 + 1) d) (get_or (x ∷ xs) m d)) ≡ false) e (up (k + 1) d (omega arith) (omega (arith, lt))))
 
 -- in the order of a sort, keys never fall
-never : (low : ℕ) (x : Output) (xs : List Output) → AllByRecursion HasPlace (x ∷ xs) → IsSorted (output_cmp page_query) (x ∷ xs) → low ≤ key x → NeverFall key low (x ∷ xs)
+never : (low : ℕ) (x : Output) (xs : List Output) → AllByRecursion HasPlace (x ∷ xs) → IsSorted (output_cmp (page_query 1)) (x ∷ xs) → low ≤ key x → NeverFall key low (x ∷ xs)
 never low x [] at up least = (least, tt)
 never low x (y ∷ ys) at up least =
     (least, never (key x) y ys at.1 (sorted-tail x (y ∷ ys) up) (not-below y x at.1.0 at.0 (up 0 x (omega arith) (omega arith))))
 
-never-any : (xs : List Output) → AllByRecursion HasPlace xs → IsSorted (output_cmp page_query) xs → NeverFall key 0 xs
+never-any : (xs : List Output) → AllByRecursion HasPlace xs → IsSorted (output_cmp (page_query 1)) xs → NeverFall key 0 xs
 never-any [] at up = tt
 never-any (x ∷ xs) at up = never 0 x xs at up (omega arith)
 
@@ -188,17 +188,20 @@ shows : (rows : List Row) → map (λ (o : Output). o.1) (map out rows) ≡ map 
 shows [] = refl
 shows (r ∷ rows) = ap (λ all. shown r ∷ all) (shows rows)
 
-pub page-shows : (first last : ℕ) (db : Database) (rows : List Row) → AreEntries 0 (db.trees 1) → Reads page_command db (between first last) rows → rows ≡ rows_within first last (db.trees 1)
-page-shows first last db rows entries h =
+pub page-shows : (first last tree : ℕ) (db : Database) (rows : List Row) → overlay db.trees [] tree ≡ db.trees tree → AreEntries 0 (db.trees tree) → Reads (page_command tree) db (between first last) rows
+    → rows ≡ rows_within first last (db.trees tree)
+page-shows first last tree db rows own entries h =
     let params = between first last in
-    let a : IsAnswer page_query (overlay db.trees []) params rows = h.answer Null in
-    let found = filter (is_within first last) (db.trees 1) in
-    let staged : a.staged ≡ map (env_of params) found = a.grouped ∙ filtered first last 0 (db.trees 1) entries in
-    let kept : a.kept ≡ map out found = a.distinct ∙ ap (map (output page_query)) staged ∙ outputs first last found in
+    let all = db.trees tree in
+    let a : IsAnswer (page_query tree) (overlay db.trees []) params rows = h.answer Null in
+    let found = filter (is_within first last) all in
+    let matches : List Row → List Env = flat_map (λ (r : Row). cond (passes first last r) (env_of params r ∷ []) []) in
+    let staged : a.staged ≡ map (env_of params) found = a.grouped ∙ ap matches own ∙ filtered first last 0 all entries in
+    let kept : a.kept ≡ map out found = a.distinct ∙ ap (map (output (page_query 1))) staged ∙ outputs first last found in
     let moved : IsPermutation (map out found) a.ordered = subst (λ xs. IsPermutation xs a.ordered) kept a.same in
-    let at : AllByRecursion HasPlace a.ordered = each_moved HasPlace (map out found) a.ordered moved (has-place first last 0 (db.trees 1) entries) in
+    let at : AllByRecursion HasPlace a.ordered = each_moved HasPlace (map out found) a.ordered moved (has-place first last 0 all entries) in
     let inside = each_moved (λ z. In z (map out found)) (map out found) a.ordered moved (is-all (λ z. In z (map out found)) (map out found) (λ z i. i)) in
     let order : a.ordered ≡ map out found =
-    one-order key 0 0 (map out found) a.ordered (rise first last 0 (db.trees 1) entries) (never-any a.ordered at a.sorted)
+    one-order key 0 0 (map out found) a.ordered (rise first last 0 all entries) (never-any a.ordered at a.sorted)
     (λ f. sum_by-IsPermutation f (map out found) a.ordered moved) (λ z i. all-is (λ x. In x (map out found)) a.ordered inside z i) in
     a.shown ∙ ap (map (λ (o : Output). o.1)) order ∙ shows found

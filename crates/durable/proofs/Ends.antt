@@ -15,6 +15,7 @@ use Rattle.sqlite_value.proofs.OrderLemmas.{value_cmp-Int}
 use Rattle.sqlite.specs.declared.types.Value.TheVariants.{Null, Int}
 use Rattle.sqlite.specs.Order.{Row, column, value_cmp}
 use Rattle.sqlite.specs.Query.{IsAnswer, Output, output, output_cmp}
+use Rattle.sqlite.specs.Term.{Env}
 use Rattle.sqlite.specs.Program.{overlay}
 use Rattle.sqlite.specs.Effect.{Database, Reads}
 use Rattle.sqlite_rules.specs.Edit.{id_in}
@@ -50,10 +51,13 @@ outputs : (descending : Bool) (rows : List Row) → map (output (first_row 1 des
 outputs descending [] = refl
 outputs descending (r ∷ rows) = ap (λ more. out_of r ∷ more) (outputs descending rows)
 
-pub by_place : (descending : Bool) (names : List (List ℕ)) (db : Database) (rows : List Row) → Reads (shows (first_row 1 descending) names) db [] rows → IsByPlace descending (db.trees 1) rows
-by_place descending names db rows h =
-    let a : IsAnswer (first_row 1 descending) (overlay db.trees []) [] rows = h.answer Null in
-    let kept : a.kept ≡ map out_of (db.trees 1) = a.distinct ∙ ap (map (output (first_row 1 descending))) (a.grouped ∙ envs (db.trees 1)) ∙ outputs descending (db.trees 1) in
+pub by_place : (descending : Bool) (tree : ℕ) (names : List (List ℕ)) (db : Database) (rows : List Row) → overlay db.trees [] tree ≡ db.trees tree
+    → Reads (shows (first_row tree descending) names) db [] rows → IsByPlace descending (db.trees tree) rows
+by_place descending tree names db rows own h =
+    let all = db.trees tree in
+    let a : IsAnswer (first_row tree descending) (overlay db.trees []) [] rows = h.answer Null in
+    let matches : List Row → List Env = flat_map (λ (r : Row). ([] ∷ r ∷ []) ∷ []) in
+    let kept : a.kept ≡ map out_of all = a.distinct ∙ ap (map (output (first_row 1 descending))) (a.grouped ∙ ap matches own ∙ envs all) ∙ outputs descending all in
     record { ordered = a.ordered; same = subst (λ xs. IsPermutation xs a.ordered) kept a.same; sorted = a.sorted; shown = a.shown }
 
 rising : (x y : ℤ) → is_lt (ordering_then (value_cmp (Int y) (Int x)) Equal) ≡ false → y <ℤ x → ⊥

@@ -1,5 +1,5 @@
 -- What an owner's row and the least place tell of both tables.
-use Rattle.std.proofs.Common.{◌≡◌, ◌⊎◌, inl, inr, ℕ, zero, suc, ℤ, pos, negsuc, ◌<ℤ◌, ◌≤◌, ◌<◌, ◌+◌, List, [], ◌∷◌, map, length, slice_get, slice_index_or, false, Option, Some, None, refl, sym, ap, subst, ◌∙◌, arith}
+use Rattle.std.proofs.Common.{◌≡◌, ◌⊎◌, inl, inr, ℕ, zero, suc, ℤ, pos, negsuc, ◌<ℤ◌, ◌≤◌, ◌<◌, ◌+◌, List, [], ◌∷◌, map, flat_map, length, slice_get, slice_index_or, false, Option, Some, None, refl, sym, ap, subst, ◌∙◌, arith}
 use Rattle.std.specs.Prelude.{Any}
 use Rattle.std.specs.List.{AllByRecursion}
 use Rattle.std.specs.List.Sorted.{IsPermutation}
@@ -17,32 +17,37 @@ use Rattle.sqlite_trees.specs.Tree.{IsTable, rowid}
 use Rattle.sqlite_rules.specs.Edit.{id_in}
 use Rattle.std.proofs.lemmas.Bool.{cases_lt}
 use Rattle.sqlite.specs.Query.{IsAnswer, Output, output}
+use Rattle.sqlite.specs.Term.{Env}
 use Rattle.sqlite.specs.Program.{overlay}
 use Rattle.sqlite.specs.Effect.{Database, Reads}
 use Rattle.sqlite.proofs.Callers.{one_permutation}
 use Rattle.durable.specs.declared.owner_row.Owner.{Owner}
 use Rattle.durable.specs.declared.owner_row.Owner.TheVariants.{Nobody, OtherFormat, OtherNode, ThisNode}
-use Rattle.durable.specs.Tables.{store_schema}
+use Rattle.durable.specs.Tables.{TableOrder, about_tree, entries_tree, store_schema}
 use Rattle.durable.specs.Slots.{place_of, body_of, AreEntries}
 use Rattle.durable.specs.OwnerRow.{IsOwnerIn}
 use Rattle.durable.specs.Opening.{owned, IsEntry, HasRows, IsLeastOrGreatest, places_in, IsNoStore, HasNegativePlace, IsOwner, IsNegative}
 use Rattle.durable.proofs.Ends.{envs}
+use Rattle.durable.proofs.Orders.{same_order, own_row}
 use Rattle.durable.proofs.OpeningTexts.{shows, owner_query}
 
 abbrev shown : Row → Row
 shown row = column row 2 ∷ column row 3 ∷ []
 
-shows_all : (rows : List Row) → map (λ (o : Output). o.1) (map (output owner_query) (map (λ (r : Row). [] ∷ r ∷ []) rows)) ≡ map shown rows
+shows_all : (rows : List Row) → map (λ (o : Output). o.1) (map (output (owner_query 0)) (map (λ (r : Row). [] ∷ r ∷ []) rows)) ≡ map shown rows
 shows_all [] = refl
 shows_all (r ∷ rows) = ap (λ more. shown r ∷ more) (shows_all rows)
 
-permutes : (names : List (List ℕ)) (db : Database) (rows : List Row) → Reads (shows owner_query names) db [] rows → IsPermutation (map shown (db.trees 0)) rows
-permutes names db rows h =
-    let a : IsAnswer owner_query (overlay db.trees []) [] rows = h.answer Null in
-    let kept : a.kept ≡ map (output owner_query) (map (λ (r : Row). [] ∷ r ∷ []) (db.trees 0)) = a.distinct ∙ ap (map (output owner_query)) (a.grouped ∙ envs (db.trees 0)) in
+permutes : (names : List (List ℕ)) (tree : ℕ) (db : Database) (rows : List Row) → overlay db.trees [] tree ≡ db.trees tree → Reads (shows (owner_query tree) names) db [] rows
+    → IsPermutation (map shown (db.trees tree)) rows
+permutes names tree db rows own h =
+    let all = db.trees tree in
+    let a : IsAnswer (owner_query tree) (overlay db.trees []) [] rows = h.answer Null in
+    let matches : List Row → List Env = flat_map (λ (r : Row). ([] ∷ r ∷ []) ∷ []) in
+    let kept : a.kept ≡ map (output (owner_query 0)) (map (λ (r : Row). [] ∷ r ∷ []) all) = a.distinct ∙ ap (map (output (owner_query 0))) (a.grouped ∙ ap matches own ∙ envs all) in
     let moved = IsPermutation-map (λ (o : Output). o.1) a.kept a.ordered a.same in
-    let from = ap (map (λ (o : Output). o.1)) kept ∙ shows_all (db.trees 0) in
-    subst (IsPermutation (map shown (db.trees 0))) (sym a.shown) (subst (λ xs. IsPermutation xs (map (λ (o : Output). o.1) a.ordered)) from moved)
+    let from = ap (map (λ (o : Output). o.1)) kept ∙ shows_all all in
+    subst (IsPermutation (map shown all)) (sym a.shown) (subst (λ xs. IsPermutation xs (map (λ (o : Output). o.1) a.ordered)) from moved)
 
 shown_or_none : (db rows : List Row) → IsPermutation (map shown db) rows → (db ≡ []) ⊎ ((format : ℤ) × (node : List ℕ) × (db ≡ owned format node ∷ []))
     → ((db ≡ []) × (rows ≡ [])) ⊎ ((format : ℤ) × (node : List ℕ) × (db ≡ owned format node ∷ []) × (rows ≡ (Int format ∷ Words node ∷ []) ∷ []))
@@ -56,31 +61,36 @@ first_is rows row format name first is = let e = sym first ∙ ap (λ xs. slice_
 only_row : (rows : List Row) (row : Row) (format : ℤ) (name : List ℕ) → rows ≡ row ∷ [] → rows ≡ owned format name ∷ [] → row ≡ owned format name
 only_row rows row format name a b = let e = sym a ∙ b in cc
 
-told : (node : List ℕ) (db : Database) (rows : List Row) (owner : Owner) → db.schema ≡ store_schema → IsOwnerIn node rows owner
-    → ((db.trees 0 ≡ []) × (rows ≡ [])) ⊎ ((format : ℤ) × (name : List ℕ) × (db.trees 0 ≡ owned format name ∷ []) × (rows ≡ (Int format ∷ Words name ∷ []) ∷ []))
+told : (node : List ℕ) (order : TableOrder) (db : Database) (rows : List Row) (owner : Owner) → db.schema ≡ store_schema order → IsOwnerIn node rows owner
+    → ((db.trees (about_tree order) ≡ []) × (rows ≡ [])) ⊎ ((format : ℤ) × (name : List ℕ) × (db.trees (about_tree order) ≡ owned format name ∷ []) × (rows ≡ (Int format ∷ Words name ∷ []) ∷ []))
     → IsOwner node db owner
-told node db rows Nobody has is (inl none) = none.0
-told node db rows Nobody has is (inr it) = absurd (let never : (Int it.0 ∷ Words it.1 ∷ []) ∷ [] ≡ [] = sym it.3 ∙ is in cc)
-told node db rows OtherFormat has is (inl none) = absurd (let never = sym is.1 ∙ ap (λ xs. slice_get xs 0) none.1 in cc)
-told node db rows OtherFormat has is (inr it) =
+told node order db rows Nobody has is (inl none) = (order, has, none.0)
+told node order db rows Nobody has is (inr it) = absurd (let never : (Int it.0 ∷ Words it.1 ∷ []) ∷ [] ≡ [] = sym it.3 ∙ is in cc)
+told node order db rows OtherFormat has is (inl none) = absurd (let never = sym is.1 ∙ ap (λ xs. slice_get xs 0) none.1 in cc)
+told node order db rows OtherFormat has is (inr it) =
     let same = first_is rows is.0 it.0 it.1 is.1 it.3 in
-    (has, owned it.0 it.1, it.2, λ e. is.2 (ap (λ (row : Row). column row 0) same ∙ e))
-told node db rows OtherNode has is (inl none) = absurd (let never = sym is.1 ∙ ap (λ xs. slice_get xs 0) none.1 in cc)
-told node db rows OtherNode has is (inr it) =
+    (order, has, owned it.0 it.1, it.2, λ e. is.2 (ap (λ (row : Row). column row 0) same ∙ e))
+told node order db rows OtherNode has is (inl none) = absurd (let never = sym is.1 ∙ ap (λ xs. slice_get xs 0) none.1 in cc)
+told node order db rows OtherNode has is (inr it) =
     let same = first_is rows is.0 it.0 it.1 is.1 it.3 in
     let format : Int it.0 ≡ Int (pos 1) = sym (ap (λ (row : Row). column row 0) same) ∙ is.2 in (
-      λ other. other.3 (ap (λ (row : Row). column row 2) (only_row (db.trees 0) other.1 it.0 it.1 other.2 it.2) ∙ format),
-      (has, owned it.0 it.1, it.2, λ e. is.3 (ap (λ (row : Row). column row 1) same ∙ e)),
+      λ other.
+          let theirs : db.trees (about_tree order) ≡ other.2 ∷ [] = subst (λ (o : TableOrder). db.trees (about_tree o) ≡ other.2 ∷ []) (same_order db.schema other.0 order other.1 has) other.3 in
+          other.4 (ap (λ (row : Row). column row 2) (only_row (db.trees (about_tree order)) other.2 it.0 it.1 theirs it.2) ∙ format),
+      (order, has, owned it.0 it.1, it.2, λ e. is.3 (ap (λ (row : Row). column row 1) same ∙ e)),
     )
-told node db rows ThisNode has is (inl none) = absurd (let never = sym is.1 ∙ ap (λ xs. slice_get xs 0) none.1 in cc)
-told node db rows ThisNode has is (inr it) =
+told node order db rows ThisNode has is (inl none) = absurd (let never = sym is.1 ∙ ap (λ xs. slice_get xs 0) none.1 in cc)
+told node order db rows ThisNode has is (inr it) =
     let same = first_is rows is.0 it.0 it.1 is.1 it.3 in
     let format : Int it.0 ≡ Int (pos 1) = sym (ap (λ (row : Row). column row 0) same) ∙ is.2 in
     let name : Words it.1 ≡ Words node = sym (ap (λ (row : Row). column row 1) same) ∙ is.3 in
-    it.2 ∙ (rw (format, name) refl)
+    (order, has, it.2 ∙ (rw (format, name) refl))
 
-pub owner_told : (node : List ℕ) (names : List (List ℕ)) (db : Database) (rows : List Row) (owner : Owner) → HasRows db → Reads (shows owner_query names) db [] rows → IsOwnerIn node rows owner → IsOwner node db owner
-owner_told node names db rows owner has reads is = told node db rows owner has.0 is (shown_or_none (db.trees 0) rows (permutes names db rows reads) has.1.owner)
+pub owner_told : (node : List ℕ) (names : List (List ℕ)) (db : Database) (rows : List Row) (owner : Owner) (has : HasRows db) → Reads (shows (owner_query (about_tree has.0)) names) db [] rows
+    → IsOwnerIn node rows owner → IsOwner node db owner
+owner_told node names db rows owner has reads is =
+    let tree = about_tree has.0 in
+    told node has.0 db rows owner has.1 is (shown_or_none (db.trees tree) rows (permutes names tree db rows (own_row db.trees has.0) reads) has.2.owner)
 
 below : (x y : ℤ) → value_cmp (Int x) (Int y) ≡ Less → x <ℤ y
 below x y e = subst (λ o. MatchOrdering o (x <ℤ y) (x ≡ y) (y <ℤ x)) (sym (value_cmp-Int x y) ∙ e) (int_ranks x y)
@@ -121,19 +131,19 @@ row_with (row ∷ rows) (suc k) z are low is =
     let it = row_with rows k z are.1 (omega (arith, low)) is in
     (suc it.0, it.1, omega (arith, it.2), it.3, it.4)
 
-pub negative : (db : Database) (place : ℤ) → HasRows db → IsLeastOrGreatest false (db.trees 1) (Some place) → place <ℤ pos 0 → HasNegativePlace db
+pub negative : (db : Database) (place : ℤ) (has : HasRows db) → IsLeastOrGreatest false (db.trees (entries_tree has.0)) (Some place) → place <ℤ pos 0 → HasNegativePlace db
 negative db (pos n) has end low = absurd (omega (arith, ints, low))
 negative db (negsuc n) has end low =
-    let it = row_with (db.trees 1) end.0.0 (negsuc n) has.1.entries end.0.1 end.0.2 in
-    (has.0, (it.0, it.1, it.2, it.3, (n, it.4)))
+    let it = row_with (db.trees (entries_tree has.0)) end.0.0 (negsuc n) has.2.entries end.0.1 end.0.2 in
+    (has.0, has.1, (it.0, it.1, it.2, it.3, (n, it.4)))
 
 none_low : (rows : List ℤ) (place : ℤ) → (place <ℤ pos 0 → ⊥) → AllByRecursion (λ n. n <ℤ place → ⊥) rows → AllByRecursion (λ n. n <ℤ pos 0 → ⊥) rows
 none_low [] place high all = tt
 none_low (n ∷ rows) place high all = (λ low. grind (arith, ints, high, all.0, low), none_low rows place high all.1)
 
-pub not_low : (db : Database) (least : Option ℤ) → (IsNegative least → ⊥) → IsLeastOrGreatest false (db.trees 1) least → AllByRecursion (λ n. n <ℤ pos 0 → ⊥) (places_in (db.trees 1))
-not_low db None high end = subst (λ rows. AllByRecursion (λ n. n <ℤ pos 0 → ⊥) (places_in rows)) (sym end) tt
-not_low db (Some place) high end = none_low (places_in (db.trees 1)) place high (recursion_from_All (λ n. n <ℤ place → ⊥) (places_in (db.trees 1)) end.1)
+pub not_low : (rows : List Row) (least : Option ℤ) → (IsNegative least → ⊥) → IsLeastOrGreatest false rows least → AllByRecursion (λ n. n <ℤ pos 0 → ⊥) (places_in rows)
+not_low rows None high end = subst (λ all. AllByRecursion (λ n. n <ℤ pos 0 → ⊥) (places_in all)) (sym end) tt
+not_low rows (Some place) high end = none_low (places_in rows) place high (recursion_from_All (λ n. n <ℤ place → ⊥) (places_in rows) end.1)
 
 id_of : (rows : List Row) (k : ℕ) (x : Row) → AllByRecursion (λ n. n <ℤ pos 0 → ⊥) (places_in rows) → k < length rows → slice_index_or rows k x ≡ x → id_in (column x 0) <ℤ pos 0 → ⊥
 id_of [] k x all low is = absurd (omega (arith, low))
@@ -141,10 +151,15 @@ id_of (row ∷ rows) zero x all low is = subst (λ (r : Row). id_in (column r 0)
 id_of (row ∷ rows) (suc k) x all low is = id_of rows k x all.1 (omega (arith, low)) is
 
 -- with an owner, and no place below 0, it is a store
-pub some_store : (db : Database) (row : Row) (least : Option ℤ) → db.schema ≡ store_schema → db.trees 0 ≡ row ∷ [] → (IsNegative least → ⊥) → IsLeastOrGreatest false (db.trees 1) least → IsNoStore db → ⊥
-some_store db row least has owner high end (inl others) = others.1 has
-some_store db row least has owner high end (inr (inl nobody)) = let never : [] ≡ row ∷ [] = sym nobody.1 ∙ owner in cc
-some_store db row least has owner high end (inr (inr low)) =
-    let all = not_low db least high end in
-    let it = low.1 in
-    id_of (db.trees 1) it.0 it.1 all it.2 it.3 (subst (λ v. id_in v <ℤ pos 0) (sym it.4.1) (omega (arith, ints)))
+pub some_store : (order : TableOrder) (db : Database) (row : Row) (least : Option ℤ) → db.schema ≡ store_schema order → db.trees (about_tree order) ≡ row ∷ [] → (IsNegative least → ⊥)
+    → IsLeastOrGreatest false (db.trees (entries_tree order)) least → IsNoStore db → ⊥
+some_store order db row least has owner high end (inl others) = others.1 (order, has)
+some_store order db row least has owner high end (inr (inl nobody)) =
+    let none : db.trees (about_tree order) ≡ [] = subst (λ (o : TableOrder). db.trees (about_tree o) ≡ []) (same_order db.schema nobody.0 order nobody.1 has) nobody.2 in
+    let never : [] ≡ row ∷ [] = sym none ∙ owner in
+    cc (never)
+some_store order db row least has owner high end (inr (inr low)) =
+    let rows = db.trees (entries_tree order) in
+    let all = not_low rows least high end in
+    let it = subst (λ (o : TableOrder). Any (λ (r : Row). (n : ℕ) × (column r 0 ≡ Int (negsuc n))) (db.trees (entries_tree o))) (same_order db.schema low.0 order low.1 has) low.2 in
+    id_of rows it.0 it.1 all it.2 it.3 (subst (λ v. id_in v <ℤ pos 0) (sym it.4.1) (omega (arith, ints)))

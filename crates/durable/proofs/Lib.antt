@@ -2,6 +2,7 @@ pub mod Texts
 pub mod OpeningTexts
 pub mod Checks
 pub mod Found
+pub mod Orders
 pub mod Places
 pub mod Inserting
 pub mod Ends

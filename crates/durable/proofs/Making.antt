@@ -15,11 +15,12 @@ use Rattle.sqlite.specs.Does.{Tally, Does, lacks_sequence}
 use Rattle.sqlite.specs.Rows.{Written}
 use Rattle.sqlite.specs.Effect.{Database}
 use Rattle.sqlite.proofs.Callers.{one_step}
-use Rattle.durable.specs.Tables.{about_table, entries_table, store_schema, no_schema, about}
+use Rattle.durable.specs.Tables.{TableOrder, AboutFirst, EntriesFirst, about_tree, entries_tree, about_table, entries_table, store_schema, no_schema, about}
 use Rattle.durable.specs.Opening.{about_schema, IsBare, HasAbout, IsEmpty, HasFresh}
 use Rattle.durable.proofs.Texts.{about_text, entries_text, about_is, entries_is}
 use Rattle.durable.proofs.OpeningTexts.{own_terms}
-use Rattle.durable.proofs.Inserting.{enforced, went, same_value, store-of, cast_null, cast_int}
+use Rattle.durable.proofs.Inserting.{enforced, went, same_value, cast_null, cast_int}
+use Rattle.durable.proofs.Orders.{store-of}
 
 -- CREATE TABLE appends the table that its text defines, and keeps the rows of the others
 made : (limit : Option ℕ) (text : List ℕ) (schema : Schema) (table : Table) (db after : Database) (tally : Tally) → db.schema ≡ schema → table_defined_by text ≡ Ok table
@@ -42,28 +43,57 @@ made limit text schema table db after tally has is plain does =
     ) in out
 
 pub about_made : (limit : Option ℕ) (db after : Database) (tally : Tally) → IsBare db → Does limit enforced [] db about_text None CreateTable (Ok (tally, after)) → HasAbout after
-about_made limit db after tally bare does = let it = made limit about_text no_schema about_table db after tally bare about_is refl does in (it.0, it.1)
+about_made limit db after tally bare does = let it = made limit about_text no_schema (about_table 0) db after tally bare about_is refl does in (it.0, it.1)
 
 pub entries_made : (limit : Option ℕ) (db after : Database) (tally : Tally) → HasAbout db → Does limit enforced [] db entries_text None CreateTable (Ok (tally, after)) → IsEmpty after
 entries_made limit db after tally has does =
-    let it = made limit entries_text about_schema (record entries_table { tree = 0 }) db after tally has.0 entries_is refl does in
-    (it.0, it.2.0 ∙ has.1, it.1)
+    let it = made limit entries_text about_schema (entries_table 0) db after tally has.0 entries_is refl does in
+    (AboutFirst, it.0, it.2.0 ∙ has.1, it.1)
 
--- the owner's row makes it a store
-pub owner_made : (limit : Option ℕ) (text node : List ℕ) (db after : Database) (tally : Tally) → IsEmpty db
-    → Does limit enforced (Text node ∷ []) db text None (Insert 0 (Values own_terms 4)) (Ok (tally, after)) → HasFresh node after
-owner_made limit text node db after tally has does =
+-- the owner's row alone is put, and the other tree is as it was
+row_made : (order : TableOrder) (limit : Option ℕ) (text node : List ℕ) (db after : Database) (tally : Tally) → db.schema ≡ store_schema order → db.trees (about_tree order) ≡ []
+    → Does limit enforced (Text node ∷ []) db text None (Insert (about_tree order) (Values own_terms 4)) (Ok (tally, after))
+    → (after.schema ≡ store_schema order) × (after.trees (about_tree order) ≡ about 1 node ∷ []) × (after.trees (entries_tree order) ≡ db.trees (entries_tree order))
+row_made AboutFirst limit text node db after tally has none does =
     let params : Row = Text node ∷ [] in
-    let done = went (subst (λ s. Does limit enforced params (record db { schema = s }) text None (Insert 0 (Values own_terms 4)) (Ok (tally, after))) has.0 does) in
+    let done = went (subst (λ s. Does limit enforced params (record db { schema = s }) text None (Insert 0 (Values own_terms 4)) (Ok (tally, after))) has does) in
     let now = ap (λ (p : Tally × Database). p.1) (same_value (went (went done.2).2).2) in
     let sources = went done.1 in
     let written = went (went sources.2).2 in
     let counted = went written.2 in
     let trees : done.0.trees ≡ written.0 = ap (λ (it : Written). it.trees) (same_value counted.2) ∙ same_value counted.1 in
-    let applied = one_step store_schema _ db.trees written.0 (edit_of db.trees about_table [] Chosen 0 sources.0) refl written.1 in
-    let edit : edited db.trees (edit_of db.trees about_table [] Chosen 0 sources.0) ≡ about 1 node ∷ [] =
-    ap (λ all. edited db.trees (edit_of db.trees about_table [] Chosen 0 all)) sources.1.1 ∙ rw (cast_null, cast_int 1, has.1) refl in
-    let owner = ap (λ (d : Database). d.trees 0) now ∙ ap (λ (t : Trees). t 0) trees ∙ applied.rows ∙ edit in
-    let rows = ap (λ (d : Database). d.trees 1) now ∙ ap (λ (t : Trees). t 1) trees ∙ applied.others 1 (λ e. omega (arith, e)) tt ∙ has.2 in
-    let it = store-of node [] after.trees owner rows tt in
-    (ap (λ (d : Database). d.schema) now, record { store = it.0; node = it.1; slots = it.2 })
+    let applied = one_step (store_schema AboutFirst) _ db.trees written.0 (edit_of db.trees (about_table 0) [] Chosen 0 sources.0) refl written.1 in
+    let edit : edited db.trees (edit_of db.trees (about_table 0) [] Chosen 0 sources.0) ≡ about 1 node ∷ [] =
+    ap (λ all. edited db.trees (edit_of db.trees (about_table 0) [] Chosen 0 all)) sources.1.1 ∙ rw (cast_null, cast_int 1, none) refl in (
+      ap (λ (d : Database). d.schema) now,
+      ap (λ (d : Database). d.trees 0) now ∙ ap (λ (t : Trees). t 0) trees ∙ applied.rows ∙ edit,
+      ap (λ (d : Database). d.trees 1) now ∙ ap (λ (t : Trees). t 1) trees ∙ applied.others 1 (λ e. omega (arith, e)) tt,
+    )
+row_made EntriesFirst limit text node db after tally has none does =
+    let params : Row = Text node ∷ [] in
+    let done = went (subst (λ s. Does limit enforced params (record db { schema = s }) text None (Insert 1 (Values own_terms 4)) (Ok (tally, after))) has does) in
+    let now = ap (λ (p : Tally × Database). p.1) (same_value (went (went done.2).2).2) in
+    let sources = went done.1 in
+    let written = went (went sources.2).2 in
+    let counted = went written.2 in
+    let trees : done.0.trees ≡ written.0 = ap (λ (it : Written). it.trees) (same_value counted.2) ∙ same_value counted.1 in
+    let applied = one_step (store_schema EntriesFirst) _ db.trees written.0 (edit_of db.trees (about_table 1) [] Chosen 0 sources.0) refl written.1 in
+    let edit : edited db.trees (edit_of db.trees (about_table 1) [] Chosen 0 sources.0) ≡ about 1 node ∷ [] =
+    ap (λ all. edited db.trees (edit_of db.trees (about_table 1) [] Chosen 0 all)) sources.1.1 ∙ rw (cast_null, cast_int 1, none) refl in (
+      ap (λ (d : Database). d.schema) now,
+      ap (λ (d : Database). d.trees 1) now ∙ ap (λ (t : Trees). t 1) trees ∙ applied.rows ∙ edit,
+      ap (λ (d : Database). d.trees 0) now ∙ ap (λ (t : Trees). t 0) trees ∙ applied.others 0 (λ e. omega (arith, e)) tt,
+    )
+
+both_empty : (order : TableOrder) (db : Trees) → db 0 ≡ [] → db 1 ≡ [] → (db (about_tree order) ≡ []) × (db (entries_tree order) ≡ [])
+both_empty AboutFirst db zero one = (zero, one)
+both_empty EntriesFirst db zero one = (one, zero)
+
+-- the owner's row makes it a store
+pub owner_made : (limit : Option ℕ) (text node : List ℕ) (db after : Database) (tally : Tally) (has : IsEmpty db)
+    → Does limit enforced (Text node ∷ []) db text None (Insert (about_tree has.0) (Values own_terms 4)) (Ok (tally, after)) → HasFresh node after
+owner_made limit text node db after tally has does =
+    let none = both_empty has.0 db.trees has.2 has.3 in
+    let rows = row_made has.0 limit text node db after tally has.1 none.0 does in
+    let it = store-of has.0 node [] after.trees rows.1 (rows.2 ∙ none.1) tt in
+    (rows.0 ∙ ap store_schema (sym it.order_is), record { store = it.store; node = it.node; slots = it.slots })

@@ -10,8 +10,8 @@ use Rattle.sqlite.specs.Effect.{Database, Reads}
 use Rattle.sqlite.specs.Listing.{understood}
 use Rattle.sqlite.specs.State.{State, HasCleanDisk, Survives, Executes, ExecutesInside, IsUnchanged, Shown, CommitsShowing}
 use Rattle.sqlite.proofs.Callers.{IsPlain, runs_as, reads_as, statement_of, never_commits}
-use Rattle.durable.specs.Tables.{store_schema, no_schema}
-use Rattle.durable.specs.Opening.{about_schema, IsOpened, IsWithin, IsBare, HasAbout, IsEmpty, HasFresh, HasRows, IsOwner, IsLeastOrGreatest}
+use Rattle.durable.specs.Tables.{TableOrder, about_tree, entries_tree, store_schema, no_schema, IsStoreSchema}
+use Rattle.durable.specs.Opening.{about_schema, IsOpened, IsWithin, IsBare, HasAbout, IsEmpty, HasFresh, HasRows, IsOwner, HasLeastOrGreatest}
 use Rattle.durable.specs.OwnerRow.{IsOwnerIn, IsPlaceIn}
 use Rattle.durable.specs.declared.owner_row.Owner.{Owner}
 use Rattle.durable.proofs.Texts.{about_text, entries_text}
@@ -20,6 +20,7 @@ use Rattle.durable.proofs.Steps.{shown_unchanged}
 use Rattle.durable.proofs.Judging.{owner_told}
 use Rattle.durable.proofs.Ends.{by_place, ended}
 use Rattle.durable.proofs.Inserting.{enforced}
+use Rattle.durable.proofs.Orders.{own_rows}
 use Rattle.durable.proofs.Making.{about_made, entries_made, owner_made}
 
 pub about_ok : (old new : State) (count : ℕ) → IsWithin old IsBare → ExecutesInside 0 about_text [] old new (Ok count) → IsWithin new HasAbout
@@ -37,20 +38,25 @@ entries_ok old new count was h =
 pub owner_ok : (old new : State) (node : List ℕ) (params : Row) (count : ℕ) → params ≡ Text node ∷ [] → IsWithin old IsEmpty → ExecutesInside 0 own_text params old new (Ok count) → IsWithin new (HasFresh node)
 owner_ok old new node params count is was h =
     let ran : Executes own_text (Text node ∷ []) old new (Ok count) = subst (λ p. Executes own_text p old new (Ok count)) is h.0 in
-    let w = runs_as own_text (Text node ∷ []) old new store_schema was.holds.0 (Insert 0 (Values own_terms 4)) own_is own_plain count ran in
-    record { is_open = h.1.is_open; inside = h.1.mode; holds = owner_made old.step_limit (statement_of own_text (understood store_schema own_text)) node old.now new.now w.tally was.holds w.changed }
+    let order = was.holds.0 in
+    let w = runs_as own_text (Text node ∷ []) old new (store_schema order) was.holds.1 (Insert (about_tree order) (Values own_terms 4)) (own_is order) (own_plain order) count ran in
+    record { is_open = h.1.is_open; inside = h.1.mode; holds = owner_made old.step_limit (statement_of own_text (understood (store_schema order) own_text)) node old.now new.now w.tally was.holds w.changed }
 
-now_schema : (old : State) → IsOpened old → old.committed.schema ≡ store_schema → old.now.schema ≡ store_schema
-now_schema old opened has = ap (λ (d : Database). d.schema) opened.settled ∙ has
+now_schema : (old : State) (order : TableOrder) → IsOpened old → old.committed.schema ≡ store_schema order → old.now.schema ≡ store_schema order
+now_schema old order opened has = ap (λ (d : Database). d.schema) opened.settled ∙ has
 
-here : (sql : List ℕ) (old : State) → IsOpened old → old.committed.schema ≡ store_schema → IsPlain (understood store_schema sql) → IsPlain (understood old.now.schema sql)
-here sql old opened has plain = subst (λ s. IsPlain (understood s sql)) (sym (now_schema old opened has)) plain
+-- what is plain under the schema of either order
+abbrev pub IsPlainText : List ℕ → Type 0
+IsPlainText sql = (order : TableOrder) → IsPlain (understood (store_schema order) sql)
 
-pub asked_same : (sql : List ℕ) (old new : State) (rows : List Row) → IsOpened old → old.committed.schema ≡ store_schema → IsPlain (understood store_schema sql) → Shown sql [] old new rows → IsUnchanged old new
+here : (sql : List ℕ) (old : State) → IsOpened old → IsStoreSchema old.committed.schema → IsPlainText sql → IsPlain (understood old.now.schema sql)
+here sql old opened has plain = subst (λ s. IsPlain (understood s sql)) (sym (now_schema old has.0 opened has.1)) (plain has.0)
+
+pub asked_same : (sql : List ℕ) (old new : State) (rows : List Row) → IsOpened old → IsStoreSchema old.committed.schema → IsPlainText sql → Shown sql [] old new rows → IsUnchanged old new
 asked_same sql old new rows opened has plain shown = shown_unchanged sql [] old new rows (here sql old opened has plain) shown
 
 -- a crash within a query leaves what was committed
-pub asked_crash : (sql : List ℕ) (old new : State) → IsOpened old → old.committed.schema ≡ store_schema → IsPlain (understood store_schema sql)
+pub asked_crash : (sql : List ℕ) (old new : State) → IsOpened old → IsStoreSchema old.committed.schema → IsPlainText sql
     → ((db : Trees) → old.may_leave db → db ≡ old.committed.trees) → Survives old new (CommitsShowing sql [] old) → HasCleanDisk new → (db : Trees) → new.may_leave db → db ≡ old.committed.trees
 asked_crash sql old new opened has plain only survives clean db left = elim (survives.crash clean db left) [
   | inl was ↦ only db was
@@ -60,18 +66,28 @@ asked_crash sql old new opened has plain only survives clean db left = elim (sur
 pub owner_found : (node : List ℕ) (old new : State) (rows : List Row) (owner : Owner) → IsOpened old → HasRows old.committed → Shown owner_text [] old new rows → IsOwnerIn node rows owner
     → IsOwner node old.committed owner
 owner_found node old new rows owner opened has shown is =
+    let order = has.0 in
+    let query = owner_query (about_tree order) in
     let names = codes "format" ∷ codes "node" ∷ [] in
-    let reads = reads_as owner_text [] old new store_schema (now_schema old opened has.0) (shows owner_query names) owner_is.0 owner_plain owner_is.1 rows shown in
-    owner_told node names old.committed rows owner has (subst (λ db. Reads (shows owner_query names) db [] rows) opened.settled reads) is
+    let reads = reads_as owner_text [] old new (store_schema order) (now_schema old order opened has.1) (shows query names) (owner_is order).0 (owner_plain order) (owner_is order).1 rows shown in
+    owner_told node names old.committed rows owner has (subst (λ db. Reads (shows query names) db [] rows) opened.settled reads) is
 
-pub least_found : (old new : State) (rows : List Row) (found : Option ℤ) → IsOpened old → HasRows old.committed → Shown least_text [] old new rows → IsPlaceIn rows found → IsLeastOrGreatest false (old.committed.trees 1) found
+pub least_found : (old new : State) (rows : List Row) (found : Option ℤ) → IsOpened old → HasRows old.committed → Shown least_text [] old new rows → IsPlaceIn rows found → HasLeastOrGreatest false old.committed found
 least_found old new rows found opened has shown is =
+    let order = has.0 in
+    let tree = entries_tree order in
+    let query = first_row tree false in
     let names = codes "place" ∷ [] in
-    let reads = reads_as least_text [] old new store_schema (now_schema old opened has.0) (shows (first_row 1 false) names) least_is.0 least_plain least_is.1 rows shown in
-    ended false (old.committed.trees 1) rows found has.1.entries (by_place false names old.committed rows (subst (λ db. Reads (shows (first_row 1 false) names) db [] rows) opened.settled reads)) is
+    let reads = reads_as least_text [] old new (store_schema order) (now_schema old order opened has.1) (shows query names) (least_is order).0 (least_plain order) (least_is order).1 rows shown in
+    let placed = by_place false tree names old.committed rows (own_rows old.committed.trees order) (subst (λ db. Reads (shows query names) db [] rows) opened.settled reads) in
+    (order, has.1, ended false (old.committed.trees tree) rows found has.2.entries placed is)
 
-pub greatest_found : (old new : State) (rows : List Row) (found : Option ℤ) → IsOpened old → HasRows old.committed → Shown greatest_text [] old new rows → IsPlaceIn rows found → IsLeastOrGreatest true (old.committed.trees 1) found
+pub greatest_found : (old new : State) (rows : List Row) (found : Option ℤ) → IsOpened old → HasRows old.committed → Shown greatest_text [] old new rows → IsPlaceIn rows found → HasLeastOrGreatest true old.committed found
 greatest_found old new rows found opened has shown is =
+    let order = has.0 in
+    let tree = entries_tree order in
+    let query = first_row tree true in
     let names = codes "place" ∷ [] in
-    let reads = reads_as greatest_text [] old new store_schema (now_schema old opened has.0) (shows (first_row 1 true) names) greatest_is.0 greatest_plain greatest_is.1 rows shown in
-    ended true (old.committed.trees 1) rows found has.1.entries (by_place true names old.committed rows (subst (λ db. Reads (shows (first_row 1 true) names) db [] rows) opened.settled reads)) is
+    let reads = reads_as greatest_text [] old new (store_schema order) (now_schema old order opened has.1) (shows query names) (greatest_is order).0 (greatest_plain order) (greatest_is order).1 rows shown in
+    let placed = by_place true tree names old.committed rows (own_rows old.committed.trees order) (subst (λ db. Reads (shows query names) db [] rows) opened.settled reads) in
+    (order, has.1, ended true (old.committed.trees tree) rows found has.2.entries placed is)

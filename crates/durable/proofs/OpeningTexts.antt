@@ -11,7 +11,7 @@ use Rattle.sqlite.specs.Command.TheVariants.{Insert, CreateTable, Select}
 use Rattle.sqlite.specs.Listing.{understood, reads_listing}
 use Rattle.sqlite_tied.specs.Compute.{everything}
 use Rattle.sqlite.proofs.Callers.{IsPlain, command_of, statement_of}
-use Rattle.durable.specs.Tables.{store_schema, no_schema}
+use Rattle.durable.specs.Tables.{TableOrder, AboutFirst, EntriesFirst, about_tree, entries_tree, store_schema, no_schema}
 use Rattle.durable.specs.Opening.{about_schema}
 use Rattle.durable.proofs.Texts.{about_text, entries_text}
 
@@ -37,13 +37,15 @@ own_text = codes "INSERT INTO about (id, format, node) VALUES (1, 1, ?1)"
 abbrev pub own_terms : List Term
 own_terms = lit (Int (pos 1)) ∷ lit Null ∷ lit (Int (pos 1)) ∷ col 0 0 ∷ []
 
-pub own_is : command_of (understood store_schema own_text) ≡ Insert 0 (Values own_terms 4)
+pub own_is : (order : TableOrder) → command_of (understood (store_schema order) own_text) ≡ Insert (about_tree order) (Values own_terms 4)
 unfolding understood everything
-own_is = refl
+own_is AboutFirst = refl
+own_is EntriesFirst = refl
 
-pub own_plain : IsPlain (understood store_schema own_text)
+pub own_plain : (order : TableOrder) → IsPlain (understood (store_schema order) own_text)
 unfolding understood everything
-own_plain = (refl, refl)
+own_plain AboutFirst = (refl, refl)
+own_plain EntriesFirst = (refl, refl)
 
 -- the whole of a table
 abbrev pub whole : ℕ → List Term → Query
@@ -59,8 +61,8 @@ whole table shown = record {
   offset = lit (Int (pos 0));
 }
 
-abbrev pub owner_query : Query
-owner_query = whole 0 (col 1 2 ∷ col 1 3 ∷ [])
+abbrev pub owner_query : ℕ → Query
+owner_query table = whole table (col 1 2 ∷ col 1 3 ∷ [])
 
 -- its first row by the rowid
 abbrev pub first_row : ℕ → Bool → Query
@@ -78,26 +80,32 @@ least_text = codes "SELECT place FROM entries ORDER BY place LIMIT 1"
 abbrev pub greatest_text : List ℕ
 greatest_text = codes "SELECT place FROM entries ORDER BY place DESC LIMIT 1"
 
-pub owner_is : (command_of (understood store_schema owner_text) ≡ shows owner_query (codes "format" ∷ codes "node" ∷ [])) × (reads_listing store_schema owner_text ≡ false)
+pub owner_is : (order : TableOrder) → (command_of (understood (store_schema order) owner_text) ≡ shows (owner_query (about_tree order)) (codes "format" ∷ codes "node" ∷ [])) × (reads_listing (store_schema order) owner_text ≡ false)
 unfolding understood everything
-owner_is = (refl, refl)
+owner_is AboutFirst = (refl, refl)
+owner_is EntriesFirst = (refl, refl)
 
-pub owner_plain : IsPlain (understood store_schema owner_text)
+pub owner_plain : (order : TableOrder) → IsPlain (understood (store_schema order) owner_text)
 unfolding understood everything
-owner_plain = (refl, refl)
+owner_plain AboutFirst = (refl, refl)
+owner_plain EntriesFirst = (refl, refl)
 
-pub least_is : (command_of (understood store_schema least_text) ≡ shows (first_row 1 false) (codes "place" ∷ [])) × (reads_listing store_schema least_text ≡ false)
+pub least_is : (order : TableOrder) → (command_of (understood (store_schema order) least_text) ≡ shows (first_row (entries_tree order) false) (codes "place" ∷ [])) × (reads_listing (store_schema order) least_text ≡ false)
 unfolding understood everything
-least_is = (refl, refl)
+least_is AboutFirst = (refl, refl)
+least_is EntriesFirst = (refl, refl)
 
-pub least_plain : IsPlain (understood store_schema least_text)
+pub least_plain : (order : TableOrder) → IsPlain (understood (store_schema order) least_text)
 unfolding understood everything
-least_plain = (refl, refl)
+least_plain AboutFirst = (refl, refl)
+least_plain EntriesFirst = (refl, refl)
 
-pub greatest_is : (command_of (understood store_schema greatest_text) ≡ shows (first_row 1 true) (codes "place" ∷ [])) × (reads_listing store_schema greatest_text ≡ false)
+pub greatest_is : (order : TableOrder) → (command_of (understood (store_schema order) greatest_text) ≡ shows (first_row (entries_tree order) true) (codes "place" ∷ [])) × (reads_listing (store_schema order) greatest_text ≡ false)
 unfolding understood everything
-greatest_is = (refl, refl)
+greatest_is AboutFirst = (refl, refl)
+greatest_is EntriesFirst = (refl, refl)
 
-pub greatest_plain : IsPlain (understood store_schema greatest_text)
+pub greatest_plain : (order : TableOrder) → IsPlain (understood (store_schema order) greatest_text)
 unfolding understood everything
-greatest_plain = (refl, refl)
+greatest_plain AboutFirst = (refl, refl)
+greatest_plain EntriesFirst = (refl, refl)

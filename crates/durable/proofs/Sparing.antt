@@ -10,14 +10,24 @@ use Rattle.sqlite.specs.Schema.{Schema}
 use Rattle.sqlite.specs.Tree.{Trees}
 use Rattle.durable.specs.Backing.{Hold}
 use Rattle.durable.specs.Faults.{is_judgement}
-use Rattle.durable.specs.Opening.{IsNew, IsFresh, IsOpeningFault}
+use Rattle.durable.specs.Opening.{IsNew, IsEmpty, IsFresh, IsOpeningFault}
 use Rattle.durable.specs.Refusals.{IsFileFault, IsUnharmed}
-use Rattle.durable.specs.Tables.{store_schema, no_schema}
+use Rattle.durable.specs.Tables.{TableOrder, AboutFirst, EntriesFirst, about_tree, entries_tree, store_schema, no_schema}
 use Rattle.durable.specs.declared.fault.StoreFault.{StoreFault}
 use Rattle.durable.specs.declared.fault.StoreFault.TheVariants.{Device, Full, Damaged, WrongNode, WrongVersion, Reopen, NoMemory}
 
-two-tables : (schema : Schema) → schema ≡ store_schema → schema ≡ no_schema → ⊥
-two-tables schema two none = let never : 2 ≡ 0 = ap (λ (s : Schema). length s.tables) (sym two ∙ none) in omega (arith, never)
+two-tables : (order : TableOrder) (schema : Schema) → schema ≡ store_schema order → schema ≡ no_schema → ⊥
+two-tables AboutFirst schema two none = let never : 2 ≡ 0 = ap (λ (s : Schema). length s.tables) (sym two ∙ none) in omega (arith, never)
+two-tables EntriesFirst schema two none = let never : 2 ≡ 0 = ap (λ (s : Schema). length s.tables) (sym two ∙ none) in omega (arith, never)
+
+-- in a file with no row, no table has one
+no-owner : (order : TableOrder) (db : Database) → IsEmpty db → db.trees (about_tree order) ≡ []
+no-owner AboutFirst db empty = empty.2
+no-owner EntriesFirst db empty = empty.3
+
+no-record : (order : TableOrder) (db : Database) → IsEmpty db → db.trees (entries_tree order) ≡ []
+no-record AboutFirst db empty = empty.3
+no-record EntriesFirst db empty = empty.2
 
 no-row : (rows : List Row) (row : Row) → rows ≡ row ∷ [] → rows ≡ [] → ⊥
 no-row rows row one none = let never : 1 ≡ 0 = ap length (sym one ∙ none) in omega (arith, never)
@@ -25,15 +35,15 @@ no-row rows row one none = let never : 1 ≡ 0 = ap length (sym one ∙ none) in
 -- a new file is not judged
 not-judged : (name : List ℕ) (db : Database) (fault : StoreFault) → IsOpeningFault name db fault → IsNew db → IsTrue (is_judgement fault) → ⊥
 not-judged name db (Damaged p) (at, inl others) (inl bare) judged = others.0 bare
-not-judged name db (Damaged p) (at, inl others) (inr empty) judged = others.1 empty.0
-not-judged name db (Damaged p) (at, inr (inl nobody)) (inl bare) judged = two-tables db.schema nobody.0 bare
-not-judged name db (Damaged p) (at, inr (inl nobody)) (inr empty) judged = nobody.2 empty.2
-not-judged name db (Damaged p) (at, inr (inr low)) (inl bare) judged = two-tables db.schema low.0 bare
-not-judged name db (Damaged p) (at, inr (inr low)) (inr empty) judged = let n = ap length empty.2 in let in-it = low.1.2 in omega (arith, n, in-it)
-not-judged name db WrongNode why (inl bare) judged = two-tables db.schema why.2.0 bare
-not-judged name db WrongNode why (inr empty) judged = no-row (db.trees 0) why.2.1 why.2.2 empty.1
-not-judged name db WrongVersion why (inl bare) judged = two-tables db.schema why.1.0 bare
-not-judged name db WrongVersion why (inr empty) judged = no-row (db.trees 0) why.1.1 why.1.2 empty.1
+not-judged name db (Damaged p) (at, inl others) (inr empty) judged = others.1 (empty.0, empty.1)
+not-judged name db (Damaged p) (at, inr (inl nobody)) (inl bare) judged = two-tables nobody.0 db.schema nobody.1 bare
+not-judged name db (Damaged p) (at, inr (inl nobody)) (inr empty) judged = nobody.3 (no-record nobody.0 db empty)
+not-judged name db (Damaged p) (at, inr (inr low)) (inl bare) judged = two-tables low.0 db.schema low.1 bare
+not-judged name db (Damaged p) (at, inr (inr low)) (inr empty) judged = let n = ap length (no-record low.0 db empty) in let in-it = low.2.2 in omega (arith, n, in-it)
+not-judged name db WrongNode why (inl bare) judged = two-tables why.2.0 db.schema why.2.1 bare
+not-judged name db WrongNode why (inr empty) judged = no-row (db.trees (about_tree why.2.0)) why.2.2 why.2.3 (no-owner why.2.0 db empty)
+not-judged name db WrongVersion why (inl bare) judged = two-tables why.1.0 db.schema why.1.1 bare
+not-judged name db WrongVersion why (inr empty) judged = no-row (db.trees (about_tree why.1.0)) why.1.2 why.1.3 (no-owner why.1.0 db empty)
 not-judged name db Device why new judged = cc (judged)
 not-judged name db Full why new judged = cc (judged)
 not-judged name db Reopen why new judged = cc (judged)

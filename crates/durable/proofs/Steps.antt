@@ -17,7 +17,7 @@ use Rattle.sqlite.specs.declared.error.Error.{Error}
 use Rattle.sqlite.specs.State.{State, HasCleanDisk, Survives, IsUnchanged, IsRolledBack, ShowsRows, FailsToShow, FailsToQuery, Shown, MayCommit, ExecutesIn, Executes, ExecutesInside, KeepsCommit, CommitsBy, IsNotRun, shows_rows}
 use Rattle.sqlite.proofs.Callers.{command_of, statement_of, runs_as}
 use Rattle.std.proofs.lemmas.List.{map-append}
-use Rattle.durable.specs.Tables.{store_schema}
+use Rattle.durable.specs.Tables.{store_schema, order_in, entries_tree}
 use Rattle.durable.specs.Held.{slots_in, IsReady, IsInside, HasMore, HasAllOrNone, IsStore}
 use Rattle.durable.proofs.Texts.{insert_text, insert_terms, insert_is, insert_plain}
 use Rattle.durable.proofs.Inserting.{given, inserted}
@@ -50,14 +50,11 @@ still_ready old new ready still idle now same = record {
   is_open = still;
   idle = idle;
   settled = now ∙ sym same;
-  schema = ap (λ (d : Database). d.schema) same ∙ ready.schema;
+  schema = subst (λ (d : Database). d.schema ≡ store_schema (order_in d.trees)) (sym same) ready.schema;
   store = subst (λ (d : Database). IsStore d.trees) (sym same) ready.store;
 }
 
-abbrev text : List ℕ
-text = statement_of insert_text (understood store_schema insert_text)
-
-pub now_schema : (old : State) → IsReady old → old.now.schema ≡ store_schema
+pub now_schema : (old : State) → IsReady old → old.now.schema ≡ store_schema (order_in old.committed.trees)
 now_schema old ready = ap (λ (d : Database). d.schema) ready.settled ∙ ready.schema
 
 pub was_clean : (old new : State) (P : Trees → Type 0) → Survives old new P → HasCleanDisk new → HasCleanDisk old
@@ -66,9 +63,10 @@ was_clean old new P survives clean = omega (arith, survives.clean)
 pub put_ok : (old new : State) (params : Row) (body : List ℕ) (count : ℕ) → params ≡ given (length (slots_in old.now.trees)) body → IsInside old → ExecutesInside 0 insert_text params old new (Ok count)
     → IsInside new × HasMore old.now.trees (body ∷ []) new.now.trees
 put_ok old new params body count is ready h =
+    let order = order_in old.now.trees in
     let ran : Executes insert_text (given (length (slots_in old.now.trees)) body) old new (Ok count) = subst (λ p. Executes insert_text p old new (Ok count)) is h.0 in
-    let w = runs_as insert_text (given (length (slots_in old.now.trees)) body) old new store_schema ready.schema (Insert 1 (Values insert_terms 3)) insert_is insert_plain count ran in
-    let made = inserted old.step_limit text body old.now new.now w.tally ready.schema ready.store w.changed in
+    let w = runs_as insert_text (given (length (slots_in old.now.trees)) body) old new (store_schema order) ready.schema (Insert (entries_tree order) (Values insert_terms 3)) (insert_is order) (insert_plain order) count ran in
+    let made = inserted old.step_limit (statement_of insert_text (understood (store_schema order) insert_text)) body old.now new.now w.tally ready.schema ready.store w.changed in
     (record { is_open = h.1.is_open; inside = h.1.mode; schema = made.0; store = made.1.store }, made.1)
 
 unchanged_keeps : (old new : State) → IsUnchanged old new → KeepsCommit old new

@@ -1,4 +1,4 @@
--- What the texts of statements mean under the schema of a store.
+-- What the texts of statements mean under the schema of a store, whichever of its tables was made first.
 use Rattle.std.proofs.Common.{◌≡◌, ℕ, List, [], ◌∷◌, codes, Ok, refl}
 use Rattle.sqlite.specs.declared.types.Value.TheVariants.{Null}
 use Rattle.sqlite.specs.Compile.{table_defined_by}
@@ -9,7 +9,7 @@ use Rattle.sqlite.specs.Listing.{understood}
 use Rattle.sqlite_tied.specs.Compute.{everything}
 use Rattle.sqlite.proofs.Callers.{IsPlain, command_of}
 pub use Rattle.durable.specs.Rooms.{insert_text}
-use Rattle.durable.specs.Tables.{about_table, entries_table, store_schema}
+use Rattle.durable.specs.Tables.{TableOrder, AboutFirst, EntriesFirst, entries_tree, about_table, entries_table, store_schema}
 
 abbrev pub about_text : List ℕ
 about_text = codes "CREATE TABLE IF NOT EXISTS about (id INTEGER PRIMARY KEY CHECK (id = 1), format INTEGER NOT NULL, node TEXT NOT NULL) STRICT"
@@ -20,18 +20,20 @@ entries_text = codes "CREATE TABLE IF NOT EXISTS entries (place INTEGER PRIMARY 
 abbrev pub insert_terms : List Term
 insert_terms = col 0 0 ∷ lit Null ∷ col 0 1 ∷ []
 
-pub about_is : table_defined_by about_text ≡ Ok about_table
+pub about_is : table_defined_by about_text ≡ Ok (about_table 0)
 unfolding understood everything
 about_is = refl
 
-pub entries_is : table_defined_by entries_text ≡ Ok (record entries_table { tree = 0 })
+pub entries_is : table_defined_by entries_text ≡ Ok (entries_table 0)
 unfolding understood everything
 entries_is = refl
 
-pub insert_is : command_of (understood store_schema insert_text) ≡ Insert 1 (Values insert_terms 3)
+pub insert_is : (order : TableOrder) → command_of (understood (store_schema order) insert_text) ≡ Insert (entries_tree order) (Values insert_terms 3)
 unfolding understood everything
-insert_is = refl
+insert_is AboutFirst = refl
+insert_is EntriesFirst = refl
 
-pub insert_plain : IsPlain (understood store_schema insert_text)
+pub insert_plain : (order : TableOrder) → IsPlain (understood (store_schema order) insert_text)
 unfolding understood everything
-insert_plain = (refl, refl)
+insert_plain AboutFirst = (refl, refl)
+insert_plain EntriesFirst = (refl, refl)

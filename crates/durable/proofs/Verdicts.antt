@@ -5,37 +5,55 @@ use Rattle.std.proofs.lemmas.Int.{ints}
 use Rattle.std.proofs.lemmas.List.Elements.{recursion_from_All}
 use Rattle.sqlite.specs.Order.{Row, column}
 use Rattle.sqlite.specs.Effect.{Database}
+use Rattle.sqlite.specs.Tree.{Trees}
 use Rattle.sqlite_rules.specs.Edit.{id_in}
 use Rattle.durable.specs.declared.fault.StoreFault.TheVariants.{Damaged, WrongNode, WrongVersion}
 use Rattle.durable.specs.declared.opening.Contents.TheVariants.{NoRow, OwnStore}
 use Rattle.durable.specs.declared.owner_row.Owner.TheVariants.{Nobody, OtherFormat, OtherNode, ThisNode}
+use Rattle.durable.specs.Held.{IsStore}
 use Rattle.durable.specs.Slots.{place_of, slots_from, AreEntries}
-use Rattle.durable.specs.Opening.{HasRows, IsLeastOrGreatest, places_in, IsOwner, IsVerdict, IsNegative}
+use Rattle.durable.specs.Opening.{HasRows, IsLeastOrGreatest, HasLeastOrGreatest, places_in, IsOwner, IsVerdict, IsNegative}
+use Rattle.durable.specs.Tables.{TableOrder, AboutFirst, EntriesFirst, about_tree, entries_tree, store_schema, about, entry_rows}
 use Rattle.durable.proofs.Places.{length-slots}
-use Rattle.durable.proofs.Inserting.{store-of}
+use Rattle.durable.proofs.Orders.{same_order, found_order, store-of}
 use Rattle.durable.proofs.Judging.{negative, not_low, some_store, entries_from}
 
-pub below_zero : (node : List ℕ) (db : Database) (least : Option ℤ) → HasRows db → IsLeastOrGreatest false (db.trees 1) least → IsNegative least → IsVerdict node db (Err (Damaged 0))
+-- the least place, by the order that is known
+least_in : (db : Database) (least : Option ℤ) (order : TableOrder) → db.schema ≡ store_schema order → HasLeastOrGreatest false db least → IsLeastOrGreatest false (db.trees (entries_tree order)) least
+least_in db least order has end = subst (λ (o : TableOrder). IsLeastOrGreatest false (db.trees (entries_tree o)) least) (same_order db.schema end.0 order end.1 has) end.2
+
+pub below_zero : (node : List ℕ) (db : Database) (least : Option ℤ) → HasRows db → HasLeastOrGreatest false db least → IsNegative least → IsVerdict node db (Err (Damaged 0))
 below_zero node db None has end low = absurd low
-below_zero node db (Some place) has end low = (refl, inr (inr (negative db place has end low)))
+below_zero node db (Some place) has end low = (refl, inr (inr (negative db place has (least_in db (Some place) has.0 has.1 end) low)))
 
-pub nobody : (node : List ℕ) (db : Database) (place : ℤ) → HasRows db → IsOwner node db Nobody → IsLeastOrGreatest false (db.trees 1) (Some place) → IsVerdict node db (Err (Damaged 0))
-nobody node db place has owner end = (refl, inr (inl (has.0, owner, λ none. let never = subst (λ rows. end.0.0 < length (places_in rows)) none end.0.1 in omega (arith, never))))
+pub nobody : (node : List ℕ) (db : Database) (place : ℤ) → HasRows db → IsOwner node db Nobody → HasLeastOrGreatest false db (Some place) → IsVerdict node db (Err (Damaged 0))
+nobody node db place has owner end =
+    let least = least_in db (Some place) owner.0 owner.1 end in
+    (refl, inr (inl (owner.0, owner.1, owner.2, λ none. let never = subst (λ rows. least.0.0 < length (places_in rows)) none least.0.1 in omega (arith, never))))
 
-pub no_row : (node : List ℕ) (db : Database) → HasRows db → IsOwner node db Nobody → IsLeastOrGreatest false (db.trees 1) None → IsVerdict node db (Ok NoRow)
-no_row node db has owner end = (has.0, owner, end)
+either_empty : (order : TableOrder) (db : Trees) → db (about_tree order) ≡ [] → db (entries_tree order) ≡ [] → (db 0 ≡ []) × (db 1 ≡ [])
+either_empty AboutFirst db about entries = (about, entries)
+either_empty EntriesFirst db about entries = (entries, about)
 
-pub other_format : (node : List ℕ) (db : Database) (least : Option ℤ) → HasRows db → IsOwner node db OtherFormat → IsLeastOrGreatest false (db.trees 1) least → (IsNegative least → ⊥) → IsVerdict node db (Err WrongVersion)
-other_format node db least has owner end high = (some_store db owner.1 least has.0 owner.2 high end, owner)
+pub no_row : (node : List ℕ) (db : Database) → HasRows db → IsOwner node db Nobody → HasLeastOrGreatest false db None → IsVerdict node db (Ok NoRow)
+no_row node db has owner end = let none = either_empty owner.0 db.trees owner.2 (least_in db None owner.0 owner.1 end) in (owner.0, owner.1, none.0, none.1)
 
-pub other_node : (node : List ℕ) (db : Database) (least : Option ℤ) → HasRows db → IsOwner node db OtherNode → IsLeastOrGreatest false (db.trees 1) least → (IsNegative least → ⊥) → IsVerdict node db (Err WrongNode)
-other_node node db least has owner end high = (some_store db owner.1.1 least has.0 owner.1.2 high end, owner.0, owner.1)
+pub other_format : (node : List ℕ) (db : Database) (least : Option ℤ) → HasRows db → IsOwner node db OtherFormat → HasLeastOrGreatest false db least → (IsNegative least → ⊥) → IsVerdict node db (Err WrongVersion)
+other_format node db least has owner end high = (some_store owner.0 db owner.2 least owner.1 owner.3 high (least_in db least owner.0 owner.1 end), owner)
 
-pub a_store : (node : List ℕ) (db : Database) (least : Option ℤ) → HasRows db → IsOwner node db ThisNode → IsLeastOrGreatest false (db.trees 1) least → (IsNegative least → ⊥) → IsVerdict node db (Ok OwnStore)
+pub other_node : (node : List ℕ) (db : Database) (least : Option ℤ) → HasRows db → IsOwner node db OtherNode → HasLeastOrGreatest false db least → (IsNegative least → ⊥) → IsVerdict node db (Err WrongNode)
+other_node node db least has owner end high =
+    let it = owner.1 in
+    (some_store it.0 db it.2 least it.1 it.3 high (least_in db least it.0 it.1 end), owner.0, it)
+
+pub a_store : (node : List ℕ) (db : Database) (least : Option ℤ) → HasRows db → IsOwner node db ThisNode → HasLeastOrGreatest false db least → (IsNegative least → ⊥) → IsVerdict node db (Ok OwnStore)
 a_store node db least has owner end high =
-    let entries = entries_from 0 (db.trees 1) has.1.entries has.1.rise (not_low db least high end) in
-    let it = store-of node (db.trees 1) db.trees owner refl entries in
-    (it.0, it.1)
+    let order = has.0 in
+    let rows = db.trees (entries_tree order) in
+    let entries = entries_from 0 rows has.2.entries has.2.rise (not_low rows least high (least_in db least order has.1 end)) in
+    let its : db.trees (about_tree order) ≡ about 1 node ∷ [] = subst (λ (o : TableOrder). db.trees (about_tree o) ≡ about 1 node ∷ []) (same_order db.schema owner.0 order owner.1 has.1) owner.2 in
+    let it = store-of order node rows db.trees its refl entries in
+    (has.1 ∙ ap store_schema (sym it.order_is), it.store, it.node)
 
 place_is : (row : Row) (from : ℕ) (rows : List Row) → AreEntries from (row ∷ rows) → id_in (column row 0) ≡ pos (place_of row)
 place_is row from rows are = ap (λ (r : Row). id_in (column r 0)) are.1
@@ -67,3 +85,10 @@ places_counted [] (Some place) are end = absurd (omega (arith, end.0.1))
 places_counted (row ∷ rows) (Some place) are end =
     let it = counted 0 row rows place end.0.0 are end.0.1 end.0.2 (recursion_from_All (λ n. place <ℤ n → ⊥) (places_in (row ∷ rows)) end.1) in
     (it.0, it.1, omega (arith, it.2))
+
+-- the greatest place of a store's own records
+pub end_of_store : (db : Database) (greatest : Option ℤ) → HasRows db → IsStore db.trees → HasLeastOrGreatest true db greatest → IsLeastOrGreatest true (entry_rows db.trees) greatest
+end_of_store db greatest has store end =
+    let order = found_order has.0 db.trees has.2 store in
+    let same = same_order db.schema end.0 has.0 end.1 has.1 ∙ sym order in
+    subst (λ (o : TableOrder). IsLeastOrGreatest true (db.trees (entries_tree o)) greatest) same end.2

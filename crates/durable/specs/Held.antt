@@ -3,35 +3,35 @@ use Rattle.std.specs.Prelude.{◌≡◌, ◌⊎◌, false, [], ◌∷◌, ◌++�
 use Rattle.sqlite.specs.Order.{column, bytes}
 use Rattle.sqlite.specs.Tree.{Trees}
 use Rattle.sqlite.specs.State.{State}
-use Rattle.durable.specs.Tables.{store_schema, about}
+use Rattle.durable.specs.Tables.{store_schema, order_in, about_rows, entry_rows, about}
 use Rattle.durable.specs.Slots.{slots_from, AreEntries}
 
 -- the places of the entries
 abbrev pub slots_in : Trees → List (Option (List ℕ))
-slots_in db = slots_from 0 (db 1)
+slots_in db = slots_from 0 (entry_rows db)
 
 -- the node of the row of about
 abbrev pub node_in : Trees → List ℕ
-node_in db = bytes (column (slice_index_or (db 0) 0 []) 3)
+node_in db = bytes (column (slice_index_or (about_rows db) 0 []) 3)
 
 -- one row of about, of format 1, and entries
 pub record IsStore (db : Trees) : Type 0 where
-  pub owner : db 0 ≡ about 1 (node_in db) ∷ []
-  pub entries : AreEntries 0 (db 1)
+  pub owner : about_rows db ≡ about 1 (node_in db) ∷ []
+  pub entries : AreEntries 0 (entry_rows db)
 
 -- the connection is open, in no transaction, and its last commit is a store
 pub record IsReady (s : State) : Type 0 where
   pub is_open : IsTrue s.is_open
   pub idle : s.in_transaction ≡ false
   pub settled : s.now ≡ s.committed
-  pub schema : s.committed.schema ≡ store_schema
+  pub schema : s.committed.schema ≡ store_schema (order_in s.committed.trees)
   pub store : IsStore s.committed.trees
 
 -- a transaction is open that sees a store
 pub record IsInside (s : State) : Type 0 where
   pub is_open : IsTrue s.is_open
   pub inside : IsTrue s.in_transaction
-  pub schema : s.now.schema ≡ store_schema
+  pub schema : s.now.schema ≡ store_schema (order_in s.now.trees)
   pub store : IsStore s.now.trees
 
 -- the bodies stand after what was there

@@ -5,7 +5,7 @@ use Rattle.sqlite_sql.specs.declared.ops.BinaryOp.{BinaryOp}
 use Rattle.sqlite_schema.specs.declared.code.Op.{Op}
 use Rattle.sqlite_schema.specs.declared.code.Op.TheVariants.{Literal, Column}
 use Rattle.sqlite.specs.Schema.{Schema}
-use Rattle.durable.specs.Tables.{no_schema, store_schema, equality}
+use Rattle.durable.specs.Tables.{no_schema, IsStoreSchema, equality}
 use Rattle.durable.specs.declared.layout.Tables.{Tables}
 use Rattle.durable.specs.declared.layout.Tables.TheVariants as tables
 
@@ -14,8 +14,8 @@ abbrev pub IsFirst : List Op → BinaryOp → ℕ → ℕ → Type 0
 IsFirst ops op left right =
     (op ≡ equality) × (slice_index_or ops left (Literal Null) ≡ Column 1 0) × (slice_index_or ops right (Literal Null) ≡ Literal (Int (pos 1)))
 
--- no table, the two of a store, or others
+-- no table, the two of a store in either order, or others
 abbrev pub AreTables : Schema → Tables → Type 0
 AreTables schema tables.None = schema ≡ no_schema
-AreTables schema tables.Store = schema ≡ store_schema
-AreTables schema tables.Foreign = (schema ≡ no_schema → ⊥) × (schema ≡ store_schema → ⊥)
+AreTables schema tables.Store = IsStoreSchema schema
+AreTables schema tables.Foreign = (schema ≡ no_schema → ⊥) × (IsStoreSchema schema → ⊥)

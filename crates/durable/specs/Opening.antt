@@ -15,7 +15,7 @@ use Rattle.durable.specs.declared.owner_row.Owner.{Owner}
 use Rattle.durable.specs.declared.owner_row.Owner.TheVariants.{Nobody, OtherFormat, OtherNode, ThisNode}
 use Rattle.durable.specs.declared.opening.Contents.{Contents}
 use Rattle.durable.specs.declared.opening.Contents.TheVariants.{NoRow, OwnStore}
-use Rattle.durable.specs.Tables.{about, about_table, store_schema, no_schema}
+use Rattle.durable.specs.Tables.{TableOrder, about_tree, entries_tree, about, about_table, store_schema, no_schema, IsStoreSchema, order_in}
 use Rattle.durable.specs.Held.{slots_in, node_in, IsStore, IsReady}
 
 -- open, in no transaction, and nothing is uncommitted
@@ -30,9 +30,9 @@ pub record IsWithin (s : State) (Holds : Database → Type 0) : Type 0 where
   pub inside : IsTrue s.in_transaction
   pub holds : Holds s.now
 
--- only the first table is made
+-- only the table of the owner is made
 abbrev pub about_schema : Schema
-about_schema = record { tables = about_table ∷ []; indexes = []; views = [] }
+about_schema = record { tables = about_table 0 ∷ []; indexes = []; views = [] }
 
 -- no table
 abbrev pub IsBare : Database → Type 0
@@ -44,7 +44,7 @@ HasAbout db = (db.schema ≡ about_schema) × (db.trees 0 ≡ [])
 
 -- both tables without a row
 abbrev pub IsEmpty : Database → Type 0
-IsEmpty db = (db.schema ≡ store_schema) × (db.trees 0 ≡ []) × (db.trees 1 ≡ [])
+IsEmpty db = (order : TableOrder) × (db.schema ≡ store_schema order) × (db.trees 0 ≡ []) × (db.trees 1 ≡ [])
 
 -- no table, or both tables without a row
 abbrev pub IsNew : Database → Type 0
@@ -58,7 +58,7 @@ pub record IsFresh (name : List ℕ) (db : Trees) : Type 0 where
 
 -- the same, with its tables
 abbrev pub HasFresh : List ℕ → Database → Type 0
-HasFresh node db = (db.schema ≡ store_schema) × IsFresh node db.trees
+HasFresh node db = (db.schema ≡ store_schema (order_in db.trees)) × IsFresh node db.trees
 
 -- it is committed
 abbrev pub IsMade : List ℕ → State → Type 0
@@ -73,14 +73,14 @@ abbrev pub IsEntry : Row → Type 0
 IsEntry row = (place : ℤ) × (body : List ℕ) × (row ≡ Int place ∷ Null ∷ Words body ∷ [])
 
 -- the rows that the two tables can hold: one of an owner or none, and records whose places rise
-pub record HoldsRows (db : Trees) : Type 0 where
-  pub owner : (db 0 ≡ []) ⊎ ((format : ℤ) × (node : List ℕ) × (db 0 ≡ owned format node ∷ []))
-  pub entries : AllByRecursion IsEntry (db 1)
-  pub rise : IsTable (db 1)
+pub record HoldsRows (order : TableOrder) (db : Trees) : Type 0 where
+  pub owner : (db (about_tree order) ≡ []) ⊎ ((format : ℤ) × (node : List ℕ) × (db (about_tree order) ≡ owned format node ∷ []))
+  pub entries : AllByRecursion IsEntry (db (entries_tree order))
+  pub rise : IsTable (db (entries_tree order))
 
 -- both tables are there, with such rows
 abbrev pub HasRows : Database → Type 0
-HasRows db = (db.schema ≡ store_schema) × HoldsRows db.trees
+HasRows db = (order : TableOrder) × (db.schema ≡ store_schema order) × HoldsRows order db.trees
 
 -- the places of the records
 abbrev pub places_in : List Row → List ℤ
@@ -90,22 +90,26 @@ abbrev pub comes_before : Bool → ℤ → ℤ → Type 0
 comes_before true m n = n <ℤ m
 comes_before false m n = m <ℤ n
 
--- the least of the places, or the greatest of them, where there is one
+-- the least of the rows' places, or the greatest of them, where there is one
 abbrev pub IsLeastOrGreatest : Bool → List Row → Option ℤ → Type 0
 IsLeastOrGreatest greatest rows None = rows ≡ []
 IsLeastOrGreatest greatest rows (Some place) = Contains (places_in rows) place × All (λ n. comes_before greatest n place → ⊥) (places_in rows)
 
+-- the same of the records of a database
+abbrev pub HasLeastOrGreatest : Bool → Database → Option ℤ → Type 0
+HasLeastOrGreatest greatest db place = (order : TableOrder) × (db.schema ≡ store_schema order) × IsLeastOrGreatest greatest (db.trees (entries_tree order)) place
+
 -- the tables are others
 abbrev pub HasOtherTables : Database → Type 0
-HasOtherTables db = (db.schema ≡ no_schema → ⊥) × (db.schema ≡ store_schema → ⊥)
+HasOtherTables db = (db.schema ≡ no_schema → ⊥) × (IsStoreSchema db.schema → ⊥)
 
 -- there are records, and nothing says whose
 abbrev pub HasNoOwner : Database → Type 0
-HasNoOwner db = (db.schema ≡ store_schema) × (db.trees 0 ≡ []) × (db.trees 1 ≡ [] → ⊥)
+HasNoOwner db = (order : TableOrder) × (db.schema ≡ store_schema order) × (db.trees (about_tree order) ≡ []) × (db.trees (entries_tree order) ≡ [] → ⊥)
 
 -- a record's place is below 0
 abbrev pub HasNegativePlace : Database → Type 0
-HasNegativePlace db = (db.schema ≡ store_schema) × Any (λ row. (n : ℕ) × (column row 0 ≡ Int (negsuc n))) (db.trees 1)
+HasNegativePlace db = (order : TableOrder) × (db.schema ≡ store_schema order) × Any (λ row. (n : ℕ) × (column row 0 ≡ Int (negsuc n))) (db.trees (entries_tree order))
 
 -- the file is no store
 abbrev pub IsNoStore : Database → Type 0
@@ -113,18 +117,18 @@ IsNoStore db = HasOtherTables db ⊎ (HasNoOwner db ⊎ HasNegativePlace db)
 
 -- the owner's row has another format
 abbrev pub HasOtherFormat : Database → Type 0
-HasOtherFormat db = (db.schema ≡ store_schema) × (row : Row) × (db.trees 0 ≡ row ∷ []) × (column row 2 ≡ Int (pos 1) → ⊥)
+HasOtherFormat db = (order : TableOrder) × (db.schema ≡ store_schema order) × (row : Row) × (db.trees (about_tree order) ≡ row ∷ []) × (column row 2 ≡ Int (pos 1) → ⊥)
 
 -- the owner's row has another node
 abbrev pub HasOtherNode : List ℕ → Database → Type 0
-HasOtherNode node db = (db.schema ≡ store_schema) × (row : Row) × (db.trees 0 ≡ row ∷ []) × (column row 3 ≡ Words node → ⊥)
+HasOtherNode node db = (order : TableOrder) × (db.schema ≡ store_schema order) × (row : Row) × (db.trees (about_tree order) ≡ row ∷ []) × (column row 3 ≡ Words node → ⊥)
 
 -- whose the file is
 abbrev pub IsOwner : List ℕ → Database → Owner → Type 0
-IsOwner node db Nobody = db.trees 0 ≡ []
+IsOwner node db Nobody = (order : TableOrder) × (db.schema ≡ store_schema order) × (db.trees (about_tree order) ≡ [])
 IsOwner node db OtherFormat = HasOtherFormat db
 IsOwner node db OtherNode = (HasOtherFormat db → ⊥) × HasOtherNode node db
-IsOwner node db ThisNode = db.trees 0 ≡ about 1 node ∷ []
+IsOwner node db ThisNode = (order : TableOrder) × (db.schema ≡ store_schema order) × (db.trees (about_tree order) ≡ about 1 node ∷ [])
 
 -- the fault of an opening for that node, by the first of these causes
 abbrev pub IsOpeningFault : List ℕ → Database → StoreFault → Type 0
@@ -144,7 +148,7 @@ IsNegative (Some place) = place <ℤ pos 0
 -- what is told of both tables: no row, or a store of that node, or else why not
 abbrev pub IsVerdict : List ℕ → Database → Result Contents StoreFault → Type 0
 IsVerdict node db (Ok NoRow) = IsEmpty db
-IsVerdict node db (Ok OwnStore) = IsStore db.trees × (node_in db.trees ≡ node)
+IsVerdict node db (Ok OwnStore) = (db.schema ≡ store_schema (order_in db.trees)) × IsStore db.trees × (node_in db.trees ≡ node)
 IsVerdict node db (Err fault) = IsOpeningFault node db fault
 
 -- What an opening for that node leaves of a connection to a file that held this: a store of the node or the fault,

@@ -15,7 +15,7 @@ use Rattle.sqlite.specs.State.{text_of}
 use Rattle.wire.specs.declared.input.Input.{Input}
 use Rattle.durable.specs.Held.{IsStore, slots_in}
 use Rattle.durable.specs.Records.{Places, written}
-use Rattle.durable.specs.Tables.{store_schema}
+use Rattle.durable.specs.Tables.{store_schema, order_in}
 
 -- the statement that puts a record
 abbrev pub insert_text : List ℕ
@@ -31,10 +31,10 @@ enforced = record { keys = Enforced; in_doubt = false; may_wait = false }
 -- SQLite itself refuses to put a record with this body into some store, at the first place after the others
 pub record IsRefused (body : List ℕ) : Type 0 where
   pub db : Database
-  pub schema : db.schema ≡ store_schema
+  pub schema : db.schema ≡ store_schema (order_in db.trees)
   pub store : IsStore db.trees
   pub statement : Compiled
-  pub means : understood store_schema insert_text ≡ Ok statement
+  pub means : understood db.schema insert_text ≡ Ok statement
   pub limit : Option ℕ
   pub now : ℕ
   pub stop : Option Error

@@ -2,7 +2,7 @@
 ghost use Rattle.std.specs.Prelude.{◌≡◌, ◌↔◌, ◌∷◌, [], Some, None, false, pos, length, slice_index_or, IsTrue};
 ghost use Rattle.sqlite_sql.specs.Term.{lit, col, op2};
 ghost use Rattle.sqlite_schema.specs.Code.{term_in};
-ghost use Rattle.durable.specs.Tables.{about_table, entries_table};
+ghost use Rattle.durable.specs.Tables.{about_table, entries_table, about_columns, entry_columns};
 ghost use Rattle.durable.specs.Layout.{IsFirst, AreTables};
 ghost use Rattle.durable.specs.Tables.{plain_column, plain_table, is_first};
 
@@ -17,7 +17,7 @@ use sqlite_value::keys::Collation;
 pub(crate) enum Tables {
     /// No table at all.
     None,
-    /// The two of a store, and no index or view.
+    /// The two of a store, made in either order, and no index or view.
     Store,
     Foreign,
 }
@@ -91,7 +91,7 @@ fn is_one(op: &Op) -> bool
 
 /// Whether they are the columns of the table `about`.
 fn are_about_columns(columns: &[Column]) -> bool
-    ensures { IsTrue result ↔ (columns.now ≡ about_table.columns) }
+    ensures { IsTrue result ↔ (columns.now ≡ about_columns) }
 {
     let [id, format, node] = columns else {
         return false;
@@ -103,7 +103,7 @@ fn are_about_columns(columns: &[Column]) -> bool
 
 /// Whether they are the columns of the table `entries`.
 fn are_entry_columns(columns: &[Column]) -> bool
-    ensures { IsTrue result ↔ (columns.now ≡ entries_table.columns) }
+    ensures { IsTrue result ↔ (columns.now ≡ entry_columns) }
 {
     let [place, body] = columns else {
         return false;
@@ -168,20 +168,20 @@ fn are_about_checks(checks: &Terms) -> bool
     is_first_at(checks.nodes.as_slice(), *root)
 }
 
-/// Whether it is the table `about`.
-fn is_about(table: &Table) -> bool
-    ensures { IsTrue result ↔ (table.now ≡ about_table) }
+/// Whether it is the table `about`, with its rows in that tree.
+fn is_about(table: &Table, tree: u32) -> bool
+    ensures { IsTrue result ↔ (table.now ≡ about_table tree) }
 {
-    is_plain_table(table, b"about", 0)
+    is_plain_table(table, b"about", tree)
         && are_about_columns(table.columns.as_slice())
         && are_about_checks(&table.checks)
 }
 
-/// Whether it is the table `entries`.
-fn is_entries(table: &Table) -> bool
-    ensures { IsTrue result ↔ (table.now ≡ entries_table) }
+/// Whether it is the table `entries`, with its rows in that tree.
+fn is_entries(table: &Table, tree: u32) -> bool
+    ensures { IsTrue result ↔ (table.now ≡ entries_table tree) }
 {
-    is_plain_table(table, b"entries", 1)
+    is_plain_table(table, b"entries", tree)
         && are_entry_columns(table.columns.as_slice())
         && has_no_terms(&table.checks)
 }
@@ -209,7 +209,8 @@ pub(crate) fn tables_of(schema: &Schema) -> Tables
     }
     match schema.tables.as_slice() {
         [] => Tables::None,
-        [about, entries] if is_about(about) && is_entries(entries) => Tables::Store,
+        [about, entries] if is_about(about, 0) && is_entries(entries, 1) => Tables::Store,
+        [entries, about] if is_entries(entries, 0) && is_about(about, 1) => Tables::Store,
         _ => Tables::Foreign,
     }
 }

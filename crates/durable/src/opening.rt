@@ -8,9 +8,9 @@ ghost use Rattle.durable.specs.Faults.{is_device_fault};
 ghost use Rattle.durable.specs.Held.{slots_in, node_in, IsStore, IsReady};
 ghost use Rattle.sqlite.specs.Held.{state};
 ghost use Rattle.sqlite.specs.Tree.{Trees};
-ghost use Rattle.durable.specs.Tables.{store_schema};
+ghost use Rattle.durable.specs.Tables.{TableOrder, store_schema, IsStoreSchema};
 ghost use Rattle.durable.specs.Layout.{AreTables};
-ghost use Rattle.durable.specs.Opening.{IsOpened, IsWithin, IsBare, HasAbout, IsEmpty, HasFresh, IsMade, HoldsRows, HasRows, IsOwner, IsLeastOrGreatest, IsVerdict, IsNegative, IsNew, IsFresh, IsOpeningFault, BecomesStore};
+ghost use Rattle.durable.specs.Opening.{IsOpened, IsWithin, IsBare, HasAbout, IsEmpty, HasFresh, IsMade, HasRows, IsOwner, HasLeastOrGreatest, IsVerdict, IsNegative, IsNew, IsFresh, IsOpeningFault, BecomesStore};
 
 use crate::fault::{StoreFault, fault_of};
 use crate::layout::{Tables, tables_of};
@@ -26,7 +26,7 @@ fn is_whole<S: Alter>(conn: &Connection<S>)
 /// Which tables the database has, and which rows they can hold.
 fn tables_in<S: Alter>(conn: &Connection<S>) -> Tables
     ensures tables { AreTables (state S.Store conn.now).now.schema result }
-    ensures rows { IsTrue (state S.Store conn.now).is_open → (state S.Store conn.now).now.schema ≡ store_schema → HoldsRows (state S.Store conn.now).now.trees }
+    ensures rows { IsTrue (state S.Store conn.now).is_open → IsStoreSchema (state S.Store conn.now).now.schema → HasRows (state S.Store conn.now).now }
     ensures bare { IsTrue (state S.Store conn.now).is_open → IsBare (state S.Store conn.now).now → (state S.Store conn.now).now.trees 1 ≡ [] }
 {
     is_whole(conn);
@@ -109,8 +109,8 @@ fn write_owner<S: Alter>(conn: &mut Connection<S>, node: &str) -> Result<(), Sql
 
 /// The rows that a query on a store shows.
 fn ask<S: Alter>(conn: &mut Connection<S>, sql: &str) -> Result<Vec<Row>, StoreFault>
-    requires opened { HasCleanDisk (state S.Store conn.old) → IsOpened (state S.Store conn.old) × ((state S.Store conn.old).committed.schema ≡ store_schema) }
-    requires plain { IsPlain (understood store_schema sql.now) }
+    requires opened { HasCleanDisk (state S.Store conn.old) → IsOpened (state S.Store conn.old) × IsStoreSchema (state S.Store conn.old).committed.schema }
+    requires plain { (order : TableOrder) → IsPlain (understood (store_schema order) sql.now) }
     ensures idle { conn.old.in_transaction ≡ false → conn.new.in_transaction ≡ false }
     ensures clean { HasCleanDisk (state S.Store conn.new) → HasCleanDisk (state S.Store conn.old) }
     ensures same { HasCleanDisk (state S.Store conn.new) → OnOk result (IsUnchanged (state S.Store conn.old) (state S.Store conn.new)) }
@@ -144,7 +144,7 @@ fn least_place<S: Alter>(conn: &mut Connection<S>) -> Result<Option<i64>, StoreF
     ensures idle { conn.old.in_transaction ≡ false → conn.new.in_transaction ≡ false }
     ensures clean { HasCleanDisk (state S.Store conn.new) → HasCleanDisk (state S.Store conn.old) }
     ensures same { HasCleanDisk (state S.Store conn.new) → OnOk result (IsUnchanged (state S.Store conn.old) (state S.Store conn.new)) }
-    ensures least { HasCleanDisk (state S.Store conn.new) → IfOk result (IsLeastOrGreatest false ((state S.Store conn.old).committed.trees 1)) }
+    ensures least { HasCleanDisk (state S.Store conn.new) → IfOk result (HasLeastOrGreatest false (state S.Store conn.old).committed) }
     ensures crash { HasCleanDisk (state S.Store conn.new) → (db : Trees) → (state S.Store conn.new).may_leave db → db ≡ (state S.Store conn.old).committed.trees }
     ensures named { IfErr result (λ e. (e ≡ StoreFault.NoMemory) ⊎ IsTrue (is_device_fault e)) }
 {
@@ -158,7 +158,7 @@ fn greatest_place<S: Alter>(conn: &mut Connection<S>) -> Result<Option<i64>, Sto
     ensures idle { conn.old.in_transaction ≡ false → conn.new.in_transaction ≡ false }
     ensures clean { HasCleanDisk (state S.Store conn.new) → HasCleanDisk (state S.Store conn.old) }
     ensures same { HasCleanDisk (state S.Store conn.new) → OnOk result (IsUnchanged (state S.Store conn.old) (state S.Store conn.new)) }
-    ensures greatest { HasCleanDisk (state S.Store conn.new) → IfOk result (IsLeastOrGreatest true ((state S.Store conn.old).committed.trees 1)) }
+    ensures greatest { HasCleanDisk (state S.Store conn.new) → IfOk result (HasLeastOrGreatest true (state S.Store conn.old).committed) }
     ensures crash { HasCleanDisk (state S.Store conn.new) → (db : Trees) → (state S.Store conn.new).may_leave db → db ≡ (state S.Store conn.old).committed.trees }
     ensures named { IfErr result (λ e. (e ≡ StoreFault.NoMemory) ⊎ IsTrue (is_device_fault e)) }
 {
@@ -193,7 +193,7 @@ fn verdict(owner: Owner, least: Option<i64>) -> Result<Contents, StoreFault>
     ensures never { IfErr result (λ e. e ≢ StoreFault.Reopen) }
     ensures places { IfErr result (λ e. (p : ℕ) → e ≡ StoreFault.Damaged p → p ≡ 0) }
     ensures judged { IfErr result (λ e. (e ≢ StoreFault.NoMemory) × (is_device_fault e ≡ false)) }
-    ensures verdict { (node : List ℕ) (db : Database) → HasRows db → IsOwner node db owner → IsLeastOrGreatest false (db.trees 1) least → IsVerdict node db result }
+    ensures verdict { (node : List ℕ) (db : Database) → HasRows db → IsOwner node db owner → HasLeastOrGreatest false db least → IsVerdict node db result }
 {
     if is_negative(least) {
         return Err(StoreFault::Damaged(0));

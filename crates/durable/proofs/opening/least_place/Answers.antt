@@ -2,7 +2,7 @@ use Rattle.std.proofs.Common.{IfOk, false, subst}
 use Rattle.std.proofs.lemmas.Result.{IfOk-weaker}
 use Rattle.sqlite.specs.Held.{state}
 use Rattle.durable.specs.OwnerRow.{IsPlaceIn}
-use Rattle.durable.specs.Opening.{IsLeastOrGreatest}
+use Rattle.durable.specs.Opening.{HasLeastOrGreatest}
 use Rattle.durable.proofs.OpeningTexts.{least_plain}
 use Rattle.durable.proofs.Opened.{least_found}
 use Rattle.durable.proofs.opening.least_place.Goals as goal
@@ -14,5 +14,5 @@ pub returns-clause-least : goal.returns-clause-least
 returns-clause-least g c clean =
     let opened = c.requires.opened (c.ask.ensures.clean clean) in
     let rows = c.in_ok-rows.rows.items in
-    IfOk-weaker c.place_in.result (IsPlaceIn rows) (IsLeastOrGreatest false ((state g.S.Store c.args.conn.now).committed.trees 1)) (λ found is. least_found (state g.S.Store c.args.conn.now) (state g.S.Store c.ask.new.conn) rows found opened.0 opened.1 (c.in_ok-rows.ensures.shown clean) is)
+    IfOk-weaker c.place_in.result (IsPlaceIn rows) (HasLeastOrGreatest false (state g.S.Store c.args.conn.now).committed) (λ found is. least_found (state g.S.Store c.args.conn.now) (state g.S.Store c.ask.new.conn) rows found opened.0 opened.1 (c.in_ok-rows.ensures.shown clean) is)
     (subst (λ all. IfOk c.place_in.result (IsPlaceIn all)) c.deref.ensures.value c.place_in.ensures.place)

@@ -8,7 +8,7 @@ returns-clause-rows g c still has =
     let store = c.args.conn.now.store in
     let v = g.S.Store.view store in
     let whole = c.is_whole.ensures.whole still in
-    rows_of v (g.met.S.Alter.listed store whole) (g.met.S.Store.ordered store whole) (subst (λ s. IsSound s v.trees) has (c.schema.ensures.live still).0)
+    (has.0, has.1, rows_of has.0 v (g.met.S.Alter.listed store whole) (g.met.S.Store.ordered store whole) (subst (λ s. IsSound s v.trees) has.1 (c.schema.ensures.live still).0))
 
 pub returns-clause-bare : goal.returns-clause-bare
 returns-clause-bare g c still has =

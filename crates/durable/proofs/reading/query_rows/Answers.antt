@@ -8,6 +8,7 @@ use Rattle.sqlite.specs.declared.error.Error.{Error}
 use Rattle.sqlite.specs.declared.rows.Row.{Row as Answer}
 use Rattle.durable.specs.Held.{IsReady}
 use Rattle.durable.specs.Pages.{rows_within}
+use Rattle.durable.specs.Tables.{entry_rows}
 use Rattle.durable.proofs.Answering.{between}
 use Rattle.durable.proofs.PageTexts.{page_text}
 use Rattle.durable.proofs.Queries.{query-ok, query-crash}
@@ -21,7 +22,7 @@ abbrev new : (g : _) → goal.After-query_all g → State
 new g c = state g.S.Store c.query_all.new.self
 
 abbrev Leaves : ℕ → ℕ → State → State → Result (Vec Answer Global) Error → Type 0
-Leaves first last a b (Ok rows) = (rows.items ≡ rows_within first last (a.committed.trees 1)) × IsUnchanged a b
+Leaves first last a b (Ok rows) = (rows.items ≡ rows_within first last (entry_rows a.committed.trees)) × IsUnchanged a b
 Leaves first last a b (Err e) = IsUnchanged a b ⊎ IsRolledBack a b
 
 leaves : (first last : ℕ) (params : Row) (a b : State) (r : Result (Vec Answer Global) Error) → params ≡ between first last → IsReady a → IfOk r (λ rows. Shown page_text params a b rows.items) → IfErr r (FailsToQuery page_text params a b)
@@ -41,7 +42,7 @@ it g c clean =
     let early = was_clean (old g c) (new g c) _ c.query_all.ensures.survives clean in
     leaves c.args.first c.args.last _ (old g c) (new g c) c.query_all.result (params-are g c) (c.requires.ready early) (c.query_all.ensures.ok clean) (c.query_all.ensures.err clean)
 
-rows-are : (first last : ℕ) (a b : State) (r : Result (Vec Answer Global) Error) → Leaves first last a b r → IfOk r (λ rows. rows.items ≡ rows_within first last (a.committed.trees 1))
+rows-are : (first last : ℕ) (a b : State) (r : Result (Vec Answer Global) Error) → Leaves first last a b r → IfOk r (λ rows. rows.items ≡ rows_within first last (entry_rows a.committed.trees))
 rows-are first last a b (Ok rows) h = h.0
 rows-are first last a b (Err e) h = tt
 

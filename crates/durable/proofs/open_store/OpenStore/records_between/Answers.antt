@@ -6,6 +6,7 @@ use Rattle.durable.specs.Connected.{content, IsCounted}
 use Rattle.durable.specs.Records.{Places, AreRecords, IsDamagedAt}
 use Rattle.durable.specs.Pages.{rows_within}
 use Rattle.durable.specs.Slots.{unbroken}
+use Rattle.durable.specs.Tables.{entry_rows}
 use Rattle.durable.specs.declared.fault.StoreFault.{StoreFault}
 use Rattle.durable.specs.declared.fault.StoreFault.TheVariants.{Damaged}
 use Rattle.durable.proofs.PlacesRead.{front, as-many}
@@ -37,7 +38,7 @@ long g c clean = let k = (counted g c clean).counted in let w = c.requires.withi
 read : (g : _) (c : goal.After-drop-rows-2 g) → HasCleanDisk (state g.S.Store c.rows_of.new.conn) → unbroken (places g c) ≡ map (λ (b : Bor (List ℕ)). b.now) c.deref-2.result.now
 read g c clean =
     front c.args.first c.args.until (state g.S.Store c.args.self.now.conn).committed.trees c.deref.result.now c.deref-2.result.now c.requires.some (counted g c clean).ready.store
-    (c.deref.ensures.value ∙ c.in-Ok.ensures.rows clean ∙ ap (λ k. rows_within c.args.first (c.args.until - 1) ((state g.S.Store k.conn).committed.trees 1)) c.self.view_is) (ap (map (λ (b : Bor (List ℕ)). b.now)) c.deref-2.ensures.value ∙ c.in-Ok-bodies.ensures.ok)
+    (c.deref.ensures.value ∙ c.in-Ok.ensures.rows clean ∙ ap (λ k. rows_within c.args.first (c.args.until - 1) (entry_rows (state g.S.Store k.conn).committed.trees)) c.self.view_is) (ap (map (λ (b : Bor (List ℕ)). b.now)) c.deref-2.ensures.value ∙ c.in-Ok-bodies.ensures.ok)
 
 pub returns-clause-ok : goal.returns-clause-ok
 returns-clause-ok g c = λ clean. at-ok c.args.first _ (places g c) _ c.records.result (long g c clean) (read g c clean) c.records.ensures.ok

@@ -1,0 +1,84 @@
+-- Which of the two tables was made first, from the schema and from the rows.
+use Rattle.std.proofs.Common.{◌≡◌, ◌⊎◌, inl, inr, ℕ, ℤ, pos, List, [], ◌∷◌, length, slice_index_or, refl, sym, ap, subst, ◌∙◌, arith}
+use Rattle.std.specs.List.{AllByRecursion}
+use Rattle.sqlite.specs.Order.{Row, column, bytes}
+use Rattle.sqlite.specs.Schema.{Schema}
+use Rattle.sqlite.specs.Table.{Table}
+use Rattle.sqlite.specs.Tree.{Trees}
+use Rattle.sqlite.specs.Program.{overlay}
+use Rattle.durable.specs.Tables.{TableOrder, AboutFirst, EntriesFirst, about_tree, entries_tree, store_schema, about, order_of, order_in, about_rows, entry_rows}
+use Rattle.durable.specs.Slots.{slots_from, AreEntries}
+use Rattle.durable.specs.Held.{slots_in, node_in, IsStore}
+use Rattle.durable.specs.Opening.{owned, IsEntry, HoldsRows}
+
+-- how many columns the first table has
+abbrev first_columns : List Table → ℕ
+first_columns [] = 0
+first_columns (table ∷ tables) = length table.columns
+
+-- a schema is that of one order
+pub same_order : (schema : Schema) (order other : TableOrder) → schema ≡ store_schema order → schema ≡ store_schema other → order ≡ other
+same_order schema AboutFirst AboutFirst one two = refl
+same_order schema AboutFirst EntriesFirst one two = let never : 3 ≡ 2 = ap (λ (s : Schema). first_columns s.tables) (sym one ∙ two) in absurd (omega (arith, never))
+same_order schema EntriesFirst AboutFirst one two = let never : 2 ≡ 3 = ap (λ (s : Schema). first_columns s.tables) (sym one ∙ two) in absurd (omega (arith, never))
+same_order schema EntriesFirst EntriesFirst one two = refl
+
+-- a query reads the table's own tree
+pub own_rows : (db : Trees) (order : TableOrder) → overlay db [] (entries_tree order) ≡ db (entries_tree order)
+own_rows db AboutFirst = refl
+own_rows db EntriesFirst = refl
+
+pub own_row : (db : Trees) (order : TableOrder) → overlay db [] (about_tree order) ≡ db (about_tree order)
+own_row db AboutFirst = refl
+own_row db EntriesFirst = refl
+
+-- a record's row has three values
+pub of_records : (rows : List Row) → AllByRecursion IsEntry rows → order_of rows ≡ AboutFirst
+of_records [] are = refl
+of_records (row ∷ rows) are = ap (λ (r : Row). order_of (r ∷ rows)) are.0.2
+
+of_entries : (from : ℕ) (rows : List Row) → AreEntries from rows → order_of rows ≡ AboutFirst
+of_entries from [] are = refl
+of_entries from (row ∷ rows) are = ap (λ (r : Row). order_of (r ∷ rows)) are.1
+
+-- rows that the tables of an order hold tell that order
+pub told_order : (order : TableOrder) (node : List ℕ) (from : ℕ) (db : Trees) → db (about_tree order) ≡ about 1 node ∷ [] → AreEntries from (db (entries_tree order)) → order_in db ≡ order
+told_order AboutFirst node from db owner entries = of_entries from (db 1) entries
+told_order EntriesFirst node from db owner entries = ap order_of owner
+
+no_entry : (row : Row) (rows : List Row) (node : List ℕ) → AllByRecursion IsEntry rows → rows ≡ about 1 node ∷ [] → ⊥
+no_entry row [] node are is = let never : 0 ≡ 1 = ap length is in omega (arith, never)
+no_entry row (first ∷ rows) node are is =
+    let four : length first ≡ 4 = ap (λ (all : List Row). length (slice_index_or all 0 row)) is in
+    let three : length first ≡ 3 = ap length are.0.2 in
+    omega (arith, four, three)
+
+-- the order that a store's rows tell is that of its tables
+pub found_order : (order : TableOrder) (db : Trees) → HoldsRows order db → IsStore db → order_in db ≡ order
+found_order AboutFirst db holds store = of_records (db 1) holds.entries
+found_order EntriesFirst db holds store = elim (holds.owner) [
+  | inl none ↦
+      let first : order_in db ≡ AboutFirst = ap order_of none in
+      absurd (no_entry [] (db 0) (node_in db) holds.entries (ap (λ (order : TableOrder). db (about_tree order)) (sym first) ∙ store.owner))
+  | inr some ↦ ap order_of some.2
+]
+
+-- trees that have these rows are a store
+pub record IsStoreOf (order : TableOrder) (node : List ℕ) (rows : List Row) (db : Trees) : Type 0 where
+  pub order_is : order_in db ≡ order
+  pub store : IsStore db
+  pub node : node_in db ≡ node
+  pub slots : slots_in db ≡ slots_from 0 rows
+
+pub store-of : (order : TableOrder) (node : List ℕ) (rows : List Row) (db : Trees) → db (about_tree order) ≡ about 1 node ∷ [] → db (entries_tree order) ≡ rows → AreEntries 0 rows → IsStoreOf order node rows db
+store-of order node rows db owner is entries =
+    let told = told_order order node 0 db owner (subst (AreEntries 0) (sym is) entries) in
+    let abouts : about_rows db ≡ about 1 node ∷ [] = ap (λ (o : TableOrder). db (about_tree o)) told ∙ owner in
+    let records : entry_rows db ≡ rows = ap (λ (o : TableOrder). db (entries_tree o)) told ∙ is in
+    let name : node_in db ≡ node = ap (λ (all : List Row). bytes (column (slice_index_or all 0 []) 3)) abouts in
+    record {
+      order_is = told;
+      store = record { owner = abouts ∙ ap (λ n. about 1 n ∷ []) (sym name); entries = subst (AreEntries 0) (sym records) entries };
+      node = name;
+      slots = ap (slots_from 0) records;
+    }

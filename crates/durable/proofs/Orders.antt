@@ -64,10 +64,10 @@ found_order EntriesFirst db holds store = elim (holds.owner) [
 ]
 
 -- trees that have these rows are a store
-pub record IsStoreOf (order : TableOrder) (node : List ℕ) (rows : List Row) (db : Trees) : Type 0 where
+pub record IsStoreOf (order : TableOrder) (name : List ℕ) (rows : List Row) (db : Trees) : Type 0 where
   pub order_is : order_in db ≡ order
   pub store : IsStore db
-  pub node : node_in db ≡ node
+  pub node : node_in db ≡ name
   pub slots : slots_in db ≡ slots_from 0 rows
 
 pub store-of : (order : TableOrder) (node : List ℕ) (rows : List Row) (db : Trees) → db (about_tree order) ≡ about 1 node ∷ [] → db (entries_tree order) ≡ rows → AreEntries 0 rows → IsStoreOf order node rows db

@@ -45,10 +45,11 @@ made limit text schema table db after tally has is plain does =
 pub about_made : (limit : Option ℕ) (db after : Database) (tally : Tally) → IsBare db → Does limit enforced [] db about_text None CreateTable (Ok (tally, after)) → HasAbout after
 about_made limit db after tally bare does = let it = made limit about_text no_schema (about_table 0) db after tally bare about_is refl does in (it.0, it.1)
 
-pub entries_made : (limit : Option ℕ) (db after : Database) (tally : Tally) → HasAbout db → Does limit enforced [] db entries_text None CreateTable (Ok (tally, after)) → IsEmpty after
+pub entries_made : (limit : Option ℕ) (db after : Database) (tally : Tally) → HasAbout db → Does limit enforced [] db entries_text None CreateTable (Ok (tally, after))
+    → IsEmpty after × (after.schema ≡ store_schema AboutFirst)
 entries_made limit db after tally has does =
     let it = made limit entries_text about_schema (entries_table 0) db after tally has.0 entries_is refl does in
-    (AboutFirst, it.0, it.2.0 ∙ has.1, it.1)
+    ((AboutFirst, it.0, it.2.0 ∙ has.1, it.1), it.0)
 
 -- the owner's row alone is put, and the other tree is as it was
 row_made : (order : TableOrder) (limit : Option ℕ) (text node : List ℕ) (db after : Database) (tally : Tally) → db.schema ≡ store_schema order → db.trees (about_tree order) ≡ []
@@ -91,9 +92,10 @@ both_empty EntriesFirst db zero one = (one, zero)
 
 -- the owner's row makes it a store
 pub owner_made : (limit : Option ℕ) (text node : List ℕ) (db after : Database) (tally : Tally) (has : IsEmpty db)
-    → Does limit enforced (Text node ∷ []) db text None (Insert (about_tree has.0) (Values own_terms 4)) (Ok (tally, after)) → HasFresh node after
+    → Does limit enforced (Text node ∷ []) db text None (Insert (about_tree has.0) (Values own_terms 4)) (Ok (tally, after))
+    → HasFresh node after × (after.schema ≡ db.schema)
 owner_made limit text node db after tally has does =
     let none = both_empty has.0 db.trees has.2 has.3 in
     let rows = row_made has.0 limit text node db after tally has.1 none.0 does in
     let it = store-of has.0 node [] after.trees rows.1 (rows.2 ∙ none.1) tt in
-    (rows.0 ∙ ap store_schema (sym it.order_is), record { store = it.store; node = it.node; slots = it.slots })
+    ((rows.0 ∙ ap store_schema (sym it.order_is), record { store = it.store; node = it.node; slots = it.slots }), rows.0 ∙ sym has.1)

@@ -10,7 +10,7 @@ use Rattle.sqlite.specs.Effect.{Database, Reads}
 use Rattle.sqlite.specs.Listing.{understood}
 use Rattle.sqlite.specs.State.{State, HasCleanDisk, Survives, Executes, ExecutesInside, IsUnchanged, Shown, CommitsShowing}
 use Rattle.sqlite.proofs.Callers.{IsPlain, runs_as, reads_as, statement_of, never_commits}
-use Rattle.durable.specs.Tables.{TableOrder, about_tree, entries_tree, store_schema, no_schema, IsStoreSchema}
+use Rattle.durable.specs.Tables.{TableOrder, AboutFirst, about_tree, entries_tree, store_schema, no_schema, IsStoreSchema}
 use Rattle.durable.specs.Opening.{about_schema, IsOpened, IsWithin, IsBare, HasAbout, IsEmpty, HasFresh, HasRows, IsOwner, HasLeastOrGreatest}
 use Rattle.durable.specs.OwnerRow.{IsOwnerIn, IsPlaceIn}
 use Rattle.durable.specs.declared.owner_row.Owner.{Owner}
@@ -29,18 +29,22 @@ about_ok old new count was h =
     let does = subst (λ t. Does old.step_limit enforced [] old.now t None CreateTable (Ok (w.tally, new.now))) about_command.1 w.changed in
     record { is_open = h.1.is_open; inside = h.1.mode; holds = about_made old.step_limit old.now new.now w.tally was.holds does }
 
-pub entries_ok : (old new : State) (count : ℕ) → IsWithin old HasAbout → ExecutesInside 0 entries_text [] old new (Ok count) → IsWithin new IsEmpty
+pub entries_ok : (old new : State) (count : ℕ) → IsWithin old HasAbout → ExecutesInside 0 entries_text [] old new (Ok count)
+    → IsWithin new IsEmpty × (new.now.schema ≡ store_schema AboutFirst)
 entries_ok old new count was h =
     let w = runs_as entries_text [] old new about_schema was.holds.0 CreateTable entries_command.0 entries_plain count h.0 in
     let does = subst (λ t. Does old.step_limit enforced [] old.now t None CreateTable (Ok (w.tally, new.now))) entries_command.1 w.changed in
-    record { is_open = h.1.is_open; inside = h.1.mode; holds = entries_made old.step_limit old.now new.now w.tally was.holds does }
+    let made = entries_made old.step_limit old.now new.now w.tally was.holds does in
+    (record { is_open = h.1.is_open; inside = h.1.mode; holds = made.0 }, made.1)
 
-pub owner_ok : (old new : State) (node : List ℕ) (params : Row) (count : ℕ) → params ≡ Text node ∷ [] → IsWithin old IsEmpty → ExecutesInside 0 own_text params old new (Ok count) → IsWithin new (HasFresh node)
+pub owner_ok : (old new : State) (node : List ℕ) (params : Row) (count : ℕ) → params ≡ Text node ∷ [] → IsWithin old IsEmpty → ExecutesInside 0 own_text params old new (Ok count)
+    → IsWithin new (HasFresh node) × (new.now.schema ≡ old.now.schema)
 owner_ok old new node params count is was h =
     let ran : Executes own_text (Text node ∷ []) old new (Ok count) = subst (λ p. Executes own_text p old new (Ok count)) is h.0 in
     let order = was.holds.0 in
     let w = runs_as own_text (Text node ∷ []) old new (store_schema order) was.holds.1 (Insert (about_tree order) (Values own_terms 4)) (own_is order) (own_plain order) count ran in
-    record { is_open = h.1.is_open; inside = h.1.mode; holds = owner_made old.step_limit (statement_of own_text (understood (store_schema order) own_text)) node old.now new.now w.tally was.holds w.changed }
+    let made = owner_made old.step_limit (statement_of own_text (understood (store_schema order) own_text)) node old.now new.now w.tally was.holds w.changed in
+    (record { is_open = h.1.is_open; inside = h.1.mode; holds = made.0 }, made.1)
 
 now_schema : (old : State) (order : TableOrder) → IsOpened old → old.committed.schema ≡ store_schema order → old.now.schema ≡ store_schema order
 now_schema old order opened has = ap (λ (d : Database). d.schema) opened.settled ∙ has

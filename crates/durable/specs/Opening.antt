@@ -15,7 +15,7 @@ use Rattle.durable.specs.declared.owner_row.Owner.{Owner}
 use Rattle.durable.specs.declared.owner_row.Owner.TheVariants.{Nobody, OtherFormat, OtherNode, ThisNode}
 use Rattle.durable.specs.declared.opening.Contents.{Contents}
 use Rattle.durable.specs.declared.opening.Contents.TheVariants.{NoRow, OwnStore}
-use Rattle.durable.specs.Tables.{TableOrder, about_tree, entries_tree, about, about_table, store_schema, no_schema, IsStoreSchema, order_in}
+use Rattle.durable.specs.Tables.{TableOrder, AboutFirst, about_tree, entries_tree, about, about_table, store_schema, no_schema, IsStoreSchema, order_in}
 use Rattle.durable.specs.Held.{slots_in, node_in, IsStore, IsReady}
 
 -- open, in no transaction, and nothing is uncommitted
@@ -151,11 +151,16 @@ IsVerdict node db (Ok NoRow) = IsEmpty db
 IsVerdict node db (Ok OwnStore) = (db.schema ≡ store_schema (order_in db.trees)) × IsStore db.trees × (node_in db.trees ≡ node)
 IsVerdict node db (Err fault) = IsOpeningFault node db fault
 
+-- the tables after an opening: as they were, or in a file without a table both of a store, of which `about` is made first
+abbrev pub HasItsTables : Schema → Schema → Type 0
+HasItsTables before after = ((before ≡ no_schema) × (after ≡ store_schema AboutFirst)) ⊎ (IsStoreSchema before × (after ≡ before))
+
 -- What an opening for that node leaves of a connection to a file that held this: a store of the node or the fault,
 -- and over a crash what was there or, of a new file, a store without a record.
 pub record BecomesStore (name : List ℕ) (before : Database) (s : State) (result : Result ℕ StoreFault) : Type 0 where
   pub ready : OnOk result (IsReady s × (node_in s.committed.trees ≡ name))
   pub count : IfOk result (λ count. count ≡ length (slots_in s.committed.trees))
   pub found : OnOk result ((IsNew before × (slots_in s.committed.trees ≡ [])) ⊎ (s.committed ≡ before))
+  pub tables : OnOk result (HasItsTables before.schema s.committed.schema)
   pub fault : IfErr result (IsOpeningFault name before)
   pub crash : (db : Trees) → s.may_leave db → (db ≡ before.trees) ⊎ (IsNew before × IsFresh name db)

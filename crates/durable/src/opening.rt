@@ -8,9 +8,9 @@ ghost use Rattle.durable.specs.Faults.{is_device_fault};
 ghost use Rattle.durable.specs.Held.{slots_in, node_in, IsStore, IsReady};
 ghost use Rattle.sqlite.specs.Held.{state};
 ghost use Rattle.sqlite.specs.Tree.{Trees};
-ghost use Rattle.durable.specs.Tables.{TableOrder, store_schema, IsStoreSchema};
+ghost use Rattle.durable.specs.Tables.{TableOrder, AboutFirst, store_schema, IsStoreSchema};
 ghost use Rattle.durable.specs.Layout.{AreTables};
-ghost use Rattle.durable.specs.Opening.{IsOpened, IsWithin, IsBare, HasAbout, IsEmpty, HasFresh, IsMade, HasRows, IsOwner, HasLeastOrGreatest, IsVerdict, IsNegative, IsNew, IsFresh, IsOpeningFault, BecomesStore};
+ghost use Rattle.durable.specs.Opening.{IsOpened, IsWithin, IsBare, HasAbout, IsEmpty, HasFresh, IsMade, HasRows, IsOwner, HasLeastOrGreatest, IsVerdict, IsNegative, IsNew, IsFresh, IsOpeningFault, HasItsTables, BecomesStore};
 
 use crate::fault::{StoreFault, fault_of};
 use crate::layout::{Tables, tables_of};
@@ -52,6 +52,7 @@ fn create_entries<S: Alter>(tx: &mut Transaction<'_, S>) -> Result<(), SqlError>
     requires inside { HasCleanDisk (state S.Store tx.old.conn.now) → IsWithin (state S.Store tx.old.conn.now) HasAbout }
     ensures same_reference { tx.new.conn.ghost_name ≡ tx.old.conn.ghost_name }
     ensures inside { HasCleanDisk (state S.Store tx.new.conn.now) → OnOk result (IsWithin (state S.Store tx.new.conn.now) IsEmpty) }
+    ensures tables { HasCleanDisk (state S.Store tx.new.conn.now) → OnOk result ((state S.Store tx.new.conn.now).now.schema ≡ store_schema AboutFirst) }
     ensures survives { Survives (state S.Store tx.old.conn.now) (state S.Store tx.new.conn.now) (λ _. ⊥) }
 {
     tx.execute(
@@ -66,6 +67,7 @@ fn put_owner<S: Alter>(tx: &mut Transaction<'_, S>, node: &str) -> Result<(), Sq
     requires inside { HasCleanDisk (state S.Store tx.old.conn.now) → IsWithin (state S.Store tx.old.conn.now) IsEmpty }
     ensures same_reference { tx.new.conn.ghost_name ≡ tx.old.conn.ghost_name }
     ensures inside { HasCleanDisk (state S.Store tx.new.conn.now) → OnOk result (IsWithin (state S.Store tx.new.conn.now) (HasFresh node.now)) }
+    ensures tables { HasCleanDisk (state S.Store tx.new.conn.now) → OnOk result ((state S.Store tx.new.conn.now).now.schema ≡ (state S.Store tx.old.conn.now).now.schema) }
     ensures survives { Survives (state S.Store tx.old.conn.now) (state S.Store tx.new.conn.now) (λ _. ⊥) }
 {
     tx.execute(
@@ -84,6 +86,7 @@ fn make<S: Alter>(conn: &mut Connection<S>, node: &str) -> Result<(), SqlError>
     ensures made { HasCleanDisk (state S.Store conn.new) → OnOk result (IsMade node.now (state S.Store conn.new)) }
     ensures crash { HasCleanDisk (state S.Store conn.new) → (db : Trees) → (state S.Store conn.new).may_leave db
         → (db ≡ (state S.Store conn.old).committed.trees) ⊎ IsFresh node.now db }
+    ensures tables { HasCleanDisk (state S.Store conn.new) → OnOk result ((state S.Store conn.new).committed.schema ≡ store_schema AboutFirst) }
 {
     let mut tx = conn.transaction();
     create_about(&mut tx)?;
@@ -101,6 +104,7 @@ fn write_owner<S: Alter>(conn: &mut Connection<S>, node: &str) -> Result<(), Sql
     ensures made { HasCleanDisk (state S.Store conn.new) → OnOk result (IsMade node.now (state S.Store conn.new)) }
     ensures crash { HasCleanDisk (state S.Store conn.new) → (db : Trees) → (state S.Store conn.new).may_leave db
         → (db ≡ (state S.Store conn.old).committed.trees) ⊎ IsFresh node.now db }
+    ensures tables { HasCleanDisk (state S.Store conn.new) → OnOk result ((state S.Store conn.new).committed.schema ≡ (state S.Store conn.old).committed.schema) }
 {
     let mut tx = conn.transaction();
     put_owner(&mut tx, node)?;
@@ -315,6 +319,7 @@ pub(crate) fn open_as_store<S: Alter>(
     ensures count { HasCleanDisk (state S.Store conn.new) → IfOk result (λ count. count ≡ length (slots_in (state S.Store conn.new).committed.trees)) }
     ensures found { HasCleanDisk (state S.Store conn.new) → OnOk result ((IsNew (state S.Store conn.old).committed × (slots_in (state S.Store conn.new).committed.trees ≡ []))
         ⊎ ((state S.Store conn.new).committed ≡ (state S.Store conn.old).committed)) }
+    ensures tables { HasCleanDisk (state S.Store conn.new) → OnOk result (HasItsTables (state S.Store conn.old).committed.schema (state S.Store conn.new).committed.schema) }
     ensures same { HasCleanDisk (state S.Store conn.new) → OnOk result (slots_in (state S.Store conn.new).committed.trees ≡ slots_in (state S.Store conn.old).committed.trees) }
     ensures fault { HasCleanDisk (state S.Store conn.new) → IfErr result (IsOpeningFault node.now (state S.Store conn.old).committed) }
     ensures crash { HasCleanDisk (state S.Store conn.new) → (db : Trees) → (state S.Store conn.new).may_leave db

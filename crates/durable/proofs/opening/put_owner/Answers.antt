@@ -1,13 +1,25 @@
-use Rattle.std.proofs.Common.{ap, [], ◌∷◌}
+use Rattle.std.proofs.Common.{◌≡◌, ap, [], ◌∷◌}
 use Rattle.sqlite.specs.declared.types.Value.TheVariants.{Text}
 use Rattle.sqlite.specs.Held.{state}
+use Rattle.sqlite.specs.State.{HasCleanDisk, State}
+use Rattle.durable.specs.Opening.{IsWithin, HasFresh}
 use Rattle.durable.proofs.Steps.{was_clean}
 use Rattle.durable.proofs.Opened.{owner_ok}
 use Rattle.durable.proofs.opening.put_owner.Goals as goal
 
+abbrev old : (g : _) → goal.In_ok-execute g → State
+old g c = state g.S.Store c.args.tx.now.conn.now
+
+abbrev new : (g : _) → goal.In_ok-execute g → State
+new g c = state g.S.Store c.execute.new.self.conn.now
+
+both : (g : _) (c : goal.In_ok-execute g) → HasCleanDisk (new g c) → IsWithin (new g c) (HasFresh c.args.node.now) × ((new g c).now.schema ≡ (old g c).now.schema)
+both g c clean =
+    let inside = c.requires.inside (was_clean (old g c) (new g c) _ c.execute.ensures.survives clean) in
+    owner_ok (old g c) (new g c) c.args.node.now _ c.in_ok-execute.field-0 (ap (λ t. Text t ∷ []) c.as_bytes.ensures.value) inside (c.in_ok-execute.ensures.runs clean inside.inside)
+
 pub returns-clause-inside : goal.returns-clause-inside
-returns-clause-inside g c clean =
-    let old = state g.S.Store c.args.tx.now.conn.now in
-    let new = state g.S.Store c.execute.new.self.conn.now in
-    let inside = c.requires.inside (was_clean old new _ c.execute.ensures.survives clean) in
-    owner_ok old new c.args.node.now _ c.in_ok-execute.field-0 (ap (λ t. Text t ∷ []) c.as_bytes.ensures.value) inside (c.in_ok-execute.ensures.runs clean inside.inside)
+returns-clause-inside g c clean = (both g c clean).0
+
+pub returns-clause-tables : goal.returns-clause-tables
+returns-clause-tables g c clean = (both g c clean).1

@@ -1,5 +1,5 @@
 -- Which of the two tables was made first, from the schema and from the rows.
-use Rattle.std.proofs.Common.{◌≡◌, ◌⊎◌, inl, inr, ℕ, ℤ, pos, List, [], ◌∷◌, length, slice_index_or, refl, sym, ap, subst, ◌∙◌, arith}
+use Rattle.std.proofs.Common.{◌≡◌, inl, inr, ℕ, List, [], ◌∷◌, length, slice_index_or, refl, sym, ap, subst, ◌∙◌, arith}
 use Rattle.std.specs.List.{AllByRecursion}
 use Rattle.sqlite.specs.Order.{Row, column, bytes}
 use Rattle.sqlite.specs.Schema.{Schema}
@@ -9,7 +9,7 @@ use Rattle.sqlite.specs.Program.{overlay}
 use Rattle.durable.specs.Tables.{TableOrder, AboutFirst, EntriesFirst, about_tree, entries_tree, store_schema, about, order_of, order_in, about_rows, entry_rows}
 use Rattle.durable.specs.Slots.{slots_from, AreEntries}
 use Rattle.durable.specs.Held.{slots_in, node_in, IsStore}
-use Rattle.durable.specs.Opening.{owned, IsEntry, HoldsRows}
+use Rattle.durable.specs.Opening.{IsEntry, HoldsRows}
 
 -- how many columns the first table has
 abbrev first_columns : List Table → ℕ

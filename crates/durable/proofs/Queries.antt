@@ -1,5 +1,5 @@
 -- What a query of a stretch of places leaves of a connection to a store.
-use Rattle.std.proofs.Common.{◌≡◌, inl, inr, ℕ, List, [], sym, subst}
+use Rattle.std.proofs.Common.{◌≡◌, inl, inr, ℕ, List, sym, subst}
 use Rattle.sqlite.specs.Order.{Row}
 use Rattle.sqlite.specs.Tree.{Trees}
 use Rattle.sqlite.specs.Effect.{Database, Reads}

@@ -1,4 +1,4 @@
-use Rattle.std.proofs.Common.{◌≡◌, subst, sym, ap, ◌∙◌, length, to_z, of_z, w64, rules}
+use Rattle.std.proofs.Common.{◌≡◌, subst, sym, ◌∙◌, length, to_z, of_z, w64, rules}
 use Rattle.sqlite.specs.Held.{state}
 use Rattle.durable.specs.Tables.{entry_rows}
 use Rattle.durable.specs.Slots.{slots_from}

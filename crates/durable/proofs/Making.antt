@@ -20,7 +20,7 @@ use Rattle.durable.specs.Opening.{about_schema, IsBare, HasAbout, IsEmpty, HasFr
 use Rattle.durable.proofs.Texts.{about_text, entries_text, about_is, entries_is}
 use Rattle.durable.proofs.OpeningTexts.{own_terms}
 use Rattle.durable.proofs.Inserting.{enforced, went, same_value, cast_null, cast_int}
-use Rattle.durable.proofs.Orders.{store-of}
+use Rattle.durable.proofs.Orders.{no_rows, store-of}
 
 -- CREATE TABLE appends the table that its text defines, and keeps the rows of the others
 made : (limit : Option ℕ) (text : List ℕ) (schema : Schema) (table : Table) (db after : Database) (tally : Tally) → db.schema ≡ schema → table_defined_by text ≡ Ok table
@@ -86,16 +86,12 @@ row_made EntriesFirst limit text node db after tally has none does =
       ap (λ (d : Database). d.trees 0) now ∙ ap (λ (t : Trees). t 0) trees ∙ applied.others 0 (λ e. omega (arith, e)) tt,
     )
 
-both_empty : (order : TableOrder) (db : Trees) → db 0 ≡ [] → db 1 ≡ [] → (db (about_tree order) ≡ []) × (db (entries_tree order) ≡ [])
-both_empty AboutFirst db zero one = (zero, one)
-both_empty EntriesFirst db zero one = (one, zero)
-
 -- the owner's row makes it a store
 pub owner_made : (limit : Option ℕ) (text node : List ℕ) (db after : Database) (tally : Tally) (has : IsEmpty db)
     → Does limit enforced (Text node ∷ []) db text None (Insert (about_tree has.0) (Values own_terms 4)) (Ok (tally, after))
     → HasFresh node after × (after.schema ≡ db.schema)
 owner_made limit text node db after tally has does =
-    let none = both_empty has.0 db.trees has.2 has.3 in
+    let none = no_rows has.0 db.trees has.2 has.3 in
     let rows = row_made has.0 limit text node db after tally has.1 none.0 does in
     let it = store-of has.0 node [] after.trees rows.1 (rows.2 ∙ none.1) tt in
     ((rows.0 ∙ ap store_schema (sym it.order_is), record { store = it.store; node = it.node; slots = it.slots }), rows.0 ∙ sym has.1)

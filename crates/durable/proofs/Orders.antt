@@ -23,6 +23,15 @@ same_order schema AboutFirst EntriesFirst one two = let never : 3 ≡ 2 = ap (λ
 same_order schema EntriesFirst AboutFirst one two = let never : 2 ≡ 3 = ap (λ (s : Schema). first_columns s.tables) (sym one ∙ two) in absurd (omega (arith, never))
 same_order schema EntriesFirst EntriesFirst one two = refl
 
+-- with no row in either tree neither table has one, and the other way round
+pub no_rows : (order : TableOrder) (db : Trees) → db 0 ≡ [] → db 1 ≡ [] → (db (about_tree order) ≡ []) × (db (entries_tree order) ≡ [])
+no_rows AboutFirst db zero one = (zero, one)
+no_rows EntriesFirst db zero one = (one, zero)
+
+pub no_trees : (order : TableOrder) (db : Trees) → db (about_tree order) ≡ [] → db (entries_tree order) ≡ [] → (db 0 ≡ []) × (db 1 ≡ [])
+no_trees AboutFirst db about entries = (about, entries)
+no_trees EntriesFirst db about entries = (entries, about)
+
 -- a query reads the table's own tree
 pub own_rows : (db : Trees) (order : TableOrder) → overlay db [] (entries_tree order) ≡ db (entries_tree order)
 own_rows db AboutFirst = refl

@@ -14,20 +14,19 @@ use Rattle.durable.specs.Opening.{IsNew, IsEmpty, IsFresh, IsOpeningFault}
 use Rattle.durable.specs.Refusals.{IsFileFault, IsUnharmed}
 use Rattle.durable.specs.Tables.{TableOrder, AboutFirst, EntriesFirst, about_tree, entries_tree, store_schema, no_schema}
 use Rattle.durable.specs.declared.fault.StoreFault.{StoreFault}
+use Rattle.durable.proofs.Orders.{no_rows}
 use Rattle.durable.specs.declared.fault.StoreFault.TheVariants.{Device, Full, Damaged, WrongNode, WrongVersion, Reopen, NoMemory}
 
 two-tables : (order : TableOrder) (schema : Schema) → schema ≡ store_schema order → schema ≡ no_schema → ⊥
 two-tables AboutFirst schema two none = let never : 2 ≡ 0 = ap (λ (s : Schema). length s.tables) (sym two ∙ none) in omega (arith, never)
 two-tables EntriesFirst schema two none = let never : 2 ≡ 0 = ap (λ (s : Schema). length s.tables) (sym two ∙ none) in omega (arith, never)
 
--- in a file with no row, no table has one
+-- whichever table was made first
 no-owner : (order : TableOrder) (db : Database) → IsEmpty db → db.trees (about_tree order) ≡ []
-no-owner AboutFirst db empty = empty.2
-no-owner EntriesFirst db empty = empty.3
+no-owner order db empty = (no_rows order db.trees empty.2 empty.3).0
 
 no-record : (order : TableOrder) (db : Database) → IsEmpty db → db.trees (entries_tree order) ≡ []
-no-record AboutFirst db empty = empty.3
-no-record EntriesFirst db empty = empty.2
+no-record order db empty = (no_rows order db.trees empty.2 empty.3).1
 
 no-row : (rows : List Row) (row : Row) → rows ≡ row ∷ [] → rows ≡ [] → ⊥
 no-row rows row one none = let never : 1 ≡ 0 = ap length (sym one ∙ none) in omega (arith, never)

@@ -5,7 +5,6 @@ use Rattle.std.proofs.lemmas.Int.{ints}
 use Rattle.std.proofs.lemmas.List.Elements.{recursion_from_All}
 use Rattle.sqlite.specs.Order.{Row, column}
 use Rattle.sqlite.specs.Effect.{Database}
-use Rattle.sqlite.specs.Tree.{Trees}
 use Rattle.sqlite_rules.specs.Edit.{id_in}
 use Rattle.durable.specs.declared.fault.StoreFault.TheVariants.{Damaged, WrongNode, WrongVersion}
 use Rattle.durable.specs.declared.opening.Contents.TheVariants.{NoRow, OwnStore}
@@ -13,9 +12,9 @@ use Rattle.durable.specs.declared.owner_row.Owner.TheVariants.{Nobody, OtherForm
 use Rattle.durable.specs.Held.{IsStore}
 use Rattle.durable.specs.Slots.{place_of, slots_from, AreEntries}
 use Rattle.durable.specs.Opening.{HasRows, IsLeastOrGreatest, HasLeastOrGreatest, places_in, IsOwner, IsVerdict, IsNegative}
-use Rattle.durable.specs.Tables.{TableOrder, AboutFirst, EntriesFirst, about_tree, entries_tree, store_schema, about, entry_rows}
+use Rattle.durable.specs.Tables.{TableOrder, about_tree, entries_tree, store_schema, about, entry_rows}
 use Rattle.durable.proofs.Places.{length-slots}
-use Rattle.durable.proofs.Orders.{same_order, found_order, store-of}
+use Rattle.durable.proofs.Orders.{same_order, no_trees, found_order, store-of}
 use Rattle.durable.proofs.Judging.{negative, not_low, some_store, entries_from}
 
 -- the least place, by the order that is known
@@ -31,12 +30,8 @@ nobody node db place has owner end =
     let least = least_in db (Some place) owner.0 owner.1 end in
     (refl, inr (inl (owner.0, owner.1, owner.2, λ none. let never = subst (λ rows. least.0.0 < length (places_in rows)) none least.0.1 in omega (arith, never))))
 
-either_empty : (order : TableOrder) (db : Trees) → db (about_tree order) ≡ [] → db (entries_tree order) ≡ [] → (db 0 ≡ []) × (db 1 ≡ [])
-either_empty AboutFirst db about entries = (about, entries)
-either_empty EntriesFirst db about entries = (entries, about)
-
 pub no_row : (node : List ℕ) (db : Database) → HasRows db → IsOwner node db Nobody → HasLeastOrGreatest false db None → IsVerdict node db (Ok NoRow)
-no_row node db has owner end = let none = either_empty owner.0 db.trees owner.2 (least_in db None owner.0 owner.1 end) in (owner.0, owner.1, none.0, none.1)
+no_row node db has owner end = let none = no_trees owner.0 db.trees owner.2 (least_in db None owner.0 owner.1 end) in (owner.0, owner.1, none.0, none.1)
 
 pub other_format : (node : List ℕ) (db : Database) (least : Option ℤ) → HasRows db → IsOwner node db OtherFormat → HasLeastOrGreatest false db least → (IsNegative least → ⊥) → IsVerdict node db (Err WrongVersion)
 other_format node db least has owner end high = (some_store owner.0 db owner.2 least owner.1 owner.3 high (least_in db least owner.0 owner.1 end), owner)

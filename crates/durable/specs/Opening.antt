@@ -151,7 +151,7 @@ IsVerdict node db (Ok NoRow) = IsEmpty db
 IsVerdict node db (Ok OwnStore) = (db.schema ≡ store_schema (order_in db.trees)) × IsStore db.trees × (node_in db.trees ≡ node)
 IsVerdict node db (Err fault) = IsOpeningFault node db fault
 
--- the tables after an opening: as they were, or in a file without a table both of a store, of which `about` is made first
+-- the tables after an opening: as they were, or both of a store, `about` first, in a file that had none
 abbrev pub HasItsTables : Schema → Schema → Type 0
 HasItsTables before after = ((before ≡ no_schema) × (after ≡ store_schema AboutFirst)) ⊎ (IsStoreSchema before × (after ≡ before))
 

@@ -92,8 +92,8 @@ about format node = Int (pos 1) ∷ Null ∷ Int (pos format) ∷ Words node ∷
 abbrev pub entry : ℕ → List ℕ → Row
 entry place body = Int (pos place) ∷ Null ∷ Words body ∷ []
 
--- Which table was made first, as the rows of tree 1 tell: `entries` exactly when the first of them has four values, as a
--- row of `about` has.
+-- Which table was made first, as the rows of tree 1 tell: `entries` exactly when the first of them has four values, as
+-- a row of `about` has.
 abbrev pub order_of : List Row → TableOrder
 order_of ((id ∷ key ∷ format ∷ node ∷ []) ∷ rows) = EntriesFirst
 order_of rows = AboutFirst

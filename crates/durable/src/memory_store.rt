@@ -22,7 +22,7 @@ pub enum Kept {
     None,
 }
 
-// Lets `passes` appends pass, and then burns, once.
+/// Lets `passes` appends pass, and then burns, once.
 #[derive(Clone, Copy, Debug, PartialEq, Eq)]
 struct Fuse {
     passes: u64,
@@ -52,7 +52,7 @@ impl Model for MemoryStore {
     ghost invariant = { λ s. AreRecords (written s.records.items) s.records.items };
 }
 
-// Equal inputs.
+/// Equal inputs.
 fn copies(alloc: Global, inputs: &[Input]) -> Result<Vec<Input>, NoMemory>
     ensures { IfOk result (λ copies. copies.items ≡ inputs.now) }
 {
@@ -64,7 +64,7 @@ fn copies(alloc: Global, inputs: &[Input]) -> Result<Vec<Input>, NoMemory>
     Ok(copies)
 }
 
-// Puts the batch after the records, if each input of it has a text. After `NoMemory` the records are as they were.
+/// Puts the batch after the records, if each input of it has a text. After `NoMemory` the records are as they were.
 fn grow(alloc: Global, records: &mut Vec<Input>, batch: &[Input]) -> Result<(), NoMemory>
     ensures ok { OnOk result (records.new.items ≡ records.old.items ++ batch.now) }
     ensures records { OnOk result (AreRecords (written batch.now) batch.now) }
@@ -116,7 +116,8 @@ impl MemoryStore {
         self.node
     }
 
-    // Puts the batch after the records, whatever the fuse. After `NoMemory` the store must be reopened, and all else is as it was.
+    /// Puts the batch after the records, whatever the fuse. After `NoMemory` the store must be reopened, and all else
+    /// is as it was.
     fn keep(&mut self, batch: &[Input]) -> Result<(), StoreFault>
         ensures ok { OnOk result (self.new ≡ record self.old { inputs = self.old.inputs ++ batch.now }) }
         ensures refused { OnErr result (self.new ≡ stopped self.old) }
@@ -131,7 +132,7 @@ impl MemoryStore {
         }
     }
 
-    // The fuse burns at the batch, of which it keeps all or nothing.
+    /// The fuse burns at the batch, of which it keeps all or nothing.
     fn burn(&mut self, batch: &[Input], keeps: Kept) -> Result<(), StoreFault>
         ensures named { (result ≡ Err Device) ⊎ (result ≡ Err OutOfMemory) }
         ensures device { result ≡ Err Device → self.new ≡ burned keeps batch.now self.old }

@@ -55,7 +55,7 @@ impl<S: Alter + Drop> Drop for OpenStore<S> {
     }
 }
 
-// The count with the batch, if the places fit.
+/// The count with the batch, if the places fit.
 fn total(count: u64, more: usize) -> Option<u64>
     ensures sum { IfSome result (λ total. total ≡ count + more) }
     ensures fits { IfSome result (λ total. total < 2 ^ 62) }
@@ -98,7 +98,7 @@ impl<S: Alter> OpenStore<S> {
         conn
     }
 
-    // The texts of a batch at the places after the content.
+    /// The texts of a batch at the places after the content.
     fn put(&mut self, texts: &[Vec<u8>]) -> Result<(), StoreFault>
         requires runs { self.old.must_reopen ≡ false }
         ensures named { IfErr result (λ e. (e ≡ NoMemory) ⊎ IsTrue (is_device_fault e)) }
@@ -149,7 +149,7 @@ impl<S: Alter> OpenStore<S> {
         self.put(&texts)
     }
 
-    // The records of the places from the first one up to another, of which there is at least one.
+    /// The records of the places from the first one up to another, of which there is at least one.
     fn records_between(&mut self, first: u64, until: u64) -> Result<Vec<Input>, StoreFault>
         requires runs { self.old.must_reopen ≡ false }
         requires some { first < until }

@@ -22,7 +22,7 @@ use std::mem;
 use units::Node;
 use wire::Input;
 
-// What the failed calls of files have met before the first call.
+/// What the failed calls of files have met before the first call.
 const UNTOUCHED: Tally = Tally {
     caught: 0,
     refused: 0,
@@ -102,7 +102,7 @@ impl<D: Disk + Drop> SqlStore<D> {
     }
 }
 
-// Why a connection to the files at a path could not be made, by what is left of them, where they were opened at all.
+/// Why a connection to the files at a path could not be made, by what is left of them, where they were opened at all.
 fn path_fault(error: SqlError, left: Option<Leftover<File>>) -> StoreFault
     ensures unopened { left ≡ None → result ≡ store_fault_of error }
     ensures no_database { left ≢ None → error ≡ SqlError.SqliteFailure ErrorCode.NotADatabase → result ≡ StoreFault.Damaged 0 }

@@ -177,6 +177,23 @@ fn what_is_no_store_is_refused(rt: HostRuntime) -> Result<(), Fail> {
 }
 
 #[test]
+fn tables_made_in_the_other_order_are_a_store(rt: HostRuntime) -> Result<(), Fail> {
+    let alloc = rt.alloc();
+    let tables = [
+        "CREATE TABLE entries (place INTEGER PRIMARY KEY, body TEXT NOT NULL) STRICT",
+        "CREATE TABLE about (id INTEGER PRIMARY KEY CHECK (id = 1), format INTEGER NOT NULL, node TEXT NOT NULL) STRICT",
+    ];
+    let files = changed(alloc, new_files(alloc, FOREVER, FOREVER), &tables)?;
+    let mut store = open_as(alloc, files, "NZ")?;
+    assert_eq!(rt; store.append(&two(alloc)?), Ok(()));
+    let (fault, files) = refusal(alloc, store.close_files(), "JP")?;
+    assert_eq!(rt; fault, StoreFault::WrongNode);
+    let mut again = open_as(alloc, files, "NZ")?;
+    assert!(rt; are_two(alloc, &again.load()?));
+    Ok(())
+}
+
+#[test]
 fn a_file_that_is_no_database_is_refused(rt: HostRuntime) -> Result<(), Fail> {
     let alloc = rt.alloc();
     let mut files = new_files(alloc, FOREVER, FOREVER);

@@ -2,25 +2,13 @@
 ghost use Rattle.std.specs.Prelude.{◌≡◌, ◌++◌, OnOk, codes, decimal, option_copied, string_bytes};
 ghost use Rattle.units.specs.Code.{node_text};
 ghost use Rattle.chart_lines.specs.ChartLines.{deliver_line, event_line, note_line, order_text, post_line};
-ghost use Rattle.report_lines.specs.ReportLines.{outcome_text};
 
-use crate::messages::push_delivered;
+use crate::messages::{push_delivered, push_end};
 use crate::orders::push_order;
 use protocol::{Outcome, WorldEvent};
-use report_lines::push_outcome_text;
 use std::fmt::Write;
 use units::{NoMemory, Node};
 use wire::{Input, Message};
-
-/// Adds what comes after the words of a note.
-fn push_end(text: &mut String, outcome: Outcome) -> Result<(), NoMemory>
-    ensures { OnOk result (string_bytes text.new ≡ string_bytes text.old ++ (codes ", " ++ outcome_text outcome ++ codes "\n")) }
-{
-    text.push_str(", ")?;
-    push_outcome_text(text, outcome)?;
-    text.push_str("\n")?;
-    Ok(())
-}
 
 /// Adds what comes before the words of a note.
 fn push_over(text: &mut String, node: Node) -> Result<(), NoMemory>

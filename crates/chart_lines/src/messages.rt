@@ -1,6 +1,7 @@
 //! The lines of messages.
 ghost use Rattle.std.specs.Prelude.{◌≡◌, ◌++◌, OnOk, codes, string_bytes};
 ghost use Rattle.chart_lines.specs.ChartLines.{arrow, delivered_line, lost_line, message_text, shape_of};
+ghost use Rattle.report_lines.specs.ReportLines.{outcome_text};
 
 use protocol::Outcome;
 use report_lines::push_outcome_text;
@@ -40,6 +41,16 @@ fn shape_of(outcome: Outcome) -> &'static str
     }
 }
 
+/// Adds what an event came to, and the end of its line.
+pub(crate) fn push_end(text: &mut String, outcome: Outcome) -> Result<(), NoMemory>
+    ensures { OnOk result (string_bytes text.new ≡ string_bytes text.old ++ (codes ", " ++ outcome_text outcome ++ codes "\n")) }
+{
+    text.push_str(", ")?;
+    push_outcome_text(text, outcome)?;
+    text.push_str("\n")?;
+    Ok(())
+}
+
 /// Adds the line of a message that comes to its addressee, and what that came to.
 pub(crate) fn push_delivered(
     text: &mut String,
@@ -49,9 +60,7 @@ pub(crate) fn push_delivered(
     ensures { OnOk result (string_bytes text.new ≡ string_bytes text.old ++ delivered_line message.now outcome) }
 {
     push_arrow(text, shape_of(outcome), message)?;
-    text.push_str(", ")?;
-    push_outcome_text(text, outcome)?;
-    text.push_str("\n")?;
+    push_end(text, outcome)?;
     Ok(())
 }
 

@@ -5,7 +5,6 @@ use protocol::{NodeCore, Outcome, Stepped, replay};
 use scheme::Scheme;
 use std::alloc::Global;
 use std::process::Abort;
-use std::test::Fail;
 use units::{Node, Refusal};
 use wire::{Input, Message, decode_input, encode};
 
@@ -18,31 +17,30 @@ const REGISTRIES: &str =
     r#","registries":[{"accounts":[7,8],"allotted":[],"code":"JP","eligible":true,"kinds":["AAU","CER"]},{"accounts":[1,2],"allotted":[{"account":1,"units":["NZ:1:1-100:AAU"]}],"code":"NZ","eligible":true,"kinds":["AAU","RMU","ERU","CER","tCER","lCER"]}]}"#;
 
 /// The worked scheme, with room for that many records.
-pub fn scheme(alloc: Global, room: &str) -> Result<Scheme, Fail> {
+pub fn scheme(rt: &impl Abort, alloc: Global, room: &str) -> Scheme {
     let mut text = String::new(alloc);
     for piece in [RECORDS, room, REGISTRIES] {
-        text.push_str(piece)?;
+        text.push_str(piece).expect(rt, "memory");
     }
-    Ok(Scheme::read(alloc, text.as_bytes())?)
+    Scheme::read(alloc, text.as_bytes()).expect(rt, "a scheme")
 }
 
 /// A core whose tables can be seen.
 pub trait Seen: NodeCore {
     /// Whether its tables say what those of the other say.
-    fn is_like(&self, other: &Self) -> Result<bool, Fail>;
+    fn is_like(&self, rt: &impl Abort, other: &Self) -> bool;
 }
 
 /// Asserts that the core is as its journal says.
-fn assert_as_replayed<C: Seen>(rt: &impl Abort, core: &C) -> Result<(), Fail> {
-    let replayed = replay(core, core.journal())?;
+fn assert_as_replayed<C: Seen>(rt: &impl Abort, core: &C) {
+    let replayed = replay(core, core.journal()).expect(rt, "a core");
     assert_eq!(rt; core.sends(), replayed.sends());
     let (next, expected) = (
         core.next_unacknowledged(Node::Itl, 0),
         replayed.next_unacknowledged(Node::Itl, 0),
     );
     assert_eq!(rt; next, expected);
-    assert!(rt; core.is_like(&replayed)?);
-    Ok(())
+    assert!(rt; core.is_like(rt, &replayed));
 }
 
 fn outcome(stepped: Result<Stepped, Refusal>) -> Outcome {
@@ -55,42 +53,30 @@ fn outcome(stepped: Result<Stepped, Refusal>) -> Outcome {
 }
 
 /// Steps the core by the input. Where memory ran out nothing has changed, and the core is stepped once more.
-fn step<C: Seen>(rt: &impl Abort, core: &mut C, input: &Input) -> Result<Outcome, Fail> {
+fn step<C: Seen>(rt: &impl Abort, core: &mut C, input: &Input) -> Outcome {
     let (records, sends) = (core.records(), core.sends());
     let first = core.step(input);
     if first != Err(Refusal::NO_MEMORY) {
-        return Ok(outcome(first));
+        return outcome(first);
     }
     assert_eq!(rt; core.records(), records);
     assert_eq!(rt; core.sends(), sends);
-    assert_as_replayed(rt, core)?;
-    Ok(outcome(core.step(input)))
+    assert_as_replayed(rt, core);
+    outcome(core.step(input))
 }
 
 /// Steps the core by each input, and asserts what comes of it.
-pub fn walk<C: Seen>(
-    rt: &impl Abort,
-    alloc: Global,
-    core: &mut C,
-    row: &[(&str, Outcome)],
-) -> Result<(), Fail> {
+pub fn walk<C: Seen>(rt: &impl Abort, alloc: Global, core: &mut C, row: &[(&str, Outcome)]) {
     for (text, expected) in row {
-        let input = decode_input(alloc, text.as_bytes())?;
-        let outcome = step(rt, core, &input)?;
+        let input = decode_input(alloc, text.as_bytes()).expect(rt, "an input");
+        let outcome = step(rt, core, &input);
         assert_eq!(rt; outcome, *expected, "{text}");
     }
-    Ok(())
 }
 
-fn assert_text(
-    rt: &impl Abort,
-    alloc: Global,
-    message: &Message,
-    expected: &str,
-) -> Result<(), Fail> {
-    let text = encode(alloc, message)?;
+fn assert_text(rt: &impl Abort, alloc: Global, message: &Message, expected: &str) {
+    let text = encode(alloc, message).expect(rt, "memory");
     assert_eq!(rt; text.as_slice(), expected.as_bytes());
-    Ok(())
 }
 
 /// Asserts that the messages from that key on have these texts, and that no other comes after them.
@@ -100,13 +86,12 @@ pub fn assert_sent<C: NodeCore>(
     core: &C,
     first: usize,
     texts: &[&str],
-) -> Result<(), Fail> {
+) {
     let mut key = first;
     for expected in texts {
-        let message = core.outbox(key).ok_or("a message")?;
-        assert_text(rt, alloc, message, expected)?;
+        let message = core.outbox(key).expect(rt, "a message");
+        assert_text(rt, alloc, message, expected);
         key = key.saturating_add(1);
     }
     assert_eq!(rt; core.sends(), key);
-    Ok(())
 }

@@ -2,7 +2,6 @@ use crate::cores::{ROOM, assert_sent, walk};
 use crate::registries::{assert_none_held, registry};
 use protocol::Outcome;
 use protocol::Outcome::{Late, Recorded, Refused, Repeat};
-use std::test::Fail;
 
 const CLOSE_7: &str = r#"{"account":7,"input":"close"}"#;
 
@@ -61,12 +60,12 @@ const REJECTED: &[&str] = &[
 ];
 
 #[test]
-fn an_acquirer_finds_each_cause(rt: HostRuntime) -> Result<(), Fail> {
+fn an_acquirer_finds_each_cause(rt: HostRuntime) {
     let alloc = rt.alloc();
-    let mut jp = registry(alloc, "JP", ROOM)?;
-    walk(&rt, alloc, &mut jp, TRANSFER_IN)?;
+    let mut jp = registry(&rt, alloc, "JP", ROOM);
+    walk(&rt, alloc, &mut jp, TRANSFER_IN);
     assert_eq!(rt; jp.holdings().free_count(7), 10);
-    walk(&rt, alloc, &mut jp, PROPOSALS_WITH_FINDINGS)?;
+    walk(&rt, alloc, &mut jp, PROPOSALS_WITH_FINDINGS);
     assert_sent(&rt, alloc, &jp, 1, REJECTED)
 }
 
@@ -107,9 +106,9 @@ const REFUSED_MESSAGES: &[(&str, Outcome)] = &[
 ];
 
 #[test]
-fn messages_are_refused_by_their_first_cause(rt: HostRuntime) -> Result<(), Fail> {
+fn messages_are_refused_by_their_first_cause(rt: HostRuntime) {
     let alloc = rt.alloc();
-    let mut jp = registry(alloc, "JP", ROOM)?;
+    let mut jp = registry(&rt, alloc, "JP", ROOM);
     walk(&rt, alloc, &mut jp, REFUSED_MESSAGES)
 }
 
@@ -127,9 +126,9 @@ const CANCELLED_TRANSFERS: &[(&str, Outcome)] = &[
 ];
 
 #[test]
-fn a_cancelled_transfer_comes_late(rt: HostRuntime) -> Result<(), Fail> {
+fn a_cancelled_transfer_comes_late(rt: HostRuntime) {
     let alloc = rt.alloc();
-    let mut jp = registry(alloc, "JP", ROOM)?;
-    walk(&rt, alloc, &mut jp, CANCELLED_TRANSFERS)?;
+    let mut jp = registry(&rt, alloc, "JP", ROOM);
+    walk(&rt, alloc, &mut jp, CANCELLED_TRANSFERS);
     assert_none_held(&rt, &jp, "NZ:1:1-10:AAU")
 }

@@ -4,7 +4,6 @@ use checks::log_findings;
 use protocol::Outcome::{Late, Recorded, Refused, Repeat};
 use protocol::{NodeCore, Outcome, ReplayFault, resume};
 use status::Content;
-use std::test::Fail;
 use units::{Block, Code, Items};
 use wire::decode_input;
 
@@ -48,28 +47,27 @@ const REFUSALS: &[(&str, Outcome)] = &[
 ];
 
 #[test]
-fn messages_are_refused_in_order(rt: HostRuntime) -> Result<(), Fail> {
+fn messages_are_refused_in_order(rt: HostRuntime) {
     let alloc = rt.alloc();
-    let mut log = log(alloc, ROOM)?;
-    walk(&rt, alloc, &mut log, REFUSALS)?;
-    assert_owner(&rt, &log, "NZ:1:1-1:AAU", "NZ", true)?;
+    let mut log = log(&rt, alloc, ROOM);
+    walk(&rt, alloc, &mut log, REFUSALS);
+    assert_owner(&rt, &log, "NZ:1:1-1:AAU", "NZ", true);
     assert_eq!(rt; log.pieces().len(), 1);
-    Ok(())
 }
 
 const FROM_JP: &str =
     r#"{"input":"received","message":{"account":7,"call":"AcceptProposal","from":"JP","status":"Proposed","to":"ITL","to_account":7,"to_registry":"JP","transaction":"JP1","units":["NZ:1:100-101:CER"]},"moment":1335830400}"#;
 
 #[test]
-fn findings_terminate_a_transfer(rt: HostRuntime) -> Result<(), Fail> {
+fn findings_terminate_a_transfer(rt: HostRuntime) {
     let alloc = rt.alloc();
-    let mut log = log(alloc, ROOM)?;
+    let mut log = log(&rt, alloc, ROOM);
     walk(
         &rt,
         alloc,
         &mut log,
         &[(FROM_JP, Recorded(0)), (FROM_JP, Repeat)],
-    )?;
+    );
     assert_sent(
         &rt,
         alloc,
@@ -82,18 +80,17 @@ fn findings_terminate_a_transfer(rt: HostRuntime) -> Result<(), Fail> {
 }
 
 #[test]
-fn a_proposal_has_all_its_findings(rt: HostRuntime) -> Result<(), Fail> {
+fn a_proposal_has_all_its_findings(rt: HostRuntime) {
     let alloc = rt.alloc();
-    let jp = Code::read("JP").ok_or("a code")?;
-    let block = Block::read("NZ:1:100-101:CER")?;
-    let units = Items::from_vec(Vec::from_slice(alloc, &[block])?);
-    let content = Content::new(7, jp, 7, units).ok_or("a content")?;
-    let scheme = scheme(alloc, ROOM)?;
-    let register = opening_register(alloc, &scheme)?;
-    let found = log_findings(alloc, &scheme, &register, jp, &content)?;
-    let codes = found.ok_or("findings")?;
+    let jp = Code::read("JP").expect(&rt, "a code");
+    let block = Block::read("NZ:1:100-101:CER").expect(&rt, "a block");
+    let units = Items::from_vec(Vec::from_slice(alloc, &[block]).expect(&rt, "memory"));
+    let content = Content::new(7, jp, 7, units).expect(&rt, "a content");
+    let scheme = scheme(&rt, alloc, ROOM);
+    let register = opening_register(&rt, alloc, &scheme);
+    let found = log_findings(alloc, &scheme, &register, jp, &content).expect(&rt, "memory");
+    let codes = found.expect(&rt, "findings");
     assert_eq!(rt; codes.as_slice(), [201, 203, 204, 206].as_slice());
-    Ok(())
 }
 
 const TRANSFER: &[(&str, Outcome)] = &[
@@ -109,15 +106,14 @@ const TRANSFER: &[(&str, Outcome)] = &[
 ];
 
 #[test]
-fn a_completed_transfer_moves_the_book(rt: HostRuntime) -> Result<(), Fail> {
+fn a_completed_transfer_moves_the_book(rt: HostRuntime) {
     let alloc = rt.alloc();
-    let mut log = log(alloc, ROOM)?;
-    walk(&rt, alloc, &mut log, TRANSFER)?;
-    assert_owner(&rt, &log, "NZ:1:100-100:AAU", "JP", false)?;
+    let mut log = log(&rt, alloc, ROOM);
+    walk(&rt, alloc, &mut log, TRANSFER);
+    assert_owner(&rt, &log, "NZ:1:100-100:AAU", "JP", false);
     assert!(rt; log.acknowledged(0) && !log.acknowledged(1));
-    let record = [decode_input(alloc, PROPOSAL.as_bytes())?];
+    let record = [decode_input(alloc, PROPOSAL.as_bytes()).expect(&rt, "an input")];
     assert_eq!(rt; resume(&mut log, &record), Err(ReplayFault::NotRecorded(4)));
-    Ok(())
 }
 
 const CLEANED: &[(&str, Outcome)] = &[
@@ -129,11 +125,11 @@ const CLEANED: &[(&str, Outcome)] = &[
 ];
 
 #[test]
-fn a_clean_up_cancels_after_a_day(rt: HostRuntime) -> Result<(), Fail> {
+fn a_clean_up_cancels_after_a_day(rt: HostRuntime) {
     let alloc = rt.alloc();
-    let mut log = log(alloc, ROOM)?;
-    walk(&rt, alloc, &mut log, CLEANED)?;
-    assert_owner(&rt, &log, "NZ:1:1-1:AAU", "NZ", false)?;
+    let mut log = log(&rt, alloc, ROOM);
+    walk(&rt, alloc, &mut log, CLEANED);
+    assert_owner(&rt, &log, "NZ:1:1-1:AAU", "NZ", false);
     assert_sent(
         &rt,
         alloc,
@@ -159,10 +155,10 @@ const TWO_CLEANED: &[(&str, Outcome)] = &[
 ];
 
 #[test]
-fn a_clean_up_goes_by_code_and_number(rt: HostRuntime) -> Result<(), Fail> {
+fn a_clean_up_goes_by_code_and_number(rt: HostRuntime) {
     let alloc = rt.alloc();
-    let mut log = log(alloc, ROOM)?;
-    walk(&rt, alloc, &mut log, TWO_CLEANED)?;
+    let mut log = log(&rt, alloc, ROOM);
+    walk(&rt, alloc, &mut log, TWO_CLEANED);
     assert_sent(
         &rt,
         alloc,
@@ -196,10 +192,10 @@ const REQUESTED: &[(&str, Outcome)] = &[
 ];
 
 #[test]
-fn a_request_comes_before_its_proposal(rt: HostRuntime) -> Result<(), Fail> {
+fn a_request_comes_before_its_proposal(rt: HostRuntime) {
     let alloc = rt.alloc();
-    let mut log = log(alloc, ROOM)?;
-    walk(&rt, alloc, &mut log, REQUESTED)?;
+    let mut log = log(&rt, alloc, ROOM);
+    walk(&rt, alloc, &mut log, REQUESTED);
     assert_sent(
         &rt,
         alloc,

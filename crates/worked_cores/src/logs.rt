@@ -7,7 +7,6 @@ use scheme::Scheme;
 use std::alloc::Global;
 use std::collections::BTreeMap;
 use std::process::Abort;
-use std::test::Fail;
 use units::{Block, Code, UnitMap};
 
 /// A unit of each part of what is allotted, as blocks of it.
@@ -19,48 +18,45 @@ const UNITS: [&str; 4] = [
 ];
 
 /// The log of the worked scheme, with room for that many records.
-pub fn log(alloc: Global, room: &str) -> Result<LogCore, Fail> {
-    let scheme = scheme(alloc, room)?;
-    Ok(LogCore::new(alloc, &scheme)?)
+pub fn log(rt: &impl Abort, alloc: Global, room: &str) -> LogCore {
+    let scheme = scheme(rt, alloc, room);
+    LogCore::new(alloc, &scheme).expect(rt, "memory")
 }
 
 /// What the log of the worked scheme knows of units and registries at the start: all units are NZ's.
-pub fn opening_register(alloc: Global, scheme: &Scheme) -> Result<Register, Fail> {
-    let registry = Code::read("NZ").ok_or("a code")?;
+pub fn opening_register(rt: &impl Abort, alloc: Global, scheme: &Scheme) -> Register {
+    let registry = Code::read("NZ").expect(rt, "a code");
     let mut book = UnitMap::new(alloc);
-    book.set(&Block::read("NZ:1:1-100:AAU")?, Some(Owner { registry }))?;
-    Ok(Register {
-        allotments: scheme.allotments(alloc)?,
+    book.set(
+        &Block::read("NZ:1:1-100:AAU").expect(rt, "a block"),
+        Some(Owner { registry }),
+    )
+    .expect(rt, "memory");
+    Register {
+        allotments: scheme.allotments(alloc).expect(rt, "memory"),
         book,
         under_way: UnitMap::new(alloc),
         orders: BTreeMap::new(alloc),
-    })
+    }
 }
 
 impl Seen for LogCore {
-    fn is_like(&self, other: &LogCore) -> Result<bool, Fail> {
+    fn is_like(&self, rt: &impl Abort, other: &LogCore) -> bool {
         for text in UNITS {
-            let unit = Block::read(text)?.first_unit();
+            let unit = Block::read(text).expect(rt, "a block").first_unit();
             if self.book_owner(&unit) != other.book_owner(&unit)
                 || self.transfer_of(&unit) != other.transfer_of(&unit)
             {
-                return Ok(false);
+                return false;
             }
         }
-        Ok(self.pieces().len() == other.pieces().len())
+        self.pieces().len() == other.pieces().len()
     }
 }
 
 /// Asserts who owns the first unit of that block, and whether a transfer has it.
-pub fn assert_owner(
-    rt: &impl Abort,
-    log: &LogCore,
-    block: &str,
-    owner: &str,
-    is_under_way: bool,
-) -> Result<(), Fail> {
-    let unit = Block::read(block)?.first_unit();
+pub fn assert_owner(rt: &impl Abort, log: &LogCore, block: &str, owner: &str, is_under_way: bool) {
+    let unit = Block::read(block).expect(rt, "a block").first_unit();
     assert_eq!(rt; log.book_owner(&unit), Code::read(owner));
     assert_eq!(rt; log.transfer_of(&unit).is_some(), is_under_way);
-    Ok(())
 }

@@ -7,7 +7,6 @@ use registry_core::RegistryCore;
 use status::{Order, Status, TransactionId};
 use std::alloc::Global;
 use std::process::Abort;
-use std::test::Fail;
 use units::limits::LAST_TRANSACTION;
 use units::{Code, Node, Refusal};
 use wire::{Input, decode_input};
@@ -81,36 +80,35 @@ const REFUSED_ORDERS: &[(&str, Outcome)] = &[
 ];
 
 #[test]
-fn orders_are_refused_by_their_first_cause(rt: HostRuntime) -> Result<(), Fail> {
+fn orders_are_refused_by_their_first_cause(rt: HostRuntime) {
     let alloc = rt.alloc();
-    let mut nz = registry(alloc, "NZ", ROOM)?;
-    walk(&rt, alloc, &mut nz, REFUSED_ORDERS)?;
+    let mut nz = registry(&rt, alloc, "NZ", ROOM);
+    walk(&rt, alloc, &mut nz, REFUSED_ORDERS);
     assert_eq!(rt; nz.holdings().free_count(1), 40);
-    Ok(())
 }
 
-fn order(alloc: Global, text: &str) -> Result<Order, Fail> {
-    match decode_input(alloc, text.as_bytes())? {
-        Input::Propose(order) => Ok(order),
-        _ => Err(Fail::new("another input")),
+/// The order of that text, if it is one to transfer units.
+fn order(rt: &impl Abort, alloc: Global, text: &str) -> Option<Order> {
+    match decode_input(alloc, text.as_bytes()).expect(rt, "an input") {
+        Input::Propose(order) => Some(order),
+        _ => None,
     }
 }
 
 /// Why NZ refuses the order once it has numbered that many transactions.
-fn refusal_after(alloc: Global, order: &Order, last: u32) -> Result<Option<Refusal>, Fail> {
-    let scheme = scheme(alloc, ROOM)?;
-    let code = Code::read("NZ").ok_or("a code")?;
-    let nz = RegistryCore::new(alloc, &scheme, code)?;
-    Ok(propose_check(alloc, &scheme, code, nz.holdings(), last, order).err())
+fn refusal_after(rt: &impl Abort, alloc: Global, order: &Order, last: u32) -> Option<Refusal> {
+    let scheme = scheme(rt, alloc, ROOM);
+    let code = Code::read("NZ").expect(rt, "a code");
+    let nz = RegistryCore::new(alloc, &scheme, code).expect(rt, "memory");
+    propose_check(alloc, &scheme, code, nz.holdings(), last, order).err()
 }
 
 #[test]
-fn transactions_are_used_up(rt: HostRuntime) -> Result<(), Fail> {
+fn transactions_are_used_up(rt: HostRuntime) {
     let alloc = rt.alloc();
-    let order = order(alloc, HUNDRED)?;
-    let refusal = refusal_after(alloc, &order, LAST_TRANSACTION)?;
+    let order = order(&rt, alloc, HUNDRED).expect(&rt, "an order");
+    let refusal = refusal_after(&rt, alloc, &order, LAST_TRANSACTION);
     assert_eq!(rt; refusal, Some(Refusal { code: 109 }));
-    Ok(())
 }
 
 const ACCOUNT_ORDERS: &[(&str, Outcome)] = &[
@@ -122,9 +120,9 @@ const ACCOUNT_ORDERS: &[(&str, Outcome)] = &[
 ];
 
 #[test]
-fn accounts_are_closed_and_opened(rt: HostRuntime) -> Result<(), Fail> {
+fn accounts_are_closed_and_opened(rt: HostRuntime) {
     let alloc = rt.alloc();
-    let mut nz = registry(alloc, "NZ", ROOM)?;
+    let mut nz = registry(&rt, alloc, "NZ", ROOM);
     walk(&rt, alloc, &mut nz, ACCOUNT_ORDERS)
 }
 
@@ -145,14 +143,13 @@ fn assert_acknowledged(rt: &impl Abort, nz: &RegistryCore) {
 }
 
 #[test]
-fn acknowledgements_are_recorded_once(rt: HostRuntime) -> Result<(), Fail> {
+fn acknowledgements_are_recorded_once(rt: HostRuntime) {
     let alloc = rt.alloc();
-    let mut nz = registry(alloc, "NZ", ROOM)?;
-    walk(&rt, alloc, &mut nz, &[(HUNDRED, Recorded(0))])?;
+    let mut nz = registry(&rt, alloc, "NZ", ROOM);
+    walk(&rt, alloc, &mut nz, &[(HUNDRED, Recorded(0))]);
     assert_eq!(rt; nz.next_unacknowledged(Node::Itl, 0), Some(0));
-    walk(&rt, alloc, &mut nz, ACKNOWLEDGEMENTS)?;
+    walk(&rt, alloc, &mut nz, ACKNOWLEDGEMENTS);
     assert_acknowledged(&rt, &nz);
-    Ok(())
 }
 
 /// The room of a journal that one record fills.
@@ -166,9 +163,9 @@ const FULL: &[(&str, Outcome)] = &[
 ];
 
 #[test]
-fn full_journals_refuse_what_would_be_recorded(rt: HostRuntime) -> Result<(), Fail> {
+fn full_journals_refuse_what_would_be_recorded(rt: HostRuntime) {
     let alloc = rt.alloc();
-    let mut nz = registry(alloc, "NZ", ONE_RECORD)?;
+    let mut nz = registry(&rt, alloc, "NZ", ONE_RECORD);
     walk(&rt, alloc, &mut nz, FULL)
 }
 
@@ -187,39 +184,42 @@ const COMPLETED: &str =
     r#"{"call":"AcceptNotification","codes":[],"from":"NZ","status":"Completed","to":"ITL","transaction":"NZ1"}"#;
 
 /// Asserts that the units of the first transaction are out of the registry for good.
-fn assert_completed(rt: &impl Abort, nz: &RegistryCore) -> Result<(), Fail> {
-    let id = TransactionId::read("NZ1").ok_or("an identifier")?;
+fn assert_completed(rt: &impl Abort, nz: &RegistryCore) {
+    let id = TransactionId::read("NZ1").expect(rt, "an identifier");
     assert_eq!(rt; nz.status_of(id), Some(Status::Completed));
     assert_eq!(rt; nz.holdings().free_count(1), 40);
     assert_none_held(rt, nz, "NZ:1:1-60:AAU")
 }
 
 #[test]
-fn transfers_out_end_once(rt: HostRuntime) -> Result<(), Fail> {
+fn transfers_out_end_once(rt: HostRuntime) {
     let alloc = rt.alloc();
-    let mut nz = registry(alloc, "NZ", ROOM)?;
-    walk(&rt, alloc, &mut nz, TRANSFER_OUT)?;
-    assert_completed(&rt, &nz)?;
+    let mut nz = registry(&rt, alloc, "NZ", ROOM);
+    walk(&rt, alloc, &mut nz, TRANSFER_OUT);
+    assert_completed(&rt, &nz);
     assert_sent(&rt, alloc, &nz, 2, &[COMPLETED])
 }
 
 /// The inputs with these texts.
-fn inputs(alloc: Global, texts: &[&str]) -> Result<Vec<Input>, Fail> {
+fn inputs(rt: &impl Abort, alloc: Global, texts: &[&str]) -> Vec<Input> {
     let mut inputs = Vec::new(alloc);
     for text in texts {
-        inputs.push(decode_input(alloc, text.as_bytes())?)?;
+        inputs
+            .push(decode_input(alloc, text.as_bytes()).expect(rt, "an input"))
+            .expect(rt, "memory");
     }
-    Ok(inputs)
+    inputs
 }
 
 /// What is wrong with these texts as a journal.
 fn fault_of_all(
+    rt: &impl Abort,
     alloc: Global,
     nz: &RegistryCore,
     texts: &[&str],
-) -> Result<Option<ReplayFault>, Fail> {
-    let records = inputs(alloc, texts)?;
-    Ok(replay(nz, &records).err())
+) -> Option<ReplayFault> {
+    let records = inputs(rt, alloc, texts);
+    replay(nz, &records).err()
 }
 
 fn assert_of_two_records(rt: &impl Abort, replayed: &RegistryCore, node: Node) {
@@ -229,27 +229,25 @@ fn assert_of_two_records(rt: &impl Abort, replayed: &RegistryCore, node: Node) {
 }
 
 /// Asserts that the two records are a journal, and that they aren't recorded after it.
-fn assert_replayed(rt: &impl Abort, nz: &RegistryCore, records: &[Input]) -> Result<(), Fail> {
-    let mut replayed = replay(nz, records)?;
+fn assert_replayed(rt: &impl Abort, nz: &RegistryCore, records: &[Input]) {
+    let mut replayed = replay(nz, records).expect(rt, "a core");
     assert_of_two_records(rt, &replayed, nz.node());
     let fault = resume(&mut replayed, records).err();
     assert_eq!(rt; fault, Some(ReplayFault::NotRecorded(2)));
-    Ok(())
 }
 
 #[test]
-fn journals_are_replayed(rt: HostRuntime) -> Result<(), Fail> {
+fn journals_are_replayed(rt: HostRuntime) {
     let alloc = rt.alloc();
-    let nz = registry(alloc, "NZ", ROOM)?;
-    let records = inputs(alloc, &[HUNDRED, ACCEPTED])?;
+    let nz = registry(&rt, alloc, "NZ", ROOM);
+    let records = inputs(&rt, alloc, &[HUNDRED, ACCEPTED]);
     assert_replayed(&rt, &nz, &records)
 }
 
 #[test]
-fn a_record_is_replayed_once(rt: HostRuntime) -> Result<(), Fail> {
+fn a_record_is_replayed_once(rt: HostRuntime) {
     let alloc = rt.alloc();
-    let nz = registry(alloc, "NZ", ROOM)?;
-    let fault = fault_of_all(alloc, &nz, &[HUNDRED, HUNDRED])?;
+    let nz = registry(&rt, alloc, "NZ", ROOM);
+    let fault = fault_of_all(&rt, alloc, &nz, &[HUNDRED, HUNDRED]);
     assert_eq!(rt; fault, Some(ReplayFault::NotRecorded(1)));
-    Ok(())
 }

@@ -1,0 +1,5 @@
+pub mod Messages
+pub mod Reading
+pub mod CountedPlaces
+pub mod NotesOfSeats
+pub mod JournalFronts

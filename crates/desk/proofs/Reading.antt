@@ -1,0 +1,206 @@
+-- A store read page by page into a core, as far as its records go.
+use Rattle.std.proofs.Common.{◌≡◌, ◌++◌, ◌+◌, ◌-◌, ◌<◌, ℕ, zero, suc, Bool, true, false, List, [], ◌∷◌, length, take, drop, Some, None, Result, Ok, Err, Vec, IsTrue, refl, sym, ap, subst, ◌∙◌, arith, inl, inr}
+use Rattle.std.proofs.Common.{Global}
+use Rattle.units.specs.declared.code.Node.{Node}
+use Rattle.wire.specs.declared.input.Input.{Input}
+use Rattle.scheme.specs.declared.registries.Scheme.{Scheme}
+use Rattle.protocol.specs.Cores.{HasFault, IsFirstNotRecorded}
+use Rattle.protocol.specs.declared.replay_fault.ReplayFault.{ReplayFault}
+use Rattle.protocol.specs.declared.replay_fault.ReplayFault.TheVariants as replay
+use Rattle.durable.specs.Calls.{Loads}
+use Rattle.durable.specs.Faults.{is_device_fault, IsReadFault}
+use Rattle.durable.specs.Records.{Places, AreRecords, IsDamagedAt}
+use Rattle.durable.specs.declared.fault.StoreFault.{StoreFault}
+use Rattle.durable.specs.declared.fault.StoreFault.TheVariants.{Reopen, Damaged, NoMemory}
+use Rattle.desk.specs.Loading.{IsLoaded, IsReadTo, damage_of}
+
+-- ---- places
+
+none_damaged : (q : ℕ) → IsDamagedAt q [] → ⊥
+none_damaged zero h = h
+none_damaged (suc q) h = h
+
+damaged_front : (q m : ℕ) (places : Places) → IsDamagedAt q (take m places) → IsDamagedAt q places
+damaged_front q zero places h = absurd (none_damaged q h)
+damaged_front q (suc m) [] h = absurd (none_damaged q h)
+damaged_front zero (suc m) (place ∷ places) h = h
+damaged_front (suc q) (suc m) (None ∷ places) h = h
+damaged_front (suc q) (suc m) (Some text ∷ places) h = (h.0, damaged_front q m places h.1)
+
+-- damage after places with records
+damaged_after : (records : List Input) (p q m : ℕ) (places : Places) → p ≡ length records + q → AreRecords (take (length records) places) records → IsDamagedAt q (take m (drop (length records) places)) → IsDamagedAt p places
+damaged_after [] p q m places is read h = let same : q ≡ p = omega arith in subst (λ (k : ℕ). IsDamagedAt k places) same (damaged_front q m places h)
+damaged_after (record_here ∷ records) p q m [] is read h = absurd read
+damaged_after (record_here ∷ records) p q m (None ∷ places) is read h = absurd read
+damaged_after (record_here ∷ records) zero q m (Some text ∷ places) is read h = absurd (omega arith)
+damaged_after (record_here ∷ records) (suc p) q m (Some text ∷ places) is read h = ((record_here, read.0), damaged_after records p q m places (omega arith) read.1 h)
+
+-- fewer places than were asked for are all that there are
+page_whole : (m : ℕ) (places : Places) (page : List Input) → length page < m → AreRecords (take m places) page → AreRecords places page
+page_whole zero places page few h = absurd (omega arith)
+page_whole (suc m) [] page few h = h
+page_whole (suc m) (None ∷ places) page few h = absurd h
+page_whole (suc m) (Some text ∷ places) [] few h = absurd h
+page_whole (suc m) (Some text ∷ places) (input ∷ page) few h = (h.0, page_whole m places page (omega arith) h.1)
+
+-- there is nothing after a page with fewer records than were asked for
+all_read : (records page : List Input) (m : ℕ) (places : Places) → length page < m → AreRecords (take (length records) places) records → AreRecords (take m (drop (length records) places)) page → AreRecords places (records ++ page)
+all_read [] page m places few read h = page_whole m places page few h
+all_read (record_here ∷ records) page m [] few read h = absurd read
+all_read (record_here ∷ records) page m (None ∷ places) few read h = absurd read
+all_read (record_here ∷ records) page m (Some text ∷ places) few read h = (read.0, all_read records page m places few read.1 h)
+
+page_front : (m : ℕ) (places : Places) (page : List Input) → AreRecords (take m places) page → AreRecords (take (length page) places) page
+page_front m places [] h = tt
+page_front zero places (input ∷ page) h = absurd h
+page_front (suc m) [] (input ∷ page) h = absurd h
+page_front (suc m) (None ∷ places) (input ∷ page) h = absurd h
+page_front (suc m) (Some text ∷ places) (input ∷ page) h = (h.0, page_front m places page h.1)
+
+-- a page after the places with records
+more_read : (records page : List Input) (m : ℕ) (places : Places) → AreRecords (take (length records) places) records → AreRecords (take m (drop (length records) places)) page → AreRecords (take (length (records ++ page)) places) (records ++ page)
+more_read [] page m places read h = page_front m places page h
+more_read (record_here ∷ records) page m [] read h = absurd read
+more_read (record_here ∷ records) page m (None ∷ places) read h = absurd read
+more_read (record_here ∷ records) page m (Some text ∷ places) read h = (read.0, more_read records page m places read.1 h)
+
+-- ---- what a page leaves
+
+reopen_only : {X : Type 0} (fault : StoreFault) → let told : Result X StoreFault = Err fault in told ≡ Err Reopen → fault ≡ Reopen
+reopen_only fault e = cc (e)
+
+never_reopen : {X : Type 0} (x : X) → let told : Result X StoreFault = Ok x in told ≡ Err Reopen → ⊥
+never_reopen x e = cc (e)
+
+module _ {S : Type 0} (is_honest : S → Type 0) (content : S → Places) (may_hold : S → Places → Type 0) (must_reopen : S → Bool) where
+  abbrev ReadTo : S → S → List Input → Type 0
+  ReadTo old new journal = IsReadTo is_honest content may_hold must_reopen old new journal
+
+  abbrev Loaded : Scheme → Node → S → S → Result (List Input) StoreFault → Type 0
+  Loaded scheme n old new result = IsLoaded is_honest content may_hold must_reopen scheme n old new result
+
+  -- a page of that many places at most, after the journal, was asked for
+  abbrev LoadsPage : S → S → ℕ → List Input → Result (Vec Input Global) StoreFault → Type 0
+  LoadsPage old new most journal result = Loads is_honest content may_hold must_reopen old new (length journal) (take most (drop (length journal) (content old))) result
+
+  -- the same, where the place is a number that is told
+  pub page_after : (old new : S) (from : ℕ) (most : ℕ) (journal : List Input) (result : Result (Vec Input Global) StoreFault) → from ≡ length journal
+      → Loads is_honest content may_hold must_reopen old new from (take most (drop from (content old))) result → LoadsPage old new most journal result
+  page_after old new from most journal result is loads = subst (λ (k : ℕ). Loads is_honest content may_hold must_reopen old new k (take most (drop k (content old))) result) is loads
+
+  ran_as : (old new : S) (waits : Bool) → must_reopen old ≡ waits → (IsTrue (must_reopen old) → new ≡ old) → must_reopen new ≡ false → must_reopen old ≡ false
+  ran_as old new true was same runs = ap must_reopen (sym (same was)) ∙ runs
+  ran_as old new false was same runs = was
+
+  -- a store that runs after a call ran before it
+  pub ran_before : (old new : S) → (IsTrue (must_reopen old) → new ≡ old) → must_reopen new ≡ false → must_reopen old ≡ false
+  ran_before old new same runs = ran_as old new (must_reopen old) refl same runs
+
+  -- nothing was read yet
+  pub opened : (store : S) → ReadTo store store []
+  opened store = record { same = inl refl; honest = λ h. h; kept = λ h. refl; records = λ h. tt }
+
+  runs_on : (old mid : S) (journal : List Input) → ReadTo old mid journal → must_reopen old ≡ false → must_reopen mid ≡ false
+  runs_on old mid journal read runs = elim read.same [ inl same ↦ ap must_reopen same ∙ runs | inr both ↦ both.1 ]
+
+  waits_on : (old mid : S) (journal : List Input) → ReadTo old mid journal → IsTrue (must_reopen old) → mid ≡ old
+  waits_on old mid journal read waits = elim read.same [ inl same ↦ same | inr both ↦ let never : true ≡ false = sym waits ∙ both.0 in absurd (cc (never)) ]
+
+  pub page_failed : (scheme : Scheme) (n : Node) (old mid new : S) (most : ℕ) (journal : List Input) (fault : StoreFault) → ReadTo old mid journal → LoadsPage mid new most journal (Err fault) → Loaded scheme n old new (Err fault)
+  page_failed scheme n old mid new most journal fault read loads = record {
+    reopen = λ waits.
+        let same = waits_on old mid journal read waits in
+        let told = loads.reopen (subst (λ (s : S). IsTrue (must_reopen s)) (sym same) waits) in
+        (ap Err (reopen_only fault told.0), told.1 ∙ same);
+    honest = λ h. read.honest (loads.honest h);
+    ok = λ h. tt;
+    damaged = λ h place is.
+        let found = loads.damaged h place is in
+        let early = loads.honest h in
+        inl (damaged_after journal place (place - length journal) most (content old) (omega (arith, found.0)) (read.records early)
+        (subst (λ (places : Places). IsDamagedAt (place - length journal) (take most (drop (length journal) places))) (read.kept early) found.1));
+    named = λ runs. loads.named (runs_on old mid journal read runs);
+    stops = λ runs. loads.stops (runs_on old mid journal read runs);
+    runs = tt;
+    kept = λ h runs. loads.kept h runs ∙ read.kept (loads.honest h);
+    crash = λ h runs next held. loads.crash h (runs_on old mid journal read runs) next held ∙ read.kept (loads.honest h);
+  }
+
+  -- a store that waits returns no page
+  ran : (mid new : S) (most : ℕ) (journal : List Input) (page : Vec Input Global) (waits : Bool) → must_reopen mid ≡ waits → LoadsPage mid new most journal (Ok page) → must_reopen mid ≡ false
+  ran mid new most journal page true was loads = absurd (never_reopen page (loads.reopen was).0)
+  ran mid new most journal page false was loads = was
+
+  ran_first : (old mid : S) (journal : List Input) → ReadTo old mid journal → must_reopen mid ≡ false → must_reopen old ≡ false
+  ran_first old mid journal read runs = elim read.same [ inl same ↦ ap must_reopen (sym same) ∙ runs | inr both ↦ both.0 ]
+
+  was_running : (old mid new : S) (most : ℕ) (journal : List Input) (page : Vec Input Global) → ReadTo old mid journal → LoadsPage mid new most journal (Ok page) → must_reopen old ≡ false
+  was_running old mid new most journal page read loads = ran_first old mid journal read (ran mid new most journal page (must_reopen mid) refl loads)
+
+  -- one page more
+  pub page_read : (old mid new : S) (most : ℕ) (journal : List Input) (page : Vec Input Global) → ReadTo old mid journal → LoadsPage mid new most journal (Ok page) → ReadTo old new (journal ++ page.items)
+  page_read old mid new most journal page read loads = record {
+    same = inr (was_running old mid new most journal page read loads, loads.runs);
+    honest = λ h. read.honest (loads.honest h);
+    kept = λ h. loads.kept h loads.runs ∙ read.kept (loads.honest h);
+    records = λ h.
+        let early = loads.honest h in
+        more_read journal page.items most (content old) (read.records early)
+        (subst (λ (places : Places). AreRecords (take most (drop (length journal) places)) page.items) (read.kept early) (loads.ok h));
+  }
+
+  -- a page with fewer records than were asked for is the last
+  pub page_last : (scheme : Scheme) (n : Node) (old mid new : S) (most : ℕ) (journal : List Input) (page : Vec Input Global) → length page.items < most → ReadTo old mid journal → LoadsPage mid new most journal (Ok page)
+      → Loaded scheme n old new (Ok (journal ++ page.items))
+  page_last scheme n old mid new most journal page few read loads =
+      let runs = was_running old mid new most journal page read loads in
+      let more = page_read old mid new most journal page read loads in
+      record {
+        reopen = λ waits. let never : true ≡ false = sym waits ∙ runs in absurd (cc (never));
+        honest = λ h. read.honest (loads.honest h);
+        ok = λ h.
+            let early = loads.honest h in
+            all_read journal page.items most (content old) few (read.records early)
+            (subst (λ (places : Places). AreRecords (take most (drop (length journal) places)) page.items) (read.kept early) (loads.ok h));
+        damaged = λ h. tt;
+        named = λ r. tt;
+        stops = λ r. tt;
+        runs = loads.runs;
+        kept = λ h r. more.kept h;
+        crash = λ h r next held. loads.crash h (runs_on old mid journal read r) next held ∙ read.kept (loads.honest h);
+      }
+
+  -- a record of the page isn't recorded, or memory ran out
+  page_left : (scheme : Scheme) (n : Node) (old mid new : S) (most : ℕ) (journal : List Input) (page : Vec Input Global) (fault : StoreFault) → ReadTo old mid journal → LoadsPage mid new most journal (Ok page)
+      → IsReadFault fault → is_device_fault fault ≡ false → ((place : ℕ) → fault ≡ Damaged place → IsFirstNotRecorded scheme n (journal ++ page.items) place) → Loaded scheme n old new (Err fault)
+  page_left scheme n old mid new most journal page fault read loads named device bad =
+      let runs = was_running old mid new most journal page read loads in
+      let more = page_read old mid new most journal page read loads in
+      record {
+        reopen = λ waits. let never : true ≡ false = sym waits ∙ runs in absurd (cc (never));
+        honest = λ h. read.honest (loads.honest h);
+        ok = λ h. tt;
+        damaged = λ h place is. inr (record { records = journal ++ page.items; first = more.records h; unrecorded = bad place is });
+        named = λ r. named;
+        stops = λ r. loads.runs ∙ sym device;
+        runs = tt;
+        kept = λ h r. more.kept h;
+        crash = λ h r next held. loads.crash h (runs_on old mid journal read r) next held ∙ read.kept (loads.honest h);
+      }
+
+  page_refused : (scheme : Scheme) (n : Node) (old mid new : S) (most : ℕ) (journal : List Input) (page : Vec Input Global) (place : ℕ) → ReadTo old mid journal → LoadsPage mid new most journal (Ok page)
+      → IsFirstNotRecorded scheme n (journal ++ page.items) place → Loaded scheme n old new (Err (Damaged place))
+  page_refused scheme n old mid new most journal page place read loads bad =
+      page_left scheme n old mid new most journal page (Damaged place) read loads tt refl
+      (λ k is. let same : place ≡ k = cc (is) in subst (IsFirstNotRecorded scheme n (journal ++ page.items)) same bad)
+
+  page_too_large : (scheme : Scheme) (n : Node) (old mid new : S) (most : ℕ) (journal : List Input) (page : Vec Input Global) → ReadTo old mid journal → LoadsPage mid new most journal (Ok page)
+      → Loaded scheme n old new (Err NoMemory)
+  page_too_large scheme n old mid new most journal page read loads =
+      page_left scheme n old mid new most journal page NoMemory read loads tt refl (λ k is. absurd (cc (is)))
+
+  -- the records of the page are no journal after those before them
+  pub page_not_resumed : (scheme : Scheme) (n : Node) (old mid new : S) (most : ℕ) (journal : List Input) (page : Vec Input Global) (fault : ReplayFault) → ReadTo old mid journal → LoadsPage mid new most journal (Ok page)
+      → HasFault scheme n (journal ++ page.items) fault → Loaded scheme n old new (Err (damage_of fault))
+  page_not_resumed scheme n old mid new most journal page (replay.NotRecorded place) read loads bad = page_refused scheme n old mid new most journal page place read loads bad
+  page_not_resumed scheme n old mid new most journal page replay.NoMemory read loads bad = page_too_large scheme n old mid new most journal page read loads

@@ -1,0 +1,35 @@
+-- What each call of a state does.
+use Rattle.std.specs.Prelude.{◌≡◌, ◌+◌, ℕ, true, false, List, [], take, if◌then◌else◌, Result, Ok, Err}
+use Rattle.units.specs.declared.refusal.Refusal.{Refusal}
+use Rattle.wire.specs.declared.input.Input.{Input}
+use Rattle.protocol.specs.Cores.{IsDueOrNoMemory, after, answer}
+use Rattle.protocol.specs.declared.node_core.Stepped.{Stepped}
+use Rattle.durable.specs.declared.fault.StoreFault.{StoreFault}
+use Rattle.desk.specs.declared.notes.Told.{Told}
+use Rattle.desk.specs.Due.{stopped, told_of}
+use Rattle.desk.specs.Views.{Held, tail}
+
+-- the state takes an input: it is refused where the state has stopped, else the journal is what the core's result
+-- makes it
+abbrev pub Takes : Held → Input → Result Stepped Refusal → Held → Type 0
+Takes old input result new =
+    (old.runs ≡ false → (result ≡ Err stopped) × (new ≡ old))
+    × (old.runs ≡ true → IsDueOrNoMemory result (answer old.scheme old.node old.journal input) × (new ≡ record old { journal = after old.journal input result }))
+
+-- the same, where what the core returns is told in that way
+abbrev pub Tells : Held → Input → Told → Held → Type 0
+Tells old input told new = (result : Result Stepped Refusal) × (told ≡ told_of result) × Takes old input result new
+
+-- the records that a commit of that many at most appends: none where the state has stopped
+abbrev pub batch_of : Held → ℕ → List Input
+batch_of held max = if held.runs then take max (tail held) else []
+
+-- what a store returns, where the count is left away
+abbrev pub done : Result ℕ StoreFault → Result Unit StoreFault
+done (Ok count) = Ok tt
+done (Err fault) = Err fault
+
+-- the state after a commit: that many records more are committed, or it has stopped
+abbrev pub committed_by : Held → Result ℕ StoreFault → Held
+committed_by held (Ok count) = record held { committed = held.committed + count }
+committed_by held (Err fault) = record held { runs = false }

@@ -1,0 +1,35 @@
+-- What is due for what a state is asked, after a journal.
+use Rattle.std.specs.Prelude.{List, if◌then◌else◌, Result, Ok, Err}
+use Rattle.units.specs.RefusalCodes.{node_stopped}
+use Rattle.units.specs.declared.code.Node.{Node}
+use Rattle.units.specs.declared.refusal.Refusal.{Refusal}
+use Rattle.status.specs.declared.id.TransactionId.{TransactionId}
+use Rattle.wire.specs.declared.input.Input.{Input}
+use Rattle.scheme.specs.declared.registries.Scheme.{Scheme}
+use Rattle.protocol.specs.declared.node_core.Stepped.{Stepped}
+use Rattle.protocol.specs.Cores.{answer}
+use Rattle.protocol.specs.History.{stands, transitions_of}
+use Rattle.protocol.specs.Verdict.{history}
+use Rattle.desk.specs.declared.notes.Asked.{Asked}
+use Rattle.desk.specs.declared.notes.Asked.TheVariants.{Take, Query}
+use Rattle.desk.specs.declared.notes.Told.{Told}
+use Rattle.desk.specs.declared.notes.Told.TheVariants.{Step, Status, Refused}
+use Rattle.desk.specs.Views.{Held, past}
+
+-- what a core returns, as it is told
+abbrev pub told_of : Result Stepped Refusal → Told
+told_of (Ok stepped) = Step stepped
+told_of (Err refusal) = Refused refusal
+
+-- what a node of one thread tells after a journal
+abbrev pub due : Scheme → Node → List Input → Asked → Told
+due scheme n journal (Take input) = told_of (answer scheme n journal input)
+due scheme n journal (Query id) = Status (stands (transitions_of (history scheme n journal)) id)
+
+-- the refusal of a node that has stopped
+abbrev pub stopped : Refusal
+stopped = record { code = node_stopped }
+
+-- what is told of a transaction
+abbrev pub status_told : Held → TransactionId → Told
+status_told held id = if held.runs then Status (stands (transitions_of (past held)) id) else Refused stopped

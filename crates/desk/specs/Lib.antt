@@ -1,0 +1,10 @@
+pub mod Views
+pub mod Due
+pub mod Calls
+pub mod Telling
+pub mod Rooms
+pub mod Loading
+pub mod Covering
+pub mod Settling
+pub mod Counts
+pub mod Desks

@@ -1,0 +1,62 @@
+-- What loading a store into a core finds.
+use Rattle.std.specs.Prelude.{◌≡◌, ◌⊎◌, ℕ, Bool, false, List, length, take, Result, Ok, Err, IfOk, IfErr, OnOk, IsTrue}
+use Rattle.units.specs.declared.code.Node.{Node}
+use Rattle.wire.specs.declared.input.Input.{Input}
+use Rattle.scheme.specs.declared.registries.Scheme.{Scheme}
+use Rattle.protocol.specs.Cores.{IsFirstNotRecorded}
+use Rattle.durable.specs.Faults.{is_device_fault, IsReadFault}
+use Rattle.durable.specs.Records.{Places, AreRecords, IsDamagedAt}
+use Rattle.durable.specs.declared.fault.StoreFault.{StoreFault}
+use Rattle.protocol.specs.declared.replay_fault.ReplayFault.{ReplayFault}
+use Rattle.protocol.specs.declared.replay_fault.ReplayFault.TheVariants.{NotRecorded}
+use Rattle.protocol.specs.declared.replay_fault.ReplayFault.TheVariants as replay
+use Rattle.durable.specs.declared.fault.StoreFault.TheVariants.{Reopen, Damaged, NoMemory}
+use Rattle.desk.specs.declared.loading.Page.{Page}
+use Rattle.desk.specs.declared.loading.Page.TheVariants.{Full, Last}
+use Rattle.desk.specs.Views.{Held}
+
+-- the first places have records, of which the one at that place is the first that isn't recorded there after those
+-- before it
+pub record IsUnrecordedAt (scheme : Scheme) (n : Node) (places : Places) (place : ℕ) : Type 0 where
+  pub records : List Input
+  pub first : AreRecords (take (length records) places) records
+  pub unrecorded : IsFirstNotRecorded scheme n records place
+
+-- why records of a store are no journal, as a fault of that store
+abbrev pub damage_of : ReplayFault → StoreFault
+damage_of (NotRecorded place) = Damaged place
+damage_of replay.NoMemory = NoMemory
+
+-- the journal of the state that was returned
+abbrev pub journal_in : Result Held StoreFault → Result (List Input) StoreFault
+journal_in (Ok held) = Ok held.journal
+journal_in (Err fault) = Err fault
+
+-- the store is honest; what each place has while it runs; what a crash or a reopening may find; a fault waits for a
+-- reopening
+module _ {S : Type 0} (is_honest : S → Type 0) (content : S → Places) (may_hold : S → Places → Type 0) (must_reopen : S → Bool) where
+  -- the store was read as far as this journal goes
+  pub record IsReadTo (old new : S) (journal : List Input) : Type 0 where
+    pub same : (new ≡ old) ⊎ ((must_reopen old ≡ false) × (must_reopen new ≡ false))
+    pub honest : is_honest new → is_honest old
+    pub kept : is_honest new → content new ≡ content old
+    pub records : is_honest new → AreRecords (take (length journal) (content old)) journal
+
+  -- all records were read and recorded, at that node under that scheme; or one is damaged or isn't recorded; or
+  -- reading failed
+  pub record IsLoaded (scheme : Scheme) (n : Node) (old new : S) (result : Result (List Input) StoreFault) : Type 0 where
+    pub reopen : IsTrue (must_reopen old) → (result ≡ Err Reopen) × (new ≡ old)
+    pub honest : is_honest new → is_honest old
+    pub ok : is_honest new → IfOk result (λ journal. AreRecords (content old) journal)
+    pub damaged : is_honest new → IfErr result (λ e. (place : ℕ) → e ≡ Damaged place → IsDamagedAt place (content old) ⊎ IsUnrecordedAt scheme n (content old) place)
+    pub named : must_reopen old ≡ false → IfErr result IsReadFault
+    pub stops : must_reopen old ≡ false → IfErr result (λ e. must_reopen new ≡ is_device_fault e)
+    pub runs : OnOk result (must_reopen new ≡ false)
+    pub kept : is_honest new → must_reopen new ≡ false → content new ≡ content old
+    pub crash : is_honest new → must_reopen old ≡ false → (next : Places) → may_hold new next → next ≡ content old
+
+  -- after one page more
+  abbrev pub IsReadOn : Scheme → Node → S → S → List Input → Result Page StoreFault → Type 0
+  IsReadOn scheme n old new journal (Ok Full) = IsReadTo old new journal
+  IsReadOn scheme n old new journal (Ok Last) = IsLoaded scheme n old new (Ok journal)
+  IsReadOn scheme n old new journal (Err fault) = IsLoaded scheme n old new (Err fault)

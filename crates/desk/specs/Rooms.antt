@@ -1,0 +1,23 @@
+-- What is true of each seat: it has room for what it is about to be told, and its notes tell of no record.
+use Rattle.std.specs.Prelude.{◌<◌, ℕ, List, All, Option, Some, None}
+use Rattle.protocol.specs.declared.node_core.Stepped.TheVariants.{Recorded, Repeat, Late}
+use Rattle.desk.specs.declared.notes.Asked.{Asked}
+use Rattle.desk.specs.declared.notes.Note.{Note}
+use Rattle.desk.specs.declared.notes.Told.{Told}
+use Rattle.desk.specs.declared.notes.Told.TheVariants.{Step, Status, Refused}
+
+-- no input was recorded
+abbrev pub IsNoRecord : Told → Type 0
+IsNoRecord (Step (Recorded place)) = ⊥
+IsNoRecord (Step Repeat) = Unit {0}
+IsNoRecord (Step Late) = Unit {0}
+IsNoRecord (Status status) = Unit {0}
+IsNoRecord (Refused refusal) = Unit {0}
+
+abbrev pub TellNoRecord : List Note → Type 0
+TellNoRecord notes = All (λ (note : Note). IsNoRecord (note.told)) notes
+
+-- there is room for one ticket more and one note more, where something is to be asked
+abbrev pub HasRoom : Option Asked → ℕ → ℕ → ℕ → ℕ → Type 0
+HasRoom None tickets room_of_tickets notes room_of_notes = Unit {0}
+HasRoom (Some asked) tickets room_of_tickets notes room_of_notes = (tickets < room_of_tickets) × (notes < room_of_notes)

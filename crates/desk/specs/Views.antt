@@ -1,0 +1,50 @@
+-- What contracts see of a state, and of a seat.
+use Rattle.std.specs.Prelude.{ℕ, Bool, List, Option, take, drop}
+use Rattle.units.specs.declared.code.Node.{Node}
+use Rattle.wire.specs.declared.input.Input.{Input}
+use Rattle.scheme.specs.declared.registries.Scheme.{Scheme}
+use Rattle.protocol.specs.History.{Entry}
+use Rattle.protocol.specs.Verdict.{history}
+use Rattle.desk.specs.declared.notes.Asked.{Asked}
+use Rattle.desk.specs.declared.notes.Note.{Note}
+use Rattle.desk.specs.declared.notes.Ticket.{Ticket}
+use Rattle.desk.specs.declared.notes.Lengths.{Lengths}
+
+-- a node's journal, how many of its records are committed, and how many were there when the state opened
+pub record Held : Type 0 where
+  pub scheme : Scheme
+  pub node : Node
+  pub journal : List Input
+  pub committed : ℕ
+  pub opening : ℕ
+  pub runs : Bool
+
+-- what the whole journal says
+abbrev pub past : Held → List Entry
+past held = history held.scheme held.node held.journal
+
+-- the records that are committed, and those that aren't yet
+abbrev pub committed_records : Held → List Input
+committed_records held = take held.committed held.journal
+
+abbrev pub tail : Held → List Input
+tail held = drop held.committed held.journal
+
+-- what the committed records say
+abbrev pub committed_past : Held → List Entry
+committed_past held = history held.scheme held.node (committed_records held)
+
+-- what a seat was told
+pub record Heard : Type 0 where
+  -- the inputs that were recorded, and their places
+  pub tickets : List Ticket
+  -- what else it was told
+  pub notes : List Note
+  -- the greatest length that it was told
+  pub seen : ℕ
+  -- whether each length was at least those before it
+  pub lengths : Lengths
+  -- the greatest length that was confirmed to it
+  pub confirmed : ℕ
+  -- what it is about to ask, for which it has room
+  pub prepared : Option Asked

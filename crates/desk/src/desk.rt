@@ -1,0 +1,272 @@
+//! A node's state that several threads share.
+ghost use Rattle.std.specs.Prelude.{◌≡◌, false, max, Some, IfOk, MatchResult};
+ghost use Rattle.durable.specs.Faults.{faults_after};
+ghost use Rattle.desk.specs.Desks.{IsCommit, IsOf, IsQueryOf, IsTakeOf, IsToSend, lacking};
+ghost use Rattle.desk.specs.Due.{stopped};
+ghost use Rattle.desk.specs.Telling.{kept};
+
+use crate::bell::Bell;
+use crate::gate::{Gate, OpenGate, Spot};
+use crate::locked::BATCH;
+use crate::notes::{Asked, Told};
+use crate::progress::Progress;
+use crate::seat::Seat;
+use crate::state::{Receipt, State, Taken};
+use durable::{NodeStore, StoreFault};
+use protocol::{NodeCore, Stepped};
+use status::TransactionId;
+use std::sync::{Mutex, Wait};
+use units::refusal_code::NODE_STOPPED;
+use units::{NoMemory, Node, Refusal};
+use wire::{Input, Message};
+
+/// A node's state under a lock, and a bell that rings when it has a record more, has committed records, or has
+/// stopped. A thread brings a seat of its own to each call that tells it something.
+#[derive(Drop)]
+pub struct Desk<C: NodeCore, B: Bell> {
+    state: Mutex<State<C>>,
+    bell: B,
+}
+
+impl<C: NodeCore, B: Bell> Desk<C, B> {
+    /// A desk with this state.
+    pub fn new(state: State<C>, bell: B) -> Desk<C, B> {
+        Desk {
+            state: Mutex::new(state),
+            bell,
+        }
+    }
+
+    /// Has the state take an input, and returns what it tells. The seat has kept it. The bell rings where the input
+    /// was recorded.
+    ///
+    /// Where memory ran out before the state was asked, it returns refusal `OUT_OF_MEMORY` with the length of the
+    /// journal, and of that the seat has kept the length.
+    pub fn take<R: Wait>(&self, rt: &R, seat: &mut Seat, input: Input) -> Taken
+        ensures asked { result.asked ≡ Asked.Take input }
+        ensures told { IsTakeOf input result }
+        ensures seat { seat.new ≡ kept seat.old result }
+    {
+        self.take_at(rt, seat, input, &OpenGate)
+    }
+
+    /// As `take`. While it holds the lock, before the state is asked, it passes the gate.
+    pub fn take_at<R: Wait, G: Gate>(
+        &self,
+        rt: &R,
+        seat: &mut Seat,
+        input: Input,
+        gate: &G,
+    ) -> Taken
+        ensures asked { result.asked ≡ Asked.Take input }
+        ensures told { IsTakeOf input result }
+        ensures seat { seat.new ≡ kept seat.old result }
+    {
+        match seat.prepare_input(&input) {
+            Ok(()) => self.take_prepared(rt, seat, input, gate),
+            Err(_) => self.refuse(rt, seat, Asked::Take(input), gate),
+        }
+    }
+
+    /// As `take_at`, where the seat has made room.
+    fn take_prepared<R: Wait, G: Gate>(
+        &self,
+        rt: &R,
+        seat: &mut Seat,
+        input: Input,
+        gate: &G,
+    ) -> Taken
+        requires { seat.old.prepared ≡ Some (Asked.Take input) }
+        ensures asked { result.asked ≡ Asked.Take input }
+        ensures told { IsTakeOf input result }
+        ensures seat { seat.new ≡ kept seat.old result }
+    {
+        let taken = self.take_locked(rt, input, gate);
+        seat.keep(&taken);
+        if matches!(taken.told(), Told::Step(Stepped::Recorded(_))) {
+            self.bell.ring(rt);
+        }
+        taken
+    }
+
+    fn take_locked<R: Wait, G: Gate>(&self, rt: &R, input: Input, gate: &G) -> Taken
+        ensures asked { result.asked ≡ Asked.Take input }
+        ensures told { IsTakeOf input result }
+    {
+        let mut state = self.state.lock(rt);
+        gate.pass(Spot::Locked(state.node()));
+        state.take_some(input)
+    }
+
+    /// Tells refusal `OUT_OF_MEMORY` of what a seat had no room for.
+    fn refuse<R: Wait, G: Gate>(&self, rt: &R, seat: &mut Seat, asked: Asked, gate: &G) -> Taken
+        ensures asked { result.asked ≡ asked }
+        ensures told { result.told ≡ lacking }
+        ensures seat { seat.new ≡ kept seat.old result }
+    {
+        let taken = self.refuse_locked(rt, asked, gate);
+        seat.keep_length(&taken);
+        taken
+    }
+
+    fn refuse_locked<R: Wait, G: Gate>(&self, rt: &R, asked: Asked, gate: &G) -> Taken
+        ensures asked { result.asked ≡ asked }
+        ensures told { result.told ≡ lacking }
+    {
+        let state = self.state.lock(rt);
+        gate.pass(Spot::Locked(state.node()));
+        state.refuse_for_memory(asked)
+    }
+
+    /// Asks the state where a transaction stands, and returns what it tells. The seat has kept it.
+    ///
+    /// Where memory ran out before the state was asked, it returns refusal `OUT_OF_MEMORY` with the length of the
+    /// journal, and of that the seat has kept the length.
+    pub fn query<R: Wait>(&self, rt: &R, seat: &mut Seat, id: TransactionId) -> Taken
+        ensures asked { result.asked ≡ Asked.Query id }
+        ensures told { IsQueryOf id result }
+        ensures seat { seat.new ≡ kept seat.old result }
+    {
+        match seat.prepare_query(id) {
+            Ok(()) => self.query_prepared(rt, seat, id),
+            Err(_) => self.refuse(rt, seat, Asked::Query(id), &OpenGate),
+        }
+    }
+
+    /// As `query`, where the seat has made room.
+    fn query_prepared<R: Wait>(&self, rt: &R, seat: &mut Seat, id: TransactionId) -> Taken
+        requires { seat.old.prepared ≡ Some (Asked.Query id) }
+        ensures asked { result.asked ≡ Asked.Query id }
+        ensures told { IsQueryOf id result }
+        ensures seat { seat.new ≡ kept seat.old result }
+    {
+        let taken = self.query_locked(rt, id);
+        seat.keep(&taken);
+        taken
+    }
+
+    fn query_locked<R: Wait>(&self, rt: &R, id: TransactionId) -> Taken
+        ensures asked { result.asked ≡ Asked.Query id }
+        ensures told { IsQueryOf id result }
+    {
+        self.state.lock(rt).query_some(id)
+    }
+
+    /// Waits until all records are committed that the journal had when this was taken, and returns a receipt of it.
+    /// The seat has kept that they are.
+    ///
+    /// Fails with `NODE_STOPPED` where the state stopped before that commit. The seat is then as it was.
+    pub fn confirm<R: Wait>(
+        &self,
+        rt: &R,
+        seat: &mut Seat,
+        taken: Taken,
+    ) -> Result<Receipt, Refusal>
+        ensures { MatchResult result
+            (λ receipt. (receipt ≡ taken) × (seat.new ≡ record seat.old { confirmed = max seat.old.confirmed taken.length }))
+            (λ refusal. (refusal ≡ stopped) × (seat.new ≡ seat.old)) }
+    {
+        match self.wait_for_receipt(rt, taken) {
+            Ok(receipt) => {
+                seat.confirm(&receipt);
+                Ok(receipt)
+            }
+            Err(refusal) => Err(refusal),
+        }
+    }
+
+    fn wait_for_receipt<R: Wait>(&self, rt: &R, taken: Taken) -> Result<Receipt, Refusal>
+        ensures { MatchResult result (λ receipt. receipt ≡ taken) (λ refusal. refusal ≡ stopped) }
+    {
+        let mut awaited = taken;
+        for _ in rt.forever() {
+            // Read before the state is asked, so that no ring between the two is missed.
+            let rings = self.bell.rings(rt);
+            match self.progress_locked(rt, awaited) {
+                Progress::Committed(receipt) => return Ok(receipt),
+                Progress::Stopped => return Err(Refusal { code: NODE_STOPPED }),
+                Progress::Awaited(back) => awaited = back,
+            }
+            self.bell.wait(rt, rings);
+        }
+        unreachable!()
+    }
+
+    fn progress_locked<R: Wait>(&self, rt: &R, taken: Taken) -> Progress
+        ensures { IsOf taken result }
+    {
+        self.state.lock(rt).progress_of(taken)
+    }
+
+    /// Appends the first records that aren't committed, at most `BATCH`, to the store, and returns how many: these
+    /// are committed now. It holds the lock until the store has them. Where there are none, and where the state was
+    /// stopped, it returns 0, and the store is as it was. The bell rings unless it returns 0.
+    ///
+    /// Fails as `append` of the store does. Then the state has stopped.
+    pub fn commit_next<R: Wait, S: NodeStore>(
+        &self,
+        rt: &R,
+        store: &mut S,
+    ) -> Result<usize, StoreFault>
+        ensures commits { IsCommit S.is_honest S.content S.may_hold S.must_reopen store.old store.new BATCH result }
+        ensures faults { S.faults store.new ≡ faults_after (S.faults store.old) result }
+        ensures whose { S.whose store.new ≡ S.whose store.old }
+        ensures own { S.is_honest store.new → S.must_reopen store.new ≡ false → S.is_own store.old → S.is_own store.new }
+    {
+        let committed = self.commit_locked(rt, store);
+        if !matches!(committed, Ok(0)) {
+            self.bell.ring(rt);
+        }
+        committed
+    }
+
+    fn commit_locked<R: Wait, S: NodeStore>(
+        &self,
+        rt: &R,
+        store: &mut S,
+    ) -> Result<usize, StoreFault>
+        ensures commits { IsCommit S.is_honest S.content S.may_hold S.must_reopen store.old store.new BATCH result }
+        ensures faults { S.faults store.new ≡ faults_after (S.faults store.old) result }
+        ensures whose { S.whose store.new ≡ S.whose store.old }
+        ensures own { S.is_honest store.new → S.must_reopen store.new ≡ false → S.is_own store.old → S.is_own store.new }
+    {
+        self.state.lock(rt).commit_some(store)
+    }
+
+    /// The least key, from `from` on, of a message to `peer` that the committed records send and no record of the
+    /// journal acknowledges, with a copy of the message; or `None` where there is no such message, and where the
+    /// state was stopped. Fails with `NoMemory` where memory ran out.
+    pub fn next_send<R: Wait>(
+        &self,
+        rt: &R,
+        peer: Node,
+        from: usize,
+    ) -> Result<Option<(usize, Message)>, NoMemory>
+        ensures { IfOk result (λ found. IsToSend peer from found) }
+    {
+        self.state.lock(rt).copied_send(peer, from)
+    }
+
+    /// Whether the state runs: it wasn't stopped, and no commit of it failed.
+    pub fn is_running<R: Wait>(&self, rt: &R) -> bool {
+        self.state.lock(rt).is_running()
+    }
+
+    /// The bell, for threads that wait until there is more to commit or to send: read its number, look at the desk,
+    /// and wait for another number where there is nothing to do.
+    pub fn bell(&self) -> &B {
+        &self.bell
+    }
+
+    /// Stops the state, and rings the bell. Calls that wait in `confirm` for a commit fail then.
+    pub fn stop<R: Wait>(&self, rt: &R) {
+        self.state.lock(rt).stop();
+        self.bell.ring(rt);
+    }
+
+    /// The state, once no thread shares the desk.
+    pub fn end(self) -> State<C> {
+        let Desk { state, bell: _ } = self;
+        state.into_inner()
+    }
+}

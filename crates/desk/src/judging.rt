@@ -1,0 +1,166 @@
+//! Whether the journal bears what the seats noted.
+ghost use Rattle.std.specs.Prelude.{◌≡◌, ◌↔◌, ◌++◌, ◌⊎◌, ◌≤◌, [], length, take, map, flat_map, All, Any, IfOk, OnOk, MatchOption, IsTrue, IsPermutation};
+ghost use Rattle.units.specs.RefusalCodes.{out_of_memory};
+ghost use Rattle.desk.specs.Due.{due, told_of};
+ghost use Rattle.desk.specs.Rooms.{IsNoRecord, TellNoRecord};
+ghost use Rattle.desk.specs.Settling.{AllBorne, Bears, SomeUnborne};
+
+use crate::notes::{Asked, Note, Told};
+use crate::seat::Seat;
+use crate::state::{State, tell};
+use protocol::{NodeCore, Stepped, resume};
+use std::alloc::Global;
+use units::refusal_code::OUT_OF_MEMORY;
+use units::{NoMemory, Refusal};
+use wire::Input;
+
+fn lacks_memory(returned: &Result<Stepped, Refusal>) -> bool
+    ensures { IsTrue result ↔ (returned.now ≡ Err (record { code = out_of_memory })) }
+{
+    match returned {
+        Ok(_) => false,
+        Err(refusal) => refusal.code == OUT_OF_MEMORY,
+    }
+}
+
+/// What is due for what was asked, after the core's journal. Where no record is told, the journal is as it was.
+fn ask<C: NodeCore>(core: &mut C, asked: &Asked) -> Result<Told, NoMemory>
+    ensures scheme { C.scheme_of core.new ≡ C.scheme_of core.old }
+    ensures node { C.node_of core.new ≡ C.node_of core.old }
+    ensures told { IfOk result (λ told. told ≡ due (C.scheme_of core.old) (C.node_of core.old) (C.journal_of core.old) asked.now) }
+    ensures journal { IfOk result (λ told. IsNoRecord told → C.journal_of core.new ≡ C.journal_of core.old) }
+{
+    match asked {
+        Asked::Take(input) => {
+            let returned = core.step(input);
+            if lacks_memory(&returned) {
+                return Err(NoMemory);
+            }
+            Ok(tell(returned))
+        }
+        Asked::Query(id) => Ok(Told::Status(core.status_of(*id))),
+    }
+}
+
+/// Whether what is due after the core's journal is what was told.
+fn is_due<C: NodeCore>(core: &mut C, note: &Note) -> Result<bool, NoMemory>
+    requires { IsNoRecord note.now.told }
+    ensures scheme { C.scheme_of core.new ≡ C.scheme_of core.old }
+    ensures node { C.node_of core.new ≡ C.node_of core.old }
+    ensures due { IfOk result (λ b. IsTrue b ↔ (due (C.scheme_of core.old) (C.node_of core.old) (C.journal_of core.old) note.now.asked ≡ note.now.told)) }
+    ensures journal { IfOk result (λ b. IsTrue b → C.journal_of core.new ≡ C.journal_of core.old) }
+{
+    let told = ask(core, &note.asked)?;
+    Ok(told == note.told)
+}
+
+/// Begins anew where the core has more records than that.
+fn rewind<C: NodeCore>(core: &mut C, records: usize) -> Result<(), NoMemory>
+    ensures scheme { C.scheme_of core.new ≡ C.scheme_of core.old }
+    ensures node { C.node_of core.new ≡ C.node_of core.old }
+    ensures journal { OnOk result ((C.journal_of core.new ≡ C.journal_of core.old) ⊎ (C.journal_of core.new ≡ [])) }
+    ensures short { OnOk result (length (C.journal_of core.new) ≤ records) }
+{
+    if core.records() > records {
+        *core = core.fresh()?;
+    }
+    Ok(())
+}
+
+/// Brings a core that has the first records of the journal to the first `records` of them.
+fn bring<C: NodeCore>(core: &mut C, journal: &[Input], records: usize) -> Result<(), NoMemory>
+    requires within { records ≤ length journal.now }
+    requires front { C.journal_of core.old ≡ take (length (C.journal_of core.old)) journal.now }
+    ensures scheme { C.scheme_of core.new ≡ C.scheme_of core.old }
+    ensures node { C.node_of core.new ≡ C.node_of core.old }
+    ensures journal { OnOk result (C.journal_of core.new ≡ take records journal.now) }
+{
+    rewind(core, records)?;
+    let start = core.records();
+    match resume(core, &journal[start..records]) {
+        Ok(()) => Ok(()),
+        // A node records its own journal again, so only memory can be lacking.
+        Err(_) => Err(NoMemory),
+    }
+}
+
+/// Whether the journal bears a note. The core has the first records of the journal, and has them after it too, unless
+/// not.
+fn is_borne<C: NodeCore>(core: &mut C, journal: &[Input], note: &Note) -> Result<bool, NoMemory>
+    requires no_record { IsNoRecord note.now.told }
+    requires front { C.journal_of core.old ≡ take (length (C.journal_of core.old)) journal.now }
+    ensures scheme { C.scheme_of core.new ≡ C.scheme_of core.old }
+    ensures node { C.node_of core.new ≡ C.node_of core.old }
+    ensures borne { IfOk result (λ b. IsTrue b ↔ Bears (C.scheme_of core.old) (C.node_of core.old) journal.now note.now) }
+    ensures front { IfOk result (λ b. IsTrue b → C.journal_of core.new ≡ take (length (C.journal_of core.new)) journal.now) }
+{
+    if note.length > journal.len() {
+        return Ok(false);
+    }
+    bring(core, journal, note.length)?;
+    is_due(core, note)
+}
+
+/// The length of the first note that the journal doesn't bear, or `None` where it bears all. The core has no record.
+fn unborne_of<C: NodeCore>(
+    mut core: C,
+    journal: &[Input],
+    notes: &[&Note],
+) -> Result<Option<usize>, NoMemory>
+    requires empty { C.journal_of core ≡ [] }
+    requires no_record { All (λ note. IsNoRecord note.now.told) notes.now }
+    ensures { IfOk result (λ found. MatchOption found
+        (All (λ note. Bears (C.scheme_of core) (C.node_of core) journal.now note.now) notes.now)
+        (λ len. Any (λ note. (note.now.length ≡ len) × (Bears (C.scheme_of core) (C.node_of core) journal.now note.now → ⊥)) notes.now)) }
+{
+    for note in notes {
+        if !is_borne(&mut core, journal, note)? {
+            return Ok(Some(note.length));
+        }
+    }
+    Ok(None)
+}
+
+fn add_notes<'a>(all: &mut Vec<&'a Note>, notes: &'a [Note]) -> Result<(), NoMemory>
+    ensures { OnOk result (map (λ note. note.now) all.new.items ≡ map (λ note. note.now) all.old.items ++ notes.now) }
+{
+    for note in notes {
+        all.push(note)?;
+    }
+    Ok(())
+}
+
+/// The notes of all seats.
+fn notes_of(alloc: Global, seats: &[Seat]) -> Result<Vec<&Note>, NoMemory>
+    ensures notes { IfOk result (λ all. map (λ note. note.now) all.items ≡ flat_map (λ seat. seat.notes) seats.now) }
+    ensures no_record { IfOk result (λ all. TellNoRecord (map (λ note. note.now) all.items)) }
+{
+    let mut all = Vec::new(alloc);
+    for seat in seats {
+        add_notes(&mut all, seat.notes())?;
+    }
+    Ok(all)
+}
+
+/// The same, from the lowest length to the greatest.
+fn notes_by_length(alloc: Global, seats: &[Seat]) -> Result<Vec<&Note>, NoMemory>
+    ensures notes { IfOk result (λ all. IsPermutation (flat_map (λ seat. seat.notes) seats.now) (map (λ note. note.now) all.items)) }
+    ensures no_record { IfOk result (λ all. TellNoRecord (map (λ note. note.now) all.items)) }
+{
+    let mut all = notes_of(alloc, seats)?;
+    all.sort_unstable_by_key(|note| note.length);
+    Ok(all)
+}
+
+/// The length of a note that the journal of the state doesn't bear, or `None` where it bears all notes of the seats.
+/// Goes through the journal once. Or `NoMemory`.
+pub(crate) fn find_unborne<C: NodeCore>(
+    state: &State<C>,
+    seats: &[Seat],
+) -> Result<Option<usize>, NoMemory>
+    ensures { IfOk result (λ found. MatchOption found (All (AllBorne state.now) seats.now) (λ len. Any (SomeUnborne state.now len) seats.now)) }
+{
+    let notes = notes_by_length(state.alloc(), seats)?;
+    let core = state.fresh()?;
+    unborne_of(core, state.journal(), notes.as_slice())
+}

@@ -1,0 +1,50 @@
+//! What a state is asked, and what it returns.
+
+use protocol::Stepped;
+use status::{Status, TransactionId};
+use units::Refusal;
+use wire::Input;
+
+/// What a state is asked.
+#[derive(Debug, Drop)]
+pub enum Asked {
+    /// To take that input.
+    Take(Input),
+    /// Where that transaction stands.
+    Query(TransactionId),
+}
+
+/// What a state returns.
+#[derive(Clone, Copy, Debug, PartialEq, Eq)]
+pub enum Told {
+    /// What was done with the input.
+    Step(Stepped),
+    /// Where the transaction stands, or `None` where no record is about it.
+    Status(Option<Status>),
+    /// The input was refused, or the state had stopped.
+    Refused(Refusal),
+}
+
+/// What was asked, what was returned, and how many records the journal then had.
+#[derive(Debug, Drop)]
+pub struct Note {
+    pub asked: Asked,
+    pub told: Told,
+    pub length: usize,
+}
+
+/// An input that was recorded, and its place in the journal, counted from 0.
+#[derive(Debug, Drop)]
+pub struct Ticket {
+    pub place: usize,
+    pub input: Input,
+}
+
+/// How the lengths of the journal that a seat was told follow one another.
+#[derive(Clone, Copy, Debug, PartialEq, Eq)]
+pub enum Lengths {
+    /// None was below one before it.
+    Grew,
+    /// One was below one before it.
+    Fell,
+}

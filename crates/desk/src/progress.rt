@@ -1,0 +1,14 @@
+//! What has become of what a state was asked.
+
+use crate::state::{Receipt, Taken};
+
+/// How far the records are committed that the journal had when something was taken.
+#[derive(Debug, Drop)]
+pub(crate) enum Progress {
+    /// All are.
+    Committed(Receipt),
+    /// Not all are, and the state runs. What was taken is given back.
+    Awaited(Taken),
+    /// Not all are, and the state has stopped.
+    Stopped,
+}

@@ -1,0 +1,167 @@
+//! What one thread was told.
+ghost use Rattle.std.specs.Prelude.{◌≡◌, [], if◌then◌else◌, max, nat_lt, None, Some, OnOk, OnErr};
+ghost use Rattle.units.specs.RefusalCodes.{out_of_memory};
+ghost use Rattle.desk.specs.Rooms.{TellNoRecord};
+ghost use Rattle.desk.specs.Telling.{kept};
+
+use crate::notes::{Asked, Lengths, Note, Ticket, Told};
+use crate::state::{Receipt, Taken};
+use protocol::Stepped;
+use status::TransactionId;
+use std::alloc::Global;
+use std::marker::Model;
+use units::NoMemory;
+use units::refusal_code::{NODE_STOPPED, OUT_OF_MEMORY};
+use wire::Input;
+
+/// What one thread was told: the records that it made, and whatever else it learned about the journal.
+#[derive(Debug, Drop)]
+pub struct Seat {
+    tickets: Vec<Ticket>,
+    notes: Vec<Note>,
+    seen: usize,
+    lengths: Lengths,
+    confirmed: usize,
+    prepared: Option<Asked>,
+}
+
+impl Model for Seat {
+    ghost use Rattle.std.specs.Prelude.{vec_capacity, vec_len};
+    ghost use Rattle.desk.specs.Rooms.{HasRoom, TellNoRecord};
+    ghost use Rattle.desk.specs.Views.{Heard};
+
+    ghost Value = { Heard };
+
+    ghost view = { λ s. record { tickets = s.tickets.items; notes = s.notes.items; seen = s.seen; lengths = s.lengths; confirmed = s.confirmed; prepared = s.prepared } };
+
+    ghost invariant = { λ s. HasRoom s.prepared (vec_len s.tickets) (vec_capacity s.tickets) (vec_len s.notes) (vec_capacity s.notes) × TellNoRecord s.notes.items };
+}
+
+impl Seat {
+    /// A seat that was told nothing. Takes no memory.
+    pub fn new(alloc: Global) -> Seat
+        ensures { result ≡ record { tickets = []; notes = []; seen = 0; lengths = Lengths.Grew; confirmed = 0; prepared = None } }
+    {
+        Seat {
+            tickets: Vec::new(alloc),
+            notes: Vec::new(alloc),
+            seen: 0,
+            lengths: Lengths::Grew,
+            confirmed: 0,
+            prepared: None,
+        }
+    }
+
+    /// Makes room for what is told of this input, before a state is given it. Fails with `NoMemory`, and the seat is
+    /// as it was.
+    pub fn prepare_input(&mut self, input: &Input) -> Result<(), NoMemory>
+        ensures ok { OnOk result (self.new ≡ record self.old { prepared = Some (Asked.Take input.now) }) }
+        ensures err { OnErr result (self.new ≡ self.old) }
+    {
+        let asked = Asked::Take(input.copy()?);
+        self.prepare(asked)
+    }
+
+    /// Makes room for what is told of this transaction, before a state is asked. Fails with `NoMemory`, and the seat
+    /// is as it was.
+    pub fn prepare_query(&mut self, id: TransactionId) -> Result<(), NoMemory>
+        ensures ok { OnOk result (self.new ≡ record self.old { prepared = Some (Asked.Query id) }) }
+        ensures err { OnErr result (self.new ≡ self.old) }
+    {
+        self.prepare(Asked::Query(id))
+    }
+
+    fn prepare(&mut self, asked: Asked) -> Result<(), NoMemory>
+        ensures ok { OnOk result (self.new ≡ record self.old { prepared = Some asked }) }
+        ensures err { OnErr result (self.new ≡ self.old) }
+    {
+        self.tickets.reserve(1)?;
+        self.notes.reserve(1)?;
+        self.prepared = Some(asked);
+        Ok(())
+    }
+
+    /// Keeps what was told of what the seat made room for: an input that was recorded as a ticket, refusals by
+    /// `NODE_STOPPED` and `OUT_OF_MEMORY` not at all, and all else as a note. Takes no memory.
+    pub fn keep(&mut self, taken: &Taken)
+        requires { self.old.prepared ≡ Some taken.now.asked }
+        ensures { self.new ≡ kept self.old taken.now }
+    {
+        let length = taken.length();
+        if let Some(asked) = self.prepared.take() {
+            match taken.told() {
+                Told::Step(Stepped::Recorded(place)) => {
+                    if let Asked::Take(input) = asked {
+                        self.tickets.push_reserved(Ticket { place, input });
+                    }
+                }
+                Told::Refused(refusal)
+                    if refusal.code == NODE_STOPPED || refusal.code == OUT_OF_MEMORY => {}
+                told => {
+                    self.notes.push_reserved(Note {
+                        asked,
+                        told,
+                        length,
+                    });
+                }
+            }
+        }
+        self.see(length);
+    }
+
+    /// Keeps that the journal had the length of a call for which memory ran out, and nothing else of that call. It
+    /// needs no room. Takes no memory.
+    pub(crate) fn keep_length(&mut self, taken: &Taken)
+        requires { taken.now.told ≡ Told.Refused (record { code = out_of_memory }) }
+        ensures { self.new ≡ kept self.old taken.now }
+    {
+        self.prepared = None;
+        self.see(taken.length());
+    }
+
+    /// The journal had this length.
+    fn see(&mut self, length: usize)
+        ensures { self.new ≡ record self.old { seen = max self.old.seen length; lengths = if nat_lt length self.old.seen then Lengths.Fell else self.old.lengths } }
+    {
+        if length < self.seen {
+            self.lengths = Lengths::Fell;
+        }
+        self.seen = self.seen.max(length);
+    }
+
+    /// The seat was told that this is committed.
+    pub fn confirm(&mut self, receipt: &Receipt)
+        ensures { self.new ≡ record self.old { confirmed = max self.old.confirmed receipt.now.length } }
+    {
+        self.confirmed = self.confirmed.max(receipt.taken().length());
+    }
+
+    /// The inputs that were recorded, with their places.
+    pub fn tickets(&self) -> &[Ticket]
+        ensures { result.now ≡ self.now.tickets }
+    {
+        self.tickets.as_slice()
+    }
+
+    /// What else the seat was told. No note is of an input that was recorded.
+    pub fn notes(&self) -> &[Note]
+        ensures value { result.now ≡ self.now.notes }
+        ensures no_record { TellNoRecord self.now.notes }
+    {
+        self.notes.as_slice()
+    }
+
+    /// How the lengths that it was told follow one another.
+    pub fn lengths(&self) -> Lengths
+        ensures { result ≡ self.now.lengths }
+    {
+        self.lengths
+    }
+
+    /// The greatest length that was confirmed to it.
+    pub fn confirmed(&self) -> usize
+        ensures { result ≡ self.now.confirmed }
+    {
+        self.confirmed
+    }
+}

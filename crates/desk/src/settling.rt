@@ -1,0 +1,120 @@
+//! Settling: whether what the seats were told is what one thread alone would have been told.
+ghost use Rattle.std.specs.Prelude.{◌≡◌, ◌↔◌, ◌<◌, ◌≤◌, length, All, Any, IsTrue, MatchBool, MatchResult};
+ghost use Rattle.desk.specs.Covering.{AllFit, Covers, Fits, NoneMissing, NoneTwice, SomeDiffers};
+ghost use Rattle.desk.specs.Settling.{IsBeyond, IsFaultOf, IsWithin, Settles, Stood};
+
+use crate::counting::{check_missing, check_twice, counts_of};
+use crate::judging::find_unborne;
+use crate::life::{Life, Unsettled};
+use crate::notes::{Lengths, Ticket};
+use crate::seat::Seat;
+use crate::state::State;
+use protocol::NodeCore;
+
+/// Each place since the opening is named by one ticket.
+fn check_places<C: NodeCore>(state: &State<C>, seats: &[Seat]) -> Result<(), Unsettled>
+    ensures { MatchResult result (λ _. NoneMissing state.now seats.now × NoneTwice state.now seats.now) (IsFaultOf state.now seats.now) }
+{
+    let opening = state.opening();
+    let counts = counts_of(state.alloc(), seats, opening, state.journal().len())?;
+    if let Err(place) = check_missing(counts.as_slice(), opening) {
+        return Err(Unsettled::Missing(place));
+    }
+    if let Err(place) = check_twice(counts.as_slice(), opening) {
+        return Err(Unsettled::Twice(place));
+    }
+    Ok(())
+}
+
+fn fits<C: NodeCore>(state: &State<C>, ticket: &Ticket) -> bool
+    ensures { IsTrue result ↔ Fits state.now ticket.now }
+{
+    match state.journal().get(ticket.place) {
+        Some(input) => state.opening() <= ticket.place && input.same(&ticket.input),
+        None => false,
+    }
+}
+
+/// Fails with the place of a ticket that doesn't fit.
+fn check_tickets<C: NodeCore>(state: &State<C>, tickets: &[Ticket]) -> Result<(), usize>
+    ensures { MatchResult result (λ _. All (Fits state.now) tickets.now) (λ place. Any (λ t. (t.place ≡ place) × (Fits state.now t → ⊥)) tickets.now) }
+{
+    for ticket in tickets {
+        if !fits(state, ticket) {
+            return Err(ticket.place);
+        }
+    }
+    Ok(())
+}
+
+/// The same, of the tickets of all seats.
+fn check_fit<C: NodeCore>(state: &State<C>, seats: &[Seat]) -> Result<(), usize>
+    ensures { MatchResult result (λ _. AllFit state.now seats.now) (λ place. SomeDiffers state.now seats.now place) }
+{
+    for seat in seats {
+        check_tickets(state, seat.tickets())?;
+    }
+    Ok(())
+}
+
+/// The tickets of the seats are the records since the opening.
+fn check_cover<C: NodeCore>(state: &State<C>, seats: &[Seat]) -> Result<(), Unsettled>
+    ensures { MatchResult result (λ _. Covers state.now seats.now) (IsFaultOf state.now seats.now) }
+{
+    check_places(state, seats)?;
+    match check_fit(state, seats) {
+        Ok(()) => Ok(()),
+        Err(place) => Err(Unsettled::Differs(place)),
+    }
+}
+
+/// Fails with a length that was confirmed and isn't committed.
+fn check_confirmed(seats: &[Seat], committed: usize) -> Result<(), usize>
+    ensures { MatchResult result (λ _. All (IsWithin committed) seats.now) (λ len. Any (IsBeyond committed len) seats.now) }
+{
+    for seat in seats {
+        if seat.confirmed() > committed {
+            return Err(seat.confirmed());
+        }
+    }
+    Ok(())
+}
+
+fn has_fallen(seats: &[Seat]) -> bool
+    ensures { MatchBool result (Any (λ s. s.lengths ≡ Lengths.Fell) seats.now) (All Stood seats.now) }
+{
+    for seat in seats {
+        if matches!(seat.lengths(), Lengths::Fell) {
+            return true;
+        }
+    }
+    false
+}
+
+/// How long the journal is, where what the seats were told is what one thread alone would have been told along the
+/// journal: each record since the opening was told once, as that record; what was confirmed is committed; no seat was
+/// told of a shorter journal than before; and the journal bears each note.
+///
+/// Fails with the first fault in the order of `Unsettled`, where there is one, and with `NoMemory` where memory ran
+/// out. Takes time in proportion to the records and the notes, but for the sorting of the notes by lengths.
+pub fn settle<C: NodeCore>(state: &State<C>, seats: &[Seat]) -> Result<Life, Unsettled>
+    ensures { Settles state.now seats.now result }
+{
+    check_cover(state, seats)?;
+    let committed = state.committed_count();
+    if let Err(length) = check_confirmed(seats, committed) {
+        return Err(Unsettled::NotCommitted(length));
+    }
+    if has_fallen(seats) {
+        return Err(Unsettled::Fell);
+    }
+    match find_unborne(state, seats) {
+        Ok(None) => Ok(Life {
+            opening: state.opening(),
+            records: state.journal().len(),
+            committed,
+        }),
+        Ok(Some(length)) => Err(Unsettled::Untrue(length)),
+        Err(_) => Err(Unsettled::NoMemory),
+    }
+}

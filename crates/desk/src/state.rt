@@ -1,0 +1,362 @@
+//! A node's state.
+ghost use Rattle.std.specs.Prelude.{◌≡◌, ◌+◌, ◌<◌, ◌≤◌, [], true, false, length, take, slice_get, option_copied, option_map, None, Some, Ok, Err, IfOk, IfSome, MatchResult};
+ghost use Rattle.protocol.specs.History.{is_acknowledged, sends};
+ghost use Rattle.protocol.specs.Unacknowledged.{IsLeastFrom, awaits};
+ghost use Rattle.units.specs.RefusalCodes.{out_of_memory};
+ghost use Rattle.durable.specs.Calls.{Appends};
+ghost use Rattle.durable.specs.Faults.{faults_after};
+ghost use Rattle.desk.specs.Calls.{Takes, Tells, batch_of, committed_by, done};
+ghost use Rattle.desk.specs.Due.{status_told, told_of};
+ghost use Rattle.desk.specs.Views.{committed_past, committed_records, past, tail};
+
+use crate::notes::{Asked, Told};
+use durable::{NodeStore, StoreFault};
+use protocol::{NodeCore, Stepped};
+use status::TransactionId;
+use std::alloc::Global;
+use std::marker::Model;
+use units::refusal_code::NODE_STOPPED;
+use units::{NoMemory, Node, Refusal};
+use wire::{Input, Message};
+
+/// What a state was asked, what it returned, and how many records its journal then had. It isn't known yet whether
+/// these are committed. Only a state makes one.
+#[derive(Debug, Drop)]
+pub struct Taken {
+    asked: Asked,
+    told: Told,
+    length: usize,
+}
+
+impl Model for Taken {
+    ghost use Rattle.desk.specs.declared.notes.Note.{Note};
+
+    ghost Value = { Note };
+
+    ghost view = { λ t. record { asked = t.asked; told = t.told; length = t.length } };
+}
+
+impl Taken {
+    /// What the state was asked.
+    pub fn asked(&self) -> &Asked
+        ensures { result.now ≡ self.now.asked }
+    {
+        &self.asked
+    }
+
+    /// What it returned.
+    pub fn told(&self) -> Told
+        ensures { result ≡ self.now.told }
+    {
+        self.told
+    }
+
+    /// How many records its journal then had.
+    pub fn length(&self) -> usize
+        ensures { result ≡ self.now.length }
+    {
+        self.length
+    }
+}
+
+/// What was taken, and all records of the journal then were committed when a state made this. Only `State::receipt`
+/// does.
+#[derive(Debug, Drop)]
+pub struct Receipt {
+    taken: Taken,
+}
+
+impl Model for Receipt {
+    ghost use Rattle.desk.specs.declared.notes.Note.{Note};
+
+    ghost Value = { Note };
+
+    ghost view = { λ r. r.taken };
+}
+
+impl Receipt {
+    /// What was taken.
+    pub fn taken(&self) -> &Taken
+        ensures { result.now ≡ self.now }
+    {
+        &self.taken
+    }
+}
+
+/// A node's core with its journal, of which the first records are committed to its store. It runs until it is
+/// stopped.
+#[derive(Drop)]
+pub struct State<C: NodeCore> {
+    alloc: Global,
+    core: C,
+    committed: usize,
+    opening: usize,
+    runs: bool,
+}
+
+impl<C: NodeCore> Model for State<C> {
+    ghost use Rattle.std.specs.Coded.{codes};
+    ghost use Rattle.std.specs.Prelude.{◌≤◌, length};
+    ghost use Rattle.scheme.specs.contracts.registries.Scheme as kept_scheme;
+    ghost use Rattle.desk.specs.Views.{Held};
+
+    ghost Value = { Held };
+
+    ghost coded = { Prim.hlevel (codes, kept_scheme.the_row.coded) };
+
+    ghost view = { λ s. record { scheme = C.scheme_of s.core; node = C.node_of s.core; journal = C.journal_of s.core; committed = s.committed; opening = s.opening; runs = s.runs } };
+
+    ghost invariant = { λ s. (s.opening ≤ s.committed) × (s.committed ≤ length (C.journal_of s.core)) };
+}
+
+/// What a core returned, as it is told.
+pub(crate) fn tell(returned: Result<Stepped, Refusal>) -> Told
+    ensures { result ≡ told_of returned }
+{
+    match returned {
+        Ok(stepped) => Told::Step(stepped),
+        Err(refusal) => Told::Refused(refusal),
+    }
+}
+
+impl<C: NodeCore> State<C> {
+    /// A state that runs, in which the whole journal of the core is committed.
+    pub fn new(alloc: Global, core: C) -> State<C>
+        ensures { result ≡ record { scheme = C.scheme_of core; node = C.node_of core; journal = C.journal_of core; committed = length (C.journal_of core); opening = length (C.journal_of core); runs = true } }
+    {
+        let records = core.records();
+        State {
+            alloc,
+            core,
+            committed: records,
+            opening: records,
+            runs: true,
+        }
+    }
+
+    /// Takes an input. It tells what is due for it after the journal, or refusal `OUT_OF_MEMORY` in place of that;
+    /// where it was recorded the journal has it as its last record, and else nothing has changed. A state that was
+    /// stopped tells refusal `NODE_STOPPED`, and nothing changes. The length is that of the journal after the call.
+    pub fn take(&mut self, input: Input) -> Taken
+        ensures asked { result.asked ≡ Asked.Take input }
+        ensures told { Tells self.old input result.told self.new }
+        ensures length { result.length ≡ length self.new.journal }
+    {
+        let told = tell(self.step(&input));
+        Taken {
+            asked: Asked::Take(input),
+            told,
+            length: self.core.records(),
+        }
+    }
+
+    fn step(&mut self, input: &Input) -> Result<Stepped, Refusal>
+        ensures { Takes self.old input.now result self.new }
+    {
+        if !self.runs {
+            return Err(Refusal { code: NODE_STOPPED });
+        }
+        self.core.step(input)
+    }
+
+    /// Tells where a transaction stands after the whole journal, or refusal `NODE_STOPPED` where the state was
+    /// stopped. The length is that of the journal.
+    pub fn query(&self, id: TransactionId) -> Taken
+        ensures { result ≡ record { asked = Asked.Query id; told = status_told self.now id; length = length self.now.journal } }
+    {
+        let told = if self.runs {
+            Told::Status(self.core.status_of(id))
+        } else {
+            Told::Refused(Refusal { code: NODE_STOPPED })
+        };
+        Taken {
+            asked: Asked::Query(id),
+            told,
+            length: self.core.records(),
+        }
+    }
+
+    /// Tells refusal `OUT_OF_MEMORY` of what the state couldn't be asked. The length is that of the journal.
+    pub fn refuse_for_memory(&self, asked: Asked) -> Taken
+        ensures { result ≡ record { asked = asked; told = Told.Refused (record { code = out_of_memory }); length = length self.now.journal } }
+    {
+        Taken {
+            asked,
+            told: Told::Refused(Refusal::NO_MEMORY),
+            length: self.core.records(),
+        }
+    }
+
+    /// The first records that aren't committed yet, at most `max`; or `NoMemory`.
+    pub fn batch(&self, max: usize) -> Result<Vec<Input>, NoMemory>
+        ensures { IfOk result (λ batch. batch.items ≡ take max (tail self.now)) }
+    {
+        let start = self.committed;
+        copies(
+            self.alloc,
+            &self.core.journal()[start..start + self.tail_within(max)],
+        )
+    }
+
+    /// How many records aren't committed, at most `max`.
+    fn tail_within(&self, max: usize) -> usize
+        ensures { result ≡ length (take max (tail self.now)) }
+    {
+        max.min(self.core.records() - self.committed)
+    }
+
+    /// The next `count` records are committed, so that `batch` begins after them.
+    pub fn mark_committed(&mut self, count: usize)
+        requires { self.old.committed + count ≤ length self.old.journal }
+        ensures { self.new ≡ record self.old { committed = self.old.committed + count } }
+    {
+        // The journal is at least as long, so that the sum can't be too large.
+        let _records = self.core.records();
+        self.committed += count;
+    }
+
+    /// Appends the first records that aren't committed, at most `max`, to the store, and returns how many: these are
+    /// committed now. A state that was stopped, one that is committed as a whole, and a `max` of 0 give 0, and change
+    /// nothing.
+    ///
+    /// Fails as `append` of the store does. Then the state has stopped, and nothing else of it has changed.
+    pub fn commit<S: NodeStore>(&mut self, store: &mut S, max: usize) -> Result<usize, StoreFault>
+        ensures state { self.new ≡ committed_by self.old result }
+        ensures count { IfOk result (λ count. count ≡ length (batch_of self.old max)) }
+        ensures none { length (batch_of self.old max) ≡ 0 → (result ≡ Ok 0) × (self.new ≡ self.old) × (store.new ≡ store.old) }
+        ensures some { 0 < length (batch_of self.old max) → Appends S.is_honest S.content S.may_hold S.must_reopen store.old store.new (batch_of self.old max) (done result) }
+        ensures faults { S.faults store.new ≡ faults_after (S.faults store.old) result }
+        ensures whose { S.whose store.new ≡ S.whose store.old }
+        ensures own { S.is_honest store.new → S.must_reopen store.new ≡ false → S.is_own store.old → S.is_own store.new }
+    {
+        let count = if self.runs { self.tail_within(max) } else { 0 };
+        if count == 0 {
+            return Ok(0);
+        }
+        let start = self.committed;
+        match store.append(&self.core.journal()[start..start + count]) {
+            Ok(()) => {
+                self.mark_committed(count);
+                Ok(count)
+            }
+            Err(fault) => {
+                self.stop();
+                Err(fault)
+            }
+        }
+    }
+
+    /// The least key, from `from` on, of a message to `peer` that the committed records send and no record of the
+    /// journal acknowledges, with the message; or `None` where there is no such message, and where the state was
+    /// stopped.
+    pub fn next_send(&self, peer: Node, from: usize) -> Option<(usize, &Message)>
+        ensures stopped { self.now.runs ≡ false → option_map (λ sent. sent.0) result ≡ None }
+        ensures key { self.now.runs ≡ true → IsLeastFrom (awaits (sends (committed_past self.now)) (is_acknowledged (past self.now)) peer) from (option_map (λ sent. sent.0) result) }
+        ensures message { IfSome result (λ sent. slice_get (sends (committed_past self.now)) sent.0 ≡ Some sent.1.now) }
+    {
+        if !self.runs {
+            return None;
+        }
+        let key = self.core.next_unacknowledged(peer, from)?;
+        let message = self.committed_message(key)?;
+        Some((key, message))
+    }
+
+    /// The message with that key, if a committed record sends it.
+    fn committed_message(&self, key: usize) -> Option<&Message>
+        ensures { option_copied result ≡ slice_get (sends (committed_past self.now)) key }
+    {
+        if key < self.core.sent_by(self.committed) {
+            self.core.outbox(key)
+        } else {
+            None
+        }
+    }
+
+    /// A receipt of what was taken, where all records that the journal had then are committed; or what was taken
+    /// back.
+    pub fn receipt(&self, taken: Taken) -> Result<Receipt, Taken>
+        ensures { MatchResult result (λ receipt. (receipt ≡ taken) × (taken.length ≤ self.now.committed)) (λ back. (back ≡ taken) × (self.now.committed < taken.length)) }
+    {
+        if taken.length <= self.committed {
+            Ok(Receipt { taken })
+        } else {
+            Err(taken)
+        }
+    }
+
+    /// From now on the state takes nothing, commits nothing, and hands out no message.
+    pub fn stop(&mut self)
+        ensures { self.new ≡ record self.old { runs = false } }
+    {
+        self.runs = false;
+    }
+
+    /// Whether the state runs: it wasn't stopped, and no commit of it failed.
+    pub fn is_running(&self) -> bool
+        ensures { result ≡ self.now.runs }
+    {
+        self.runs
+    }
+
+    /// The node whose state it is.
+    pub fn node(&self) -> Node
+        ensures { result ≡ self.now.node }
+    {
+        self.core.node()
+    }
+
+    /// All records of the journal, the oldest first.
+    pub(crate) fn journal(&self) -> &[Input]
+        ensures { result.now ≡ self.now.journal }
+    {
+        self.core.journal()
+    }
+
+    /// How many records the journal had at the opening.
+    pub(crate) fn opening(&self) -> usize
+        ensures value { result ≡ self.now.opening }
+        ensures within { self.now.opening ≤ length self.now.journal }
+    {
+        self.opening
+    }
+
+    /// The core of the empty journal, under the same scheme and at the same node; or `NoMemory`.
+    pub(crate) fn fresh(&self) -> Result<C, NoMemory>
+        ensures scheme { IfOk result (λ core. C.scheme_of core ≡ self.now.scheme) }
+        ensures node { IfOk result (λ core. C.node_of core ≡ self.now.node) }
+        ensures journal { IfOk result (λ core. C.journal_of core ≡ []) }
+    {
+        self.core.fresh()
+    }
+
+    /// How many records are committed.
+    pub(crate) fn committed_count(&self) -> usize
+        ensures { result ≡ self.now.committed }
+    {
+        self.committed
+    }
+
+    /// What the state allocates from.
+    pub(crate) fn alloc(&self) -> Global {
+        self.alloc
+    }
+
+    /// The records that are committed, the oldest first.
+    pub fn committed(&self) -> &[Input]
+        ensures { result.now ≡ committed_records self.now }
+    {
+        &self.core.journal()[..self.committed]
+    }
+}
+
+/// An equal list; or `NoMemory`.
+fn copies(alloc: Global, inputs: &[Input]) -> Result<Vec<Input>, NoMemory>
+    ensures { IfOk result (λ all. all.items ≡ inputs.now) }
+{
+    let mut all = Vec::new(alloc);
+    for input in inputs {
+        all.push(input.copy()?)?;
+    }
+    Ok(all)
+}

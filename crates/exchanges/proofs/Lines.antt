@@ -1,0 +1,19 @@
+-- Bytes of a line, one after another.
+use Rattle.std.proofs.Common.{◌≡◌, ◌≢◌, ℕ, ◌+◌, ◌<◌, List, [], ◌∷◌, ◌++◌, length, get_or, take, drop, sym, ap, ◌∙◌}
+use Rattle.std.proofs.lemmas.List.{take_more, drop_more, take-append-drop}
+use Rattle.wire.specs.Lines.{HasNoNewline}
+
+-- a line of one byte more
+pub line_more : (line : List ℕ) (b : ℕ) → HasNoNewline line → b ≢ 10 → HasNoNewline (line ++ b ∷ [])
+line_more [] b free other = (other, tt)
+line_more (x ∷ line) b free other = (free.0, line_more line b free.1 other)
+
+-- lines around the one at i
+pub lines_around : (ls : List (List ℕ)) (i : ℕ) (l m : List ℕ) → i < length ls → l ≡ get_or ls i l → m ≡ l → ls ≡ take i ls ++ ((m ∷ []) ++ drop (i + 1) ls)
+lines_around ls i l m low at same =
+    sym (take-append-drop i ls) ∙ ap (λ (t : List (List ℕ)). take i ls ++ t) (drop_more ls i l low ∙ ap (λ (x : List ℕ). x ∷ drop (i + 1) ls) (sym at ∙ sym same))
+
+-- one line more
+pub lines_more : (ls : List (List ℕ)) (i : ℕ) (l m : List ℕ) → i < length ls → l ≡ get_or ls i l → m ≡ l → take i ls ++ m ∷ [] ≡ take (i + 1) ls
+lines_more ls i l m low at same =
+    ap (λ (x : List ℕ). take i ls ++ x ∷ []) (same ∙ at) ∙ sym (take_more ls i l low)

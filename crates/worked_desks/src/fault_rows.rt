@@ -1,0 +1,61 @@
+use crate::nodes::{CLOSE, OPEN, TEN, TEN_MORE, input, nz, nz_core, nz_desk, recorded, take_all};
+use desk::{Life, Seat, State, Told, settle};
+use durable::{Kept, MemoryStore, NodeStore, StoreFault};
+use std::alloc::Global;
+use std::process::Abort;
+use std::sync::Wait;
+use units::refusal_code::NODE_STOPPED;
+use units::{Node, Refusal};
+
+const STOPPED: Told = Told::Refused(Refusal { code: NODE_STOPPED });
+
+/// Has a desk fail at its first commit, which keeps all of the batch or nothing, and gives the store, opened again.
+fn failed_store(rt: &(impl Wait + Abort), alloc: Global, keeps: Kept) -> MemoryStore {
+    let desk = nz_desk(rt, alloc);
+    let mut store = MemoryStore::fused(alloc, nz(rt), 0, keeps);
+    let mut seat = Seat::new(alloc);
+    take_all(rt, alloc, &desk, &mut seat, &[(TEN, recorded(0))]);
+    let taken = desk.take(rt, &mut seat, input(rt, alloc, TEN_MORE));
+    assert_eq!(rt; desk.commit_next(rt, &mut store), Err(StoreFault::Device));
+    assert_eq!(rt; desk.commit_next(rt, &mut store), Ok(0));
+    take_all(rt, alloc, &desk, &mut seat, &[(CLOSE, STOPPED)]);
+    assert!(rt;
+        desk.next_send(rt, Node::Itl, 0)
+            .is_ok_and(|next| next.is_none())
+    );
+    assert!(rt; desk.confirm(rt, &mut seat, taken).is_err());
+    let life = Life {
+        opening: 0,
+        records: 2,
+        committed: 0,
+    };
+    assert_eq!(rt; settle(&desk.end(), &[seat]), Ok(life));
+    assert_eq!(rt; store.reopen(), Ok(()));
+    store
+}
+
+#[test]
+fn a_failed_commit_stops_the_node(rt: HostRuntime) {
+    let alloc = rt.alloc();
+    for (keeps, records) in [(Kept::All, 2), (Kept::None, 0)] {
+        let mut store = failed_store(&rt, alloc, keeps);
+        let mut state = State::load_from(alloc, nz_core(&rt, alloc), &mut store)
+            .ok()
+            .expect(&rt, "a state");
+        assert_eq!(rt; state.committed().len(), records);
+        assert!(rt; state.is_running());
+        let taken = state.take(input(&rt, alloc, CLOSE));
+        assert_eq!(rt; taken.told(), recorded(records));
+    }
+}
+
+#[test]
+fn a_record_that_is_not_recorded_is_damage(rt: HostRuntime) {
+    let alloc = rt.alloc();
+    let mut store = MemoryStore::new(alloc, nz(&rt));
+    for text in [CLOSE, OPEN, OPEN] {
+        assert_eq!(rt; store.append(&[input(&rt, alloc, text)]), Ok(()));
+    }
+    let loaded = State::load_from(alloc, nz_core(&rt, alloc), &mut store);
+    assert_eq!(rt; loaded.err(), Some(StoreFault::Damaged(2)));
+}

@@ -1,0 +1,75 @@
+//! Registry NZ of the worked scheme, its desks, and what they are asked.
+
+ghost use Rattle.std.specs.Prelude.{◌≡◌, []};
+
+use desk::{Desk, RoomBell, Seat, State, Told};
+use protocol::Stepped;
+use registry_core::RegistryCore;
+use scheme::Scheme;
+use std::alloc::Global;
+use std::process::Abort;
+use std::sync::Wait;
+use units::{Code, Node};
+use wire::{Input, decode_input};
+
+const SCHEME: &str =
+    r#"{"records":2000,"registries":[{"accounts":[7,8],"allotted":[],"code":"JP","eligible":true,"kinds":["AAU","CER"]},{"accounts":[1,2],"allotted":[{"account":1,"units":["NZ:1:1-100:AAU"]}],"code":"NZ","eligible":true,"kinds":["AAU","RMU","ERU","CER","tCER","lCER"]}]}"#;
+
+/// NZ's first proposal.
+pub const TEN: &str =
+    r#"{"account":1,"input":"propose","to_account":7,"to_registry":"JP","units":["NZ:1:1-10:AAU"]}"#;
+
+/// Its second one.
+pub const TEN_MORE: &str =
+    r#"{"account":1,"input":"propose","to_account":7,"to_registry":"JP","units":["NZ:1:11-20:AAU"]}"#;
+
+pub const CLOSE: &str = r#"{"account":2,"input":"close"}"#;
+
+pub const OPEN: &str = r#"{"account":2,"input":"open"}"#;
+
+pub type NzState = State<RegistryCore>;
+
+pub type NzDesk = Desk<RegistryCore, RoomBell>;
+
+pub fn nz(rt: &impl Abort) -> Node {
+    Node::Registry(Code::read("NZ").expect(rt, "a code"))
+}
+
+pub fn nz_core(rt: &impl Abort, alloc: Global) -> RegistryCore
+    ensures { result.journal ≡ [] }
+{
+    let scheme = Scheme::read(alloc, SCHEME.as_bytes()).expect(rt, "a scheme");
+    let code = Code::read("NZ").expect(rt, "a code");
+    RegistryCore::new(alloc, &scheme, code).expect(rt, "memory")
+}
+
+pub fn nz_state(rt: &impl Abort, alloc: Global) -> NzState {
+    State::new(alloc, nz_core(rt, alloc))
+}
+
+pub fn nz_desk(rt: &impl Abort, alloc: Global) -> NzDesk {
+    Desk::new(nz_state(rt, alloc), RoomBell::new())
+}
+
+pub fn input(rt: &impl Abort, alloc: Global, text: &str) -> Input {
+    decode_input(alloc, text.as_bytes()).expect(rt, "an input")
+}
+
+/// Has the desk take each input, and asserts what it tells.
+pub fn take_all(
+    rt: &(impl Wait + Abort),
+    alloc: Global,
+    desk: &NzDesk,
+    seat: &mut Seat,
+    row: &[(&str, Told)],
+) {
+    for (text, expected) in row {
+        let taken = desk.take(rt, seat, input(rt, alloc, text));
+        assert_eq!(rt; taken.told(), *expected, "{text}");
+    }
+}
+
+/// What is told of an input that is recorded at that place.
+pub fn recorded(place: usize) -> Told {
+    Told::Step(Stepped::Recorded(place))
+}

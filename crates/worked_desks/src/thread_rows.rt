@@ -1,0 +1,222 @@
+use crate::nodes::{NzState, TEN, TEN_MORE, input, nz, nz_state};
+use desk::{Bell, Desk, Life, RoomBell, Seat, Taken, Told, settle};
+use durable::MemoryStore;
+use protocol::Stepped;
+use registry_core::RegistryCore;
+use status::{Order, Status, TransactionId};
+use std::alloc::Global;
+use std::rt::Clock;
+use std::sync::Wait;
+use std::sync::atomic::{AtomicU64, Ordering};
+use std::thread;
+use std::thread::Threads;
+use std::time::Duration;
+use units::{Code, Items, RawBlock};
+use wire::Input;
+
+/// How many times a thread looks for another one, a millisecond apart.
+const TURNS: u32 = 10_000;
+
+/// A bell that counts how often a thread began to wait at it.
+#[derive(Drop)]
+struct WatchedBell {
+    bell: RoomBell,
+    waits: AtomicU64,
+}
+
+impl Bell for WatchedBell {
+    fn rings<R: Wait>(&self, rt: &R) -> u64 {
+        self.bell.rings(rt)
+    }
+
+    fn ring<R: Wait>(&self, rt: &R) {
+        self.bell.ring(rt)
+    }
+
+    fn wait<R: Wait>(&self, rt: &R, rings: u64) {
+        self.waits.fetch_add(1, Ordering::SeqCst);
+        self.bell.wait(rt, rings)
+    }
+}
+
+type WatchedDesk = Desk<RegistryCore, WatchedBell>;
+
+fn watched(state: NzState) -> WatchedDesk {
+    let bell = WatchedBell {
+        bell: RoomBell::new(),
+        waits: AtomicU64::new(0),
+    };
+    Desk::new(state, bell)
+}
+
+/// What the thread that commits saw.
+#[derive(Clone, Copy, Debug, PartialEq, Eq)]
+enum Seen {
+    /// Another thread waited at the bell, and was told nothing before the commit.
+    Awaited,
+    /// Another thread was told before the commit.
+    ToldEarly,
+    /// No thread waited.
+    Alone,
+}
+
+/// Commits once another thread has waited at the bell that many times.
+fn commit_awaited<R: Wait + Clock>(
+    rt: &R,
+    desk: &WatchedDesk,
+    store: &mut MemoryStore,
+    waits: u64,
+    told: &AtomicU64,
+) -> Seen {
+    for _ in 0..TURNS {
+        if desk.bell().waits.load(Ordering::SeqCst) >= waits {
+            let early = told.load(Ordering::SeqCst) != 0;
+            return match (early, desk.commit_next(rt, store)) {
+                (false, Ok(1)) => Seen::Awaited,
+                _ => Seen::ToldEarly,
+            };
+        }
+        thread::sleep(rt, Duration::from_millis(1));
+    }
+    Seen::Alone
+}
+
+/// Confirms what was taken, and says so to the thread that commits.
+fn confirm<R: Wait>(
+    rt: &R,
+    desk: &WatchedDesk,
+    seat: &mut Seat,
+    taken: Taken,
+    told: &AtomicU64,
+) -> bool {
+    let confirmed = desk.confirm(rt, seat, taken).is_ok();
+    told.store(1, Ordering::SeqCst);
+    confirmed
+}
+
+/// One thread confirms, another commits once the first waits.
+fn confirm_and_commit<R: Threads + Wait + Clock + Sync>(
+    rt: &R,
+    desk: &WatchedDesk,
+    seat: &mut Seat,
+    store: &mut MemoryStore,
+    taken: Taken,
+    waits: u64,
+) -> (bool, Seen) {
+    let told = AtomicU64::new(0);
+    let told = &told;
+    thread::join(
+        rt,
+        move || confirm(rt, desk, seat, taken, told),
+        move || commit_awaited(rt, desk, store, waits, told),
+    )
+}
+
+#[test]
+fn a_receipt_waits_for_the_commit(rt: HostRuntime) {
+    let alloc = rt.alloc();
+    let desk = watched(nz_state(&rt, alloc));
+    let mut store = MemoryStore::new(alloc, nz(&rt));
+    let mut seat = Seat::new(alloc);
+    let taken = desk.take(&rt, &mut seat, input(&rt, alloc, TEN));
+    let both = confirm_and_commit(&rt, &desk, &mut seat, &mut store, taken, 1);
+    assert_eq!(rt; both, (true, Seen::Awaited));
+    let _recorded = desk.take(&rt, &mut seat, input(&rt, alloc, TEN_MORE));
+    let id = TransactionId::read("NZ1").expect(&rt, "an identifier");
+    let asked = desk.query(&rt, &mut seat, id);
+    assert_eq!(rt; asked.told(), Told::Status(Some(Status::Proposed)));
+    let both = confirm_and_commit(&rt, &desk, &mut seat, &mut store, asked, 2);
+    assert_eq!(rt; both, (true, Seen::Awaited));
+    assert_eq!(rt; seat.confirmed(), 2);
+}
+
+/// How many proposals each taking thread gives.
+const EACH: u32 = 20;
+
+/// Has the desk take proposals of one unit each, from that unit on, and waits for each receipt. Gives the seat, and how
+/// many were recorded and confirmed.
+fn propose_units<R: Wait>(
+    rt: &R,
+    alloc: Global,
+    desk: &Desk<RegistryCore, RoomBell>,
+    first: u32,
+) -> (Seat, u32) {
+    let mut seat = Seat::new(alloc);
+    let mut confirmed = 0;
+    for unit in first..first.saturating_add(EACH) {
+        if let Some(order) = proposal(alloc, unit) {
+            let taken = desk.take(rt, &mut seat, order);
+            let recorded = matches!(taken.told(), Told::Step(Stepped::Recorded(_)));
+            if recorded && desk.confirm(rt, &mut seat, taken).is_ok() {
+                confirmed = u32::saturating_add(confirmed, 1);
+            }
+        }
+    }
+    (seat, confirmed)
+}
+
+/// An order to transfer that unit.
+fn proposal(alloc: Global, unit: u32) -> Option<Input> {
+    let block = format!(in alloc; "NZ:1:{unit}-{unit}:AAU").ok()?;
+    let units = Items::from_vec(Vec::from_slice(alloc, &[RawBlock::read(block.as_str())?]).ok()?);
+    let order = Order::new(1, Code::read("JP")?, 7, units)?;
+    Some(Input::Propose(order))
+}
+
+/// Commits until the desk has stopped.
+fn commit_all<R: Wait>(rt: &R, desk: &Desk<RegistryCore, RoomBell>, store: &mut MemoryStore) {
+    for _ in rt.forever() {
+        let rings = desk.bell().rings(rt);
+        match desk.commit_next(rt, store) {
+            Ok(0) if desk.is_running(rt) => desk.bell().wait(rt, rings),
+            Ok(0) => return,
+            Ok(_) => {}
+            Err(_) => return,
+        }
+    }
+}
+
+/// Two threads that take, until both are done. Then the desk stops.
+fn propose_twice<R: Threads + Wait + Sync>(
+    rt: &R,
+    alloc: Global,
+    desk: &Desk<RegistryCore, RoomBell>,
+) -> ((Seat, u32), (Seat, u32)) {
+    let both = thread::join(
+        rt,
+        || propose_units(rt, alloc, desk, 1),
+        || propose_units(rt, alloc, desk, 51),
+    );
+    desk.stop(rt);
+    both
+}
+
+/// Two threads that take, and one that commits.
+fn three_threads<R: Threads + Wait + Sync>(
+    rt: &R,
+    alloc: Global,
+    desk: &Desk<RegistryCore, RoomBell>,
+    store: &mut MemoryStore,
+) -> ((Seat, u32), (Seat, u32)) {
+    let ((), both) = thread::join(
+        rt,
+        move || commit_all(rt, desk, store),
+        || propose_twice(rt, alloc, desk),
+    );
+    both
+}
+
+#[test]
+fn threads_at_one_desk_settle(rt: HostRuntime) {
+    let alloc = rt.alloc();
+    let desk = Desk::new(nz_state(&rt, alloc), RoomBell::new());
+    let mut store = MemoryStore::new(alloc, nz(&rt));
+    let ((a, first), (b, second)) = three_threads(&rt, alloc, &desk, &mut store);
+    assert_eq!(rt; (first, second), (EACH, EACH));
+    let life = Life {
+        opening: 0,
+        records: 40,
+        committed: 40,
+    };
+    assert_eq!(rt; settle(&desk.end(), &[a, b]), Ok(life));
+}

@@ -7,11 +7,11 @@ use Rattle.scheme.specs.declared.registries.Scheme.{Scheme}
 use Rattle.protocol.specs.Cores.{HasFault, IsFirstNotRecorded}
 use Rattle.protocol.specs.declared.replay_fault.ReplayFault.{ReplayFault}
 use Rattle.protocol.specs.declared.replay_fault.ReplayFault.TheVariants as replay
-use Rattle.durable.specs.Calls.{Loads}
-use Rattle.durable.specs.Faults.{is_device_fault, IsReadFault}
-use Rattle.durable.specs.Records.{Places, AreRecords, IsDamagedAt}
-use Rattle.durable.specs.declared.fault.StoreFault.{StoreFault}
-use Rattle.durable.specs.declared.fault.StoreFault.TheVariants.{Reopen, Damaged, NoMemory}
+use Rattle.stores.specs.Calls.{Loads}
+use Rattle.stores.specs.Faults.{is_device_fault, IsReadFault}
+use Rattle.stores.specs.Records.{Places, AreRecords, IsDamagedAt}
+use Rattle.stores.specs.declared.fault.StoreFault.{StoreFault}
+use Rattle.stores.specs.declared.fault.StoreFault.TheVariants.{Reopen, Damaged, NoMemory}
 use Rattle.desk.specs.Loading.{IsLoaded, IsReadTo, damage_of}
 
 -- ---- places

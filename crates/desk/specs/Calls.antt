@@ -4,7 +4,7 @@ use Rattle.units.specs.declared.refusal.Refusal.{Refusal}
 use Rattle.wire.specs.declared.input.Input.{Input}
 use Rattle.protocol.specs.Cores.{IsDueOrNoMemory, after, answer}
 use Rattle.protocol.specs.declared.node_core.Stepped.{Stepped}
-use Rattle.durable.specs.declared.fault.StoreFault.{StoreFault}
+use Rattle.stores.specs.declared.fault.StoreFault.{StoreFault}
 use Rattle.desk.specs.declared.notes.Told.{Told}
 use Rattle.desk.specs.Due.{stopped, told_of}
 use Rattle.desk.specs.Views.{Held, tail}

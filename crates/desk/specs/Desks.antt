@@ -8,9 +8,9 @@ use Rattle.wire.specs.declared.input.Input.{Input}
 use Rattle.wire.specs.declared.message.Message.{Message}
 use Rattle.protocol.specs.History.{is_acknowledged, sends}
 use Rattle.protocol.specs.Unacknowledged.{IsLeastFrom, awaits}
-use Rattle.durable.specs.Calls.{Appends}
-use Rattle.durable.specs.Records.{Places}
-use Rattle.durable.specs.declared.fault.StoreFault.{StoreFault}
+use Rattle.stores.specs.Calls.{Appends}
+use Rattle.stores.specs.Records.{Places}
+use Rattle.stores.specs.declared.fault.StoreFault.{StoreFault}
 use Rattle.desk.specs.declared.notes.Note.{Note}
 use Rattle.desk.specs.declared.notes.Told.{Told}
 use Rattle.desk.specs.declared.notes.Told.TheVariants.{Refused}

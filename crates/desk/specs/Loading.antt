@@ -4,13 +4,13 @@ use Rattle.units.specs.declared.code.Node.{Node}
 use Rattle.wire.specs.declared.input.Input.{Input}
 use Rattle.scheme.specs.declared.registries.Scheme.{Scheme}
 use Rattle.protocol.specs.Cores.{IsFirstNotRecorded}
-use Rattle.durable.specs.Faults.{is_device_fault, IsReadFault}
-use Rattle.durable.specs.Records.{Places, AreRecords, IsDamagedAt}
-use Rattle.durable.specs.declared.fault.StoreFault.{StoreFault}
+use Rattle.stores.specs.Faults.{is_device_fault, IsReadFault}
+use Rattle.stores.specs.Records.{Places, AreRecords, IsDamagedAt}
+use Rattle.stores.specs.declared.fault.StoreFault.{StoreFault}
 use Rattle.protocol.specs.declared.replay_fault.ReplayFault.{ReplayFault}
 use Rattle.protocol.specs.declared.replay_fault.ReplayFault.TheVariants.{NotRecorded}
 use Rattle.protocol.specs.declared.replay_fault.ReplayFault.TheVariants as replay
-use Rattle.durable.specs.declared.fault.StoreFault.TheVariants.{Reopen, Damaged, NoMemory}
+use Rattle.stores.specs.declared.fault.StoreFault.TheVariants.{Reopen, Damaged, NoMemory}
 use Rattle.desk.specs.declared.loading.Page.{Page}
 use Rattle.desk.specs.declared.loading.Page.TheVariants.{Full, Last}
 use Rattle.desk.specs.Views.{Held}

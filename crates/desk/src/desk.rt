@@ -1,6 +1,6 @@
 //! A node's state that several threads share.
 ghost use Rattle.std.specs.Prelude.{◌≡◌, false, max, Some, IfOk, MatchResult};
-ghost use Rattle.durable.specs.Faults.{faults_after};
+ghost use Rattle.stores.specs.Faults.{faults_after};
 ghost use Rattle.desk.specs.Desks.{IsCommit, IsOf, IsQueryOf, IsTakeOf, IsToSend, lacking};
 ghost use Rattle.desk.specs.Due.{stopped};
 ghost use Rattle.desk.specs.Telling.{kept};
@@ -12,7 +12,7 @@ use crate::notes::{Asked, Told};
 use crate::progress::Progress;
 use crate::seat::Seat;
 use crate::state::{Receipt, State, Taken};
-use durable::{NodeStore, StoreFault};
+use stores::{NodeStore, StoreFault};
 use protocol::{NodeCore, Stepped};
 use status::TransactionId;
 use std::sync::{Mutex, Wait};

@@ -1,11 +1,11 @@
 //! A state from a store.
 ghost use Rattle.std.specs.Prelude.{◌≡◌, ◌<◌, ◌^◌, [], false, true, length, take, drop, IfOk, Ok};
-ghost use Rattle.durable.specs.Calls.{Loads};
-ghost use Rattle.durable.specs.Faults.{faults_after};
+ghost use Rattle.stores.specs.Calls.{Loads};
+ghost use Rattle.stores.specs.Faults.{faults_after};
 ghost use Rattle.desk.specs.Loading.{IsLoaded, IsReadOn, IsReadTo, damage_of, journal_in};
 
 use crate::state::State;
-use durable::{NodeStore, StoreFault};
+use stores::{NodeStore, StoreFault};
 use protocol::{NodeCore, ReplayFault, resume};
 use std::alloc::Global;
 use wire::Input;

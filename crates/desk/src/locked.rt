@@ -1,13 +1,13 @@
 //! What a desk does with its state while it holds the lock. The clauses of these functions say it of some state, so
 //! that those of the desk, which can't name the state, follow from them.
 ghost use Rattle.std.specs.Prelude.{◌≡◌, false, IfOk};
-ghost use Rattle.durable.specs.Faults.{faults_after};
+ghost use Rattle.stores.specs.Faults.{faults_after};
 ghost use Rattle.desk.specs.Desks.{IsCommit, IsOf, IsProgress, IsQueryOf, IsTakeOf, IsToSend};
 
 use crate::notes::Asked;
 use crate::progress::Progress;
 use crate::state::{State, Taken};
-use durable::{NodeStore, StoreFault};
+use stores::{NodeStore, StoreFault};
 use protocol::NodeCore;
 use status::TransactionId;
 use units::{NoMemory, Node};

@@ -3,14 +3,14 @@ ghost use Rattle.std.specs.Prelude.{◌≡◌, ◌+◌, ◌<◌, ◌≤◌, [], 
 ghost use Rattle.protocol.specs.History.{is_acknowledged, sends};
 ghost use Rattle.protocol.specs.Unacknowledged.{IsLeastFrom, awaits};
 ghost use Rattle.units.specs.RefusalCodes.{out_of_memory};
-ghost use Rattle.durable.specs.Calls.{Appends};
-ghost use Rattle.durable.specs.Faults.{faults_after};
+ghost use Rattle.stores.specs.Calls.{Appends};
+ghost use Rattle.stores.specs.Faults.{faults_after};
 ghost use Rattle.desk.specs.Calls.{Takes, Tells, batch_of, committed_by, done};
 ghost use Rattle.desk.specs.Due.{status_told, told_of};
 ghost use Rattle.desk.specs.Views.{committed_past, committed_records, past, tail};
 
 use crate::notes::{Asked, Told};
-use durable::{NodeStore, StoreFault};
+use stores::{NodeStore, StoreFault};
 use protocol::{NodeCore, Stepped};
 use status::TransactionId;
 use std::alloc::Global;

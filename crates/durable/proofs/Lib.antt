@@ -22,6 +22,5 @@ pub mod Sparing
 pub mod Stores
 pub mod Linked
 pub mod Promises
-pub mod Fronts
 pub mod PlacesRead
 pub mod Opened

@@ -4,12 +4,12 @@ use Rattle.sqlite.specs.Files.{over_files}
 use Rattle.sqlite_disk.specs.declared.Disk.{Ghosts}
 use Rattle.sqlite_store.specs.declared.store.FileStore.{FileStore}
 use Rattle.wire.specs.declared.input.Input.{Input}
-use Rattle.durable.specs.Calls.{Appends, Loads}
+use Rattle.stores.specs.Calls.{Appends, Loads}
 use Rattle.durable.specs.Connected.{Connected}
 use Rattle.durable.specs.Connected as connected
 use Rattle.durable.specs.Kept.{IsHonest, MayHold, content, must_reopen}
-use Rattle.durable.specs.Records.{Places}
-use Rattle.durable.specs.declared.fault.StoreFault.{StoreFault}
+use Rattle.stores.specs.Records.{Places}
+use Rattle.stores.specs.declared.fault.StoreFault.{StoreFault}
 use Rattle.durable.specs.declared.store_state.StoreState.{StoreState}
 use Rattle.durable.specs.declared.store_state.StoreState.TheVariants.{Open}
 

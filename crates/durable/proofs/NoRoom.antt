@@ -13,12 +13,12 @@ use Rattle.sqlite.specs.Clock.{timed}
 use Rattle.sqlite.specs.Does.{Does}
 use Rattle.sqlite.specs.Order.{Row}
 use Rattle.sqlite.specs.State.{State, mode_of, text_of, store_error, HasCause, Fails, IsNoStatement, IsNotRun, IsMisplaced, IsStatement, Executes, ExecutesIn, ExecutesInside, shows_rows}
-use Rattle.durable.specs.Bodies.{items}
-use Rattle.durable.specs.Faults.{store_fault_of}
+use Rattle.stores.specs.Bodies.{items}
+use Rattle.durable.specs.SqlFaults.{store_fault_of}
 use Rattle.durable.specs.Held.{slots_in, IsInside}
 use Rattle.durable.specs.Rooms.{insert_text, given, enforced, IsRefused, IsRefusedAt}
-use Rattle.durable.specs.declared.fault.StoreFault.{StoreFault}
-use Rattle.durable.specs.declared.fault.StoreFault.TheVariants.{Device, Full, NoMemory}
+use Rattle.stores.specs.declared.fault.StoreFault.{StoreFault}
+use Rattle.stores.specs.declared.fault.StoreFault.TheVariants.{Device, Full, NoMemory}
 
 no-memory : NoMemory ≡ Full → ⊥
 no-memory e = cc (e)

@@ -5,8 +5,8 @@ use Rattle.sqlite.specs.Order.{Row}
 use Rattle.sqlite.specs.Tree.{Trees}
 use Rattle.durable.specs.Held.{IsStore, slots_in}
 use Rattle.durable.specs.Pages.{rows_within, bodies_from}
-use Rattle.durable.specs.Records.{Places}
-use Rattle.durable.specs.Slots.{unbroken}
+use Rattle.stores.specs.Records.{Places}
+use Rattle.stores.specs.Records.{unbroken}
 use Rattle.durable.specs.Tables.{entry_rows}
 use Rattle.durable.proofs.Stretches.{stretch}
 

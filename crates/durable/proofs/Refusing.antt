@@ -16,10 +16,10 @@ use Rattle.sqlite.specs.declared.error.ErrorCode.TheVariants.{NotADatabase, Data
 use Rattle.sqlite.specs.declared.file.Leftover.{Leftover}
 use Rattle.sqlite.specs.declared.file.Leftover.TheVariants as left
 use Rattle.durable.specs.Backing.{IsNoDatabase}
-use Rattle.durable.specs.Faults.{is_device_fault}
+use Rattle.stores.specs.Faults.{is_device_fault}
 use Rattle.durable.specs.Refusals.{IsFileFault}
-use Rattle.durable.specs.declared.fault.StoreFault.{StoreFault}
-use Rattle.durable.specs.declared.fault.StoreFault.TheVariants.{Device, Full, Damaged, WrongNode, WrongVersion, Reopen, NoMemory}
+use Rattle.stores.specs.declared.fault.StoreFault.{StoreFault}
+use Rattle.stores.specs.declared.fault.StoreFault.TheVariants.{Device, Full, Damaged, WrongNode, WrongVersion, Reopen, NoMemory}
 use Rattle.durable.proofs.Reopening.{is-clean}
 
 -- files that are clean were so when the opening ended

@@ -9,13 +9,13 @@ use Rattle.sqlite.specs.Order.{Row}
 use Rattle.sqlite.specs.Schema.{Schema}
 use Rattle.sqlite.specs.Tree.{Trees}
 use Rattle.durable.specs.Backing.{Hold}
-use Rattle.durable.specs.Faults.{is_judgement}
+use Rattle.stores.specs.Faults.{is_judgement}
 use Rattle.durable.specs.Opening.{IsNew, IsEmpty, IsFresh, IsOpeningFault}
 use Rattle.durable.specs.Refusals.{IsFileFault, IsUnharmed}
 use Rattle.durable.specs.Tables.{TableOrder, AboutFirst, EntriesFirst, about_tree, entries_tree, store_schema, no_schema}
-use Rattle.durable.specs.declared.fault.StoreFault.{StoreFault}
+use Rattle.stores.specs.declared.fault.StoreFault.{StoreFault}
 use Rattle.durable.proofs.Orders.{no_rows}
-use Rattle.durable.specs.declared.fault.StoreFault.TheVariants.{Device, Full, Damaged, WrongNode, WrongVersion, Reopen, NoMemory}
+use Rattle.stores.specs.declared.fault.StoreFault.TheVariants.{Device, Full, Damaged, WrongNode, WrongVersion, Reopen, NoMemory}
 
 two-tables : (order : TableOrder) (schema : Schema) → schema ≡ store_schema order → schema ≡ no_schema → ⊥
 two-tables AboutFirst schema two none = let never : 2 ≡ 0 = ap (λ (s : Schema). length s.tables) (sym two ∙ none) in omega (arith, never)

@@ -9,7 +9,7 @@ use Rattle.sqlite.specs.Tree.{Trees}
 use Rattle.durable.specs.Backing.{IsFound, MayFind}
 use Rattle.durable.specs.Held.{slots_in}
 use Rattle.durable.specs.Kept.{MayHold, is_there}
-use Rattle.durable.specs.Records.{Places}
+use Rattle.stores.specs.Records.{Places}
 use Rattle.durable.specs.declared.store_state.StoreState.{StoreState}
 use Rattle.durable.specs.declared.sql_store.SqlStore.{SqlStore}
 use Rattle.durable.proofs.Reopening.{now-found}

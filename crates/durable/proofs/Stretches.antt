@@ -3,7 +3,8 @@ use Rattle.std.proofs.Common.{◌≡◌, ℕ, zero, suc, ◌+◌, ◌-◌, ◌�
 use Rattle.std.specs.Prelude.{nat_le, ◌==◌}
 use Rattle.std.proofs.lemmas.Bool.{cond-true, cond-false, cases_Bool, cases_lt, le-leb, leb-true, and_from, and_left, and_right, eq-eqb, eqb-true}
 use Rattle.sqlite.specs.Order.{Row}
-use Rattle.durable.specs.Slots.{place_of, body_of, missing, slots_from, AreEntries, unbroken}
+use Rattle.stores.specs.Records.{unbroken}
+use Rattle.durable.specs.Slots.{place_of, body_of, missing, slots_from, AreEntries}
 use Rattle.durable.specs.Pages.{is_within, shown, rows_within, bodies_from}
 
 pub not-le : (m n : ℕ) → n < m → nat_le m n ≡ false

@@ -6,7 +6,7 @@ use Rattle.std.proofs.lemmas.List.Elements.{recursion_from_All}
 use Rattle.sqlite.specs.Order.{Row, column}
 use Rattle.sqlite.specs.Effect.{Database}
 use Rattle.sqlite_rules.specs.Edit.{id_in}
-use Rattle.durable.specs.declared.fault.StoreFault.TheVariants.{Damaged, WrongNode, WrongVersion}
+use Rattle.stores.specs.declared.fault.StoreFault.TheVariants.{Damaged, WrongNode, WrongVersion}
 use Rattle.durable.specs.declared.opening.Contents.TheVariants.{NoRow, OwnStore}
 use Rattle.durable.specs.declared.owner_row.Owner.TheVariants.{Nobody, OtherFormat, OtherNode, ThisNode}
 use Rattle.durable.specs.Held.{IsStore}

@@ -1,16 +1,10 @@
-pub mod Readiness
 pub mod Tables
 pub mod Slots
 pub mod Held
-pub mod Faults
-pub mod FaultTexts
-pub mod Records
-pub mod Calls
+pub mod SqlFaults
 pub mod Rooms
 pub mod Pages
-pub mod Bodies
 pub mod Backing
-pub mod Memories
 pub mod Connected
 pub mod Kept
 pub mod Refusals

@@ -5,10 +5,10 @@ use Rattle.sqlite.specs.Tree.{Trees}
 use Rattle.sqlite_disk.specs.declared.Disk.{Ghosts}
 use Rattle.sqlite_disk.specs.declared.Files.{Files}
 use Rattle.durable.specs.Backing.{IsFound, IsNoDatabase, Hold}
-use Rattle.durable.specs.Faults.{is_judgement}
+use Rattle.stores.specs.Faults.{is_judgement}
 use Rattle.durable.specs.Opening.{IsOpeningFault}
-use Rattle.durable.specs.declared.fault.StoreFault.{StoreFault}
-use Rattle.durable.specs.declared.fault.StoreFault.TheVariants.{Device, Full, Damaged, NoMemory}
+use Rattle.stores.specs.declared.fault.StoreFault.{StoreFault}
+use Rattle.stores.specs.declared.fault.StoreFault.TheVariants.{Device, Full, Damaged, NoMemory}
 
 module _ {D : Type 0} (g : Ghosts D) where
   -- a fault of files that are not opened at all

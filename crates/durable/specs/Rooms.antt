@@ -14,7 +14,7 @@ use Rattle.sqlite.specs.Order.{Row}
 use Rattle.sqlite.specs.State.{text_of}
 use Rattle.wire.specs.declared.input.Input.{Input}
 use Rattle.durable.specs.Held.{IsStore, slots_in}
-use Rattle.durable.specs.Records.{Places, written}
+use Rattle.stores.specs.Records.{Places, written}
 use Rattle.durable.specs.Tables.{store_schema, order_in}
 
 -- the statement that puts a record

@@ -29,9 +29,3 @@ slots_from place (row ∷ rows) = missing (place_of row - place) ++ Some (body_o
 abbrev pub AreEntries : ℕ → List Row → Type 0
 AreEntries place [] = Unit {0}
 AreEntries place (row ∷ rows) = (place ≤ place_of row) × (row ≡ entry (place_of row) (body_of row)) × AreEntries (place_of row + 1) rows
-
--- the bodies up to the first place that is missing
-abbrev pub unbroken : List (Option (List ℕ)) → List (List ℕ)
-unbroken [] = []
-unbroken (None ∷ slots) = []
-unbroken (Some body ∷ slots) = body ∷ unbroken slots

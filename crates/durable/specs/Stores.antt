@@ -8,9 +8,9 @@ use Rattle.units.specs.declared.code.Node.{Node}
 use Rattle.durable.specs.Backing.{MayFind}
 use Rattle.durable.specs.Held.{slots_in}
 use Rattle.durable.specs.Kept as kept
-use Rattle.durable.specs.Records.{Places}
+use Rattle.stores.specs.Records.{Places}
 use Rattle.durable.specs.Refusals.{IsRefusal}
-use Rattle.durable.specs.declared.fault.StoreFault.{StoreFault}
+use Rattle.stores.specs.declared.fault.StoreFault.{StoreFault}
 use Rattle.durable.specs.declared.sql_store.SqlStore.{SqlStore}
 
 module _ {D : Type 0} (g : Ghosts D) where

@@ -6,13 +6,15 @@ ghost use Rattle.sqlite.specs.State.{HasCleanDisk, Opens};
 ghost use Rattle.sqlite.specs.Files.{file_state};
 ghost use Rattle.sqlite_wal.specs.Reads.{AreClean};
 ghost use Rattle.durable.specs.Backing.{IsFound, MayFind, Hold};
-ghost use Rattle.durable.specs.Faults.{is_device_fault, store_fault_of};
+ghost use Rattle.stores.specs.Faults.{is_device_fault};
+ghost use Rattle.durable.specs.SqlFaults.{store_fault_of};
 ghost use Rattle.durable.specs.Refusals.{IsFileFault};
 
-use crate::fault::{StoreFault, fault_of};
+use crate::fault::fault_of;
 use sqlite::{Connection, Error as SqlError, ErrorCode, FileStore, Options};
 use sqlite_disk::{Disk, Files, Tally};
 use std::alloc::Global;
+use stores::StoreFault;
 
 /// Gives the connection up for its files, with no call of the device. What isn't committed is lost.
 pub(crate) fn files_of<D: Disk + Drop>(conn: Connection<FileStore<D>>) -> Files<D>

@@ -4,14 +4,16 @@ ghost use Rattle.sqlite_disk.specs.Disk.{MoreFaults};
 ghost use Rattle.sqlite.specs.State.{HasCleanDisk, IsUnchanged, KeepsCommit, Survives};
 ghost use Rattle.sqlite.specs.Held.{state};
 ghost use Rattle.sqlite.specs.Tree.{Trees};
-ghost use Rattle.durable.specs.Faults.{is_device_fault, store_fault_of};
-ghost use Rattle.durable.specs.Bodies.{items};
+ghost use Rattle.stores.specs.Faults.{is_device_fault};
+ghost use Rattle.durable.specs.SqlFaults.{store_fault_of};
+ghost use Rattle.stores.specs.Bodies.{items};
 ghost use Rattle.durable.specs.Rooms.{IsRefused, HasNoRoom};
 ghost use Rattle.durable.specs.Held.{slots_in, IsReady, IsInside, HasMore, HasAllOrNone};
 
-use crate::fault::{StoreFault, fault_of};
+use crate::fault::fault_of;
 use sqlite::types::ValueRef;
 use sqlite::{Alter, Connection, Error as SqlError, Transaction};
+use stores::StoreFault;
 
 /// One more body, at the place after the last one, within the transaction.
 fn put<S: Alter>(tx: &mut Transaction<'_, S>, place: u64, body: &[u8]) -> Result<(), SqlError>

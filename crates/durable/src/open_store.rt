@@ -1,25 +1,23 @@
 //! A store over an open connection.
 ghost use Rattle.std.specs.Prelude.{◌≡◌, ◌⊎◌, ◌+◌, ◌-◌, ◌<◌, ◌≤◌, ◌^◌, ℕ, false, Ok, Err, Some, IfOk, IfErr, IfSome, IfNone, OnOk, OnErr, IsTrue, map, take, drop, length};
 ghost use Rattle.durable.specs.Connected.{IsHonest, content, MayHold, owner, disk_faults};
-ghost use Rattle.durable.specs.Calls.{Appends, Loads};
-ghost use Rattle.durable.specs.Bodies.{items};
+ghost use Rattle.stores.specs.Calls.{Appends, Loads};
+ghost use Rattle.stores.specs.Bodies.{items};
 ghost use Rattle.durable.specs.Held.{followed_by, slots_in, IsReady};
 ghost use Rattle.sqlite.specs.State.{HasCleanDisk};
 ghost use Rattle.sqlite.specs.Tree.{Trees};
 ghost use Rattle.sqlite.specs.Held.{state};
-ghost use Rattle.durable.specs.Faults.{is_device_fault, IsReadFault};
-ghost use Rattle.durable.specs.Records.{Places, AreRecords, IsDamagedAt, written};
-ghost use Rattle.durable.specs.declared.fault.StoreFault.TheVariants.{Reopen, NoMemory, Damaged, Full};
+ghost use Rattle.stores.specs.Faults.{is_device_fault, IsReadFault};
+ghost use Rattle.stores.specs.Records.{Places, AreRecords, IsDamagedAt, written};
+ghost use Rattle.stores.specs.declared.fault.StoreFault.TheVariants.{Reopen, NoMemory, Damaged, Full};
 ghost use Rattle.durable.specs.Rooms.{HasNoRoom, LacksRoom};
 
 use crate::batch;
-use crate::fault::StoreFault;
-use crate::readiness::Readiness;
 use crate::reading::{bodies, rows_of};
-use crate::records::{records, texts};
 use sqlite::{Alter, Connection};
 use std::alloc::Global;
 use std::marker::Model;
+use stores::{Readiness, StoreFault, decode_records, encode_records};
 use wire::Input;
 
 /// A store over an open connection. After a fault every call returns `Reopen`.
@@ -32,7 +30,7 @@ pub(crate) struct OpenStore<S: Alter> {
 
 impl<S: Alter> Model for OpenStore<S> {
     ghost use Rattle.durable.specs.Connected.{Connected, connected_code, IsSound};
-    ghost use Rattle.durable.specs.Readiness.{is_stopped};
+    ghost use Rattle.stores.specs.Readiness.{is_stopped};
 
     ghost Value = { Connected S };
 
@@ -142,7 +140,7 @@ impl<S: Alter> OpenStore<S> {
         if batch.is_empty() {
             return Ok(());
         }
-        let Ok(texts) = texts(self.alloc, batch) else {
+        let Ok(texts) = encode_records(self.alloc, batch) else {
             self.readiness = Readiness::MustReopen;
             return Err(StoreFault::NoMemory);
         };
@@ -181,7 +179,7 @@ impl<S: Alter> OpenStore<S> {
                 return Err(StoreFault::Device);
             }
         };
-        records(self.alloc, &bodies, first, until)
+        decode_records(self.alloc, &bodies, first, until)
     }
 
     /// The records from place `from` on, at most `max`.

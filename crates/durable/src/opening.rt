@@ -4,7 +4,7 @@ ghost use Rattle.sqlite.specs.Effect.{Database};
 ghost use Rattle.sqlite.specs.Given.{IsPlain};
 ghost use Rattle.sqlite.specs.Listing.{understood};
 ghost use Rattle.sqlite.specs.State.{HasCleanDisk, IsUnchanged, Shown, Survives};
-ghost use Rattle.durable.specs.Faults.{is_device_fault};
+ghost use Rattle.stores.specs.Faults.{is_device_fault};
 ghost use Rattle.durable.specs.Held.{slots_in, node_in, IsStore, IsReady};
 ghost use Rattle.sqlite.specs.Held.{state};
 ghost use Rattle.sqlite.specs.Tree.{Trees};
@@ -12,11 +12,12 @@ ghost use Rattle.durable.specs.Tables.{TableOrder, AboutFirst, store_schema, IsS
 ghost use Rattle.durable.specs.Layout.{AreTables};
 ghost use Rattle.durable.specs.Opening.{IsOpened, IsWithin, IsBare, HasAbout, IsEmpty, HasFresh, IsMade, HasRows, IsOwner, HasLeastOrGreatest, IsVerdict, IsNegative, IsNew, IsFresh, IsOpeningFault, HasItsTables, BecomesStore};
 
-use crate::fault::{StoreFault, fault_of};
+use crate::fault::fault_of;
 use crate::layout::{Tables, tables_of};
 use crate::owner_row::{Owner, owner_in, place_in};
 use sqlite::types::ValueRef;
 use sqlite::{Alter, Connection, Error as SqlError, Row, Transaction};
+use stores::StoreFault;
 
 /// An open connection's store is whole: no statement left a part of itself.
 fn is_whole<S: Alter>(conn: &Connection<S>)

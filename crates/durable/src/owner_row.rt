@@ -2,12 +2,13 @@
 ghost use Rattle.std.specs.Prelude.{◌≡◌, ◌⊎◌, ◌↔◌, pos, IfOk, IfErr, IsTrue};
 ghost use Rattle.sqlite.specs.Order.{column};
 ghost use Rattle.sqlite.specs.declared.types.Value.TheVariants.{Int, Text as Words};
-ghost use Rattle.durable.specs.Faults.{is_device_fault};
+ghost use Rattle.stores.specs.Faults.{is_device_fault};
 ghost use Rattle.durable.specs.OwnerRow.{IsOwnerIn, IsPlaceIn};
 
-use crate::fault::{StoreFault, fault_of};
+use crate::fault::fault_of;
 use sqlite::Row;
 use sqlite::types::ValueRef;
+use stores::StoreFault;
 
 /// Whose the file is, where one node asks.
 #[derive(Clone, Copy)]

@@ -5,17 +5,18 @@ ghost use Rattle.sqlite.specs.Order.{column, bytes};
 ghost use Rattle.sqlite.specs.State.{HasCleanDisk};
 ghost use Rattle.sqlite.specs.Held.{state};
 ghost use Rattle.sqlite.specs.Tree.{Trees};
-ghost use Rattle.durable.specs.Faults.{is_device_fault};
+ghost use Rattle.stores.specs.Faults.{is_device_fault};
 ghost use Rattle.durable.specs.Held.{IsReady};
 ghost use Rattle.durable.specs.Slots.{place_of};
 ghost use Rattle.durable.specs.Tables.{entry_rows};
 ghost use Rattle.durable.specs.Pages.{rows_within, bodies_from};
 
 use crate::batch::is_still_open;
-use crate::fault::{StoreFault, fault_of};
+use crate::fault::fault_of;
 use sqlite::types::ValueRef;
 use sqlite::{Alter, Connection, Error as SqlError, Row};
 use std::alloc::Global;
+use stores::StoreFault;
 
 /// The entries from the first place to the last one, each with its place and its body, in their order.
 fn query_rows<S: Alter>(

@@ -4,21 +4,22 @@ ghost use Rattle.sqlite.specs.Tree.{Trees};
 ghost use Rattle.sqlite_wal.specs.Reads.{AreClean};
 ghost use Rattle.units.specs.Code.{node_text};
 ghost use Rattle.durable.specs.Backing.{IsFound, MayFind, Hold};
-ghost use Rattle.durable.specs.Faults.{is_device_fault, store_fault_of};
+ghost use Rattle.stores.specs.Faults.{is_device_fault};
+ghost use Rattle.durable.specs.SqlFaults.{store_fault_of};
 ghost use Rattle.durable.specs.Held.{slots_in, node_in};
 ghost use Rattle.durable.specs.Kept.{is_there};
-ghost use Rattle.durable.specs.Records.{Places};
+ghost use Rattle.stores.specs.Records.{Places};
 ghost use Rattle.durable.specs.Refusals.{IsRefusal, IsUnharmed};
 
 use crate::backing::opening_fault;
-use crate::fault::{StoreFault, fault_of};
-use crate::node_store::NodeStore;
+use crate::fault::fault_of;
 use crate::store_state::{StoreState, count_fault, store_from_files, store_over};
 use sqlite::{Connection, Error as SqlError, ErrorCode, File, Leftover, Options, Unknown};
 use sqlite_disk::{Disk, Files, Tally};
 use std::alloc::Global;
 use std::hash::{BuildHasher, RandomState};
 use std::mem;
+use stores::{NodeStore, StoreFault};
 use units::Node;
 use wire::Input;
 
@@ -158,11 +159,11 @@ impl SqlStore<File> {
 
 impl<D: Disk + Drop> NodeStore for SqlStore<D> {
     ghost use Rattle.std.specs.Prelude.{◌≡◌, ◌≢◌, ◌⊎◌, ℕ, false, Ok, Err, OnOk, IfErr, IsTrue};
-    ghost use Rattle.durable.specs.Calls.{Appends, Reopens};
-    ghost use Rattle.durable.specs.Faults.{faults_after};
-    ghost use Rattle.durable.specs.Records.{Places};
+    ghost use Rattle.stores.specs.Calls.{Appends, Reopens};
+    ghost use Rattle.stores.specs.Faults.{faults_after};
+    ghost use Rattle.stores.specs.Records.{Places};
     ghost use Rattle.durable.specs.Rooms.{LacksRoom};
-    ghost use Rattle.durable.specs.declared.fault.StoreFault.TheVariants.{Reopen, NoMemory, Damaged, Full};
+    ghost use Rattle.stores.specs.declared.fault.StoreFault.TheVariants.{Reopen, NoMemory, Damaged, Full};
     ghost use Rattle.units.specs.Code.{node_text};
     ghost use Rattle.durable.specs.Stores.{IsHonest, MayHold, content, must_reopen, faults, disk_faults, node_of, owner, IsReopeningFault};
 

@@ -4,12 +4,12 @@ use Rattle.std.specs.Result.{IsErrAnd}
 use Rattle.std.proofs.Math.Seq.{take-add}
 use Rattle.std.proofs.lemmas.List.{take-take, take_all, length-take-le, length-take, length-drop}
 use Rattle.wire.specs.declared.input.Input.{Input}
-use Rattle.durable.specs.Calls.{Loads}
-use Rattle.durable.specs.Faults.{count_after, IsReadFault}
-use Rattle.durable.specs.Records.{Places, AreRecords, IsDamagedAt}
-use Rattle.durable.specs.declared.fault.StoreFault.{StoreFault}
-use Rattle.durable.specs.declared.fault.StoreFault.TheVariants.{Damaged}
-use Rattle.durable.proofs.Fronts.{records-append, records-take, records-drop}
+use Rattle.stores.specs.Calls.{Loads}
+use Rattle.stores.specs.Faults.{count_after, IsReadFault}
+use Rattle.stores.specs.Records.{Places, AreRecords, IsDamagedAt}
+use Rattle.stores.specs.declared.fault.StoreFault.{StoreFault}
+use Rattle.stores.specs.declared.fault.StoreFault.TheVariants.{Damaged}
+use Rattle.stores.proofs.Fronts.{records-append, records-take, records-drop}
 use Rattle.operator.specs.Pages.{Reads, Stops}
 
 -- ---- places

@@ -4,9 +4,9 @@ use Rattle.std.specs.Io.KnownBytes.{Appends, Keeps}
 use Rattle.std.proofs.KnownBytes.{Appends-kept, Appends-nil}
 use Rattle.units.specs.declared.code.Node.{Node}
 use Rattle.wire.specs.declared.input.Input.{Input}
-use Rattle.durable.specs.Faults.{is_device_fault}
-use Rattle.durable.specs.Records.{Places, AreRecords}
-use Rattle.durable.specs.declared.fault.StoreFault.{StoreFault}
+use Rattle.stores.specs.Faults.{is_device_fault}
+use Rattle.stores.specs.Records.{Places, AreRecords}
+use Rattle.stores.specs.declared.fault.StoreFault.{StoreFault}
 use Rattle.operator.specs.declared.fault.OpFault.{OpFault}
 use Rattle.operator.specs.declared.fault.OpFault.TheVariants as op_fault
 use Rattle.operator.specs.Pages.{IsBegun, IsWithin, FailsToWrite, FailsWithin}

@@ -5,8 +5,8 @@ use Rattle.std.proofs.KnownBytes.{Appends-trans, Appends-kept}
 use Rattle.std.proofs.Math.Seq.{take-append-add}
 use Rattle.std.proofs.lemmas.List.{take_all, take-append-le, take-append-drop}
 use Rattle.wire.specs.declared.input.Input.{Input}
-use Rattle.durable.specs.Records.{Places, AreRecords}
-use Rattle.durable.proofs.Fronts.{records-append, records-drop}
+use Rattle.stores.specs.Records.{Places, AreRecords}
+use Rattle.stores.proofs.Fronts.{records-append, records-drop}
 use Rattle.operator.specs.Pages.{Reads, Shows, IsBegun, IsWithin}
 use Rattle.operator.specs.Show.{record_line, record_lines, shown, IsCutOff}
 use Rattle.operator.proofs.Pages.{reads-more}

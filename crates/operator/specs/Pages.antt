@@ -4,10 +4,10 @@ use Rattle.std.specs.Prelude.{◌≡◌, ◌≢◌, ◌≤◌, ◌<◌, ◌+◌,
 use Rattle.std.specs.Io.KnownBytes.{Appends, Keeps}
 use Rattle.units.specs.declared.code.Node.{Node}
 use Rattle.wire.specs.declared.input.Input.{Input}
-use Rattle.durable.specs.Faults.{is_device_fault, count_after, IsReadFault}
-use Rattle.durable.specs.Records.{Places, AreRecords}
-use Rattle.durable.specs.declared.fault.StoreFault.{StoreFault}
-use Rattle.durable.specs.declared.fault.StoreFault.TheVariants.{Reopen, NoMemory as OutOfMemory}
+use Rattle.stores.specs.Faults.{is_device_fault, count_after, IsReadFault}
+use Rattle.stores.specs.Records.{Places, AreRecords}
+use Rattle.stores.specs.declared.fault.StoreFault.{StoreFault}
+use Rattle.stores.specs.declared.fault.StoreFault.TheVariants.{Reopen, NoMemory as OutOfMemory}
 use Rattle.operator.specs.declared.fault.OpFault.{OpFault}
 use Rattle.operator.specs.declared.fault.OpFault.TheVariants as op_fault
 use Rattle.operator.specs.Show.{record_lines}

@@ -3,7 +3,7 @@
 ghost use Rattle.std.specs.Prelude.{◌≡◌};
 ghost use Rattle.operator.specs.Faults.{exit_status, of_store};
 
-use durable::StoreFault;
+use stores::StoreFault;
 use std::error::Error;
 use std::fmt;
 use units::{NoMemory, Node};

@@ -2,15 +2,15 @@
 ghost use Rattle.std.specs.Prelude.{◌≡◌, ◌≢◌, ◌≤◌, ◌<◌, ◌+◌, ◌-◌, ◌^◌, ◌++◌, ℕ, List, length, min, Err, IfOk, IfErr, IsTrue, OnOk, false};
 ghost use Rattle.std.specs.Io.KnownBytes.{Appends};
 ghost use Rattle.wire.specs.declared.input.Input.{Input};
-ghost use Rattle.durable.specs.Faults.{is_device_fault, IsReadFault};
-ghost use Rattle.durable.specs.Records.{AreRecords, IsDamagedAt};
-ghost use Rattle.durable.specs.declared.fault.StoreFault.{StoreFault};
+ghost use Rattle.stores.specs.Faults.{is_device_fault, IsReadFault};
+ghost use Rattle.stores.specs.Records.{AreRecords, IsDamagedAt};
+ghost use Rattle.stores.specs.declared.fault.StoreFault.{StoreFault};
 ghost use Rattle.operator.specs.Pages.{Reads, Stops, Shows, FailsToWrite, FailsWithin};
 ghost use Rattle.operator.specs.Show.{FailsToShow, record_line, record_lines, shown};
 
 use crate::fault::{OpFault, store_fault};
 use crate::streams::write_text;
-use durable::{NodeStore, StoreFault};
+use stores::{NodeStore, StoreFault};
 use itoa::Buffer;
 use std::alloc::Global;
 use std::io::Write;

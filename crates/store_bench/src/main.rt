@@ -12,7 +12,8 @@
 
 ghost use Rattle.std.specs.Prelude.{◌≤◌, ◌<◌, IfSome};
 
-use durable::{NodeStore, SqlStore, StoreFault};
+use durable::SqlStore;
+use stores::{NodeStore, StoreFault};
 use std::alloc::{AllocError, AllocFailed, Global};
 use std::process::ExitCode;
 use std::rt::Clock;

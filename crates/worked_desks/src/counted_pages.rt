@@ -1,6 +1,6 @@
 use crate::nodes::{CLOSE, NzState, OPEN, input, nz, nz_core, nz_state};
 use desk::State;
-use durable::{MemoryStore, NodeStore, StoreFault};
+use stores::{MemoryStore, NodeStore, StoreFault};
 use std::alloc::Global;
 use std::marker::Model;
 use std::process::Abort;

@@ -2,7 +2,7 @@ use crate::nodes::{
     NzDesk, NzState, TEN, TEN_MORE, input, nz, nz_core, nz_desk, nz_state, recorded, take_all,
 };
 use desk::{Life, Seat, Taken, Told, Unsettled, settle};
-use durable::{MemoryStore, NodeStore};
+use stores::{MemoryStore, NodeStore};
 use protocol::{NodeCore, Stepped};
 use status::{Status, TransactionId};
 use std::alloc::Global;

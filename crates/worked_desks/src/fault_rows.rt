@@ -1,6 +1,6 @@
 use crate::nodes::{CLOSE, OPEN, TEN, TEN_MORE, input, nz, nz_core, nz_desk, recorded, take_all};
 use desk::{Life, Seat, State, Told, settle};
-use durable::{Kept, MemoryStore, NodeStore, StoreFault};
+use stores::{Kept, MemoryStore, NodeStore, StoreFault};
 use std::alloc::Global;
 use std::process::Abort;
 use std::sync::Wait;

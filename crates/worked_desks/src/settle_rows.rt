@@ -2,7 +2,7 @@ use crate::nodes::{
     CLOSE, NzDesk, NzState, TEN, TEN_MORE, input, nz, nz_desk, nz_state, recorded, take_all,
 };
 use desk::{Lengths, Life, Seat, Told, Unsettled, settle};
-use durable::MemoryStore;
+use stores::MemoryStore;
 use status::TransactionId;
 use std::alloc::Global;
 use std::process::Abort;

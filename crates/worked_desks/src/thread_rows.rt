@@ -1,6 +1,6 @@
 use crate::nodes::{NzState, TEN, TEN_MORE, input, nz, nz_state};
 use desk::{Bell, Desk, Life, RoomBell, Seat, Taken, Told, settle};
-use durable::MemoryStore;
+use stores::MemoryStore;
 use protocol::Stepped;
 use registry_core::RegistryCore;
 use status::{Order, Status, TransactionId};

@@ -1,4 +1,5 @@
-use durable::{NodeStore, SqlStore, StoreFault};
+use durable::SqlStore;
+use stores::{NodeStore, StoreFault};
 use sqlite::types::ValueRef;
 use sqlite::{Connection, Files, Options};
 use sqlite_disk::{Crash, Disk, Fuse, Memory};

@@ -1,4 +1,4 @@
-use durable::{Kept, MemoryStore, NodeStore, StoreFault};
+use stores::{Kept, MemoryStore, NodeStore, StoreFault};
 use std::alloc::Global;
 use std::process::Abort;
 use units::{Code, Node};

@@ -1,5 +1,5 @@
 use crate::streams::Full;
-use durable::StoreFault;
+use stores::StoreFault;
 use operator::{Action, Cause, OpFault, UsageFault, parse_words, rehearse, store_fault};
 use std::alloc::{AllocError, Global};
 use std::io::{self, ErrorKind, Read, Write};

@@ -1,5 +1,5 @@
 use crate::streams::Full;
-use durable::{Kept, MemoryStore, NodeStore, StoreFault};
+use stores::{Kept, MemoryStore, NodeStore, StoreFault};
 use operator::{Cause, OpFault, node_of, read_scheme, show};
 use scheme::Scheme;
 use std::alloc::Global;

@@ -4,7 +4,7 @@ use Rattle.sqlite.specs.Held.{state}
 use Rattle.sqlite.specs.Tree.{Trees}
 use Rattle.sqlite.proofs.StateLemmas.{survives_then}
 use Rattle.sqlite.proofs.Callers.{survives_begin}
-use Rattle.durable.specs.Bodies.{items}
+use Rattle.stores.specs.Bodies.{items}
 use Rattle.durable.specs.Held.{HasMore}
 use Rattle.durable.proofs.Steps.{was_clean, after_crash}
 use Rattle.durable.proofs.batch.append_all.Goals as goal

@@ -6,9 +6,9 @@ use Rattle.sqlite.specs.declared.types.Value.TheVariants.{Int, Text}
 use Rattle.durable.specs.Held.{IsInside, HasMore}
 use Rattle.durable.proofs.Steps.{put_ok, was_clean, inside_keeps}
 use Rattle.sqlite_disk.specs.Disk.{MoreFaults}
-use Rattle.durable.specs.Faults.{store_fault_of}
+use Rattle.durable.specs.SqlFaults.{store_fault_of}
 use Rattle.durable.specs.Rooms.{IsRefused}
-use Rattle.durable.specs.declared.fault.StoreFault.TheVariants.{Full}
+use Rattle.stores.specs.declared.fault.StoreFault.TheVariants.{Full}
 use Rattle.durable.proofs.NoRoom.{put-full}
 use Rattle.durable.proofs.batch.put.Goals as goal
 

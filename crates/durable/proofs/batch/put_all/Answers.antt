@@ -3,12 +3,12 @@ use Rattle.std.proofs.lemmas.List.{map_more}
 use Rattle.sqlite.specs.Held.{state}
 use Rattle.sqlite.proofs.StateLemmas.{survives_then}
 use Rattle.sqlite.proofs.InsideLemmas.{keeps_then}
-use Rattle.durable.specs.Bodies.{items}
+use Rattle.stores.specs.Bodies.{items}
 use Rattle.durable.specs.Held.{HasMore}
 use Rattle.durable.proofs.Steps.{was_clean, more_then}
-use Rattle.durable.specs.Faults.{store_fault_of}
+use Rattle.durable.specs.SqlFaults.{store_fault_of}
 use Rattle.durable.specs.Rooms.{HasNoRoom, IsRefused}
-use Rattle.durable.specs.declared.fault.StoreFault.TheVariants.{Full}
+use Rattle.stores.specs.declared.fault.StoreFault.TheVariants.{Full}
 use Rattle.durable.proofs.NoRoom.{bodies_of, refused-at}
 use Rattle.durable.proofs.batch.put_all.Goals as goal
 

@@ -1,7 +1,7 @@
 use Rattle.std.proofs.Common.{◌≡◌, ◌+◌, map, take}
 use Rattle.sqlite.specs.State.{HasCleanDisk, Survives, KeepsCommit}
 use Rattle.sqlite.specs.Held.{state}
-use Rattle.durable.specs.Bodies.{items}
+use Rattle.stores.specs.Bodies.{items}
 use Rattle.durable.specs.Held.{IsInside, HasMore}
 use Rattle.durable.proofs.batch.put_all.Given as goal
 

@@ -9,7 +9,7 @@ use Rattle.durable.specs.Connected as connected
 use Rattle.durable.specs.Held.{slots_in, node_in}
 use Rattle.durable.specs.Opening.{IsOpeningFault}
 use Rattle.durable.specs.Refusals.{IsRefusal, IsUnharmed}
-use Rattle.durable.specs.Faults.{is_judgement}
+use Rattle.stores.specs.Faults.{is_judgement}
 use Rattle.durable.proofs.Sparing.{not-looked-at}
 use Rattle.durable.proofs.store_state.store_from_files.Goals as goal
 

@@ -1,7 +1,7 @@
 use Rattle.std.proofs.Common.{◌≡◌, ℕ, min, length, arith}
-use Rattle.durable.specs.Records.{IsDamagedAt}
-use Rattle.durable.specs.declared.fault.StoreFault.{StoreFault}
-use Rattle.durable.specs.declared.fault.StoreFault.TheVariants.{Damaged}
+use Rattle.stores.specs.Records.{IsDamagedAt}
+use Rattle.stores.specs.declared.fault.StoreFault.{StoreFault}
+use Rattle.stores.specs.declared.fault.StoreFault.TheVariants.{Damaged}
 use Rattle.operator.proofs.Pages.{passed-on, next-page, last-page, damaged-later}
 use Rattle.operator.proofs.showing.count_records.Goals as goal
 

@@ -1,7 +1,7 @@
 use Rattle.std.proofs.Common.{◌≡◌, ◌≢◌, ◌≤◌, ◌-◌, ℕ, min, length, take, ap, ◌∙◌, arith}
 use Rattle.std.proofs.lemmas.List.{length-take-le}
-use Rattle.durable.specs.declared.fault.StoreFault.{StoreFault}
-use Rattle.durable.specs.declared.fault.StoreFault.TheVariants.{Damaged}
+use Rattle.stores.specs.declared.fault.StoreFault.{StoreFault}
+use Rattle.stores.specs.declared.fault.StoreFault.TheVariants.{Damaged}
 use Rattle.operator.specs.Show.{record_lines}
 use Rattle.operator.proofs.Pages.{passed-on, page-sound, page-length, page-reads, records-length}
 use Rattle.operator.proofs.showing.page_text.Goals as goal

@@ -1,6 +1,6 @@
 use Rattle.std.proofs.Common.{◌≡◌, ◌++◌, length, refl, ◌∙◌, arith}
-use Rattle.durable.specs.declared.fault.StoreFault.{StoreFault}
-use Rattle.durable.specs.declared.fault.StoreFault.TheVariants.{NoMemory}
+use Rattle.stores.specs.declared.fault.StoreFault.{StoreFault}
+use Rattle.stores.specs.declared.fault.StoreFault.TheVariants.{NoMemory}
 use Rattle.operator.specs.declared.fault.OpFault.{OpFault}
 use Rattle.operator.specs.declared.fault.OpFault.TheVariants.{Store}
 use Rattle.operator.specs.Pages.{Stops, FailsToWrite}

@@ -4,10 +4,10 @@ use Rattle.sqlite.specs.State.{HasCleanDisk}
 use Rattle.sqlite.specs.Held.{state}
 use Rattle.wire.specs.Records.{record_text}
 use Rattle.wire.specs.declared.input.Input.{Input}
-use Rattle.durable.specs.Bodies.{items}
+use Rattle.stores.specs.Bodies.{items}
 use Rattle.durable.specs.Connected.{content}
 use Rattle.durable.specs.Held.{followed_by}
-use Rattle.durable.specs.Records.{Places, written}
+use Rattle.stores.specs.Records.{Places, written}
 use Rattle.durable.specs.Rooms.{HasNoRoom}
 use Rattle.durable.proofs.NoRoom.{bodies_of}
 use Rattle.durable.proofs.open_store.OpenStore.append.Goals as goal

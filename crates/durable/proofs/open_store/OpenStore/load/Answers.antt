@@ -4,9 +4,9 @@ use Rattle.sqlite.specs.State.{HasCleanDisk}
 use Rattle.sqlite.specs.Held.{state}
 use Rattle.wire.specs.declared.input.Input.{Input}
 use Rattle.durable.specs.Connected.{content}
-use Rattle.durable.specs.Records.{Places, AreRecords, IsDamagedAt}
-use Rattle.durable.specs.declared.fault.StoreFault.{StoreFault}
-use Rattle.durable.specs.declared.fault.StoreFault.TheVariants.{Damaged, Reopen}
+use Rattle.stores.specs.Records.{Places, AreRecords, IsDamagedAt}
+use Rattle.stores.specs.declared.fault.StoreFault.{StoreFault}
+use Rattle.stores.specs.declared.fault.StoreFault.TheVariants.{Damaged, Reopen}
 use Rattle.durable.proofs.open_store.OpenStore.load.Goals as goal
 
 -- what was read of as many places as there are was read of all

@@ -4,8 +4,8 @@ use Rattle.std.proofs.lemmas.List.{length-drop, take_min}
 use Rattle.sqlite.specs.State.{HasCleanDisk}
 use Rattle.sqlite.specs.Held.{state}
 use Rattle.durable.specs.Connected.{content}
-use Rattle.durable.specs.Records.{AreRecords, IsDamagedAt}
-use Rattle.durable.specs.declared.fault.StoreFault.TheVariants.{Damaged}
+use Rattle.stores.specs.Records.{AreRecords, IsDamagedAt}
+use Rattle.stores.specs.declared.fault.StoreFault.TheVariants.{Damaged}
 use Rattle.durable.proofs.open_store.OpenStore.load_page.Goals as goal
 use Rattle.durable.proofs.open_store.OpenStore.load_page.Goals.{After-records_between}
 

@@ -3,12 +3,12 @@ use Rattle.sqlite.specs.State.{HasCleanDisk}
 use Rattle.sqlite.specs.Held.{state}
 use Rattle.wire.specs.declared.input.Input.{Input}
 use Rattle.durable.specs.Connected.{content, IsCounted}
-use Rattle.durable.specs.Records.{Places, AreRecords, IsDamagedAt}
+use Rattle.stores.specs.Records.{Places, AreRecords, IsDamagedAt}
 use Rattle.durable.specs.Pages.{rows_within}
-use Rattle.durable.specs.Slots.{unbroken}
+use Rattle.stores.specs.Records.{unbroken}
 use Rattle.durable.specs.Tables.{entry_rows}
-use Rattle.durable.specs.declared.fault.StoreFault.{StoreFault}
-use Rattle.durable.specs.declared.fault.StoreFault.TheVariants.{Damaged}
+use Rattle.stores.specs.declared.fault.StoreFault.{StoreFault}
+use Rattle.stores.specs.declared.fault.StoreFault.TheVariants.{Damaged}
 use Rattle.durable.proofs.PlacesRead.{front, as-many}
 use Rattle.durable.proofs.open_store.OpenStore.records_between.Goals as goal
 
@@ -41,7 +41,7 @@ read g c clean =
     (c.deref.ensures.value ∙ c.in-Ok.ensures.rows clean ∙ ap (λ k. rows_within c.args.first (c.args.until - 1) (entry_rows (state g.S.Store k.conn).committed.trees)) c.self.view_is) (ap (map (λ (b : Bor (List ℕ)). b.now)) c.deref-2.ensures.value ∙ c.in-Ok-bodies.ensures.ok)
 
 pub returns-clause-ok : goal.returns-clause-ok
-returns-clause-ok g c = λ clean. at-ok c.args.first _ (places g c) _ c.records.result (long g c clean) (read g c clean) c.records.ensures.ok
+returns-clause-ok g c = λ clean. at-ok c.args.first _ (places g c) _ c.decode_records.result (long g c clean) (read g c clean) c.decode_records.ensures.ok
 
 pub returns-clause-damaged : goal.returns-clause-damaged
-returns-clause-damaged g c = λ clean. at-err c.args.first _ (places g c) _ c.records.result (long g c clean) (read g c clean) c.records.ensures.damaged
+returns-clause-damaged g c = λ clean. at-err c.args.first _ (places g c) _ c.decode_records.result (long g c clean) (read g c clean) c.decode_records.ensures.damaged

@@ -1,5 +1,0 @@
-use Rattle.durable.proofs.Promises.{whole}
-use Rattle.durable.proofs.laws.append_is_whole.Goals as goal
-
-pub returns : goal.returns
-returns g c = whole g.S.NodeStore.is_honest g.S.NodeStore.content g.S.NodeStore.may_hold g.S.NodeStore.must_reopen

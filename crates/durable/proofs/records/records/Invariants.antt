@@ -1,6 +1,0 @@
-use Rattle.std.proofs.Common.{Some, map, take}
-use Rattle.durable.specs.Records.{AreRecords}
-use Rattle.durable.proofs.records.records.Given as goal
-
-abbrev pub invariant-loop-at : goal.invariant-loop-at
-invariant-loop-at l = AreRecords (map (λ b. Some b) (map (λ b. b.now) (take l.at l.bodies))) l.inputs.items

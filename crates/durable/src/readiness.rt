@@ -1,8 +1,0 @@
-//! Whether a store takes calls.
-
-/// Whether a store takes calls, or must be reopened first.
-#[derive(Clone, Copy, Debug, PartialEq, Eq)]
-pub(crate) enum Readiness {
-    Ready,
-    MustReopen,
-}

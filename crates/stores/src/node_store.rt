@@ -1,0 +1,80 @@
+//! What is asked of a node's store.
+ghost use Rattle.std.specs.Prelude.{◌≡◌, ◌≤◌, ℕ, Bool, false, OnOk, take, drop};
+ghost use Rattle.stores.specs.Calls.{Appends, Loads, Reopens};
+ghost use Rattle.stores.specs.Faults.{faults_after};
+ghost use Rattle.units.specs.declared.code.Node.{Node};
+ghost use Rattle.stores.specs.Records.{Places};
+
+use crate::fault::StoreFault;
+use wire::Input;
+
+/// A node's records, which only grow, and which a crash leaves as they were before an append or after it.
+///
+/// After a fault of `append`, or one of `load` and `load_page` that is `Device` or `Full`, every call returns `Reopen`
+/// until `reopen` succeeds, which settles what is there.
+pub trait NodeStore {
+    /// Nobody else wrote the store, and the device returned what was written. That may end at any call.
+    ghost is_honest: { Self → Type 0 };
+
+    /// What each place has, while the store runs.
+    ghost content: { Self → Places };
+
+    /// What a crash at this moment, or a reopening, may find.
+    ghost may_hold: { Self → Places → Type 0 };
+
+    /// A fault stopped it, and it must be reopened first.
+    ghost must_reopen: { Self → Bool };
+
+    /// What `fault_count` returns.
+    ghost faults: { Self → ℕ };
+
+    /// Whose records they are.
+    ghost whose: { Self → Node };
+
+    /// What it keeps names that node as its owner.
+    ghost is_own: { Self → Type 0 };
+
+    /// Appends the whole batch, or nothing of it. An empty batch changes nothing.
+    ///
+    /// Fails with `Device` or `Full` where the device failed or has no room: the batch is there as a whole or not at
+    /// all, and a reopening settles which. Fails with `NoMemory` where memory ran out: the content is as it was.
+    /// After each of these a reopening is due. Fails with `Reopen`, and changes nothing, where one was due before.
+    fn append(&mut self, batch: &[Input]) -> Result<(), StoreFault>
+        ensures appends { Appends is_honest content may_hold must_reopen self.old self.new batch.now result }
+        ensures count { faults self.new ≡ faults_after (faults self.old) result }
+        ensures whose { whose self.new ≡ whose self.old }
+        ensures own { is_honest self.new → must_reopen self.new ≡ false → is_own self.old → is_own self.new };
+
+    /// All records in their order.
+    ///
+    /// Fails with `Damaged(p)` where place p is the least that is missing while a later one is there, or whose text
+    /// is no record's, and with `NoMemory` where memory ran out: the store goes on as it was. Fails with `Device` or
+    /// `Full` where the device failed: a reopening is due, and finds the same content. Fails with `Reopen`, and
+    /// changes nothing, where one was due before.
+    fn load(&mut self) -> Result<Vec<Input>, StoreFault>
+        ensures loads { Loads is_honest content may_hold must_reopen self.old self.new 0 (content self.old) result }
+        ensures count { faults self.new ≡ faults_after (faults self.old) result }
+        ensures whose { whose self.new ≡ whose self.old }
+        ensures own { is_honest self.new → must_reopen self.new ≡ false → is_own self.old → is_own self.new };
+
+    /// The records from place `from` on, at most `max`. Fails as `load` does, for the places that it looks at alone.
+    fn load_page(&mut self, from: u64, max: u64) -> Result<Vec<Input>, StoreFault>
+        requires some { 1 ≤ max }
+        requires few { max ≤ 256 }
+        ensures loads { Loads is_honest content may_hold must_reopen self.old self.new from (take max (drop from (content self.old))) result }
+        ensures count { faults self.new ≡ faults_after (faults self.old) result }
+        ensures whose { whose self.new ≡ whose self.old }
+        ensures own { is_honest self.new → must_reopen self.new ≡ false → is_own self.old → is_own self.new };
+
+    /// Opens the store again, whether or not it must be. After `Ok` the content is one that it could hold before.
+    /// After an error, which is never `Reopen`, a reopening is still due.
+    fn reopen(&mut self) -> Result<(), StoreFault>
+        ensures reopens { Reopens is_honest content may_hold must_reopen self.old self.new result }
+        ensures count { faults self.new ≡ faults_after (faults self.old) result }
+        ensures whose { whose self.new ≡ whose self.old }
+        ensures own { is_honest self.new → OnOk result (is_own self.new) };
+
+    /// How many calls of the device have failed; 0 follows the greatest number.
+    fn fault_count(&self) -> u64
+        ensures { result ≡ faults self.now };
+}

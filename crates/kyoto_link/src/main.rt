@@ -1,9 +1,11 @@
 //! The program `kyoto-link`.
 #![tactic(auto)]
 
-ghost use Rattle.std.specs.Prelude.{◌≡◌, ◌++◌, IfOk, codes, string_bytes};
+ghost use Rattle.std.specs.Prelude.{◌≡◌, ◌<◌, ◌+◌, ◌++◌, IfOk, OnOk, codes, length, string_bytes};
 ghost use Rattle.units.specs.Code.{node_text};
+ghost use Rattle.world.specs.Kept.{nodes};
 
+use audit::{audit, read_first};
 use clap::Error;
 use durable::SqlStore;
 use operator::{
@@ -11,6 +13,7 @@ use operator::{
     store_fault, write_out,
 };
 use scheme::Scheme;
+use sqlite::File;
 use std::alloc::{AllocError, Global};
 use std::io::ErrorKind;
 use std::process::ExitCode;
@@ -48,22 +51,73 @@ fn store_path(alloc: Global, folder: &str, node: Node) -> Result<String, AllocEr
     format!(in alloc; "{folder}/{node}.db")
 }
 
-fn show_at(rt: &HostRuntime, path: &str, node: Node) -> Result<(), OpFault> {
-    let mut store = match SqlStore::open_path(rt, path, node) {
-        Ok(store) => store,
-        Err(fault) => return Err(store_fault(node, fault)),
+fn open_store(rt: &HostRuntime, folder: &str, node: Node) -> Result<SqlStore<File>, OpFault> {
+    let Ok(path) = store_path(rt.alloc(), folder, node) else {
+        return Err(OpFault::NoMemory);
     };
-    show(rt.alloc(), node, &mut store, &mut io::writer(rt))
+    match SqlStore::open_path(rt, path.as_str(), node) {
+        Ok(store) => Ok(store),
+        Err(fault) => Err(store_fault(node, fault)),
+    }
 }
 
 fn show_node(rt: &HostRuntime, scheme: &str, folder: &str, node: &str) -> Result<(), OpFault> {
     let scheme = scheme_at(rt, scheme)?;
     let node = node_of(&scheme, node)?;
     find_folder(rt, folder)?;
-    match store_path(rt.alloc(), folder, node) {
-        Ok(path) => show_at(rt, path.as_str(), node),
-        Err(_) => Err(OpFault::NoMemory),
+    let mut store = open_store(rt, folder, node)?;
+    show(rt.alloc(), node, &mut store, &mut io::writer(rt))
+}
+
+/// Opens the store of one node more. Where it can't be opened, a fault in the records of those before it comes first.
+fn open_next(
+    rt: &HostRuntime,
+    scheme: &Scheme,
+    folder: &str,
+    node: Node,
+    stores: &mut Vec<SqlStore<File>>,
+) -> Result<(), OpFault>
+    requires { length stores.old.items < length (nodes scheme.now) }
+    ensures { OnOk result (length stores.new.items ≡ length stores.old.items + 1) }
+{
+    match open_store(rt, folder, node) {
+        Ok(store) => match stores.push(store) {
+            Ok(()) => Ok(()),
+            Err(_) => Err(OpFault::NoMemory),
+        },
+        Err(fault) => {
+            read_first(rt.alloc(), scheme, stores.as_mut_slice())?;
+            Err(fault)
+        }
     }
+}
+
+/// Opens the stores of all nodes: the log's, then those of the registries in the scheme's order.
+fn open_stores(
+    rt: &HostRuntime,
+    scheme: &Scheme,
+    folder: &str,
+) -> Result<Vec<SqlStore<File>>, OpFault>
+    ensures { IfOk result (λ v. length v.items ≡ length (nodes scheme.now)) }
+{
+    let mut stores = Vec::new(rt.alloc());
+    open_next(rt, scheme, folder, Node::Itl, &mut stores)?;
+    for member in scheme.registries() {
+        open_next(rt, scheme, folder, Node::Registry(member.code), &mut stores)?;
+    }
+    Ok(stores)
+}
+
+fn audit_stores(rt: &HostRuntime, scheme: &str, folder: &str) -> Result<(), OpFault> {
+    let scheme = scheme_at(rt, scheme)?;
+    find_folder(rt, folder)?;
+    let mut stores = open_stores(rt, &scheme, folder)?;
+    audit(
+        rt.alloc(),
+        &scheme,
+        stores.as_mut_slice(),
+        &mut io::writer(rt),
+    )
 }
 
 fn run(rt: &HostRuntime, action: &Action) -> Result<(), OpFault> {
@@ -75,6 +129,7 @@ fn run(rt: &HostRuntime, action: &Action) -> Result<(), OpFault> {
             folder,
             node,
         } => show_node(rt, scheme.as_str(), folder.as_str(), node.as_str()),
+        Action::Audit { scheme, folder } => audit_stores(rt, scheme.as_str(), folder.as_str()),
     }
 }
 

@@ -11,7 +11,7 @@ use Rattle.protocol.specs.declared.event.WorldEvent.{WorldEvent}
 use Rattle.protocol.specs.World.{World, opening, step, run, outcomes}
 use Rattle.operator.specs.declared.fault.Cause.{Cause}
 use Rattle.operator.specs.declared.fault.OpFault.{OpFault}
-use Rattle.operator.specs.declared.fault.OpFault.TheVariants.{Input, Read, Write, Store, NoMemory}
+use Rattle.operator.specs.declared.fault.OpFault.TheVariants.{Input, Read, Write, Store, Stuck, NoMemory}
 use Rattle.event_lines.specs.EventLines.{IsEventLine}
 use Rattle.operator.specs.Lines.{IsLine}
 use Rattle.operator.specs.SchemeFile.{IsSchemeLineFault}
@@ -99,6 +99,7 @@ next_fault Was lines all rest room number NoMemory told some wrong = tt
 next_fault Was lines all rest room number Read told some wrong = absurd wrong
 next_fault Was lines all rest room number (Write count) told some wrong = absurd wrong
 next_fault Was lines all rest room number (Store node fault) told some wrong = absurd wrong
+next_fault Was lines all rest room number (Stuck node place) told some wrong = absurd wrong
 
 pub told_all : (Was : List WorldEvent → Type 0) (lines : List ℕ) (all : ℕ) (rest : List ℕ) (room number : ℕ) → Told Was lines all rest room number → length rest ≡ 0
     → (events : List WorldEvent) × AreEvents lines all events × Was events
@@ -128,6 +129,7 @@ early input first lines scheme NoMemory begins is wrong = tt
 early input first lines scheme Read begins is wrong = absurd wrong
 early input first lines scheme (Write count) begins is wrong = absurd wrong
 early input first lines scheme (Store node fault) begins is wrong = absurd wrong
+early input first lines scheme (Stuck node place) begins is wrong = absurd wrong
 
 pub early_too : {T : Type 0} (input first lines : List ℕ) (scheme : Scheme) (r : Result T OpFault) → IsLine input longest_input first lines → IsSchemeText first scheme
     → IfErr r (IsLinesFault lines (room_after longest_input first)) → IfErr r (IsEarlyFault input)
@@ -140,6 +142,7 @@ scheme_early input first lines NoMemory begins wrong = tt
 scheme_early input first lines Read begins wrong = absurd wrong
 scheme_early input first lines (Write count) begins wrong = absurd wrong
 scheme_early input first lines (Store node fault) begins wrong = absurd wrong
+scheme_early input first lines (Stuck node place) begins wrong = absurd wrong
 
 pub scheme_too : {T : Type 0} (input first lines : List ℕ) (f : OpFault) (r : Result T OpFault) → IsErrAnd r (λ e. e ≡ f) → IsLine input longest_input first lines → IsSchemeLineFault first f → IfErr r (IsEarlyFault input)
 scheme_too input first lines f (Ok t) same begins wrong = tt

@@ -24,6 +24,7 @@ fails-writing op_fault.NoMemory node records written honest places text v x w f 
 fails-writing (op_fault.Store told fault) node records written honest places text v x w f more here = absurd f
 fails-writing (op_fault.Input line cause) node records written honest places text v x w f more here = f
 fails-writing op_fault.Read node records written honest places text v x w f more here = f
+fails-writing (op_fault.Stuck at place) node records written honest places text v x w f more here = f
 
 -- a fault of the second reading, where the first one found the records at all places
 again : (count : ℕ) (honest : Type 0) (mid places : Places) (v w : Option (List ℕ)) → (honest → mid ≡ places) → IsBegun count honest mid v w → IsBegun count honest places v w
@@ -41,6 +42,7 @@ fails-second op_fault.NoMemory node records honest mid places v w all f same are
 fails-second (op_fault.Write count) node records honest mid places v w all f same are many = cut-off count honest places v w all (again count honest mid places v w same f) are
 fails-second (op_fault.Input line cause) node records honest mid places v w all f same are many = f
 fails-second op_fault.Read node records honest mid places v w all f same are many = f
+fails-second (op_fault.Stuck at place) node records honest mid places v w all f same are many = f
 
 -- the last line was not written, or in part
 pub fails-last : (e : OpFault) (node : Node) (written : ℕ) (honest : Type 0) (places : Places) (v x w : Option (List ℕ)) (all : List Input) → FailsWithin e written (codes "end\n") x w
@@ -52,6 +54,7 @@ fails-last op_fault.NoMemory node written honest places v x w all f are size lin
 fails-last (op_fault.Store told fault) node written honest places v x w all f are size lines = absurd f
 fails-last (op_fault.Input line cause) node written honest places v x w all f are size lines = f
 fails-last op_fault.Read node written honest places v x w all f are size lines = f
+fails-last (op_fault.Stuck at place) node written honest places v x w all f are size lines = f
 
 pub none-told : (e : OpFault) (node : Node) (fault f : StoreFault) (written : ℕ) (text : List ℕ) (x w : Option (List ℕ)) → FailsWithin e written text x w → e ≡ op_fault.Store node f → f ≡ fault
 none-told e node fault f written text x w fails same = absurd (subst (λ t. FailsWithin t written text x w) same fails)

@@ -71,3 +71,20 @@ no_node = refl
 pub word_too_many : faults_in (codes "kyoto-link" ∷ codes "show" ∷ codes "s.json" ∷ codes "d" ∷ codes "NZ" ∷ codes "JP" ∷ []) ≡ UnknownArgument ∷ []
 unfolding clap_on_literals
 word_too_many = refl
+
+-- ---- words that audit stores
+
+abbrev audit_words : List (List ℕ)
+audit_words = codes "kyoto-link" ∷ codes "audit" ∷ codes "s.json" ∷ codes "d" ∷ []
+
+pub audit_taken : takes kyoto_link audit_words ≡ true
+unfolding clap_on_literals
+audit_taken = refl
+
+pub audit_folder : option_and_then (λ p. first_of (codes "DIR") p.1) (subcommand_of kyoto_link audit_words) ≡ Some (codes "d")
+unfolding clap_on_literals
+audit_folder = refl
+
+pub no_folder : faults_in (codes "kyoto-link" ∷ codes "audit" ∷ codes "s.json" ∷ []) ≡ MissingRequiredArgument ∷ []
+unfolding clap_on_literals
+no_folder = refl

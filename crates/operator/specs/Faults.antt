@@ -8,7 +8,7 @@ use Rattle.stores.specs.declared.fault.StoreFault.TheVariants as store_faults
 use Rattle.operator.specs.declared.fault.Cause.{Cause}
 use Rattle.operator.specs.declared.fault.Cause.TheVariants.{NotJson, Shape, TooMany, TooFew, CodeTwice, AccountTwice, UnknownAccount, AllotmentOverlap, Order, Truncated, TooLong}
 use Rattle.operator.specs.declared.fault.OpFault.{OpFault}
-use Rattle.operator.specs.declared.fault.OpFault.TheVariants.{Input, Read, Write, Store, NoMemory}
+use Rattle.operator.specs.declared.fault.OpFault.TheVariants.{Input, Read, Write, Store, Stuck, NoMemory}
 use Rattle.operator.specs.declared.streams.ReadFault.{ReadFault}
 use Rattle.operator.specs.declared.streams.ReadFault.TheVariants as reading
 
@@ -31,6 +31,7 @@ op_fault_text (Input line cause) = codes "line " ++ decimal line ++ codes ": " +
 op_fault_text Read = codes "read failed"
 op_fault_text (Write count) = codes "write failed after " ++ decimal count ++ codes " bytes"
 op_fault_text (Store node fault) = codes "store " ++ node_text node ++ codes ": " ++ fault_text fault
+op_fault_text (Stuck node place) = codes "stuck at " ++ node_text node ++ codes " " ++ decimal place
 op_fault_text NoMemory = codes "out of memory"
 
 -- what a fault of a reader is to a command
@@ -43,10 +44,11 @@ abbrev pub of_store : Node → StoreFault → OpFault
 of_store node store_faults.NoMemory = NoMemory
 of_store node fault = Store node fault
 
--- 3: the input, or what it came by; 4: a store; 5: memory
+-- 1: the journals are of no run; 3: the input, or what it came by; 4: a store; 5: memory
 abbrev pub exit_status : OpFault → ℕ
 exit_status (Input line cause) = 3
 exit_status Read = 3
 exit_status (Write count) = 3
 exit_status (Store node fault) = 4
+exit_status (Stuck node place) = 1
 exit_status NoMemory = 5

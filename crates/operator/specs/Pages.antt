@@ -63,6 +63,7 @@ FailsToWrite op_fault.NoMemory node records honest places v w = (count : ℕ) ×
 FailsToWrite (op_fault.Write count) node records honest places v w = IsBegun count honest places v w
 FailsToWrite (op_fault.Input line cause) node records honest places v w = ⊥
 FailsToWrite op_fault.Read node records honest places v w = ⊥
+FailsToWrite (op_fault.Stuck at place) node records honest places v w = ⊥
 
 -- of a text that comes after `written` bytes, the bytes up to that count were written, and not all
 pub record IsWithin (count written : ℕ) (text : List ℕ) (before after : Option (List ℕ)) : Type 0 where
@@ -78,3 +79,4 @@ FailsWithin op_fault.NoMemory written text v w = Keeps v w
 FailsWithin (op_fault.Store told fault) written text v w = ⊥
 FailsWithin (op_fault.Input line cause) written text v w = ⊥
 FailsWithin op_fault.Read written text v w = ⊥
+FailsWithin (op_fault.Stuck at place) written text v w = ⊥

@@ -8,7 +8,7 @@ use Rattle.scheme.specs.declared.registries.Scheme.{Scheme}
 use Rattle.operator.specs.declared.fault.Cause.{Cause}
 use Rattle.operator.specs.declared.fault.Cause.TheVariants.{Order}
 use Rattle.operator.specs.declared.fault.OpFault.{OpFault}
-use Rattle.operator.specs.declared.fault.OpFault.TheVariants.{Input, Read, Write, Store, NoMemory}
+use Rattle.operator.specs.declared.fault.OpFault.TheVariants.{Input, Read, Write, Store, Stuck, NoMemory}
 use Rattle.event_lines.specs.EventLines.{IsEventLine}
 use Rattle.operator.specs.Lines.{IsLine, IsLineFault}
 use Rattle.operator.specs.SchemeFile.{IsSchemeFault}
@@ -92,6 +92,7 @@ FailsSo IsText (Input line cause) r s v w = Finds r s line cause × Keeps v w
 FailsSo IsText Read r s v w = Keeps v w
 FailsSo IsText NoMemory r s v w = Keeps v w
 FailsSo IsText (Store node fault) r s v w = ⊥
+FailsSo IsText (Stuck node place) r s v w = ⊥
 FailsSo IsText (Write count) r s v w = (text : List ℕ) × Reports IsText r s text × (count < length text) × Appends v w (take count text)
 
 -- what the command has done so far, where it goes on only without a fault
@@ -101,6 +102,7 @@ IsEarlyFault input NoMemory = Unit {0}
 IsEarlyFault input Read = ⊥
 IsEarlyFault input (Write count) = ⊥
 IsEarlyFault input (Store node fault) = ⊥
+IsEarlyFault input (Stuck node place) = ⊥
 
 -- a fault of the event lines, the first of which is line 2
 abbrev pub IsLinesFault : List ℕ → ℕ → OpFault → Type 0
@@ -109,6 +111,7 @@ IsLinesFault lines room NoMemory = Unit {0}
 IsLinesFault lines room Read = ⊥
 IsLinesFault lines room (Write count) = ⊥
 IsLinesFault lines room (Store node fault) = ⊥
+IsLinesFault lines room (Stuck node place) = ⊥
 
 -- a fault of the line that comes next
 abbrev pub IsNextFault : List ℕ → ℕ → ℕ → OpFault → Type 0
@@ -117,6 +120,7 @@ IsNextFault lines room number NoMemory = Unit {0}
 IsNextFault lines room number Read = ⊥
 IsNextFault lines room number (Write count) = ⊥
 IsNextFault lines room number (Store node fault) = ⊥
+IsNextFault lines room number (Stuck node place) = ⊥
 
 -- the world that the events lead to, and the lines of their outcomes
 pub record HasRun (scheme : Scheme) (events : List WorldEvent) (w : World) (lines : List ℕ) : Type 0 where

@@ -9,7 +9,7 @@ use Rattle.scheme.specs.declared.registries.Scheme.{Scheme}
 use Rattle.operator.specs.declared.fault.Cause.{Cause}
 use Rattle.operator.specs.declared.fault.Cause.TheVariants.{NotJson, Shape, TooMany, TooFew, CodeTwice, AccountTwice, UnknownAccount, AllotmentOverlap, TooLong}
 use Rattle.operator.specs.declared.fault.OpFault.{OpFault}
-use Rattle.operator.specs.declared.fault.OpFault.TheVariants.{Input, Read, Write, Store, NoMemory}
+use Rattle.operator.specs.declared.fault.OpFault.TheVariants.{Input, Read, Write, Store, Stuck, NoMemory}
 use Rattle.operator.specs.Lines.{longest_line}
 use Rattle.operator.specs.Streams.{Takes}
 
@@ -36,6 +36,7 @@ IsSchemeLineFault first NoMemory = Unit {0}
 IsSchemeLineFault first Read = ⊥
 IsSchemeLineFault first (Write count) = ⊥
 IsSchemeLineFault first (Store node fault) = ⊥
+IsSchemeLineFault first (Stuck node place) = ⊥
 
 -- ---- a file
 
@@ -72,3 +73,4 @@ FailsToRead Read r s = Unit {0}
 FailsToRead NoMemory r s = Unit {0}
 FailsToRead (Write count) r s = ⊥
 FailsToRead (Store node fault) r s = ⊥
+FailsToRead (Stuck node place) r s = ⊥

@@ -50,3 +50,4 @@ FailsToShow op_fault.NoMemory node honest places v w = Keeps v w ⊎ IsPartlySho
 FailsToShow (op_fault.Write count) node honest places v w = IsCutOff count honest places v w
 FailsToShow (op_fault.Input line cause) node honest places v w = ⊥
 FailsToShow op_fault.Read node honest places v w = ⊥
+FailsToShow (op_fault.Stuck at place) node honest places v w = ⊥

@@ -9,7 +9,7 @@ use Rattle.clap.specs.declared.error.kind.ErrorKind.{ErrorKind}
 use Rattle.clap.specs.declared.error.kind.ErrorKind.TheVariants.{OutOfMemory, DisplayHelp, DisplayVersion}
 use Rattle.clap.specs.declared.parser.matches.ArgMatches.{ArgMatches}
 use Rattle.operator.specs.declared.command_line.Action.{Action}
-use Rattle.operator.specs.declared.command_line.Action.TheVariants.{Chart, Rehearse, Show}
+use Rattle.operator.specs.declared.command_line.Action.TheVariants.{Audit, Chart, Rehearse, Show}
 use Rattle.operator.specs.declared.command_line.UsageFault.{UsageFault}
 use Rattle.operator.specs.declared.command_line.UsageFault.TheVariants.{Usage, Help, NoMemory}
 
@@ -24,13 +24,16 @@ positional name = record (new_rule name) { required = true }
 abbrev pub show_shape : Shape
 show_shape = record (new_shape (codes "show")) { rules = positional (codes "SCHEME") ∷ positional (codes "DIR") ∷ positional (codes "NODE") ∷ [] }
 
+abbrev pub audit_shape : Shape
+audit_shape = record (new_shape (codes "audit")) { rules = positional (codes "SCHEME") ∷ positional (codes "DIR") ∷ [] }
+
 -- the program with the subcommands that read events
 abbrev pub with_events : App
 with_events = with_subcommand (with_subcommand program (new_shape (codes "rehearse"))) (new_shape (codes "chart"))
 
 -- the program with all its subcommands
 abbrev pub kyoto_link : App
-kyoto_link = with_subcommand with_events show_shape
+kyoto_link = with_subcommand (with_subcommand with_events show_shape) audit_shape
 
 -- the kinds of fault of which clap finds one in the words; none where it takes them
 abbrev pub faults_in : List (List ℕ) → Kinds
@@ -66,10 +69,17 @@ argument_of m name = option_and_then (first_of name) (option_map (λ p. p.1) (su
 abbrev pub IsShow : (List ℕ → Option (List ℕ)) → Action → Type 0
 IsShow value Rehearse = ⊥
 IsShow value Chart = ⊥
+IsShow value (Audit scheme folder) = ⊥
 IsShow value (Show scheme folder node) =
     (value (codes "SCHEME") ≡ Some (string_bytes scheme)) × (value (codes "DIR") ≡ Some (string_bytes folder)) × (value (codes "NODE") ≡ Some (string_bytes node))
+
+-- the action is to audit, and its words are the values of the two arguments
+abbrev pub IsAudit : (List ℕ → Option (List ℕ)) → Action → Type 0
+IsAudit value (Audit scheme folder) = (value (codes "SCHEME") ≡ Some (string_bytes scheme)) × (value (codes "DIR") ≡ Some (string_bytes folder))
+IsAudit value _ = ⊥
 
 abbrev pub NamesAction : ArgMatches → Action → Type 0
 NamesAction m Rehearse = subcommand_name_of m ≡ Some (codes "rehearse")
 NamesAction m Chart = subcommand_name_of m ≡ Some (codes "chart")
 NamesAction m (Show scheme folder node) = (subcommand_name_of m ≡ Some (codes "show")) × IsShow (argument_of m) (Show scheme folder node)
+NamesAction m (Audit scheme folder) = (subcommand_name_of m ≡ Some (codes "audit")) × IsAudit (argument_of m) (Audit scheme folder)

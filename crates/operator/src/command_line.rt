@@ -6,7 +6,7 @@ ghost use Rattle.clap.specs.Values.{kind_of};
 ghost use Rattle.clap.specs.Words.{HasMatchesOf, first_value, found_of, rule_of};
 ghost use Rattle.clap.specs.declared.error.kind.ErrorKind.TheVariants.{OutOfMemory};
 ghost use Rattle.clap.specs.declared.parser.matches.ArgMatches.{ArgMatches};
-ghost use Rattle.operator.specs.Words.{NamesAction, IsCommand, IsFaultOf, IsShow, IsSubcommand, IsUsageFault, faults_in, kyoto_link, positional, show_shape, with_events};
+ghost use Rattle.operator.specs.Words.{NamesAction, IsAudit, IsCommand, IsFaultOf, IsShow, IsSubcommand, IsUsageFault, audit_shape, faults_in, kyoto_link, positional, show_shape, with_events};
 
 use clap::error::ErrorKind;
 use clap::{Arg, ArgMatches, Command, Error};
@@ -22,6 +22,7 @@ const NOTES: &str = "Example:
 
 Exit status:
   0  done
+  1  no run leads to the records of the stores
   2  the words are wrong
   3  the input has a fault, or could not be read, or the output could not be written
   4  a node's store has a fault
@@ -75,6 +76,23 @@ Exit status:
 
 docs/FORMATS.md describes schemes, records and stores.";
 
+/// The end of the help of `audit`.
+const AUDIT_NOTES: &str =
+    "The store of a node is the file DIR/NODE.db: one for the log, and one for each registry of the scheme. A missing
+store is made, and is empty. The table is that of a run which leads to the records of all stores, and to no others.
+
+Example:
+  kyoto-link audit scheme.json stores
+
+Exit status:
+  0  done
+  1  no run leads to these records (kyoto-link: stuck at NZ 2: the first record that none can come to)
+  3  SCHEME has a fault, SCHEME or DIR could not be read, or the output could not be written
+  4  a store has a fault (kyoto-link: store NZ: damaged 2)
+  5  out of memory
+
+docs/FORMATS.md describes schemes, records, stores and the table.";
+
 /// What the words ask for.
 #[derive(Debug, Drop)]
 pub enum Action {
@@ -88,6 +106,12 @@ pub enum Action {
         scheme: String,
         folder: String,
         node: String,
+    },
+    /// Write the table of a run that leads to the records of the stores in the folder `folder`. The file `scheme` has the
+    /// scheme.
+    Audit {
+        scheme: String,
+        folder: String,
     },
 }
 
@@ -147,6 +171,20 @@ fn show_command<'a>(alloc: Global) -> Result<Command<'a>, AllocError>
         .arg(node)
 }
 
+fn audit_command<'a>(alloc: Global) -> Result<Command<'a>, AllocError>
+    ensures { IfOk result (IsSubcommand audit_shape) }
+{
+    let scheme = positional(alloc, "SCHEME", "The file with the scheme");
+    let folder = positional(alloc, "DIR", "The folder with the nodes' stores");
+    Command::new(alloc, "audit")
+        .about(
+            "Find a run that leads to the records of all stores, and write the table that it leads to",
+        )
+        .after_help(AUDIT_NOTES)
+        .arg(scheme)?
+        .arg(folder)
+}
+
 /// The program, with the subcommands that read events.
 fn event_commands<'a>(alloc: Global) -> Result<Command<'a>, AllocError>
     ensures { IfOk result (IsCommand with_events) }
@@ -166,8 +204,8 @@ fn event_commands<'a>(alloc: Global) -> Result<Command<'a>, AllocError>
 fn command<'a>(alloc: Global) -> Result<Command<'a>, AllocError>
     ensures { IfOk result (IsCommand kyoto_link) }
 {
-    let program = event_commands(alloc)?;
-    program.subcommand(show_command(alloc)?)
+    let program = event_commands(alloc)?.subcommand(show_command(alloc)?)?;
+    program.subcommand(audit_command(alloc)?)
 }
 
 /// The value of an argument, or `None`, where there is none or memory was refused.
@@ -191,6 +229,14 @@ fn show_action(alloc: Global, matches: &ArgMatches) -> Option<Action>
     })
 }
 
+fn audit_action(alloc: Global, matches: &ArgMatches) -> Option<Action>
+    ensures { IfSome result (IsAudit (first_value (found_of matches.now))) }
+{
+    let scheme = value_of(alloc, matches, "SCHEME")?;
+    let folder = value_of(alloc, matches, "DIR")?;
+    Some(Action::Audit { scheme, folder })
+}
+
 /// The action that the matches name. `None` only where memory was refused, if `clap` gave them.
 fn action_of(alloc: Global, matches: &ArgMatches) -> Option<Action>
     ensures { IfSome result (NamesAction matches.now) }
@@ -204,6 +250,9 @@ fn action_of(alloc: Global, matches: &ArgMatches) -> Option<Action>
     }
     if name == "show" {
         return show_action(alloc, inner);
+    }
+    if name == "audit" {
+        return audit_action(alloc, inner);
     }
     None
 }

@@ -3,9 +3,9 @@
 ghost use Rattle.std.specs.Prelude.{◌≡◌};
 ghost use Rattle.operator.specs.Faults.{exit_status, of_store};
 
-use stores::StoreFault;
 use std::error::Error;
 use std::fmt;
+use stores::StoreFault;
 use units::{NoMemory, Node};
 
 /// What is wrong with a line of an input.
@@ -70,6 +70,9 @@ pub enum OpFault {
     Write(u64),
     /// The node's store has that fault. Out of memory is `NoMemory`: see `store_fault`.
     Store { node: Node, fault: StoreFault },
+    /// No run leads to the journals of the stores: followed as far as they go, that node is the first with a record left,
+    /// at that place.
+    Stuck { node: Node, place: usize },
     /// Out of memory.
     NoMemory,
 }
@@ -86,6 +89,7 @@ impl fmt::Display for OpFault {
             OpFault::Read => write!(f, "read failed"),
             OpFault::Write(count) => write!(f, "write failed after {count} bytes"),
             OpFault::Store { node, fault } => write!(f, "store {node}: {fault}"),
+            OpFault::Stuck { node, place } => write!(f, "stuck at {node} {place}"),
             OpFault::NoMemory => write!(f, "out of memory"),
         }
     }
@@ -109,6 +113,7 @@ impl OpFault {
         ensures { result ≡ exit_status self.now }
     {
         match self {
+            OpFault::Stuck { .. } => 1,
             OpFault::Input { .. } | OpFault::Read | OpFault::Write(_) => 3,
             OpFault::Store { .. } => 4,
             OpFault::NoMemory => 5,

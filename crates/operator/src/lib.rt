@@ -16,6 +16,7 @@ pub use charting::chart;
 pub use command_line::{Action, UsageFault, parse_words};
 pub use fault::{Cause, OpFault, store_fault};
 pub use rehearsal::rehearse;
+pub use report::push_table;
 pub use scheme_file::{node_of, read_scheme};
 pub use showing::show;
 pub use streams::write_out;

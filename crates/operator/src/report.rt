@@ -42,8 +42,12 @@ fn push_stocks(text: &mut String, stocks: &[Stock]) -> Result<(), NoMemory>
     Ok(())
 }
 
-/// Adds the table of a world. After `NoMemory` the text may have a part of it.
-pub(crate) fn push_table(alloc: Global, text: &mut String, world: &World) -> Result<(), NoMemory>
+/// Adds the table of a world: a line for each transfer, what each registry holds, and what is owed.
+///
+/// # Errors
+///
+/// Fails with `NoMemory` where there is no room for it; the text may have a part of it then.
+pub fn push_table(alloc: Global, text: &mut String, world: &World) -> Result<(), NoMemory>
     ensures { OnOk result ((table : List ℕ) × IsTable world.now table × (string_bytes text.new ≡ string_bytes text.old ++ table)) }
 {
     push_transactions(alloc, text, world)?;

@@ -10,10 +10,10 @@ ghost use Rattle.operator.specs.Show.{FailsToShow, record_line, record_lines, sh
 
 use crate::fault::{OpFault, store_fault};
 use crate::streams::write_text;
-use stores::{NodeStore, StoreFault};
 use itoa::Buffer;
 use std::alloc::Global;
 use std::io::Write;
+use stores::{NodeStore, StoreFault};
 use units::{NoMemory, Node};
 use wire::{Input, encode_input};
 

@@ -1,0 +1,72 @@
+-- Stores that are read one after another: what is known of them after one more.
+use Rattle.std.proofs.Common.{◌≡◌, ◌≢◌, ℕ, ◌+◌, ◌<◌, ◌≤◌, Bool, false, List, [], ◌∷◌, ◌++◌, Option, Some, Result, Ok, Err, inl, inr, refl, sym, ap, subst, ◌∙◌, length, take, arith}
+use Rattle.std.specs.Prelude.{slice_get, ◌⊎◌, ◌==◌}
+use Rattle.std.proofs.Math.ListN.{set}
+use Rattle.std.proofs.lemmas.Bool.{cases_Bool, eqb-true, eqb-false}
+use Rattle.units.specs.declared.code.Node.{Node}
+use Rattle.wire.specs.declared.input.Input.{Input}
+use Rattle.scheme.specs.declared.registries.Scheme.{Scheme}
+use Rattle.lemmas.proofs.OneValue.{one_some}
+use Rattle.lemmas.proofs.Positions.{last_at}
+use Rattle.stores.specs.Records.{Places}
+use Rattle.stores.specs.declared.fault.StoreFault.{StoreFault}
+use Rattle.stores.specs.declared.fault.StoreFault.TheVariants.{Device, Full, Damaged, WrongNode, WrongVersion, Reopen, NoMemory}
+use Rattle.desk.specs.Loading.{IsLoaded}
+use Rattle.operator.specs.Faults.{of_store}
+use Rattle.weave.proofs.Lists.{front_get}
+use Rattle.audit.specs.Stores.{AreKept, AreLoadedTo, FailsToLoadAt, IsKept, IsLoadedAs}
+use Rattle.audit.proofs.Places.{set_here, set_other}
+
+same_or_not : (k j : ℕ) → (k ≡ j) ⊎ (k ≢ j)
+same_or_not k j = elim (cases_Bool (k == j)) [ inl y ↦ inl (eqb-true k j y) | inr d ↦ inr (eqb-false k j d) ]
+
+module _ {S : Type 0} (is_honest : S → Type 0) (content : S → Places) (must_reopen : S → Bool) where
+  pub kept_same : (old : S) → IsKept is_honest content must_reopen old old
+  kept_same old = record { honest = λ h. h; same = λ h runs. refl }
+
+  pub all_same : (olds : List S) → AreKept is_honest content must_reopen olds olds
+  all_same olds k old new was is = subst (IsKept is_honest content must_reopen old) (one_some old new (sym was ∙ is)) (kept_same old)
+
+  -- the store at a place was read, and those at other places are as they were
+  pub kept_more : (olds news : List S) (at : ℕ) (old new : S) → at < length news → slice_get olds at ≡ Some old → IsKept is_honest content must_reopen old new
+      → AreKept is_honest content must_reopen olds news → AreKept is_honest content must_reopen olds (set news at new)
+  kept_more olds news at old new below was kept all k o w iso isw =
+      elim (same_or_not k at) [
+        | inl e ↦
+            let here : Some old ≡ Some o = sym was ∙ subst (λ z. slice_get olds z ≡ Some o) e iso in
+            let there : Some new ≡ Some w = sym (set_here news at new below) ∙ subst (λ z. slice_get (set news at new) z ≡ Some w) e isw in
+            subst (λ z. IsKept is_honest content must_reopen z w) (one_some old o here) (subst (IsKept is_honest content must_reopen old) (one_some new w there) kept)
+        | inr apart ↦ all k o w iso (sym (set_other news at k new apart) ∙ isw)
+      ]
+
+module _ {S : Type 0} (is_honest : S → Type 0) (content : S → Places) (may_hold : S → Places → Type 0) (must_reopen : S → Bool) (scheme : Scheme) where
+  pub kept_of : (n : Node) (old new : S) (r : Result (List Input) StoreFault) → IsLoaded is_honest content may_hold must_reopen scheme n old new r → IsKept is_honest content must_reopen old new
+  kept_of n old new r l = record { honest = l.honest; same = l.kept }
+
+  pub fails_at : (n : Node) (old new : S) (fault : StoreFault) → IsLoaded is_honest content may_hold must_reopen scheme n old new (Err fault) → FailsToLoadAt is_honest content may_hold must_reopen scheme n old new (of_store n fault)
+  fails_at n old new Device l = (refl, (λ e. cc (e)), l)
+  fails_at n old new Full l = (refl, (λ e. cc (e)), l)
+  fails_at n old new (Damaged p) l = (refl, (λ e. cc (e)), l)
+  fails_at n old new WrongNode l = (refl, (λ e. cc (e)), l)
+  fails_at n old new WrongVersion l = (refl, (λ e. cc (e)), l)
+  fails_at n old new Reopen l = (refl, (λ e. cc (e)), l)
+  fails_at n old new NoMemory l = tt
+
+  pub loaded_more : (ns : List Node) (olds news : List S) (journals : List (List Input)) (at : ℕ) (n : Node) (old new : S) (journal : List Input) → length journals ≡ at → at < length news → slice_get ns at ≡ Some n → slice_get olds at ≡ Some old
+      → IsLoadedAs is_honest content may_hold must_reopen scheme n old new journal → AreLoadedTo is_honest content may_hold must_reopen at scheme ns olds news journals
+      → AreLoadedTo is_honest content may_hold must_reopen (at + 1) scheme ns olds (set news at new) (journals ++ journal ∷ [])
+  loaded_more ns olds news journals at n old new journal count below isn was loaded all k m o w j under ism iso isw isj =
+      elim (same_or_not k at) [
+        | inl e ↦
+            let node : Some n ≡ Some m = sym isn ∙ subst (λ z. slice_get ns z ≡ Some m) e ism in
+            let here : Some old ≡ Some o = sym was ∙ subst (λ z. slice_get olds z ≡ Some o) e iso in
+            let there : Some new ≡ Some w = sym (set_here news at new below) ∙ subst (λ z. slice_get (set news at new) z ≡ Some w) e isw in
+            let last : Some journal ≡ Some j = sym (last_at journals journal) ∙ subst (λ z. slice_get (journals ++ journal ∷ []) z ≡ Some j) (e ∙ sym count) isj in
+            subst (λ z. IsLoadedAs is_honest content may_hold must_reopen scheme z o w j) (one_some n m node)
+            (subst (λ z. IsLoadedAs is_honest content may_hold must_reopen scheme n z w j) (one_some old o here)
+            (subst (λ z. IsLoadedAs is_honest content may_hold must_reopen scheme n old z j) (one_some new w there)
+            (subst (IsLoadedAs is_honest content may_hold must_reopen scheme n old new) (one_some journal j last) loaded)))
+        | inr apart ↦
+            let before : k < at = omega (arith, under, apart) in
+            all k m o w j before ism iso (sym (set_other news at k new apart) ∙ isw) (sym (front_get journals (journal ∷ []) k (omega (arith, before, count))) ∙ isj)
+      ]

@@ -1,0 +1,64 @@
+-- What an audit finds.
+use Rattle.std.specs.Prelude.{◌≡◌, ◌<◌, ℕ, Bool, List, Option, length, take}
+use Rattle.std.specs.Io.KnownBytes.{Appends, Keeps}
+use Rattle.units.specs.declared.code.Node.{Node}
+use Rattle.wire.specs.declared.input.Input.{Input}
+use Rattle.scheme.specs.declared.registries.Scheme.{Scheme}
+use Rattle.protocol.specs.Claims.{committed_of, live_of}
+use Rattle.protocol.specs.Headline.{IsSafe}
+use Rattle.protocol.specs.Table.{due}
+use Rattle.protocol.specs.Weave.{Projects}
+use Rattle.protocol.specs.World.{opening, run}
+use Rattle.protocol.specs.declared.event.WorldEvent.{WorldEvent}
+use Rattle.stores.specs.Records.{Places}
+use Rattle.world.specs.Kept.{nodes}
+use Rattle.weave.specs.Following.{IsWeaveFault, journal_of}
+use Rattle.weave.specs.declared.fault.WeaveFault.{WeaveFault}
+use Rattle.weave.specs.declared.fault.WeaveFault.TheVariants as weaving
+use Rattle.operator.specs.Table.{AddUp, IsTable}
+use Rattle.operator.specs.declared.fault.OpFault.{OpFault}
+use Rattle.operator.specs.declared.fault.OpFault.TheVariants.{Input as Line, Read, Write, Store, Stuck, NoMemory}
+use Rattle.audit.specs.Stores.{AreLoaded, FailsToLoad}
+
+-- the text is the table of the world that some events lead to, whose committed journals are these. It counts every tonne
+-- once
+pub record IsAuditTable (scheme : Scheme) (journals : List (List Input)) (text : List ℕ) : Type 0 where
+  pub events : List WorldEvent
+  pub projects : Projects scheme events (journal_of scheme journals)
+  pub table : IsTable (run (opening scheme) events) text
+  pub counted : AddUp scheme table.stocks (due (run (opening scheme) events))
+  pub live : IsSafe scheme (live_of (run (opening scheme) events))
+  pub committed : IsSafe scheme (committed_of (run (opening scheme) events))
+
+-- what a fault of weaving is to the command
+abbrev pub of_weaving : WeaveFault → OpFault
+of_weaving (weaving.Stuck n place) = Stuck n place
+of_weaving weaving.NoMemory = NoMemory
+
+-- why no table was made of the journals
+abbrev pub FailsToWeave : Scheme → List (List Input) → OpFault → Type 0
+FailsToWeave scheme journals (Stuck n place) = IsWeaveFault scheme (journal_of scheme journals) (weaving.Stuck n place)
+FailsToWeave scheme journals NoMemory = Unit {0}
+FailsToWeave scheme journals _ = ⊥
+
+module _ {S : Type 0} (is_honest : S → Type 0) (content : S → Places) (may_hold : S → Places → Type 0) (must_reopen : S → Bool) where
+  -- the stores were read, and the table is that of a run that leads to their records
+  pub record Audits (scheme : Scheme) (olds news : List S) (table : List ℕ) : Type 0 where
+    pub journals : List (List Input)
+    pub loaded : AreLoaded is_honest content may_hold must_reopen scheme (nodes scheme) olds news journals
+    pub is_table : IsAuditTable scheme journals table
+
+  -- the stores were read, and no run leads to their records
+  pub record FindsNoRun (scheme : Scheme) (olds news : List S) (n : Node) (place : ℕ) : Type 0 where
+    pub journals : List (List Input)
+    pub loaded : AreLoaded is_honest content may_hold must_reopen scheme (nodes scheme) olds news journals
+    pub fault : IsWeaveFault scheme (journal_of scheme journals) (weaving.Stuck n place)
+
+  -- nothing was written, or the first bytes of the table, fewer than all
+  abbrev pub FailsToAudit : OpFault → Scheme → List S → List S → (before after : Option (List ℕ)) → Type 0
+  FailsToAudit (Stuck n place) scheme olds news v w = FindsNoRun scheme olds news n place × Keeps v w
+  FailsToAudit (Store told fault) scheme olds news v w = FailsToLoad is_honest content may_hold must_reopen scheme (nodes scheme) olds news (Store told fault) × Keeps v w
+  FailsToAudit (Write count) scheme olds news v w = (table : List ℕ) × Audits scheme olds news table × (count < length table) × Appends v w (take count table)
+  FailsToAudit NoMemory scheme olds news v w = Keeps v w
+  FailsToAudit (Line line cause) scheme olds news v w = ⊥
+  FailsToAudit Read scheme olds news v w = ⊥

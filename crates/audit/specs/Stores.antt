@@ -1,0 +1,62 @@
+-- The stores of all nodes, read.
+use Rattle.std.specs.Prelude.{◌≡◌, ◌≢◌, ◌<◌, ℕ, Bool, false, List, Result, Ok, Err, Some, length, slice_get}
+use Rattle.units.specs.declared.code.Node.{Node}
+use Rattle.wire.specs.declared.input.Input.{Input}
+use Rattle.scheme.specs.declared.registries.Scheme.{Scheme}
+use Rattle.stores.specs.Records.{Places, AreRecords}
+use Rattle.stores.specs.declared.fault.StoreFault.{StoreFault}
+use Rattle.stores.specs.declared.fault.StoreFault.TheVariants as store_fault
+use Rattle.desk.specs.Loading.{IsLoaded}
+use Rattle.operator.specs.declared.fault.OpFault.{OpFault}
+use Rattle.operator.specs.declared.fault.OpFault.TheVariants.{Input as Line, Read, Write, Store, Stuck, NoMemory}
+
+-- nobody else wrote the store, and its device returned what was written; what each place has; a fault stopped it, and it
+-- must be reopened first
+module _ {S : Type 0} (is_honest : S → Type 0) (content : S → Places) (must_reopen : S → Bool) where
+  -- nothing was written to the store
+  pub record IsKept (old new : S) : Type 0 where
+    pub honest : is_honest new → is_honest old
+    pub same : is_honest new → must_reopen new ≡ false → content new ≡ content old
+
+  abbrev pub AreKept : List S → List S → Type 0
+  AreKept olds news = (k : ℕ) (old new : S) → slice_get olds k ≡ Some old → slice_get news k ≡ Some new → IsKept old new
+
+module _ {S : Type 0} (is_honest : S → Type 0) (content : S → Places) (may_hold : S → Places → Type 0) (must_reopen : S → Bool) where
+  -- the node's store was read, its records are that journal, and the node records each after those before it
+  abbrev pub IsLoadedAs : Scheme → Node → S → S → List Input → Type 0
+  IsLoadedAs scheme n old new journal = IsLoaded is_honest content may_hold must_reopen scheme n old new (Ok journal)
+
+  -- the stores of the first nodes were read, and their records are these journals
+  abbrev pub AreLoadedTo : ℕ → Scheme → List Node → List S → List S → List (List Input) → Type 0
+  AreLoadedTo at scheme ns olds news journals =
+      (k : ℕ) (n : Node) (old new : S) (journal : List Input) → k < at → slice_get ns k ≡ Some n → slice_get olds k ≡ Some old → slice_get news k ≡ Some new → slice_get journals k ≡ Some journal
+      → IsLoadedAs scheme n old new journal
+
+  -- and there are no other stores
+  pub record AreLoaded (scheme : Scheme) (ns : List Node) (olds news : List S) (journals : List (List Input)) : Type 0 where
+    pub each : AreLoadedTo (length olds) scheme ns olds news journals
+    pub count : length journals ≡ length olds
+
+  -- why the node's store was not read
+  abbrev pub FailsToLoadAt : Scheme → Node → S → S → OpFault → Type 0
+  FailsToLoadAt scheme n old new (Store told fault) = (told ≡ n) × (fault ≢ store_fault.NoMemory) × IsLoaded is_honest content may_hold must_reopen scheme n old new (Err fault)
+  FailsToLoadAt scheme n old new NoMemory = Unit {0}
+  FailsToLoadAt scheme n old new _ = ⊥
+
+  -- the first store that was not read, and those before it
+  pub record FailsAt (scheme : Scheme) (ns : List Node) (olds news : List S) (told : Node) (fault : StoreFault) : Type 0 where
+    pub at : ℕ
+    pub old : S
+    pub new : S
+    pub journals : List (List Input)
+    pub is : slice_get ns at ≡ Some told
+    pub was : slice_get olds at ≡ Some old
+    pub left : slice_get news at ≡ Some new
+    pub before : AreLoadedTo at scheme ns olds news journals
+    pub count : length journals ≡ at
+    pub cause : FailsToLoadAt scheme told old new (Store told fault)
+
+  abbrev pub FailsToLoad : Scheme → List Node → List S → List S → OpFault → Type 0
+  FailsToLoad scheme ns olds news (Store told fault) = FailsAt scheme ns olds news told fault
+  FailsToLoad scheme ns olds news NoMemory = Unit {0}
+  FailsToLoad scheme ns olds news _ = ⊥

@@ -1,0 +1,99 @@
+//! The table of one run that leads to the records of all stores.
+ghost use Rattle.std.specs.Prelude.{◌≡◌, ◌≤◌, ℕ, List, IfErr, IfOk, OnOk, length, map, string_bytes};
+ghost use Rattle.std.specs.Io.KnownBytes.{Appends};
+ghost use Rattle.audit.specs.Audits.{Audits, FailsToAudit, FailsToWeave, IsAuditTable, of_weaving};
+ghost use Rattle.audit.specs.Stores.{AreKept, AreLoaded, FailsToLoad};
+ghost use Rattle.desk.specs.Views.{committed_records};
+ghost use Rattle.wire.specs.declared.input.Input.{Input};
+ghost use Rattle.world.specs.Kept.{nodes};
+
+use crate::journals::journals_of;
+use crate::loading::load_all;
+use desk::State;
+use node::Core;
+use operator::{OpFault, push_table, write_out};
+use scheme::Scheme;
+use std::alloc::Global;
+use std::io::Write;
+use stores::NodeStore;
+use totals::tonnes_add_up;
+use weave::{WeaveFault, weave};
+
+/// What a fault of weaving is to the command.
+fn fault_of(fault: WeaveFault) -> OpFault
+    ensures { result ≡ of_weaving fault }
+{
+    match fault {
+        WeaveFault::Stuck { node, place } => OpFault::Stuck { node, place },
+        WeaveFault::NoMemory => OpFault::NoMemory,
+    }
+}
+
+/// The table of a run that leads to the committed records of the states.
+fn table_of(alloc: Global, scheme: &Scheme, states: &[State<Core>]) -> Result<String, OpFault>
+    requires { length states.now ≡ length (nodes scheme.now) }
+    ensures ok { IfOk result (λ s. IsAuditTable scheme.now (map committed_records states.now) (string_bytes s)) }
+    ensures err { IfErr result (FailsToWeave scheme.now (map committed_records states.now)) }
+{
+    let journals = journals_of(alloc, states)?;
+    let woven = match weave(alloc, scheme, journals.as_slice()) {
+        Ok(woven) => woven,
+        Err(fault) => return Err(fault_of(fault)),
+    };
+    let mut text = String::new(alloc);
+    tonnes_add_up();
+    push_table(alloc, &mut text, &woven.world)?;
+    Ok(text)
+}
+
+/// Reads the stores of the first nodes: the log's, then those of the registries in the scheme's order. So a fault of one of
+/// them is found before that of a later store, which can't be opened.
+///
+/// # Errors
+///
+/// Fails with `Store` for the first of the stores that could not be read, or has a damaged record, as `audit` does, and
+/// with `NoMemory` where memory ran out.
+pub fn read_first<S: NodeStore>(
+    alloc: Global,
+    scheme: &Scheme,
+    stores: &mut [S],
+) -> Result<(), OpFault>
+    requires { length stores.old ≤ length (nodes scheme.now) }
+    ensures ok { OnOk result ((journals : List (List Input)) × AreLoaded S.is_honest S.content S.may_hold S.must_reopen scheme.now (nodes scheme.now) stores.old stores.new journals) }
+    ensures err { IfErr result (FailsToLoad S.is_honest S.content S.may_hold S.must_reopen scheme.now (nodes scheme.now) stores.old stores.new) }
+    ensures kept { AreKept S.is_honest S.content S.must_reopen stores.old stores.new }
+{
+    let _states = load_all(alloc, scheme, stores)?;
+    Ok(())
+}
+
+/// Reads the stores, one for each node: the log's, then those of the registries in the scheme's order. Finds a run that
+/// leads to all their records and to no others, and writes the table of the world that it leads to.
+///
+/// The stores are read by pages, and nothing is written to them.
+///
+/// # Errors
+///
+/// Nothing is written, but where the output failed:
+///
+/// - `Store`: the first store in that order that could not be read, or has a damaged record. A record is damaged too where
+///   its node doesn't record it after those before it.
+/// - `Stuck`: no run leads to these records. Followed as far as they go, the node is the first with a record left, and the
+///   place is that record's.
+/// - `Write`: the output failed, after the number of bytes that the fault tells.
+/// - `NoMemory`: out of memory.
+pub fn audit<S: NodeStore, W: Write>(
+    alloc: Global,
+    scheme: &Scheme,
+    stores: &mut [S],
+    writer: &mut W,
+) -> Result<(), OpFault>
+    requires { length stores.old ≡ length (nodes scheme.now) }
+    ensures ok { OnOk result ((table : List ℕ) × Audits S.is_honest S.content S.may_hold S.must_reopen scheme.now stores.old stores.new table × Appends (W.contents writer.old) (W.contents writer.new) table) }
+    ensures err { IfErr result (λ e. FailsToAudit S.is_honest S.content S.may_hold S.must_reopen e scheme.now stores.old stores.new (W.contents writer.old) (W.contents writer.new)) }
+    ensures kept { AreKept S.is_honest S.content S.must_reopen stores.old stores.new }
+{
+    let states = load_all(alloc, scheme, stores)?;
+    let table = table_of(alloc, scheme, states.as_slice())?;
+    write_out(writer, table.as_str())
+}

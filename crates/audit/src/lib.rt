@@ -1,0 +1,8 @@
+//! The command `audit`: one run that leads to the records of all nodes' stores, and the table of its world.
+#![tactic(auto)]
+
+mod auditing;
+mod journals;
+mod loading;
+
+pub use auditing::{audit, read_first};

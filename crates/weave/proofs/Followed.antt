@@ -1,0 +1,139 @@
+-- What is kept while journals are followed, after one record more and after one message more.
+use Rattle.std.proofs.Common.{◌≡◌, ℕ, suc, ◌+◌, ◌-◌, ◌<◌, ◌≤◌, List, [], ◌∷◌, ◌++◌, Bool, true, false, cond, Option, Some, None, inl, inr, refl, sym, ap, subst, ◌∙◌, length, map, arith, append_assoc, length-append}
+use Rattle.std.specs.Prelude.{slice_get, slice_index, Contains, if◌then◌else◌, ◌⊎◌}
+use Rattle.std.proofs.lemmas.Bool.{cases_Bool, cond-true, cond-false}
+use Rattle.units.proofs.Same.{node_of_same}
+use Rattle.units.specs.Code.{same_node}
+use Rattle.units.specs.declared.code.Node.{Node}
+use Rattle.status.proofs.Ids.{same_id-refl}
+use Rattle.status.specs.Id.{same_id}
+use Rattle.status.specs.declared.id.TransactionId.{TransactionId}
+use Rattle.wire.specs.Parties.{receiver, transaction}
+use Rattle.wire.specs.declared.input.Input.{Input}
+use Rattle.wire.specs.declared.message.Message.{Message}
+use Rattle.scheme.specs.declared.registries.Scheme.{Scheme}
+use Rattle.protocol.specs.Registries.{is_node}
+use Rattle.protocol.specs.Weave.{Gives, IsQuiet}
+use Rattle.protocol.specs.World.{World, opening, run, station, step, was_posted}
+use Rattle.protocol.specs.declared.event.Outcome.TheVariants.{Recorded}
+use Rattle.protocol.specs.declared.event.Posted.{Posted}
+use Rattle.protocol.specs.declared.event.WorldEvent.{WorldEvent}
+use Rattle.protocol.specs.declared.event.WorldEvent.TheVariants.{Commit, Post}
+use Rattle.lemmas.proofs.Membership.{In}
+use Rattle.safety.proofs.WorldLemmas.NodesWithStation.{AllPlaced, opening_placed, run_placed}
+use Rattle.safety.proofs.WorldLemmas.QuietWorlds.{run_append}
+use Rattle.weave.specs.Following.{committed_at}
+use Rattle.weave.specs.Steps.{AreAllPlaced, Follows, HasCommittedSame, Waits, left_of, next_message, sent_count, with_message}
+use Rattle.weave.proofs.Lists.{contains_left, contains_last, one_more}
+use Rattle.weave.proofs.OneMore.{Advances, advances, committed_elsewhere, committed_here, front_on, sent_more}
+use Rattle.weave.proofs.Posting.{is_sent, posts, waits_more}
+use Rattle.weave.proofs.Waiting.{IsSameFor, waits_on}
+
+-- ---- one record more
+
+module _ (scheme : Scheme) (journals : Node → List Input) (w : World) (events : List WorldEvent) (places : TransactionId → List ℕ) (posted : List ℕ) (due : List Node) (f : Follows scheme journals w events places posted due) where
+  pub all_placed : AllPlaced w
+  all_placed = subst AllPlaced (sym f.led) (run_placed (opening scheme) events (opening_placed scheme))
+
+  module _ (n : Node) (input : Input) (rest : List Input) (e : WorldEvent) (place : ℕ) (quiet : IsQuiet w) (left : journals n ≡ committed_at w n ++ input ∷ rest) (gives : Gives w e n input) (recorded : (step w e).outcome ≡ Recorded place) where
+    pub taken_advances : Advances w (run w (e ∷ Commit n 1 ∷ [])) n input
+    taken_advances = advances w e n input place all_placed quiet gives recorded
+
+    v : World
+    v = run w (e ∷ Commit n 1 ∷ [])
+
+    a : Advances w (run w (e ∷ Commit n 1 ∷ [])) n input
+    a = advances w e n input place all_placed quiet gives recorded
+
+    waits_still : Contains due n → (m : Node) → Contains due m ⊎ Waits (run w (e ∷ Commit n 1 ∷ [])) journals m
+    waits_still own m =
+        elim (cases_Bool (same_node n m)) [
+          | inl y ↦ inl (subst (Contains due) (node_of_same n m y) own)
+          | inr other ↦
+              elim (f.waits m) [
+                | inl h ↦ inl h
+                | inr h ↦
+                    inr
+                    (waits_on w (run w (e ∷ Commit n 1 ∷ [])) m (record {
+                      scheme = a.scheme;
+                      at = a.elsewhere m other;
+                      marked = λ key. ap (λ (b : List Posted). was_posted (record w { bag = b }) m key) a.bag;
+                      bag = λ p i to. subst (In p) a.bag i;
+                    }) journals h)
+              ]
+        ]
+
+    pub follows_taken : Contains due n → Follows scheme journals (run w (e ∷ Commit n 1 ∷ [])) (events ++ e ∷ Commit n 1 ∷ []) places posted due
+    follows_taken own = record {
+      led = ap (λ (z : World). run z (e ∷ Commit n 1 ∷ [])) f.led ∙ sym (run_append (opening scheme) events (e ∷ Commit n 1 ∷ []));
+      front = front_on w (run w (e ∷ Commit n 1 ∷ [])) n input a journals rest left f.front;
+      placed = subst (AreAllPlaced places) (sym a.bag) f.placed;
+      counted = f.counted;
+      counts = λ k m is. let few = f.counts k m is in let more = sent_more w (run w (e ∷ Commit n 1 ∷ [])) n input a m in omega arith;
+      waits = waits_still own;
+    }
+
+-- ---- one message more
+
+places_more : (places more : TransactionId → List ℕ) (bag : List Posted) (p : Posted) → ((t : TransactionId) → more t ≡ (if same_id (transaction p.message) t then places t ++ length bag ∷ [] else places t))
+    → AreAllPlaced places bag → AreAllPlaced more (bag ++ p ∷ [])
+places_more places more bag p put all k q is =
+    elim (one_more bag p q k is) [
+      | inl old ↦
+          let t = transaction q.message in
+          subst (λ (ks : List ℕ). Contains ks k) (sym (put t)) (pick (same_id (transaction p.message) t) (places t) (all k q old.1))
+      | inr new ↦
+          let t = transaction p.message in
+          let here : more t ≡ places t ++ length bag ∷ [] = put t ∙ cond-true (same_id t t) (places t ++ length bag ∷ []) (places t) (same_id-refl t) in
+          subst (λ (z : Posted). Contains (more (transaction z.message)) k) new.1
+          (subst (λ (ks : List ℕ). Contains ks k) (sym here) (subst (Contains (places t ++ length bag ∷ [])) (sym new.0) (contains_last (places t) (length bag))))
+    ]
+  where
+    pick : (b : Bool) (ks : List ℕ) → Contains ks k → Contains (cond b (ks ++ length bag ∷ []) ks) k
+    pick true ks h = contains_left ks (length bag ∷ []) k h
+    pick false ks h = h
+
+pub follows_posted : (scheme : Scheme) (journals : Node → List Input) (w : World) (events : List WorldEvent) (places more : TransactionId → List ℕ) (posted : List ℕ) (due : List Node) (n : Node) (key : ℕ) (m : Message)
+    → Follows scheme journals w events places posted due → Contains due n → next_message w n key ≡ Some m
+    → ((t : TransactionId) → more t ≡ (if same_id (transaction m) t then places t ++ length w.bag ∷ [] else places t))
+    → Follows scheme journals (with_message w n key m) (events ++ Post n key ∷ []) more posted (due ++ receiver m ∷ [])
+follows_posted scheme journals w events places more posted due n key m f own is put = record {
+  led = sym (posts w n key m is) ∙ ap (λ (z : World). run z (Post n key ∷ [])) f.led ∙ sym (run_append (opening scheme) events (Post n key ∷ []));
+  front = f.front;
+  placed = places_more places more w.bag (record { node = n; key = key; message = m }) put f.placed;
+  counted = f.counted;
+  counts = f.counts;
+  waits = waits_more w n key m journals due own f.waits;
+}
+
+-- ---- what is left
+
+pub left_same : (journals : Node → List Input) (w v : World) (ns : List Node) → HasCommittedSame w v → left_of journals v ns ≡ left_of journals w ns
+left_same journals w v [] same = refl
+left_same journals w v (n ∷ ns) same = omega (arith, left_same journals w v ns same, ap length (same n))
+
+module _ (journals : Node → List Input) (w v : World) (n : Node) (input : Input) (rest : List Input) (a : Advances w v n input) (left : journals n ≡ committed_at w n ++ input ∷ rest) where
+  here : length (committed_at v n) ≡ length (committed_at w n) + 1
+  here = ap length (committed_here w v n input a) ∙ length-append (committed_at w n) (input ∷ [])
+
+  room : length (committed_at w n) < length (journals n)
+  room = omega (arith, ap length left, length-append (committed_at w n) (input ∷ rest))
+
+  grown : (m : Node) → length (committed_at w m) ≤ length (committed_at v m)
+  grown m =
+      elim (cases_Bool (same_node n m)) [
+        | inl y ↦ subst (λ z. length (committed_at w z) ≤ length (committed_at v z)) (node_of_same n m y) (omega (arith, here))
+        | inr other ↦ omega (arith, ap length (committed_elsewhere w v n input a m other))
+      ]
+
+  no_more : (ns : List Node) → left_of journals v ns ≤ left_of journals w ns
+  no_more [] = omega arith
+  no_more (m ∷ ns) = omega (arith, no_more ns, grown m)
+
+  pub fewer : (ns : List Node) → In n ns → left_of journals v ns < left_of journals w ns
+  fewer [] i = absurd i
+  fewer (m ∷ ns) (inl e) =
+      let mine : length (committed_at w m) < length (journals m) = subst (λ z. length (committed_at w z) < length (journals z)) (sym e) room in
+      let less : length (committed_at v m) ≡ length (committed_at w m) + 1 = subst (λ z. length (committed_at v z) ≡ length (committed_at w z) + 1) (sym e) here in
+      omega (arith, no_more ns, mine, less)
+  fewer (m ∷ ns) (inr i) = omega (arith, fewer ns i, grown m)

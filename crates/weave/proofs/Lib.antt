@@ -1,0 +1,10 @@
+pub mod Lists
+pub mod Turns
+pub mod Waiting
+pub mod OneMore
+pub mod Posting
+pub mod Followed
+pub mod Tried
+pub mod Rounds
+pub mod Ends
+pub mod SchemeNodes

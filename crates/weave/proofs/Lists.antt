@@ -1,0 +1,78 @@
+-- Elements of lists that get longer, and the place at which a test first passes.
+use Rattle.std.proofs.Common.{◌≡◌, ℕ, zero, suc, ◌+◌, ◌<◌, ◌≤◌, List, [], ◌∷◌, ◌++◌, Bool, true, false, cond, Option, Some, None, inl, inr, refl, sym, ap, subst, ◌∙◌, length, map, arith, Bor}
+use Rattle.std.specs.Prelude.{slice_get, get_or, Contains, IfNone, ◌⊎◌}
+use Rattle.std.specs.List.{position_from}
+use Rattle.std.specs.Option.{option_copied, option_map_or}
+use Rattle.lemmas.proofs.Membership.{In, In_left, In_right}
+use Rattle.lemmas.proofs.Positions.{In_contains, contains_in}
+
+pub front_get : {X : Type 0} (xs ys : List X) (k : ℕ) → k < length xs → slice_get (xs ++ ys) k ≡ slice_get xs k
+front_get [] ys k below = absurd (omega arith)
+front_get (x ∷ xs) ys zero below = refl
+front_get (x ∷ xs) ys (suc k) below = front_get xs ys k (omega arith)
+
+pub past_end : {X : Type 0} (xs : List X) (k : ℕ) → slice_get xs k ≡ None → length xs ≤ k
+past_end [] k e = omega arith
+past_end (x ∷ xs) zero e = absurd (cc (e))
+past_end (x ∷ xs) (suc k) e = omega (arith, past_end xs k e)
+
+-- an element of a list with one element more
+pub one_more : {X : Type 0} (xs : List X) (y x : X) (k : ℕ) → slice_get (xs ++ y ∷ []) k ≡ Some x → ((k < length xs) × (slice_get xs k ≡ Some x)) ⊎ ((k ≡ length xs) × (y ≡ x))
+one_more [] y x zero is = inr (refl, cc (is))
+one_more [] y x (suc k) is = absurd (cc (is))
+one_more (z ∷ xs) y x zero is = inl (omega arith, is)
+one_more (z ∷ xs) y x (suc k) is = elim (one_more xs y x k is) [
+  | inl h ↦ inl (omega (arith, h.0), h.1)
+  | inr h ↦ inr (omega (arith, h.0), h.1)
+]
+
+pub contains_left : {X : Type 0} (xs ys : List X) (x : X) → Contains xs x → Contains (xs ++ ys) x
+contains_left xs ys x h = contains_in (xs ++ ys) x (In_left x xs ys (In_contains xs x h))
+
+pub contains_last : {X : Type 0} (xs : List X) (x : X) → Contains (xs ++ x ∷ []) x
+contains_last xs x = contains_in (xs ++ x ∷ []) x (In_right x xs (x ∷ []) (inl refl))
+
+-- what a list of images has at a place
+pub map_get : {X Y : Type 0} (f : X → Y) (xs : List X) (at : ℕ) (r : X) (d : Y) → at < length xs → r ≡ get_or xs at r → get_or (map f xs) at d ≡ f r
+map_get f [] at r d below is = absurd (omega arith)
+map_get f (x ∷ xs) zero r d below is = ap f (sym is)
+map_get f (x ∷ xs) (suc at) r d below is = map_get f xs at r d (omega arith) is
+
+pub if_none : {X P Q : Type 0} (o : Option X) → (P → Q) → IfNone o P → IfNone o Q
+if_none None f h = f h
+if_none (Some x) f h = h
+
+-- the list that a slice of lists lends at a place
+pub now_at : {X : Type 0} (xs : List (Bor X)) (at : ℕ) (r : Bor X) (d : X) → at < length xs → r ≡ get_or xs at r → get_or (map (λ (j : Bor X). j.now) xs) at d ≡ (get_or xs at r).now
+now_at {X = X} xs at r d below is = map_get (λ (j : Bor X). j.now) xs at r d below is ∙ ap (λ (j : Bor X). j.now) is
+
+-- what a lent value says of the option that it came from
+pub none_lent : {X : Type 0} (r : Option (Bor X)) (o : Option X) → option_copied r ≡ o → r ≡ None → o ≡ None
+none_lent {X = X} r o e is = sym e ∙ ap (λ (z : Option (Bor X)). option_copied z) is
+
+pub mapped : {X : Type 0} (o : Option X) (x : X) → Some x ≡ o → (f : X → List ℕ) → option_map_or f o [] ≡ f x
+mapped o x e f = ap (λ z. option_map_or f z []) (sym e)
+
+-- ---- where a test first passes
+
+pub place_passes : {X : Type 0} (p : X → Bool) (k : ℕ) (xs : List X) (i : ℕ) → position_from p k xs ≡ Some i → (j : ℕ) × (i ≡ k + j) × ((x : X) × (slice_get xs j ≡ Some x) × (p x ≡ true))
+place_passes p k [] i e = absurd (cc (e))
+place_passes {X = X} p k (x ∷ xs) i e = pick (place_passes p (k + 1) xs i) (p x) refl e
+  where
+    pick : (position_from p (k + 1) xs ≡ Some i → (j : ℕ) × (i ≡ k + 1 + j) × ((y : X) × (slice_get xs j ≡ Some y) × (p y ≡ true))) → (b : Bool) → p x ≡ b → cond b (Some k) (position_from p (k + 1) xs) ≡ Some i
+        → (j : ℕ) × (i ≡ k + j) × ((y : X) × (slice_get (x ∷ xs) j ≡ Some y) × (p y ≡ true))
+    pick rest true is h = let same : k ≡ i = cc (h) in (0, omega (arith, same), (x, refl, is))
+    pick rest false is h = let r = rest h in (suc r.0, omega (arith, r.1), r.2)
+
+pub place_none : {X : Type 0} (p : X → Bool) (k : ℕ) (xs : List X) → position_from p k xs ≡ None → (j : ℕ) (x : X) → slice_get xs j ≡ Some x → p x ≡ true → ⊥
+place_none p k [] e j x is passes = absurd (cc (is))
+place_none p k (y ∷ xs) e j x is passes = pick (place_none p (k + 1) xs) (p y) refl e j is
+  where
+    pick : (position_from p (k + 1) xs ≡ None → (j : ℕ) (x : _) → slice_get xs j ≡ Some x → p x ≡ true → ⊥) → (b : Bool) → p y ≡ b → cond b (Some k) (position_from p (k + 1) xs) ≡ None → (j : ℕ) → slice_get (y ∷ xs) j ≡ Some x → ⊥
+    pick rest true is h j at = absurd (cc (h))
+    pick rest false is h zero at = let same : y ≡ x = cc (at) in let clash : true ≡ false = sym passes ∙ ap p (sym same) ∙ is in cc (clash)
+    pick rest false is h (suc j) at = rest h j x at passes
+
+pub position_map : {X Y : Type 0} (f : X → Y) (p : Y → Bool) (k : ℕ) (xs : List X) → position_from p k (map f xs) ≡ position_from (λ x. p (f x)) k xs
+position_map f p k [] = refl
+position_map f p k (x ∷ xs) = ap (cond (p (f x)) (Some k)) (position_map f p (k + 1) xs)

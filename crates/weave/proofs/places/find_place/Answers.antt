@@ -1,0 +1,19 @@
+use Rattle.std.proofs.Common.{sym, subst, arith, below_more}
+use Rattle.std.proofs.lemmas.Option.{get_or_from_slice_get, slice_get_within}
+use Rattle.lemmas.proofs.OneValue.{clash}
+use Rattle.lemmas.proofs.Positions.{In_contains, place_of}
+use Rattle.weave.specs.Steps.{HasMessage}
+use Rattle.weave.proofs.places.find_place.Goals as goal
+
+pub returns-then-is_there-clause-some : goal.returns-then-is_there-clause-some
+returns-then-is_there-clause-some c = c.is_there.ensures.0 c.if-is_there.true
+
+pub loop-place-preserved : goal.loop-place-preserved
+loop-place-preserved c = below_more _ _ c.loop-place.invariant (λ h. clash c.is_there.result (c.is_there.ensures.1 h) c.if-is_there.false)
+
+pub returns-clause-none : goal.returns-clause-none
+returns-clause-none c k i h =
+    let at = place_of c.args.places.now k (In_contains c.args.places.now k i) in
+    let below = slice_get_within c.args.places.now at.0 k at.1 in
+    c.loop-place.invariant at.0 (omega (arith, below, c.loop-place-test.false))
+    (subst (λ z. HasMessage c.args.world.now.bag c.args.message.now z) (sym (get_or_from_slice_get c.args.places.now at.0 k 0 at.1)) h)

@@ -1,0 +1,61 @@
+-- Journals of all nodes, followed into one world: how far, and why not further.
+use Rattle.std.specs.Prelude.{◌≡◌, ◌<◌, ◌⊎◌, ℕ, List, [], ◌∷◌, ◌++◌, Contains, length, slice_get, slice_index_or, Option, Some}
+use Rattle.std.specs.List.{position_from}
+use Rattle.std.specs.Option.{option_map_or}
+use Rattle.units.specs.Code.{same_node}
+use Rattle.units.specs.declared.code.Node.{Node}
+use Rattle.wire.specs.declared.input.Input.{Input}
+use Rattle.scheme.specs.declared.registries.Scheme.{Scheme}
+use Rattle.protocol.specs.Claims.{committed_part}
+use Rattle.protocol.specs.Weave.{ArePrefixes, Gives, IsQuiet, IsStuck, Projects}
+use Rattle.protocol.specs.World.{World, opening, run, station, step}
+use Rattle.protocol.specs.declared.event.Outcome.TheVariants.{Recorded}
+use Rattle.protocol.specs.declared.event.WorldEvent.{WorldEvent}
+use Rattle.world.specs.Kept.{nodes}
+use Rattle.weave.specs.declared.fault.WeaveFault.{WeaveFault}
+use Rattle.weave.specs.declared.fault.WeaveFault.TheVariants.{Stuck, NoMemory}
+
+-- ---- the journals, one for each node: the log's, then those of the registries in the scheme's order
+
+abbrev pub place_of : Scheme → Node → Option ℕ
+place_of scheme n = position_from (λ m. same_node m n) 0 (nodes scheme)
+
+abbrev pub journal_of : Scheme → List (List Input) → Node → List Input
+journal_of scheme journals n = option_map_or (λ k. slice_index_or journals k []) (place_of scheme n) []
+
+abbrev pub committed_at : World → Node → List Input
+committed_at w n = committed_part (station w n)
+
+-- ---- how far
+
+-- every node is idle, all that was sent is posted, and what is committed are the first records of the journals
+pub record HasFollowed (w : World) (journals : Node → List Input) : Type 0 where
+  pub quiet : IsQuiet w
+  pub front : ArePrefixes (committed_at w) journals
+
+-- the node has a record left, the first one is at that place, and the nodes before it have none left
+pub record IsFirstLeft (w : World) (journals : Node → List Input) (n : Node) (place : ℕ) : Type 0 where
+  pub at : ℕ
+  pub is : slice_get (nodes w.scheme) at ≡ Some n
+  pub placed : place ≡ length (committed_at w n)
+  pub left : place < length (journals n)
+  pub before : (k : ℕ) (m : Node) → k < at → slice_get (nodes w.scheme) k ≡ Some m → committed_at w m ≡ journals m
+
+-- ---- what following comes to
+
+-- the events reach a world from which the journals can't be followed further, and the node is the first with a record
+-- left
+pub record IsStuckAt (scheme : Scheme) (journals : Node → List Input) (n : Node) (place : ℕ) : Type 0 where
+  pub events : List WorldEvent
+  pub followed : HasFollowed (run (opening scheme) events) journals
+  pub stuck : IsStuck (run (opening scheme) events) journals
+  pub first : IsFirstLeft (run (opening scheme) events) journals n place
+
+-- no list of events leads to the journals
+abbrev pub HasNoEvents : Scheme → (Node → List Input) → Type 0
+HasNoEvents scheme journals = (events : List WorldEvent) → Projects scheme events journals → ⊥
+
+-- the journals have the fault; of memory nothing can be said
+abbrev pub IsWeaveFault : Scheme → (Node → List Input) → WeaveFault → Type 0
+IsWeaveFault scheme journals (Stuck n place) = IsStuckAt scheme journals n place × HasNoEvents scheme journals
+IsWeaveFault scheme journals NoMemory = Unit {0}

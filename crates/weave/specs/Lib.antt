@@ -1,0 +1,4 @@
+pub mod Following
+pub mod Steps
+pub mod Kept
+pub mod Left

@@ -1,0 +1,89 @@
+-- What a node waits for, and what is posted of a node's messages. No public contract cites it.
+use Rattle.std.specs.Prelude.{◌≡◌, ◌<◌, ◌≤◌, ◌⊎◌, ℕ, true, false, List, [], ◌∷◌, ◌++◌, Contains, length, slice_get, slice_index, option_and_then, Option, Some, ◌+◌, ◌-◌}
+use Rattle.units.specs.Code.{same_node}
+use Rattle.units.specs.declared.code.Node.{Node}
+use Rattle.status.specs.declared.id.TransactionId.{TransactionId}
+use Rattle.wire.specs.Parties.{transaction}
+use Rattle.wire.specs.declared.input.Input.{Input}
+use Rattle.wire.specs.declared.message.Message.{Message}
+use Rattle.scheme.specs.declared.registries.Scheme.{Scheme}
+use Rattle.protocol.specs.Claims.{committed_of}
+use Rattle.protocol.specs.History.{sends}
+use Rattle.protocol.specs.Registries.{is_node}
+use Rattle.protocol.specs.WayOut.{IsIdle}
+use Rattle.protocol.specs.Weave.{ArePrefixes, Gives}
+use Rattle.protocol.specs.World.{World, opening, run, sent, station, step}
+use Rattle.protocol.specs.declared.event.Outcome.TheVariants.{Recorded}
+use Rattle.protocol.specs.declared.event.Posted.{Posted}
+use Rattle.protocol.specs.declared.event.WorldEvent.{WorldEvent}
+use Rattle.world.specs.Kept.{nodes}
+use Rattle.weave.specs.Following.{committed_at}
+
+-- ---- what a node waits for
+
+-- no event makes the node record the input
+abbrev pub IsNotRecorded : World → Node → Input → Type 0
+IsNotRecorded w n input = (e : WorldEvent) (place : ℕ) → Gives w e n input → (step w e).outcome ≡ Recorded place → ⊥
+
+-- the event gives the node the input, and where any event makes the node record it, this one does
+pub record IsBest (w : World) (e : WorldEvent) (n : Node) (input : Input) : Type 0 where
+  pub gives : Gives w e n input
+  pub best : (other : WorldEvent) (place : ℕ) → Gives w other n input → (step w other).outcome ≡ Recorded place → (step w e).outcome ≡ Recorded place
+
+-- no event makes the node record the next input of its journal
+abbrev pub Waits : World → (Node → List Input) → Node → Type 0
+Waits w journals n = (input : Input) (rest : List Input) → journals n ≡ committed_at w n ++ input ∷ rest → IsNotRecorded w n input
+
+-- ---- what is posted
+
+-- all messages of other nodes are in the bag, and the node's with keys below that one; every node is idle
+pub record IsPostedTo (w : World) (n : Node) (key : ℕ) : Type 0 where
+  pub idle : (m : Node) → is_node w.scheme m ≡ true → IsIdle w m
+  pub own : (k : ℕ) (x : Message) → k < key → slice_get (sends (committed_of w n)) k ≡ Some x → Contains w.bag (record { node = n; key = k; message = x })
+  pub others : (m : Node) (k : ℕ) (x : Message) → same_node n m ≡ false → slice_get (sends (committed_of w m)) k ≡ Some x → Contains w.bag (record { node = m; key = k; message = x })
+
+-- the message with that key, of a running node
+abbrev pub next_message : World → Node → ℕ → Option Message
+next_message w n key = option_and_then (sent w.scheme key) (station w n)
+
+-- the world with one message more in its bag
+abbrev pub with_message : World → Node → ℕ → Message → World
+with_message w n key m = record w { bag = w.bag ++ record { node = n; key = key; message = m } ∷ [] }
+
+abbrev pub sent_count : World → Node → ℕ
+sent_count w n = length (sends (committed_of w n))
+
+-- the bag has the message at that place
+abbrev pub HasMessage : List Posted → Message → ℕ → Type 0
+HasMessage bag m k = (p : Posted) × (slice_get bag k ≡ Some p) × (p.message ≡ m)
+
+-- each message of the bag stands among the places of its transaction
+abbrev pub AreAllPlaced : (TransactionId → List ℕ) → List Posted → Type 0
+AreAllPlaced places bag = (k : ℕ) (p : Posted) → slice_get bag k ≡ Some p → Contains (places (transaction p.message)) k
+
+-- ---- how far the journals are followed
+
+-- the events lead to the world, the committed journals are the first records of these, the messages of the bag are
+-- placed, no node posted more messages than it sent, and each node that isn't due waits
+pub record Follows (scheme : Scheme) (journals : Node → List Input) (w : World) (events : List WorldEvent) (places : TransactionId → List ℕ) (posted : List ℕ) (due : List Node) : Type 0 where
+  pub led : w ≡ run (opening scheme) events
+  pub front : ArePrefixes (committed_at w) journals
+  pub placed : AreAllPlaced places w.bag
+  pub counted : length posted ≡ length (nodes scheme)
+  pub counts : (k : ℕ) (n : Node) → slice_get (nodes scheme) k ≡ Some n → slice_index posted k ≤ sent_count w n
+  pub waits : (n : Node) → Contains due n ⊎ Waits w journals n
+
+-- committed journals are the same
+abbrev pub HasCommittedSame : World → World → Type 0
+HasCommittedSame w v = (n : Node) → committed_at v n ≡ committed_at w n
+
+-- what isn't a node of the scheme has no journal
+abbrev pub HasNodesAlone : Scheme → (Node → List Input) → Type 0
+HasNodesAlone scheme journals = (n : Node) → is_node scheme n ≡ false → journals n ≡ []
+
+-- ---- what is left
+
+-- how many records of these nodes' journals are left
+abbrev pub left_of : (Node → List Input) → World → List Node → ℕ
+left_of journals w [] = 0
+left_of journals w (n ∷ ns) = (length (journals n) - length (committed_at w n)) + left_of journals w ns

@@ -1,0 +1,13 @@
+//! From journals of all nodes back to one run: a list of events that leads to them, or that there is none.
+#![tactic(auto)]
+
+mod fault;
+mod following;
+mod giving;
+mod left;
+mod nodes;
+mod places;
+mod weaving;
+
+pub use fault::WeaveFault;
+pub use weaving::{Woven, weave};

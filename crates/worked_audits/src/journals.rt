@@ -1,0 +1,94 @@
+//! The journals of the worked scheme's nodes, and stores that have them.
+
+ghost use Rattle.std.specs.Prelude.{◌≡◌, length};
+ghost use Rattle.world.specs.Kept.{nodes};
+
+use audit::audit;
+use operator::OpFault;
+use scheme::Scheme;
+use std::alloc::Global;
+use std::process::Abort;
+use stores::{MemoryStore, NodeStore};
+use units::{Code, Node};
+use wire::decode_input;
+
+const SCHEME: &str =
+    r#"{"records":1000,"registries":[{"accounts":[7,8],"allotted":[],"code":"JP","eligible":true,"kinds":["AAU","CER"]},{"accounts":[1,2],"allotted":[{"account":1,"units":["NZ:1:1-100:AAU"]}],"code":"NZ","eligible":true,"kinds":["AAU","RMU","ERU","CER","tCER","lCER"]}]}"#;
+
+/// What NZ proposes.
+pub const PROPOSED: &str =
+    r#"{"account":1,"input":"propose","to_account":7,"to_registry":"JP","units":["NZ:1:1-100:AAU"]}"#;
+
+/// The proposal at the log.
+pub const ASKED: &str =
+    r#"{"input":"received","message":{"account":1,"call":"AcceptProposal","from":"NZ","status":"Proposed","to":"ITL","to_account":7,"to_registry":"JP","transaction":"NZ1","units":["NZ:1:1-100:AAU"]},"moment":1335830400}"#;
+
+/// The proposal at JP, which the log has checked.
+pub const CHECKED: &str =
+    r#"{"input":"received","message":{"account":1,"call":"AcceptProposal","from":"ITL","status":"Checked","to":"JP","to_account":7,"to_registry":"JP","transaction":"NZ1","units":["NZ:1:1-100:AAU"]},"moment":1335830400}"#;
+
+/// That JP accepted, at the log.
+pub const ACCEPTED: &str =
+    r#"{"input":"received","message":{"call":"AcceptNotification","codes":[],"from":"JP","status":"Accepted","to":"ITL","transaction":"NZ1"},"moment":1335830400}"#;
+
+/// The same at NZ.
+pub const TOLD_NZ: &str =
+    r#"{"input":"received","message":{"call":"AcceptNotification","codes":[],"from":"ITL","status":"Accepted","to":"NZ","transaction":"NZ1"},"moment":1335830400}"#;
+
+/// That NZ completed, at the log.
+pub const COMPLETED: &str =
+    r#"{"input":"received","message":{"call":"AcceptNotification","codes":[],"from":"NZ","status":"Completed","to":"ITL","transaction":"NZ1"},"moment":1335830400}"#;
+
+/// The same at JP.
+pub const TOLD_JP: &str =
+    r#"{"input":"received","message":{"call":"AcceptNotification","codes":[],"from":"ITL","status":"Completed","to":"JP","transaction":"NZ1"},"moment":1335830400}"#;
+
+/// Records of the log, of JP and of NZ.
+pub type Journals<'a> = [&'a [&'a str]; 3];
+
+pub fn registry(rt: &impl Abort, code: &str) -> Node {
+    Node::Registry(Code::read(code).expect(rt, "a code"))
+}
+
+/// A store with these records.
+fn store_of(rt: &impl Abort, alloc: Global, node: Node, journal: &[&str]) -> MemoryStore {
+    let mut store = MemoryStore::new(alloc, node);
+    for text in journal {
+        let input = decode_input(alloc, text.as_bytes()).expect(rt, "a record");
+        assert!(rt; store.append(&[input]).is_ok());
+    }
+    store
+}
+
+/// What an audit of stores with these records comes to, and what it writes.
+pub fn audited(
+    rt: &impl Abort,
+    alloc: Global,
+    journals: Journals<'_>,
+) -> (Result<(), OpFault>, Vec<u8>) {
+    let scheme = Scheme::read(alloc, SCHEME.as_bytes()).expect(rt, "a scheme");
+    assert_eq!(rt; scheme.registries().len(), 2);
+    let [log, jp, nz] = journals;
+    let mut stores = [
+        store_of(rt, alloc, Node::Itl, log),
+        store_of(rt, alloc, registry(rt, "JP"), jp),
+        store_of(rt, alloc, registry(rt, "NZ"), nz),
+    ];
+    let mut written = Vec::new(alloc);
+    let done = audit(alloc, &scheme, &mut stores, &mut written);
+    (done, written)
+}
+
+/// Asserts that the audit of these records writes that table.
+pub fn assert_table(rt: &impl Abort, alloc: Global, journals: Journals<'_>, table: &str) {
+    let (done, written) = audited(rt, alloc, journals);
+    assert!(rt; done.is_ok());
+    assert!(rt; written.as_slice() == table.as_bytes());
+}
+
+/// Asserts that the audit of these records fails so, and writes nothing.
+pub fn assert_fault(rt: &impl Abort, alloc: Global, journals: Journals<'_>, fault: OpFault) {
+    let (done, written) = audited(rt, alloc, journals);
+    assert_eq!(rt; done, Err(fault));
+    assert!(rt; written.is_empty());
+}

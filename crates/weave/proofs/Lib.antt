@@ -8,3 +8,4 @@ pub mod Tried
 pub mod Rounds
 pub mod Ends
 pub mod SchemeNodes
+pub mod Opened

@@ -38,6 +38,12 @@ map_get f [] at r d below is = absurd (omega arith)
 map_get f (x ∷ xs) zero r d below is = ap f (sym is)
 map_get f (x ∷ xs) (suc at) r d below is = map_get f xs at r d (omega arith) is
 
+-- what stands at a place that the list has, whatever would stand for it
+pub in_range : {X : Type 0} (xs : List X) (at : ℕ) (r d : X) → at < length xs → r ≡ get_or xs at r → get_or xs at d ≡ r
+in_range [] at r d below is = absurd (omega arith)
+in_range (x ∷ xs) zero r d below is = sym is
+in_range (x ∷ xs) (suc at) r d below is = in_range xs at r d (omega arith) is
+
 pub if_none : {X P Q : Type 0} (o : Option X) → (P → Q) → IfNone o P → IfNone o Q
 if_none None f h = f h
 if_none (Some x) f h = h

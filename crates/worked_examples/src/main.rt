@@ -1,11 +1,15 @@
 //! Runs the examples that its words name, and tells of each whether it comes to what its folder has.
 //!
 //! An example is a folder with the file `input`, and beside it `output`, what `rehearse` writes of it, or `error`,
-//! the line of its fault, and for some also `chart.mmd`, what `chart` writes of it; or with the file `words`, words of
-//! a command line, and beside it `output`, the help or the version that they ask for, or `error`, what is written of
-//! wrong words, before each line gets the program's name.
+//! the line of its fault, and for some also `chart.mmd`, what `chart` writes of it; where all records are committed in
+//! the end, stores with the journals are audited to the table of that output. Or it is a folder with the file `words`,
+//! words of a command line, and beside it `output`, the help or the version that they ask for, or `error`, what is
+//! written of wrong words, before each line gets the program's name.
 #![tactic(auto)]
 
+mod audited;
+
+use crate::audited::{Audited, audited};
 use operator::{OpFault, UsageFault, chart, parse_words, rehearse};
 use std::io::{self, ErrorKind, Read};
 use std::{env, fs, str};
@@ -44,9 +48,21 @@ fn is_charted(rt: &HostRuntime, input: &[u8], wanted: &[u8]) -> bool {
     }
 }
 
+fn is_audited(rt: &HostRuntime, folder: &str, input: &[u8]) -> io::Result<bool> {
+    let output = match file_in(rt, folder, "output") {
+        Ok(output) => output,
+        Err(error) if error.kind() == ErrorKind::NotFound => return Ok(true),
+        Err(error) => return Err(error),
+    };
+    match (str::from_utf8(input), str::from_utf8(output.as_slice())) {
+        (Ok(input), Ok(output)) => Ok(audited(rt.alloc(), input, output) != Audited::Otherwise),
+        _ => Ok(false),
+    }
+}
+
 fn is_so(rt: &HostRuntime, folder: &str) -> io::Result<bool> {
     let input = file_in(rt, folder, "input")?;
-    if !is_rehearsed(rt, folder, input.as_slice())? {
+    if !is_rehearsed(rt, folder, input.as_slice())? || !is_audited(rt, folder, input.as_slice())? {
         return Ok(false);
     }
     match file_in(rt, folder, "chart.mmd") {

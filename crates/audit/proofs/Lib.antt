@@ -1,3 +1,4 @@
 pub mod Places
 pub mod NodePlaces
 pub mod Loaded
+pub mod Tables

@@ -14,7 +14,10 @@ use Rattle.stores.specs.declared.fault.StoreFault.TheVariants.{Device, Full, Dam
 use Rattle.desk.specs.Loading.{IsLoaded}
 use Rattle.operator.specs.Faults.{of_store}
 use Rattle.weave.proofs.Lists.{front_get}
-use Rattle.audit.specs.Stores.{AreKept, AreLoadedTo, FailsToLoadAt, IsKept, IsLoadedAs}
+use Rattle.operator.specs.declared.fault.OpFault.{OpFault}
+use Rattle.operator.specs.declared.fault.OpFault.TheVariants.{Input as Line, Read, Write, Store, Stuck}
+use Rattle.operator.specs.declared.fault.OpFault.TheVariants as op
+use Rattle.audit.specs.Stores.{AreKept, AreLoadedTo, FailsToLoad, FailsToLoadAt, IsKept, IsLoadedAs}
 use Rattle.audit.proofs.Places.{set_here, set_other}
 
 same_or_not : (k j : ℕ) → (k ≡ j) ⊎ (k ≢ j)
@@ -70,3 +73,25 @@ module _ {S : Type 0} (is_honest : S → Type 0) (content : S → Places) (may_h
             let before : k < at = omega (arith, under, apart) in
             all k m o w j before ism iso (sym (set_other news at k new apart) ∙ isw) (sym (front_get journals (journal ∷ []) k (omega (arith, before, count))) ∙ isj)
       ]
+
+  -- the store at a place was not read
+  pub fails_first : (ns : List Node) (olds news : List S) (journals : List (List Input)) (at : ℕ) (n : Node) (old new : S) → length journals ≡ at → at < length news → slice_get ns at ≡ Some n → slice_get olds at ≡ Some old
+      → AreLoadedTo is_honest content may_hold must_reopen at scheme ns olds news journals → (e : OpFault) → FailsToLoadAt is_honest content may_hold must_reopen scheme n old new e
+      → FailsToLoad is_honest content may_hold must_reopen scheme ns olds (set news at new) e
+  fails_first ns olds news journals at n old new count below isn was all (Store told fault) f = record {
+    at = at;
+    old = old;
+    new = new;
+    journals = journals;
+    is = isn ∙ ap Some (sym f.0);
+    was = was;
+    left = set_here news at new below;
+    before = λ k m o w j under ism iso isw isj. all k m o w j under ism iso (sym (set_other news at k new (λ e. omega (arith, under, e))) ∙ isw) isj;
+    count = count;
+    cause = (refl, f.1, subst (λ (m : Node). IsLoaded is_honest content may_hold must_reopen scheme m old new (Err fault)) (sym f.0) f.2);
+  }
+  fails_first ns olds news journals at n old new count below isn was all op.NoMemory f = tt
+  fails_first ns olds news journals at n old new count below isn was all (Line line cause) f = absurd f
+  fails_first ns olds news journals at n old new count below isn was all Read f = absurd f
+  fails_first ns olds news journals at n old new count below isn was all (Write k) f = absurd f
+  fails_first ns olds news journals at n old new count below isn was all (Stuck m place) f = absurd f

@@ -1,5 +1,5 @@
 //! The states that the records of all nodes' stores lead to.
-ghost use Rattle.std.specs.Prelude.{◌≤◌, IfErr, IfOk, OnOk, ℕ, List, length, map};
+ghost use Rattle.std.specs.Prelude.{◌≡◌, ◌≤◌, ◌++◌, ◌∷◌, [], IfErr, IfOk, OnOk, length, map};
 ghost use Rattle.audit.specs.Stores.{AreKept, AreLoaded, FailsToLoad, FailsToLoadAt, IsKept, IsLoadedAs};
 ghost use Rattle.desk.specs.Views.{committed_records};
 ghost use Rattle.world.specs.Kept.{nodes};
@@ -11,7 +11,7 @@ use operator::{OpFault, store_fault};
 use scheme::Scheme;
 use std::alloc::Global;
 use stores::NodeStore;
-use units::Node;
+use units::{NoMemory, Node};
 
 /// The state that the records of the node's store lead to.
 fn load_one<S: NodeStore>(
@@ -31,6 +31,13 @@ fn load_one<S: NodeStore>(
     }
 }
 
+fn push(states: &mut Vec<State<Core>>, state: State<Core>) -> Result<(), NoMemory>
+    ensures { OnOk result (states.new.items ≡ states.old.items ++ state ∷ []) }
+{
+    states.push(state)?;
+    Ok(())
+}
+
 /// The states that the records of the first nodes' stores lead to.
 pub(crate) fn load_all<S: NodeStore>(
     alloc: Global,
@@ -42,10 +49,13 @@ pub(crate) fn load_all<S: NodeStore>(
     ensures err { IfErr result (FailsToLoad S.is_honest S.content S.may_hold S.must_reopen scheme.now (nodes scheme.now) stores.old stores.new) }
     ensures kept { AreKept S.is_honest S.content S.must_reopen stores.old stores.new }
 {
-    let mut states = Vec::with_capacity(alloc, stores.len())?;
+    let mut states = Vec::new(alloc);
     for store in stores.iter_mut() {
         let node = node_at(scheme, states.len());
-        states.push(load_one(alloc, scheme, node, store)?)?;
+        match load_one(alloc, scheme, node, store) {
+            Ok(state) => push(&mut states, state)?,
+            Err(fault) => return Err(fault),
+        }
     }
     Ok(states)
 }

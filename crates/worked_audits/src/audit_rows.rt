@@ -33,7 +33,9 @@ end
 ";
 
 const LOG: &[&str] = &[ASKED, ACCEPTED, COMPLETED];
+
 const JP: &[&str] = &[CHECKED, TOLD_JP];
+
 const NZ: &[&str] = &[PROPOSED, TOLD_NZ];
 
 #[test]
@@ -54,12 +56,22 @@ fn empty_stores(rt: HostRuntime) {
 #[test]
 fn a_store_is_empty(rt: HostRuntime) {
     let node = Node::Itl;
-    assert_fault(&rt, rt.alloc(), [LOG, JP, &[]], OpFault::Stuck { node, place: 0 });
+    assert_fault(
+        &rt,
+        rt.alloc(),
+        [LOG, JP, &[]],
+        OpFault::Stuck { node, place: 0 },
+    );
 }
 
 #[test]
 fn a_record_that_is_not_recorded_is_damage(rt: HostRuntime) {
     let node = registry(&rt, "JP");
     let fault = StoreFault::Damaged(0);
-    assert_fault(&rt, rt.alloc(), [LOG, &[TOLD_JP], NZ], OpFault::Store { node, fault });
+    assert_fault(
+        &rt,
+        rt.alloc(),
+        [LOG, &[TOLD_JP], NZ],
+        OpFault::Store { node, fault },
+    );
 }

@@ -9,7 +9,12 @@ const FEWER: &str =
 #[test]
 fn another_proposal_came_to_the_log(rt: HostRuntime) {
     let node = Node::Itl;
-    assert_fault(&rt, rt.alloc(), [&[FEWER], &[], &[PROPOSED]], OpFault::Stuck { node, place: 0 });
+    assert_fault(
+        &rt,
+        rt.alloc(),
+        [&[FEWER], &[], &[PROPOSED]],
+        OpFault::Stuck { node, place: 0 },
+    );
 }
 
 #[test]

@@ -5,9 +5,9 @@ ghost use Rattle.stores.specs.Faults.{faults_after};
 ghost use Rattle.desk.specs.Loading.{IsLoaded, IsReadOn, IsReadTo, damage_of, journal_in};
 
 use crate::state::State;
-use stores::{NodeStore, StoreFault};
 use protocol::{NodeCore, ReplayFault, resume};
 use std::alloc::Global;
+use stores::{NodeStore, StoreFault};
 use wire::Input;
 
 /// How many records are read at once.

@@ -7,9 +7,9 @@ ghost use Rattle.desk.specs.Desks.{IsCommit, IsOf, IsProgress, IsQueryOf, IsTake
 use crate::notes::Asked;
 use crate::progress::Progress;
 use crate::state::{State, Taken};
-use stores::{NodeStore, StoreFault};
 use protocol::NodeCore;
 use status::TransactionId;
+use stores::{NodeStore, StoreFault};
 use units::{NoMemory, Node};
 use wire::{Input, Message};
 

@@ -10,11 +10,11 @@ ghost use Rattle.desk.specs.Due.{status_told, told_of};
 ghost use Rattle.desk.specs.Views.{committed_past, committed_records, past, tail};
 
 use crate::notes::{Asked, Told};
-use stores::{NodeStore, StoreFault};
 use protocol::{NodeCore, Stepped};
 use status::TransactionId;
 use std::alloc::Global;
 use std::marker::Model;
+use stores::{NodeStore, StoreFault};
 use units::refusal_code::NODE_STOPPED;
 use units::{NoMemory, Node, Refusal};
 use wire::{Input, Message};

@@ -13,12 +13,12 @@
 ghost use Rattle.std.specs.Prelude.{◌≤◌, ◌<◌, IfSome};
 
 use durable::SqlStore;
-use stores::{NodeStore, StoreFault};
 use std::alloc::{AllocError, AllocFailed, Global};
 use std::process::ExitCode;
 use std::rt::Clock;
 use std::time::{Duration, Instant};
 use std::{env, io};
+use stores::{NodeStore, StoreFault};
 use thiserror::Error;
 use units::{Code, NoMemory, Node};
 use wire::{Input, ReadFault, decode_input};

@@ -1,9 +1,9 @@
 use crate::nodes::{CLOSE, NzState, OPEN, input, nz, nz_core, nz_state};
 use desk::State;
-use stores::{MemoryStore, NodeStore, StoreFault};
 use std::alloc::Global;
 use std::marker::Model;
 use std::process::Abort;
+use stores::{MemoryStore, NodeStore, StoreFault};
 use wire::Input;
 
 /// A store that counts what it is asked. In contracts it is the store.

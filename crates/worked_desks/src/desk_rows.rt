@@ -2,12 +2,12 @@ use crate::nodes::{
     NzDesk, NzState, TEN, TEN_MORE, input, nz, nz_core, nz_desk, nz_state, recorded, take_all,
 };
 use desk::{Life, Seat, Taken, Told, Unsettled, settle};
-use stores::{MemoryStore, NodeStore};
 use protocol::{NodeCore, Stepped};
 use status::{Status, TransactionId};
 use std::alloc::Global;
 use std::process::Abort;
 use std::sync::Wait;
+use stores::{MemoryStore, NodeStore};
 use units::refusal_code::NODE_STOPPED;
 use units::{Node, Refusal};
 

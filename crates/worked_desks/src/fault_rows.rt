@@ -1,9 +1,9 @@
 use crate::nodes::{CLOSE, OPEN, TEN, TEN_MORE, input, nz, nz_core, nz_desk, recorded, take_all};
 use desk::{Life, Seat, State, Told, settle};
-use stores::{Kept, MemoryStore, NodeStore, StoreFault};
 use std::alloc::Global;
 use std::process::Abort;
 use std::sync::Wait;
+use stores::{Kept, MemoryStore, NodeStore, StoreFault};
 use units::refusal_code::NODE_STOPPED;
 use units::{Node, Refusal};
 

@@ -2,11 +2,11 @@ use crate::nodes::{
     CLOSE, NzDesk, NzState, TEN, TEN_MORE, input, nz, nz_desk, nz_state, recorded, take_all,
 };
 use desk::{Lengths, Life, Seat, Told, Unsettled, settle};
-use stores::MemoryStore;
 use status::TransactionId;
 use std::alloc::Global;
 use std::process::Abort;
 use std::sync::Wait;
+use stores::MemoryStore;
 
 /// Has the desk tell where NZ1 stands.
 fn query(rt: &(impl Wait + Abort), desk: &NzDesk, seat: &mut Seat) -> usize {

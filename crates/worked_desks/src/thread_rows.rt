@@ -1,6 +1,5 @@
 use crate::nodes::{NzState, TEN, TEN_MORE, input, nz, nz_state};
 use desk::{Bell, Desk, Life, RoomBell, Seat, Taken, Told, settle};
-use stores::MemoryStore;
 use protocol::Stepped;
 use registry_core::RegistryCore;
 use status::{Order, Status, TransactionId};
@@ -11,6 +10,7 @@ use std::sync::atomic::{AtomicU64, Ordering};
 use std::thread;
 use std::thread::Threads;
 use std::time::Duration;
+use stores::MemoryStore;
 use units::{Code, Items, RawBlock};
 use wire::Input;
 

@@ -1,11 +1,11 @@
 use durable::SqlStore;
-use stores::{NodeStore, StoreFault};
 use sqlite::types::ValueRef;
 use sqlite::{Connection, Files, Options};
 use sqlite_disk::{Crash, Disk, Fuse, Memory};
 use std::alloc::Global;
 use std::fs;
 use std::process::Abort;
+use stores::{NodeStore, StoreFault};
 use units::{Code, Node};
 use wire::{Input, Number, decode_input, encode_input};
 

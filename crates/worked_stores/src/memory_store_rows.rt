@@ -1,6 +1,6 @@
-use stores::{Kept, MemoryStore, NodeStore, StoreFault};
 use std::alloc::Global;
 use std::process::Abort;
+use stores::{Kept, MemoryStore, NodeStore, StoreFault};
 use units::{Code, Node};
 use wire::{Input, Number};
 

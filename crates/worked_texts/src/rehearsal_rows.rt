@@ -1,10 +1,10 @@
 use crate::streams::Full;
-use stores::StoreFault;
 use operator::{Action, Cause, OpFault, UsageFault, parse_words, rehearse, store_fault};
 use std::alloc::{AllocError, Global};
 use std::io::{self, ErrorKind, Read, Write};
 use std::process::Abort;
 use std::test::Fail;
+use stores::StoreFault;
 use units::{Code, Node};
 
 const SCHEME: &str =

@@ -1,10 +1,10 @@
 use crate::streams::Full;
-use stores::{Kept, MemoryStore, NodeStore, StoreFault};
 use operator::{Cause, OpFault, node_of, read_scheme, show};
 use scheme::Scheme;
 use std::alloc::Global;
 use std::io::{self, ErrorKind, Read};
 use std::test::Fail;
+use stores::{Kept, MemoryStore, NodeStore, StoreFault};
 use units::{Code, Node};
 use wire::{Input, decode_input};
 

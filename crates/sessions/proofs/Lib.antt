@@ -1,0 +1,2 @@
+mod ToldOfMessages
+mod SentMessages

@@ -1,0 +1,5 @@
+use Rattle.std.proofs.Common.{◌≡◌}
+use Rattle.sessions.proofs.node_threads.commit_all.Given as goal
+
+abbrev pub invariant-loop : goal.invariant-loop
+invariant-loop g l = g.S.NodeStore.whose l.store ≡ g.S.NodeStore.whose l.fn.store

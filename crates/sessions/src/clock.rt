@@ -1,0 +1,51 @@
+//! The moment that it is.
+ghost use Rattle.std.specs.Prelude.{◌≡◌, ◌/◌, min};
+ghost use Rattle.std.specs.Prelude.{ℕ};
+ghost use Rattle.std.specs.Duration.{as_nanos};
+ghost use Rattle.units.specs.Limits.{last_moment};
+
+use status::Moment;
+use std::time::{Clock as SystemClock, Duration, SystemTime};
+use units::limits::LAST_MOMENT;
+
+/// What tells the moment.
+pub trait Clock {
+    /// The moment that it is.
+    fn now(&self) -> Moment;
+}
+
+/// The clock of a runtime.
+#[derive(Drop)]
+pub struct WallClock<R> {
+    system: R,
+}
+
+impl<R: SystemClock> WallClock<R> {
+    /// The clock of that runtime.
+    pub fn new(system: R) -> WallClock<R> {
+        WallClock { system }
+    }
+}
+
+/// The last moment that is no later than this long after the epoch.
+fn moment_after(since: Duration) -> Moment
+    ensures { result.seconds ≡ min (as_nanos since / 1_000_000_000) last_moment }
+{
+    Moment {
+        seconds: since.as_secs().min(LAST_MOMENT),
+    }
+}
+
+impl<R: SystemClock> Clock for WallClock<R> {
+    /// The whole seconds since the epoch that have passed, at most `LAST_MOMENT`. The least moment where the
+    /// runtime's clock can't be read.
+    fn now(&self) -> Moment {
+        let since = match SystemTime::now(&self.system) {
+            Ok(time) => time
+                .duration_since(SystemTime::UNIX_EPOCH)
+                .unwrap_or(Duration::ZERO),
+            Err(_) => Duration::ZERO,
+        };
+        moment_after(since)
+    }
+}

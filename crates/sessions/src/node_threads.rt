@@ -1,0 +1,306 @@
+//! The threads of a node, and those of several nodes.
+ghost use Rattle.std.specs.Prelude.{◌≡◌, ◌+◌, ℕ, length, vec_len, slice_get, IfOk, Ok, Some};
+ghost use Rattle.std.specs.Thread.{IsSync};
+
+use crate::clock::Clock;
+use crate::connections::{Dial, Listen};
+use crate::senders::send_all;
+use crate::session_threads::{serve_sessions, wake_sessions};
+use crate::workers::{Errand, work};
+use crossbeam_channel::{Receiver, Sender};
+use desk::{Bell, Desk, Gate, Seat};
+use protocol::NodeCore;
+use std::alloc::Global;
+use std::sync::Wait;
+use std::thread;
+use std::thread::Threads;
+use stores::{NodeStore, StoreFault};
+use units::{NoMemory, Node};
+
+/// How many threads of a node have its desk take jobs.
+pub const WORKERS: usize = 2;
+
+/// How many jobs wait at most.
+const MOST_JOBS: usize = 16;
+
+/// What the threads of a node share: its name, its desk, what accepts and makes its connections, the nodes that it
+/// sends to, its clock, and the gate that its workers pass.
+#[derive(Drop)]
+pub struct NodeParts<'a, C: NodeCore, B: Bell, L, D, K, G> {
+    pub node: Node,
+    pub desk: &'a Desk<C, B>,
+    pub listen: &'a L,
+    pub dial: &'a D,
+    pub peers: &'a [Node],
+    pub clock: &'a K,
+    pub gate: &'a G,
+}
+
+/// What a node's threads left: the seats of those that took something at its desk, its store, and the store's fault,
+/// if one stopped the node.
+#[derive(Drop)]
+pub struct NodeEnd<S> {
+    pub seats: Vec<Seat>,
+    pub store: S,
+    pub fault: Option<StoreFault>,
+}
+
+/// Commits the desk's records to the store until the desk stops, and returns the store's fault, if that stopped it.
+fn commit_all<C: NodeCore, B: Bell, S: NodeStore, R: Wait>(
+    rt: &R,
+    desk: &Desk<C, B>,
+    store: &mut S,
+) -> Option<StoreFault>
+    ensures { S.whose store.new ≡ S.whose store.old }
+{
+    for _ in rt.forever() {
+        // Read before the desk is looked at, so that no ring between the two is missed.
+        let rings = desk.bell().rings(rt);
+        match desk.commit_next(rt, store) {
+            Ok(0) => {
+                if !desk.is_running(rt) {
+                    return None;
+                }
+                desk.bell().wait(rt, rings);
+            }
+            Ok(_) => {}
+            Err(fault) => return Some(fault),
+        }
+    }
+    unreachable!()
+}
+
+/// Commits the desk's records until the desk stops, and then wakes the session threads.
+fn commit_and_wake<C: NodeCore, B: Bell, D: Dial, S: NodeStore, R: Wait>(
+    rt: &R,
+    desk: &Desk<C, B>,
+    dial: &D,
+    node: Node,
+    mut store: S,
+) -> (S, Option<StoreFault>)
+    ensures { S.whose result.0 ≡ S.whose store }
+{
+    let fault = commit_all(rt, desk, &mut store);
+    wake_sessions(dial, node);
+    (store, fault)
+}
+
+/// Works or sends with one seat, until the desk stops: the first `WORKERS` places are those of the job workers, and
+/// each place after these is that of a peer's sender.
+fn take_part<C, B, L, D, K, G, R>(
+    rt: &R,
+    alloc: Global,
+    parts: &NodeParts<'_, C, B, L, D, K, G>,
+    errands: &Receiver<Errand>,
+    place: usize,
+    seat: &mut Seat,
+)
+where
+    C: NodeCore,
+    B: Bell,
+    D: Dial,
+    K: Clock,
+    G: Gate,
+    R: Wait,
+{
+    if place < WORKERS {
+        work(rt, parts.desk, parts.clock, parts.gate, errands, seat);
+    } else if let Some(peer) = parts.peers.get(place - WORKERS) {
+        send_all(rt, alloc, parts.desk, parts.dial, *peer, seat);
+    }
+}
+
+/// Works and sends in a thread for each seat, until the desk stops.
+fn take_all<C, B, L, D, K, G, R>(
+    rt: &R,
+    alloc: Global,
+    parts: &NodeParts<'_, C, B, L, D, K, G>,
+    errands: &Receiver<Errand>,
+    seats: &mut [Seat],
+)
+where
+    C: NodeCore + Send,
+    B: Bell + Sync,
+    L: Sync,
+    D: Dial + Sync,
+    K: Clock + Sync,
+    G: Gate + Sync,
+    R: Threads + Wait + Sync,
+{
+    let threads = seats.len().max(1);
+    thread::for_each_mut(
+        rt,
+        seats,
+        threads,
+        &|place, seat| { take_part(rt, alloc, parts, errands, place, seat) },
+    );
+}
+
+/// The threads that take something at the desk, and those that serve sessions, whose end ends the job workers.
+fn serve_and_take<C, B, L, D, K, G, R>(
+    rt: &R,
+    alloc: Global,
+    parts: &NodeParts<'_, C, B, L, D, K, G>,
+    errands: Sender<Errand>,
+    handed: &Receiver<Errand>,
+    seats: &mut [Seat],
+)
+where
+    C: NodeCore + Send,
+    B: Bell + Sync,
+    L: Listen + Sync,
+    D: Dial + Sync,
+    K: Clock + Sync,
+    G: Gate + Sync,
+    R: Threads + Wait + Sync,
+{
+    thread::join(
+        rt,
+        move ||
+            requires { IsSync R.row }
+        { take_all(rt, alloc, parts, handed, seats) },
+        move ||
+            requires { IsSync R.row }
+        { serve_sessions(rt, alloc, parts.desk, parts.listen, errands) },
+    );
+}
+
+/// That many seats that were told nothing.
+fn new_seats(alloc: Global, count: usize) -> Result<Vec<Seat>, NoMemory>
+    ensures { IfOk result (λ seats. vec_len seats ≡ count) }
+{
+    let mut seats = Vec::new(alloc);
+    for made in 0..count {
+        seats.push(Seat::new(alloc))?;
+    }
+    Ok(seats)
+}
+
+/// All threads of a node, until the desk stops.
+fn run_threads<C, B, L, D, K, G, S, R>(
+    rt: &R,
+    alloc: Global,
+    parts: &NodeParts<'_, C, B, L, D, K, G>,
+    errands: Sender<Errand>,
+    handed: &Receiver<Errand>,
+    mut seats: Vec<Seat>,
+    store: S,
+) -> NodeEnd<S>
+where
+    C: NodeCore + Send,
+    B: Bell + Sync,
+    L: Listen + Sync,
+    D: Dial + Sync,
+    K: Clock + Sync,
+    G: Gate + Sync,
+    S: NodeStore + Send + Drop,
+    R: Threads + Wait + Sync,
+    ensures seats { vec_len result.seats ≡ vec_len seats }
+    ensures store { S.whose result.store ≡ S.whose store }
+{
+    let taking = seats.as_mut_slice();
+    let ((store, fault), ()) = thread::join(
+        rt,
+        move || commit_and_wake(rt, parts.desk, parts.dial, parts.node, store),
+        move ||
+            requires { IsSync R.row }
+        { serve_and_take(rt, alloc, parts, errands, handed, taking) },
+    );
+    NodeEnd {
+        seats,
+        store,
+        fault,
+    }
+}
+
+/// Runs a node's threads until its desk stops: one commits the desk's records to the store, `SESSION_THREADS` serve
+/// the connections that others make, `WORKERS` have the desk take their jobs, and one for each peer sends it the
+/// messages that are due. `MOST_JOBS` jobs wait at most. The node makes a connection with itself for each session thread once
+/// the desk has stopped, so that none is left waiting for one.
+///
+/// The desk stops when it is told to, where the store has a fault, and where 100 accepts in a row failed. Fails with
+/// `NoMemory` where memory ran out, and no thread was started.
+pub fn run_node<C, B, L, D, K, G, S, R>(
+    rt: &R,
+    alloc: Global,
+    parts: &NodeParts<'_, C, B, L, D, K, G>,
+    store: S,
+) -> Result<NodeEnd<S>, NoMemory>
+where
+    C: NodeCore + Send,
+    B: Bell + Sync,
+    L: Listen + Sync,
+    D: Dial + Sync,
+    K: Clock + Sync,
+    G: Gate + Sync,
+    S: NodeStore + Send + Drop,
+    R: Threads + Wait + Sync,
+    ensures seats { IfOk result (λ end. vec_len end.seats ≡ WORKERS + length parts.now.peers.now) }
+    ensures store { IfOk result (λ end. S.whose end.store ≡ S.whose store) }
+{
+    let seats = new_seats(alloc, WORKERS + parts.peers.len())?;
+    let (errands, handed) = crossbeam_channel::bounded(alloc, MOST_JOBS)?;
+    Ok(run_threads(rt, alloc, parts, errands, &handed, seats, store))
+}
+
+/// A node to run, and its store.
+#[derive(Drop)]
+pub struct NodeToRun<'a, C: NodeCore, B: Bell, L, D, K, G, S> {
+    pub parts: NodeParts<'a, C, B, L, D, K, G>,
+    pub store: S,
+}
+
+/// As `run_node`.
+fn run_one<C, B, L, D, K, G, S, R>(
+    rt: &R,
+    alloc: Global,
+    node: NodeToRun<'_, C, B, L, D, K, G, S>,
+) -> Result<NodeEnd<S>, NoMemory>
+where
+    C: NodeCore + Send,
+    B: Bell + Sync,
+    L: Listen + Sync,
+    D: Dial + Sync,
+    K: Clock + Sync,
+    G: Gate + Sync,
+    S: NodeStore + Send + Drop,
+    R: Threads + Wait + Sync,
+    ensures seats { IfOk result (λ end. vec_len end.seats ≡ WORKERS + length node.entry.parts.peers.now) }
+    ensures store { IfOk result (λ end. S.whose end.store ≡ S.whose node.entry.store) }
+{
+    let NodeToRun { parts, store } = node;
+    run_node(rt, alloc, &parts, store)
+}
+
+/// Runs several nodes, each as `run_node` does, until the desk of each has stopped, and returns their ends in the order
+/// of the nodes. What happens at one node stops no other one. Fails with `NoMemory` where memory ran out: then nothing
+/// is told of what the threads did.
+pub fn run_all<C, B, L, D, K, G, S, R>(
+    rt: &R,
+    alloc: Global,
+    nodes: Vec<NodeToRun<'_, C, B, L, D, K, G, S>>,
+) -> Result<Vec<Result<NodeEnd<S>, NoMemory>>, NoMemory>
+where
+    C: NodeCore + Send,
+    B: Bell + Sync,
+    L: Listen + Sync,
+    D: Dial + Sync,
+    K: Clock + Sync,
+    G: Gate + Sync,
+    S: NodeStore + Send + Drop,
+    R: Threads + Wait + Sync,
+    ensures count { IfOk result (λ ends. vec_len ends ≡ vec_len nodes.entry) }
+    ensures seats { IfOk result (λ ends. (k : ℕ) (node : _) (end : _) → slice_get nodes.entry.items k ≡ Some node → slice_get ends.items k ≡ Some (Ok end) → vec_len end.seats ≡ WORKERS + length node.parts.peers.now) }
+    ensures stores { IfOk result (λ ends. (k : ℕ) (node : _) (end : _) → slice_get nodes.entry.items k ≡ Some node → slice_get ends.items k ≡ Some (Ok end) → S.whose end.store ≡ S.whose node.store) }
+{
+    let ends = thread::map_vec(
+        rt,
+        nodes,
+        &|node: NodeToRun<'_, C, B, L, D, K, G, S>| -> Result<NodeEnd<S>, NoMemory>
+            requires { IsSync R.row }
+            ensures seats { IfOk result (λ end. vec_len end.seats ≡ WORKERS + length node.entry.parts.peers.now) }
+            ensures store { IfOk result (λ end. S.whose end.store ≡ S.whose node.entry.store) }
+        { run_one(rt, alloc, node) },
+    )?;
+    Ok(ends)
+}

@@ -1,0 +1,49 @@
+//! A thread that sends a node's messages to one peer.
+
+use crate::connections::Dial;
+use crate::sending::{Sent, send_next};
+use desk::{Bell, Desk, Seat};
+use protocol::NodeCore;
+use std::alloc::Global;
+use std::sync::Wait;
+use units::Node;
+
+/// Sends what is due to a peer: the message with the least key, and then those with higher keys, each once.
+fn send_round<C: NodeCore, B: Bell, D: Dial, R: Wait>(
+    rt: &R,
+    alloc: Global,
+    desk: &Desk<C, B>,
+    dial: &D,
+    peer: Node,
+    seat: &mut Seat,
+) {
+    let mut from: usize = 0;
+    for _ in rt.forever() {
+        match send_next(rt, alloc, desk, seat, dial, peer, from) {
+            Sent::Received(key) | Sent::NotReceived(key) => match key.checked_add(1) {
+                Some(next) => from = next,
+                None => break,
+            },
+            Sent::Nothing | Sent::NoMemory => break,
+        }
+    }
+}
+
+/// Sends what is due to a peer, and again whenever the bell has rung, until the desk stops.
+pub(crate) fn send_all<C: NodeCore, B: Bell, D: Dial, R: Wait>(
+    rt: &R,
+    alloc: Global,
+    desk: &Desk<C, B>,
+    dial: &D,
+    peer: Node,
+    seat: &mut Seat,
+) {
+    for _ in rt.forever() {
+        let rings = desk.bell().rings(rt);
+        if !desk.is_running(rt) {
+            break;
+        }
+        send_round(rt, alloc, desk, dial, peer, seat);
+        desk.bell().wait(rt, rings);
+    }
+}

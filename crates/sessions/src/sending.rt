@@ -1,0 +1,98 @@
+//! Messages on their way to other nodes.
+ghost use Rattle.sessions.specs.Sending.{Acknowledges, Sends, Tries};
+
+use crate::connections::Dial;
+use crate::delivery::{Delivered, Undelivered, deliver};
+use desk::{Bell, Desk, Seat};
+use exchanges::Exchange;
+use protocol::NodeCore;
+use std::alloc::Global;
+use std::sync::Wait;
+use units::Node;
+use wire::{Input, Message, Number};
+
+/// What became of the next message to a peer.
+#[derive(Clone, Copy, Debug, PartialEq, Eq)]
+pub enum Sent {
+    /// There is none.
+    Nothing,
+    /// The peer replied that it received the message with that key, and the desk took its acknowledgement.
+    Received(usize),
+    /// The message with that key goes unacknowledged: no connection could be made, the exchange ended in another way,
+    /// or the key has too many digits to be acknowledged.
+    NotReceived(usize),
+    /// Out of memory.
+    NoMemory,
+}
+
+/// Has the desk take the acknowledgement of the message with that key.
+fn take_acknowledgement<C: NodeCore, B: Bell, R: Wait>(
+    rt: &R,
+    desk: &Desk<C, B>,
+    seat: &mut Seat,
+    key: Number,
+)
+    ensures { Acknowledges seat.old seat.new key.value }
+{
+    let _taken = desk.take(rt, seat, Input::Ack(key));
+}
+
+/// Has the desk take the acknowledgement of a message that was delivered, where its key has few enough digits.
+fn acknowledge<C: NodeCore, B: Bell, R: Wait>(
+    rt: &R,
+    desk: &Desk<C, B>,
+    seat: &mut Seat,
+    delivered: &Delivered,
+) -> Sent
+    ensures { Tries seat.old seat.new delivered.now result }
+{
+    let key = delivered.key();
+    let Some(number) = Number::new(key as u64) else {
+        return Sent::NotReceived(key);
+    };
+    take_acknowledgement(rt, desk, seat, number);
+    Sent::Received(key)
+}
+
+/// Sends the message with that key over a connection of its own, and acknowledges it where it was delivered.
+fn send<C: NodeCore, B: Bell, D: Dial, R: Wait>(
+    rt: &R,
+    alloc: Global,
+    desk: &Desk<C, B>,
+    seat: &mut Seat,
+    dial: &D,
+    peer: Node,
+    key: usize,
+    message: &Message,
+) -> Sent
+    ensures { Tries seat.old seat.new key result }
+{
+    match deliver(alloc, dial, peer, key, message) {
+        Ok(delivered) => acknowledge(rt, desk, seat, &delivered),
+        Err(Undelivered::Ended(Exchange::NoMemory)) => Sent::NoMemory,
+        Err(_) => Sent::NotReceived(key),
+    }
+}
+
+/// Sends the next message to a peer: the one with the least key, from `from` on, that the committed records send and
+/// no record acknowledges. One exchange over a connection of its own; where the peer replies that the message was
+/// received, the desk takes its acknowledgement with the sender's seat, and else the seat is told nothing.
+pub fn send_next<C: NodeCore, B: Bell, D: Dial, R: Wait>(
+    rt: &R,
+    alloc: Global,
+    desk: &Desk<C, B>,
+    seat: &mut Seat,
+    dial: &D,
+    peer: Node,
+    from: usize,
+) -> Sent
+    ensures { Sends peer from seat.old seat.new result }
+{
+    let Ok(found) = desk.next_send(rt, peer, from) else {
+        return Sent::NoMemory;
+    };
+    match found {
+        Some((key, message)) => send(rt, alloc, desk, seat, dial, peer, key, &message),
+        None => Sent::Nothing,
+    }
+}

@@ -1,0 +1,122 @@
+//! Lines that session threads hand to job workers.
+ghost use Rattle.std.specs.Prelude.{◌≡◌, ◌⊎◌, [], IfOk};
+ghost use Rattle.units.specs.RefusalCodes.{not_a_message, out_of_memory};
+ghost use Rattle.sessions.specs.Answers.{IsRefusedBy};
+ghost use Rattle.sessions.specs.Lines.{IsNoLine};
+
+use crate::answer::{Answer, answer_job};
+use crate::clock::Clock;
+use crate::job::Job;
+use crossbeam_channel::{Receiver, Sender};
+use desk::{Bell, Desk, Gate, Seat};
+use exchanges::Answerer;
+use protocol::NodeCore;
+use std::alloc::Global;
+use std::sync::Wait;
+use units::NoMemory;
+use wire::Reply;
+
+/// A job for a worker, and where its answer goes.
+#[derive(Drop)]
+pub(crate) struct Errand {
+    job: Job,
+    back: Sender<Answer>,
+}
+
+/// Replies to the lines of one session by the workers, and keeps the answers.
+#[derive(Drop)]
+pub(crate) struct WorkersAnswerer<'a, R: Wait> {
+    rt: &'a R,
+    alloc: Global,
+    errands: &'a Sender<Errand>,
+    answers: Vec<Answer>,
+}
+
+impl<'a, R: Wait> WorkersAnswerer<'a, R> {
+    /// What replies by the workers that take these errands. It has no answers yet.
+    pub(crate) fn new(
+        rt: &'a R,
+        alloc: Global,
+        errands: &'a Sender<Errand>,
+    ) -> WorkersAnswerer<'a, R>
+        ensures { result.answers.items ≡ [] }
+    {
+        WorkersAnswerer {
+            rt,
+            alloc,
+            errands,
+            answers: Vec::new(alloc),
+        }
+    }
+}
+
+/// Hands a job to a worker, and waits for its answer. `None` where the workers are gone. Fails with `NoMemory` where
+/// memory ran out, and the job was handed to none.
+fn ask<R: Wait>(
+    rt: &R,
+    alloc: Global,
+    errands: &Sender<Errand>,
+    job: Job,
+) -> Result<Option<Answer>, NoMemory> {
+    let (back, answers) = crossbeam_channel::bounded(alloc, 1)?;
+    if errands.send(rt, Errand { job, back }).is_err() {
+        return Ok(None);
+    }
+    Ok(answers.recv(rt).ok())
+}
+
+/// The answer to a line, by a worker where the line writes a message. Where the workers are gone, the node has
+/// stopped. Fails with `NoMemory` where memory ran out, and the line was handed to no worker.
+fn answer_line<R: Wait>(
+    rt: &R,
+    alloc: Global,
+    errands: &Sender<Errand>,
+    line: &[u8],
+) -> Result<Answer, NoMemory>
+    ensures line { IfOk result (λ answer. answer.line ≡ line.now) }
+    ensures unread { IfOk result (λ answer. IsNoLine line.now → IsRefusedBy not_a_message answer.reply ⊎ IsRefusedBy out_of_memory answer.reply) }
+{
+    let job = match Job::read(alloc, line) {
+        Ok(job) => job,
+        Err(refusal) => return Answer::unread(alloc, line, refusal),
+    };
+    let copy = Vec::from_slice(alloc, line)?;
+    match ask(rt, alloc, errands, job)? {
+        // A worker's answer is to the job that it was handed.
+        Some(answer) if answer.line() == line => Ok(answer),
+        _ => Ok(Answer::stopped(copy)),
+    }
+}
+
+impl<'a, R: Wait> Answerer for WorkersAnswerer<'a, R> {
+    ghost use Rattle.sessions.specs.Answers.{given_of};
+
+    ghost given = { λ s. given_of s.answers.items };
+
+    fn answer(&mut self, line: &[u8]) -> Result<Reply, NoMemory> {
+        self.answers.reserve(1)?;
+        let answer = answer_line(self.rt, self.alloc, self.errands, line)?;
+        let reply = answer.reply();
+        self.answers.push_reserved(answer);
+        Ok(reply)
+    }
+}
+
+/// Has the desk take the jobs of errands with this seat, and hands their answers back, until no session is left.
+pub(crate) fn work<C: NodeCore, B: Bell, K: Clock, G: Gate, R: Wait>(
+    rt: &R,
+    desk: &Desk<C, B>,
+    clock: &K,
+    gate: &G,
+    errands: &Receiver<Errand>,
+    seat: &mut Seat,
+) {
+    for _ in rt.forever() {
+        let Ok(errand) = errands.recv(rt) else {
+            break;
+        };
+        let Errand { job, back } = errand;
+        let answer = answer_job(rt, desk, seat, clock, gate, job);
+        let _ = back.send(rt, answer);
+    }
+}

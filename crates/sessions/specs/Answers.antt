@@ -1,4 +1,4 @@
--- What a line is answered, and what a desk told for it.
+-- What is replied to a line, and what a desk told for it.
 use Rattle.std.specs.Prelude.{◌≡◌, ◌⊎◌, ℕ, Bool, true, false, max, List, [], ◌∷◌, ◌++◌, map, Option, Some, None, Result, Ok, Err}
 use Rattle.units.specs.RefusalCodes.{not_a_message, node_stopped, out_of_memory}
 use Rattle.units.specs.declared.memory.NoMemory.{NoMemory}

@@ -1,0 +1,124 @@
+use crate::streams::{Dripping, Full, Halting};
+use exchanges::{Counted, Exchange, exchange};
+use std::alloc::Global;
+use std::process::Abort;
+use wire::{Message, Reply, decode};
+
+const TEXT: &str =
+    r#"{"call":"AcceptNotification","codes":[],"from":"JP","status":"Accepted","to":"ITL","transaction":"NZ1"}"#;
+
+const RECEIVED: &[u8] = b"{\"code\":0,\"result\":\"received\"}\n";
+
+const NEVER: usize = usize::MAX;
+
+fn message(rt: &impl Abort, alloc: Global) -> Message {
+    decode(alloc, TEXT.as_bytes()).expect(rt, "memory")
+}
+
+/// What an exchange comes to where the peer gives these bytes.
+fn exchanged(rt: &impl Abort, alloc: Global, bytes: &'static [u8], fails_at: usize) -> Exchange {
+    let mut reader = Counted::new(Dripping { bytes, fails_at });
+    let mut written = Counted::new(Vec::new(alloc));
+    exchange(alloc, &mut reader, &mut written, &message(rt, alloc))
+}
+
+#[test]
+fn an_exchange_ends_as_its_peer_does(rt: HostRuntime) {
+    let alloc = rt.alloc();
+    let rows: [(&'static [u8], Exchange); 4] = [
+        (RECEIVED, Exchange::Answered(Reply::Received)),
+        (&RECEIVED[..10], Exchange::PeerEnded),
+        (b"{}\n", Exchange::BadReply),
+        (b"\n", Exchange::BadReply),
+    ];
+    for (bytes, expected) in rows {
+        assert_eq!(rt; exchanged(&rt, alloc, bytes, NEVER), expected);
+    }
+}
+
+#[test]
+fn a_reply_that_is_cut_is_no_reply(rt: HostRuntime) {
+    let alloc = rt.alloc();
+    for n in 0..RECEIVED.len() {
+        assert_eq!(rt;
+            exchanged(&rt, alloc, &RECEIVED[..n], NEVER),
+            Exchange::PeerEnded,
+            "{n}"
+        );
+        assert_eq!(rt;
+            exchanged(&rt, alloc, RECEIVED, n),
+            Exchange::ReadFault,
+            "{n}"
+        );
+    }
+}
+
+/// The message's text and its newline are written, and no more.
+#[test]
+fn the_whole_text_is_written(rt: HostRuntime) {
+    let alloc = rt.alloc();
+    let message = message(&rt, alloc);
+    for room in 0..104 {
+        let mut writer = Counted::new(Full { room });
+        let ended = exchange(alloc, &mut Counted::new(RECEIVED), &mut writer, &message);
+        assert_eq!(rt; ended, Exchange::WriteFault(room));
+        assert_eq!(rt; writer.failures(), 1);
+    }
+    for room in [104, 105] {
+        let mut writer = Counted::new(Full { room });
+        let ended = exchange(alloc, &mut Counted::new(RECEIVED), &mut writer, &message);
+        assert_eq!(rt; ended, Exchange::Answered(Reply::Received));
+        assert_eq!(rt; writer.failures(), 0);
+    }
+}
+
+/// A reply of that many bytes before its newline.
+fn long_reply(rt: &impl Abort, alloc: Global, bytes: usize) -> Vec<u8> {
+    let mut reply = Vec::new(alloc);
+    for _ in 0..bytes {
+        reply.push(b' ').expect(rt, "memory");
+    }
+    reply.push(b'\n').expect(rt, "memory");
+    reply
+}
+
+#[test]
+fn a_long_reply_is_a_bad_one(rt: HostRuntime) {
+    let alloc = rt.alloc();
+    let message = message(&rt, alloc);
+    let reply = long_reply(&rt, alloc, 8_193);
+    let mut reader = Counted::new(reply.as_slice());
+    let ended = exchange(
+        alloc,
+        &mut reader,
+        &mut Counted::new(Full { room: NEVER }),
+        &message,
+    );
+    assert_eq!(rt; ended, Exchange::BadReply);
+}
+
+/// What an exchange comes to over a writer that is interrupted that often.
+fn interrupted(rt: &impl Abort, alloc: Global, interruptions: u32) -> Exchange {
+    let halting = Halting {
+        interruptions,
+        taken: 0,
+    };
+    let (mut reader, mut writer) = (Counted::new(RECEIVED), Counted::new(halting));
+    exchange(alloc, &mut reader, &mut writer, &message(rt, alloc))
+}
+
+#[test]
+fn an_interrupted_call_is_made_again(rt: HostRuntime) {
+    let alloc = rt.alloc();
+    for (interruptions, expected) in [
+        (3, Exchange::Answered(Reply::Received)),
+        (19_999, Exchange::Answered(Reply::Received)),
+        (20_000, Exchange::WriteFault(0)),
+    ] {
+        assert_eq!(rt;
+            interrupted(&rt, alloc, interruptions),
+            expected,
+            "{interruptions}"
+        );
+    }
+}

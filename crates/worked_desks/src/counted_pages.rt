@@ -1,4 +1,4 @@
-use crate::nodes::{CLOSE, NzState, OPEN, input, nz, nz_core, nz_state};
+use crate::nodes::{NzState, nz, nz_core, nz_state, turn};
 use desk::State;
 use std::alloc::Global;
 use std::marker::Model;
@@ -75,21 +75,30 @@ fn counted(rt: &impl Abort, alloc: Global) -> Counted {
 fn state_of(rt: &impl Abort, alloc: Global, records: usize) -> NzState {
     let mut state = nz_state(rt, alloc);
     for place in 0..records {
-        let text = if place % 2 == 0 { CLOSE } else { OPEN };
-        let _taken = state.take(input(rt, alloc, text));
+        let _taken = state.take(turn(rt, alloc, place));
     }
     state
 }
 
-/// How many pages a store of that many records is asked for.
-fn pages_of(rt: &impl Abort, alloc: Global, records: usize) -> u32 {
+/// A store of that many records, appended at once.
+fn store_of(rt: &impl Abort, alloc: Global, records: usize) -> Counted {
     let mut state = state_of(rt, alloc, records);
     let mut store = counted(rt, alloc);
-    assert_eq!(rt; state.commit(&mut store, records), Ok(records));
-    let loaded = State::load_from(alloc, nz_core(rt, alloc), &mut store)
-        .ok()
-        .expect(rt, "a state");
-    assert_eq!(rt; loaded.committed().len(), records);
+    let committed = state.commit(&mut store, records);
+    assert_eq!(rt; committed.expect(rt, "no fault of the store"), records);
+    store
+}
+
+/// How many records a state that is read from the store has.
+fn records_read(rt: &impl Abort, alloc: Global, store: &mut Counted) -> usize {
+    let loaded = State::load_from(alloc, nz_core(rt, alloc), store);
+    loaded.ok().expect(rt, "a state").committed().len()
+}
+
+/// How many pages a store of that many records is asked for. It is asked for nothing else.
+fn pages_of(rt: &impl Abort, alloc: Global, records: usize) -> u32 {
+    let mut store = store_of(rt, alloc, records);
+    assert_eq!(rt; records_read(rt, alloc, &mut store), records);
     assert_eq!(rt; (store.appends, store.loads), (1, 0));
     store.pages
 }

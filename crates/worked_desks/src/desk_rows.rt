@@ -1,15 +1,16 @@
 use crate::nodes::{
-    NzDesk, NzState, TEN, TEN_MORE, input, nz, nz_core, nz_desk, nz_state, recorded, take_all,
+    NzDesk, NzState, TEN, TEN_MORE, commit, input, next_key, nz, nz_desk, nz_state, recorded,
+    take_all, turn,
 };
 use desk::{Life, Seat, Taken, Told, Unsettled, settle};
-use protocol::{NodeCore, Stepped};
+use protocol::Stepped;
 use status::{Status, TransactionId};
 use std::alloc::Global;
 use std::process::Abort;
 use std::sync::Wait;
 use stores::{MemoryStore, NodeStore};
+use units::Refusal;
 use units::refusal_code::NODE_STOPPED;
-use units::{Node, Refusal};
 
 const CANCELLED: &str =
     r#"{"input":"received","message":{"call":"AcceptNotification","codes":[],"from":"ITL","status":"Cancelled","to":"NZ","transaction":"JP1"},"moment":1335830400}"#;
@@ -20,46 +21,40 @@ const CHECKED: &str =
 /// Asserts the keys of the messages that are next for the log, from each of the keys 0 to 2 on.
 fn assert_next(rt: &(impl Wait + Abort), desk: &NzDesk, expected: [Option<usize>; 3]) {
     for from in 0..3 {
-        let found = desk.next_send(rt, Node::Itl, from).expect(rt, "memory");
-        assert_eq!(rt; found.map(|(key, _)| key), expected[from], "from {from}");
+        assert_eq!(rt; next_key(rt, desk, from), expected[from], "from {from}");
     }
 }
 
-/// Asserts that the desk tells of NZ1 that it stands Proposed, and that all records so far are committed.
-fn assert_proposed(rt: &(impl Wait + Abort), desk: &NzDesk, seat: &mut Seat, records: usize) {
-    let id = TransactionId::read("NZ1").expect(rt, "an identifier");
-    let taken = desk.query(rt, seat, id);
-    assert_eq!(rt; taken.told(), Told::Status(Some(Status::Proposed)));
-    assert_eq!(rt; taken.length(), records);
-    let _receipt = desk.confirm(rt, seat, taken).expect(rt, "a receipt");
-    assert_eq!(rt; seat.confirmed(), records);
+/// A desk that has taken a proposal from each of two seats.
+fn desk_of_two(rt: &(impl Wait + Abort), alloc: Global, a: &mut Seat, b: &mut Seat) -> NzDesk {
+    let desk = nz_desk(rt, alloc);
+    take_all(rt, alloc, &desk, a, &[(TEN, recorded(0))]);
+    take_all(rt, alloc, &desk, b, &[(TEN_MORE, recorded(1))]);
+    desk
 }
 
 #[test]
 fn messages_leave_after_their_commit(rt: HostRuntime) {
     let alloc = rt.alloc();
-    let desk = nz_desk(&rt, alloc);
-    let mut store = MemoryStore::new(alloc, nz(&rt));
     let (mut a, mut b) = (Seat::new(alloc), Seat::new(alloc));
-    let first = desk.take(&rt, &mut a, input(&rt, alloc, TEN));
-    let second = desk.take(&rt, &mut b, input(&rt, alloc, TEN_MORE));
-    assert_eq!(rt; (first.told(), second.told()), (recorded(0), recorded(1)));
+    let desk = desk_of_two(&rt, alloc, &mut a, &mut b);
     assert_next(&rt, &desk, [None, None, None]);
-    assert_eq!(rt; desk.commit_next(&rt, &mut store), Ok(2));
+    assert_eq!(rt; commit(&rt, alloc, &desk), 2);
     assert_next(&rt, &desk, [Some(0), Some(1), None]);
-    assert!(rt; desk.confirm(&rt, &mut a, first).is_ok());
-    assert!(rt; desk.confirm(&rt, &mut b, second).is_ok());
-    assert_proposed(&rt, &desk, &mut a, 2);
 }
 
-/// A desk that has taken and committed a proposal for each of two seats.
-fn desk_of_two(rt: &(impl Wait + Abort), alloc: Global, a: &mut Seat, b: &mut Seat) -> NzDesk {
-    let desk = nz_desk(rt, alloc);
-    take_all(rt, alloc, &desk, a, &[(TEN, recorded(0))]);
-    take_all(rt, alloc, &desk, b, &[(TEN_MORE, recorded(1))]);
-    let mut store = MemoryStore::new(alloc, nz(rt));
-    assert_eq!(rt; desk.commit_next(rt, &mut store), Ok(2));
-    desk
+#[test]
+fn a_query_is_confirmed(rt: HostRuntime) {
+    let alloc = rt.alloc();
+    let (mut a, mut b) = (Seat::new(alloc), Seat::new(alloc));
+    let desk = desk_of_two(&rt, alloc, &mut a, &mut b);
+    assert_eq!(rt; commit(&rt, alloc, &desk), 2);
+    let id = TransactionId::read("NZ1").expect(&rt, "an identifier");
+    let taken = desk.query(&rt, &mut a, id);
+    assert_eq!(rt; taken.told(), Told::Status(Some(Status::Proposed)));
+    assert_eq!(rt; taken.length(), 2);
+    assert!(rt; desk.confirm(&rt, &mut a, taken).is_ok());
+    assert_eq!(rt; a.confirmed(), 2);
 }
 
 /// What the first seat is told after that, up to the stop.
@@ -69,19 +64,24 @@ const TOLD: &[(&str, Told)] = &[
     (CHECKED, Told::Step(Stepped::Late)),
 ];
 
-const STOPPED: Told = Told::Refused(Refusal { code: NODE_STOPPED });
+/// Stops the desk, and asserts that it takes nothing and sends nothing then.
+fn assert_stops(rt: &(impl Wait + Abort), alloc: Global, desk: &NzDesk, seat: &mut Seat) {
+    assert!(rt; desk.is_running(rt));
+    desk.stop(rt);
+    assert!(rt; !desk.is_running(rt));
+    let stopped = Told::Refused(Refusal { code: NODE_STOPPED });
+    take_all(rt, alloc, desk, seat, &[(TEN, stopped)]);
+    assert_next(rt, desk, [None, None, None]);
+}
 
 #[test]
 fn a_stopped_desk_settles(rt: HostRuntime) {
     let alloc = rt.alloc();
     let (mut a, mut b) = (Seat::new(alloc), Seat::new(alloc));
     let desk = desk_of_two(&rt, alloc, &mut a, &mut b);
+    assert_eq!(rt; commit(&rt, alloc, &desk), 2);
     take_all(&rt, alloc, &desk, &mut a, TOLD);
-    assert!(rt; desk.is_running(&rt));
-    desk.stop(&rt);
-    assert!(rt; !desk.is_running(&rt));
-    take_all(&rt, alloc, &desk, &mut a, &[(TEN, STOPPED)]);
-    assert_next(&rt, &desk, [None, None, None]);
+    assert_stops(&rt, alloc, &desk, &mut a);
     let state = desk.end();
     let life = Life {
         opening: 0,
@@ -93,37 +93,86 @@ fn a_stopped_desk_settles(rt: HostRuntime) {
     assert_eq!(rt; settle(&state, &seats[..1]), Err(Unsettled::Missing(1)));
 }
 
-/// Gives what was taken back where there is no receipt of it.
-fn receive(state: &NzState, taken: Taken) -> Result<(), Taken> {
-    let receipt = state.receipt(taken)?;
-    let _taken = receipt.taken();
-    Ok(())
+/// Has the desk record that many inputs, by which an account is closed and opened in turn.
+fn record_many(rt: &(impl Wait + Abort), alloc: Global, desk: &NzDesk, records: usize) {
+    let mut seat = Seat::new(alloc);
+    for place in 0..records {
+        let _taken = desk.take(rt, &mut seat, turn(rt, alloc, place));
+    }
+}
+
+#[test]
+fn a_desk_commits_64_at_most(rt: HostRuntime) {
+    let alloc = rt.alloc();
+    let desk = nz_desk(&rt, alloc);
+    record_many(&rt, alloc, &desk, 65);
+    let mut store = MemoryStore::new(alloc, nz(&rt));
+    for records in [64, 1, 0] {
+        assert_eq!(rt; desk.commit_next(&rt, &mut store), Ok(records));
+    }
+}
+
+/// A state with two records.
+fn state_of_two(rt: &impl Abort, alloc: Global) -> NzState {
+    let mut state = nz_state(rt, alloc);
+    let _first = state.take(input(rt, alloc, TEN));
+    let _second = state.take(input(rt, alloc, TEN_MORE));
+    state
+}
+
+/// Has the state commit its next batch, and gives how many records it had.
+fn commit_batch(
+    rt: &impl Abort,
+    state: &mut NzState,
+    store: &mut MemoryStore,
+    max: usize,
+) -> usize {
+    let batch = state.batch(max).expect(rt, "memory").len();
+    let committed = state.commit(store, max).expect(rt, "no fault of the store");
+    assert_eq!(rt; committed, batch);
+    committed
+}
+
+/// How many records the store has.
+fn stored(rt: &impl Abort, store: &mut MemoryStore) -> usize {
+    store.load().expect(rt, "memory").len()
 }
 
 #[test]
 fn a_state_commits_in_batches(rt: HostRuntime) {
     let alloc = rt.alloc();
-    let mut state = nz_state(&rt, alloc);
+    let mut state = state_of_two(&rt, alloc);
+    assert_eq!(rt; state.batch(64).expect(&rt, "memory").len(), 2);
     let mut store = MemoryStore::new(alloc, nz(&rt));
+    assert_eq!(rt; commit_batch(&rt, &mut state, &mut store, 1), 1);
+    assert_eq!(rt; state.committed().len(), 1);
+    assert_eq!(rt; stored(&rt, &mut store), 1);
+    assert_eq!(rt; commit_batch(&rt, &mut state, &mut store, 64), 1);
+    assert_eq!(rt; stored(&rt, &mut store), 2);
+    assert_eq!(rt; commit_batch(&rt, &mut state, &mut store, 64), 0);
+}
+
+/// How many records the journal had when that was taken of which there is a receipt.
+fn received(rt: &impl Abort, state: &NzState, taken: Taken) -> usize {
+    let receipt = state.receipt(taken).ok().expect(rt, "a receipt");
+    receipt.taken().length()
+}
+
+/// Has the state commit one record.
+fn commit_one(rt: &impl Abort, alloc: Global, state: &mut NzState) {
+    let mut store = MemoryStore::new(alloc, nz(rt));
+    assert_eq!(rt; commit_batch(rt, state, &mut store, 1), 1);
+}
+
+#[test]
+fn what_is_committed_has_a_receipt(rt: HostRuntime) {
+    let alloc = rt.alloc();
+    let mut state = nz_state(&rt, alloc);
     let first = state.take(input(&rt, alloc, TEN));
     let second = state.take(input(&rt, alloc, TEN_MORE));
-    assert_eq!(rt; state.batch(64).expect(&rt, "memory").len(), 2);
-    assert_eq!(rt; state.batch(1).expect(&rt, "memory").len(), 1);
-    assert_eq!(rt; state.commit(&mut store, 1), Ok(1));
-    assert_eq!(rt;
-        (
-            state.committed().len(),
-            store.load().expect(&rt, "memory").len()
-        ),
-        (1, 1)
-    );
-    assert!(rt; receive(&state, first).is_ok());
-    let back = receive(&state, second);
-    assert_eq!(rt; state.commit(&mut store, 64), Ok(1));
-    assert_eq!(rt; state.commit(&mut store, 64), Ok(0));
-    assert!(rt; back.is_err_and(|taken| receive(&state, taken).is_ok()));
-    assert_eq!(rt;
-        nz_core(&rt, alloc).fresh().expect(&rt, "memory").records(),
-        0
-    );
+    commit_one(&rt, alloc, &mut state);
+    assert_eq!(rt; received(&rt, &state, first), 1);
+    let back = state.receipt(second).err().expect(&rt, "what was taken");
+    commit_one(&rt, alloc, &mut state);
+    assert_eq!(rt; received(&rt, &state, back), 2);
 }

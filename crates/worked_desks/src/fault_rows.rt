@@ -1,28 +1,37 @@
-use crate::nodes::{CLOSE, OPEN, TEN, TEN_MORE, input, nz, nz_core, nz_desk, recorded, take_all};
+use crate::nodes::{
+    CLOSE, NzDesk, OPEN, TEN, TEN_MORE, input, next_key, nz, nz_core, nz_desk, recorded, take_all,
+};
 use desk::{Life, Seat, State, Told, settle};
 use std::alloc::Global;
 use std::process::Abort;
 use std::sync::Wait;
 use stores::{Kept, MemoryStore, NodeStore, StoreFault};
+use units::Refusal;
 use units::refusal_code::NODE_STOPPED;
-use units::{Node, Refusal};
 
 const STOPPED: Told = Told::Refused(Refusal { code: NODE_STOPPED });
 
-/// Has a desk fail at its first commit, which keeps all of the batch or nothing, and gives the store, opened again.
-fn failed_store(rt: &(impl Wait + Abort), alloc: Global, keeps: Kept) -> MemoryStore {
+/// A desk's commit to the store fails, and it has stopped then.
+fn assert_stops(
+    rt: &(impl Wait + Abort),
+    alloc: Global,
+    desk: &NzDesk,
+    seat: &mut Seat,
+    store: &mut MemoryStore,
+) {
+    assert_eq!(rt; desk.commit_next(rt, store), Err(StoreFault::Device));
+    assert_eq!(rt; desk.commit_next(rt, store), Ok(0));
+    take_all(rt, alloc, desk, seat, &[(CLOSE, STOPPED)]);
+    assert_eq!(rt; next_key(rt, desk, 0), None);
+}
+
+/// Has a desk fail at its first commit, and settles what its seat was told.
+fn fail(rt: &(impl Wait + Abort), alloc: Global, store: &mut MemoryStore) {
     let desk = nz_desk(rt, alloc);
-    let mut store = MemoryStore::fused(alloc, nz(rt), 0, keeps);
     let mut seat = Seat::new(alloc);
     take_all(rt, alloc, &desk, &mut seat, &[(TEN, recorded(0))]);
     let taken = desk.take(rt, &mut seat, input(rt, alloc, TEN_MORE));
-    assert_eq!(rt; desk.commit_next(rt, &mut store), Err(StoreFault::Device));
-    assert_eq!(rt; desk.commit_next(rt, &mut store), Ok(0));
-    take_all(rt, alloc, &desk, &mut seat, &[(CLOSE, STOPPED)]);
-    assert!(rt;
-        desk.next_send(rt, Node::Itl, 0)
-            .is_ok_and(|next| next.is_none())
-    );
+    assert_stops(rt, alloc, &desk, &mut seat, store);
     assert!(rt; desk.confirm(rt, &mut seat, taken).is_err());
     let life = Life {
         opening: 0,
@@ -30,6 +39,12 @@ fn failed_store(rt: &(impl Wait + Abort), alloc: Global, keeps: Kept) -> MemoryS
         committed: 0,
     };
     assert_eq!(rt; settle(&desk.end(), &[seat]), Ok(life));
+}
+
+/// The store after a desk's first commit to it failed, of which it keeps all or nothing, opened again.
+fn failed_store(rt: &(impl Wait + Abort), alloc: Global, keeps: Kept) -> MemoryStore {
+    let mut store = MemoryStore::fused(alloc, nz(rt), 0, keeps);
+    fail(rt, alloc, &mut store);
     assert_eq!(rt; store.reopen(), Ok(()));
     store
 }
@@ -49,12 +64,17 @@ fn a_failed_commit_stops_the_node(rt: HostRuntime) {
     }
 }
 
+/// Puts a record after the others.
+fn append(rt: &impl Abort, alloc: Global, store: &mut MemoryStore, text: &str) {
+    assert_eq!(rt; store.append(&[input(rt, alloc, text)]), Ok(()));
+}
+
 #[test]
 fn a_record_that_is_not_recorded_is_damage(rt: HostRuntime) {
     let alloc = rt.alloc();
     let mut store = MemoryStore::new(alloc, nz(&rt));
     for text in [CLOSE, OPEN, OPEN] {
-        assert_eq!(rt; store.append(&[input(&rt, alloc, text)]), Ok(()));
+        append(&rt, alloc, &mut store, text);
     }
     let loaded = State::load_from(alloc, nz_core(&rt, alloc), &mut store);
     assert_eq!(rt; loaded.err(), Some(StoreFault::Damaged(2)));

@@ -9,6 +9,7 @@ use scheme::Scheme;
 use std::alloc::Global;
 use std::process::Abort;
 use std::sync::Wait;
+use stores::MemoryStore;
 use units::{Code, Node};
 use wire::{Input, decode_input};
 
@@ -55,6 +56,12 @@ pub fn input(rt: &impl Abort, alloc: Global, text: &str) -> Input {
     decode_input(alloc, text.as_bytes()).expect(rt, "an input")
 }
 
+/// The input at that place where an account is closed and opened in turn.
+pub fn turn(rt: &impl Abort, alloc: Global, place: usize) -> Input {
+    let text = if place % 2 == 0 { CLOSE } else { OPEN };
+    input(rt, alloc, text)
+}
+
 /// Has the desk take each input, and asserts what it tells.
 pub fn take_all(
     rt: &(impl Wait + Abort),
@@ -72,4 +79,19 @@ pub fn take_all(
 /// What is told of an input that is recorded at that place.
 pub fn recorded(place: usize) -> Told {
     Told::Step(Stepped::Recorded(place))
+}
+
+/// The key of the message that is next for the log, from that key on.
+pub fn next_key(rt: &(impl Wait + Abort), desk: &NzDesk, from: usize) -> Option<usize> {
+    match desk.next_send(rt, Node::Itl, from).expect(rt, "memory") {
+        Some((key, _)) => Some(key),
+        None => None,
+    }
+}
+
+/// Has the desk commit to a new store.
+pub fn commit(rt: &(impl Wait + Abort), alloc: Global, desk: &NzDesk) -> usize {
+    let mut store = MemoryStore::new(alloc, nz(rt));
+    desk.commit_next(rt, &mut store)
+        .expect(rt, "no fault of the store")
 }

@@ -1,14 +1,14 @@
 use crate::nodes::{
-    CLOSE, NzDesk, NzState, TEN, TEN_MORE, input, nz, nz_desk, nz_state, recorded, take_all,
+    CLOSE, NzDesk, TEN, TEN_MORE, commit, input, nz_desk, nz_state, recorded, take_all,
 };
 use desk::{Lengths, Life, Seat, Told, Unsettled, settle};
+use protocol::Stepped;
 use status::TransactionId;
 use std::alloc::Global;
 use std::process::Abort;
 use std::sync::Wait;
-use stores::MemoryStore;
 
-/// Has the desk tell where NZ1 stands.
+/// Has the desk tell where NZ1 stands. Gives the length of its journal.
 fn query(rt: &(impl Wait + Abort), desk: &NzDesk, seat: &mut Seat) -> usize {
     let id = TransactionId::read("NZ1").expect(rt, "an identifier");
     let taken = desk.query(rt, seat, id);
@@ -44,56 +44,62 @@ fn what_another_desk_told_is_found(rt: HostRuntime) {
     assert_eq!(rt; settle(&state, &[other]), Err(Unsettled::Untrue(3)));
 }
 
-/// Whether a desk's records are committed and confirmed.
-#[derive(Clone, Copy, Debug, PartialEq, Eq)]
-enum Confirmed {
-    Yes,
-    No,
-}
-
-/// A state that recorded that input for one seat.
-fn state_of_one(
-    rt: &(impl Wait + Abort),
-    alloc: Global,
-    text: &str,
-    confirmed: Confirmed,
-) -> (NzState, Seat) {
+/// A seat that was told by a desk of its own that NZ's first proposal is recorded.
+fn told_seat(rt: &(impl Wait + Abort), alloc: Global) -> Seat {
     let desk = nz_desk(rt, alloc);
     let mut seat = Seat::new(alloc);
-    let taken = desk.take(rt, &mut seat, input(rt, alloc, text));
-    if confirmed == Confirmed::Yes {
-        let mut store = MemoryStore::new(alloc, nz(rt));
-        assert_eq!(rt; desk.commit_next(rt, &mut store), Ok(1));
-        assert!(rt; desk.confirm(rt, &mut seat, taken).is_ok());
-    }
-    (desk.end(), seat)
+    take_all(rt, alloc, &desk, &mut seat, &[(TEN, recorded(0))]);
+    seat
+}
+
+/// The same, and that it is committed.
+fn confirmed_seat(rt: &(impl Wait + Abort), alloc: Global) -> Seat {
+    let desk = nz_desk(rt, alloc);
+    let mut seat = Seat::new(alloc);
+    let taken = desk.take(rt, &mut seat, input(rt, alloc, TEN));
+    assert_eq!(rt; commit(rt, alloc, &desk), 1);
+    assert!(rt; desk.confirm(rt, &mut seat, taken).is_ok());
+    seat
+}
+
+/// What is found where a state has that one record, and those are the seats.
+fn settled(rt: &impl Abort, alloc: Global, text: &str, seats: &[Seat]) -> Result<Life, Unsettled> {
+    let mut state = nz_state(rt, alloc);
+    let _taken = state.take(input(rt, alloc, text));
+    settle(&state, seats)
 }
 
 #[test]
 fn seats_of_other_desks_are_found(rt: HostRuntime) {
     let alloc = rt.alloc();
-    let (closed, _) = state_of_one(&rt, alloc, CLOSE, Confirmed::No);
-    let (proposed, second) = state_of_one(&rt, alloc, TEN, Confirmed::No);
-    let (_, third) = state_of_one(&rt, alloc, TEN, Confirmed::Yes);
-    let seats = [second, third];
-    assert_eq!(rt; settle(&closed, &seats[..1]), Err(Unsettled::Differs(0)));
+    let told = [told_seat(&rt, alloc)];
     assert_eq!(rt;
-        settle(&proposed, &seats[1..]),
+        settled(&rt, alloc, CLOSE, &told),
+        Err(Unsettled::Differs(0))
+    );
+    let confirmed = [confirmed_seat(&rt, alloc)];
+    assert_eq!(rt;
+        settled(&rt, alloc, TEN, &confirmed),
         Err(Unsettled::NotCommitted(1))
     );
-    assert_eq!(rt; settle(&proposed, &seats), Err(Unsettled::Twice(0)));
+    let both = [told_seat(&rt, alloc), confirmed_seat(&rt, alloc)];
+    assert_eq!(rt; settled(&rt, alloc, TEN, &both), Err(Unsettled::Twice(0)));
 }
+
+/// Two records that were told.
+const TWO: &[(&str, Told)] = &[
+    (TEN, Told::Step(Stepped::Recorded(0))),
+    (TEN_MORE, Told::Step(Stepped::Recorded(1))),
+];
 
 #[test]
 fn an_unconfirmed_tail_settles(rt: HostRuntime) {
     let alloc = rt.alloc();
     let desk = nz_desk(&rt, alloc);
     let mut seat = Seat::new(alloc);
-    let row = [(TEN, recorded(0)), (TEN_MORE, recorded(1))];
-    take_all(&rt, alloc, &desk, &mut seat, &row);
+    take_all(&rt, alloc, &desk, &mut seat, TWO);
     desk.stop(&rt);
-    let mut store = MemoryStore::new(alloc, nz(&rt));
-    assert_eq!(rt; desk.commit_next(&rt, &mut store), Ok(0));
+    assert_eq!(rt; commit(&rt, alloc, &desk), 0);
     let life = Life {
         opening: 0,
         records: 2,
@@ -101,6 +107,4 @@ fn an_unconfirmed_tail_settles(rt: HostRuntime) {
     };
     assert_eq!(rt; seat.tickets().len(), 2);
     assert_eq!(rt; settle(&desk.end(), &[seat]), Ok(life));
-    let none = nz_state(&rt, alloc);
-    assert_eq!(rt; settle(&none, &[]).is_ok(), true);
 }

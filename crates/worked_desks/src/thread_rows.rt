@@ -4,6 +4,7 @@ use protocol::Stepped;
 use registry_core::RegistryCore;
 use status::{Order, Status, TransactionId};
 use std::alloc::Global;
+use std::process::Abort;
 use std::rt::Clock;
 use std::sync::Wait;
 use std::sync::atomic::{AtomicU64, Ordering};
@@ -112,21 +113,32 @@ fn confirm_and_commit<R: Threads + Wait + Clock + Sync>(
     )
 }
 
+/// Has one thread confirm what was taken, and another commit. Asserts that the first waits for the second.
+fn answer_waits<R: Threads + Wait + Clock + Abort + Sync>(
+    rt: &R,
+    alloc: Global,
+    desk: &WatchedDesk,
+    seat: &mut Seat,
+    taken: Taken,
+    waits: u64,
+) {
+    let mut store = MemoryStore::new(alloc, nz(rt));
+    let both = confirm_and_commit(rt, desk, seat, &mut store, taken, waits);
+    assert_eq!(rt; both, (true, Seen::Awaited));
+}
+
 #[test]
 fn a_receipt_waits_for_the_commit(rt: HostRuntime) {
     let alloc = rt.alloc();
     let desk = watched(nz_state(&rt, alloc));
-    let mut store = MemoryStore::new(alloc, nz(&rt));
     let mut seat = Seat::new(alloc);
     let taken = desk.take(&rt, &mut seat, input(&rt, alloc, TEN));
-    let both = confirm_and_commit(&rt, &desk, &mut seat, &mut store, taken, 1);
-    assert_eq!(rt; both, (true, Seen::Awaited));
+    answer_waits(&rt, alloc, &desk, &mut seat, taken, 1);
     let _recorded = desk.take(&rt, &mut seat, input(&rt, alloc, TEN_MORE));
     let id = TransactionId::read("NZ1").expect(&rt, "an identifier");
     let asked = desk.query(&rt, &mut seat, id);
     assert_eq!(rt; asked.told(), Told::Status(Some(Status::Proposed)));
-    let both = confirm_and_commit(&rt, &desk, &mut seat, &mut store, asked, 2);
-    assert_eq!(rt; both, (true, Seen::Awaited));
+    answer_waits(&rt, alloc, &desk, &mut seat, asked, 2);
     assert_eq!(rt; seat.confirmed(), 2);
 }
 

@@ -363,6 +363,7 @@ enum Outcome {
     Rehearse,
     Chart,
     Show,
+    Audit,
     Help,
     Usage,
     NoMemory,
@@ -373,6 +374,7 @@ fn outcome_of(alloc: Global, words: &[&str]) -> Outcome {
         Ok(Action::Rehearse) => Outcome::Rehearse,
         Ok(Action::Chart) => Outcome::Chart,
         Ok(Action::Show { .. }) => Outcome::Show,
+        Ok(Action::Audit { .. }) => Outcome::Audit,
         Err(UsageFault::Help(_)) => Outcome::Help,
         Err(UsageFault::Usage(_)) => Outcome::Usage,
         Err(UsageFault::NoMemory) => Outcome::NoMemory,
@@ -381,7 +383,7 @@ fn outcome_of(alloc: Global, words: &[&str]) -> Outcome {
 
 #[test]
 fn command_words(rt: HostRuntime) {
-    let cases: [(&[&str], Outcome); 16] = [
+    let cases: [(&[&str], Outcome); 18] = [
         (&["kyoto-link", "rehearse"], Outcome::Rehearse),
         (&["kyoto-link", "chart"], Outcome::Chart),
         (&["kyoto-link", "--help"], Outcome::Help),
@@ -389,6 +391,8 @@ fn command_words(rt: HostRuntime) {
         (&["kyoto-link", "help"], Outcome::Help),
         (&["kyoto-link", "run"], Outcome::Usage),
         (&["kyoto-link", "audit"], Outcome::Usage),
+        (&["kyoto-link", "audit", "s.json"], Outcome::Usage),
+        (&["kyoto-link", "audit", "s.json", "d"], Outcome::Audit),
         (&["kyoto-link", "show"], Outcome::Usage),
         (&["kyoto-link", "REHEARSE"], Outcome::Usage),
         (&["kyoto-link", "--all"], Outcome::Usage),

@@ -1,6 +1,6 @@
 use crate::journals::{
-    ACCEPTED, ASKED, CHECKED, COMPLETED, PROPOSED, TOLD_JP, TOLD_NZ, assert_fault, assert_table,
-    registry,
+    ACCEPTED, ASKED, CHECKED, COMPLETED, NONE, PROPOSED, TOLD_JP, TOLD_NZ, assert_fault,
+    assert_table, registry,
 };
 use operator::OpFault;
 use stores::StoreFault;
@@ -50,7 +50,7 @@ fn in_transit(rt: HostRuntime) {
 
 #[test]
 fn empty_stores(rt: HostRuntime) {
-    assert_table(&rt, rt.alloc(), [&[], &[], &[]], OPENING);
+    assert_table(&rt, rt.alloc(), [NONE, NONE, NONE], OPENING);
 }
 
 #[test]
@@ -59,7 +59,7 @@ fn a_store_is_empty(rt: HostRuntime) {
     assert_fault(
         &rt,
         rt.alloc(),
-        [LOG, JP, &[]],
+        [LOG, JP, NONE],
         OpFault::Stuck { node, place: 0 },
     );
 }

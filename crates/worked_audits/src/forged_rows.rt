@@ -1,4 +1,4 @@
-use crate::journals::{ACCEPTED, ASKED, CHECKED, PROPOSED, TOLD_JP, assert_fault, registry};
+use crate::journals::{ACCEPTED, ASKED, CHECKED, NONE, PROPOSED, TOLD_JP, assert_fault, registry};
 use operator::OpFault;
 use units::Node;
 
@@ -9,12 +9,8 @@ const FEWER: &str =
 #[test]
 fn another_proposal_came_to_the_log(rt: HostRuntime) {
     let node = Node::Itl;
-    assert_fault(
-        &rt,
-        rt.alloc(),
-        [&[FEWER], &[], &[PROPOSED]],
-        OpFault::Stuck { node, place: 0 },
-    );
+    let journals: [&[&str]; 3] = [&[FEWER], NONE, &[PROPOSED]];
+    assert_fault(&rt, rt.alloc(), journals, OpFault::Stuck { node, place: 0 });
 }
 
 #[test]

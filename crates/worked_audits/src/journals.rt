@@ -43,6 +43,9 @@ pub const COMPLETED: &str =
 pub const TOLD_JP: &str =
     r#"{"input":"received","message":{"call":"AcceptNotification","codes":[],"from":"ITL","status":"Completed","to":"JP","transaction":"NZ1"},"moment":1335830400}"#;
 
+/// No records.
+pub const NONE: &[&str] = &[];
+
 /// Records of the log, of JP and of NZ.
 pub type Journals<'a> = [&'a [&'a str]; 3];
 

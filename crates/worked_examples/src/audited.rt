@@ -7,6 +7,7 @@ use audit::audit;
 use event_lines::event_of;
 use scheme::Scheme;
 use std::alloc::Global;
+use std::str;
 use stores::{MemoryStore, NodeStore};
 use units::Node;
 use world::World;
@@ -56,14 +57,10 @@ fn world_of(alloc: Global, scheme: &Scheme, lines: &str) -> Option<World> {
     Some(world)
 }
 
-/// What comes after as many lines of the text as the other one has.
-fn after_lines<'a>(text: &'a str, lines: &str) -> Option<&'a str> {
-    let mut rest = text;
-    for _ in lines.lines() {
-        let (_, after) = rest.split_once('\n')?;
-        rest = after;
-    }
-    Some(rest)
+/// Whether the output is a line for each of the events, and then the table.
+fn is_table(output: &str, events: &str, table: &str) -> bool {
+    let all = events.lines().count().checked_add(table.lines().count());
+    output.ends_with(table) && all == Some(output.lines().count())
 }
 
 fn audit_of(alloc: Global, input: &str, output: &str) -> Option<Audited> {
@@ -73,8 +70,8 @@ fn audit_of(alloc: Global, input: &str, output: &str) -> Option<Audited> {
     let mut stores = stores_of(alloc, &scheme, &world)?;
     let mut written = Vec::new(alloc);
     let done = audit(alloc, &scheme, stores.as_mut_slice(), &mut written);
-    let table = after_lines(output, lines)?;
-    if done.is_ok() && written.as_slice() == table.as_bytes() {
+    let table = str::from_utf8(written.as_slice()).ok()?;
+    if done.is_ok() && is_table(output, lines, table) {
         Some(Audited::Same)
     } else {
         Some(Audited::Otherwise)
@@ -82,9 +79,9 @@ fn audit_of(alloc: Global, input: &str, output: &str) -> Option<Audited> {
 }
 
 /// What an audit of the journals comes to that the events of the input lead to, where `rehearse` wrote that output.
-pub fn audited(alloc: Global, input: &str, output: &str) -> Audited {
+pub fn audit_journals(alloc: Global, input: &str, output: &str) -> Audited {
     match audit_of(alloc, input, output) {
-        Some(audited) => audited,
+        Some(outcome) => outcome,
         None => Audited::Nothing,
     }
 }

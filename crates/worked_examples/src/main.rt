@@ -9,7 +9,7 @@
 
 mod audited;
 
-use crate::audited::{Audited, audited};
+use crate::audited::{Audited, audit_journals};
 use operator::{OpFault, UsageFault, chart, parse_words, rehearse};
 use std::io::{self, ErrorKind, Read};
 use std::{env, fs, str};
@@ -55,7 +55,9 @@ fn is_audited(rt: &HostRuntime, folder: &str, input: &[u8]) -> io::Result<bool> 
         Err(error) => return Err(error),
     };
     match (str::from_utf8(input), str::from_utf8(output.as_slice())) {
-        (Ok(input), Ok(output)) => Ok(audited(rt.alloc(), input, output) != Audited::Otherwise),
+        (Ok(input), Ok(output)) => Ok(
+            audit_journals(rt.alloc(), input, output) != Audited::Otherwise,
+        ),
         _ => Ok(false),
     }
 }

@@ -1,0 +1,143 @@
+#!/usr/bin/env python3
+"""How long `kyoto-link audit` takes over stores with many records, and how much memory.
+
+The stores have the journals of whole transfers between 2 and between 32 registries, in three sizes, written by SQLite's
+library; the table that `audit` writes shows that each transfer is Completed. Printed are the best times in seconds with the
+ratio of each doubling, the greatest peak of memory as a multiple of the bytes of the records' texts, and, for the largest
+size, the time as a multiple of what SQLite's library takes to find the valid JSON texts in the same files. The exit status is
+1 where a limit is passed; those of memory and of SQLite are for the largest size.
+"""
+
+import argparse
+import pathlib
+import sqlite3
+import subprocess
+import sys
+import tempfile
+import time
+
+from rehearse import LAUNCHER, PROGRAM, codes_of, run, scheme
+
+MOST_RATIO = 2.3
+MOST_TIMES_SQLITE = 10.0
+MOST_TIMES_BYTES = 20.0
+# Records of a whole transfer, at its three nodes.
+RECORDS_EACH = 7
+MOMENT = 1335830400
+TABLES = (
+    "CREATE TABLE about (id INTEGER PRIMARY KEY CHECK (id = 1), format INTEGER NOT NULL, node TEXT NOT NULL) STRICT",
+    "CREATE TABLE entries (place INTEGER PRIMARY KEY, body TEXT NOT NULL) STRICT",
+)
+VALID = "SELECT count(*) FROM entries WHERE json_valid(body)"
+
+
+def received(message):
+    return f'{{"input":"received","message":{{{message}}},"moment":{MOMENT}}}'
+
+
+def notification(source, status, to, name):
+    return received(f'"call":"AcceptNotification","codes":[],"from":"{source}","status":"{status}","to":"{to}","transaction":"{name}"')
+
+
+def proposal(source, status, to, acquirer, name, units):
+    return received(
+        f'"account":1,"call":"AcceptProposal","from":"{source}","status":"{status}","to":"{to}","to_account":1,'
+        f'"to_registry":"{acquirer}","transaction":"{name}","units":["{units}"]'
+    )
+
+
+def journals(codes, count):
+    """The records of each node: each registry in turn gives a unit to the next one."""
+    records = {node: [] for node in ["ITL", *codes]}
+    for number in range(count):
+        initiator, acquirer = codes[number % len(codes)], codes[(number + 1) % len(codes)]
+        turn = number // len(codes) + 1
+        name, units = f"{initiator}{turn}", f"{initiator}:1:{turn}-{turn}:AAU"
+        records[initiator].append(f'{{"account":1,"input":"propose","to_account":1,"to_registry":"{acquirer}","units":["{units}"]}}')
+        records["ITL"].append(proposal(initiator, "Proposed", "ITL", acquirer, name, units))
+        records[acquirer].append(proposal("ITL", "Checked", acquirer, acquirer, name, units))
+        records["ITL"].append(notification(acquirer, "Accepted", "ITL", name))
+        records[initiator].append(notification("ITL", "Accepted", initiator, name))
+        records["ITL"].append(notification(initiator, "Completed", "ITL", name))
+        records[acquirer].append(notification("ITL", "Completed", acquirer, name))
+    return records
+
+
+def write_stores(folder, codes, count):
+    """Makes a store for each node, and returns the bytes of all records."""
+    length = 0
+    for node, texts in journals(codes, count).items():
+        store = sqlite3.connect(folder / f"{node}.db")
+        for table in TABLES:
+            store.execute(table)
+        store.execute("INSERT INTO about VALUES (1, 1, ?1)", (node,))
+        store.executemany("INSERT INTO entries VALUES (?1, ?2)", enumerate(texts))
+        store.commit()
+        store.close()
+        length += sum(len(text) for text in texts)
+    return length
+
+
+def sqlite_time(folder):
+    """The seconds that SQLite's library takes to find the valid texts of all stores."""
+    start = time.perf_counter()
+    for path in sorted(folder.glob("*.db")):
+        store = sqlite3.connect(path)
+        store.execute(VALID).fetchone()
+        store.close()
+    return time.perf_counter() - start
+
+
+def check_table(path, name, count):
+    lines = path.read_text(encoding="utf-8").splitlines()
+    done = sum(1 for line in lines if line.startswith("transaction ") and line.count("Completed") == 3)
+    if done != count or "owed 0" not in lines or lines[-1] != "end":
+        sys.exit(f"{name}: {done} of {count} transfers are completed in the table")
+
+
+def measure(name, codes, largest, runs, room):
+    """Prints a line for each size, and returns whether it keeps the limits."""
+    kept, before = True, None
+    for size in (largest // 4, largest // 2, largest):
+        with tempfile.TemporaryDirectory(dir=room) as place:
+            folder, given, taken = pathlib.Path(place) / "stores", pathlib.Path(place) / "scheme", pathlib.Path(place) / "output"
+            folder.mkdir()
+            given.write_text(scheme(codes, size // len(codes) + 1) + "\n", encoding="utf-8")
+            length = write_stores(folder, codes, size)
+            words = [PROGRAM, "audit", given, folder]
+            run(words, given, taken)
+            check_table(taken, name, size)
+            measured = [run(words, given, taken) for _ in range(runs)]
+            best = min(spent for spent, _ in measured)
+            memory = max(peak for _, peak in measured) / length
+            text = f"{name:<16} {RECORDS_EACH * size:>9,} records  {length:>11,} bytes  {best:8.3f} s  memory {memory:5.1f}"
+            if before is not None:
+                ratio = best / before
+                kept = kept and ratio <= MOST_RATIO
+                text += f"  ratio {ratio:.2f}"
+            if size == largest:
+                beside = min(sqlite_time(folder) for _ in range(runs))
+                kept = kept and best <= MOST_TIMES_SQLITE * beside and memory <= MOST_TIMES_BYTES
+                text += f"  {best / beside:.1f} times SQLite"
+            print(text, flush=True)
+            before = best
+    return kept
+
+
+def main():
+    parser = argparse.ArgumentParser(description=__doc__.splitlines()[0])
+    parser.add_argument("--runs", type=int, default=3, help="runs of each; the best one counts")
+    parser.add_argument("--records", type=int, default=1_000_000, help="records of all stores in the largest size")
+    words = parser.parse_args()
+    subprocess.run([LAUNCHER, "help"], stdout=subprocess.DEVNULL, check=True)
+    largest = max(4, words.records // RECORDS_EACH)
+    kept = True
+    with tempfile.TemporaryDirectory() as room:
+        for registries in (2, 32):
+            kept = measure(f"{registries} registries", codes_of(registries), largest, max(1, words.runs), room) and kept
+    print(f"limits: ratio {MOST_RATIO}, memory {MOST_TIMES_BYTES:.0f} times the records, {MOST_TIMES_SQLITE:.0f} times SQLite")
+    sys.exit(0 if kept else 1)
+
+
+if __name__ == "__main__":
+    main()

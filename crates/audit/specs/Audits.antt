@@ -20,8 +20,8 @@ use Rattle.operator.specs.declared.fault.OpFault.{OpFault}
 use Rattle.operator.specs.declared.fault.OpFault.TheVariants.{Input as Line, Read, Write, Store, Stuck, NoMemory}
 use Rattle.audit.specs.Stores.{AreLoaded, FailsToLoad}
 
--- the text is the table of the world that some events lead to, whose committed journals are these. It counts every tonne
--- once
+-- the text is the table of the world that some events lead to, whose committed journals are these. It counts every
+-- tonne once
 pub record IsAuditTable (scheme : Scheme) (journals : List (List Input)) (text : List ℕ) : Type 0 where
   pub events : List WorldEvent
   pub projects : Projects scheme events (journal_of scheme journals)

@@ -10,8 +10,8 @@ use Rattle.desk.specs.Loading.{IsLoaded}
 use Rattle.operator.specs.declared.fault.OpFault.{OpFault}
 use Rattle.operator.specs.declared.fault.OpFault.TheVariants.{Input as Line, Read, Write, Store, Stuck, NoMemory}
 
--- nobody else wrote the store, and its device returned what was written; what each place has; a fault stopped it, and it
--- must be reopened first
+-- nobody else wrote the store, and its device returned what was written; what each place has; a fault stopped it, and
+-- it must be reopened first
 module _ {S : Type 0} (is_honest : S → Type 0) (content : S → Places) (must_reopen : S → Bool) where
   -- nothing was written to the store
   pub record IsKept (old new : S) : Type 0 where

@@ -46,8 +46,8 @@ fn table_of(alloc: Global, scheme: &Scheme, states: &[State<Core>]) -> Result<St
     Ok(text)
 }
 
-/// Reads the stores of the first nodes: the log's, then those of the registries in the scheme's order. So a fault of one of
-/// them is found before that of a later store, which can't be opened.
+/// Reads the stores of the first nodes: the log's, then those of the registries in the scheme's order. So a fault of
+/// one of them is found before that of a later store, which can't be opened.
 ///
 /// # Errors
 ///
@@ -76,10 +76,10 @@ pub fn read_first<S: NodeStore>(
 ///
 /// Nothing is written, but where the output failed:
 ///
-/// - `Store`: the first store in that order that could not be read, or has a damaged record. A record is damaged too where
-///   its node doesn't record it after those before it.
-/// - `Stuck`: no run leads to these records. Followed as far as they go, the node is the first with a record left, and the
-///   place is that record's.
+/// - `Store`: the first store in that order that could not be read, or has a damaged record. A record is damaged too
+///   where its node doesn't record it after those before it.
+/// - `Stuck`: no run leads to these records. Followed as far as they go, the node is the first with a record left, and
+///   the place is that record's.
 /// - `Write`: the output failed, after the number of bytes that the fault tells.
 /// - `NoMemory`: out of memory.
 pub fn audit<S: NodeStore, W: Write>(

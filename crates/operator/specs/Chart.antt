@@ -89,7 +89,8 @@ first_ones (n ∷ ns) = n ∷ filter (λ m. not (same_node m n)) (first_ones ns)
 abbrev pub participants : List Happening → List Message → List Node
 participants hs never = first_ones (flat_map happening_nodes hs ++ (flat_map parties never ++ Itl ∷ []))
 
--- ---- what the program has told so far: the nodes of what happened, each once, which places of the bag were delivered, and the lines
+-- ---- what the program has told so far: the nodes of what happened, each once, which places of the bag were delivered,
+-- and the lines
 
 pub record IsDrawn (hs : List Happening) (nodes : List Node) (delivered : ℕ → Bool) (lines : List ℕ) : Type 0 where
   pub named : nodes ≡ first_ones (flat_map happening_nodes hs)

@@ -107,8 +107,8 @@ pub enum Action {
         folder: String,
         node: String,
     },
-    /// Write the table of a run that leads to the records of the stores in the folder `folder`. The file `scheme` has the
-    /// scheme.
+    /// Write the table of a run that leads to the records of the stores in the folder `folder`. The file `scheme` has
+    /// the scheme.
     Audit {
         scheme: String,
         folder: String,

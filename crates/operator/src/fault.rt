@@ -70,8 +70,8 @@ pub enum OpFault {
     Write(u64),
     /// The node's store has that fault. Out of memory is `NoMemory`: see `store_fault`.
     Store { node: Node, fault: StoreFault },
-    /// No run leads to the journals of the stores: followed as far as they go, that node is the first with a record left,
-    /// at that place.
+    /// No run leads to the journals of the stores: followed as far as they go, that node is the first with a record
+    /// left, at that place.
     Stuck { node: Node, place: usize },
     /// Out of memory.
     NoMemory,

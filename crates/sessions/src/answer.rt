@@ -117,7 +117,9 @@ fn refused_by(code: u16) -> Reply
 
 /// The reply to what wasn't judged by a journal: the node had stopped, or memory ran out. `None` where it was judged.
 fn reply_at_once(told: Told) -> Option<Reply>
-    ensures some { IfSome result (λ reply. (is_without_journal told ≡ true) × Gives told reply × (IsRefusedBy node_stopped reply ⊎ IsRefusedBy out_of_memory reply)) }
+    ensures some { IfSome result
+        (λ reply. (is_without_journal told ≡ true) × Gives told reply
+        × (IsRefusedBy node_stopped reply ⊎ IsRefusedBy out_of_memory reply)) }
     ensures none { result ≡ None → is_without_journal told ≡ false }
 {
     match told {
@@ -157,7 +159,8 @@ fn answer_confirmed<C: NodeCore, B: Bell, R: Wait>(
     requires source { IsOfLine line.items taken }
     requires judged { is_without_journal taken.told ≡ false }
     ensures line { result.line ≡ line.items }
-    ensures end { ((seat.new ≡ confirmed seat.old taken) × (result.receipt ≡ Some taken) × Gives taken.told result.reply) ⊎ ((seat.new ≡ seat.old) × (result.receipt ≡ None) × IsRefusedBy node_stopped result.reply) }
+    ensures end { ((seat.new ≡ confirmed seat.old taken) × (result.receipt ≡ Some taken) × Gives taken.told result.reply)
+        ⊎ ((seat.new ≡ seat.old) × (result.receipt ≡ None) × IsRefusedBy node_stopped result.reply) }
 {
     let reply = reply_to(&taken);
     match desk.confirm(rt, seat, taken) {

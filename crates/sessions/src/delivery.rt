@@ -54,7 +54,8 @@ fn deliver_over<R: Read, W: Write>(
     message: &Message,
 ) -> Result<Delivered, Exchange>
     ensures key { MatchResult result (λ delivered. delivered ≡ key) IsOtherEnd }
-    ensures exchange { Exchanges R.remaining W.contents reader.old reader.new writer.old writer.new (message_text message.now ++ 10 ∷ []) (end_of result) }
+    ensures exchange { Exchanges R.remaining W.contents reader.old reader.new writer.old writer.new
+        (message_text message.now ++ 10 ∷ []) (end_of result) }
 {
     match exchange(alloc, reader, writer, message) {
         Exchange::Answered(Reply::Received) => Ok(Delivered { key }),

@@ -1,6 +1,7 @@
 //! The threads of a node, and those of several nodes.
 ghost use Rattle.std.specs.Prelude.{◌≡◌, ◌+◌, ℕ, length, vec_len, slice_get, IfOk, Ok, Some};
 ghost use Rattle.std.specs.Thread.{IsSync};
+ghost use Rattle.sessions.specs.Ends.{faults_with};
 
 use crate::clock::Clock;
 use crate::connections::{Dial, Listen};
@@ -51,7 +52,8 @@ fn commit_all<C: NodeCore, B: Bell, S: NodeStore, R: Wait>(
     desk: &Desk<C, B>,
     store: &mut S,
 ) -> Option<StoreFault>
-    ensures { S.whose store.new ≡ S.whose store.old }
+    ensures store { S.whose store.new ≡ S.whose store.old }
+    ensures faults { S.faults store.new ≡ faults_with (S.faults store.old) result }
 {
     for _ in rt.forever() {
         // Read before the desk is looked at, so that no ring between the two is missed.
@@ -78,7 +80,8 @@ fn commit_and_wake<C: NodeCore, B: Bell, D: Dial, S: NodeStore, R: Wait>(
     node: Node,
     mut store: S,
 ) -> (S, Option<StoreFault>)
-    ensures { S.whose result.0 ≡ S.whose store }
+    ensures store { S.whose result.0 ≡ S.whose store }
+    ensures faults { S.faults result.0 ≡ faults_with (S.faults store) result.1 }
 {
     let fault = commit_all(rt, desk, &mut store);
     wake_sessions(dial, node);
@@ -154,6 +157,7 @@ where
     G: Gate + Sync,
     R: Threads + Wait + Sync,
 {
+    // That `rt` may be shared is said at each closure, since it isn't inferred there.
     thread::join(
         rt,
         move ||
@@ -197,6 +201,7 @@ where
     R: Threads + Wait + Sync,
     ensures seats { vec_len result.seats ≡ vec_len seats }
     ensures store { S.whose result.store ≡ S.whose store }
+    ensures faults { S.faults result.store ≡ faults_with (S.faults store) result.fault }
 {
     let taking = seats.as_mut_slice();
     let ((store, fault), ()) = thread::join(
@@ -215,8 +220,8 @@ where
 
 /// Runs a node's threads until its desk stops: one commits the desk's records to the store, `SESSION_THREADS` serve
 /// the connections that others make, `WORKERS` have the desk take their jobs, and one for each peer sends it the
-/// messages that are due. `MOST_JOBS` jobs wait at most. The node makes a connection with itself for each session thread once
-/// the desk has stopped, so that none is left waiting for one.
+/// messages that are due. `MOST_JOBS` jobs wait at most. The node makes a connection with itself for each session
+/// thread once the desk has stopped, so that none is left waiting for one.
 ///
 /// The desk stops when it is told to, where the store has a fault, and where 100 accepts in a row failed. Fails with
 /// `NoMemory` where memory ran out, and no thread was started.
@@ -237,6 +242,7 @@ where
     R: Threads + Wait + Sync,
     ensures seats { IfOk result (λ end. vec_len end.seats ≡ WORKERS + length parts.now.peers.now) }
     ensures store { IfOk result (λ end. S.whose end.store ≡ S.whose store) }
+    ensures faults { IfOk result (λ end. S.faults end.store ≡ faults_with (S.faults store) end.fault) }
 {
     let seats = new_seats(alloc, WORKERS + parts.peers.len())?;
     let (errands, handed) = crossbeam_channel::bounded(alloc, MOST_JOBS)?;
@@ -267,6 +273,7 @@ where
     R: Threads + Wait + Sync,
     ensures seats { IfOk result (λ end. vec_len end.seats ≡ WORKERS + length node.entry.parts.peers.now) }
     ensures store { IfOk result (λ end. S.whose end.store ≡ S.whose node.entry.store) }
+    ensures faults { IfOk result (λ end. S.faults end.store ≡ faults_with (S.faults node.entry.store) end.fault) }
 {
     let NodeToRun { parts, store } = node;
     run_node(rt, alloc, &parts, store)
@@ -290,8 +297,18 @@ where
     S: NodeStore + Send + Drop,
     R: Threads + Wait + Sync,
     ensures count { IfOk result (λ ends. vec_len ends ≡ vec_len nodes.entry) }
-    ensures seats { IfOk result (λ ends. (k : ℕ) (node : _) (end : _) → slice_get nodes.entry.items k ≡ Some node → slice_get ends.items k ≡ Some (Ok end) → vec_len end.seats ≡ WORKERS + length node.parts.peers.now) }
-    ensures stores { IfOk result (λ ends. (k : ℕ) (node : _) (end : _) → slice_get nodes.entry.items k ≡ Some node → slice_get ends.items k ≡ Some (Ok end) → S.whose end.store ≡ S.whose node.store) }
+    ensures seats { IfOk result
+        (λ ends. (k : ℕ) (node : _) (end : _) → slice_get nodes.entry.items k ≡ Some node
+        → slice_get ends.items k ≡ Some (Ok end)
+        → vec_len end.seats ≡ WORKERS + length node.parts.peers.now) }
+    ensures stores { IfOk result
+        (λ ends. (k : ℕ) (node : _) (end : _) → slice_get nodes.entry.items k ≡ Some node
+        → slice_get ends.items k ≡ Some (Ok end)
+        → S.whose end.store ≡ S.whose node.store) }
+    ensures faults { IfOk result
+        (λ ends. (k : ℕ) (node : _) (end : _) → slice_get nodes.entry.items k ≡ Some node
+        → slice_get ends.items k ≡ Some (Ok end)
+        → S.faults end.store ≡ faults_with (S.faults node.store) end.fault) }
 {
     let ends = thread::map_vec(
         rt,
@@ -300,6 +317,8 @@ where
             requires { IsSync R.row }
             ensures seats { IfOk result (λ end. vec_len end.seats ≡ WORKERS + length node.entry.parts.peers.now) }
             ensures store { IfOk result (λ end. S.whose end.store ≡ S.whose node.entry.store) }
+            ensures faults { IfOk result
+                (λ end. S.faults end.store ≡ faults_with (S.faults node.entry.store) end.fault) }
         { run_one(rt, alloc, node) },
     )?;
     Ok(ends)

@@ -74,7 +74,9 @@ fn answer_line<R: Wait>(
     line: &[u8],
 ) -> Result<Answer, NoMemory>
     ensures line { IfOk result (λ answer. answer.line ≡ line.now) }
-    ensures unread { IfOk result (λ answer. IsNoLine line.now → IsRefusedBy not_a_message answer.reply ⊎ IsRefusedBy out_of_memory answer.reply) }
+    ensures unread { IfOk result
+        (λ answer. IsNoLine line.now
+        → IsRefusedBy not_a_message answer.reply ⊎ IsRefusedBy out_of_memory answer.reply) }
 {
     let job = match Job::read(alloc, line) {
         Ok(job) => job,

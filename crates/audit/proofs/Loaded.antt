@@ -12,11 +12,11 @@ use Rattle.stores.specs.Records.{Places}
 use Rattle.stores.specs.declared.fault.StoreFault.{StoreFault}
 use Rattle.stores.specs.declared.fault.StoreFault.TheVariants.{Device, Full, Damaged, WrongNode, WrongVersion, Reopen, NoMemory}
 use Rattle.desk.specs.Loading.{IsLoaded}
-use Rattle.operator.specs.Faults.{of_store}
+use Rattle.inputs.specs.Faults.{of_store}
 use Rattle.weave.proofs.Lists.{front_get}
-use Rattle.operator.specs.declared.fault.OpFault.{OpFault}
-use Rattle.operator.specs.declared.fault.OpFault.TheVariants.{Input as Line, Read, Write, Store, Stuck}
-use Rattle.operator.specs.declared.fault.OpFault.TheVariants as op
+use Rattle.inputs.specs.declared.fault.OpFault.{OpFault}
+use Rattle.inputs.specs.declared.fault.OpFault.TheVariants.{Input as Line, Read, Write, Store, Stuck, Unsettled}
+use Rattle.inputs.specs.declared.fault.OpFault.TheVariants as op
 use Rattle.audit.specs.Stores.{AreKept, AreLoadedTo, FailsToLoad, FailsToLoadAt, IsKept, IsLoadedAs}
 use Rattle.audit.proofs.Places.{set_here, set_other}
 
@@ -95,3 +95,4 @@ module _ {S : Type 0} (is_honest : S → Type 0) (content : S → Places) (may_h
   fails_first ns olds news journals at n old new count below isn was all Read f = absurd f
   fails_first ns olds news journals at n old new count below isn was all (Write k) f = absurd f
   fails_first ns olds news journals at n old new count below isn was all (Stuck m place) f = absurd f
+  fails_first ns olds news journals at n old new count below isn was all (Unsettled m) f = absurd f

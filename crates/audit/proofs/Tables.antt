@@ -9,8 +9,8 @@ use Rattle.safety.proofs.Headline.{safe_live, safe_committed}
 use Rattle.weave.specs.Following.{IsWeaveFault, journal_of}
 use Rattle.weave.specs.declared.fault.WeaveFault.{WeaveFault}
 use Rattle.weave.specs.declared.fault.WeaveFault.TheVariants.{Stuck, NoMemory}
-use Rattle.operator.specs.Table.{IsTable}
-use Rattle.operator.proofs.CountedUnits.{Fits, Sums, counted}
+use Rattle.tables.specs.Table.{IsTable}
+use Rattle.tables.proofs.CountedUnits.{Fits, Sums, counted}
 use Rattle.audit.specs.Audits.{FailsToWeave, IsAuditTable, of_weaving}
 
 pub audited : Sums → Fits → (scheme : Scheme) (js : List (List Input)) (events : List WorldEvent) (w : World) (table text : List ℕ) → w ≡ run (opening scheme) events → Projects scheme events (journal_of scheme js) → IsTable w table → text ≡ table

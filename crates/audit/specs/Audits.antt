@@ -15,9 +15,9 @@ use Rattle.world.specs.Kept.{nodes}
 use Rattle.weave.specs.Following.{IsWeaveFault, journal_of}
 use Rattle.weave.specs.declared.fault.WeaveFault.{WeaveFault}
 use Rattle.weave.specs.declared.fault.WeaveFault.TheVariants as weaving
-use Rattle.operator.specs.Table.{AddUp, IsTable}
-use Rattle.operator.specs.declared.fault.OpFault.{OpFault}
-use Rattle.operator.specs.declared.fault.OpFault.TheVariants.{Input as Line, Read, Write, Store, Stuck, NoMemory}
+use Rattle.tables.specs.Table.{AddUp, IsTable}
+use Rattle.inputs.specs.declared.fault.OpFault.{OpFault}
+use Rattle.inputs.specs.declared.fault.OpFault.TheVariants.{Write, Store, Stuck, NoMemory}
 use Rattle.audit.specs.Stores.{AreLoaded, FailsToLoad}
 
 -- the text is the table of the world that some events lead to, whose committed journals are these. It counts every
@@ -60,5 +60,4 @@ module _ {S : Type 0} (is_honest : S → Type 0) (content : S → Places) (may_h
   FailsToAudit (Store told fault) scheme olds news v w = FailsToLoad is_honest content may_hold must_reopen scheme (nodes scheme) olds news (Store told fault) × Keeps v w
   FailsToAudit (Write count) scheme olds news v w = (table : List ℕ) × Audits scheme olds news table × (count < length table) × Appends v w (take count table)
   FailsToAudit NoMemory scheme olds news v w = Keeps v w
-  FailsToAudit (Line line cause) scheme olds news v w = ⊥
-  FailsToAudit Read scheme olds news v w = ⊥
+  FailsToAudit _ scheme olds news v w = ⊥

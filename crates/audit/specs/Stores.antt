@@ -7,8 +7,8 @@ use Rattle.stores.specs.Records.{Places, AreRecords}
 use Rattle.stores.specs.declared.fault.StoreFault.{StoreFault}
 use Rattle.stores.specs.declared.fault.StoreFault.TheVariants as store_fault
 use Rattle.desk.specs.Loading.{IsLoaded}
-use Rattle.operator.specs.declared.fault.OpFault.{OpFault}
-use Rattle.operator.specs.declared.fault.OpFault.TheVariants.{Input as Line, Read, Write, Store, Stuck, NoMemory}
+use Rattle.inputs.specs.declared.fault.OpFault.{OpFault}
+use Rattle.inputs.specs.declared.fault.OpFault.TheVariants.{Store, NoMemory}
 
 -- nobody else wrote the store, and its device returned what was written; what each place has; a fault stopped it, and
 -- it must be reopened first

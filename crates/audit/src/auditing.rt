@@ -10,12 +10,13 @@ ghost use Rattle.world.specs.Kept.{nodes};
 use crate::journals::journals_of;
 use crate::loading::load_all;
 use desk::State;
+use inputs::{OpFault, write_out};
 use node::Core;
-use operator::{OpFault, push_table, write_out};
 use scheme::Scheme;
 use std::alloc::Global;
 use std::io::Write;
 use stores::NodeStore;
+use tables::push_table;
 use totals::tonnes_add_up;
 use weave::{WeaveFault, weave};
 

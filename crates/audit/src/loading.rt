@@ -6,8 +6,8 @@ ghost use Rattle.world.specs.Kept.{nodes};
 
 use crate::journals::node_at;
 use desk::State;
+use inputs::{OpFault, store_fault};
 use node::Core;
-use operator::{OpFault, store_fault};
 use scheme::Scheme;
 use std::alloc::Global;
 use stores::NodeStore;

@@ -7,4 +7,4 @@ mod orders;
 mod verbs;
 
 pub use events::event_of;
-pub use line::LineFault;
+pub use line::{LineFault, first_of, node_first, only_word, words_of};

@@ -42,8 +42,9 @@ impl<T: Drop> From<AllocFailed<T>> for LineFault {
     }
 }
 
-/// The words of a line, cut at each space.
-pub(crate) fn words_of(alloc: Global, line: &str) -> Result<Vec<&str>, NoMemory>
+/// The words of a line, cut at each space: two spaces side by side have an empty word between them. Fails with
+/// `NoMemory` where memory ran out.
+pub fn words_of(alloc: Global, line: &str) -> Result<Vec<&str>, NoMemory>
     ensures { IfOk result (λ v. AreCut line.now (texts v.items)) }
 {
     let mut found = Vec::new(alloc);
@@ -57,7 +58,7 @@ pub(crate) fn words_of(alloc: Global, line: &str) -> Result<Vec<&str>, NoMemory>
 }
 
 /// The first word, and the others.
-pub(crate) fn first_of<'w, 'a>(words: &'w [&'a str]) -> Option<(&'a str, &'w [&'a str])>
+pub fn first_of<'w, 'a>(words: &'w [&'a str]) -> Option<(&'a str, &'w [&'a str])>
     ensures some { IfSome result (λ p. texts words.now ≡ p.0.now ∷ texts p.1.now) }
     ensures none { IfNone result (texts words.now ≡ []) }
 {
@@ -66,7 +67,7 @@ pub(crate) fn first_of<'w, 'a>(words: &'w [&'a str]) -> Option<(&'a str, &'w [&'
 }
 
 /// The word, where there is one alone.
-pub(crate) fn only_word<'a>(words: &[&'a str]) -> Option<&'a str>
+pub fn only_word<'a>(words: &[&'a str]) -> Option<&'a str>
     ensures some { IfSome result (λ w. texts words.now ≡ w.now ∷ []) }
     ensures none { IfNone result ((w : List ℕ) → texts words.now ≡ w ∷ [] → ⊥) }
 {
@@ -75,7 +76,7 @@ pub(crate) fn only_word<'a>(words: &[&'a str]) -> Option<&'a str>
 }
 
 /// The node that the first word writes, and the other words.
-pub(crate) fn node_first<'w, 'a>(words: &'w [&'a str]) -> Option<(Node, &'w [&'a str])>
+pub fn node_first<'w, 'a>(words: &'w [&'a str]) -> Option<(Node, &'w [&'a str])>
     ensures some { IfSome result (λ p. texts words.now ≡ node_text p.0 ∷ texts p.1.now) }
     ensures none { IfNone result ((n : Node) (others : List (List ℕ)) → texts words.now ≡ node_text n ∷ others → ⊥) }
 {

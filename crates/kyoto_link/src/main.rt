@@ -8,10 +8,9 @@ ghost use Rattle.world.specs.Kept.{nodes};
 use audit::{audit, read_first};
 use clap::Error;
 use durable::SqlStore;
-use operator::{
-    Action, OpFault, UsageFault, chart, node_of, parse_words, read_scheme, rehearse, show,
-    store_fault, write_out,
-};
+use inputs::{OpFault, node_of, read_scheme, store_fault, write_out};
+use operator::{Action, UsageFault, chart, parse_words, show};
+use rehearsals::rehearse;
 use scheme::Scheme;
 use sqlite::File;
 use std::alloc::{AllocError, Global};

@@ -19,8 +19,8 @@ use Rattle.protocol.specs.declared.event.WorldEvent.{WorldEvent}
 use Rattle.protocol.specs.declared.event.WorldEvent.TheVariants.{Take, Commit, Post, Deliver, Crash, Restart}
 use Rattle.chart_lines.specs.ChartLines.{lost_line, participant_line, wide_note_line}
 use Rattle.operator.specs.Chart.{Happening, HasDrawn, IsChart, IsDrawn, chart_text, delivers, first_ones, happening, happening_line, happening_nodes, happenings, is_delivered, lost, message_of, participants, parties}
-use Rattle.operator.specs.Table.{IsTable}
-use Rattle.operator.proofs.Runs.{run-snoc}
+use Rattle.tables.specs.Table.{IsTable}
+use Rattle.rehearsals.proofs.Runs.{run-snoc}
 
 flat_snoc : {X A : Type 0} (f : X → List A) (xs : List X) (x : X) → flat_map f (xs ++ x ∷ []) ≡ flat_map f xs ++ f x
 flat_snoc f xs x = flat_map-append f xs (x ∷ []) ∙ ap (λ l. flat_map f xs ++ l) (append-nil (f x))

@@ -1,14 +1,9 @@
-pub mod FirstLines
 pub mod Texts
-pub mod CountedUnits
-pub mod Runs
 pub mod FirstNodes
 pub mod Charts
-pub mod NoFault
 pub mod RecordLines
 pub mod ShowWords
 pub mod WorkedWords
-pub mod NumberedLines
 pub mod UsageFaults
 pub mod Pages
 pub mod ShownPages

@@ -1,5 +1,5 @@
 -- Pages of a store, one after another: what was read of them, and the fault that ended it.
-use Rattle.std.proofs.Common.{◌≡◌, ◌≤◌, ◌<◌, ◌+◌, ◌-◌, ℕ, zero, suc, Bool, true, false, true≢false, List, [], ◌∷◌, ◌++◌, Some, None, Result, Ok, Err, IfErr, Vec, Global, IsTrue, min, length, take, drop, refl, sym, ap, subst, ◌∙◌, arith, length-append}
+use Rattle.std.proofs.Common.{◌≡◌, ◌≤◌, ◌<◌, ◌+◌, ◌-◌, ℕ, zero, suc, Bool, false, true≢false, List, [], ◌∷◌, ◌++◌, Some, None, Result, Ok, Err, IfErr, Vec, Global, IsTrue, min, length, take, drop, refl, sym, ap, subst, ◌∙◌, arith, length-append}
 use Rattle.std.specs.Result.{IsErrAnd}
 use Rattle.std.proofs.Math.Seq.{take-add}
 use Rattle.std.proofs.lemmas.List.{take-take, take_all, length-take-le, length-take, length-drop}

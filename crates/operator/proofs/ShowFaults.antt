@@ -7,8 +7,8 @@ use Rattle.wire.specs.declared.input.Input.{Input}
 use Rattle.stores.specs.Faults.{is_device_fault}
 use Rattle.stores.specs.Records.{Places, AreRecords}
 use Rattle.stores.specs.declared.fault.StoreFault.{StoreFault}
-use Rattle.operator.specs.declared.fault.OpFault.{OpFault}
-use Rattle.operator.specs.declared.fault.OpFault.TheVariants as op_fault
+use Rattle.inputs.specs.declared.fault.OpFault.{OpFault}
+use Rattle.inputs.specs.declared.fault.OpFault.TheVariants as op_fault
 use Rattle.operator.specs.Pages.{IsBegun, IsWithin, FailsToWrite, FailsWithin}
 use Rattle.operator.specs.Show.{record_lines, FailsToShow}
 use Rattle.operator.proofs.ShownPages.{cut-off, end-cut}
@@ -25,6 +25,7 @@ fails-writing (op_fault.Store told fault) node records written honest places tex
 fails-writing (op_fault.Input line cause) node records written honest places text v x w f more here = f
 fails-writing op_fault.Read node records written honest places text v x w f more here = f
 fails-writing (op_fault.Stuck at place) node records written honest places text v x w f more here = f
+fails-writing (op_fault.Unsettled at) node records written honest places text v x w f more here = f
 
 -- a fault of the second reading, where the first one found the records at all places
 again : (count : ℕ) (honest : Type 0) (mid places : Places) (v w : Option (List ℕ)) → (honest → mid ≡ places) → IsBegun count honest mid v w → IsBegun count honest places v w
@@ -43,6 +44,7 @@ fails-second (op_fault.Write count) node records honest mid places v w all f sam
 fails-second (op_fault.Input line cause) node records honest mid places v w all f same are many = f
 fails-second op_fault.Read node records honest mid places v w all f same are many = f
 fails-second (op_fault.Stuck at place) node records honest mid places v w all f same are many = f
+fails-second (op_fault.Unsettled at) node records honest mid places v w all f same are many = f
 
 -- the last line was not written, or in part
 pub fails-last : (e : OpFault) (node : Node) (written : ℕ) (honest : Type 0) (places : Places) (v x w : Option (List ℕ)) (all : List Input) → FailsWithin e written (codes "end\n") x w
@@ -55,6 +57,7 @@ fails-last (op_fault.Store told fault) node written honest places v x w all f ar
 fails-last (op_fault.Input line cause) node written honest places v x w all f are size lines = f
 fails-last op_fault.Read node written honest places v x w all f are size lines = f
 fails-last (op_fault.Stuck at place) node written honest places v x w all f are size lines = f
+fails-last (op_fault.Unsettled at) node written honest places v x w all f are size lines = f
 
 pub none-told : (e : OpFault) (node : Node) (fault f : StoreFault) (written : ℕ) (text : List ℕ) (x w : Option (List ℕ)) → FailsWithin e written text x w → e ≡ op_fault.Store node f → f ≡ fault
 none-told e node fault f written text x w fails same = absurd (subst (λ t. FailsWithin t written text x w) same fails)

@@ -1,5 +1,5 @@
 -- The chart of a list of events: Mermaid's sequence diagram of what the nodes did, and of the messages between them.
-use Rattle.std.specs.Prelude.{◌≡◌, ℕ, ◌==◌, ◌+◌, ◌&&◌, Bool, true, false, not, List, [], ◌∷◌, ◌++◌, codes, filter, flat_map, map, slice_get, Option, Some, None, option_map}
+use Rattle.std.specs.Prelude.{◌≡◌, ℕ, ◌==◌, ◌&&◌, Bool, true, false, not, List, [], ◌∷◌, ◌++◌, codes, filter, flat_map, map, slice_get, Option, Some, None, option_map}
 use Rattle.std.specs.List.{enumerate_from, list_any}
 use Rattle.units.specs.Code.{same_node}
 use Rattle.units.specs.declared.code.Node.{Node}
@@ -14,7 +14,7 @@ use Rattle.protocol.specs.declared.event.Posted.{Posted}
 use Rattle.protocol.specs.declared.event.WorldEvent.{WorldEvent}
 use Rattle.protocol.specs.declared.event.WorldEvent.TheVariants.{Take, Commit, Post, Deliver, Crash, Restart}
 use Rattle.chart_lines.specs.ChartLines.{event_line, lost_line, participant_line, wide_note_line}
-use Rattle.operator.specs.Table.{IsTable}
+use Rattle.tables.specs.Table.{IsTable}
 
 -- ---- what happened
 

@@ -1,11 +1,4 @@
-pub mod Calls
-pub mod Faults
-pub mod Lines
-pub mod Streams
 pub mod Words
-pub mod Table
 pub mod Chart
-pub mod SchemeFile
-pub mod Rehearsal
 pub mod Show
 pub mod Pages

@@ -8,8 +8,8 @@ use Rattle.stores.specs.Faults.{is_device_fault, count_after, IsReadFault}
 use Rattle.stores.specs.Records.{Places, AreRecords}
 use Rattle.stores.specs.declared.fault.StoreFault.{StoreFault}
 use Rattle.stores.specs.declared.fault.StoreFault.TheVariants.{Reopen, NoMemory as OutOfMemory}
-use Rattle.operator.specs.declared.fault.OpFault.{OpFault}
-use Rattle.operator.specs.declared.fault.OpFault.TheVariants as op_fault
+use Rattle.inputs.specs.declared.fault.OpFault.{OpFault}
+use Rattle.inputs.specs.declared.fault.OpFault.TheVariants as op_fault
 use Rattle.operator.specs.Show.{record_lines}
 
 -- ---- the store: it is honest; what each place has; a fault waits for a reopening;
@@ -61,9 +61,7 @@ abbrev pub FailsToWrite : OpFault → Node → ℕ → (honest : Type 0) → Pla
 FailsToWrite (op_fault.Store told fault) node records honest places v w = FailsAgain node told fault records honest places × ((count : ℕ) × IsBegun count honest places v w)
 FailsToWrite op_fault.NoMemory node records honest places v w = (count : ℕ) × IsBegun count honest places v w
 FailsToWrite (op_fault.Write count) node records honest places v w = IsBegun count honest places v w
-FailsToWrite (op_fault.Input line cause) node records honest places v w = ⊥
-FailsToWrite op_fault.Read node records honest places v w = ⊥
-FailsToWrite (op_fault.Stuck at place) node records honest places v w = ⊥
+FailsToWrite _ node records honest places v w = ⊥
 
 -- of a text that comes after `written` bytes, the bytes up to that count were written, and not all
 pub record IsWithin (count written : ℕ) (text : List ℕ) (before after : Option (List ℕ)) : Type 0 where
@@ -76,7 +74,4 @@ pub record IsWithin (count written : ℕ) (text : List ℕ) (before after : Opti
 abbrev pub FailsWithin : OpFault → (written : ℕ) → (text : List ℕ) → (before after : Option (List ℕ)) → Type 0
 FailsWithin (op_fault.Write count) written text v w = IsWithin count written text v w
 FailsWithin op_fault.NoMemory written text v w = Keeps v w
-FailsWithin (op_fault.Store told fault) written text v w = ⊥
-FailsWithin (op_fault.Input line cause) written text v w = ⊥
-FailsWithin op_fault.Read written text v w = ⊥
-FailsWithin (op_fault.Stuck at place) written text v w = ⊥
+FailsWithin _ written text v w = ⊥

@@ -8,8 +8,8 @@ use Rattle.stores.specs.Faults.{is_device_fault}
 use Rattle.stores.specs.Records.{Places, AreRecords, IsDamagedAt}
 use Rattle.stores.specs.declared.fault.StoreFault.{StoreFault}
 use Rattle.stores.specs.declared.fault.StoreFault.TheVariants.{Damaged, NoMemory as OutOfMemory}
-use Rattle.operator.specs.declared.fault.OpFault.{OpFault}
-use Rattle.operator.specs.declared.fault.OpFault.TheVariants as op_fault
+use Rattle.inputs.specs.declared.fault.OpFault.{OpFault}
+use Rattle.inputs.specs.declared.fault.OpFault.TheVariants as op_fault
 
 -- a record after its place
 abbrev pub record_line : ℕ → Input → List ℕ
@@ -48,6 +48,4 @@ FailsToShow (op_fault.Store told fault) node honest places v w =
     IsToldFault node told fault honest places × (Keeps v w ⊎ ((honest → IsTrue (is_device_fault fault)) × IsPartlyShown honest places v w))
 FailsToShow op_fault.NoMemory node honest places v w = Keeps v w ⊎ IsPartlyShown honest places v w
 FailsToShow (op_fault.Write count) node honest places v w = IsCutOff count honest places v w
-FailsToShow (op_fault.Input line cause) node honest places v w = ⊥
-FailsToShow op_fault.Read node honest places v w = ⊥
-FailsToShow (op_fault.Stuck at place) node honest places v w = ⊥
+FailsToShow _ node honest places v w = ⊥

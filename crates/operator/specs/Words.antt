@@ -65,21 +65,23 @@ IsSubcommand s c = (shape_of c ≡ s) × ((out-Command c).has_globals ≡ false)
 abbrev pub argument_of : ArgMatches → List ℕ → Option (List ℕ)
 argument_of m name = option_and_then (first_of name) (option_map (λ p. p.1) (subcommand_rows_of m))
 
--- the action is to show, and its words are the values of the three arguments
-abbrev pub IsShow : (List ℕ → Option (List ℕ)) → Action → Type 0
-IsShow value Rehearse = ⊥
-IsShow value Chart = ⊥
-IsShow value (Audit scheme folder) = ⊥
-IsShow value (Show scheme folder node) =
+-- the words of the action are the values of the arguments
+abbrev pub HasValues : (List ℕ → Option (List ℕ)) → Action → Type 0
+HasValues value Rehearse = Unit {0}
+HasValues value Chart = Unit {0}
+HasValues value (Show scheme folder node) =
     (value (codes "SCHEME") ≡ Some (string_bytes scheme)) × (value (codes "DIR") ≡ Some (string_bytes folder)) × (value (codes "NODE") ≡ Some (string_bytes node))
+HasValues value (Audit scheme folder) = (value (codes "SCHEME") ≡ Some (string_bytes scheme)) × (value (codes "DIR") ≡ Some (string_bytes folder))
 
--- the action is to audit, and its words are the values of the two arguments
-abbrev pub IsAudit : (List ℕ → Option (List ℕ)) → Action → Type 0
-IsAudit value (Audit scheme folder) = (value (codes "SCHEME") ≡ Some (string_bytes scheme)) × (value (codes "DIR") ≡ Some (string_bytes folder))
-IsAudit value _ = ⊥
+abbrev pub command_name : Action → List ℕ
+command_name Rehearse = codes "rehearse"
+command_name Chart = codes "chart"
+command_name (Show scheme folder node) = codes "show"
+command_name (Audit scheme folder) = codes "audit"
+
+-- the action is that of the subcommand with these values
+abbrev pub IsOf : List ℕ → (List ℕ → Option (List ℕ)) → Action → Type 0
+IsOf name value a = (command_name a ≡ name) × HasValues value a
 
 abbrev pub NamesAction : ArgMatches → Action → Type 0
-NamesAction m Rehearse = subcommand_name_of m ≡ Some (codes "rehearse")
-NamesAction m Chart = subcommand_name_of m ≡ Some (codes "chart")
-NamesAction m (Show scheme folder node) = (subcommand_name_of m ≡ Some (codes "show")) × IsShow (argument_of m) (Show scheme folder node)
-NamesAction m (Audit scheme folder) = (subcommand_name_of m ≡ Some (codes "audit")) × IsAudit (argument_of m) (Audit scheme folder)
+NamesAction m a = (subcommand_name_of m ≡ Some (command_name a)) × HasValues (argument_of m) a

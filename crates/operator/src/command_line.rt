@@ -6,7 +6,7 @@ ghost use Rattle.clap.specs.Values.{kind_of};
 ghost use Rattle.clap.specs.Words.{HasMatchesOf, first_value, found_of, rule_of};
 ghost use Rattle.clap.specs.declared.error.kind.ErrorKind.TheVariants.{OutOfMemory};
 ghost use Rattle.clap.specs.declared.parser.matches.ArgMatches.{ArgMatches};
-ghost use Rattle.operator.specs.Words.{NamesAction, IsAudit, IsCommand, IsFaultOf, IsShow, IsSubcommand, IsUsageFault, audit_shape, faults_in, kyoto_link, positional, show_shape, with_events};
+ghost use Rattle.operator.specs.Words.{NamesAction, IsCommand, IsFaultOf, IsOf, IsSubcommand, IsUsageFault, audit_shape, faults_in, kyoto_link, positional, show_shape, with_events};
 
 use clap::error::ErrorKind;
 use clap::{Arg, ArgMatches, Command, Error};
@@ -217,7 +217,7 @@ fn value_of(alloc: Global, matches: &ArgMatches, name: &str) -> Option<String>
 }
 
 fn show_action(alloc: Global, matches: &ArgMatches) -> Option<Action>
-    ensures { IfSome result (IsShow (first_value (found_of matches.now))) }
+    ensures { IfSome result (IsOf (codes "show") (first_value (found_of matches.now))) }
 {
     let scheme = value_of(alloc, matches, "SCHEME")?;
     let folder = value_of(alloc, matches, "DIR")?;
@@ -230,7 +230,7 @@ fn show_action(alloc: Global, matches: &ArgMatches) -> Option<Action>
 }
 
 fn audit_action(alloc: Global, matches: &ArgMatches) -> Option<Action>
-    ensures { IfSome result (IsAudit (first_value (found_of matches.now))) }
+    ensures { IfSome result (IsOf (codes "audit") (first_value (found_of matches.now))) }
 {
     let scheme = value_of(alloc, matches, "SCHEME")?;
     let folder = value_of(alloc, matches, "DIR")?;

@@ -8,8 +8,7 @@ ghost use Rattle.stores.specs.declared.fault.StoreFault.{StoreFault};
 ghost use Rattle.operator.specs.Pages.{Reads, Stops, Shows, FailsToWrite, FailsWithin};
 ghost use Rattle.operator.specs.Show.{FailsToShow, record_line, record_lines, shown};
 
-use crate::fault::{OpFault, store_fault};
-use crate::streams::write_text;
+use inputs::{OpFault, store_fault, write_text};
 use itoa::Buffer;
 use std::alloc::Global;
 use std::io::Write;

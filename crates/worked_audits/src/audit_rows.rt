@@ -2,7 +2,7 @@ use crate::journals::{
     ACCEPTED, ASKED, CHECKED, COMPLETED, NONE, PROPOSED, TOLD_JP, TOLD_NZ, assert_fault,
     assert_table, registry,
 };
-use operator::OpFault;
+use inputs::OpFault;
 use stores::StoreFault;
 use units::Node;
 

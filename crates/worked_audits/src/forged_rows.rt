@@ -1,5 +1,5 @@
 use crate::journals::{ACCEPTED, ASKED, CHECKED, NONE, PROPOSED, TOLD_JP, assert_fault, registry};
-use operator::OpFault;
+use inputs::OpFault;
 use units::Node;
 
 /// The proposal at the log, with one unit fewer.

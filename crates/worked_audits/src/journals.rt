@@ -4,7 +4,7 @@ ghost use Rattle.std.specs.Prelude.{◌≡◌, length};
 ghost use Rattle.world.specs.Kept.{nodes};
 
 use audit::audit;
-use operator::OpFault;
+use inputs::OpFault;
 use scheme::Scheme;
 use std::alloc::Global;
 use std::process::Abort;

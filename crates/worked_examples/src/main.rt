@@ -10,7 +10,9 @@
 mod audited;
 
 use crate::audited::{Audited, audit_journals};
-use operator::{OpFault, UsageFault, chart, parse_words, rehearse};
+use inputs::OpFault;
+use operator::{UsageFault, chart, parse_words};
+use rehearsals::rehearse;
 use std::io::{self, ErrorKind, Read};
 use std::{env, fs, str};
 

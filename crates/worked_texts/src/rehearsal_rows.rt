@@ -1,5 +1,7 @@
 use crate::streams::Full;
-use operator::{Action, Cause, OpFault, UsageFault, parse_words, rehearse, store_fault};
+use inputs::{Cause, OpFault, store_fault};
+use operator::{Action, UsageFault, parse_words};
+use rehearsals::rehearse;
 use std::alloc::{AllocError, Global};
 use std::io::{self, ErrorKind, Read, Write};
 use std::process::Abort;

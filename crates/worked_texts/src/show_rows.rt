@@ -1,5 +1,6 @@
 use crate::streams::Full;
-use operator::{Cause, OpFault, node_of, read_scheme, show};
+use inputs::{Cause, OpFault, node_of, read_scheme};
+use operator::show;
 use scheme::Scheme;
 use std::alloc::Global;
 use std::io::{self, ErrorKind, Read};

@@ -1,5 +1,5 @@
 use Rattle.chart_lines.specs.ChartLines.{participant_line}
-use Rattle.operator.proofs.Texts.{lines_more}
+use Rattle.tables.proofs.Texts.{lines_more}
 use Rattle.operator.proofs.charting.push_participants.Goals as goal
 
 pub loop-node-preserved : goal.loop-node-preserved

@@ -1,14 +1,14 @@
 use Rattle.std.proofs.Common.{◌≡◌, Some, codes, rules}
 use Rattle.clap.specs.Words.{subcommand_name_of}
-use Rattle.operator.proofs.ShowWords.{names_audit, names_show}
+use Rattle.operator.proofs.ShowWords.{names_action}
 use Rattle.operator.proofs.command_line.action_of.Goals as goal
 
 pub returns-then-eq-3 : goal.returns-then-eq-3
 returns-then-eq-3 c =
     let name : subcommand_name_of c.args.matches.now ≡ Some (codes "show") = search rules in
-    names_show c.args.matches.now c.in_ok-name.inner.now c.show_action.result name c.in_ok-name.ensures.rows c.show_action.ensures
+    names_action c.args.matches.now c.in_ok-name.inner.now c.show_action.result (codes "show") name c.in_ok-name.ensures.rows c.show_action.ensures
 
 pub returns-then-eq-4 : goal.returns-then-eq-4
 returns-then-eq-4 c =
     let name : subcommand_name_of c.args.matches.now ≡ Some (codes "audit") = search rules in
-    names_audit c.args.matches.now c.in_ok-name.inner.now c.audit_action.result name c.in_ok-name.ensures.rows c.audit_action.ensures
+    names_action c.args.matches.now c.in_ok-name.inner.now c.audit_action.result (codes "audit") name c.in_ok-name.ensures.rows c.audit_action.ensures

@@ -1,6 +1,6 @@
 use Rattle.std.proofs.Common.{codes, sym, ◌∙◌}
 use Rattle.std.proofs.KnownBytes.{Appends-trans}
-use Rattle.operator.specs.declared.fault.OpFault.{OpFault}
+use Rattle.inputs.specs.declared.fault.OpFault.{OpFault}
 use Rattle.operator.specs.Show.{FailsToShow, record_lines}
 use Rattle.operator.proofs.Pages.{passed-on, read-twice}
 use Rattle.operator.proofs.ShowFaults.{fails-second, fails-last}

@@ -1,8 +1,8 @@
 use Rattle.std.proofs.Common.{◌≡◌, ◌++◌, length, refl, ◌∙◌, arith}
 use Rattle.stores.specs.declared.fault.StoreFault.{StoreFault}
 use Rattle.stores.specs.declared.fault.StoreFault.TheVariants.{NoMemory}
-use Rattle.operator.specs.declared.fault.OpFault.{OpFault}
-use Rattle.operator.specs.declared.fault.OpFault.TheVariants.{Store}
+use Rattle.inputs.specs.declared.fault.OpFault.{OpFault}
+use Rattle.inputs.specs.declared.fault.OpFault.TheVariants.{Store}
 use Rattle.operator.specs.Pages.{Stops, FailsToWrite}
 use Rattle.operator.specs.Show.{record_lines}
 use Rattle.operator.proofs.Pages.{passed-on, true-false, stops-here}

@@ -1,0 +1,12 @@
+use Rattle.std.proofs.Common.{rules}
+use Rattle.std.proofs.Math.Seq.{take-add}
+use Rattle.std.proofs.lemmas.List.{take_rest}
+use Rattle.std.proofs.KnownBytes.{Appends-trans}
+use Rattle.inputs.proofs.streams.write_text.Goals as goal
+
+pub loop-at-preserved-in-Ok : goal.loop-at-preserved-in-Ok
+loop-at-preserved-in-Ok g c = record {
+  front = rw (take-add c.loop-at.at c.in-Ok.n c.args.bytes.now) (Appends-trans _ _ _ _ _ c.loop-at.invariant.front (rw take_rest at c.in-Ok.ensures.bytes));
+  within = search rules;
+  few = search rules;
+}

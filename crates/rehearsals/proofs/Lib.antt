@@ -1,0 +1,4 @@
+pub mod NumberedLines
+pub mod Runs
+pub mod NoFault
+pub mod Reported

@@ -1,0 +1,58 @@
+//! The table of a world.
+ghost use Rattle.std.specs.Prelude.{◌≡◌, ◌++◌, ℕ, List, OnOk, flat_map, map, string_bytes};
+ghost use Rattle.tables.specs.Table.{IsTable, row_of, stock_lines, transaction_lines};
+
+use report_lines::{TransactionRow, push_owed, push_registry, push_transaction};
+use std::alloc::Global;
+use units::{NoMemory, Node};
+use wire::Proposal;
+use world::{Stock, World};
+
+/// Where a transfer stands at its three nodes.
+fn row_of(world: &World, proposal: &Proposal) -> TransactionRow
+    ensures { result ≡ row_of world.now proposal.now }
+{
+    let id = proposal.id;
+    let acquirer = proposal.content.acquirer();
+    TransactionRow {
+        id,
+        acquirer,
+        at_initiator: world.status(Node::Registry(id.code), id),
+        at_log: world.status(Node::Itl, id),
+        at_acquirer: world.status(Node::Registry(acquirer), id),
+    }
+}
+
+fn push_transactions(alloc: Global, text: &mut String, world: &World) -> Result<(), NoMemory>
+    ensures { OnOk result (string_bytes text.new ≡ string_bytes text.old ++ transaction_lines world.now) }
+{
+    let transactions = world.transactions(alloc)?;
+    for proposal in transactions.as_slice() {
+        push_transaction(text, &row_of(world, *proposal))?;
+    }
+    Ok(())
+}
+
+fn push_stocks(text: &mut String, stocks: &[Stock]) -> Result<(), NoMemory>
+    ensures { OnOk result (string_bytes text.new ≡ string_bytes text.old ++ flat_map stock_lines stocks.now) }
+{
+    for stock in stocks {
+        push_registry(text, stock.code, stock.lines.as_slice())?;
+    }
+    Ok(())
+}
+
+/// Adds the table of a world: a line for each transfer, what each registry holds, and what is owed.
+///
+/// # Errors
+///
+/// Fails with `NoMemory` where there is no room for it; the text may have a part of it then.
+pub fn push_table(alloc: Global, text: &mut String, world: &World) -> Result<(), NoMemory>
+    ensures { OnOk result ((table : List ℕ) × IsTable world.now table × (string_bytes text.new ≡ string_bytes text.old ++ table)) }
+{
+    push_transactions(alloc, text, world)?;
+    let stocks = world.stocks(alloc)?;
+    push_stocks(text, stocks.as_slice())?;
+    let due = world.due(alloc)?;
+    push_owed(text, due.as_slice())
+}

@@ -1,0 +1,5 @@
+//! Worked rows of scripts: lines that are typed from their description, and each fault of what is none.
+#![tactic(auto)]
+
+#[cfg(test)]
+mod script_rows;

@@ -30,8 +30,13 @@ fn fault_of(fault: WeaveFault) -> OpFault
     }
 }
 
-/// The table of a run that leads to the committed records of the states.
-fn table_of(alloc: Global, scheme: &Scheme, states: &[State<Core>]) -> Result<String, OpFault>
+/// The table of a run that leads to the committed records of the states, one for each node: the log's, then those of the
+/// registries in the scheme's order.
+///
+/// # Errors
+///
+/// Fails with `Stuck` where no run leads to these records, as `audit` does, and with `NoMemory` where memory ran out.
+pub fn table_of(alloc: Global, scheme: &Scheme, states: &[State<Core>]) -> Result<String, OpFault>
     requires { length states.now ≡ length (nodes scheme.now) }
     ensures ok { IfOk result (λ s. IsAuditTable scheme.now (map committed_records states.now) (string_bytes s)) }
     ensures err { IfErr result (FailsToWeave scheme.now (map committed_records states.now)) }

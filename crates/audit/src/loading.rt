@@ -38,8 +38,14 @@ fn push(states: &mut Vec<State<Core>>, state: State<Core>) -> Result<(), NoMemor
     Ok(())
 }
 
-/// The states that the records of the first nodes' stores lead to.
-pub(crate) fn load_all<S: NodeStore>(
+/// The states that the records of the first nodes' stores lead to: the log's, then those of the registries in the
+/// scheme's order.
+///
+/// # Errors
+///
+/// Fails with `Store` for the first of the stores that could not be read, or has a damaged record, as `audit` does, and
+/// with `NoMemory` where memory ran out.
+pub fn load_all<S: NodeStore>(
     alloc: Global,
     scheme: &Scheme,
     stores: &mut [S],

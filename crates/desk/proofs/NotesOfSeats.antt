@@ -78,24 +78,21 @@ some_after : {X Y : Type 0} (g : X → Y) (P : Y → Type 0) (xs : List X) → A
 some_after g P xs some = any_at P (map g xs) (g some.1) (map_In g some.1 xs (In_contains xs some.1 (some.0, some.2, some.3))) some.4
 
 -- what was found among the notes in their order is so of the notes of the seats
-module _ {X : Type 0} (seen : X → Note) (held : Held) (seats : List Heard) (notes : List X) where
-  abbrev Found : Scheme → Node → List Input → Option ℕ → Type 0
-  Found scheme n journal found = MatchOption found (All (λ x. Bears scheme n journal (seen x)) notes) (λ len. Any (λ x. ((seen x).length ≡ len) × (Bears scheme n journal (seen x) → ⊥)) notes)
+module _ {X : Type 0} (seen : X → Note) (scheme : Scheme) (n : Node) (seats : List Heard) (notes : List X) where
+  abbrev Found : List Input → Option ℕ → Type 0
+  Found journal found = MatchOption found (All (λ x. Bears scheme n journal (seen x)) notes) (λ len. Any (λ x. ((seen x).length ≡ len) × (Bears scheme n journal (seen x) → ⊥)) notes)
 
-  found_among : IsPermutation (flat_map (λ (s : Heard). s.notes) seats) (map seen notes) → (result : Result (Option ℕ) NoMemory) → IfOk result (Found held.scheme held.node held.journal)
-      → IfOk result (λ found. MatchOption found (All (AllBorne held) seats) (λ len. Any (SomeUnborne held len) seats))
-  found_among moved (Err e) h = tt
-  found_among moved (Ok None) h =
-      all_of_each (λ (s : Heard). s.notes) (Bears held.scheme held.node held.journal) seats (map seen notes) moved (all_after seen (Bears held.scheme held.node held.journal) notes h)
-  found_among moved (Ok (Some len)) h =
-      let P : Note → Type 0 = λ note. (note.length ≡ len) × (Bears held.scheme held.node held.journal note → ⊥) in
+  abbrev FoundInSeats : List Input → Option ℕ → Type 0
+  FoundInSeats journal found = MatchOption found (All (AllBorne scheme n journal) seats) (λ len. Any (SomeUnborne scheme n journal len) seats)
+
+  found_among : (journal : List Input) → IsPermutation (flat_map (λ (s : Heard). s.notes) seats) (map seen notes) → (result : Result (Option ℕ) NoMemory) → IfOk result (Found journal) → IfOk result (FoundInSeats journal)
+  found_among journal moved (Err e) h = tt
+  found_among journal moved (Ok None) h =
+      all_of_each (λ (s : Heard). s.notes) (Bears scheme n journal) seats (map seen notes) moved (all_after seen (Bears scheme n journal) notes h)
+  found_among journal moved (Ok (Some len)) h =
+      let P : Note → Type 0 = λ note. (note.length ≡ len) × (Bears scheme n journal note → ⊥) in
       some_of_one (λ (s : Heard). s.notes) P seats (map seen notes) moved (some_after seen P notes h)
 
-  pub found_in_seats : (scheme : Scheme) (n : Node) (journal : List Input) → scheme ≡ held.scheme → n ≡ held.node → journal ≡ held.journal → IsPermutation (flat_map (λ (s : Heard). s.notes) seats) (map seen notes)
-      → (result : Result (Option ℕ) NoMemory) → IfOk result (Found scheme n journal)
-      → IfOk result (λ found. MatchOption found (All (AllBorne held) seats) (λ len. Any (SomeUnborne held len) seats))
-  found_in_seats scheme n journal schemes nodes journals moved result h =
-      found_among moved result
-      (subst (λ (s : Scheme). IfOk result (Found s held.node held.journal)) schemes
-      (subst (λ (m : Node). IfOk result (Found scheme m held.journal)) nodes
-      (subst (λ (j : List Input). IfOk result (Found scheme n j)) journals h)))
+  pub found_in_seats : (lent journal : List Input) → lent ≡ journal → IsPermutation (flat_map (λ (s : Heard). s.notes) seats) (map seen notes)
+      → (result : Result (Option ℕ) NoMemory) → IfOk result (Found lent) → IfOk result (FoundInSeats journal)
+  found_in_seats lent journal journals moved result h = found_among journal moved result (subst (λ (j : List Input). IfOk result (Found j)) journals h)

@@ -152,15 +152,18 @@ fn notes_by_length(alloc: Global, seats: &[Seat]) -> Result<Vec<&Note>, NoMemory
     Ok(all)
 }
 
-/// The length of a note that the journal of the state doesn't bear, or `None` where it bears all notes of the seats.
-/// Goes through the journal once. Or `NoMemory`.
+/// The length of a note that the journal of the state doesn't bear, at the core's node under its scheme, or `None`
+/// where it bears all notes of the seats. Goes through the journal once. Or `NoMemory`.
 pub(crate) fn find_unborne<C: NodeCore>(
+    core: C,
     state: &State<C>,
     seats: &[Seat],
 ) -> Result<Option<usize>, NoMemory>
-    ensures { IfOk result (λ found. MatchOption found (All (AllBorne state.now) seats.now) (λ len. Any (SomeUnborne state.now len) seats.now)) }
+    requires { C.journal_of core ≡ [] }
+    ensures { IfOk result (λ found. MatchOption found
+        (All (AllBorne (C.scheme_of core) (C.node_of core) state.now.journal) seats.now)
+        (λ len. Any (SomeUnborne (C.scheme_of core) (C.node_of core) state.now.journal len) seats.now)) }
 {
     let notes = notes_by_length(state.alloc(), seats)?;
-    let core = state.fresh()?;
     unborne_of(core, state.journal(), notes.as_slice())
 }

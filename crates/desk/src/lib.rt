@@ -23,5 +23,5 @@ pub use life::{Life, Unsettled};
 pub use locked::BATCH;
 pub use notes::{Asked, Lengths, Note, Ticket, Told};
 pub use seat::Seat;
-pub use settling::settle;
+pub use settling::{settle, settle_with};
 pub use state::{Receipt, State, Taken};

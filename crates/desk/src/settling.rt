@@ -1,7 +1,7 @@
 //! Settling: whether what the seats were told is what one thread alone would have been told.
-ghost use Rattle.std.specs.Prelude.{◌≡◌, ◌↔◌, ◌<◌, ◌≤◌, length, All, Any, IsTrue, MatchBool, MatchResult};
+ghost use Rattle.std.specs.Prelude.{◌≡◌, ◌↔◌, ◌<◌, ◌≤◌, [], length, All, Any, IsTrue, MatchBool, MatchResult};
 ghost use Rattle.desk.specs.Covering.{AllFit, Covers, Fits, NoneMissing, NoneTwice, SomeDiffers};
-ghost use Rattle.desk.specs.Settling.{IsBeyond, IsFaultOf, IsWithin, Settles, Stood};
+ghost use Rattle.desk.specs.Settling.{IsBeyond, IsUncovered, IsWithin, Settles, Stood};
 
 use crate::counting::{check_missing, check_twice, counts_of};
 use crate::judging::find_unborne;
@@ -13,7 +13,7 @@ use protocol::NodeCore;
 
 /// Each place since the opening is named by one ticket.
 fn check_places<C: NodeCore>(state: &State<C>, seats: &[Seat]) -> Result<(), Unsettled>
-    ensures { MatchResult result (λ _. NoneMissing state.now seats.now × NoneTwice state.now seats.now) (IsFaultOf state.now seats.now) }
+    ensures { MatchResult result (λ _. NoneMissing state.now seats.now × NoneTwice state.now seats.now) (IsUncovered state.now seats.now) }
 {
     let opening = state.opening();
     let counts = counts_of(state.alloc(), seats, opening, state.journal().len())?;
@@ -59,7 +59,7 @@ fn check_fit<C: NodeCore>(state: &State<C>, seats: &[Seat]) -> Result<(), usize>
 
 /// The tickets of the seats are the records since the opening.
 fn check_cover<C: NodeCore>(state: &State<C>, seats: &[Seat]) -> Result<(), Unsettled>
-    ensures { MatchResult result (λ _. Covers state.now seats.now) (IsFaultOf state.now seats.now) }
+    ensures { MatchResult result (λ _. Covers state.now seats.now) (IsUncovered state.now seats.now) }
 {
     check_places(state, seats)?;
     match check_fit(state, seats) {
@@ -91,14 +91,15 @@ fn has_fallen(seats: &[Seat]) -> bool
     false
 }
 
-/// How long the journal is, where what the seats were told is what one thread alone would have been told along the
-/// journal: each record since the opening was told once, as that record; what was confirmed is committed; no seat was
-/// told of a shorter journal than before; and the journal bears each note.
-///
-/// Fails with the first fault in the order of `Unsettled`, where there is one, and with `NoMemory` where memory ran
-/// out. Takes time in proportion to the records and the notes, but for the sorting of the notes by lengths.
-pub fn settle<C: NodeCore>(state: &State<C>, seats: &[Seat]) -> Result<Life, Unsettled>
-    ensures { Settles state.now seats.now result }
+/// As `settle`, where what is due is that of the core, at its node under its scheme, in place of the state's own: so a
+/// caller that can't name the state's knows under which scheme it has settled. The core has no record.
+pub fn settle_with<C: NodeCore>(
+    core: C,
+    state: &State<C>,
+    seats: &[Seat],
+) -> Result<Life, Unsettled>
+    requires { C.journal_of core ≡ [] }
+    ensures { Settles (C.scheme_of core) (C.node_of core) state.now seats.now result }
 {
     check_cover(state, seats)?;
     let committed = state.committed_count();
@@ -108,7 +109,7 @@ pub fn settle<C: NodeCore>(state: &State<C>, seats: &[Seat]) -> Result<Life, Uns
     if has_fallen(seats) {
         return Err(Unsettled::Fell);
     }
-    match find_unborne(state, seats) {
+    match find_unborne(core, state, seats) {
         Ok(None) => Ok(Life {
             opening: state.opening(),
             records: state.journal().len(),
@@ -117,4 +118,17 @@ pub fn settle<C: NodeCore>(state: &State<C>, seats: &[Seat]) -> Result<Life, Uns
         Ok(Some(length)) => Err(Unsettled::Untrue(length)),
         Err(_) => Err(Unsettled::NoMemory),
     }
+}
+
+/// How long the journal is, where what the seats were told is what one thread alone would have been told along the
+/// journal: each record since the opening was told once, as that record; what was confirmed is committed; no seat was
+/// told of a shorter journal than before; and the journal bears each note.
+///
+/// Fails with the first fault in the order of `Unsettled`, where there is one, and with `NoMemory` where memory ran
+/// out. Takes time in proportion to the records and the notes, but for the sorting of the notes by lengths.
+pub fn settle<C: NodeCore>(state: &State<C>, seats: &[Seat]) -> Result<Life, Unsettled>
+    ensures { Settles state.now.scheme state.now.node state.now seats.now result }
+{
+    let core = state.fresh()?;
+    settle_with(core, state, seats)
 }

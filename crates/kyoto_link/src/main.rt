@@ -1,23 +1,23 @@
 //! The program `kyoto-link`.
 #![tactic(auto)]
 
-ghost use Rattle.std.specs.Prelude.{◌≡◌, ◌<◌, ◌+◌, ◌++◌, IfOk, OnOk, codes, length, string_bytes};
-ghost use Rattle.units.specs.Code.{node_text};
-ghost use Rattle.world.specs.Kept.{nodes};
+mod files;
+mod running;
 
-use audit::{audit, read_first};
+use crate::files::{find_folder, open_store, open_stores, scheme_at};
+use crate::running::run_nodes;
+use audit::audit;
 use clap::Error;
-use durable::SqlStore;
-use inputs::{OpFault, node_of, read_scheme, store_fault, write_out};
+use inputs::{OpFault, node_of, write_out};
 use operator::{Action, UsageFault, chart, parse_words, show};
 use rehearsals::rehearse;
-use scheme::Scheme;
-use sqlite::File;
-use std::alloc::{AllocError, Global};
 use std::io::ErrorKind;
+use std::net::{Net, TcpListener, TcpStream};
 use std::process::ExitCode;
-use std::{env, fs, io};
-use units::Node;
+use std::rt::Clock as SystemClock;
+use std::sync::Wait;
+use std::thread::Threads;
+use std::{env, io};
 
 /// The exit status for words that are wrong.
 const WRONG_WORDS: u8 = 2;
@@ -29,82 +29,12 @@ fn report(rt: &impl Eprint, fault: OpFault) -> ExitCode {
     ExitCode::from(fault.status())
 }
 
-fn scheme_at(rt: &HostRuntime, path: &str) -> Result<Scheme, OpFault> {
-    match fs::open(rt, path) {
-        Ok(mut file) => read_scheme(rt.alloc(), &mut file),
-        Err(_) => Err(OpFault::Read),
-    }
-}
-
-fn find_folder(rt: &HostRuntime, path: &str) -> Result<(), OpFault> {
-    match fs::metadata(rt, path) {
-        Ok(metadata) if metadata.is_dir() => Ok(()),
-        _ => Err(OpFault::Read),
-    }
-}
-
-/// Where the node's store is.
-fn store_path(alloc: Global, folder: &str, node: Node) -> Result<String, AllocError>
-    ensures { IfOk result (λ s. string_bytes s ≡ folder.now ++ (codes "/" ++ (node_text node ++ codes ".db"))) }
-{
-    format!(in alloc; "{folder}/{node}.db")
-}
-
-fn open_store(rt: &HostRuntime, folder: &str, node: Node) -> Result<SqlStore<File>, OpFault> {
-    let Ok(path) = store_path(rt.alloc(), folder, node) else {
-        return Err(OpFault::NoMemory);
-    };
-    match SqlStore::open_path(rt, path.as_str(), node) {
-        Ok(store) => Ok(store),
-        Err(fault) => Err(store_fault(node, fault)),
-    }
-}
-
 fn show_node(rt: &HostRuntime, scheme: &str, folder: &str, node: &str) -> Result<(), OpFault> {
     let scheme = scheme_at(rt, scheme)?;
     let node = node_of(&scheme, node)?;
     find_folder(rt, folder)?;
     let mut store = open_store(rt, folder, node)?;
     show(rt.alloc(), node, &mut store, &mut io::writer(rt))
-}
-
-/// Opens the store of one node more. Where it can't be opened, a fault in the records of those before it comes first.
-fn open_next(
-    rt: &HostRuntime,
-    scheme: &Scheme,
-    folder: &str,
-    node: Node,
-    stores: &mut Vec<SqlStore<File>>,
-) -> Result<(), OpFault>
-    requires { length stores.old.items < length (nodes scheme.now) }
-    ensures { OnOk result (length stores.new.items ≡ length stores.old.items + 1) }
-{
-    match open_store(rt, folder, node) {
-        Ok(store) => match stores.push(store) {
-            Ok(()) => Ok(()),
-            Err(_) => Err(OpFault::NoMemory),
-        },
-        Err(fault) => {
-            read_first(rt.alloc(), scheme, stores.as_mut_slice())?;
-            Err(fault)
-        }
-    }
-}
-
-/// Opens the stores of all nodes: the log's, then those of the registries in the scheme's order.
-fn open_stores(
-    rt: &HostRuntime,
-    scheme: &Scheme,
-    folder: &str,
-) -> Result<Vec<SqlStore<File>>, OpFault>
-    ensures { IfOk result (λ v. length v.items ≡ length (nodes scheme.now)) }
-{
-    let mut stores = Vec::new(rt.alloc());
-    open_next(rt, scheme, folder, Node::Itl, &mut stores)?;
-    for member in scheme.registries() {
-        open_next(rt, scheme, folder, Node::Registry(member.code), &mut stores)?;
-    }
-    Ok(stores)
 }
 
 fn audit_stores(rt: &HostRuntime, scheme: &str, folder: &str) -> Result<(), OpFault> {
@@ -119,7 +49,11 @@ fn audit_stores(rt: &HostRuntime, scheme: &str, folder: &str) -> Result<(), OpFa
     )
 }
 
-fn run(rt: &HostRuntime, action: &Action) -> Result<(), OpFault> {
+/// Does what the action says. `threads` is the same runtime, as one that may start threads, wait and open sockets.
+fn act<R>(rt: &HostRuntime, threads: &R, action: &Action) -> Result<(), OpFault>
+where
+    R: Threads + Wait + SystemClock + Net<Listener = TcpListener, Stream = TcpStream> + Sync,
+{
     match action {
         Action::Rehearse => rehearse(rt.alloc(), &mut rt.reader(), &mut io::writer(rt)),
         Action::Chart => chart(rt.alloc(), &mut rt.reader(), &mut io::writer(rt)),
@@ -129,6 +63,17 @@ fn run(rt: &HostRuntime, action: &Action) -> Result<(), OpFault> {
             node,
         } => show_node(rt, scheme.as_str(), folder.as_str(), node.as_str()),
         Action::Audit { scheme, folder } => audit_stores(rt, scheme.as_str(), folder.as_str()),
+        Action::Run {
+            scheme,
+            folder,
+            script,
+        } => run_nodes(
+            rt,
+            threads,
+            scheme.as_str(),
+            folder.as_str(),
+            script.as_str(),
+        ),
     }
 }
 
@@ -161,10 +106,13 @@ fn ended(rt: &HostRuntime, done: Result<(), OpFault>) -> ExitCode {
     }
 }
 
-/// Does what the words ask for.
-fn obey(rt: &HostRuntime, words: &[String]) -> ExitCode {
+/// Does what the words ask for. `threads` is as for `act`.
+fn obey<R>(rt: &HostRuntime, threads: &R, words: &[String]) -> ExitCode
+where
+    R: Threads + Wait + SystemClock + Net<Listener = TcpListener, Stream = TcpStream> + Sync,
+{
     match parse_words(rt.alloc(), words) {
-        Ok(action) => ended(rt, run(rt, &action)),
+        Ok(action) => ended(rt, act(rt, threads, &action)),
         Err(UsageFault::Help(error)) => ended(rt, write_help(rt, &error)),
         Err(UsageFault::Usage(error)) => refuse(rt, &error),
         Err(UsageFault::NoMemory) => report(rt, OpFault::NoMemory),
@@ -178,7 +126,7 @@ fn words(rt: &HostRuntime) -> io::Result<Vec<String>> {
 
 fn main(rt: HostRuntime) -> ExitCode {
     match words(&rt) {
-        Ok(words) => obey(&rt, words.as_slice()),
+        Ok(words) => obey(&rt, &rt, words.as_slice()),
         Err(error) if error.kind() == ErrorKind::OutOfMemory => report(&rt, OpFault::NoMemory),
         Err(_) => {
             let _ = eprintln!(rt;

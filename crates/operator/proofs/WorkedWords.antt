@@ -56,7 +56,7 @@ pub no_subcommand : faults_in (codes "kyoto-link" ∷ []) ≡ MissingSubcommand 
 unfolding clap_on_literals
 no_subcommand = refl
 
-pub unknown_subcommand : faults_in (codes "kyoto-link" ∷ codes "run" ∷ []) ≡ UnknownArgument ∷ InvalidSubcommand ∷ []
+pub unknown_subcommand : faults_in (codes "kyoto-link" ∷ codes "walk" ∷ []) ≡ UnknownArgument ∷ InvalidSubcommand ∷ []
 unfolding clap_on_literals
 unknown_subcommand = refl
 
@@ -88,3 +88,20 @@ audit_folder = refl
 pub no_folder : faults_in (codes "kyoto-link" ∷ codes "audit" ∷ codes "s.json" ∷ []) ≡ MissingRequiredArgument ∷ []
 unfolding clap_on_literals
 no_folder = refl
+
+-- ---- words that run a script
+
+abbrev run_words : List (List ℕ)
+run_words = codes "kyoto-link" ∷ codes "run" ∷ codes "s.json" ∷ codes "d" ∷ codes "t" ∷ []
+
+pub run_taken : takes kyoto_link run_words ≡ true
+unfolding clap_on_literals
+run_taken = refl
+
+pub run_script : option_and_then (λ p. first_of (codes "SCRIPT") p.1) (subcommand_of kyoto_link run_words) ≡ Some (codes "t")
+unfolding clap_on_literals
+run_script = refl
+
+pub no_script : faults_in (codes "kyoto-link" ∷ codes "run" ∷ codes "s.json" ∷ codes "d" ∷ []) ≡ MissingRequiredArgument ∷ []
+unfolding clap_on_literals
+no_script = refl

@@ -6,7 +6,7 @@ ghost use Rattle.clap.specs.Values.{kind_of};
 ghost use Rattle.clap.specs.Words.{HasMatchesOf, first_value, found_of, rule_of};
 ghost use Rattle.clap.specs.declared.error.kind.ErrorKind.TheVariants.{OutOfMemory};
 ghost use Rattle.clap.specs.declared.parser.matches.ArgMatches.{ArgMatches};
-ghost use Rattle.operator.specs.Words.{NamesAction, IsCommand, IsFaultOf, IsOf, IsSubcommand, IsUsageFault, audit_shape, faults_in, kyoto_link, positional, show_shape, with_events};
+ghost use Rattle.operator.specs.Words.{NamesAction, IsCommand, IsFaultOf, IsOf, IsSubcommand, IsUsageFault, audit_shape, faults_in, kyoto_link, positional, run_shape, show_shape, with_events};
 
 use clap::error::ErrorKind;
 use clap::{Arg, ArgMatches, Command, Error};
@@ -22,7 +22,7 @@ const NOTES: &str = "Example:
 
 Exit status:
   0  done
-  1  no run leads to the records of the stores
+  1  no run leads to the records of the stores, or what a node's threads were told isn't what one would have been told
   2  the words are wrong
   3  the input has a fault, or could not be read, or the output could not be written
   4  a node's store has a fault
@@ -93,6 +93,32 @@ Exit status:
 
 docs/FORMATS.md describes schemes, records, stores and the table.";
 
+/// The end of the help of `run`.
+const RUN_NOTES: &str =
+    "Each node runs in threads of its own, and nodes exchange messages over sockets at free ports of 127.0.0.1. The
+store of a node is the file DIR/NODE.db: one for the log, and one for each registry of the scheme. A missing store is
+made, and is empty; a run goes on from the records that a store has. SCRIPT has a line for each order and each question:
+
+  propose NZ 1 JP 7 NZ:1:1-100:AAU
+  until JP NZ1 Completed 10000
+
+After the last line all nodes stop. What each line came to is written, and then the table of a run that leads to the
+records of all nodes, and to no others.
+
+Example:
+  kyoto-link run scheme.json stores script
+
+Exit status:
+  0  done
+  1  no run leads to these records (kyoto-link: stuck at NZ 2), or what the threads of a node were told isn't what
+     one thread would have been told (kyoto-link: unsettled NZ)
+  3  SCHEME or SCRIPT has a fault, one of them or DIR could not be read, no port is free, or the output could not
+     be written
+  4  a store has a fault (kyoto-link: store NZ: device)
+  5  out of memory
+
+docs/FORMATS.md describes schemes, scripts, records, stores and the table.";
+
 /// What the words ask for.
 #[derive(Debug, Drop)]
 pub enum Action {
@@ -112,6 +138,13 @@ pub enum Action {
     Audit {
         scheme: String,
         folder: String,
+    },
+    /// Run the nodes of the scheme in threads, with their stores in the folder `folder`, while the lines of the file
+    /// `script` are ordered and asked, and report. The file `scheme` has the scheme.
+    Run {
+        scheme: String,
+        folder: String,
+        script: String,
     },
 }
 
@@ -185,6 +218,26 @@ fn audit_command<'a>(alloc: Global) -> Result<Command<'a>, AllocError>
         .arg(folder)
 }
 
+fn run_command<'a>(alloc: Global) -> Result<Command<'a>, AllocError>
+    ensures { IfOk result (IsSubcommand run_shape) }
+{
+    let scheme = positional(alloc, "SCHEME", "The file with the scheme");
+    let folder = positional(alloc, "DIR", "The folder with the nodes' stores");
+    let script = positional(
+        alloc,
+        "SCRIPT",
+        "The file with a line for each order and each question",
+    );
+    Command::new(alloc, "run")
+        .about(
+            "Run all nodes with threads, sockets and stores, do what a script says, and write what each line came to and the table that the records lead to",
+        )
+        .after_help(RUN_NOTES)
+        .arg(scheme)?
+        .arg(folder)?
+        .arg(script)
+}
+
 /// The program, with the subcommands that read events.
 fn event_commands<'a>(alloc: Global) -> Result<Command<'a>, AllocError>
     ensures { IfOk result (IsCommand with_events) }
@@ -205,7 +258,8 @@ fn command<'a>(alloc: Global) -> Result<Command<'a>, AllocError>
     ensures { IfOk result (IsCommand kyoto_link) }
 {
     let program = event_commands(alloc)?.subcommand(show_command(alloc)?)?;
-    program.subcommand(audit_command(alloc)?)
+    let program = program.subcommand(audit_command(alloc)?)?;
+    program.subcommand(run_command(alloc)?)
 }
 
 /// The value of an argument, or `None`, where there is none or memory was refused.
@@ -237,6 +291,19 @@ fn audit_action(alloc: Global, matches: &ArgMatches) -> Option<Action>
     Some(Action::Audit { scheme, folder })
 }
 
+fn run_action(alloc: Global, matches: &ArgMatches) -> Option<Action>
+    ensures { IfSome result (IsOf (codes "run") (first_value (found_of matches.now))) }
+{
+    let scheme = value_of(alloc, matches, "SCHEME")?;
+    let folder = value_of(alloc, matches, "DIR")?;
+    let script = value_of(alloc, matches, "SCRIPT")?;
+    Some(Action::Run {
+        scheme,
+        folder,
+        script,
+    })
+}
+
 /// The action that the matches name. `None` only where memory was refused, if `clap` gave them.
 fn action_of(alloc: Global, matches: &ArgMatches) -> Option<Action>
     ensures { IfSome result (NamesAction matches.now) }
@@ -253,6 +320,9 @@ fn action_of(alloc: Global, matches: &ArgMatches) -> Option<Action>
     }
     if name == "audit" {
         return audit_action(alloc, inner);
+    }
+    if name == "run" {
+        return run_action(alloc, inner);
     }
     None
 }

@@ -256,7 +256,7 @@ pub struct NodeToRun<'a, C: NodeCore, B: Bell, L, D, K, G, S> {
     pub store: S,
 }
 
-/// As `run_node`.
+/// As `run_node`. Where memory ran out, the desk has stopped.
 fn run_one<C, B, L, D, K, G, S, R>(
     rt: &R,
     alloc: Global,
@@ -276,12 +276,18 @@ where
     ensures faults { IfOk result (λ end. S.faults end.store ≡ faults_with (S.faults node.entry.store) end.fault) }
 {
     let NodeToRun { parts, store } = node;
-    run_node(rt, alloc, &parts, store)
+    let end = run_node(rt, alloc, &parts, store);
+    if end.is_err() {
+        // No thread of it commits, so that whoever waits for a commit has to be told.
+        parts.desk.stop(rt);
+    }
+    end
 }
 
 /// Runs several nodes, each as `run_node` does, until the desk of each has stopped, and returns their ends in the order
-/// of the nodes. What happens at one node stops no other one. Fails with `NoMemory` where memory ran out: then nothing
-/// is told of what the threads did.
+/// of the nodes. What happens at one node stops no other one; where memory ran out for a node's threads, its end is
+/// `NoMemory` and its desk has stopped. Fails with `NoMemory` where memory ran out: then nothing is told of what the
+/// threads did.
 pub fn run_all<C, B, L, D, K, G, S, R>(
     rt: &R,
     alloc: Global,

@@ -10,4 +10,5 @@ mod places;
 mod weaving;
 
 pub use fault::WeaveFault;
+pub use nodes::{nodes_of, place_of};
 pub use weaving::{Woven, weave};

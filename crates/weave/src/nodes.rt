@@ -24,8 +24,8 @@ fn registry_place(members: &[SchemeRegistry], code: Code) -> Option<usize>
         .ok()
 }
 
-/// The place of that node among the nodes of the scheme.
-pub(crate) fn place_of(scheme: &Scheme, node: Node) -> Option<usize>
+/// The place of that node among the nodes of the scheme: the log, then the registries in the scheme's order.
+pub fn place_of(scheme: &Scheme, node: Node) -> Option<usize>
     ensures { result ≡ place_of scheme.now node }
 {
     match node {
@@ -37,8 +37,9 @@ pub(crate) fn place_of(scheme: &Scheme, node: Node) -> Option<usize>
     }
 }
 
-/// The nodes of the scheme: the log, then the registries in the scheme's order.
-pub(crate) fn nodes_of(alloc: Global, scheme: &Scheme) -> Result<Vec<Node>, NoMemory>
+/// The nodes of the scheme: the log, then the registries in the scheme's order. Fails with `NoMemory` where memory ran
+/// out.
+pub fn nodes_of(alloc: Global, scheme: &Scheme) -> Result<Vec<Node>, NoMemory>
     ensures { IfOk result (λ v. v.items ≡ nodes scheme.now) }
 {
     let mut nodes = Vec::new(alloc);

@@ -366,6 +366,7 @@ enum Outcome {
     Chart,
     Show,
     Audit,
+    Run,
     Help,
     Usage,
     NoMemory,
@@ -377,6 +378,7 @@ fn outcome_of(alloc: Global, words: &[&str]) -> Outcome {
         Ok(Action::Chart) => Outcome::Chart,
         Ok(Action::Show { .. }) => Outcome::Show,
         Ok(Action::Audit { .. }) => Outcome::Audit,
+        Ok(Action::Run { .. }) => Outcome::Run,
         Err(UsageFault::Help(_)) => Outcome::Help,
         Err(UsageFault::Usage(_)) => Outcome::Usage,
         Err(UsageFault::NoMemory) => Outcome::NoMemory,
@@ -385,13 +387,15 @@ fn outcome_of(alloc: Global, words: &[&str]) -> Outcome {
 
 #[test]
 fn command_words(rt: HostRuntime) {
-    let cases: [(&[&str], Outcome); 18] = [
+    let cases: [(&[&str], Outcome); 20] = [
         (&["kyoto-link", "rehearse"], Outcome::Rehearse),
         (&["kyoto-link", "chart"], Outcome::Chart),
         (&["kyoto-link", "--help"], Outcome::Help),
         (&["kyoto-link", "-h"], Outcome::Help),
         (&["kyoto-link", "help"], Outcome::Help),
         (&["kyoto-link", "run"], Outcome::Usage),
+        (&["kyoto-link", "run", "s.json", "d"], Outcome::Usage),
+        (&["kyoto-link", "run", "s.json", "d", "l"], Outcome::Run),
         (&["kyoto-link", "audit"], Outcome::Usage),
         (&["kyoto-link", "audit", "s.json"], Outcome::Usage),
         (&["kyoto-link", "audit", "s.json", "d"], Outcome::Audit),
@@ -411,6 +415,25 @@ fn command_words(rt: HostRuntime) {
     for (words, wanted) in cases {
         assert_eq!(rt; outcome_of(rt.alloc(), words), wanted);
     }
+}
+
+#[test]
+fn words_of_run(rt: HostRuntime) -> Result<(), Fail> {
+    let words = ["kyoto-link", "run", "s.json", "d", "lines"];
+    let Ok(
+        Action::Run {
+            scheme,
+            folder,
+            script,
+        },
+    ) = parse_words(rt.alloc(), &words)
+    else {
+        return Err("not Run".into());
+    };
+    assert_eq!(rt; scheme.as_str(), "s.json");
+    assert_eq!(rt; folder.as_str(), "d");
+    assert_eq!(rt; script.as_str(), "lines");
+    Ok(())
 }
 
 #[test]

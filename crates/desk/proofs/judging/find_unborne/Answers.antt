@@ -10,8 +10,8 @@ use Rattle.desk.proofs.judging.find_unborne.Goals as goal
 pub returns : goal.returns
 returns g c =
     let moved = subst (λ notes. IsPermutation (flat_map (λ (s : Heard). s.notes) c.args.seats.now) (map (λ note. note.now) notes)) (sym c.as_slice.ensures.value) c.in_ok-notes.ensures.notes in
-    found_in_seats (λ note. note.now) c.args.state.now c.args.seats.now c.as_slice.result.now (g.C.NodeCore.scheme_of c.in_ok-core.core) (g.C.NodeCore.node_of c.in_ok-core.core) c.journal.result.now
-    c.in_ok-core.ensures.scheme c.in_ok-core.ensures.node c.journal.ensures moved c.unborne_of.result c.unborne_of.ensures
+    found_in_seats (λ note. note.now) (g.C.NodeCore.scheme_of c.args.core) (g.C.NodeCore.node_of c.args.core) c.args.seats.now c.as_slice.result.now c.journal.result.now c.args.state.now.journal
+    c.journal.ensures moved c.unborne_of.result c.unborne_of.ensures
 
 pub unborne_of-requires-clause-no_record : goal.unborne_of-requires-clause-no_record
 unborne_of-requires-clause-no_record g c =

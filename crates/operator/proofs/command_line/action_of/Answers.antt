@@ -12,3 +12,8 @@ pub returns-then-eq-4 : goal.returns-then-eq-4
 returns-then-eq-4 c =
     let name : subcommand_name_of c.args.matches.now ≡ Some (codes "audit") = search rules in
     names_action c.args.matches.now c.in_ok-name.inner.now c.audit_action.result (codes "audit") name c.in_ok-name.ensures.rows c.audit_action.ensures
+
+pub returns-then-eq-5 : goal.returns-then-eq-5
+returns-then-eq-5 c =
+    let name : subcommand_name_of c.args.matches.now ≡ Some (codes "run") = search rules in
+    names_action c.args.matches.now c.in_ok-name.inner.now c.run_action.result (codes "run") name c.in_ok-name.ensures.rows c.run_action.ensures

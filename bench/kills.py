@@ -1,0 +1,118 @@
+#!/usr/bin/env python3
+"""Kills runs at random moments: whatever a run had done, its stores have a table, and a new run goes on from there.
+
+A script of transfers, each registry's to the next one, is run over one folder and killed after a random while, again
+and again. After each kill `audit` must write a table in which each allotted unit is held once or owed once, and the next
+script orders what the table lacks. The last run isn't killed: it must end with every transfer Completed at its three
+nodes, and `audit` must write the table that it wrote. The exit status is 1 where that isn't so.
+"""
+
+import argparse
+import pathlib
+import random
+import re
+import subprocess
+import sys
+import tempfile
+import time
+
+from rehearse import LAUNCHER, PROGRAM, codes_of, scheme
+
+TURNS = 60_000
+
+
+def transactions(table):
+    """The words of the lines of transactions."""
+    return [line.split() for line in table.splitlines() if line.startswith("transaction ")]
+
+
+def tonnes(table):
+    """How many units the table says are held or owed."""
+    counts = re.findall(r"^(?:registry \w+ held|owed) (\d+)", table, re.MULTILINE)
+    return sum(map(int, counts))
+
+
+def is_completed(words):
+    return words[3::2] == ["Completed"] * 3
+
+
+def script(codes, goal, table):
+    """Orders for what the table lacks of the goal, a unit each, and a question at the end of each transfer that isn't
+    Completed."""
+    done = {code: 0 for code in codes}
+    names = []
+    for words in transactions(table):
+        done[words[2]] += 1
+        if not is_completed(words):
+            names.append((words[6], words[1]))
+    lines = []
+    for number in range(goal):
+        for place, code in enumerate(codes):
+            if number >= done[code]:
+                other = codes[(place + 1) % len(codes)]
+                lines.append(f"propose {code} 1 {other} 1 {code}:1:{number + 1}-{number + 1}:AAU")
+                names.append((other, f"{code}{number + 1}"))
+    lines += [f"until {node} {name} Completed {TURNS}" for node, name in names]
+    return "".join(f"{line}\n" for line in lines)
+
+
+class Folder:
+    """A folder with a scheme, a script and stores."""
+
+    def __init__(self, path, codes, goal):
+        self.codes, self.goal, self.path = codes, goal, pathlib.Path(path)
+        self.scheme, self.stores, self.script = (self.path / name for name in ("scheme", "stores", "script"))
+        self.scheme.write_text(scheme(codes, goal))
+        self.stores.mkdir()
+
+    def audit(self):
+        ended = subprocess.run([PROGRAM, "audit", self.scheme, self.stores], capture_output=True, text=True, check=False)
+        if ended.returncode != 0:
+            sys.exit(f"audit ended with status {ended.returncode}: {ended.stderr.strip()}")
+        if tonnes(ended.stdout) != self.goal * len(self.codes):
+            sys.exit(f"audit counts {tonnes(ended.stdout)} tonnes:\n{ended.stdout}")
+        return ended.stdout
+
+    def started(self, table):
+        """A run of what the table lacks."""
+        self.script.write_text(script(self.codes, self.goal, table))
+        words = [PROGRAM, "run", self.scheme, self.stores, self.script]
+        return subprocess.Popen(words, stdout=subprocess.PIPE, stderr=subprocess.PIPE, text=True)
+
+
+def main():
+    words = argparse.ArgumentParser(description=__doc__, formatter_class=argparse.RawDescriptionHelpFormatter)
+    words.add_argument("--kills", type=int, default=50, help="how many runs are killed")
+    words.add_argument("--registries", type=int, default=8)
+    words.add_argument("--transfers", type=int, default=1_000, help="of all registries together")
+    words.add_argument("--longest", type=float, default=1.0, help="after how many seconds at most a run is killed")
+    words.add_argument("--seed", type=int, default=None)
+    given = words.parse_args()
+    chance = random.Random(given.seed)
+    subprocess.run([LAUNCHER, "--version"], stdout=subprocess.DEVNULL, check=True)
+    codes = codes_of(given.registries)
+    with tempfile.TemporaryDirectory() as room:
+        folder = Folder(room, codes, given.transfers // given.registries)
+        table = folder.audit()
+        for kill in range(given.kills):
+            run = folder.started(table)
+            time.sleep(chance.uniform(0, given.longest))
+            run.kill()
+            run.communicate()
+            table = folder.audit()
+            print(f"kill {kill + 1}: {sum(map(is_completed, transactions(table)))} of {len(transactions(table))} completed", flush=True)
+        begin = time.monotonic()
+        run = folder.started(table)
+        text, said = run.communicate()
+        if run.returncode != 0:
+            sys.exit(f"the last run ended with status {run.returncode}: {said.strip()}")
+        table = folder.audit()
+        if not text.endswith(table):
+            sys.exit("audit writes another table than the last run")
+        if len(transactions(table)) != folder.goal * len(codes) or not all(map(is_completed, transactions(table))):
+            sys.exit("a transfer isn't completed after the last run")
+        print(f"the last run took {time.monotonic() - begin:.1f} s; all transfers are completed, and audit agrees")
+
+
+if __name__ == "__main__":
+    main()

@@ -1,0 +1,106 @@
+//! The command `run`.
+ghost use Rattle.std.specs.Prelude.{◌≡◌, IfOk, length, vec_len};
+ghost use Rattle.world.specs.Kept.{nodes};
+
+use crate::files::{find_folder, open_stores, scheme_at, script_at};
+use audit::load_all;
+use desk::OpenGate;
+use durable::SqlStore;
+use inputs::OpFault;
+use runs::{Loaded, Network, run_script};
+use scheme::Scheme;
+use scripts::ScriptLine;
+use sessions::WallClock;
+use sockets::{Port, Ports, open_ports};
+use sqlite::File;
+use std::io;
+use std::io::ErrorKind;
+use std::net::{Net, TcpListener, TcpStream};
+use std::rt::Clock as SystemClock;
+use std::sync::Wait;
+use std::thread::Threads;
+use units::Node;
+use weave::nodes_of;
+
+/// The stores of all nodes, and the states that their records lead to.
+fn load_nodes(
+    rt: &HostRuntime,
+    scheme: &Scheme,
+    folder: &str,
+) -> Result<Loaded<SqlStore<File>>, OpFault>
+    ensures states { IfOk result (λ l. vec_len l.states ≡ length (nodes scheme.now)) }
+    ensures stores { IfOk result (λ l. vec_len l.stores ≡ length (nodes scheme.now)) }
+{
+    let mut stores = open_stores(rt, scheme, folder)?;
+    let states = load_all(rt.alloc(), scheme, stores.as_mut_slice())?;
+    Ok(Loaded { states, stores })
+}
+
+/// A listener for each node.
+fn open_all<R: Net<Listener = TcpListener, Stream = TcpStream>>(
+    rt: &HostRuntime,
+    network: &R,
+    nodes: &[Node],
+) -> Result<Vec<Port>, OpFault>
+    ensures { IfOk result (λ v. vec_len v ≡ length nodes.now) }
+{
+    match open_ports(network, rt.alloc(), nodes.len()) {
+        Ok(ports) => Ok(ports),
+        Err(error) if error.kind() == ErrorKind::OutOfMemory => Err(OpFault::NoMemory),
+        Err(_) => Err(OpFault::Read),
+    }
+}
+
+/// Runs the nodes in threads, over connections of the loopback interface, while the script is played, and reports.
+/// `threads` is the same runtime, as one that may start threads, wait and open sockets.
+fn run_loaded<R>(
+    rt: &HostRuntime,
+    threads: &R,
+    scheme: &Scheme,
+    lines: &[ScriptLine],
+    loaded: Loaded<SqlStore<File>>,
+) -> Result<(), OpFault>
+where
+    R: Threads + Wait + SystemClock + Net<Listener = TcpListener, Stream = TcpStream> + Sync,
+    requires states { vec_len loaded.states ≡ length (nodes scheme.now) }
+    requires stores { vec_len loaded.stores ≡ length (nodes scheme.now) }
+{
+    let nodes = nodes_of(rt.alloc(), scheme)?;
+    let listeners = open_all(rt, threads, nodes.as_slice())?;
+    let dial = Ports::of(threads, rt.alloc(), nodes.as_slice(), listeners.as_slice())?;
+    let network = Network {
+        listeners: listeners.as_slice(),
+        dial: &dial,
+        clock: &WallClock::new(threads),
+        gate: &OpenGate,
+    };
+    run_script(
+        threads,
+        rt.alloc(),
+        scheme,
+        lines,
+        loaded,
+        &network,
+        &mut io::writer(rt),
+    )
+}
+
+/// The command `run`. Before anything runs it looks at the scheme, then at the whole script, at the folder, at the
+/// stores, and opens the ports last; the first fault of these ends it. `threads` is the same runtime, as one that may
+/// start threads, wait and open sockets.
+pub(crate) fn run_nodes<R>(
+    rt: &HostRuntime,
+    threads: &R,
+    scheme: &str,
+    folder: &str,
+    script: &str,
+) -> Result<(), OpFault>
+where
+    R: Threads + Wait + SystemClock + Net<Listener = TcpListener, Stream = TcpStream> + Sync,
+{
+    let scheme = scheme_at(rt, scheme)?;
+    let lines = script_at(rt, script)?;
+    find_folder(rt, folder)?;
+    let loaded = load_nodes(rt, &scheme, folder)?;
+    run_loaded(rt, threads, &scheme, lines.as_slice(), loaded)
+}

@@ -1,0 +1,40 @@
+-- The seats of one node after another.
+use Rattle.std.proofs.Common.{◌≡◌, ◌∙◌, ◌≤◌, ℕ, zero, suc, List, [], ◌∷◌, ◌++◌, drop, length, map, Some, inl, inr, sym, ap, subst, arith, length-append}
+use Rattle.std.specs.Prelude.{Contains, slice_get}
+use Rattle.std.proofs.lemmas.List.{length-map, map-append}
+use Rattle.std.proofs.lemmas.Option.{slice_get_within}
+use Rattle.lemmas.proofs.OneValue.{one_some}
+use Rattle.desk.specs.Views.{Heard}
+use Rattle.runs.specs.Gathered.{AreGatheredTo}
+use Rattle.runs.proofs.Played.{last_or_before}
+
+drop_at : {X : Type 0} (k : ℕ) (xs : List X) (x : X) (ys : List X) → drop k xs ≡ x ∷ ys → (slice_get xs k ≡ Some x) × (drop (suc k) xs ≡ ys)
+drop_at zero [] x ys e = absurd (cc (e))
+drop_at (suc k) [] x ys e = absurd (cc (e))
+drop_at zero (z ∷ zs) x ys e = (cc (e), cc (e))
+drop_at (suc k) (z ∷ zs) x ys e = drop_at k zs x ys e
+
+module _ {V : Type 0} (f : V → List Heard) (own : List Heard) (all : List V) (v : V) (seat : Heard) (rest next : List Heard) (left : rest ≡ drop (length all) own) (taken : rest ≡ seat ∷ next) where
+  pub own_at : (slice_get own (length all) ≡ Some seat) × (drop (suc (length all)) own ≡ next)
+  own_at = drop_at (length all) own seat next (sym left ∙ taken)
+
+  gathered_last : Contains (f v) seat → AreGatheredTo (length all) own (map f all) → AreGatheredTo (length (all ++ v ∷ [])) own (map f (all ++ v ∷ []))
+  gathered_last among before = λ k s h under at_own at_all.
+      elim (last_or_before (map f all) (f v) h k (ap (λ (l : List (List Heard)). slice_get l k) (sym (map-append f all (v ∷ []))) ∙ at_all)) [
+        | inl early ↦ before k s h (omega (arith, slice_get_within (map f all) k h early, length-map all f)) at_own early
+        | inr last ↦
+            let k_is : k ≡ length all = omega (arith, last.0, length-map all f) in
+            let same : seat ≡ s = one_some seat s (sym own_at.0 ∙ ap (slice_get own) (sym k_is) ∙ at_own) in
+            subst (Contains h) same (subst (λ (x : List Heard). Contains x seat) (sym last.1) among)
+      ]
+
+  pub gathered_more : (new : List V) → new ≡ all ++ v ∷ [] → Contains (f v) seat → AreGatheredTo (length all) own (map f all) → AreGatheredTo (length new) own (map f new)
+  gathered_more new is among before = subst (λ (xs : List V). AreGatheredTo (length xs) own (map f xs)) (sym is) (gathered_last among before)
+
+  pub rest_more : (new : List V) → new ≡ all ++ v ∷ [] → next ≡ drop (length new) own
+  rest_more new is =
+      let longer : length new ≡ suc (length all) = omega (arith, ap (λ (xs : List V). length xs) is, length-append all (v ∷ [])) in
+      sym own_at.1 ∙ ap (λ (n : ℕ). drop n own) (sym longer)
+
+  pub count_more : (new : List V) → new ≡ all ++ v ∷ [] → length new ≤ length own
+  count_more new is = omega (arith, ap (λ (xs : List V). length xs) is, length-append all (v ∷ []), slice_get_within own (length all) seat own_at.0)

@@ -1,0 +1,81 @@
+-- What a run has written when it fails.
+use Rattle.std.proofs.Common.{◌≡◌, ◌<◌, ℕ, List, Option, Some, None, Result, Ok, Err, IfOk, IfErr, OnOk, length, take, inl, inr, refl, sym, subst}
+use Rattle.std.specs.Io.KnownBytes.{Appends, Keeps}
+use Rattle.scheme.specs.declared.registries.Scheme.{Scheme}
+use Rattle.inputs.specs.declared.fault.OpFault.{OpFault}
+use Rattle.inputs.specs.declared.fault.OpFault.TheVariants.{Input, Read, Write, Store, Stuck, Unsettled, NoMemory}
+use Rattle.scripts.specs.declared.line.ScriptLine.{ScriptLine}
+use Rattle.runs.specs.Answers.{answer_lines}
+use Rattle.runs.specs.Runs.{FailsToReport, FailsToRun, HasAnswered, IsLateFault, IsReported, IsRunReport, IsTableFault}
+use Rattle.runs.specs.declared.answer.Answer.{Answer}
+use Rattle.desk.specs.Views.{Held, Heard}
+
+pub late_fault : (e : OpFault) (scheme : Scheme) (helds : List Held) (seats : List (List Heard)) → IsTableFault scheme helds seats e → IsLateFault e
+late_fault (Unsettled told) scheme helds seats h = tt
+late_fault (Stuck n place) scheme helds seats h = tt
+late_fault NoMemory scheme helds seats h = tt
+late_fault (Input line cause) scheme helds seats h = absurd h
+late_fault Read scheme helds seats h = absurd h
+late_fault (Write count) scheme helds seats h = absurd h
+late_fault (Store told fault) scheme helds seats h = absurd h
+
+module _ (scheme : Scheme) (lines : List ScriptLine) (before after : Option (List ℕ)) (answers : List Answer) (all : length answers ≡ length lines) (text : List ℕ) (is : text ≡ answer_lines 1 answers) where
+  answered : Appends before after text → HasAnswered lines before after
+  answered written = record { answers = answers; count = all; written = subst (Appends before after) is written }
+
+  pub fails_late : (e : OpFault) → IsLateFault e → Appends before after text → FailsToRun e scheme lines before after
+  fails_late (Store told fault) late written = answered written
+  fails_late (Unsettled told) late written = answered written
+  fails_late (Stuck n place) late written = answered written
+  fails_late NoMemory late written = inr (answered written)
+  fails_late (Input line cause) late written = absurd late
+  fails_late Read late written = absurd late
+  fails_late (Write count) late written = absurd late
+
+  pub fails_in_answers : (e : OpFault) → ((count : ℕ) × (e ≡ Write count) × (count < length text) × Appends before after (take count text)) → FailsToRun e scheme lines before after
+  fails_in_answers e h =
+      subst (λ (x : OpFault). FailsToRun x scheme lines before after) (sym h.1)
+      (inl (record {
+        answers = answers;
+        each = all;
+        fewer = subst (λ (xs : List ℕ). h.0 < length xs) is h.2;
+        written = subst (λ (xs : List ℕ). Appends before after (take h.0 xs)) is h.3;
+      }))
+
+pub fails_in_report : (scheme : Scheme) (lines : List ScriptLine) (before after : Option (List ℕ)) (text : List ℕ) (e : OpFault) → IsRunReport scheme lines text
+    → ((count : ℕ) × (e ≡ Write count) × (count < length text) × Appends before after (take count text)) → FailsToRun e scheme lines before after
+fails_in_report scheme lines before after text e report h =
+    subst (λ (x : OpFault). FailsToRun x scheme lines before after) (sym h.1) (inr (record { text = text; report = report; fewer = h.2; written = h.3 }))
+
+-- ---- what is told of a table
+
+pub keeps_same : (v : Option (List ℕ)) → Keeps v v
+keeps_same None = tt
+keeps_same (Some xs) = refl
+
+pub fails_unwritten : (e : OpFault) (scheme : Scheme) (helds : List Held) (seats : List (List Heard)) (v : Option (List ℕ)) → IsTableFault scheme helds seats e → FailsToReport e scheme helds seats v v
+fails_unwritten (Unsettled told) scheme helds seats v h = (h, keeps_same v)
+fails_unwritten (Stuck n place) scheme helds seats v h = (h, keeps_same v)
+fails_unwritten NoMemory scheme helds seats v h = (h, keeps_same v)
+fails_unwritten (Input line cause) scheme helds seats v h = absurd h
+fails_unwritten Read scheme helds seats v h = absurd h
+fails_unwritten (Write count) scheme helds seats v h = absurd h
+fails_unwritten (Store told fault) scheme helds seats v h = absurd h
+
+pub fails_in_table : (e : OpFault) (scheme : Scheme) (helds : List Held) (seats : List (List Heard)) (before after : Option (List ℕ)) (table : List ℕ) → IsReported scheme helds seats table
+    → ((count : ℕ) × (e ≡ Write count) × (count < length table) × Appends before after (take count table)) → FailsToReport e scheme helds seats before after
+fails_in_table e scheme helds seats before after table r h = subst (λ (x : OpFault). FailsToReport x scheme helds seats before after) (sym h.1) (table, r, h.2, h.3)
+
+-- ---- parts of results
+
+pub if_ok : {X E : Type 0} {P Q : X → Type 0} (r : Result X E) → ((x : X) → P x → Q x) → IfOk r P → IfOk r Q
+if_ok (Ok x) f h = f x h
+if_ok (Err e) f h = tt
+
+pub if_err : {X E : Type 0} {P Q : E → Type 0} (r : Result X E) → ((e : E) → P e → Q e) → IfErr r P → IfErr r Q
+if_err (Ok x) f h = tt
+if_err (Err e) f h = f e h
+
+pub on_ok : {X E P Q : Type 0} (r : Result X E) → (P → Q) → OnOk r P → OnOk r Q
+on_ok (Ok x) f h = f h
+on_ok (Err e) f h = tt

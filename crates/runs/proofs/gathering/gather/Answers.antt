@@ -1,0 +1,22 @@
+use Rattle.std.proofs.Common.{◌∷◌, [], length, ap, arith, length-append}
+use Rattle.std.proofs.lemmas.List.{length-map}
+use Rattle.runs.proofs.Collected.{gathered_more, rest_more}
+use Rattle.runs.proofs.gathering.gather.Goals as goal
+
+pub loop-seat-preserved : goal.loop-seat-preserved
+loop-seat-preserved g c =
+    let step = c.in-Some.ensures.steps in
+    let all = c.loop-seat.gathered.seats.items in
+    let longer = ap (λ (l : _). length l) c.in_ok-add.ensures in
+    record {
+      rest = rest_more (λ v. v.items) c.args.seats.items all c.in_ok-with_seat.field-0 c.in-Some.seat c.loop-seat.seat-iterator.rest.items c.next.new.self.rest.items c.loop-seat.invariant.rest step.0 c.add.new.self.seats.items c.in_ok-add.ensures;
+      each = gathered_more (λ v. v.items) c.args.seats.items all c.in_ok-with_seat.field-0 c.in-Some.seat c.loop-seat.seat-iterator.rest.items c.next.new.self.rest.items c.loop-seat.invariant.rest step.0 c.add.new.self.seats.items c.in_ok-add.ensures c.in_ok-with_seat.ensures c.loop-seat.invariant.each;
+      count = omega (arith, longer, length-append all (c.in_ok-with_seat.field-0 ∷ []), ap (λ (l : _). length l) step.0, c.loop-seat.invariant.count);
+    }
+
+pub returns : goal.returns
+returns g c =
+    record {
+      count = omega (arith, length-map c.loop-seat.gathered.seats.items (λ v. v.items), c.loop-seat.invariant.count, c.in-None.ensures.steps.0, c.loop-seat.seat-iterator.rest.ok.0);
+      each = λ k s h under. c.loop-seat.invariant.each k s h (omega (arith, under, c.loop-seat.invariant.count, c.in-None.ensures.steps.0, c.loop-seat.seat-iterator.rest.ok.0));
+    }

@@ -1,0 +1,5 @@
+pub mod Answers
+pub mod Heard
+pub mod Gathered
+pub mod Settled
+pub mod Runs

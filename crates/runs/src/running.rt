@@ -1,0 +1,160 @@
+//! A script, played while all nodes run in threads of their own.
+ghost use Rattle.std.specs.Prelude.{◌≡◌, ◌<◌, ◌++◌, ℕ, List, length, map, vec_len, IfErr, IfOk, OnOk, string_bytes};
+ghost use Rattle.std.specs.Io.KnownBytes.{Appends};
+ghost use Rattle.desk.specs.Views.{Heard};
+ghost use Rattle.world.specs.Kept.{nodes};
+ghost use Rattle.scripts.specs.declared.line.ScriptLine.{ScriptLine as ALine};
+ghost use Rattle.runs.specs.Answers.{answer_lines};
+ghost use Rattle.runs.specs.Heard.{AreHeard};
+ghost use Rattle.runs.specs.Runs.{FailsToRun, IsLateFault, IsRunReport};
+ghost use Rattle.runs.specs.declared.answer.Answer.{Answer as AnAnswer};
+
+use crate::answer::lines_of;
+use crate::gathering::{gather, states_of};
+use crate::reporting::report_of;
+use crate::threads::{Ends, Network, Played, desks_of, nodes_to_run, run_and_play};
+use desk::{Desk, Gate, RoomBell, Seat, State};
+use inputs::{OpFault, store_fault, write_out};
+use node::Core;
+use scheme::Scheme;
+use scripts::ScriptLine;
+use sessions::{Clock, Dial, Listen};
+use std::alloc::Global;
+use std::io::Write;
+use std::rt::Clock as SystemClock;
+use std::sync::Wait;
+use std::thread::Threads;
+use stores::{NodeStore, StoreFault};
+use units::{NoMemory, Node};
+use weave::nodes_of;
+
+/// The states of all nodes, and the stores that they were loaded from: those of the log, and then those of the
+/// registries in the scheme's order.
+#[derive(Drop)]
+pub struct Loaded<S> {
+    pub states: Vec<State<Core>>,
+    pub stores: Vec<S>,
+}
+
+/// Fails with the first fault of a store, where there is one.
+fn check_stores(names: &[Node], faults: &[Option<StoreFault>]) -> Result<(), OpFault>
+    ensures { IfErr result IsLateFault }
+{
+    for (node, fault) in names.iter().zip(faults) {
+        if let Some(fault) = fault {
+            return Err(store_fault(*node, *fault));
+        }
+    }
+    Ok(())
+}
+
+fn joined(alloc: Global, first: &str, second: &str) -> Result<String, NoMemory>
+    ensures { IfOk result (λ s. string_bytes s ≡ first.now ++ second.now) }
+{
+    let mut text = String::from_str(alloc, first)?;
+    text.push_str(second)?;
+    Ok(text)
+}
+
+/// The answers, and then the table of what the nodes have committed.
+fn whole_of<S: Drop>(
+    alloc: Global,
+    scheme: &Scheme,
+    desks: Vec<Desk<Core, RoomBell>>,
+    ends: Ends<S>,
+    seats: Vec<Seat>,
+    answers: &str,
+) -> Result<String, OpFault>
+    requires desks { vec_len desks ≡ length (nodes scheme.now) }
+    requires seats { vec_len seats ≡ length (nodes scheme.now) }
+    ensures ok { IfOk result
+        (λ s. (lines : List ALine) (told : List AnAnswer) → AreHeard scheme.now seats.items lines told
+        → answers.now ≡ answer_lines 1 told → IsRunReport scheme.now lines (string_bytes s)) }
+    ensures err { IfErr result IsLateFault }
+{
+    let names = nodes_of(alloc, scheme)?;
+    let gathered = gather(alloc, ends?, seats)?;
+    check_stores(names.as_slice(), gathered.faults.as_slice())?;
+    let states = states_of(alloc, desks)?;
+    match report_of(alloc, scheme, states.as_slice(), gathered.seats.as_slice()) {
+        Ok(table) => Ok(joined(alloc, answers, table.as_str())?),
+        Err(fault) => Err(fault),
+    }
+}
+
+/// Writes what a run came to: the answers in any case, and then the table or the fault.
+fn write_run<S: Drop, W: Write>(
+    alloc: Global,
+    scheme: &Scheme,
+    desks: Vec<Desk<Core, RoomBell>>,
+    ends: Ends<S>,
+    played: Played,
+    lines: &[ScriptLine],
+    writer: &mut W,
+) -> Result<(), OpFault>
+    requires desks { vec_len desks ≡ length (nodes scheme.now) }
+    requires seats { vec_len played.seats ≡ length (nodes scheme.now) }
+    requires heard { AreHeard scheme.now played.seats.items lines.now played.answers.items }
+    ensures ok { OnOk result ((text : List ℕ) × IsRunReport scheme.now lines.now text × Appends (W.contents writer.old) (W.contents writer.new) text) }
+    ensures err { IfErr result (λ e. FailsToRun e scheme.now lines.now (W.contents writer.old) (W.contents writer.new)) }
+{
+    let Played { seats, answers } = played;
+    let Ok(text) = lines_of(alloc, answers.as_slice()) else {
+        return Err(OpFault::NoMemory);
+    };
+    match whole_of(alloc, scheme, desks, ends, seats, text.as_str()) {
+        Ok(whole) => write_out(writer, whole.as_str()),
+        Err(fault) => match write_out(writer, text.as_str()) {
+            Ok(()) => Err(fault),
+            Err(unwritten) => Err(unwritten),
+        },
+    }
+}
+
+/// Runs all nodes, each in threads of its own, while the script's lines are ordered and asked one after another; then
+/// stops all nodes. Each order and each question is answered once all records are committed that the node's journal had
+/// then. Writes the answers, a line each, and then the table of a run that leads to what all nodes have committed: of the
+/// world that the protocol's own steps lead to, whatever sockets and threads did.
+///
+/// The states are those that the stores' records lead to. The stores are closed when it returns.
+///
+/// # Errors
+///
+/// The answers are written once the script has ended, and then it fails with the first of:
+///
+/// - `Store`: the fault of the first node's store that failed, in the order of the log and then the registries. That
+///   node stopped, and the others went on.
+/// - `Unsettled`: the first node whose threads were told something else than one thread alone would have been told.
+/// - `Stuck`: no run leads to the committed records, as for `audit`.
+///
+/// And with `Write`, after the number of bytes that the fault tells, or `NoMemory`, where memory ran out.
+pub fn run_script<S, L, D, K, G, W, R>(
+    rt: &R,
+    alloc: Global,
+    scheme: &Scheme,
+    lines: &[ScriptLine],
+    loaded: Loaded<S>,
+    network: &Network<'_, L, D, K, G>,
+    writer: &mut W,
+) -> Result<(), OpFault>
+where
+    S: NodeStore + Send + Drop,
+    L: Listen + Sync,
+    D: Dial + Sync,
+    K: Clock + Sync,
+    G: Gate + Sync,
+    W: Write,
+    R: Threads + Wait + SystemClock + Sync,
+    requires states { vec_len loaded.states ≡ length (nodes scheme.now) }
+    requires stores { vec_len loaded.stores ≡ length (nodes scheme.now) }
+    requires listeners { length network.now.listeners.now ≡ length (nodes scheme.now) }
+    ensures ok { OnOk result ((text : List ℕ) × IsRunReport scheme.now lines.now text × Appends (W.contents writer.old) (W.contents writer.new) text) }
+    ensures err { IfErr result (λ e. FailsToRun e scheme.now lines.now (W.contents writer.old) (W.contents writer.new)) }
+{
+    let Loaded { states, stores } = loaded;
+    let names = nodes_of(alloc, scheme)?;
+    let desks = desks_of(alloc, states)?;
+    let nodes = nodes_to_run(alloc, names.as_slice(), desks.as_slice(), network, stores)?;
+    let (ends, played) = run_and_play(rt, alloc, scheme, desks.as_slice(), lines, nodes);
+    write_run(alloc, scheme, desks, ends, played?, lines, writer)
+}

@@ -1,0 +1,2 @@
+pub mod Loopback
+pub mod Places

@@ -1,0 +1,9 @@
+//! The TCP connections of a run's nodes with one another, over the loopback interface.
+#![tactic(auto)]
+
+mod loopback;
+mod port;
+mod ports;
+
+pub use port::{Port, open_ports};
+pub use ports::Ports;

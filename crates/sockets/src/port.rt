@@ -1,0 +1,85 @@
+//! Where one node accepts connections.
+ghost use Rattle.std.specs.Prelude.{◌≡◌, IfOk, vec_len};
+ghost use Rattle.sockets.specs.Loopback.{IsOfLoopback};
+
+use crate::loopback::{at_loopback, directions};
+use sessions::Listen;
+use std::alloc::Global;
+use std::io;
+use std::marker::Model;
+use std::net::{Net, SocketAddr, TcpListener, TcpStream};
+
+/// A TCP listener at a port of 127.0.0.1.
+#[derive(Drop)]
+pub struct Port {
+    listener: TcpListener,
+    address: SocketAddr,
+}
+
+impl Model for Port {
+    ghost use Rattle.std.specs.declared.net.socket_addr.SocketAddr.{SocketAddr};
+    ghost use Rattle.sockets.specs.Loopback.{IsOfLoopback};
+
+    ghost Value = { SocketAddr };
+
+    ghost view = { λ p. p.address };
+
+    ghost invariant = { λ p. IsOfLoopback p.address };
+}
+
+impl Port {
+    /// A listener at a port that was free.
+    ///
+    /// # Errors
+    ///
+    /// Fails as the system does: where it has no port or no handle left, or allows the process no listener.
+    pub fn open<R: Net<Listener = TcpListener, Stream = TcpStream>>(net: &R) -> io::Result<Port>
+        ensures { IfOk result IsOfLoopback }
+    {
+        let listener = net.bind(at_loopback(0))?;
+        let bound = listener.local_addr()?;
+        Ok(Port {
+            listener,
+            address: at_loopback(bound.port()),
+        })
+    }
+
+    /// Where it listens.
+    pub fn address(&self) -> SocketAddr
+        ensures same { result ≡ self.now }
+        ensures loopback { IsOfLoopback self.now }
+    {
+        self.address
+    }
+}
+
+impl Listen for Port {
+    type Reader = TcpStream;
+
+    type Writer = TcpStream;
+
+    fn accept(&self) -> Option<(TcpStream, TcpStream)> {
+        let (stream, _) = self.listener.accept().ok()?;
+        directions(stream)
+    }
+}
+
+/// That many listeners, each at a port of its own.
+///
+/// # Errors
+///
+/// Fails as `Port::open` does, and with `OutOfMemory` where memory ran out. None is open then.
+pub fn open_ports<R: Net<Listener = TcpListener, Stream = TcpStream>>(
+    net: &R,
+    alloc: Global,
+    count: usize,
+) -> io::Result<Vec<Port>>
+    ensures { IfOk result (λ v. vec_len v ≡ count) }
+{
+    let mut ports = Vec::new(alloc);
+    for opened in 0..count {
+        let port = Port::open(net)?;
+        ports.push(port)?;
+    }
+    Ok(ports)
+}

@@ -1,0 +1,92 @@
+//! Where all nodes accept connections, and what connects to them there.
+ghost use Rattle.std.specs.Prelude.{◌≡◌, ◌++◌, ◌∷◌, [], IfOk, zip, OnErr, OnOk};
+ghost use Rattle.sockets.specs.Places.{address_of};
+
+use crate::loopback::directions;
+use crate::port::Port;
+use sessions::Dial;
+use std::alloc::Global;
+use std::marker::Model;
+use std::net::{Net, SocketAddr, TcpStream};
+use units::{NoMemory, Node};
+
+/// Where each of some nodes accepts connections.
+#[derive(Drop)]
+pub struct Ports<'a, R: Net> {
+    net: &'a R,
+    places: Vec<(Node, SocketAddr)>,
+}
+
+impl<'a, R: Net> Model for Ports<'a, R> {
+    ghost use Rattle.std.specs.Prelude.{List};
+    ghost use Rattle.sockets.specs.Places.{Place};
+
+    ghost Value = { List Place };
+
+    ghost view = { λ p. p.places.items };
+}
+
+impl<'a, R: Net> Ports<'a, R> {
+    /// What connects over that network. No node has an address yet.
+    pub fn new(net: &'a R, alloc: Global) -> Ports<'a, R>
+        ensures { result ≡ [] }
+    {
+        Ports {
+            net,
+            places: Vec::new(alloc),
+        }
+    }
+
+    /// The node accepts connections at that port. Where one was added for it before, that one is still what is used.
+    ///
+    /// # Errors
+    ///
+    /// Fails with `NoMemory` where memory ran out, and nothing changed.
+    pub fn add(&mut self, node: Node, port: &Port) -> Result<(), NoMemory>
+        ensures ok { OnOk result (self.new ≡ self.old ++ (node, port.now) ∷ []) }
+        ensures err { OnErr result (self.new ≡ self.old) }
+    {
+        self.places.push((node, port.address()))?;
+        Ok(())
+    }
+
+    /// What connects to these nodes over that network, each at its port.
+    ///
+    /// # Errors
+    ///
+    /// Fails with `NoMemory` where memory ran out.
+    pub fn of(
+        net: &'a R,
+        alloc: Global,
+        nodes: &[Node],
+        listeners: &[Port],
+    ) -> Result<Ports<'a, R>, NoMemory>
+        ensures { IfOk result (λ p. p ≡ zip nodes.now listeners.now) }
+    {
+        let mut ports = Ports::new(net, alloc);
+        for (node, port) in nodes.iter().zip(listeners) {
+            ports.add(*node, port)?;
+        }
+        Ok(ports)
+    }
+
+    /// Where the node accepts connections. `None` where no port was added for it.
+    pub fn address_of(&self, node: Node) -> Option<SocketAddr>
+        ensures { result ≡ address_of self.now node }
+    {
+        let (_, address) = self.places.iter().find(|place| place.0 == node)?;
+        Some(*address)
+    }
+}
+
+impl<'a, R: Net<Stream = TcpStream>> Dial for Ports<'a, R> {
+    type Reader = TcpStream;
+
+    type Writer = TcpStream;
+
+    fn connect(&self, peer: Node) -> Option<(TcpStream, TcpStream)> {
+        let address = self.address_of(peer)?;
+        let stream = self.net.connect(address).ok()?;
+        directions(stream)
+    }
+}

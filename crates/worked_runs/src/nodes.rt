@@ -1,0 +1,82 @@
+//! The nodes of the worked scheme, and what a script comes to at them.
+ghost use Rattle.std.specs.Prelude.{◌≡◌, length};
+ghost use Rattle.world.specs.Kept.{nodes};
+
+use audit::load_all;
+use desk::OpenGate;
+use inputs::OpFault;
+use runs::{Loaded, Network, run_script};
+use scheme::Scheme;
+use scripts::read_script;
+use sessions::WallClock;
+use sockets::{Ports, open_ports};
+use std::alloc::Global;
+use std::net::{Net, TcpListener, TcpStream};
+use std::process::Abort;
+use std::rt::Clock as SystemClock;
+use std::sync::Wait;
+use std::thread::Threads;
+use stores::MemoryStore;
+use units::{Code, Node};
+use weave::nodes_of;
+
+const SCHEME: &str =
+    r#"{"records":1000,"registries":[{"accounts":[7,8],"allotted":[],"code":"JP","eligible":true,"kinds":["AAU","CER"]},{"accounts":[1,2],"allotted":[{"account":1,"units":["NZ:1:1-100:AAU"]}],"code":"NZ","eligible":true,"kinds":["AAU","RMU","ERU","CER","tCER","lCER"]}]}"#;
+
+/// A registry of the scheme.
+pub fn registry(rt: &impl Abort, code: &str) -> Node {
+    Node::Registry(Code::read(code).expect(rt, "a code"))
+}
+
+/// Empty stores of the log, of JP and of NZ.
+pub fn new_stores(rt: &impl Abort, alloc: Global) -> [MemoryStore; 3] {
+    [
+        MemoryStore::new(alloc, Node::Itl),
+        MemoryStore::new(alloc, registry(rt, "JP")),
+        MemoryStore::new(alloc, registry(rt, "NZ")),
+    ]
+}
+
+/// What a run of the script over the stores of the log, of JP and of NZ comes to, and what it writes.
+pub fn played<R>(
+    rt: &R,
+    alloc: Global,
+    stores: [MemoryStore; 3],
+    script: &str,
+) -> (Result<(), OpFault>, Vec<u8>)
+where
+    R: Threads
+        + Wait
+        + SystemClock
+        + Net<Listener = TcpListener, Stream = TcpStream>
+        + Abort
+        + Sync,
+{
+    let scheme = Scheme::read(alloc, SCHEME.as_bytes()).expect(rt, "a scheme");
+    assert_eq!(rt; scheme.registries().len(), 2);
+    let mut reader = script.as_bytes();
+    let lines = read_script(alloc, &mut reader).expect(rt, "a script");
+    let mut stores = Vec::from_array(alloc, stores).expect(rt, "memory");
+    let states = load_all(alloc, &scheme, stores.as_mut_slice()).expect(rt, "states");
+    let nodes = nodes_of(alloc, &scheme).expect(rt, "memory");
+    let listeners = open_ports(rt, alloc, nodes.len()).expect(rt, "free ports");
+    let dial = Ports::of(rt, alloc, nodes.as_slice(), listeners.as_slice()).expect(rt, "memory");
+    let network = Network {
+        listeners: listeners.as_slice(),
+        dial: &dial,
+        clock: &WallClock::new(rt),
+        gate: &OpenGate,
+    };
+    let loaded = Loaded { states, stores };
+    let mut written = Vec::new(alloc);
+    let done = run_script(
+        rt,
+        alloc,
+        &scheme,
+        lines.as_slice(),
+        loaded,
+        &network,
+        &mut written,
+    );
+    (done, written)
+}

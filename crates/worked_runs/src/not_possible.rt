@@ -1,0 +1,37 @@
+use crate::nodes::{new_stores, played};
+
+/// Orders that the log doesn't take, lines of a node that the scheme lacks, and a transaction that nobody knows.
+const SCRIPT: &str = "\
+propose ITL 1 JP 7 NZ:1:1-100:AAU
+open ITL 9
+status US NZ1
+close US 1
+until US NZ1 Completed 1000000
+status NZ NZ1
+status ITL NZ1
+until JP NZ1 Accepted 2
+";
+
+const REPORT: &str = "\
+1 not possible
+2 not possible
+3 not possible
+4 not possible
+5 not possible
+6 status none
+7 status none
+8 status none
+registry JP held 0 spendable 0
+registry NZ held 100 spendable 100
+holds NZ 1 NZ:1:1-100:AAU free
+owed 0
+end
+";
+
+#[test]
+fn lines_that_are_not_possible(rt: HostRuntime) {
+    let stores = new_stores(&rt, rt.alloc());
+    let (done, written) = played(&rt, rt.alloc(), stores, SCRIPT);
+    assert_eq!(rt; done, Ok(()));
+    assert!(rt; written.as_slice() == REPORT.as_bytes());
+}

@@ -53,6 +53,8 @@ def script(codes, goal, table):
                 lines.append(f"propose {code} 1 {other} 1 {code}:1:{number + 1}-{number + 1}:AAU")
                 names.append((other, f"{code}{number + 1}"))
     lines += [f"until {node} {name} Completed {TURNS}" for node, name in names]
+    # A script has a line at least.
+    lines = lines or [f"status {codes[0]} {codes[0]}1"]
     return "".join(f"{line}\n" for line in lines)
 
 
@@ -84,8 +86,8 @@ def main():
     words = argparse.ArgumentParser(description=__doc__, formatter_class=argparse.RawDescriptionHelpFormatter)
     words.add_argument("--kills", type=int, default=50, help="how many runs are killed")
     words.add_argument("--registries", type=int, default=8)
-    words.add_argument("--transfers", type=int, default=1_000, help="of all registries together")
-    words.add_argument("--longest", type=float, default=1.0, help="after how many seconds at most a run is killed")
+    words.add_argument("--transfers", type=int, default=8_000, help="of all registries together")
+    words.add_argument("--longest", type=float, default=0.6, help="after how many seconds at most a run is killed")
     words.add_argument("--seed", type=int, default=None)
     given = words.parse_args()
     chance = random.Random(given.seed)

@@ -7,7 +7,7 @@ use desk::OpenGate;
 use inputs::OpFault;
 use runs::{Loaded, Network, run_script};
 use scheme::Scheme;
-use scripts::read_script;
+use scripts::{ScriptLine, read_script};
 use sessions::WallClock;
 use sockets::{Ports, open_ports};
 use std::alloc::Global;
@@ -37,6 +37,20 @@ pub fn new_stores(rt: &impl Abort, alloc: Global) -> [MemoryStore; 3] {
     ]
 }
 
+/// The scheme, of the log and two registries.
+fn worked_scheme(rt: &impl Abort, alloc: Global) -> Scheme
+    ensures { length (nodes result) ≡ 3 }
+{
+    let scheme = Scheme::read(alloc, SCHEME.as_bytes()).expect(rt, "a scheme");
+    assert_eq!(rt; scheme.registries().len(), 2);
+    scheme
+}
+
+fn lines_of(rt: &impl Abort, alloc: Global, script: &str) -> Vec<ScriptLine> {
+    let mut reader = script.as_bytes();
+    read_script(alloc, &mut reader).expect(rt, "a script")
+}
+
 /// What a run of the script over the stores of the log, of JP and of NZ comes to, and what it writes.
 pub fn played<R>(
     rt: &R,
@@ -52,10 +66,8 @@ where
         + Abort
         + Sync,
 {
-    let scheme = Scheme::read(alloc, SCHEME.as_bytes()).expect(rt, "a scheme");
-    assert_eq!(rt; scheme.registries().len(), 2);
-    let mut reader = script.as_bytes();
-    let lines = read_script(alloc, &mut reader).expect(rt, "a script");
+    let scheme = worked_scheme(rt, alloc);
+    let lines = lines_of(rt, alloc, script);
     let mut stores = Vec::from_array(alloc, stores).expect(rt, "memory");
     let states = load_all(alloc, &scheme, stores.as_mut_slice()).expect(rt, "states");
     let nodes = nodes_of(alloc, &scheme).expect(rt, "memory");
@@ -67,14 +79,13 @@ where
         clock: &WallClock::new(rt),
         gate: &OpenGate,
     };
-    let loaded = Loaded { states, stores };
     let mut written = Vec::new(alloc);
     let done = run_script(
         rt,
         alloc,
         &scheme,
         lines.as_slice(),
-        loaded,
+        Loaded { states, stores },
         &network,
         &mut written,
     );

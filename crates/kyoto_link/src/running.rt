@@ -3,6 +3,7 @@ ghost use Rattle.std.specs.Prelude.{◌≡◌, IfOk, length, vec_len};
 ghost use Rattle.world.specs.Kept.{nodes};
 
 use crate::files::{find_folder, open_stores, scheme_at, script_at};
+use answers::WallClock;
 use audit::load_all;
 use desk::OpenGate;
 use durable::SqlStore;
@@ -10,7 +11,6 @@ use inputs::OpFault;
 use runs::{Loaded, Network, run_script};
 use scheme::Scheme;
 use scripts::ScriptLine;
-use sessions::WallClock;
 use sockets::{Port, Ports, open_ports};
 use sqlite::File;
 use std::io;

@@ -22,7 +22,7 @@ use Rattle.desk.specs.declared.notes.Note.{Note}
 use Rattle.desk.specs.declared.notes.Ticket.{Ticket}
 use Rattle.desk.specs.declared.notes.Told.{Told}
 use Rattle.desk.specs.declared.notes.Told.TheVariants.{Step, Status, Refused}
-use Rattle.sessions.specs.Answers.{confirmed, is_without_journal}
+use Rattle.answers.specs.Answers.{confirmed, is_without_journal}
 use Rattle.runs.specs.Heard.{Grows, HasHeard, HasNoted, IsConfirmed}
 
 -- ---- lists

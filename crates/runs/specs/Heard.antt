@@ -11,7 +11,7 @@ use Rattle.desk.specs.declared.notes.Note.{Note}
 use Rattle.desk.specs.declared.notes.Ticket.{Ticket}
 use Rattle.desk.specs.declared.notes.Told.{Told}
 use Rattle.desk.specs.declared.notes.Told.TheVariants.{Step, Status, Refused}
-use Rattle.sessions.specs.Answers.{confirmed, is_without_journal}
+use Rattle.answers.specs.Answers.{confirmed, is_without_journal}
 use Rattle.weave.specs.Following.{place_of}
 use Rattle.scripts.specs.declared.line.ScriptLine.{ScriptLine}
 use Rattle.runs.specs.Answers.{AreAnswers, asked_by, is_possible, node_of}

@@ -1,6 +1,6 @@
 //! One line of a script, at the desk of its node.
 ghost use Rattle.std.specs.Prelude.{◌≡◌};
-ghost use Rattle.sessions.specs.Answers.{is_without_journal};
+ghost use Rattle.answers.specs.Answers.{is_without_journal};
 ghost use Rattle.runs.specs.Answers.{asked_by};
 ghost use Rattle.runs.specs.Heard.{Grows, HasHeard, IsConfirmed};
 

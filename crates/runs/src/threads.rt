@@ -6,11 +6,12 @@ ghost use Rattle.runs.specs.Heard.{AreHeard};
 
 use crate::answer::Answer;
 use crate::playing::play_all;
+use answers::Clock;
 use desk::{Bell, Desk, Gate, RoomBell, Seat, State};
 use node::Core;
 use scheme::Scheme;
 use scripts::ScriptLine;
-use sessions::{Clock, Dial, Listen, NodeEnd, NodeParts, NodeToRun, run_all};
+use sessions::{Dial, Listen, NodeEnd, NodeParts, NodeToRun, run_all};
 use std::alloc::Global;
 use std::rt::Clock as SystemClock;
 use std::sync::Wait;

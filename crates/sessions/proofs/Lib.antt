@@ -1,2 +1,1 @@
-mod ToldOfMessages
 mod SentMessages

@@ -3,11 +3,11 @@ ghost use Rattle.std.specs.Prelude.{◌≡◌, ◌+◌, ℕ, length, vec_len, sl
 ghost use Rattle.std.specs.Thread.{IsSync};
 ghost use Rattle.sessions.specs.Ends.{faults_with};
 
-use crate::clock::Clock;
 use crate::connections::{Dial, Listen};
 use crate::senders::send_all;
 use crate::session_threads::{serve_sessions, wake_sessions};
 use crate::workers::{Errand, work};
+use answers::Clock;
 use crossbeam_channel::{Receiver, Sender};
 use desk::{Bell, Desk, Gate, Seat};
 use protocol::NodeCore;

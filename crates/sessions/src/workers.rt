@@ -1,12 +1,10 @@
 //! Lines that session threads hand to job workers.
 ghost use Rattle.std.specs.Prelude.{◌≡◌, ◌⊎◌, [], IfOk};
 ghost use Rattle.units.specs.RefusalCodes.{not_a_message, out_of_memory};
-ghost use Rattle.sessions.specs.Answers.{IsRefusedBy};
-ghost use Rattle.sessions.specs.Lines.{IsNoLine};
+ghost use Rattle.answers.specs.Answers.{IsRefusedBy};
+ghost use Rattle.answers.specs.Lines.{IsNoLine};
 
-use crate::answer::{Answer, answer_job};
-use crate::clock::Clock;
-use crate::job::Job;
+use answers::{Answer, Clock, Job, answer_job};
 use crossbeam_channel::{Receiver, Sender};
 use desk::{Bell, Desk, Gate, Seat};
 use exchanges::Answerer;
@@ -91,7 +89,7 @@ fn answer_line<R: Wait>(
 }
 
 impl<'a, R: Wait> Answerer for WorkersAnswerer<'a, R> {
-    ghost use Rattle.sessions.specs.Answers.{given_of};
+    ghost use Rattle.answers.specs.Answers.{given_of};
 
     ghost given = { λ s. given_of s.answers.items };
 

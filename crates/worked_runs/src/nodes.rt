@@ -2,13 +2,13 @@
 ghost use Rattle.std.specs.Prelude.{◌≡◌, length};
 ghost use Rattle.world.specs.Kept.{nodes};
 
+use answers::WallClock;
 use audit::load_all;
 use desk::OpenGate;
 use inputs::OpFault;
 use runs::{Loaded, Network, run_script};
 use scheme::Scheme;
 use scripts::{ScriptLine, read_script};
-use sessions::WallClock;
 use sockets::{Ports, open_ports};
 use std::alloc::Global;
 use std::net::{Net, TcpListener, TcpStream};

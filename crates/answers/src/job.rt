@@ -1,7 +1,7 @@
 //! A line with its message.
 ghost use Rattle.std.specs.Prelude.{◌≡◌, IfOk, IfErr};
 ghost use Rattle.wire.specs.Messages.{IsLine};
-ghost use Rattle.sessions.specs.Lines.{IsUnread};
+ghost use Rattle.answers.specs.Lines.{IsUnread};
 
 use std::alloc::Global;
 use std::marker::Model;
@@ -17,7 +17,7 @@ pub struct Job {
 
 impl Model for Job {
     ghost use Rattle.wire.specs.Messages.{IsLine};
-    ghost use Rattle.sessions.specs.Lines.{Read};
+    ghost use Rattle.answers.specs.Lines.{Read};
 
     ghost Value = { Read };
 

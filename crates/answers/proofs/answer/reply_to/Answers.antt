@@ -1,5 +1,5 @@
-use Rattle.sessions.proofs.ToldOfMessages.{refused_within}
-use Rattle.sessions.proofs.answer.reply_to.Goals as goal
+use Rattle.answers.proofs.ToldOfMessages.{refused_within}
+use Rattle.answers.proofs.answer.reply_to.Goals as goal
 
 pub unreachable-requires : goal.unreachable-requires
 unreachable-requires c =

@@ -2,8 +2,8 @@
 ghost use Rattle.std.specs.Prelude.{◌≡◌, ◌⊎◌, ℕ, List, true, false, IfOk, IfSome, None, Some, option_copied};
 ghost use Rattle.units.specs.RefusalCodes.{not_a_message, node_stopped, out_of_memory};
 ghost use Rattle.wire.specs.Messages.{IsLine};
-ghost use Rattle.sessions.specs.Answers.{Asks, Backs, Gives, IsAnswer, IsBare, IsOfLine, IsRefusedBy, confirmed, is_without_journal};
-ghost use Rattle.sessions.specs.Lines.{IsUnread};
+ghost use Rattle.answers.specs.Answers.{Asks, Backs, Gives, IsAnswer, IsBare, IsOfLine, IsRefusedBy, confirmed, is_without_journal};
+ghost use Rattle.answers.specs.Lines.{IsUnread};
 
 use crate::clock::Clock;
 use crate::job::Job;
@@ -27,7 +27,7 @@ pub struct Answer {
 }
 
 impl Model for Answer {
-    ghost use Rattle.sessions.specs.Answers.{Answered, IsAnswer};
+    ghost use Rattle.answers.specs.Answers.{Answered, IsAnswer};
 
     ghost Value = { Answered };
 
@@ -86,7 +86,7 @@ impl Answer {
 
     /// The answer to a line that was refused when it was read as a message. Fails with `NoMemory` where memory ran
     /// out.
-    pub(crate) fn unread(alloc: Global, line: &[u8], refusal: Refusal) -> Result<Answer, NoMemory>
+    pub fn unread(alloc: Global, line: &[u8], refusal: Refusal) -> Result<Answer, NoMemory>
         requires { IsUnread line.now refusal }
         ensures line { IfOk result (λ a. a.line ≡ line.now) }
         ensures reply { IfOk result (λ a. IsRefusedBy refusal.code a.reply) }
@@ -98,7 +98,7 @@ impl Answer {
     }
 
     /// The answer of a node that has stopped.
-    pub(crate) fn stopped(line: Vec<u8>) -> Answer
+    pub fn stopped(line: Vec<u8>) -> Answer
         ensures line { result.line ≡ line.items }
         ensures reply { IsRefusedBy node_stopped result.reply }
         ensures receipt { result.receipt ≡ None }

@@ -21,8 +21,8 @@ use Rattle.desk.specs.Views.{Held, Heard}
 use Rattle.desk.specs.declared.notes.Note.{Note}
 use Rattle.desk.specs.declared.notes.Told.{Told}
 use Rattle.desk.specs.declared.notes.Told.TheVariants as told
-use Rattle.sessions.specs.Answers.{Answered, Backs, EndsBy, Gives, IsBare, IsOfLine, IsRefusedBy, confirmed, is_without_journal}
-use Rattle.sessions.specs.Lines.{IsNoLine, IsUnread}
+use Rattle.answers.specs.Answers.{Answered, Backs, EndsBy, Gives, IsBare, IsOfLine, IsRefusedBy, confirmed, is_without_journal}
+use Rattle.answers.specs.Lines.{IsNoLine, IsUnread}
 
 -- the number is one that a reply has
 abbrev pub IsReplyCode : ℕ → Type 0

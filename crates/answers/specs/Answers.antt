@@ -17,7 +17,7 @@ use Rattle.desk.specs.declared.notes.Note.{Note}
 use Rattle.desk.specs.declared.notes.Told.{Told}
 use Rattle.desk.specs.declared.notes.Told.TheVariants as told
 use Rattle.exchanges.specs.Given.{Given}
-use Rattle.sessions.specs.Lines.{IsNoLine, IsUnread}
+use Rattle.answers.specs.Lines.{IsNoLine, IsUnread}
 
 -- a line, its reply, and what its receipt is of, where there is one
 pub record Answered : Type 0 where

@@ -1,6 +1,6 @@
 use Rattle.std.proofs.Common.{rules, sym, subst}
-use Rattle.sessions.specs.Answers.{Answering, Replies}
-use Rattle.sessions.proofs.desk_answerer.DeskAnswererAnswerer.answer.Goals as goal
+use Rattle.answers.specs.Answers.{Answering, Replies}
+use Rattle.answers.proofs.desk_answerer.DeskAnswererAnswerer.answer.Goals as goal
 
 pub returns-clause-replies : goal.returns-clause-replies
 returns-clause-replies g c = (

@@ -1,6 +1,6 @@
 //! Replies to the lines of one session, by a desk.
 ghost use Rattle.std.specs.Prelude.{◌≡◌, [], IfOk, OnErr};
-ghost use Rattle.sessions.specs.Answers.{Replies};
+ghost use Rattle.answers.specs.Answers.{Replies};
 
 use crate::answer::{Answer, answer_job};
 use crate::clock::Clock;
@@ -26,7 +26,7 @@ pub struct DeskAnswerer<'a, C: NodeCore, B: Bell, K: Clock, R: Wait> {
 }
 
 impl<'a, C: NodeCore, B: Bell, K: Clock, R: Wait> Model for DeskAnswerer<'a, C, B, K, R> {
-    ghost use Rattle.sessions.specs.Answers.{Answering};
+    ghost use Rattle.answers.specs.Answers.{Answering};
 
     ghost Value = { Answering };
 
@@ -99,7 +99,7 @@ impl<'a, C: NodeCore, B: Bell, K: Clock, R: Wait> DeskAnswerer<'a, C, B, K, R> {
 
 impl<'a, C: NodeCore, B: Bell, K: Clock, R: Wait> Answerer for DeskAnswerer<'a, C, B, K, R> {
     ghost use Rattle.exchanges.specs.Given.{GivesOne};
-    ghost use Rattle.sessions.specs.Answers.{RepliesOnce, given_of};
+    ghost use Rattle.answers.specs.Answers.{RepliesOnce, given_of};
 
     ghost given = { λ s. given_of s.answers };
 

@@ -1,8 +1,8 @@
 use Rattle.std.proofs.Common.{◌≡◌, false, refl, subst}
 use Rattle.desk.specs.declared.notes.Told.{Told}
-use Rattle.sessions.specs.Answers.{is_without_journal}
-use Rattle.sessions.proofs.ToldOfMessages.{at_once_from, ended_later}
-use Rattle.sessions.proofs.answer.answer_message.Goals as goal
+use Rattle.answers.specs.Answers.{is_without_journal}
+use Rattle.answers.proofs.ToldOfMessages.{at_once_from, ended_later}
+use Rattle.answers.proofs.answer.answer_message.Goals as goal
 
 pub answer_confirmed-requires-clause-source : goal.answer_confirmed-requires-clause-source
 answer_confirmed-requires-clause-source g c = record {

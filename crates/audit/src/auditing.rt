@@ -8,7 +8,7 @@ ghost use Rattle.wire.specs.declared.input.Input.{Input};
 ghost use Rattle.world.specs.Kept.{nodes};
 
 use crate::journals::journals_of;
-use crate::loading::load_all;
+use crate::loading::{load_all, load_watched};
 use desk::State;
 use inputs::{OpFault, write_out};
 use node::Core;
@@ -18,7 +18,7 @@ use std::io::Write;
 use stores::NodeStore;
 use tables::push_table;
 use totals::tonnes_add_up;
-use weave::{WeaveFault, weave};
+use weave::{Nobody, Watch, WeaveFault, weave_watched};
 
 /// What a fault of weaving is to the command.
 fn fault_of(fault: WeaveFault) -> OpFault
@@ -41,8 +41,22 @@ pub fn table_of(alloc: Global, scheme: &Scheme, states: &[State<Core>]) -> Resul
     ensures ok { IfOk result (λ s. IsAuditTable scheme.now (map committed_records states.now) (string_bytes s)) }
     ensures err { IfErr result (FailsToWeave scheme.now (map committed_records states.now)) }
 {
+    table_watched(alloc, scheme, states, &mut Nobody)
+}
+
+/// As `table_of`, and tells of each record that is woven.
+fn table_watched<P: Watch>(
+    alloc: Global,
+    scheme: &Scheme,
+    states: &[State<Core>],
+    watch: &mut P,
+) -> Result<String, OpFault>
+    requires { length states.now ≡ length (nodes scheme.now) }
+    ensures ok { IfOk result (λ s. IsAuditTable scheme.now (map committed_records states.now) (string_bytes s)) }
+    ensures err { IfErr result (FailsToWeave scheme.now (map committed_records states.now)) }
+{
     let journals = journals_of(alloc, states)?;
-    let woven = match weave(alloc, scheme, journals.as_slice()) {
+    let woven = match weave_watched(alloc, scheme, journals.as_slice(), watch) {
         Ok(woven) => woven,
         Err(fault) => return Err(fault_of(fault)),
     };
@@ -99,7 +113,28 @@ pub fn audit<S: NodeStore, W: Write>(
     ensures err { IfErr result (λ e. FailsToAudit S.is_honest S.content S.may_hold S.must_reopen e scheme.now stores.old stores.new (W.contents writer.old) (W.contents writer.new)) }
     ensures kept { AreKept S.is_honest S.content S.must_reopen stores.old stores.new }
 {
-    let states = load_all(alloc, scheme, stores)?;
-    let table = table_of(alloc, scheme, states.as_slice())?;
+    audit_watched(alloc, scheme, stores, writer, &mut Nobody)
+}
+
+/// As `audit`, and tells of the records as they are read and woven.
+///
+/// # Errors
+///
+/// Fails as `audit` does.
+pub fn audit_watched<S: NodeStore, W: Write, P: Watch>(
+    alloc: Global,
+    scheme: &Scheme,
+    stores: &mut [S],
+    writer: &mut W,
+    watch: &mut P,
+) -> Result<(), OpFault>
+    requires { length stores.old ≡ length (nodes scheme.now) }
+    ensures ok { OnOk result ((table : List ℕ) × Audits S.is_honest S.content S.may_hold S.must_reopen scheme.now stores.old stores.new table × Appends (W.contents writer.old) (W.contents writer.new) table) }
+    ensures err { IfErr result (λ e. FailsToAudit S.is_honest S.content S.may_hold S.must_reopen e scheme.now stores.old stores.new (W.contents writer.old) (W.contents writer.new)) }
+    ensures kept { AreKept S.is_honest S.content S.must_reopen stores.old stores.new }
+{
+    let states = load_watched(alloc, scheme, stores, watch)?;
+    let table = table_watched(alloc, scheme, states.as_slice(), watch)?;
+    watch.finished();
     write_out(writer, table.as_str())
 }

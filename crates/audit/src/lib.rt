@@ -5,5 +5,5 @@ mod auditing;
 mod journals;
 mod loading;
 
-pub use auditing::{audit, read_first, table_of};
+pub use auditing::{audit, audit_watched, read_first, table_of};
 pub use loading::load_all;

@@ -12,6 +12,7 @@ use scheme::Scheme;
 use std::alloc::Global;
 use stores::NodeStore;
 use units::{NoMemory, Node};
+use weave::{Nobody, Watch};
 
 /// The state that the records of the node's store lead to.
 fn load_one<S: NodeStore>(
@@ -55,11 +56,29 @@ pub fn load_all<S: NodeStore>(
     ensures err { IfErr result (FailsToLoad S.is_honest S.content S.may_hold S.must_reopen scheme.now (nodes scheme.now) stores.old stores.new) }
     ensures kept { AreKept S.is_honest S.content S.must_reopen stores.old stores.new }
 {
+    load_watched(alloc, scheme, stores, &mut Nobody)
+}
+
+/// As `load_all`, and tells of each store's records once they are read.
+pub(crate) fn load_watched<S: NodeStore, P: Watch>(
+    alloc: Global,
+    scheme: &Scheme,
+    stores: &mut [S],
+    watch: &mut P,
+) -> Result<Vec<State<Core>>, OpFault>
+    requires { length stores.old ≤ length (nodes scheme.now) }
+    ensures ok { IfOk result (λ v. AreLoaded S.is_honest S.content S.may_hold S.must_reopen scheme.now (nodes scheme.now) stores.old stores.new (map committed_records v.items)) }
+    ensures err { IfErr result (FailsToLoad S.is_honest S.content S.may_hold S.must_reopen scheme.now (nodes scheme.now) stores.old stores.new) }
+    ensures kept { AreKept S.is_honest S.content S.must_reopen stores.old stores.new }
+{
     let mut states = Vec::new(alloc);
     for store in stores.iter_mut() {
         let node = node_at(scheme, states.len());
         match load_one(alloc, scheme, node, store) {
-            Ok(state) => push(&mut states, state)?,
+            Ok(state) => {
+                watch.read(state.committed().len());
+                push(&mut states, state)?;
+            }
             Err(fault) => return Err(fault),
         }
     }

@@ -3,10 +3,12 @@
 
 mod files;
 mod running;
+mod watching;
 
 use crate::files::{find_folder, open_store, open_stores, scheme_at};
 use crate::running::run_nodes;
-use audit::audit;
+use crate::watching::ProgressLine;
+use audit::audit_watched;
 use clap::Error;
 use inputs::{OpFault, node_of, write_out};
 use operator::{Action, UsageFault, chart, parse_words, show};
@@ -18,6 +20,7 @@ use std::rt::Clock as SystemClock;
 use std::sync::Wait;
 use std::thread::Threads;
 use std::{env, io};
+use weave::Watch;
 
 /// The exit status for words that are wrong.
 const WRONG_WORDS: u8 = 2;
@@ -41,12 +44,16 @@ fn audit_stores(rt: &HostRuntime, scheme: &str, folder: &str) -> Result<(), OpFa
     let scheme = scheme_at(rt, scheme)?;
     find_folder(rt, folder)?;
     let mut stores = open_stores(rt, &scheme, folder)?;
-    audit(
+    let mut progress = ProgressLine::new(rt);
+    let done = audit_watched(
         rt.alloc(),
         &scheme,
         stores.as_mut_slice(),
         &mut io::writer(rt),
-    )
+        &mut progress,
+    );
+    progress.finished();
+    done
 }
 
 /// Does what the action says. `threads` is the same runtime, as one that may start threads, wait and open sockets.

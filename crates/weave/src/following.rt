@@ -12,6 +12,7 @@ ghost use Rattle.world.specs.Kept.{nodes};
 use crate::giving::event_for;
 use crate::nodes::{journal_at, next_input, nodes_of, place_of};
 use crate::places::add_place;
+use crate::watch::Watch;
 use protocol::{Outcome, WorldEvent};
 use scheme::Scheme;
 use status::TransactionId;
@@ -171,17 +172,20 @@ impl Following {
     }
 }
 
-/// Follows the journals as far as they go.
-pub(crate) fn follow(
+/// Follows the journals as far as they go, and tells of each record.
+pub(crate) fn follow<W: Watch>(
     alloc: Global,
     scheme: &Scheme,
     journals: &[&[Input]],
+    watch: &mut W,
 ) -> Result<Following, NoMemory>
     requires { length journals.now ≡ length (nodes scheme.now) }
     ensures follows { IfOk result (IsFollowing scheme.now (journal_of scheme.now (map (λ j. j.now) journals.now))) }
     ensures done { IfOk result (λ f. f.due.items ≡ []) }
 {
     let mut following = Following::new(alloc, scheme)?;
-    while let Progress::Advanced = following.advance(scheme, journals)? {}
+    while let Progress::Advanced = following.advance(scheme, journals)? {
+        watch.woven();
+    }
     Ok(following)
 }

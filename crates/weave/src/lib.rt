@@ -7,8 +7,10 @@ mod giving;
 mod left;
 mod nodes;
 mod places;
+mod watch;
 mod weaving;
 
 pub use fault::WeaveFault;
 pub use nodes::{nodes_of, place_of};
-pub use weaving::{Woven, weave};
+pub use watch::{Nobody, Watch};
+pub use weaving::{Woven, weave, weave_watched};

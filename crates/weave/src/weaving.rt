@@ -12,6 +12,7 @@ use crate::fault::WeaveFault;
 use crate::following::{Following, follow};
 use crate::left::first_left;
 use crate::nodes::nodes_of;
+use crate::watch::{Nobody, Watch};
 use protocol::WorldEvent;
 use scheme::Scheme;
 use std::alloc::Global;
@@ -43,8 +44,31 @@ pub fn weave(alloc: Global, scheme: &Scheme, journals: &[&[Input]]) -> Result<Wo
     ensures way_out { IfOk result (λ w. WayOut w.world) }
     ensures err { IfErr result (IsWeaveFault scheme.now (journal_of scheme.now (map (λ j. j.now) journals.now))) }
 {
+    weave_watched(alloc, scheme, journals, &mut Nobody)
+}
+
+/// As `weave`, and tells of each record that is woven.
+///
+/// # Errors
+///
+/// Fails as `weave` does.
+pub fn weave_watched<W: Watch>(
+    alloc: Global,
+    scheme: &Scheme,
+    journals: &[&[Input]],
+    watch: &mut W,
+) -> Result<Woven, WeaveFault>
+    requires { length journals.now ≡ length (nodes scheme.now) }
+    ensures projects { IfOk result (λ w. Projects scheme.now w.events.items (journal_of scheme.now (map (λ j. j.now) journals.now))) }
+    ensures world { IfOk result (λ w. w.world ≡ run (opening scheme.now) w.events.items) }
+    ensures live { IfOk result (λ w. IsSafe scheme.now (live_of w.world)) }
+    ensures committed { IfOk result (λ w. IsSafe scheme.now (committed_of w.world)) }
+    ensures welcome { IfOk result (λ w. DeliversWelcome w.world) }
+    ensures way_out { IfOk result (λ w. WayOut w.world) }
+    ensures err { IfErr result (IsWeaveFault scheme.now (journal_of scheme.now (map (λ j. j.now) journals.now))) }
+{
     let nodes = nodes_of(alloc, scheme)?;
-    let Following { world, events, .. } = follow(alloc, scheme, journals)?;
+    let Following { world, events, .. } = follow(alloc, scheme, journals, watch)?;
     if let Some(left) = first_left(&world, scheme, nodes.as_slice(), journals) {
         return Err(WeaveFault::Stuck {
             node: left.node,

@@ -8,7 +8,7 @@ use Rattle.world.specs.Kept.{nodes}
 use Rattle.audit.specs.Stores.{AreLoadedTo}
 use Rattle.audit.proofs.Loaded.{fails_first, kept_more, loaded_more, all_same}
 use Rattle.audit.proofs.Places.{get_at, set_other}
-use Rattle.audit.proofs.loading.load_all.Goals as goal
+use Rattle.audit.proofs.loading.load_watched.Goals as goal
 
 pub returns-in-Err-clause-err : goal.returns-in-Err-clause-err
 returns-in-Err-clause-err g c =

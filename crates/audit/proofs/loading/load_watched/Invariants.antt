@@ -3,7 +3,7 @@ use Rattle.std.specs.Prelude.{slice_get}
 use Rattle.desk.specs.Views.{committed_records}
 use Rattle.world.specs.Kept.{nodes}
 use Rattle.audit.specs.Stores.{AreKept, AreLoadedTo}
-use Rattle.audit.proofs.loading.load_all.Given as goal
+use Rattle.audit.proofs.loading.load_watched.Given as goal
 
 abbrev pub invariant-loop-store : goal.invariant-loop-store
 invariant-loop-store g l = record {

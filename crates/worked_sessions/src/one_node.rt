@@ -1,0 +1,65 @@
+use crate::stations::{
+    COMPLETED, Ended, Station, UNKNOWN, call, message, open_station, parts_of, records_of, refused,
+    registry,
+};
+use desk::OpenGate;
+use exchanges::Exchange;
+use sessions::{Dial, run_node};
+use sockets::Ports;
+use std::alloc::Global;
+use std::sync::Wait;
+use std::thread;
+use std::thread::Threads;
+use stores::MemoryStore;
+use wire::Message;
+
+/// Runs one node that sends to none.
+fn run_alone<D: Dial + Sync, R: Threads + Wait + Sync>(
+    rt: &R,
+    alloc: Global,
+    station: &Station,
+    dial: &D,
+) -> Ended {
+    let store = MemoryStore::new(alloc, station.node);
+    run_node(rt, alloc, &parts_of(station, dial, &OpenGate), store)
+}
+
+/// One exchange with the node. Then it stops.
+fn call_and_stop<D: Dial, R: Wait>(
+    rt: &R,
+    alloc: Global,
+    station: &Station,
+    dial: &D,
+    message: &Message,
+) -> Option<Exchange> {
+    let end = call(alloc, dial, station.node, message);
+    station.desk.stop(rt);
+    end
+}
+
+/// A node and its caller.
+fn run_and_call<D: Dial + Sync, R: Threads + Wait + Sync>(
+    rt: &R,
+    alloc: Global,
+    station: &Station,
+    dial: &D,
+    message: &Message,
+) -> (Ended, Option<Exchange>) {
+    thread::join(
+        rt,
+        move || run_alone(rt, alloc, station, dial),
+        move || call_and_stop(rt, alloc, station, dial, message),
+    )
+}
+
+#[test]
+fn loopback_exchange(rt: HostRuntime) {
+    let alloc = rt.alloc();
+    let nz = open_station(&rt, alloc, registry(&rt, "NZ"), 0);
+    let mut ports = Ports::new(&rt, alloc);
+    ports.add(nz.node, &nz.listen.port).expect(&rt, "memory");
+    let completed = message(&rt, alloc, COMPLETED);
+    let (ended, exchanged) = run_and_call(&rt, alloc, &nz, &ports, &completed);
+    assert_eq!(rt; exchanged, Some(Exchange::Answered(refused(&rt, UNKNOWN))));
+    assert_eq!(rt; records_of(&rt, nz.desk, ended, None), (0, 0));
+}

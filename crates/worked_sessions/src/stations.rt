@@ -1,0 +1,198 @@
+//! Nodes of the worked scheme with their desks and ports, and what others send them.
+
+use answers::Clock;
+use desk::{Desk, Gate, RoomBell, Seat, State, settle};
+use exchanges::{Counted, Exchange, exchange};
+use node::Core;
+use scheme::Scheme;
+use sessions::{Dial, Listen, NodeEnd, NodeParts, NodeToRun, run_all};
+use sockets::Port;
+use status::Moment;
+use std::alloc::Global;
+use std::net::{Net, TcpListener, TcpStream};
+use std::process::Abort;
+use std::sync::Wait;
+use std::sync::atomic::{AtomicU64, Ordering};
+use std::thread::Threads;
+use stores::MemoryStore;
+use units::{Code, NoMemory, Node};
+use wire::{Message, Reply, ReplyCode, decode};
+
+const SCHEME: &str =
+    r#"{"records":1000,"registries":[{"accounts":[7,8],"allotted":[],"code":"JP","eligible":true,"kinds":["AAU","CER"]},{"accounts":[1,2],"allotted":[{"account":1,"units":["NZ:1:1-100:AAU"]}],"code":"NZ","eligible":true,"kinds":["AAU","RMU","ERU","CER","tCER","lCER"]}]}"#;
+
+/// The log tells NZ that a transfer is completed that NZ never proposed.
+pub const COMPLETED: &str =
+    r#"{"call":"AcceptNotification","codes":[],"from":"ITL","status":"Completed","to":"NZ","transaction":"NZ9"}"#;
+
+/// The log tells NZ that such a transfer is accepted.
+pub const ACCEPTED: &str =
+    r#"{"call":"AcceptNotification","codes":[],"from":"ITL","status":"Accepted","to":"NZ","transaction":"NZ9"}"#;
+
+/// The log tells JP that such a transfer is cancelled.
+pub const CANCELLED: &str =
+    r#"{"call":"AcceptNotification","codes":[],"from":"ITL","status":"Cancelled","to":"JP","transaction":"NZ9"}"#;
+
+/// NZ's proposal to the log.
+pub const PROPOSAL: &str =
+    r#"{"account":1,"call":"AcceptProposal","from":"NZ","status":"Proposed","to":"ITL","to_account":7,"to_registry":"JP","transaction":"NZ1","units":["NZ:1:1-100:AAU"]}"#;
+
+/// What a node replies to a message of a transfer that it doesn't know, where it has to.
+pub const UNKNOWN: u16 = 47;
+
+pub type NodeDesk = Desk<Core, RoomBell>;
+
+pub type Ended = Result<NodeEnd<MemoryStore>, NoMemory>;
+
+/// A clock that stands still.
+#[derive(Clone, Copy, Debug)]
+pub struct StillClock;
+
+impl Clock for StillClock {
+    fn now(&self) -> Moment {
+        Moment {
+            seconds: 1_335_830_400,
+        }
+    }
+}
+
+/// A port whose first accepts fail.
+#[derive(Drop)]
+pub struct FailingPort {
+    pub port: Port,
+    failing: u64,
+    accepts: AtomicU64,
+}
+
+impl FailingPort {
+    /// One whose first `failing` accepts fail.
+    pub fn open<R>(rt: &R, failing: u64) -> FailingPort
+    where
+        R: Net<Listener = TcpListener, Stream = TcpStream> + Abort,
+    {
+        FailingPort {
+            port: Port::open(rt).expect(rt, "a free port"),
+            failing,
+            accepts: AtomicU64::new(0),
+        }
+    }
+}
+
+impl Listen for FailingPort {
+    type Reader = TcpStream;
+
+    type Writer = TcpStream;
+
+    fn accept(&self) -> Option<(TcpStream, TcpStream)> {
+        if self.accepts.fetch_add(1, Ordering::SeqCst) < self.failing {
+            return None;
+        }
+        self.port.accept()
+    }
+}
+
+/// A node, its desk, and what accepts its connections.
+#[derive(Drop)]
+pub struct Station {
+    pub node: Node,
+    pub desk: NodeDesk,
+    pub listen: FailingPort,
+}
+
+pub fn registry(rt: &impl Abort, code: &str) -> Node {
+    Node::Registry(Code::read(code).expect(rt, "a code"))
+}
+
+pub fn desk_of(rt: &impl Abort, alloc: Global, node: Node) -> NodeDesk {
+    let scheme = Scheme::read(alloc, SCHEME.as_bytes()).expect(rt, "a scheme");
+    let core = Core::new(alloc, &scheme, node).expect(rt, "memory");
+    Desk::new(State::new(alloc, core), RoomBell::new())
+}
+
+/// A node's station, at whose port the first `failing` accepts fail.
+pub fn open_station<R>(rt: &R, alloc: Global, node: Node, failing: u64) -> Station
+where
+    R: Net<Listener = TcpListener, Stream = TcpStream> + Abort,
+{
+    Station {
+        node,
+        desk: desk_of(rt, alloc, node),
+        listen: FailingPort::open(rt, failing),
+    }
+}
+
+pub fn message(rt: &impl Abort, alloc: Global, text: &str) -> Message {
+    decode(alloc, text.as_bytes()).expect(rt, "a message")
+}
+
+/// The reply that refuses by that code.
+pub fn refused(rt: &impl Abort, code: u16) -> Reply {
+    Reply::Refused(ReplyCode::new(code).expect(rt, "a code"))
+}
+
+/// One exchange with that node over a connection of its own.
+pub fn call<D: Dial>(alloc: Global, dial: &D, peer: Node, message: &Message) -> Option<Exchange> {
+    let (reader, writer) = dial.connect(peer)?;
+    let mut reader = Counted::new(reader);
+    let mut writer = Counted::new(writer);
+    Some(exchange(alloc, &mut reader, &mut writer, message))
+}
+
+/// What the threads of a node share that sends to none.
+pub fn parts_of<'a, D, G>(
+    station: &'a Station,
+    dial: &'a D,
+    gate: &'a G,
+) -> NodeParts<'a, Core, RoomBell, FailingPort, D, StillClock, G> {
+    NodeParts {
+        node: station.node,
+        desk: &station.desk,
+        listen: &station.listen,
+        dial,
+        peers: &[],
+        clock: &StillClock,
+        gate,
+    }
+}
+
+/// Runs two nodes that send to none.
+pub fn run_both<D, G, R>(
+    rt: &R,
+    alloc: Global,
+    one: &Station,
+    other: &Station,
+    dial: &D,
+    gate: &G,
+) -> Result<Vec<Ended>, NoMemory>
+where
+    D: Dial + Sync,
+    G: Gate + Sync,
+    R: Threads + Wait + Sync,
+{
+    let mut nodes = Vec::new(alloc);
+    for station in [one, other] {
+        nodes.push(NodeToRun {
+            parts: parts_of(station, dial, gate),
+            store: MemoryStore::new(alloc, station.node),
+        })?;
+    }
+    run_all(rt, alloc, nodes)
+}
+
+/// How many records the node has and how many it has committed, as its threads were told, and whoever has that other
+/// seat.
+pub fn records_of(
+    rt: &impl Abort,
+    desk: NodeDesk,
+    end: Ended,
+    other: Option<Seat>,
+) -> (usize, usize) {
+    let end = end.expect(rt, "memory");
+    assert_eq!(rt; end.fault, None);
+    let mut seats = end.seats;
+    if let Some(seat) = other {
+        seats.push(seat).expect(rt, "memory");
+    }
+    let life = settle(&desk.end(), seats.as_slice()).expect(rt, "a life");
+    (life.records, life.committed)
+}

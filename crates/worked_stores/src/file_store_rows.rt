@@ -9,7 +9,7 @@ use stores::{NodeStore, StoreFault};
 use units::{Code, Node};
 use wire::{Input, Number, decode_input, encode_input};
 
-type Stored = Files<Fuse<Memory>>;
+pub type Stored = Files<Fuse<Memory>>;
 
 const PROPOSE: &str =
     r#"{"account":1,"input":"propose","to_account":7,"to_registry":"JP","units":["NZ:1:1-100:AAU"]}"#;
@@ -37,7 +37,7 @@ fn new_files(alloc: Global, log_calls: u64, db_calls: u64) -> Stored {
 }
 
 /// The machine comes back, with fuses that don't blow.
-fn after_a_crash(mut files: Stored) -> Stored {
+pub fn after_a_crash(mut files: Stored) -> Stored {
     files.log.crash();
     files.db.crash();
     files
@@ -48,14 +48,8 @@ fn record(rt: &impl Abort, alloc: Global, text: &str) -> Input {
 }
 
 fn two(rt: &impl Abort, alloc: Global) -> Vec<Input> {
-    let mut batch = Vec::new(alloc);
-    batch
-        .push(record(rt, alloc, PROPOSE))
-        .expect(rt, "no fault of the store");
-    batch
-        .push(record(rt, alloc, ACCEPTED))
-        .expect(rt, "no fault of the store");
-    batch
+    let batch = [record(rt, alloc, PROPOSE), record(rt, alloc, ACCEPTED)];
+    Vec::from_array(alloc, batch).expect(rt, "memory")
 }
 
 fn has_text(alloc: Global, input: &Input, text: &str) -> bool {
@@ -72,14 +66,36 @@ fn are_two(alloc: Global, inputs: &[Input]) -> bool {
     }
 }
 
-fn open_as(rt: &impl Abort, alloc: Global, files: Stored, code: &str) -> SqlStore<Fuse<Memory>> {
+type MemoryFiles = SqlStore<Fuse<Memory>>;
+
+fn open_as(rt: &impl Abort, alloc: Global, files: Stored, code: &str) -> MemoryFiles {
     let opened = SqlStore::open_files(alloc, files, options(), registry(rt, code));
     opened.ok().expect(rt, "a store")
 }
 
-fn refusal(rt: &impl Abort, alloc: Global, files: Stored, code: &str) -> (StoreFault, Stored) {
+/// Asserts that the files are refused as the store of that registry, for that cause. Gives them back.
+fn refused(
+    rt: &impl Abort,
+    alloc: Global,
+    files: Stored,
+    code: &str,
+    wanted: StoreFault,
+) -> Stored {
     let opened = SqlStore::open_files(alloc, files, options(), registry(rt, code));
-    opened.err().expect(rt, "a refusal")
+    let (fault, files) = opened.err().expect(rt, "a refusal");
+    assert!(rt; fault == wanted);
+    files
+}
+
+/// Asserts that the store has the two records.
+fn assert_two(rt: &impl Abort, alloc: Global, store: &mut MemoryFiles) {
+    let records = store.load().expect(rt, "no fault of the store");
+    assert!(rt; are_two(alloc, &records));
+}
+
+/// Appends the two records.
+fn append_two(rt: &impl Abort, alloc: Global, store: &mut MemoryFiles) {
+    assert!(rt; store.append(&two(rt, alloc)).is_ok());
 }
 
 /// The files after statements that no store makes.
@@ -96,64 +112,62 @@ fn changed(rt: &impl Abort, alloc: Global, files: Stored, statements: &[&str]) -
 /// The files of NZ's store of two records.
 fn files_of_two(rt: &impl Abort, alloc: Global) -> Stored {
     let mut store = open_as(rt, alloc, new_files(alloc, FOREVER, FOREVER), "NZ");
-    store
-        .append(&two(rt, alloc))
-        .expect(rt, "no fault of the store");
+    append_two(rt, alloc, &mut store);
     store.close_files()
 }
 
 #[test]
 fn records_are_kept_in_files(rt: HostRuntime) {
     let alloc = rt.alloc();
-    let mut store = open_as(&rt, alloc, new_files(alloc, FOREVER, FOREVER), "NZ");
-    assert_eq!(rt; store.node(), registry(&rt, "NZ"));
-    assert_eq!(rt; store.append(&two(&rt, alloc)), Ok(()));
-    assert!(rt; are_two(alloc, &store.load().expect(&rt, "no fault of the store")));
-    assert_eq!(rt; store.reopen(), Ok(()));
-    assert!(rt; are_two(alloc, &store.load().expect(&rt, "no fault of the store")));
-    let mut again = open_as(&rt, alloc, store.close_files(), "NZ");
-    assert!(rt; are_two(alloc, &again.load().expect(&rt, "no fault of the store")));
-    assert_eq!(rt; again.fault_count(), 0);
+    let mut store = open_as(&rt, alloc, files_of_two(&rt, alloc), "NZ");
+    assert_two(&rt, alloc, &mut store);
+    assert!(rt; store.reopen().is_ok());
+    assert_two(&rt, alloc, &mut store);
+    assert!(rt; store.fault_count() == 0);
+}
+
+/// Asserts that the store has that one record, or none, at the places from `from` on.
+fn assert_page(
+    rt: &impl Abort,
+    alloc: Global,
+    store: &mut MemoryFiles,
+    from: u64,
+    wanted: Option<&str>,
+) {
+    let page = store.load_page(from, 1).expect(rt, "no fault of the store");
+    let is_so = match (page.as_slice(), wanted) {
+        ([record], Some(text)) => has_text(alloc, record, text),
+        ([], None) => true,
+        _ => false,
+    };
+    assert!(rt; is_so);
 }
 
 #[test]
 fn pages_of_a_store_in_files(rt: HostRuntime) {
     let alloc = rt.alloc();
     let mut store = open_as(&rt, alloc, files_of_two(&rt, alloc), "NZ");
-    let first = store.load_page(0, 1).expect(&rt, "no fault of the store");
-    assert!(rt; first.len() == 1 && has_text(alloc, &first[0], PROPOSE));
-    let second = store.load_page(1, 256).expect(&rt, "no fault of the store");
-    assert!(rt; second.len() == 1 && has_text(alloc, &second[0], ACCEPTED));
-    assert!(rt;
-        store
-            .load_page(2, 256)
-            .expect(&rt, "no fault of the store")
-            .is_empty()
-    );
+    for (from, wanted) in [(0, Some(PROPOSE)), (1, Some(ACCEPTED)), (2, None)] {
+        assert_page(&rt, alloc, &mut store, from, wanted);
+    }
 }
 
 #[test]
 fn files_of_another_node_are_refused(rt: HostRuntime) {
     let alloc = rt.alloc();
-    let (fault, files) = refusal(&rt, alloc, files_of_two(&rt, alloc), "JP");
-    assert_eq!(rt; fault, StoreFault::WrongNode);
+    let files = files_of_two(&rt, alloc);
+    let files = refused(&rt, alloc, files, "JP", StoreFault::WrongNode);
     let mut store = open_as(&rt, alloc, files, "NZ");
-    assert!(rt; are_two(alloc, &store.load().expect(&rt, "no fault of the store")));
+    assert_two(&rt, alloc, &mut store);
 }
 
 #[test]
 fn another_format_is_refused_before_another_node(rt: HostRuntime) {
     let alloc = rt.alloc();
-    let files = changed(
-        &rt,
-        alloc,
-        files_of_two(&rt, alloc),
-        &["UPDATE about SET format = 9"],
-    );
-    let (fault, files) = refusal(&rt, alloc, files, "NZ");
-    assert_eq!(rt; fault, StoreFault::WrongVersion);
-    let (fault, _) = refusal(&rt, alloc, files, "JP");
-    assert_eq!(rt; fault, StoreFault::WrongVersion);
+    let statement = "UPDATE about SET format = 9";
+    let files = changed(&rt, alloc, files_of_two(&rt, alloc), &[statement]);
+    let files = refused(&rt, alloc, files, "NZ", StoreFault::WrongVersion);
+    let _files = refused(&rt, alloc, files, "JP", StoreFault::WrongVersion);
 }
 
 #[test]
@@ -167,8 +181,7 @@ fn what_is_no_store_is_refused(rt: HostRuntime) {
         "DROP TABLE about",
     ] {
         let files = changed(&rt, alloc, files_of_two(&rt, alloc), &[statement]);
-        let (fault, _) = refusal(&rt, alloc, files, "NZ");
-        assert!(rt; fault == StoreFault::Damaged(0), "{statement}");
+        let _files = refused(&rt, alloc, files, "NZ", StoreFault::Damaged(0));
     }
 }
 
@@ -181,11 +194,9 @@ fn tables_made_in_the_other_order_are_a_store(rt: HostRuntime) {
     ];
     let files = changed(&rt, alloc, new_files(alloc, FOREVER, FOREVER), &tables);
     let mut store = open_as(&rt, alloc, files, "NZ");
-    assert_eq!(rt; store.append(&two(&rt, alloc)), Ok(()));
-    let (fault, files) = refusal(&rt, alloc, store.close_files(), "JP");
-    assert_eq!(rt; fault, StoreFault::WrongNode);
-    let mut again = open_as(&rt, alloc, files, "NZ");
-    assert!(rt; are_two(alloc, &again.load().expect(&rt, "no fault of the store")));
+    append_two(&rt, alloc, &mut store);
+    let mut again = open_as(&rt, alloc, store.close_files(), "NZ");
+    assert_two(&rt, alloc, &mut again);
 }
 
 #[test]
@@ -193,67 +204,64 @@ fn a_file_that_is_no_database_is_refused(rt: HostRuntime) {
     let alloc = rt.alloc();
     let mut files = new_files(alloc, FOREVER, FOREVER);
     assert!(rt; files.db.may_be_used());
-    files
-        .db
-        .write_at(0, &[b'x'; 4096])
-        .expect(&rt, "no fault of the store");
-    let (fault, _) = refusal(&rt, alloc, files, "NZ");
-    assert_eq!(rt; fault, StoreFault::Damaged(0));
+    assert!(rt; files.db.write_at(0, &[b'x'; 4096]).is_ok());
+    let _files = refused(&rt, alloc, files, "NZ", StoreFault::Damaged(0));
+}
+
+/// Asserts that after the statement the whole store has that damage. Gives the store.
+fn damaged(rt: &impl Abort, alloc: Global, statement: &str, place: u64) -> MemoryFiles {
+    let files = changed(rt, alloc, files_of_two(rt, alloc), &[statement]);
+    let mut store = open_as(rt, alloc, files, "NZ");
+    assert!(rt; store.load().err() == Some(StoreFault::Damaged(place)));
+    store
+}
+
+/// Asserts that the page of that one place has that damage.
+fn assert_damaged_page(rt: &impl Abort, store: &mut MemoryFiles, place: u64) {
+    let page = store.load_page(place, 1);
+    assert!(rt; page.err() == Some(StoreFault::Damaged(place)));
 }
 
 #[test]
 fn a_record_that_is_none_is_named(rt: HostRuntime) {
     let alloc = rt.alloc();
     let statement = "UPDATE entries SET body = 'x' WHERE place = 1";
-    let files = changed(&rt, alloc, files_of_two(&rt, alloc), &[statement]);
-    let mut store = open_as(&rt, alloc, files, "NZ");
-    assert!(rt; matches!(store.load(), Err(StoreFault::Damaged(1))));
-    let first = store.load_page(0, 1).expect(&rt, "no fault of the store");
-    assert!(rt; first.len() == 1 && has_text(alloc, &first[0], PROPOSE));
-    assert!(rt; matches!(store.load_page(1, 1), Err(StoreFault::Damaged(1))));
+    let mut store = damaged(&rt, alloc, statement, 1);
+    assert_page(&rt, alloc, &mut store, 0, Some(PROPOSE));
+    assert_damaged_page(&rt, &mut store, 1);
 }
 
 #[test]
 fn a_place_that_is_missing_is_named(rt: HostRuntime) {
     let alloc = rt.alloc();
-    let moved = changed(
-        &rt,
-        alloc,
-        files_of_two(&rt, alloc),
-        &["UPDATE entries SET place = 2 WHERE place = 1"],
-    );
-    let mut store = open_as(&rt, alloc, moved, "NZ");
-    assert!(rt; matches!(store.load(), Err(StoreFault::Damaged(1))));
-    let removed = changed(
-        &rt,
-        alloc,
-        files_of_two(&rt, alloc),
-        &["DELETE FROM entries WHERE place = 0"],
-    );
-    let mut store = open_as(&rt, alloc, removed, "NZ");
-    assert!(rt; matches!(store.load_page(0, 1), Err(StoreFault::Damaged(0))));
+    let moved = "UPDATE entries SET place = 2 WHERE place = 1";
+    let removed = "DELETE FROM entries WHERE place = 0";
+    let _store = damaged(&rt, alloc, moved, 1);
+    let mut store = damaged(&rt, alloc, removed, 0);
+    assert_damaged_page(&rt, &mut store, 0);
 }
 
 /// How far a run came before a call of its files failed.
 #[derive(Drop)]
 struct Run {
     files: Stored,
-    // records that were returned
-    answered: usize,
-    // faults that were counted, and whether the store then waited
+    /// How many records were appended without a fault.
+    appended: usize,
+    /// How many faults were counted.
     faults: u64,
+    /// Whether the store had to be opened again then.
     waited: bool,
 }
 
 /// Appends two records, opens the store again, and so once more, up to the first fault.
-fn drive(rt: &impl Abort, alloc: Global, mut store: SqlStore<Fuse<Memory>>) -> Run {
+fn drive(rt: &impl Abort, alloc: Global, mut store: MemoryFiles) -> Run {
     let batch = two(rt, alloc);
-    let mut answered = 0;
+    let mut appended = 0;
     for round in 1..3 {
         if store.append(&batch).is_err() {
             break;
         }
-        answered = 2 * round;
+        appended = 2 * round;
         if store.reopen().is_err() {
             break;
         }
@@ -263,7 +271,7 @@ fn drive(rt: &impl Abort, alloc: Global, mut store: SqlStore<Fuse<Memory>>) -> R
     let files = store.close_files();
     Run {
         files,
-        answered,
+        appended,
         faults,
         waited,
     }
@@ -279,7 +287,7 @@ fn stops_well(rt: &impl Abort, alloc: Global, log_calls: u64, db_calls: u64) -> 
             assert!(rt; fault == StoreFault::Device);
             Run {
                 files,
-                answered: 0,
+                appended: 0,
                 faults: 1,
                 waited: true,
             }
@@ -289,7 +297,7 @@ fn stops_well(rt: &impl Abort, alloc: Global, log_calls: u64, db_calls: u64) -> 
     assert!(rt; run.waited == stopped);
     let mut store = open_as(rt, alloc, after_a_crash(run.files), "NZ");
     let found = store.load().expect(rt, "no fault of the store").len();
-    let more = found.checked_sub(run.answered);
+    let more = found.checked_sub(run.appended);
     assert!(rt; more == Some(0) || stopped && more == Some(2));
     stopped
 }
@@ -314,40 +322,51 @@ fn each_call_of_the_database_fails(rt: HostRuntime) {
     assert!(rt; false, "an end of the calls");
 }
 
+/// Asserts that what stands at the path in these files is refused as a store of that registry, for that cause.
+fn assert_refused_at(
+    rt: &impl Abort,
+    files: &HostRuntime,
+    path: &str,
+    code: &str,
+    wanted: StoreFault,
+) {
+    let opened = SqlStore::open_path(files, path, registry(rt, code));
+    assert!(rt; opened.err() == Some(wanted));
+}
+
+/// Appends two records to the store where it has none, and asserts that it has these two.
+fn keep_two<S: NodeStore>(rt: &impl Abort, alloc: Global, store: &mut S) {
+    if store.load().expect(rt, "no fault of the store").is_empty() {
+        assert!(rt; store.append(&two(rt, alloc)).is_ok());
+        assert!(rt; store.reopen().is_ok());
+    }
+    let records = store.load().expect(rt, "no fault of the store");
+    assert!(rt; are_two(alloc, &records));
+}
+
+/// Opens NZ's store at the path in these files, keeps two records in it, and asserts that it is refused to others meanwhile.
+fn keep_at(rt: &impl Abort, files: &HostRuntime, path: &str) {
+    let opened = SqlStore::open_path(files, path, registry(rt, "NZ"));
+    let mut store = opened.expect(rt, "no fault of the store");
+    keep_two(rt, files.alloc(), &mut store);
+    assert_refused_at(rt, files, path, "NZ", StoreFault::Device);
+}
+
 #[test]
 fn a_store_at_a_path(rt: HostRuntime) {
-    let alloc = rt.alloc();
-    fs::create_dir(&rt, "durable_test").expect(&rt, "no fault of the store");
-    let path = "durable_test/NZ.db";
-    let node = registry(&rt, "NZ");
-    let mut store = SqlStore::open_path(&rt, path, node).expect(&rt, "no fault of the store");
-    assert_eq!(rt; store.append(&two(&rt, alloc)), Ok(()));
-    assert!(rt;
-        matches!(
-            SqlStore::open_path(&rt, path, node),
-            Err(StoreFault::Device)
-        )
-    );
-    drop(store);
-    let other = SqlStore::open_path(&rt, path, registry(&rt, "JP"));
-    assert!(rt; matches!(other, Err(StoreFault::WrongNode)));
-    drop(other);
-    let mut again = SqlStore::open_path(&rt, path, node).expect(&rt, "no fault of the store");
-    assert!(rt; are_two(alloc, &again.load().expect(&rt, "no fault of the store")));
-    assert_eq!(rt; again.reopen(), Ok(()));
-    assert!(rt; are_two(alloc, &again.load().expect(&rt, "no fault of the store")));
-    drop(again);
-    fs::write(
+    fs::create_dir(&rt, "durable_test").expect(&rt, "a new folder");
+    keep_at(&rt, &rt, "durable_test/NZ.db");
+    keep_at(&rt, &rt, "durable_test/NZ.db");
+    assert_refused_at(&rt, &rt, "durable_test/NZ.db", "JP", StoreFault::WrongNode);
+    let text = "no database, but a text that is long enough";
+    fs::write(&rt, "durable_test/JP.db", text).expect(&rt, "a new file");
+    assert_refused_at(&rt, &rt, "durable_test/JP.db", "NZ", StoreFault::Damaged(0));
+    assert_refused_at(
         &rt,
-        "durable_test/JP.db",
-        "no database, but a text that is long enough",
-    )
-    .expect(&rt, "no fault of the store");
-    let text = SqlStore::open_path(&rt, "durable_test/JP.db", node);
-    assert!(rt; matches!(text, Err(StoreFault::Damaged(0))));
-    drop(text);
-    let nowhere = SqlStore::open_path(&rt, "durable_test/none/NZ.db", node);
-    assert!(rt; matches!(nowhere, Err(StoreFault::Device)));
-    drop(nowhere);
-    fs::remove_dir_all(&rt, "durable_test").expect(&rt, "no fault of the store");
+        &rt,
+        "durable_test/none/NZ.db",
+        "NZ",
+        StoreFault::Device,
+    );
+    fs::remove_dir_all(&rt, "durable_test").expect(&rt, "a folder");
 }

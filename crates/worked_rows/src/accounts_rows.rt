@@ -2,8 +2,7 @@ use accounts::{HeldBlock, Holdings};
 use status::TransactionId;
 use std::alloc::Global;
 use std::process::Abort;
-use std::test::Fail;
-use units::{Block, Refusal};
+use units::{Block, NoMemory, Refusal};
 
 fn refusal(code: u16) -> Result<(), Refusal> {
     Err(Refusal { code })
@@ -26,11 +25,16 @@ fn line(rt: &impl Abort, text: &str, reserving: Option<TransactionId>) -> HeldBl
     }
 }
 
-/// Accounts 1 and 2, and a hundred units in the first.
-fn hundred(alloc: Global) -> Result<Holdings, Fail> {
+/// Accounts 1 and 2, and the block in the first.
+fn credited(alloc: Global, block: Block) -> Result<Holdings, NoMemory> {
     let mut holdings = Holdings::new(alloc, &[1, 2])?;
-    holdings.credit(1, &[Block::read("NZ:1:1-100:AAU")?])?;
+    holdings.credit(1, &[block])?;
     Ok(holdings)
+}
+
+/// Accounts 1 and 2, and a hundred units in the first.
+fn hundred(rt: &impl Abort, alloc: Global) -> Holdings {
+    credited(alloc, block(rt, "NZ:1:1-100:AAU")).expect(rt, "memory")
 }
 
 /// The holdings are these lines.
@@ -72,10 +76,10 @@ fn assert_removed(rt: &impl Abort, holdings: &mut Holdings, id: TransactionId, f
 }
 
 #[test]
-fn holdings_are_reserved_once(rt: HostRuntime) -> Result<(), Fail> {
+fn holdings_are_reserved_once(rt: HostRuntime) {
     let first = id(&rt, "NZ1");
     let sixty = [block(&rt, "NZ:1:1-60:AAU")];
-    let mut holdings = hundred(rt.alloc())?;
+    let mut holdings = hundred(&rt, rt.alloc());
     assert_reserved(&rt, &mut holdings, &sixty, first, 40);
     for (account, text, code) in [
         (1, "NZ:1:60-61:AAU", 106),
@@ -88,40 +92,37 @@ fn holdings_are_reserved_once(rt: HostRuntime) -> Result<(), Fail> {
     }
     assert_released(&rt, &mut holdings, id(&rt, "NZ2"), 40);
     assert_released(&rt, &mut holdings, first, 100);
-    Ok(())
 }
 
 #[test]
-fn holdings_are_taken_out(rt: HostRuntime) -> Result<(), Fail> {
+fn holdings_are_taken_out(rt: HostRuntime) {
     let first = id(&rt, "NZ1");
     let blocks = [block(&rt, "NZ:1:1-30:AAU"), block(&rt, "NZ:1:31-60:AAU")];
     let left = line(&rt, "NZ:1:61-100:AAU", None);
-    let mut holdings = hundred(rt.alloc())?;
+    let mut holdings = hundred(&rt, rt.alloc());
     assert_reserved(&rt, &mut holdings, &blocks, first, 40);
     assert_removed(&rt, &mut holdings, first, 40);
     assert!(rt; !holdings.holds_any(&blocks));
     assert!(rt; holdings.holds_any(&[blocks[0], left.block]));
     assert_lines(&rt, &holdings, rt.alloc(), &[left]);
-    Ok(())
 }
 
 #[test]
-fn one_transaction_reserves_twice(rt: HostRuntime) -> Result<(), Fail> {
+fn one_transaction_reserves_twice(rt: HostRuntime) {
     let first = id(&rt, "NZ1");
     let shared = [block(&rt, "NZ:1:1-30:AAU"), block(&rt, "NZ:1:21-40:AAU")];
     let others = [block(&rt, "NZ:1:91-95:AAU")];
-    let mut holdings = hundred(rt.alloc())?;
+    let mut holdings = hundred(&rt, rt.alloc());
     assert_reserved(&rt, &mut holdings, &shared, first, 60);
     assert_reserved(&rt, &mut holdings, &others, first, 55);
     assert_released(&rt, &mut holdings, first, 100);
     assert_reserved(&rt, &mut holdings, &shared, first, 60);
     assert_removed(&rt, &mut holdings, first, 60);
     assert_eq!(rt; holdings.unit_holding(&shared[0].first_unit()), None);
-    Ok(())
 }
 
 #[test]
-fn pieces(rt: HostRuntime) -> Result<(), Fail> {
+fn pieces(rt: HostRuntime) {
     let (first, second) = (id(&rt, "NZ1"), id(&rt, "NZ2"));
     let low = line(&rt, "NZ:1:1-19:AAU", None);
     let of_first = line(&rt, "NZ:1:20-30:AAU", Some(first));
@@ -129,7 +130,7 @@ fn pieces(rt: HostRuntime) -> Result<(), Fail> {
     let high = line(&rt, "NZ:1:41-100:AAU", None);
     let joined = line(&rt, "NZ:1:31-100:AAU", None);
     let alloc = rt.alloc();
-    let mut holdings = hundred(alloc)?;
+    let mut holdings = hundred(&rt, alloc);
     assert_reserved(&rt, &mut holdings, &[of_first.block], first, 89);
     assert_reserved(&rt, &mut holdings, &[of_second.block], second, 79);
     assert_lines(&rt, &holdings, alloc, &[low, of_first, of_second, high]);
@@ -139,7 +140,6 @@ fn pieces(rt: HostRuntime) -> Result<(), Fail> {
     assert_released(&rt, &mut holdings, first, 100);
     assert_lines(&rt, &holdings, alloc, &[line(&rt, "NZ:1:1-100:AAU", None)]);
     assert_eq!(rt; holdings.pieces().len(), 1);
-    Ok(())
 }
 
 /// A call that changes an account's standing, or asks whether it would.
@@ -154,13 +154,13 @@ enum Call {
 impl Call {
     /// The code with which the call is refused, or `None`.
     fn code(self, holdings: &mut Holdings, account: u64) -> Option<u16> {
-        let answer = match self {
+        let done = match self {
             Call::Open => holdings.open_account(account),
             Call::Close => holdings.close_account(account),
             Call::MayOpen => holdings.may_open(account),
             Call::MayClose => holdings.may_close(account),
         };
-        let refusal = answer.err()?;
+        let refusal = done.err()?;
         Some(refusal.code)
     }
 }
@@ -186,8 +186,8 @@ const OPEN: [(Call, u64, Option<u16>); 3] = [
 ];
 
 #[test]
-fn holdings_are_closed_and_opened(rt: HostRuntime) -> Result<(), Fail> {
-    let mut holdings = hundred(rt.alloc())?;
+fn holdings_are_closed_and_opened(rt: HostRuntime) {
+    let mut holdings = hundred(&rt, rt.alloc());
     assert_calls(&rt, &mut holdings, &CLOSE);
     assert_eq!(rt;
         (holdings.is_open(2), holdings.is_open(3)),
@@ -196,7 +196,6 @@ fn holdings_are_closed_and_opened(rt: HostRuntime) -> Result<(), Fail> {
     assert_eq!(rt; holdings.check(2, &[]), refusal(104));
     assert_calls(&rt, &mut holdings, &OPEN);
     assert_eq!(rt; holdings.is_open(2), Some(true));
-    Ok(())
 }
 
 const WHILE_RESERVED: [(Call, u64, Option<u16>); 4] = [
@@ -214,13 +213,12 @@ const AFTER_REMOVAL: [(Call, u64, Option<u16>); 4] = [
 ];
 
 #[test]
-fn accounts_may_be_closed_and_opened(rt: HostRuntime) -> Result<(), Fail> {
+fn accounts_may_be_closed_and_opened(rt: HostRuntime) {
     let first = id(&rt, "NZ1");
     let whole = [block(&rt, "NZ:1:1-100:AAU")];
-    let mut holdings = hundred(rt.alloc())?;
+    let mut holdings = hundred(&rt, rt.alloc());
     assert_reserved(&rt, &mut holdings, &whole, first, 0);
     assert_calls(&rt, &mut holdings, &WHILE_RESERVED);
     assert_removed(&rt, &mut holdings, first, 0);
     assert_calls(&rt, &mut holdings, &AFTER_REMOVAL);
-    Ok(())
 }

@@ -1,7 +1,6 @@
 use scheme::{Allotment, Holder, Scheme, SchemeFault, SchemeRegistry};
 use std::alloc::Global;
 use std::process::Abort;
-use std::test::Fail;
 use units::{Block, Code, Kind, Period, Unit};
 
 const JP: &str =
@@ -10,44 +9,48 @@ const JP: &str =
 const NZ: &str =
     r#"{"accounts":[1,2],"allotted":[{"account":1,"units":["NZ:1:1-100:AAU"]}],"code":"NZ","eligible":true,"kinds":["AAU","RMU","ERU","CER","tCER","lCER"]}"#;
 
-fn text_of(alloc: Global, registries: &str) -> Result<String, Fail> {
-    Ok(format!(in alloc; "{{\"records\":1000,\"registries\":[{registries}]}}")?)
+fn text_of(rt: &impl Abort, alloc: Global, registries: &str) -> String {
+    format!(in alloc; "{{\"records\":1000,\"registries\":[{registries}]}}").expect(rt, "memory")
 }
 
-/// What is wrong with the registries.
-fn fault(alloc: Global, registries: &str) -> Result<Option<SchemeFault>, Fail> {
-    let text = text_of(alloc, registries)?;
-    Ok(Scheme::read(alloc, text.as_bytes()).err())
+fn read(rt: &impl Abort, alloc: Global, registries: &str) -> Result<Scheme, SchemeFault> {
+    Scheme::read(alloc, text_of(rt, alloc, registries).as_bytes())
 }
 
-fn registry(alloc: Global, code: &str, accounts: &str, allotted: &str) -> Result<String, Fail> {
-    Ok(format!(in alloc;
+/// Asserts that this is wrong with the registries, or nothing.
+fn assert_fault(rt: &impl Abort, alloc: Global, registries: &str, wanted: Option<SchemeFault>) {
+    assert_eq!(rt; read(rt, alloc, registries).err(), wanted);
+}
+
+fn registry(rt: &impl Abort, alloc: Global, code: &str, accounts: &str, allotted: &str) -> String {
+    let text = format!(in alloc;
         "{{\"accounts\":[{accounts}],\"allotted\":[{allotted}],\"code\":\"{code}\",\"eligible\":false,\"kinds\":[]}}"
-    )?)
+    );
+    text.expect(rt, "memory")
 }
 
-/// What is wrong with JP and a registry NZ of those accounts and allotments.
-fn fault_beside_jp(
+/// Asserts that this is wrong with JP and a registry NZ of those accounts and allotments, or nothing.
+fn assert_beside_jp(
+    rt: &impl Abort,
     alloc: Global,
     accounts: &str,
     allotted: &str,
-) -> Result<Option<SchemeFault>, Fail> {
-    let nz = registry(alloc, "NZ", accounts, allotted)?;
-    let both = format!(in alloc; "{JP},{nz}")?;
-    fault(alloc, both.as_str())
+    wanted: Option<SchemeFault>,
+) {
+    let nz = registry(rt, alloc, "NZ", accounts, allotted);
+    let both = format!(in alloc; "{JP},{nz}").expect(rt, "memory");
+    assert_fault(rt, alloc, both.as_str(), wanted);
 }
 
 /// The texts of that many numbers from 1 on, between `before` and `after`.
-fn repeated(alloc: Global, count: u64, before: &str, after: &str) -> Result<String, Fail> {
+fn repeated(rt: &impl Abort, alloc: Global, count: u64, before: &str, after: &str) -> String {
     let mut text = String::new(alloc);
     for i in 1..=count {
-        if i > 1 {
-            text.push_str(",")?;
-        }
-        let next = format!(in alloc; "{before}{i}{after}")?;
-        text.push_str(next.as_str())?;
+        let comma = if i > 1 { "," } else { "" };
+        let next = format!(in alloc; "{comma}{before}{i}{after}").expect(rt, "memory");
+        text.push_str(next.as_str()).expect(rt, "memory");
     }
-    Ok(text)
+    text
 }
 
 /// The registry has that code and these accounts, and is eligible.
@@ -82,65 +85,52 @@ fn assert_worked(rt: &impl Abort, scheme: &Scheme) {
     }
 }
 
+/// The scheme of these registries is that of JP and NZ, and so is its copy.
+fn assert_read(rt: &impl Abort, alloc: Global, first: &str, second: &str) {
+    let registries = format!(in alloc; "{first},{second}").expect(rt, "memory");
+    let scheme = read(rt, alloc, registries.as_str()).expect(rt, "a scheme");
+    assert_worked(rt, &scheme);
+    assert_worked(rt, &scheme.copy(alloc).expect(rt, "memory"));
+}
+
 #[test]
-fn a_scheme_is_read_and_copied(rt: HostRuntime) -> Result<(), Fail> {
-    let alloc = rt.alloc();
-    let jp_first = format!(in alloc; "{JP},{NZ}")?;
-    let nz_first = format!(in alloc; "{NZ},{JP}")?;
-    for registries in [jp_first.as_str(), nz_first.as_str()] {
-        let text = text_of(alloc, registries)?;
-        let scheme = Scheme::read(alloc, text.as_bytes())?;
-        let copy = scheme.copy(alloc)?;
-        assert_worked(&rt, &scheme);
-        assert_worked(&rt, &copy);
-    }
-    Ok(())
+fn a_scheme_is_read_and_copied(rt: HostRuntime) {
+    assert_read(&rt, rt.alloc(), JP, NZ);
+    assert_read(&rt, rt.alloc(), NZ, JP);
 }
 
 /// The scheme of JP and NZ.
-fn worked(alloc: Global) -> Result<Scheme, Fail> {
-    let registries = format!(in alloc; "{JP},{NZ}")?;
-    let text = text_of(alloc, registries.as_str())?;
-    Ok(Scheme::read(alloc, text.as_bytes())?)
+fn worked(rt: &impl Abort, alloc: Global) -> Scheme {
+    let registries = format!(in alloc; "{JP},{NZ}").expect(rt, "memory");
+    read(rt, alloc, registries.as_str()).expect(rt, "a scheme")
+}
+
+/// The unit of that number, of those that NZ allotted in the first period.
+fn unit(origin: Code, number: u64) -> Unit {
+    let period = Period::First;
+    Unit {
+        origin,
+        period,
+        number,
+    }
 }
 
 #[test]
-fn a_registry_is_found(rt: HostRuntime) -> Result<(), Fail> {
-    let nz = Code::read("NZ").expect(&rt, "two letters");
-    let ch = Code::read("CH").expect(&rt, "two letters");
-    let scheme = worked(rt.alloc())?;
-    let member = scheme.member(nz).expect(&rt, "a registry");
-    assert_eq!(rt; member.accounts.as_slice(), [1, 2].as_slice());
-    assert!(rt; scheme.member(ch).is_none());
-    Ok(())
-}
-
-#[test]
-fn a_holder_is_found(rt: HostRuntime) -> Result<(), Fail> {
-    let alloc = rt.alloc();
-    let nz = Code::read("NZ").expect(&rt, "two letters");
-    let last = Unit {
-        origin: nz,
-        period: Period::First,
-        number: 100,
-    };
-    let next = Unit {
-        origin: nz,
-        period: Period::First,
-        number: 101,
-    };
+fn a_holder_is_found(rt: HostRuntime) {
+    let registry = Code::read("NZ").expect(&rt, "two letters");
+    let (account, kind) = (1, Kind::Aau);
     let holder = Holder {
-        registry: nz,
-        account: 1,
-        kind: Kind::Aau,
+        registry,
+        account,
+        kind,
     };
-    let scheme = worked(alloc)?;
-    assert_eq!(rt; scheme.allotted(&last), Some(holder));
-    assert_eq!(rt; scheme.allotted(&next), None);
-    let allotments = scheme.allotments(alloc)?;
-    assert_eq!(rt; allotments.get(&last), Some(holder));
-    assert_eq!(rt; allotments.count_where(|_| true), 100);
-    Ok(())
+    let scheme = worked(&rt, rt.alloc());
+    let allotments = scheme.allotments(rt.alloc()).expect(&rt, "memory");
+    assert!(rt; scheme.member(registry).is_some());
+    for (number, wanted) in [(100, Some(holder)), (101, None)] {
+        assert_eq!(rt; scheme.allotted(&unit(registry, number)), wanted);
+        assert_eq!(rt; allotments.get(&unit(registry, number)), wanted);
+    }
 }
 
 #[test]
@@ -149,15 +139,6 @@ fn what_is_no_scheme(rt: HostRuntime) {
     assert_eq!(rt; empty.err(), Some(SchemeFault::NotJson));
     let list = Scheme::read(rt.alloc(), b"[]");
     assert_eq!(rt; list.err(), Some(SchemeFault::Shape));
-}
-
-#[test]
-fn faults_of_registries(rt: HostRuntime) -> Result<(), Fail> {
-    let alloc = rt.alloc();
-    assert_eq!(rt; fault(alloc, JP)?, Some(SchemeFault::TooFew));
-    let codes = format!(in alloc; "{JP},{NZ},{JP}")?;
-    assert_eq!(rt; fault(alloc, codes.as_str())?, Some(SchemeFault::CodeTwice));
-    Ok(())
 }
 
 const UNKNOWN: &str = r#"{"account":9,"units":[]}"#;
@@ -169,80 +150,62 @@ const TWO_KINDS: &str =
 
 const APART: &str = r#"{"account":3,"units":["NZ:1:11-20:RMU","NZ:2:1-10:AAU","NZ:1:1-10:AAU"]}"#;
 
+/// An account that isn't there, and a unit that is allotted twice.
+const TWO_FAULTS: &str = r#"{"account":9,"units":["NZ:1:1-1:AAU","NZ:1:1-1:AAU"]}"#;
+
+/// Of two faults the earlier one is named.
 #[test]
-fn faults_of_allotments(rt: HostRuntime) -> Result<(), Fail> {
+fn faults_of_allotments(rt: HostRuntime) {
     for (accounts, allotted, wanted) in [
         ("3,5,3", "", Some(SchemeFault::AccountTwice)),
         ("3,5", UNKNOWN, Some(SchemeFault::UnknownAccount)),
         ("3,5", SAME_KIND, Some(SchemeFault::AllotmentOverlap)),
         ("3,5", TWO_KINDS, Some(SchemeFault::AllotmentOverlap)),
         ("3,5", APART, None),
+        ("3,3", TWO_FAULTS, Some(SchemeFault::AccountTwice)),
+        ("3", TWO_FAULTS, Some(SchemeFault::UnknownAccount)),
     ] {
-        assert_eq!(rt; fault_beside_jp(rt.alloc(), accounts, allotted)?, wanted);
+        assert_beside_jp(&rt, rt.alloc(), accounts, allotted, wanted);
     }
-    Ok(())
 }
 
 #[test]
-fn the_limit_of_accounts(rt: HostRuntime) -> Result<(), Fail> {
+fn faults_of_registries(rt: HostRuntime) {
     let alloc = rt.alloc();
+    let twice = registry(&rt, alloc, "JP", "7,7", "");
+    let codes = format!(in alloc; "{JP},{twice}").expect(&rt, "memory");
+    assert_fault(&rt, alloc, "{}", Some(SchemeFault::Shape));
+    assert_fault(&rt, alloc, JP, Some(SchemeFault::TooFew));
+    assert_fault(&rt, alloc, twice.as_str(), Some(SchemeFault::TooFew));
+    assert_fault(&rt, alloc, codes.as_str(), Some(SchemeFault::CodeTwice));
+}
+
+#[test]
+fn the_limit_of_accounts(rt: HostRuntime) {
     for (count, wanted) in [(1_000, None), (1_001, Some(SchemeFault::TooMany))] {
-        let accounts = repeated(alloc, count, "", "")?;
-        assert_eq!(rt; fault_beside_jp(alloc, accounts.as_str(), "")?, wanted);
+        let accounts = repeated(&rt, rt.alloc(), count, "", "");
+        assert_beside_jp(&rt, rt.alloc(), accounts.as_str(), "", wanted);
     }
-    Ok(())
 }
 
 #[test]
-fn the_limit_of_allotments(rt: HostRuntime) -> Result<(), Fail> {
-    let alloc = rt.alloc();
-    let mut allotted = repeated(
-        alloc,
-        10_000,
-        "{\"account\":1,\"units\":[\"NZ:2:1",
-        "-9999999:AAU\"]}",
-    )?;
-    let last = fault_beside_jp(alloc, "1", allotted.as_str())?;
-    assert_eq!(rt; last, Some(SchemeFault::AllotmentOverlap));
-    allotted.push_str(r#",{"account":1,"units":["NZ:1:1-1:AAU"]}"#)?;
-    let more = fault_beside_jp(alloc, "1", allotted.as_str())?;
-    assert_eq!(rt; more, Some(SchemeFault::TooMany));
-    Ok(())
-}
-
-#[test]
-fn the_limit_of_registries(rt: HostRuntime) -> Result<(), Fail> {
-    let alloc = rt.alloc();
-    let mut registries = String::from_str(alloc, JP)?;
-    for _ in 0..31 {
-        registries.push_str(",")?;
-        registries.push_str(JP)?;
+fn the_limit_of_allotments(rt: HostRuntime) {
+    for (count, wanted) in [
+        (10_000, SchemeFault::AllotmentOverlap),
+        (10_001, SchemeFault::TooMany),
+    ] {
+        let before = "{\"account\":1,\"units\":[\"NZ:2:1";
+        let allotted = repeated(&rt, rt.alloc(), count, before, "-9999999:AAU\"]}");
+        assert_beside_jp(&rt, rt.alloc(), "1", allotted.as_str(), Some(wanted));
     }
-    let last = fault(alloc, registries.as_str())?;
-    assert_eq!(rt; last, Some(SchemeFault::CodeTwice));
-    registries.push_str(",")?;
-    registries.push_str(NZ)?;
-    let more = fault(alloc, registries.as_str())?;
-    assert_eq!(rt; more, Some(SchemeFault::TooMany));
-    Ok(())
 }
 
 #[test]
-fn of_two_faults_the_earlier(rt: HostRuntime) -> Result<(), Fail> {
-    let alloc = rt.alloc();
-    assert_eq!(rt; fault(alloc, "{}")?, Some(SchemeFault::Shape));
-    let twice = registry(alloc, "JP", "7,7", "")?;
-    assert_eq!(rt; fault(alloc, twice.as_str())?, Some(SchemeFault::TooFew));
-    let codes = format!(in alloc; "{JP},{twice}")?;
-    assert_eq!(rt; fault(alloc, codes.as_str())?, Some(SchemeFault::CodeTwice));
-    let unknown = r#"{"account":9,"units":["NZ:1:1-1:AAU","NZ:1:1-1:AAU"]}"#;
-    assert_eq!(rt;
-        fault_beside_jp(alloc, "3,3", unknown)?,
-        Some(SchemeFault::AccountTwice)
-    );
-    assert_eq!(rt;
-        fault_beside_jp(alloc, "3", unknown)?,
-        Some(SchemeFault::UnknownAccount)
-    );
-    Ok(())
+fn the_limit_of_registries(rt: HostRuntime) {
+    for (count, wanted) in [(32, SchemeFault::CodeTwice), (33, SchemeFault::TooMany)] {
+        let before = "{\"accounts\":[";
+        let after = "],\"allotted\":[],\"code\":\"JP\",\"eligible\":true,\"kinds\":[]}";
+        let registries = repeated(&rt, rt.alloc(), count, before, after);
+        assert_fault(&rt, rt.alloc(), registries.as_str(), Some(wanted));
+    }
 }

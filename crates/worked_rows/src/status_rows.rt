@@ -4,48 +4,50 @@ use status::{
 };
 use std::alloc::Global;
 use std::process::Abort;
-use std::test::Fail;
 use units::{Block, Code, Items, Kind, Period, RawBlock};
 
 const TOO_LONG: u64 = 1_000_000_000_000_000_000;
 
-fn code(text: &str) -> Result<Code, Fail> {
-    Ok(Code::read(text).ok_or("no code")?)
+fn code(rt: &impl Abort, text: &str) -> Code {
+    Code::read(text).expect(rt, "a code")
 }
 
 /// A content of an account, an acquirer, its account, and blocks.
 fn content(
+    rt: &impl Abort,
     alloc: Global,
     account: u64,
     acquirer: &str,
     to_account: u64,
     units: &[&str],
-) -> Result<Option<Content>, Fail> {
-    let acquirer = code(acquirer)?;
+) -> Option<Content> {
     let mut blocks = Vec::new(alloc);
     for text in units {
-        blocks.push(Block::read(text)?)?;
+        let block = Block::read(text).expect(rt, "a block");
+        blocks.push(block).expect(rt, "memory");
     }
-    Ok(Content::new(account, acquirer, to_account, Items::from_vec(blocks)))
+    let units = Items::from_vec(blocks);
+    Content::new(account, code(rt, acquirer), to_account, units)
 }
 
 /// An order of one block of those numbers.
 fn order(
+    rt: &impl Abort,
     alloc: Global,
     account: u64,
     to_account: u64,
     first: u64,
     last: u64,
-) -> Result<Option<Order>, Fail> {
+) -> Option<Order> {
     let block = RawBlock {
-        origin: code("NZ")?,
+        origin: code(rt, "NZ"),
         period: Period::Second,
         kind: Kind::Rmu,
         first,
         last,
     };
-    let units = Items::from_vec(Vec::from_slice(alloc, &[block])?);
-    Ok(Order::new(account, code("JP")?, to_account, units))
+    let units = Vec::from_slice(alloc, &[block]).expect(rt, "memory");
+    Order::new(account, code(rt, "JP"), to_account, Items::from_vec(units))
 }
 
 #[test]
@@ -64,17 +66,15 @@ fn moment_texts(rt: HostRuntime) {
 }
 
 #[test]
-fn an_identifier_is_written_as_it_was_read(rt: HostRuntime) -> Result<(), Fail> {
-    let code = Code::new(b'N', b'Z').expect(&rt, "two letters");
-    let id = TransactionId::new(code, 999_999).expect(&rt, "the last number");
+fn an_identifier_is_written_as_it_was_read(rt: HostRuntime) {
+    let id = TransactionId::new(code(&rt, "NZ"), 999_999).expect(&rt, "the last number");
     assert_eq!(rt; TransactionId::read("NZ999999"), Some(id));
-    let written = id.write(rt.alloc())?;
+    let written = id.write(rt.alloc()).expect(&rt, "memory");
     assert_eq!(rt; written.as_str(), "NZ999999");
-    Ok(())
 }
 
 #[test]
-fn each_role_answers_by_its_own_table(rt: HostRuntime) {
+fn each_role_has_a_table_of_its_own(rt: HostRuntime) {
     let accepted = RowInput::Notified(Status::Accepted);
     for (role, old, to) in [
         (Role::Initiator, Status::Proposed, Status::Completed),
@@ -151,8 +151,7 @@ fn assert_content(rt: &impl Abort, content: &Content, account: u64, to_account: 
 }
 
 #[test]
-fn the_limits_of_a_content(rt: HostRuntime) -> Result<(), Fail> {
-    let alloc = rt.alloc();
+fn the_limits_of_a_content(rt: HostRuntime) {
     let texts = ["NZ:1:1-100:AAU"; 17];
     for (account, to_account, count, is_content) in [
         (1, 999_999_999, 1, true),
@@ -164,7 +163,7 @@ fn the_limits_of_a_content(rt: HostRuntime) -> Result<(), Fail> {
         (1, 7, 0, false),
         (1, 7, 17, false),
     ] {
-        let made = content(alloc, account, "JP", to_account, &texts[..count])?;
+        let made = content(&rt, rt.alloc(), account, "JP", to_account, &texts[..count]);
         assert_eq!(rt;
             made.is_some(),
             is_content,
@@ -174,7 +173,6 @@ fn the_limits_of_a_content(rt: HostRuntime) -> Result<(), Fail> {
             assert_content(&rt, &made, account, to_account, count);
         }
     }
-    Ok(())
 }
 
 const BLOCKS: [&str; 2] = ["NZ:1:1-100:AAU", "CH:2:5-5:CER"];
@@ -210,28 +208,24 @@ fn made(
     acquirer: &str,
     to_account: u64,
     units: &[&str],
-) -> Result<Content, Fail> {
-    let made = content(alloc, account, acquirer, to_account, units)?;
-    Ok(made.expect(rt, "a content"))
+) -> Content {
+    content(rt, alloc, account, acquirer, to_account, units).expect(rt, "a content")
 }
 
 #[test]
-fn a_content_and_its_copy(rt: HostRuntime) -> Result<(), Fail> {
-    let one = made(&rt, rt.alloc(), 1, "JP", 7, &BLOCKS)?;
+fn a_content_and_its_copy(rt: HostRuntime) {
+    let one = made(&rt, rt.alloc(), 1, "JP", 7, &BLOCKS);
     let copy = one.copy().expect(&rt, "memory");
     assert_same(&rt, &one, &copy, true);
-    Ok(())
 }
 
 #[test]
-fn contents_are_compared_in_each_part(rt: HostRuntime) -> Result<(), Fail> {
-    let alloc = rt.alloc();
-    let one = made(&rt, alloc, 1, "JP", 7, &BLOCKS)?;
+fn contents_are_compared_in_each_part(rt: HostRuntime) {
+    let one = made(&rt, rt.alloc(), 1, "JP", 7, &BLOCKS);
     for (account, acquirer, to_account, units, is_same) in CONTENTS {
-        let other = made(&rt, alloc, account, acquirer, to_account, units)?;
+        let other = made(&rt, rt.alloc(), account, acquirer, to_account, units);
         assert_same(&rt, &one, &other, is_same);
     }
-    Ok(())
 }
 
 /// A copy of the order is the same, is for JP, and has these accounts and one block of those numbers.
@@ -255,8 +249,7 @@ fn assert_copied(
 }
 
 #[test]
-fn the_limits_of_an_order(rt: HostRuntime) -> Result<(), Fail> {
-    let alloc = rt.alloc();
+fn the_limits_of_an_order(rt: HostRuntime) {
     for (account, to_account, first, last, is_order) in [
         (TOO_LONG - 1, 0, 6, 5, true),
         (0, TOO_LONG - 1, TOO_LONG - 1, TOO_LONG - 1, true),
@@ -265,11 +258,10 @@ fn the_limits_of_an_order(rt: HostRuntime) -> Result<(), Fail> {
         (0, 0, TOO_LONG, 5, false),
         (0, 0, 6, TOO_LONG, false),
     ] {
-        let made = order(alloc, account, to_account, first, last)?;
+        let made = order(&rt, rt.alloc(), account, to_account, first, last);
         assert_eq!(rt; made.is_some(), is_order);
         if let Some(made) = made {
             assert_copied(&rt, &made, account, to_account, first, last);
         }
     }
-    Ok(())
 }

@@ -1,6 +1,5 @@
 use std::alloc::Global;
 use std::process::Abort;
-use std::test::Fail;
 use units::{
     Block, BlockFault, BlockSet, Code, Items, Kind, Node, Period, RawBlock, Refusal, Unit, UnitMap,
     cut, number, overlaps,
@@ -48,15 +47,15 @@ fn the_pieces_of_texts(rt: HostRuntime) {
 }
 
 #[test]
-fn a_list_and_its_copy(rt: HostRuntime) -> Result<(), Fail> {
+fn a_list_and_its_copy(rt: HostRuntime) {
     let alloc = rt.alloc();
-    let list = Items::from_vec(vec![in alloc; 3u64, 1, 2]?);
-    let copy = list.copy()?;
+    let numbers = Vec::from_slice(alloc, &[3u64, 1, 2]).expect(&rt, "memory");
+    let list = Items::from_vec(numbers);
+    let copy = list.copy().expect(&rt, "memory");
     assert_eq!(rt; list.as_slice(), [3, 1, 2].as_slice());
     assert_eq!(rt; copy.into_vec().as_slice(), [3, 1, 2].as_slice());
     let none: Items<u64> = Items::new(alloc);
     assert_eq!(rt; none.as_slice().len(), 0);
-    Ok(())
 }
 
 fn nz(rt: &impl Abort, kind: Kind, first: u64, last: u64) -> Block {
@@ -144,8 +143,13 @@ fn blocks_that_share_a_unit(rt: HostRuntime) {
     assert!(rt; overlaps(&[low, high, nz(&rt, Kind::Cer, 10, 11)]));
 }
 
+/// Gives the units of the block that label, or none.
+fn label(rt: &impl Abort, kinds: &mut UnitMap<Kind>, block: &Block, kind: Option<Kind>) {
+    kinds.set(block, kind).expect(rt, "memory");
+}
+
 #[test]
-fn labels_of_units(rt: HostRuntime) -> Result<(), Fail> {
+fn labels_of_units(rt: HostRuntime) {
     let block = aau(&rt, 1, 10);
     let (origin, period) = (block.raw.origin, block.raw.period);
     let unit = Unit {
@@ -154,13 +158,12 @@ fn labels_of_units(rt: HostRuntime) -> Result<(), Fail> {
         number: 10,
     };
     let mut kinds = UnitMap::new(rt.alloc());
-    kinds.set(&block, Some(Kind::Aau))?;
+    label(&rt, &mut kinds, &block, Some(Kind::Aau));
     assert_eq!(rt; kinds.get(&unit), Some(Kind::Aau));
-    kinds.set(&nz(&rt, Kind::Cer, 4, 6), Some(Kind::Cer))?;
+    label(&rt, &mut kinds, &nz(&rt, Kind::Cer, 4, 6), Some(Kind::Cer));
     assert_eq!(rt; kinds.count_where(|kind| kind == Kind::Aau), 7);
     assert!(rt; kinds.has_some_of(&block, |kind| kind == Kind::Cer));
     assert_eq!(rt; kinds.pieces().len(), 3);
-    kinds.set(&block, None)?;
+    label(&rt, &mut kinds, &block, None);
     assert_eq!(rt; kinds.get(&unit), None);
-    Ok(())
 }

@@ -1,7 +1,6 @@
 use crate::message_rows::{NOTIFICATION, PROPOSAL, REQUEST, assert_written};
 use std::alloc::{AllocError, Global};
 use std::process::Abort;
-use std::test::Fail;
 use wire::{Line, LineFault, Splitter, Truncated};
 
 const LIMIT: usize = 8192;
@@ -40,14 +39,13 @@ fn feed(splitter: &mut Splitter, piece: &[u8]) -> Fed {
 }
 
 #[test]
-fn a_line_over_the_limit(rt: HostRuntime) -> Result<(), Fail> {
+fn a_line_over_the_limit(rt: HostRuntime) {
     let alloc = rt.alloc();
-    let bytes = vec![in alloc; b'a'; LIMIT + 1]?;
+    let bytes = vec![in alloc; b'a'; LIMIT + 1].expect(&rt, "memory");
     let mut splitter = Splitter::new(alloc, LIMIT);
     assert_eq!(rt; feed(&mut splitter, &bytes), Fed::TooLong(0));
     assert_eq!(rt; feed(&mut splitter, b"\n"), Fed::Closed);
     assert_eq!(rt; splitter.finish(), Err(Truncated));
-    Ok(())
 }
 
 /// The line has these bytes.
@@ -57,11 +55,11 @@ fn assert_line(rt: &impl Abort, line: Line, bytes: &[u8]) {
 }
 
 #[test]
-fn a_line_of_the_limit(rt: HostRuntime) -> Result<(), Fail> {
+fn a_line_of_the_limit(rt: HostRuntime) {
     let alloc = rt.alloc();
-    let bytes = vec![in alloc; b'a'; LIMIT]?;
-    let mut stream = Vec::from_slice(alloc, &bytes)?;
-    stream.push(b'\n')?;
+    let bytes = vec![in alloc; b'a'; LIMIT].expect(&rt, "memory");
+    let mut stream = Vec::from_slice(alloc, &bytes).expect(&rt, "memory");
+    stream.push(b'\n').expect(&rt, "memory");
     let mut splitter = Splitter::new(alloc, LIMIT);
     let lines = splitter.feed(&stream).expect(&rt, "one line");
     assert_eq!(rt; lines.as_slice().len(), 1);
@@ -69,7 +67,6 @@ fn a_line_of_the_limit(rt: HostRuntime) -> Result<(), Fail> {
         assert_line(&rt, line, &bytes);
     }
     assert_eq!(rt; splitter.finish(), Ok(()));
-    Ok(())
 }
 
 #[test]
@@ -86,11 +83,7 @@ fn assert_two_lines(rt: &impl Abort, alloc: Global, before: &[u8], after: &[u8])
     let second = splitter.feed(after).expect(rt, "lines");
     let texts = texts(alloc, first.as_slice(), second.as_slice()).expect(rt, "memory");
     let wanted = [b"Proposed NZ7".as_slice(), b"Accepted".as_slice()];
-    assert!(rt;
-        texts.as_slice() == wanted.as_slice(),
-        "cut at {}",
-        before.len()
-    );
+    assert!(rt; texts.as_slice() == wanted.as_slice());
     assert_eq!(rt; splitter.finish(), Ok(()));
 }
 
@@ -116,21 +109,20 @@ fn assert_one_line(rt: &impl Abort, alloc: Global, before: &[u8], after: &[u8], 
     let second = splitter.feed(after).expect(rt, "lines");
     let ended = (first.as_slice().len(), second.as_slice().len());
     let wanted = if after.is_empty() { (1, 0) } else { (0, 1) };
-    assert_eq!(rt; ended, wanted, "cut at {}", before.len());
+    assert_eq!(rt; ended, wanted);
     assert_each_written(rt, alloc, first.as_slice(), text);
     assert_each_written(rt, alloc, second.as_slice(), text);
     assert_eq!(rt; splitter.finish(), Ok(()));
 }
 
 #[test]
-fn a_message_in_two_pieces(rt: HostRuntime) -> Result<(), Fail> {
+fn a_message_in_two_pieces(rt: HostRuntime) {
     let alloc = rt.alloc();
     for text in [PROPOSAL, NOTIFICATION, REQUEST] {
-        let mut stream = Vec::from_slice(alloc, text.as_bytes())?;
-        stream.push(b'\n')?;
+        let mut stream = Vec::from_slice(alloc, text.as_bytes()).expect(&rt, "memory");
+        stream.push(b'\n').expect(&rt, "memory");
         for cut in 0..=stream.len() {
             assert_one_line(&rt, alloc, &stream[..cut], &stream[cut..], text);
         }
     }
-    Ok(())
 }

@@ -1,7 +1,6 @@
 use status::{Content, TransactionId};
 use std::alloc::Global;
 use std::process::Abort;
-use std::test::Fail;
 use units::{Block, Code, Items, Node, Refusal};
 use wire::{
     AcquirerCodes, LogCodes, Message, Notification, NotifiedStatus, Proposal, ProposalStatus,
@@ -23,73 +22,69 @@ const LIMIT: usize = 8192;
 const SIXTEEN: &str =
     r#""NZ:1:1-1:AAU","NZ:1:1-1:AAU","NZ:1:1-1:AAU","NZ:1:1-1:AAU","NZ:1:1-1:AAU","NZ:1:1-1:AAU","NZ:1:1-1:AAU","NZ:1:1-1:AAU","NZ:1:1-1:AAU","NZ:1:1-1:AAU","NZ:1:1-1:AAU","NZ:1:1-1:AAU","NZ:1:1-1:AAU","NZ:1:1-1:AAU","NZ:1:1-1:AAU","NZ:1:1-1:AAU""#;
 
-/// The text with another in place of the one place where `old` stands, or `None` where it stands
-/// nowhere or more than once.
-fn changed(alloc: Global, text: &str, old: &str, new: &str) -> Result<Option<String>, Fail> {
-    let Some((before, after)) = text.split_once(old) else {
-        return Ok(None);
-    };
-    if after.contains(old) {
-        return Ok(None);
-    }
-    Ok(Some(format!(in alloc; "{before}{new}{after}")?))
+/// The text with another in place of the one place where `old` stands.
+fn changed(rt: &impl Abort, alloc: Global, text: &str, old: &str, new: &str) -> String {
+    let (before, after) = text.split_once(old).expect(rt, "it stands there");
+    assert!(rt; !after.contains(old));
+    format!(in alloc; "{before}{new}{after}").expect(rt, "memory")
 }
 
-fn code(text: &str) -> Result<Code, Fail> {
-    Ok(Code::read(text).ok_or("no code")?)
+fn code(rt: &impl Abort, text: &str) -> Code {
+    Code::read(text).expect(rt, "a code")
 }
 
-fn id(text: &str) -> Result<TransactionId, Fail> {
-    Ok(TransactionId::read(text).ok_or("no transaction")?)
+fn id(rt: &impl Abort, text: &str) -> TransactionId {
+    TransactionId::read(text).expect(rt, "an identifier")
 }
 
-fn rejected(alloc: Global, codes: &[u16]) -> Result<NotifiedStatus, Fail> {
-    let codes = Items::from_vec(Vec::from_slice(alloc, codes)?);
-    let codes = AcquirerCodes::new(codes).ok_or("no codes of the acquirer")?;
-    Ok(NotifiedStatus::Rejected(codes))
+fn rejected(rt: &impl Abort, alloc: Global, codes: &[u16]) -> NotifiedStatus {
+    let codes = Vec::from_slice(alloc, codes).expect(rt, "memory");
+    let codes = AcquirerCodes::new(Items::from_vec(codes)).expect(rt, "codes");
+    NotifiedStatus::Rejected(codes)
 }
 
-fn terminated(alloc: Global, codes: &[u16]) -> Result<NotifiedStatus, Fail> {
-    let codes = Items::from_vec(Vec::from_slice(alloc, codes)?);
-    let codes = LogCodes::new(codes).ok_or("no codes of the log")?;
-    Ok(NotifiedStatus::Terminated(codes))
+fn terminated(rt: &impl Abort, alloc: Global, codes: &[u16]) -> NotifiedStatus {
+    let codes = Vec::from_slice(alloc, codes).expect(rt, "memory");
+    let codes = LogCodes::new(Items::from_vec(codes)).expect(rt, "codes");
+    NotifiedStatus::Terminated(codes)
 }
 
-fn blocks(alloc: Global, texts: &[&str]) -> Result<Items<Block>, Fail> {
-    let mut blocks = Vec::new(alloc);
-    for text in texts {
-        blocks.push(Block::read(text)?)?;
-    }
-    Ok(Items::from_vec(blocks))
-}
-
-fn notification(from: Node, to: Node, notified: NotifiedStatus) -> Result<Message, Fail> {
-    Ok(Message::Notification(Notification {
+fn notification(rt: &impl Abort, from: Node, to: Node, notified: NotifiedStatus) -> Message {
+    Message::Notification(Notification {
         from,
         to,
-        id: id("NZ1")?,
+        id: id(rt, "NZ1"),
         notified,
-    }))
+    })
 }
 
-fn request(from: Node) -> Result<Message, Fail> {
-    Ok(Message::Request(Request {
+fn request(rt: &impl Abort, from: Node) -> Message {
+    Message::Request(Request {
         from,
         to: Node::Itl,
-        id: id("NZ1")?,
-    }))
+        id: id(rt, "NZ1"),
+    })
 }
 
-fn checked_proposal(alloc: Global, jp: Code) -> Result<Message, Fail> {
-    let units = blocks(alloc, &["NZ:1:1-100:AAU", "CH:2:5-999999999999:lCER"])?;
-    let content = Content::new(999_999_999, jp, 7, units).ok_or("no content")?;
-    Ok(Message::Proposal(Proposal {
+/// A content for that registry of a hundred units and of all but the first four of another registry.
+fn content(rt: &impl Abort, alloc: Global, acquirer: Code) -> Content {
+    let mut blocks = Vec::new(alloc);
+    for text in ["NZ:1:1-100:AAU", "CH:2:5-999999999999:lCER"] {
+        let block = Block::read(text).expect(rt, "a block");
+        blocks.push(block).expect(rt, "memory");
+    }
+    let made = Content::new(999_999_999, acquirer, 7, Items::from_vec(blocks));
+    made.expect(rt, "a content")
+}
+
+fn checked_proposal(rt: &impl Abort, alloc: Global, acquirer: Code) -> Message {
+    Message::Proposal(Proposal {
         from: Node::Itl,
-        to: Node::Registry(jp),
-        id: id("NZ999999")?,
+        to: Node::Registry(acquirer),
+        id: id(rt, "NZ999999"),
         status: ProposalStatus::Checked,
-        content,
-    }))
+        content: content(rt, alloc, acquirer),
+    })
 }
 
 /// The message is written as that text.
@@ -137,80 +132,30 @@ const CHECKED: &str =
     r#"{"account":999999999,"call":"AcceptProposal","from":"ITL","status":"Checked","to":"JP","to_account":7,"to_registry":"JP","transaction":"NZ999999","units":["NZ:1:1-100:AAU","CH:2:5-999999999999:lCER"]}"#;
 
 #[test]
-fn notifications_built_from_parts(rt: HostRuntime) -> Result<(), Fail> {
+fn messages_built_from_parts(rt: HostRuntime) {
     let alloc = rt.alloc();
-    let (jp, nz) = (Node::Registry(code("JP")?), Node::Registry(code("NZ")?));
-    let rejected = notification(jp, Node::Itl, rejected(alloc, &[301, 303])?)?;
-    assert_encoded(&rt, alloc, &rejected, REJECTED);
-    let terminated = notification(Node::Itl, nz, terminated(alloc, &[207])?)?;
-    assert_encoded(&rt, alloc, &terminated, TERMINATED);
-    Ok(())
-}
-
-#[test]
-fn messages_built_from_parts(rt: HostRuntime) -> Result<(), Fail> {
-    let alloc = rt.alloc();
-    let (jp, nz) = (code("JP")?, Node::Registry(code("NZ")?));
-    assert_encoded(&rt, alloc, &request(nz)?, REQUEST);
-    assert_encoded(&rt, alloc, &checked_proposal(alloc, jp)?, CHECKED);
-    Ok(())
-}
-
-/// The text's message is from that node to the log, of the first transaction of NZ.
-fn assert_ends(rt: &impl Abort, alloc: Global, text: &str, sender: Node) {
-    let message = decode(alloc, text.as_bytes()).expect(rt, "a message");
-    assert_eq!(rt; message.sender(), sender);
-    assert_eq!(rt; message.receiver(), Node::Itl);
-    assert_eq!(rt; Some(message.transaction()), TransactionId::read("NZ1"));
-}
-
-#[test]
-fn the_ends_of_a_message(rt: HostRuntime) -> Result<(), Fail> {
-    let (nz, jp) = (Node::Registry(code("NZ")?), Node::Registry(code("JP")?));
-    for (text, sender) in [(PROPOSAL, nz), (NOTIFICATION, jp), (REQUEST, nz)] {
-        assert_ends(&rt, rt.alloc(), text, sender);
+    let (jp, nz) = (code(&rt, "JP"), Node::Registry(code(&rt, "NZ")));
+    let rejected = rejected(&rt, alloc, &[301, 303]);
+    let terminated = terminated(&rt, alloc, &[207]);
+    for (message, text) in [
+        (
+            notification(&rt, Node::Registry(jp), Node::Itl, rejected),
+            REJECTED,
+        ),
+        (notification(&rt, Node::Itl, nz, terminated), TERMINATED),
+        (request(&rt, nz), REQUEST),
+        (checked_proposal(&rt, alloc, jp), CHECKED),
+    ] {
+        assert_encoded(&rt, alloc, &message, text);
     }
-    Ok(())
-}
-
-#[test]
-fn the_parts_of_notified_statuses_are_compared(rt: HostRuntime) -> Result<(), Fail> {
-    let alloc = rt.alloc();
-    let notified = rejected(alloc, &[301])?;
-    assert!(rt; notified.same(&rejected(alloc, &[301])?));
-    assert!(rt; !notified.same(&rejected(alloc, &[301, 303])?));
-    Ok(())
-}
-
-/// Whether the other message is the same.
-fn assert_same(rt: &impl Abort, message: &Message, other: Message, is_same: bool) {
-    assert_eq!(rt; message.same(&other), is_same);
-}
-
-#[test]
-fn the_parts_of_messages_are_compared(rt: HostRuntime) -> Result<(), Fail> {
-    let alloc = rt.alloc();
-    let (jp, ch) = (code("JP")?, code("CH")?);
-    let ours = checked_proposal(alloc, jp)?;
-    assert_same(&rt, &ours, checked_proposal(alloc, jp)?, true);
-    assert_same(&rt, &ours, checked_proposal(alloc, ch)?, false);
-    assert_same(&rt, &ours, request(Node::Registry(jp))?, false);
-    Ok(())
 }
 
 /// Each change makes the text no message.
-fn assert_wrong(
-    rt: &impl Abort,
-    alloc: Global,
-    text: &str,
-    changes: &[(&str, &str)],
-) -> Result<(), Fail> {
+fn assert_wrong(rt: &impl Abort, alloc: Global, text: &str, changes: &[(&str, &str)]) {
     for (old, new) in changes {
-        let line = changed(alloc, text, old, new)?.expect(rt, "it stands there once");
-        let fault = decode(alloc, line.as_bytes()).err();
-        assert_eq!(rt; fault, Some(Refusal { code: 41 }), "{new} for {old}");
+        let line = changed(rt, alloc, text, old, new);
+        assert_refused(rt, alloc, line.as_bytes());
     }
-    Ok(())
 }
 
 /// What stands in a proposal, and what makes it no message in its place.
@@ -309,13 +254,13 @@ const WRONG_IN_NOTIFICATION: [(&str, &str); 29] = [
 ];
 
 #[test]
-fn a_proposal_with_something_wrong_in_it(rt: HostRuntime) -> Result<(), Fail> {
-    assert_wrong(&rt, rt.alloc(), PROPOSAL, &WRONG_IN_PROPOSAL)
+fn a_proposal_with_something_wrong_in_it(rt: HostRuntime) {
+    assert_wrong(&rt, rt.alloc(), PROPOSAL, &WRONG_IN_PROPOSAL);
 }
 
 #[test]
-fn a_notification_with_something_wrong_in_it(rt: HostRuntime) -> Result<(), Fail> {
-    assert_wrong(&rt, rt.alloc(), NOTIFICATION, &WRONG_IN_NOTIFICATION)
+fn a_notification_with_something_wrong_in_it(rt: HostRuntime) {
+    assert_wrong(&rt, rt.alloc(), NOTIFICATION, &WRONG_IN_NOTIFICATION);
 }
 
 /// What stands in a request, and what makes it no message in its place.
@@ -330,8 +275,8 @@ const WRONG_IN_REQUEST: [(&str, &str); 7] = [
 ];
 
 #[test]
-fn a_request_with_something_wrong_in_it(rt: HostRuntime) -> Result<(), Fail> {
-    assert_wrong(&rt, rt.alloc(), REQUEST, &WRONG_IN_REQUEST)
+fn a_request_with_something_wrong_in_it(rt: HostRuntime) {
+    assert_wrong(&rt, rt.alloc(), REQUEST, &WRONG_IN_REQUEST);
 }
 
 /// Statuses, their codes, and whether a notification of both is one.
@@ -382,50 +327,50 @@ fn assert_read(rt: &impl Abort, alloc: Global, line: &str, is_message: bool) {
     }
 }
 
+/// The text of a notification with that status and these codes.
+fn notification_text(rt: &impl Abort, alloc: Global, status: &str, codes: &str) -> String {
+    let text = format!(in alloc;
+        "{{\"call\":\"AcceptNotification\",\"codes\":{codes},\"from\":\"JP\",\"status\":\"{status}\",\"to\":\"ITL\",\"transaction\":\"NZ1\"}}"
+    );
+    text.expect(rt, "memory")
+}
+
 #[test]
-fn each_status_with_its_codes(rt: HostRuntime) -> Result<(), Fail> {
-    let alloc = rt.alloc();
+fn each_status_with_its_codes(rt: HostRuntime) {
     for (status, codes, is_message) in CODES {
-        let line = format!(in alloc;
-            "{{\"call\":\"AcceptNotification\",\"codes\":{codes},\"from\":\"JP\",\"status\":\"{status}\",\"to\":\"ITL\",\"transaction\":\"NZ1\"}}"
-        )?;
-        assert_read(&rt, alloc, line.as_str(), is_message);
+        let line = notification_text(&rt, rt.alloc(), status, codes);
+        assert_read(&rt, rt.alloc(), line.as_str(), is_message);
     }
-    Ok(())
+}
+
+/// Lines that are no message.
+const NO_MESSAGES: [&[u8]; 8] = [
+    b"",
+    b"[",
+    b"null",
+    b"[]",
+    b"{}",
+    b"\"NZ1\"",
+    b"\xef\xbb\xbf{}",
+    b"{\"call\":\"\xff\"}",
+];
+
+#[test]
+fn lines_that_are_no_message(rt: HostRuntime) {
+    for line in NO_MESSAGES {
+        assert_refused(&rt, rt.alloc(), line);
+    }
+    assert_refused(&rt, rt.alloc(), &[b'['; 200]);
 }
 
 #[test]
-fn lines_that_are_no_message(rt: HostRuntime) -> Result<(), Fail> {
-    let alloc = rt.alloc();
-    let deep = vec![in alloc; b'['; 200]?;
-    let mut no_text = Vec::from_slice(alloc, b"{\"call\":\"")?;
-    no_text.extend_from_slice(b"\xff\"}")?;
-    for line in [
-        b"".as_slice(),
-        b"[",
-        b"null",
-        b"[]",
-        b"{}",
-        b"\"NZ1\"",
-        b"\xef\xbb\xbf{}",
-        deep.as_slice(),
-        no_text.as_slice(),
-    ] {
-        assert_refused(&rt, alloc, line);
-    }
-    Ok(())
-}
-
-#[test]
-fn bytes_that_are_no_text(rt: HostRuntime) -> Result<(), Fail> {
-    let alloc = rt.alloc();
+fn bytes_that_are_no_text(rt: HostRuntime) {
     for at in 0..PROPOSAL.len() {
-        let mut line = Vec::from_slice(alloc, PROPOSAL.as_bytes())?;
+        let line = Vec::from_slice(rt.alloc(), PROPOSAL.as_bytes());
+        let mut line = line.expect(&rt, "memory");
         line[at] = 0xff;
-        let fault = decode(alloc, &line).err();
-        assert_eq!(rt; fault, Some(Refusal { code: 41 }), "at {at}");
+        assert_refused(&rt, rt.alloc(), &line);
     }
-    Ok(())
 }
 
 /// What stands in a proposal, and what may stand in its place.
@@ -444,37 +389,31 @@ const RIGHT_IN_PROPOSAL: [(&str, &str); 8] = [
 ];
 
 #[test]
-fn the_limits_of_a_proposal(rt: HostRuntime) -> Result<(), Fail> {
-    let alloc = rt.alloc();
+fn the_limits_of_a_proposal(rt: HostRuntime) {
     for (old, new) in RIGHT_IN_PROPOSAL {
-        let line = changed(alloc, PROPOSAL, old, new)?.expect(&rt, "it stands there once");
-        assert_written(&rt, alloc, line.as_bytes(), line.as_str());
+        let line = changed(&rt, rt.alloc(), PROPOSAL, old, new);
+        assert_written(&rt, rt.alloc(), line.as_bytes(), line.as_str());
     }
-    Ok(())
+    let more = format!(in rt.alloc(); "{SIXTEEN},\"NZ:1:1-1:AAU\"").expect(&rt, "memory");
+    let old = r#""NZ:1:1-100:AAU""#;
+    let line = changed(&rt, rt.alloc(), PROPOSAL, old, more.as_str());
+    assert_refused(&rt, rt.alloc(), line.as_bytes());
+}
+
+/// The proposal with so many spaces after it that the line has that length.
+fn padded(rt: &impl Abort, alloc: Global, length: usize) -> Vec<u8> {
+    let mut line = Vec::from_slice(alloc, PROPOSAL.as_bytes()).expect(rt, "memory");
+    for _ in PROPOSAL.len()..length {
+        line.push(b' ').expect(rt, "memory");
+    }
+    line
 }
 
 #[test]
-fn one_block_too_many(rt: HostRuntime) -> Result<(), Fail> {
+fn the_longest_line(rt: HostRuntime) {
     let alloc = rt.alloc();
-    let more = format!(in alloc; "{SIXTEEN},\"NZ:1:1-1:AAU\"")?;
-    let line = changed(alloc, PROPOSAL, r#""NZ:1:1-100:AAU""#, more.as_str())?;
-    let line = line.expect(&rt, "it stands there once");
-    assert_refused(&rt, alloc, line.as_bytes());
-    Ok(())
-}
-
-#[test]
-fn the_longest_line(rt: HostRuntime) -> Result<(), Fail> {
-    let alloc = rt.alloc();
-    let mut line = Vec::from_slice(alloc, PROPOSAL.as_bytes())?;
-    for _ in 0..8_031 {
-        line.push(b' ')?;
-    }
-    assert_eq!(rt; line.len(), LIMIT);
-    assert_written(&rt, alloc, &line, PROPOSAL);
-    line.push(b' ')?;
-    assert_refused(&rt, alloc, &line);
-    Ok(())
+    assert_written(&rt, alloc, &padded(&rt, alloc, LIMIT), PROPOSAL);
+    assert_refused(&rt, alloc, &padded(&rt, alloc, LIMIT + 1));
 }
 
 #[test]

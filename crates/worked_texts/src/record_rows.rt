@@ -1,7 +1,6 @@
 use status::{Moment, Order, TransactionId};
 use std::alloc::Global;
 use std::process::Abort;
-use std::test::Fail;
 use units::{Code, Items, RawBlock};
 use wire::{Input, Number, ReadFault, decode_input, encode_input};
 
@@ -51,36 +50,33 @@ fn records_are_written_and_read_back(rt: HostRuntime) {
     }
 }
 
-fn order(alloc: Global) -> Result<Input, Fail> {
-    let block = RawBlock::read("NZ:1:1-100:AAU").ok_or("no block")?;
-    let units = Items::from_vec(Vec::from_slice(alloc, &[block])?);
-    let jp = Code::read("JP").ok_or("no code")?;
-    let order = Order::new(1, jp, 7, units).ok_or("no order")?;
-    Ok(Input::Propose(order))
-}
-
-/// The record, which is built from its parts, is written as that text.
-fn assert_made(rt: &impl Abort, alloc: Global, input: Input, text: &str) {
-    assert_encoded(rt, alloc, &input, text);
+fn order(rt: &impl Abort, alloc: Global) -> Input {
+    let block = RawBlock::read("NZ:1:1-100:AAU").expect(rt, "a block");
+    let units = Vec::from_slice(alloc, &[block]).expect(rt, "memory");
+    let jp = Code::read("JP").expect(rt, "a code");
+    let order = Order::new(1, jp, 7, Items::from_vec(units)).expect(rt, "an order");
+    Input::Propose(order)
 }
 
 #[test]
-fn inputs_built_from_parts(rt: HostRuntime) -> Result<(), Fail> {
-    let alloc = rt.alloc();
+fn inputs_built_from_parts(rt: HostRuntime) {
     let eight = Number::new(8).expect(&rt, "one digit");
     let key = Number::new(0).expect(&rt, "one digit");
     let moment = Moment::new(1_335_916_800).expect(&rt, "in 2012");
     let registry = Code::read("NZ").expect(&rt, "a code");
     let id = TransactionId::read("NZ1").expect(&rt, "a transaction");
-    assert_made(&rt, alloc, order(alloc)?, RECORDS[0]);
-    assert_made(&rt, alloc, Input::CloseAccount(eight), RECORDS[2]);
-    assert_made(&rt, alloc, Input::OpenAccount(eight), RECORDS[3]);
-    assert_made(&rt, alloc, Input::Ack(key), RECORDS[4]);
-    assert_made(&rt, alloc, Input::CleanUp(moment), RECORDS[5]);
     let may = false;
-    assert_made(&rt, alloc, Input::Eligible { registry, may }, RECORDS[6]);
-    assert_made(&rt, alloc, Input::Request(id), RECORDS[7]);
-    Ok(())
+    for (input, text) in [
+        (order(&rt, rt.alloc()), RECORDS[0]),
+        (Input::CloseAccount(eight), RECORDS[2]),
+        (Input::OpenAccount(eight), RECORDS[3]),
+        (Input::Ack(key), RECORDS[4]),
+        (Input::CleanUp(moment), RECORDS[5]),
+        (Input::Eligible { registry, may }, RECORDS[6]),
+        (Input::Request(id), RECORDS[7]),
+    ] {
+        assert_encoded(&rt, rt.alloc(), &input, text);
+    }
 }
 
 #[test]
@@ -140,11 +136,9 @@ const NO_RECORDS: [&str; 32] = [
 ];
 
 #[test]
-fn what_is_no_record(rt: HostRuntime) -> Result<(), Fail> {
-    let alloc = rt.alloc();
+fn what_is_no_record(rt: HostRuntime) {
     for text in NO_RECORDS {
-        let fault = decode_input(alloc, text.as_bytes()).err();
-        assert_eq!(rt; fault, Some(ReadFault::Shape), "{text}");
+        let fault = decode_input(rt.alloc(), text.as_bytes()).err();
+        assert_eq!(rt; fault, Some(ReadFault::Shape));
     }
-    Ok(())
 }

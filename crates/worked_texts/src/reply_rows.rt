@@ -1,4 +1,3 @@
-use std::test::Fail;
 use wire::{Reply, ReplyCode, ReplyFault};
 
 const TEXTS: [(u16, &str); 11] = [
@@ -24,26 +23,24 @@ fn reply(number: u16) -> Option<Reply> {
 }
 
 #[test]
-fn a_reply_is_written_and_read_back(rt: HostRuntime) -> Result<(), Fail> {
+fn a_reply_is_written_and_read_back(rt: HostRuntime) {
     let alloc = rt.alloc();
     for (number, text) in TEXTS {
         let reply = reply(number).expect(&rt, "a reply's number");
         assert_eq!(rt; reply.write().as_slice(), text.as_bytes());
         assert_eq!(rt; Reply::read(alloc, text.as_bytes()), Ok(reply));
     }
-    Ok(())
 }
 
 #[test]
-fn blanks_and_another_order_are_read(rt: HostRuntime) -> Result<(), Fail> {
+fn blanks_and_another_order_are_read(rt: HostRuntime) {
     let alloc = rt.alloc();
     let line = " { \"result\" : \"refused\",\t\"code\":46 } ";
     assert_eq!(rt; Reply::read(alloc, line.as_bytes()).ok(), reply(46));
-    Ok(())
 }
 
 #[test]
-fn what_is_no_reply_is_told(rt: HostRuntime) -> Result<(), Fail> {
+fn what_is_no_reply_is_told(rt: HostRuntime) {
     let alloc = rt.alloc();
     for line in [
         "",
@@ -65,5 +62,4 @@ fn what_is_no_reply_is_told(rt: HostRuntime) -> Result<(), Fail> {
         assert_eq!(rt; read, Err(ReplyFault::NotReply));
     }
     assert!(rt; ReplyCode::new(40).is_none() && ReplyCode::new(51).is_none());
-    Ok(())
 }

@@ -4,7 +4,7 @@ use operator::show;
 use scheme::Scheme;
 use std::alloc::Global;
 use std::io::{self, ErrorKind, Read};
-use std::test::Fail;
+use std::process::Abort;
 use stores::{Kept, MemoryStore, NodeStore, StoreFault};
 use units::{Code, Node};
 use wire::{Input, decode_input};
@@ -24,68 +24,62 @@ end
 const SCHEME: &str =
     r#"{"records":9,"registries":[{"accounts":[7],"allotted":[],"code":"JP","eligible":true,"kinds":[]},{"accounts":[],"allotted":[],"code":"NZ","eligible":true,"kinds":[]}]}"#;
 
-fn nz() -> Result<Node, Fail> {
-    Ok(Node::Registry(Code::read("NZ").ok_or("no code")?))
+fn nz(rt: &impl Abort) -> Node {
+    Node::Registry(Code::read("NZ").expect(rt, "a code"))
 }
 
-fn records(alloc: Global) -> Result<[Input; 2], Fail> {
-    let order = decode_input(alloc, ORDER.as_bytes()).map_err(|_| "no record")?;
-    let accepted = decode_input(alloc, ACCEPTED.as_bytes()).map_err(|_| "no record")?;
-    Ok([order, accepted])
+fn record(rt: &impl Abort, alloc: Global, text: &str) -> Input {
+    decode_input(alloc, text.as_bytes()).expect(rt, "a record")
 }
 
-/// A store of NZ with the two records.
-fn stored(alloc: Global) -> Result<MemoryStore, Fail> {
-    let mut store = MemoryStore::new(alloc, nz()?);
-    let records = records(alloc)?;
-    store.append(&records).map_err(|_| "no append")?;
-    Ok(store)
+/// Has the store append the two records, and asserts what that comes to.
+fn append_two(
+    rt: &impl Abort,
+    alloc: Global,
+    store: &mut MemoryStore,
+    wanted: Result<(), StoreFault>,
+) {
+    let records = [record(rt, alloc, ORDER), record(rt, alloc, ACCEPTED)];
+    assert_eq!(rt; store.append(&records), wanted);
 }
 
-#[test]
-fn shows_two_records(rt: HostRuntime) -> Result<(), Fail> {
-    let mut store = stored(rt.alloc())?;
-    let mut writer = Vec::new(rt.alloc());
-    assert_eq!(rt; show(rt.alloc(), nz()?, &mut store, &mut writer), Ok(()));
-    assert_eq!(rt; writer.as_slice(), SHOWN.as_bytes());
-    Ok(())
-}
-
-#[test]
-fn shows_no_records(rt: HostRuntime) -> Result<(), Fail> {
-    let mut store = MemoryStore::new(rt.alloc(), Node::Itl);
-    let mut writer = Vec::new(rt.alloc());
-    assert_eq!(rt;
-        show(rt.alloc(), Node::Itl, &mut store, &mut writer),
-        Ok(())
-    );
-    assert_eq!(rt; writer.as_slice(), b"end\n".as_slice());
-    Ok(())
+/// Asserts that the node's store is shown as that text.
+fn assert_shown(rt: &impl Abort, alloc: Global, node: Node, store: &mut MemoryStore, text: &str) {
+    let mut writer = Vec::new(alloc);
+    assert_eq!(rt; show(alloc, node, store, &mut writer), Ok(()));
+    assert!(rt; writer.as_slice() == text.as_bytes());
 }
 
 #[test]
-fn tells_how_much_was_shown(rt: HostRuntime) -> Result<(), Fail> {
-    let mut store = stored(rt.alloc())?;
+fn shows_the_records_of_a_store(rt: HostRuntime) {
+    let alloc = rt.alloc();
+    let mut empty = MemoryStore::new(alloc, Node::Itl);
+    assert_shown(&rt, alloc, Node::Itl, &mut empty, "end\n");
+    let mut store = MemoryStore::new(alloc, nz(&rt));
+    append_two(&rt, alloc, &mut store, Ok(()));
+    assert_shown(&rt, alloc, nz(&rt), &mut store, SHOWN);
+}
+
+#[test]
+fn tells_how_much_was_shown(rt: HostRuntime) {
+    let alloc = rt.alloc();
+    let mut store = MemoryStore::new(alloc, nz(&rt));
+    append_two(&rt, alloc, &mut store, Ok(()));
     let mut writer = Full { room: 97 };
-    assert_eq!(rt;
-        show(rt.alloc(), nz()?, &mut store, &mut writer),
-        Err(OpFault::Write(97))
-    );
-    Ok(())
+    let shown = show(alloc, nz(&rt), &mut store, &mut writer);
+    assert_eq!(rt; shown, Err(OpFault::Write(97)));
 }
 
 #[test]
-fn shows_no_store_that_waits(rt: HostRuntime) -> Result<(), Fail> {
-    let node = nz()?;
-    let mut store = MemoryStore::fused(rt.alloc(), node, 0, Kept::None);
-    let records = records(rt.alloc())?;
-    assert_eq!(rt; store.append(&records), Err(StoreFault::Device));
-    let mut writer = Vec::new(rt.alloc());
-    let answer = show(rt.alloc(), node, &mut store, &mut writer);
+fn shows_no_store_that_waits(rt: HostRuntime) {
+    let (alloc, node) = (rt.alloc(), nz(&rt));
+    let mut store = MemoryStore::fused(alloc, node, 0, Kept::None);
+    append_two(&rt, alloc, &mut store, Err(StoreFault::Device));
+    let mut writer = Vec::new(alloc);
     let fault = StoreFault::Reopen;
-    assert_eq!(rt; answer, Err(OpFault::Store { node, fault }));
+    let shown = show(alloc, node, &mut store, &mut writer);
+    assert_eq!(rt; shown, Err(OpFault::Store { node, fault }));
     assert!(rt; writer.is_empty());
-    Ok(())
 }
 
 /// Gives that many zeros, and then fails.
@@ -111,80 +105,76 @@ fn reads_no_broken_file(rt: HostRuntime) {
     assert!(rt; matches!(read_scheme(rt.alloc(), &mut reader), Err(OpFault::Read)));
 }
 
-/// What a file with that text comes to: how many records the scheme allows, or the cause of its fault.
-fn read_text(alloc: Global, text: &str) -> Result<Result<u64, Cause>, Fail> {
+/// Asserts what a file with that text comes to: how many records the scheme allows, or the cause of its fault.
+fn assert_file(rt: &impl Abort, alloc: Global, text: &str, wanted: Result<u64, Cause>) {
     let mut reader = text.as_bytes();
-    match read_scheme(alloc, &mut reader) {
-        Ok(scheme) => Ok(Ok(scheme.records())),
-        Err(OpFault::Input { line: 1, cause }) => Ok(Err(cause)),
-        Err(_) => Err("another fault".into()),
-    }
-}
-
-fn read_parts(alloc: Global, parts: &[&str]) -> Result<Result<u64, Cause>, Fail> {
-    let mut text = String::new(alloc);
-    for part in parts {
-        text.push_str(part)?;
-    }
-    read_text(alloc, text.as_str())
+    let read = match read_scheme(alloc, &mut reader) {
+        Ok(scheme) => Ok(scheme.records()),
+        Err(OpFault::Input { line: 1, cause }) => Err(cause),
+        Err(_) => Err(Cause::Order),
+    };
+    assert_eq!(rt; read, wanted);
 }
 
 #[test]
-fn reads_a_file(rt: HostRuntime) -> Result<(), Fail> {
-    let cases: [(&[&str], Result<u64, Cause>); 7] = [
-        (&[SCHEME], Ok(9)),
-        (&[SCHEME, "\n"], Ok(9)),
-        (&[SCHEME, "\n\n"], Ok(9)),
-        (&[SCHEME, "\n", SCHEME], Err(Cause::NotJson)),
-        (&[], Err(Cause::NotJson)),
-        (&["\n"], Err(Cause::NotJson)),
-        (&["{}\n"], Err(Cause::Shape)),
-    ];
-    for (parts, want) in cases {
-        assert_eq!(rt; read_parts(rt.alloc(), parts)?, want);
+fn reads_a_file(rt: HostRuntime) {
+    let alloc = rt.alloc();
+    for (end, wanted) in [
+        ("", Ok(9)),
+        ("\n", Ok(9)),
+        ("\n\n", Ok(9)),
+        ("\n{}", Err(Cause::NotJson)),
+    ] {
+        let text = format!(in alloc; "{SCHEME}{end}").expect(&rt, "memory");
+        assert_file(&rt, alloc, text.as_str(), wanted);
     }
-    Ok(())
+    for (text, cause) in [
+        ("", Cause::NotJson),
+        ("\n", Cause::NotJson),
+        ("{}\n", Cause::Shape),
+    ] {
+        assert_file(&rt, alloc, text, Err(cause));
+    }
 }
 
-/// The same of the scheme with spaces after it, 1,048,576 bytes in all, and then that end.
-fn read_longest(alloc: Global, end: &str) -> Result<Result<u64, Cause>, Fail> {
-    let mut text = String::from_str(alloc, SCHEME)?;
+/// The scheme with spaces after it, 1,048,576 bytes in all, and then that end.
+fn longest(rt: &impl Abort, alloc: Global, end: &str) -> String {
+    let mut text = String::from_str(alloc, SCHEME).expect(rt, "memory");
     for _ in SCHEME.len()..1_048_576 {
-        text.push_str(" ")?;
+        text.push_str(" ").expect(rt, "memory");
     }
-    text.push_str(end)?;
-    read_text(alloc, text.as_str())
+    text.push_str(end).expect(rt, "memory");
+    text
 }
 
 #[test]
-fn reads_a_file_of_a_mebibyte(rt: HostRuntime) -> Result<(), Fail> {
-    let cases: [(&str, Result<u64, Cause>); 4] = [
+fn reads_a_file_of_a_mebibyte(rt: HostRuntime) {
+    for (end, wanted) in [
         ("", Ok(9)),
         ("\n", Ok(9)),
         ("\n\n", Err(Cause::TooLong)),
         (" ", Err(Cause::TooLong)),
-    ];
-    for (end, want) in cases {
-        assert_eq!(rt; read_longest(rt.alloc(), end)?, want);
+    ] {
+        let text = longest(&rt, rt.alloc(), end);
+        assert_file(&rt, rt.alloc(), text.as_str(), wanted);
     }
-    Ok(())
-}
-
-fn opened(alloc: Global) -> Result<Scheme, Fail> {
-    Ok(Scheme::read(alloc, SCHEME.as_bytes()).map_err(|_| "no scheme")?)
 }
 
 #[test]
-fn nodes_of_a_scheme(rt: HostRuntime) -> Result<(), Fail> {
-    let scheme = opened(rt.alloc())?;
-    assert_eq!(rt; node_of(&scheme, "ITL"), Ok(Node::Itl));
-    assert_eq!(rt; node_of(&scheme, "NZ"), Ok(nz()?));
+fn nodes_of_a_scheme(rt: HostRuntime) {
+    let scheme = Scheme::read(rt.alloc(), SCHEME.as_bytes()).expect(&rt, "a scheme");
+    let nz = nz(&rt);
     let cause = Cause::Order;
-    for word in ["AU", "nz", "itl", "NZ ", ""] {
-        assert_eq!(rt;
-            node_of(&scheme, word),
-            Err(OpFault::Input { line: 1, cause })
-        );
+    let fault = OpFault::Input { line: 1, cause };
+    for (word, wanted) in [
+        ("ITL", Ok(Node::Itl)),
+        ("NZ", Ok(nz)),
+        ("AU", Err(fault)),
+        ("nz", Err(fault)),
+        ("itl", Err(fault)),
+        ("NZ ", Err(fault)),
+        ("", Err(fault)),
+    ] {
+        assert_eq!(rt; node_of(&scheme, word), wanted);
     }
-    Ok(())
 }

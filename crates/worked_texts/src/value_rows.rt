@@ -1,15 +1,14 @@
 use std::alloc::Global;
-use std::test::Fail;
+use std::process::Abort;
 use units::Items;
 use wire::{AcquirerCodes, LogCodes, Number};
 
-fn items(alloc: Global, codes: &[u16]) -> Result<Items<u16>, Fail> {
-    Ok(Items::from_vec(Vec::from_slice(alloc, codes)?))
+fn items(rt: &impl Abort, alloc: Global, codes: &[u16]) -> Items<u16> {
+    Items::from_vec(Vec::from_slice(alloc, codes).expect(rt, "memory"))
 }
 
 #[test]
-fn codes_of_the_log(rt: HostRuntime) -> Result<(), Fail> {
-    let alloc = rt.alloc();
+fn codes_of_the_log(rt: HostRuntime) {
     for (codes, are_codes) in [
         ([201].as_slice(), true),
         (&[208], true),
@@ -23,18 +22,16 @@ fn codes_of_the_log(rt: HostRuntime) -> Result<(), Fail> {
         (&[207, 208, 209], false),
         (&[201, 202, 203, 204, 205, 206, 207, 208, 208], false),
     ] {
-        let made = LogCodes::new(items(alloc, codes)?);
-        assert_eq!(rt; made.is_some(), are_codes, "{codes:?}");
+        let made = LogCodes::new(items(&rt, rt.alloc(), codes));
+        assert_eq!(rt; made.is_some(), are_codes);
         if let Some(made) = made {
             assert_eq!(rt; made.as_slice(), codes);
         }
     }
-    Ok(())
 }
 
 #[test]
-fn codes_of_the_acquirer(rt: HostRuntime) -> Result<(), Fail> {
-    let alloc = rt.alloc();
+fn codes_of_the_acquirer(rt: HostRuntime) {
     for (codes, are_codes) in [
         ([301].as_slice(), true),
         (&[304], true),
@@ -47,13 +44,12 @@ fn codes_of_the_acquirer(rt: HostRuntime) -> Result<(), Fail> {
         (&[302, 301], false),
         (&[301, 302, 303, 304, 304], false),
     ] {
-        let made = AcquirerCodes::new(items(alloc, codes)?);
-        assert_eq!(rt; made.is_some(), are_codes, "{codes:?}");
+        let made = AcquirerCodes::new(items(&rt, rt.alloc(), codes));
+        assert_eq!(rt; made.is_some(), are_codes);
         if let Some(made) = made {
             assert_eq!(rt; made.as_slice(), codes);
         }
     }
-    Ok(())
 }
 
 #[test]

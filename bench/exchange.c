@@ -1,0 +1,103 @@
+/* exchange EXCHANGES: one thread accepts connections at a port of the loopback interface, reads a line of each, writes a
+   reply and waits for the other end to close; another one connects as often as that, sends the line and reads the reply.
+   Printed is the time of all exchanges in microseconds. */
+
+#include <arpa/inet.h>
+#include <netinet/tcp.h>
+#include <pthread.h>
+#include <stdio.h>
+#include <stdlib.h>
+#include <string.h>
+#include <sys/socket.h>
+#include <time.h>
+#include <unistd.h>
+
+static const char LINE[] = "{\"call\":\"AcceptNotification\",\"codes\":[],\"from\":\"ITL\",\"status\":\"Completed\",\"to\":\"NZ\",\"transaction\":\"NZ9\"}\n";
+static const char REPLY[] = "{\"code\":47,\"result\":\"refused\"}\n";
+
+static struct sockaddr_in address;
+static int listener;
+static long count;
+
+static void must(int holds, const char *what) {
+    if (!holds) {
+        perror(what);
+        exit(1);
+    }
+}
+
+static void set_nodelay(int socket) {
+    int one = 1;
+    setsockopt(socket, IPPROTO_TCP, TCP_NODELAY, &one, sizeof one);
+}
+
+/* Reads up to a newline, or to the end. Returns how many bytes it read. */
+static size_t read_line(int socket, char *bytes, size_t room) {
+    size_t have = 0;
+    while (have < room) {
+        ssize_t more = read(socket, bytes + have, room - have);
+        must(more >= 0, "read");
+        if (more == 0)
+            break;
+        have += (size_t)more;
+        if (bytes[have - 1] == '\n')
+            break;
+    }
+    return have;
+}
+
+static void write_all(int socket, const char *bytes, size_t length) {
+    while (length > 0) {
+        ssize_t more = write(socket, bytes, length);
+        must(more > 0, "write");
+        bytes += more;
+        length -= (size_t)more;
+    }
+}
+
+static void *serve(void *unused) {
+    char bytes[4096];
+    for (long served = 0; served < count; served++) {
+        int socket = accept(listener, NULL, NULL);
+        must(socket >= 0, "accept");
+        set_nodelay(socket);
+        while (read_line(socket, bytes, sizeof bytes) > 0)
+            write_all(socket, REPLY, sizeof REPLY - 1);
+        close(socket);
+    }
+    return unused;
+}
+
+int main(int words, char **word) {
+    count = words == 2 ? atol(word[1]) : 0;
+    if (count <= 0)
+        return 2;
+    address.sin_family = AF_INET;
+    address.sin_addr.s_addr = htonl(INADDR_LOOPBACK);
+    listener = socket(AF_INET, SOCK_STREAM, 0);
+    must(listener >= 0, "socket");
+    must(bind(listener, (struct sockaddr *)&address, sizeof address) == 0, "bind");
+    must(listen(listener, 128) == 0, "listen");
+    socklen_t size = sizeof address;
+    must(getsockname(listener, (struct sockaddr *)&address, &size) == 0, "getsockname");
+
+    struct timespec begin, end;
+    pthread_t server;
+    char bytes[4096];
+    clock_gettime(CLOCK_MONOTONIC, &begin);
+    must(pthread_create(&server, NULL, serve, NULL) == 0, "pthread_create");
+    for (long sent = 0; sent < count; sent++) {
+        int socket_ = socket(AF_INET, SOCK_STREAM, 0);
+        must(socket_ >= 0, "socket");
+        must(connect(socket_, (struct sockaddr *)&address, sizeof address) == 0, "connect");
+        set_nodelay(socket_);
+        write_all(socket_, LINE, sizeof LINE - 1);
+        size_t have = read_line(socket_, bytes, sizeof bytes);
+        must(have == sizeof REPLY - 1 && memcmp(bytes, REPLY, have) == 0, "reply");
+        close(socket_);
+    }
+    pthread_join(server, NULL);
+    clock_gettime(CLOCK_MONOTONIC, &end);
+    printf("%lld\n", (end.tv_sec - begin.tv_sec) * 1000000LL + (end.tv_nsec - begin.tv_nsec) / 1000);
+    return 0;
+}

@@ -1,0 +1,57 @@
+#!/usr/bin/env python3
+"""How many exchanges a second a registry's desk has, beside a C client and server that send the same lines.
+
+One message, its reply, and a connection of its own for each, over the loopback interface: one thread sends and one replies,
+in either program. Printed are the best rates of several runs, in which the programs take turns, and the ratio. The exit status
+is 1 where the limit is missed.
+"""
+
+import argparse
+import pathlib
+import shutil
+import subprocess
+import sys
+import tempfile
+
+import building
+
+TOP = pathlib.Path(__file__).resolve().parent.parent
+CRATE = TOP / "crates" / "exchange_bench"
+PROGRAM = CRATE / "out" / "exchange_bench"
+SOURCE = TOP / "bench" / "exchange.c"
+LEAST_OF_C = 0.7
+
+
+def build_c(program):
+    if shutil.which("gcc") is None:
+        sys.exit("gcc, which builds exchange.c, isn't on PATH")
+    words = ["gcc", "-O2", "-std=gnu11", "-Wall", "-Wextra", "-pthread", "-o", program, SOURCE]
+    if subprocess.run(words, check=False).returncode != 0:
+        sys.exit("exchange.c could not be built")
+
+
+def rate(program, count):
+    ended = subprocess.run([program, str(count)], capture_output=True, text=True, check=False)
+    if ended.returncode != 0:
+        sys.exit(f"{program} ended with status {ended.returncode}: {ended.stderr.strip()}")
+    return count / (int(ended.stdout) / 1_000_000)
+
+
+def main():
+    words = argparse.ArgumentParser(description=__doc__, formatter_class=argparse.RawDescriptionHelpFormatter)
+    words.add_argument("--exchanges", type=int, default=20_000)
+    words.add_argument("--runs", type=int, default=5)
+    given = words.parse_args()
+    building.prove_and_build(CRATE, ["0"])
+    with tempfile.TemporaryDirectory() as room:
+        c_program = pathlib.Path(room) / "exchange"
+        build_c(c_program)
+        rates = [(rate(PROGRAM, given.exchanges), rate(c_program, given.exchanges)) for _ in range(given.runs)]
+    ours, of_c = (max(column) for column in zip(*rates))
+    ratio = ours / of_c
+    print(f"exchanges a second: {ours:,.0f}; C: {of_c:,.0f}; ratio {ratio:.2f} (at least {LEAST_OF_C})")
+    return 0 if ratio >= LEAST_OF_C else 1
+
+
+if __name__ == "__main__":
+    sys.exit(main())

@@ -53,6 +53,15 @@ pub fn registry(rt: &impl Abort, code: &str) -> Node {
     Node::Registry(Code::read(code).expect(rt, "a code"))
 }
 
+/// The scheme, of the log and two registries.
+pub fn worked_scheme(rt: &impl Abort, alloc: Global) -> Scheme
+    ensures { length (nodes result) ≡ 3 }
+{
+    let scheme = Scheme::read(alloc, SCHEME.as_bytes()).expect(rt, "a scheme");
+    assert_eq!(rt; scheme.registries().len(), 2);
+    scheme
+}
+
 /// A store with these records.
 fn store_of(rt: &impl Abort, alloc: Global, node: Node, journal: &[&str]) -> MemoryStore {
     let mut store = MemoryStore::new(alloc, node);
@@ -69,8 +78,7 @@ pub fn audited(
     alloc: Global,
     journals: Journals<'_>,
 ) -> (Result<(), OpFault>, Vec<u8>) {
-    let scheme = Scheme::read(alloc, SCHEME.as_bytes()).expect(rt, "a scheme");
-    assert_eq!(rt; scheme.registries().len(), 2);
+    let scheme = worked_scheme(rt, alloc);
     let [log, jp, nz] = journals;
     let mut stores = [
         store_of(rt, alloc, Node::Itl, log),

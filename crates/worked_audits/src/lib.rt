@@ -7,3 +7,5 @@ mod audit_rows;
 mod forged_rows;
 #[cfg(test)]
 mod journals;
+#[cfg(test)]
+mod weave_rows;

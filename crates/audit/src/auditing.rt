@@ -30,8 +30,8 @@ fn fault_of(fault: WeaveFault) -> OpFault
     }
 }
 
-/// The table of a run that leads to the committed records of the states, one for each node: the log's, then those of the
-/// registries in the scheme's order.
+/// The table of a run that leads to the committed records of the states, one for each node: the log's, then those of
+/// the registries in the scheme's order.
 ///
 /// # Errors
 ///

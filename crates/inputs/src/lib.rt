@@ -1,5 +1,5 @@
-//! What the commands read and write: all of an input with its lines, a scheme's file, all of a text; and the faults with
-//! which a command fails.
+//! What the commands read and write: all of an input with its lines, a scheme's file, all of a text; and the faults
+//! with which a command fails.
 #![tactic(auto)]
 
 mod calls;

@@ -114,8 +114,8 @@ fn write_run<S: Drop, W: Write>(
 
 /// Runs all nodes, each in threads of its own, while the script's lines are ordered and asked one after another; then
 /// stops all nodes. Each order and each question is answered once all records are committed that the node's journal had
-/// then. Writes the answers, a line each, and then the table of a run that leads to what all nodes have committed: of the
-/// world that the protocol's own steps lead to, whatever sockets and threads did.
+/// then. Writes the answers, a line each, and then the table of a run that leads to what all nodes have committed: of
+/// the world that the protocol's own steps lead to, whatever sockets and threads did.
 ///
 /// The states are those that the stores' records lead to. The stores are closed when it returns.
 ///

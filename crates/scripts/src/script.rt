@@ -66,8 +66,8 @@ fn lines_of(alloc: Global, bytes: &[u8]) -> Result<Vec<ScriptLine>, OpFault>
 /// # Errors
 ///
 /// - `Read`: the reader failed.
-/// - `Input`: the first line with a fault, counted from 1, and its fault: `TooLong`, `Truncated` (also where there is no
-///   line at all) or `Order`, for a line that is none of a script.
+/// - `Input`: the first line with a fault, counted from 1, and its fault: `TooLong`, `Truncated` (also where there is
+///   no line at all) or `Order`, for a line that is none of a script.
 /// - `NoMemory`: out of memory.
 pub fn read_script<R: Read>(alloc: Global, reader: &mut R) -> Result<Vec<ScriptLine>, OpFault>
     ensures ok { IfOk result (λ v. ReadsScript (R.remaining reader.old) (R.remaining reader.new) v.items) }

@@ -24,7 +24,8 @@ fn stops_at(rt: &impl Abort, alloc: Global, cut: Cut) -> u64 {
     link.stops
 }
 
-/// The calls of one file fail, first from the first call on, then from the second on, until a transfer meets no failure.
+/// The calls of one file fail, first from the first call on, then from the second on, until a transfer meets no
+/// failure.
 fn cut_everywhere(rt: &impl Abort, alloc: Global, node: Node, file: File) {
     for calls in 0..MOST_CALLS {
         if stops_at(rt, alloc, Cut { node, file, calls }) == 0 {

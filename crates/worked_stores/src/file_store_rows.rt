@@ -344,7 +344,8 @@ fn keep_two<S: NodeStore>(rt: &impl Abort, alloc: Global, store: &mut S) {
     assert!(rt; are_two(alloc, &records));
 }
 
-/// Opens NZ's store at the path in these files, keeps two records in it, and asserts that it is refused to others meanwhile.
+/// Opens NZ's store at the path in these files, keeps two records in it, and asserts that it is refused to others
+/// meanwhile.
 fn keep_at(rt: &impl Abort, files: &HostRuntime, path: &str) {
     let opened = SqlStore::open_path(files, path, registry(rt, "NZ"));
     let mut store = opened.expect(rt, "no fault of the store");

@@ -23,7 +23,7 @@ SOURCE = TOP / "bench" / "store.c"
 RECORD = '{"account":1,"input":"propose","to_account":7,"to_registry":"JP","units":["NZ:1:1-100:AAU"]}'
 BATCH = 64
 RECORDS = 64_000
-MOST_RECORDS = 1_000_000
+MOST_RECORDS = 999_999
 MOST_LOADS = 1_000
 MOST_OF_SINGLE = 0.2
 MOST_DOUBLING = 2.3
@@ -58,13 +58,13 @@ def times(program, room, records, size, loads):
     They count only once the store that was written has been looked at."""
     with tempfile.TemporaryDirectory(dir=room) as folder:
         path = pathlib.Path(folder) / "store"
-        words = [program, path, str(records), str(size), str(loads)]
+        words = [*program, path, str(records), str(size), str(loads)]
         ended = subprocess.run(words, stdout=subprocess.PIPE, text=True, check=False)
         if ended.returncode != 0:
-            sys.exit(f"{program.name} ended with status {ended.returncode}")
+            sys.exit(f"{program[0].name} ended with status {ended.returncode}")
         appending, *loading = [int(line) / 1_000 for line in ended.stdout.splitlines()]
         if len(loading) != loads:
-            sys.exit(f"{program.name} printed {len(loading)} times of {loads} loads")
+            sys.exit(f"{program[0].name} printed {len(loading)} times of {loads} loads")
         check_store(path, records)
     return appending, min(loading, default=None)
 
@@ -139,12 +139,12 @@ def parse_words():
 def main():
     given = parse_words()
     # no records
-    building.prove_and_build(CRATE, ["store", "0", "1", "0"])
+    building.prove_and_build(CRATE, ["store", "store", "0", "1", "0"])
     with tempfile.TemporaryDirectory(dir=given.folder) as folder:
         room = pathlib.Path(folder)
         program_in_c = room / "store_c"
         build_c(program_in_c)
-        programs = (PROGRAM, program_in_c)
+        programs = ([PROGRAM, "store"], [program_in_c])
         appends_kept = report_appends(append_times(programs, room, given), given.records)
         loads_kept = report_loads(load_times(programs, room, given))
     kept = appends_kept and loads_kept

@@ -1,124 +1,67 @@
-//! How long a store in a file takes to append records, and to load them.
+//! How long a store in a file takes to append records and to load them, how long threads at a registry's desk take to
+//! record and commit proposals, and how long a state takes to find the next message to send.
 //!
-//! `store_bench PATH RECORDS SIZE LOADS` makes a store at PATH, where nothing may be yet, appends RECORDS
-//! records (0 to 1,000,000) to it in batches of SIZE (1 to 1,000,000), and prints the time. Then, LOADS times
-//! (0 to 1,000), it loads them all and lets them go, and prints the time of that. A line is one time in
-//! microseconds. Of no records it makes no store, and prints nothing.
+//! `store_bench store PATH RECORDS SIZE LOADS` makes a store at PATH, where nothing may be yet, appends RECORDS records
+//! (0 to 999,999) to it in batches of SIZE (1 to 1,000,000), and prints the time. Then, LOADS times (0 to 1,000), it
+//! loads them all and lets them go, and prints the time of that. `store_bench memory RECORDS` has four threads take
+//! RECORDS proposals in all while a fifth commits them to a store in memory, and prints the time. `store_bench file PATH
+//! RECORDS` does the same with a store that it makes at PATH. `store_bench alone RECORDS` has one thread take and commit
+//! the proposals. `store_bench sends KEYS` gives the log KEYS proposals (0 to 1,000,000), so that it has KEYS messages to
+//! send to 31 registries, and prints the time of 10,000 calls for the next one, and that of 10,000 look-ups in an ordered
+//! map of as many keys. Each line is one time in microseconds. Where RECORDS or KEYS is 0 nothing is made or printed.
 //!
-//! The exit status is 2 where the words are no such words, and 3 where the store has a fault or doesn't load
-//! as many records as were appended. No contract speaks of time: what is proved is that the program is safe
-//! and ends.
+//! The exit status is 2 where the words are no such words, and 3 where a store has a fault, or not all is recorded,
+//! loaded or told as it should be. No contract speaks of time: what is proved is that the program is safe, and that it
+//! ends unless a thread waits forever.
 #![tactic(auto)]
 
 ghost use Rattle.std.specs.Prelude.{◌≤◌, ◌<◌, IfSome};
 
+mod fault;
+mod file_times;
+mod sends;
+mod threads;
+
+use desk::{Desk, RoomBell, State};
 use durable::SqlStore;
-use std::alloc::{AllocError, AllocFailed, Global};
+use fault::Fault;
+use file_times::{Batches, store_times};
+use registry_core::RegistryCore;
+use scheme::Scheme;
+use sends::sends_times;
+use sqlite::File;
+use std::alloc::Global;
 use std::process::ExitCode;
 use std::rt::Clock;
+use std::sync::Wait;
+use std::thread::Threads;
 use std::time::{Duration, Instant};
 use std::{env, io};
-use stores::{NodeStore, StoreFault};
-use thiserror::Error;
-use units::{Code, NoMemory, Node};
-use wire::{Input, ReadFault, decode_input};
+use stores::{MemoryStore, NodeStore};
+use threads::{run_alone, run_threads};
+use units::{Code, Node};
 
-const MOST_RECORDS: u32 = 1_000_000;
+const MOST_RECORDS: u32 = 999_999;
+
+const MOST_OF_A_BATCH: u32 = 1_000_000;
 
 const MOST_LOADS: u32 = 1_000;
 
-/// The registry whose store it is.
-const CODE: &str = "NZ";
-
-/// Each record: an order to transfer one block.
-const RECORD: &str =
-    r#"{"account":1,"input":"propose","to_account":7,"to_registry":"JP","units":["NZ:1:1-100:AAU"]}"#;
-
-/// Why nothing is measured, or no more.
-#[derive(Debug, Drop, Error)]
-enum Fault {
-    /// The words are not a path and three numbers, or a number is too small or too large.
-    #[error("four words are wanted: PATH RECORDS SIZE LOADS")]
-    Words,
-    /// The record or the registry's code is none.
-    #[error("the record can't be read")]
-    Record,
-    /// The store has a fault.
-    #[error("{0}")]
-    Store(StoreFault),
-    /// Other records were loaded than were appended.
-    #[error("the store doesn't load as many records as were appended")]
-    Count,
-    /// Memory was refused.
-    #[error("out of memory")]
-    NoMemory,
-    /// The clock, the words or the output failed.
-    #[error("{0}")]
-    System(io::Error),
-}
-
-impl From<AllocError> for Fault {
-    fn from(_: AllocError) -> Fault {
-        Fault::NoMemory
-    }
-}
-
-impl<T: Drop> From<AllocFailed<T>> for Fault {
-    fn from(_: AllocFailed<T>) -> Fault {
-        Fault::NoMemory
-    }
-}
-
-impl From<NoMemory> for Fault {
-    fn from(_: NoMemory) -> Fault {
-        Fault::NoMemory
-    }
-}
-
-impl From<ReadFault> for Fault {
-    fn from(fault: ReadFault) -> Fault {
-        match fault {
-            ReadFault::NoMemory => Fault::NoMemory,
-            ReadFault::Shape => Fault::Record,
-        }
-    }
-}
-
-impl From<StoreFault> for Fault {
-    fn from(fault: StoreFault) -> Fault {
-        match fault {
-            StoreFault::NoMemory => Fault::NoMemory,
-            fault => Fault::Store(fault),
-        }
-    }
-}
-
-impl From<io::Error> for Fault {
-    fn from(error: io::Error) -> Fault {
-        Fault::System(error)
-    }
-}
-
-impl Fault {
-    /// The program's exit status.
-    fn status(&self) -> u8 {
-        match self {
-            Fault::System(_) => 1,
-            Fault::Words => 2,
-            Fault::Record | Fault::Store(_) | Fault::Count => 3,
-            Fault::NoMemory => 5,
-        }
-    }
-}
+const MOST_KEYS: u32 = 1_000_000;
 
 /// What is asked for.
 #[derive(Drop)]
-struct Task<'a> {
-    path: &'a str,
-    records: u32,
-    size: u32,
-    loads: u32,
-    ghost sized: { 0 < size },
+enum Work<'a> {
+    /// A store that is made at that path.
+    Store(&'a str, Batches),
+    /// Threads at a desk, whose store is in memory.
+    Memory(u32),
+    /// Threads at a desk, whose store is made at that path.
+    File(&'a str, u32),
+    /// One thread.
+    Alone(u32),
+    /// The next messages of a log.
+    Sends(u32),
 }
 
 /// The number that the word writes, where it is neither too small nor too large.
@@ -133,97 +76,153 @@ fn number(word: &str, least: u32, most: u32) -> Option<u32>
     }
 }
 
-/// What the words ask for, the first word being the program's own name.
-fn wanted(words: &[String]) -> Option<Task<'_>> {
-    let [_, path, records, size, loads] = words else {
-        return None;
-    };
-    Some(Task {
-        path,
-        records: number(records, 0, MOST_RECORDS)?,
-        size: number(size, 1, MOST_RECORDS)?,
-        loads: number(loads, 0, MOST_LOADS)?,
+/// What is appended and loaded.
+fn batches(records: &str, size: &str, loads: &str) -> Option<Batches> {
+    let records = number(records, 0, MOST_RECORDS)?;
+    let size = number(size, 1, MOST_OF_A_BATCH)?;
+    let loads = number(loads, 0, MOST_LOADS)?;
+    Some(Batches {
+        records,
+        size,
+        loads,
     })
 }
 
-/// The records to append.
-fn records(alloc: Global, count: u32) -> Result<Vec<Input>, Fault> {
-    let record = decode_input(alloc, RECORD.as_bytes())?;
-    let mut records = Vec::new(alloc);
-    for _ in 0..count {
-        records.push(record.copy()?)?;
+/// A work that is asked for by one number.
+fn counted(work: &str, count: &str) -> Option<Work<'static>> {
+    match work {
+        "memory" => Some(Work::Memory(number(count, 0, MOST_RECORDS)?)),
+        "alone" => Some(Work::Alone(number(count, 0, MOST_RECORDS)?)),
+        "sends" => Some(Work::Sends(number(count, 0, MOST_KEYS)?)),
+        _ => None,
     }
-    Ok(records)
 }
 
-/// How long the store takes to append the records in batches.
-fn append_time<S: NodeStore>(
-    clock: &impl Clock,
-    store: &mut S,
-    records: &[Input],
-    size: u32,
-) -> Result<Duration, Fault>
-    requires { 0 < size }
-{
+/// What the words ask for, the first word being the program's own name.
+fn wanted(words: &[String]) -> Option<Work<'_>> {
+    match words {
+        [_, work, path, records, size, loads] if work.as_str() == "store" => {
+            Some(Work::Store(path, batches(records, size, loads)?))
+        }
+        [_, work, path, records] if work.as_str() == "file" => {
+            Some(Work::File(path, number(records, 0, MOST_RECORDS)?))
+        }
+        [_, work, count] => counted(work, count),
+        _ => None,
+    }
+}
+
+/// A scheme of NZ, which has all the units that are asked for, and JP.
+const SCHEME: &str =
+    r#"{"records":1000000,"registries":[{"accounts":[7],"allotted":[],"code":"JP","eligible":true,"kinds":["AAU"]},{"accounts":[1],"allotted":[{"account":1,"units":["NZ:1:1-10000000:AAU"]}],"code":"NZ","eligible":true,"kinds":["AAU"]}]}"#;
+
+fn code(text: &str) -> Result<Code, Fault> {
+    Code::read(text).ok_or(Fault::Input)
+}
+
+/// NZ's state, which has recorded nothing.
+fn nz_state(alloc: Global) -> Result<State<RegistryCore>, Fault> {
+    let scheme = Scheme::read(alloc, SCHEME.as_bytes())?;
+    let core = RegistryCore::new(alloc, &scheme, code("NZ")?)?;
+    Ok(State::new(alloc, core))
+}
+
+/// NZ's store in memory.
+fn memory_store(alloc: Global) -> Result<MemoryStore, Fault> {
+    Ok(MemoryStore::new(alloc, Node::Registry(code("NZ")?)))
+}
+
+/// NZ's store, made at the path.
+fn file_store(rt: &HostRuntime, path: &str) -> Result<SqlStore<File>, Fault> {
+    Ok(SqlStore::open_path(rt, path, Node::Registry(code("NZ")?))?)
+}
+
+/// The times, as a list.
+fn one(alloc: Global, time: Duration) -> Result<Vec<Duration>, Fault> {
+    let mut times = Vec::new(alloc);
+    times.push(time)?;
+    Ok(times)
+}
+
+/// How long threads take over a store.
+fn threads_time<R: Threads + Wait + Clock + Sync, S: NodeStore + Send + Drop>(
+    rt: &R,
+    alloc: Global,
+    store: Result<S, Fault>,
+    records: u32,
+) -> Result<Vec<Duration>, Fault> {
+    let store = store?;
+    let desk = Desk::new(nz_state(alloc)?, RoomBell::new());
+    let start = Instant::now(rt)?;
+    run_threads(rt, alloc, desk, store, records, code("JP")?)?;
+    one(alloc, start.elapsed(rt)?)
+}
+
+/// How long one thread takes over a store in memory.
+fn alone_time(clock: &impl Clock, alloc: Global, records: u32) -> Result<Vec<Duration>, Fault> {
+    let (state, store) = (nz_state(alloc)?, memory_store(alloc)?);
     let start = Instant::now(clock)?;
-    for batch in records.chunks(size as usize) {
-        store.append(batch)?;
-    }
-    Ok(start.elapsed(clock)?)
+    run_alone(alloc, state, store, records, code("JP")?)?;
+    one(alloc, start.elapsed(clock)?)
 }
 
-/// How long the store takes to load its records, with the drop of the records.
-fn load_time<S: NodeStore>(
-    clock: &impl Clock,
-    store: &mut S,
-    count: usize,
-) -> Result<Duration, Fault> {
-    let start = Instant::now(clock)?;
-    if store.load()?.len() != count {
-        return Err(Fault::Count);
-    }
-    Ok(start.elapsed(clock)?)
+/// How long a store takes that is made at the path.
+fn path_times(rt: &HostRuntime, path: &str, batches: &Batches) -> Result<Vec<Duration>, Fault> {
+    let mut store = file_store(rt, path)?;
+    store_times(rt, rt.alloc(), &mut store, batches)
 }
 
-/// Prints the time of appending, and of each loading.
-fn measure<S: NodeStore>(
-    rt: &(impl Clock + Print),
-    store: &mut S,
-    records: &[Input],
-    task: &Task<'_>,
-) -> Result<(), Fault> {
-    let appending = append_time(rt, store, records, task.size)?.as_micros();
-    println!(rt; "{appending}")?;
-    for _ in 0..task.loads {
-        let loading = load_time(rt, store, records.len())?.as_micros();
-        println!(rt; "{loading}")?;
+fn print(rt: &impl Print, times: Result<Vec<Duration>, Fault>) -> Result<(), Fault> {
+    for time in times?.as_slice() {
+        let microseconds = time.as_micros();
+        println!(rt; "{microseconds}")?;
     }
     Ok(())
 }
 
-fn run(rt: &HostRuntime) -> Result<(), Fault> {
-    let alloc = rt.alloc();
-    let words: Vec<String> = env::args(rt)?.collect(alloc)?;
-    let Some(task) = wanted(words.as_slice()) else {
-        return Err(Fault::Words);
-    };
-    let Some(code) = Code::read(CODE) else {
-        return Err(Fault::Record);
-    };
-    if task.records == 0 {
-        return Ok(());
-    }
-    let records = records(alloc, task.records)?;
-    let mut store = SqlStore::open_path(rt, task.path, Node::Registry(code))?;
-    measure(rt, &mut store, records.as_slice(), &task)
+fn words(rt: &HostRuntime) -> Result<Vec<String>, Fault> {
+    Ok(env::args(rt)?.collect(rt.alloc())?)
 }
 
-fn main(rt: HostRuntime) -> io::Result<ExitCode> {
-    match run(&rt) {
+fn ended(rt: &impl Eprint, done: Result<(), Fault>) -> io::Result<ExitCode> {
+    match done {
         Ok(()) => Ok(ExitCode::SUCCESS),
         Err(fault) => {
             eprintln!(rt; "store_bench: {fault}")?;
             Ok(ExitCode::from(fault.status()))
         }
     }
+}
+
+/// Whether nothing is asked for.
+fn is_nothing(work: &Work<'_>) -> bool {
+    match work {
+        Work::Store(_, batches) => batches.records == 0,
+        Work::Memory(count) | Work::File(_, count) | Work::Alone(count) | Work::Sends(count) => {
+            *count == 0
+        }
+    }
+}
+
+fn main(rt: HostRuntime) -> io::Result<ExitCode> {
+    let alloc = rt.alloc();
+    let words = match words(&rt) {
+        Ok(words) => words,
+        Err(fault) => return ended(&rt, Err(fault)),
+    };
+    let Some(work) = wanted(words.as_slice()) else {
+        return ended(&rt, Err(Fault::Words));
+    };
+    if is_nothing(&work) {
+        return Ok(ExitCode::SUCCESS);
+    }
+    let times = match work {
+        Work::Store(path, batches) => path_times(&rt, path, &batches),
+        Work::Memory(records) => threads_time(&rt, alloc, memory_store(alloc), records),
+        Work::File(path, records) => { threads_time(&rt, alloc, file_store(&rt, path), records) }
+        Work::Alone(records) => alone_time(&rt, alloc, records),
+        Work::Sends(keys) => sends_times(&rt, alloc, keys),
+    };
+    let printed = print(&rt, times);
+    ended(&rt, printed)
 }

@@ -1,0 +1,86 @@
+#!/usr/bin/env python3
+"""How long threads at a desk take to record and commit proposals, beside SQLite's C library and beside one thread.
+
+Four threads take 100,000 proposals in all and a fifth commits them, to a store in memory and to one in a file; the C program of
+bench/store.c makes the same number of commits of 64 records each. Then a state with 1,000,000 messages to 31 registries is asked
+10,000 times for the next one, beside 10,000 look-ups in an ordered map of as many keys. Printed are the best times and the records a
+second. The exit status is 1 where the calls for the next message take longer than their limit.
+"""
+
+import argparse
+import pathlib
+import subprocess
+import sys
+import tempfile
+
+import building
+import store
+
+TOP = pathlib.Path(__file__).resolve().parent.parent
+CRATE = TOP / "crates" / "store_bench"
+PROGRAM = CRATE / "out" / "store_bench"
+RECORDS = 100_000
+MOST_RECORDS = 999_999
+KEYS = 1_000_000
+MOST_LOOKUPS = 100
+
+
+def run(words):
+    """The times that the program prints, in milliseconds."""
+    ended = subprocess.run([PROGRAM, *map(str, words)], stdout=subprocess.PIPE, text=True, check=False)
+    if ended.returncode != 0:
+        sys.exit(f"{PROGRAM.name} ended with status {ended.returncode}")
+    return [int(line) / 1_000 for line in ended.stdout.splitlines()]
+
+
+def in_file(room, records):
+    with tempfile.TemporaryDirectory(dir=room) as folder:
+        return run(["file", pathlib.Path(folder) / "NZ.db", records])[0]
+
+
+def in_c(program, room, records):
+    with tempfile.TemporaryDirectory(dir=room) as folder:
+        words = [program, pathlib.Path(folder) / "store", str(records), str(store.BATCH), "0"]
+        ended = subprocess.run(words, stdout=subprocess.PIPE, text=True, check=True)
+    return int(ended.stdout.splitlines()[0]) / 1_000
+
+
+def parse_words():
+    parser = argparse.ArgumentParser(description=__doc__.splitlines()[0])
+    parser.add_argument("--records", type=int, default=RECORDS, help="proposals in all, at most 999,999")
+    parser.add_argument("--runs", type=int, default=3, help="the best times count")
+    parser.add_argument("--folder", default=TOP.parent, help="where the temporary folder of the stores is made")
+    given = parser.parse_args()
+    given.records = min(max(store.BATCH, given.records), MOST_RECORDS)
+    given.runs = max(1, given.runs)
+    return given
+
+
+def main():
+    given = parse_words()
+    building.prove_and_build(CRATE, ["memory", "0"])
+    with tempfile.TemporaryDirectory(dir=given.folder) as folder:
+        room = pathlib.Path(folder)
+        program_in_c = room / "store_c"
+        store.build_c(program_in_c)
+        works = {
+            "one thread, store in memory": lambda: run(["alone", given.records])[0],
+            "five threads, store in memory": lambda: run(["memory", given.records])[0],
+            "five threads, store in a file": lambda: in_file(room, given.records),
+            "C, the same commits": lambda: in_c(program_in_c, room, given.records),
+        }
+        best = dict.fromkeys(works, float("inf"))
+        for _ in range(given.runs):
+            for name, work in works.items():
+                best[name] = min(best[name], work())
+    for name, milliseconds in best.items():
+        print(f"{name:<32} {milliseconds:10.1f} ms  {given.records / milliseconds * 1_000:10,.0f} records a second")
+    beside_c = best["C, the same commits"] / best["five threads, store in a file"]
+    print(f"five threads, store in a file, records a second as a part of C's: {beside_c:.2f}")
+    sends, lookups = (min(times) for times in zip(*(run(["sends", KEYS]) for _ in range(given.runs))))
+    print(f"next message of {KEYS:,}: {sends:.2f} ms, look-ups {lookups:.2f} ms, ratio {sends / lookups:.1f} (limit {MOST_LOOKUPS})")
+    sys.exit(0 if sends <= MOST_LOOKUPS * lookups else 1)
+
+
+if __name__ == "__main__":
+    main()

@@ -1,0 +1,78 @@
+//! A store's times to append records and to load them.
+
+ghost use Rattle.std.specs.Prelude.{◌<◌};
+
+use crate::fault::Fault;
+use std::alloc::Global;
+use std::rt::Clock;
+use std::time::{Duration, Instant};
+use stores::NodeStore;
+use wire::{Input, decode_input};
+
+/// Each record: an order to transfer one block.
+const RECORD: &str =
+    r#"{"account":1,"input":"propose","to_account":7,"to_registry":"JP","units":["NZ:1:1-100:AAU"]}"#;
+
+/// How many records are appended, how many at once, and how often they are loaded.
+#[derive(Clone, Copy, Debug)]
+pub struct Batches {
+    pub records: u32,
+    pub size: u32,
+    pub loads: u32,
+    pub ghost sized: { 0 < size },
+}
+
+/// The records to append.
+fn records(alloc: Global, count: u32) -> Result<Vec<Input>, Fault> {
+    let record = decode_input(alloc, RECORD.as_bytes())?;
+    let mut records = Vec::new(alloc);
+    for _ in 0..count {
+        records.push(record.copy()?)?;
+    }
+    Ok(records)
+}
+
+/// How long the store takes to append the records in batches.
+fn append_time<S: NodeStore>(
+    clock: &impl Clock,
+    store: &mut S,
+    records: &[Input],
+    size: u32,
+) -> Result<Duration, Fault>
+    requires { 0 < size }
+{
+    let start = Instant::now(clock)?;
+    for batch in records.chunks(size as usize) {
+        store.append(batch)?;
+    }
+    Ok(start.elapsed(clock)?)
+}
+
+/// How long the store takes to load its records, with the drop of the records.
+fn load_time<S: NodeStore>(
+    clock: &impl Clock,
+    store: &mut S,
+    count: usize,
+) -> Result<Duration, Fault> {
+    let start = Instant::now(clock)?;
+    if store.load()?.len() != count {
+        return Err(Fault::Count);
+    }
+    Ok(start.elapsed(clock)?)
+}
+
+/// The time of appending, and then that of each loading.
+pub fn store_times<S: NodeStore>(
+    clock: &impl Clock,
+    alloc: Global,
+    store: &mut S,
+    batches: &Batches,
+) -> Result<Vec<Duration>, Fault> {
+    let records = records(alloc, batches.records)?;
+    let mut times = Vec::new(alloc);
+    times.push(append_time(clock, store, records.as_slice(), batches.size)?)?;
+    for _ in 0..batches.loads {
+        times.push(load_time(clock, store, records.len())?)?;
+    }
+    Ok(times)
+}

@@ -17,14 +17,14 @@ import sys
 
 import building
 
-CRATE = pathlib.Path(__file__).resolve().parent.parent / "crates" / "scheme_bench"
-PROGRAM = CRATE / "out" / "scheme_bench"
+CRATE = pathlib.Path(__file__).resolve().parent.parent / "crates" / "core_bench"
+PROGRAM = CRATE / "out" / "core_bench"
 # Blocks, and the registries that they are spread over.
 SIZES = ((2_500, 8), (5_000, 16), (10_000, 32))
 ACCOUNTS = 1_000
 UNITS_OF_A_BLOCK = 1_000
 MOST_BLOCKS_OF_AN_ALLOTMENT = 20
-MOST_ROUNDS = 1_000
+LEAST_ROUNDS, MOST_ROUNDS = 9, 1_000
 MOST_OF_JSON = 3.0
 MOST_DOUBLING = 2.3
 
@@ -60,7 +60,7 @@ def scheme_text(blocks, registries):
 
 def best_times(text, rounds):
     """The best times in milliseconds, of the text as JSON and as a scheme."""
-    words = [PROGRAM, str(rounds)]
+    words = [PROGRAM, "scheme", str(rounds)]
     ended = subprocess.run(words, input=text, stdout=subprocess.PIPE, text=True, check=False)
     if ended.returncode != 0:
         sys.exit(f"{PROGRAM.name} ended with status {ended.returncode}")
@@ -72,12 +72,11 @@ def best_times(text, rounds):
 
 def main():
     parser = argparse.ArgumentParser(description=__doc__.splitlines()[0])
-    parser.add_argument("--rounds", type=int, default=21, help="rounds of a run, at most 1,000")
+    parser.add_argument("--rounds", type=int, default=21, help="rounds of a run, 9 to 1,000")
     parser.add_argument("--runs", type=int, default=20, help="runs of each; the best times count")
     given = parser.parse_args()
-    rounds = min(max(1, given.rounds), MOST_ROUNDS)
-    # no rounds
-    building.prove_and_build(CRATE, ["0"], (CRATE / "stdin").read_text(encoding="utf-8"))
+    rounds = min(max(LEAST_ROUNDS, given.rounds), MOST_ROUNDS)
+    building.prove_and_build(CRATE, ["transfers", "9"])
     texts = {blocks: scheme_text(blocks, registries) for blocks, registries in SIZES}
     best = {blocks: (float("inf"), float("inf")) for blocks in texts}
     for _ in range(max(1, given.runs)):

@@ -13,32 +13,37 @@ import sys
 
 import building
 
-CRATE = pathlib.Path(__file__).resolve().parent.parent / "crates" / "table_bench"
-PROGRAM = CRATE / "out" / "table_bench"
+CRATE = pathlib.Path(__file__).resolve().parent.parent / "crates" / "core_bench"
+PROGRAM = CRATE / "out" / "core_bench"
 # Intervals and messages.
 SIZES = ((100_000, 1_000_000), (200_000, 2_000_000))
+# What the program makes of either.
 CALLS = 10_000
 MOST_DOUBLING = 1.3
 
 
-def times(intervals, messages):
-    """The two times in milliseconds."""
-    words = [PROGRAM, str(intervals), str(messages), str(CALLS)]
-    ended = subprocess.run(words, stdout=subprocess.PIPE, text=True, check=False)
+def time_of(work, size):
+    """The time in milliseconds, and how many calls did what they were made for."""
+    ended = subprocess.run([PROGRAM, work, str(size)], stdout=subprocess.PIPE, text=True, check=False)
     if ended.returncode != 0:
         sys.exit(f"{PROGRAM.name} ended with status {ended.returncode}")
-    in_map, in_outbox, found = (int(word) for word in ended.stdout.split())
+    microseconds, count = (int(word) for word in ended.stdout.split())
     # few look-ups begin after the last message that waits
-    if found < CALLS * 9 // 10:
-        sys.exit(f"{PROGRAM.name} found only {found:,} messages in {CALLS:,} look-ups")
-    return in_map / 1_000, in_outbox / 1_000
+    if count < CALLS * 9 // 10:
+        sys.exit(f"{PROGRAM.name} {work} found only {count:,} messages in {CALLS:,} look-ups")
+    return microseconds / 1_000
+
+
+def times(intervals, messages):
+    """The two times in milliseconds."""
+    return time_of("map", intervals), time_of("outbox", messages)
 
 
 def main():
     parser = argparse.ArgumentParser(description=__doc__.splitlines()[0])
     parser.add_argument("--runs", type=int, default=5, help="runs of each size; the best times count")
     given = parser.parse_args()
-    building.prove_and_build(CRATE, ["16", "16", "16"])
+    building.prove_and_build(CRATE, ["transfers", "9"])
     best = {size: (float("inf"), float("inf")) for size in SIZES}
     for _ in range(max(1, given.runs)):
         for size in SIZES:

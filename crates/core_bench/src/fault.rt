@@ -9,12 +9,15 @@ use units::{BlockFault, NoMemory, Refusal};
 /// Why nothing is measured, or no more.
 #[derive(Debug, Drop, Error)]
 pub enum Fault {
-    /// The words are not a kind of work and a number of inputs.
-    #[error("two words are wanted, one of transfers, accounts, log, clean-ups and eligibility, and a number of inputs from 9 to 1,000,000")]
+    /// The words are not a kind of work and a number.
+    #[error("two words are wanted, one of transfers, accounts, log, clean-ups, eligibility, map, outbox and scheme, and a number from 9 to 10,000,000")]
     Words,
-    /// The scheme is none, or a number of an input is out of its range.
+    /// A number of an input is out of its range.
     #[error("an input can't be made")]
     Input,
+    /// The text on standard input is no scheme.
+    #[error("the text is no scheme: {0}")]
+    Text(SchemeFault),
     /// An input was refused.
     #[error("an input was refused with {0}")]
     Refused(u16),
@@ -48,7 +51,7 @@ impl From<SchemeFault> for Fault {
     fn from(fault: SchemeFault) -> Fault {
         match fault {
             SchemeFault::NoMemory => Fault::NoMemory,
-            _ => Fault::Input,
+            fault => Fault::Text(fault),
         }
     }
 }
@@ -69,6 +72,16 @@ impl From<Refusal> for Fault {
     }
 }
 
+impl From<serde_json::Error> for Fault {
+    fn from(error: serde_json::Error) -> Fault {
+        if error.is_memory() {
+            Fault::NoMemory
+        } else {
+            Fault::Text(SchemeFault::NotJson)
+        }
+    }
+}
+
 impl From<io::Error> for Fault {
     fn from(error: io::Error) -> Fault {
         Fault::System(error)
@@ -81,7 +94,7 @@ impl Fault {
         match self {
             Fault::System(_) => 1,
             Fault::Words => 2,
-            Fault::Input | Fault::Refused(_) => 3,
+            Fault::Input | Fault::Text(_) | Fault::Refused(_) => 3,
             Fault::NoMemory => 5,
         }
     }

@@ -1,4 +1,5 @@
-//! How long a registry and the log take for many inputs.
+//! How long a registry and the log take for many inputs, calls on tables for many units and messages, and reading a
+//! scheme.
 //!
 //! `core_bench transfers INPUTS` gives a registry INPUTS inputs of whole transfers: an order to transfer a block out of
 //! the one that it was allotted, and Accepted for it; a proposal of another registry, and Completed for it; an
@@ -12,166 +13,86 @@
 //! INPUTS` gives it 100,000 proposals, and then INPUTS clean-ups by which none of them is due; `core_bench
 //! eligibility INPUTS` gives it orders on a registry's eligibility in place of the clean-ups.
 //!
-//! It prints a line of the time in microseconds and of how many inputs were recorded: `TIME RECORDED`. The inputs of
-//! transfers are made before the time is taken, and the proposals are given before it; other inputs are given again
-//! and again. INPUTS is 9 to 1,000,000; of 9 inputs it prints nothing.
+//! `core_bench map INTERVALS` makes a map of INTERVALS intervals of ten units, and gives 16 blocks in it another kind
+//! and their own again, 10,000 times. `core_bench outbox MESSAGES` makes an outbox of MESSAGES messages, of which every
+//! other is acknowledged, and looks 10,000 times for the next one that waits.
 //!
-//! The exit status is 2 where the words are no such words, and 3 where an input is refused. No contract speaks of
-//! time: what is proved is that the program is safe and ends.
+//! It prints a line of the time in microseconds and of how many inputs were recorded, or look-ups found a message:
+//! `TIME COUNT`. The inputs of transfers are made before the time is taken, and the proposals are given before it;
+//! other inputs are given again and again. Each number is 9 to 10,000,000, of which a journal takes 1,000,000 records;
+//! of 9 it prints nothing.
+//!
+//! `core_bench scheme ROUNDS` reads a text from standard input to its end. Then, ROUNDS times, it reads the text as a
+//! JSON value and lets the value go, reads it as a scheme and lets the scheme go, and prints a line of the two times in
+//! microseconds: `JSON SCHEME`. The second has the first's work in it.
+//!
+//! The exit status is 2 where the words are no such words, and 3 where an input is refused, or the text is no scheme.
+//! No contract speaks of time: what is proved is that the program is safe and ends.
 #![tactic(auto)]
 
+mod cores;
 mod fault;
 mod log_rounds;
+mod maps;
+mod outboxes;
 mod rounds;
+mod schemes;
+mod work;
 
+use crate::cores::{at_log, at_registry};
 use crate::fault::Fault;
-use crate::log_rounds::{
-    clean_up, codes, eligibility_orders, log_rounds_of, proposals_of, scheme_text,
-};
-use crate::rounds::{Nodes, account_orders, rounds_of};
-use log_core::LogCore;
-use protocol::{NodeCore, Stepped};
-use registry_core::RegistryCore;
-use scheme::Scheme;
+use crate::maps::in_map;
+use crate::outboxes::in_outbox;
+use crate::schemes::print_rounds;
+use crate::work::{Taken, Work};
 use std::alloc::Global;
 use std::process::ExitCode;
-use std::rt::Clock;
-use std::time::{Duration, Instant};
 use std::{env, io};
-use units::limits::MOST_RECORDS;
-use wire::Input;
 
 /// One round of inputs.
 const LEAST: u32 = 9;
 
-const MOST: u32 = MOST_RECORDS as u32;
+const MOST: u32 = 10_000_000;
 
-/// As many records as a scheme allows. All units are in account 2 of NZ.
-const SCHEME: &str =
-    r#"{"records":1000000,"registries":[{"accounts":[7],"allotted":[],"code":"JP","eligible":true,"kinds":["AAU"]},{"accounts":[1,2],"allotted":[{"account":2,"units":["NZ:1:1-100000000:AAU"]}],"code":"NZ","eligible":true,"kinds":["AAU"]}]}"#;
-
-/// How many transactions stand Checked while clean-ups and orders on eligibility are given.
-const CHECKED: u32 = 100_000;
-
-/// What a registry or the log is given.
-#[derive(Clone, Copy, Debug, PartialEq, Eq)]
-enum Work {
-    /// Whole transfers, in both roles.
-    Transfers,
-    /// Orders to close and to open an account.
-    Accounts,
-    /// Whole transfers, at the log.
-    Log,
-    /// Clean-ups by which nothing is due.
-    CleanUps,
-    /// Orders on the eligibility of a registry.
-    Eligibility,
-}
-
-/// What is measured.
+/// What is measured, and the number that is its size.
 #[derive(Clone, Copy, Debug)]
 struct Task {
     work: Work,
-    inputs: u32,
-}
-
-/// The work that the word names.
-fn work_of(word: &str) -> Option<Work> {
-    match word {
-        "transfers" => Some(Work::Transfers),
-        "accounts" => Some(Work::Accounts),
-        "log" => Some(Work::Log),
-        "clean-ups" => Some(Work::CleanUps),
-        "eligibility" => Some(Work::Eligibility),
-        _ => None,
-    }
+    count: u32,
 }
 
 /// What the words ask for, the first word being the program's own name.
 fn task_of(words: &[String]) -> Option<Task> {
-    let [_, work, inputs] = words else {
+    let [_, work, count] = words else {
         return None;
     };
-    let work = work_of(work)?;
-    let inputs = inputs.parse::<u32>().ok()?;
-    if (LEAST..=MOST).contains(&inputs) {
-        Some(Task { work, inputs })
+    let work = Work::read(work)?;
+    let count = count.parse::<u32>().ok()?;
+    if (LEAST..=MOST).contains(&count) {
+        Some(Task { work, count })
     } else {
         None
     }
 }
 
-/// How long the inputs took, and how many were recorded.
-#[derive(Clone, Copy, Debug)]
-struct Taken {
-    time: Duration,
-    recorded: u32,
-}
-
-/// Gives the core that many inputs, these in turn and again from the first.
-fn drive<C: NodeCore>(
-    clock: &impl Clock,
-    core: &mut C,
-    inputs: &[Input],
-    count: u32,
-) -> Result<Taken, Fault> {
-    let start = Instant::now(clock)?;
-    let mut recorded: u32 = 0;
-    for input in inputs.iter().cycle().take(count as usize) {
-        if let Stepped::Recorded(_) = core.step(input)? {
-            recorded = recorded.saturating_add(1);
-        }
-    }
-    let time = start.elapsed(clock)?;
-    Ok(Taken { time, recorded })
-}
-
-/// What a registry takes.
-fn at_registry(clock: &impl Clock, alloc: Global, work: Work, count: u32) -> Result<Taken, Fault> {
-    let nodes = Nodes::read().ok_or(Fault::Input)?;
-    let scheme = Scheme::read(alloc, SCHEME.as_bytes())?;
-    let mut core = RegistryCore::new(alloc, &scheme, nodes.own)?;
-    let inputs = if work == Work::Transfers {
-        rounds_of(alloc, nodes, count)?
-    } else {
-        account_orders(alloc)?
-    };
-    drive(clock, &mut core, &inputs, count)
-}
-
-/// What the log takes.
-fn at_log(clock: &impl Clock, alloc: Global, work: Work, count: u32) -> Result<Taken, Fault> {
-    let codes = codes(alloc)?;
-    let text = scheme_text(alloc, &codes)?;
-    let scheme = Scheme::read(alloc, text.as_bytes())?;
-    let mut core = LogCore::new(alloc, &scheme)?;
-    if work == Work::Log {
-        let inputs = log_rounds_of(alloc, &codes, count)?;
-        return drive(clock, &mut core, &inputs, count);
-    }
-    let proposals = proposals_of(alloc, &codes, CHECKED)?;
-    drive(clock, &mut core, &proposals, CHECKED)?;
-    let inputs = if work == Work::CleanUps {
-        clean_up(alloc)?
-    } else {
-        eligibility_orders(alloc, &codes)?
-    };
-    drive(clock, &mut core, &inputs, count)
-}
-
-fn measure(rt: &(impl Clock + Print), alloc: Global, task: Task) -> Result<(), Fault> {
-    let taken = match task.work {
-        Work::Transfers | Work::Accounts => at_registry(rt, alloc, task.work, task.inputs)?,
-        Work::Log | Work::CleanUps | Work::Eligibility => {
-            at_log(rt, alloc, task.work, task.inputs)?
-        }
-    };
-    if task.inputs > LEAST {
+fn print_taken(rt: &HostRuntime, task: Task, taken: Taken) -> Result<(), Fault> {
+    if task.count > LEAST {
         let time = taken.time.as_micros();
-        let recorded = taken.recorded;
-        println!(rt; "{time} {recorded}")?;
+        let count = taken.count;
+        println!(rt; "{time} {count}")?;
     }
     Ok(())
+}
+
+fn measure(rt: &HostRuntime, alloc: Global, task: Task) -> Result<(), Fault> {
+    let taken = match task.work {
+        Work::Transfers | Work::Accounts => at_registry(rt, alloc, task.work, task.count)?,
+        Work::Log | Work::CleanUps | Work::Eligibility => at_log(rt, alloc, task.work, task.count)?,
+        Work::Map => in_map(rt, alloc, task.count)?,
+        Work::Outbox => in_outbox(rt, alloc, task.count)?,
+        Work::Scheme => return print_rounds(rt, task.count),
+    };
+    print_taken(rt, task, taken)
 }
 
 fn run(rt: &HostRuntime) -> Result<(), Fault> {

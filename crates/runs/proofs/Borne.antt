@@ -15,8 +15,8 @@ use Rattle.desk.specs.declared.notes.Note.{Note}
 use Rattle.desk.specs.declared.notes.Ticket.{Ticket}
 use Rattle.desk.specs.declared.notes.Told.{Told}
 use Rattle.desk.specs.declared.notes.Told.TheVariants.{Step, Status, Refused}
-use Rattle.runs.specs.Answers.{IsBorne, IsDueWithin}
-use Rattle.runs.specs.Heard.{HasHeard, HasNoted}
+use Rattle.playing.specs.Answers.{IsBorne, IsDueWithin}
+use Rattle.playing.specs.Heard.{HasHeard, HasNoted}
 
 -- ---- fronts of lists
 

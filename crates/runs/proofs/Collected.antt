@@ -6,7 +6,7 @@ use Rattle.std.proofs.lemmas.Option.{slice_get_within}
 use Rattle.lemmas.proofs.OneValue.{one_some}
 use Rattle.desk.specs.Views.{Heard}
 use Rattle.runs.specs.Gathered.{AreGatheredTo}
-use Rattle.runs.proofs.Played.{last_or_before}
+use Rattle.playing.proofs.HeardLines.{last_or_before}
 
 drop_at : {X : Type 0} (k : ℕ) (xs : List X) (x : X) (ys : List X) → drop k xs ≡ x ∷ ys → (slice_get xs k ≡ Some x) × (drop (suc k) xs ≡ ys)
 drop_at zero [] x ys e = absurd (cc (e))

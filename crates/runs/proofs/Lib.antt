@@ -1,9 +1,5 @@
 pub mod Borne
 pub mod Collected
-pub mod Hearing
-pub mod Lines
-pub mod Places
-pub mod Played
 pub mod Reported
 pub mod Settling
 pub mod Written

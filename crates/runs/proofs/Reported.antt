@@ -12,12 +12,12 @@ use Rattle.weave.specs.Following.{journal_of}
 use Rattle.weave.proofs.Ends.{place_within}
 use Rattle.weave.proofs.Rounds.{journal_is, node_of_place}
 use Rattle.scripts.specs.declared.line.ScriptLine.{ScriptLine}
-use Rattle.runs.specs.Answers.{IsAnswer, IsBorne, answer_lines, asked_by, node_of}
+use Rattle.playing.specs.Answers.{IsAnswer, IsBorne, answer_lines, asked_by, node_of}
 use Rattle.runs.specs.Gathered.{AreGathered}
-use Rattle.runs.specs.Heard.{AreHeard, IsHeard}
+use Rattle.playing.specs.Heard.{AreHeard, IsHeard}
 use Rattle.runs.specs.Runs.{IsReported, IsRunReport, committed_by_all}
-use Rattle.runs.specs.declared.answer.Answer.{Answer}
-use Rattle.runs.specs.declared.answer.Answer.TheVariants.{NotPossible, Told as Answered}
+use Rattle.playing.specs.declared.answer.Answer.{Answer}
+use Rattle.playing.specs.declared.answer.Answer.TheVariants.{NotPossible, Told as Answered}
 use Rattle.runs.proofs.Borne.{borne}
 
 image_or : {X Y : Type 0} (f : X → Y) (xs : List X) (k : ℕ) (x : X) (d : Y) → slice_get xs k ≡ Some x → slice_index_or (map f xs) k d ≡ f x

@@ -5,9 +5,9 @@ use Rattle.scheme.specs.declared.registries.Scheme.{Scheme}
 use Rattle.inputs.specs.declared.fault.OpFault.{OpFault}
 use Rattle.inputs.specs.declared.fault.OpFault.TheVariants.{Input, Read, Write, Store, Stuck, Unsettled, NoMemory}
 use Rattle.scripts.specs.declared.line.ScriptLine.{ScriptLine}
-use Rattle.runs.specs.Answers.{answer_lines}
+use Rattle.playing.specs.Answers.{answer_lines}
 use Rattle.runs.specs.Runs.{FailsToReport, FailsToRun, HasAnswered, IsLateFault, IsReported, IsRunReport, IsTableFault}
-use Rattle.runs.specs.declared.answer.Answer.{Answer}
+use Rattle.playing.specs.declared.answer.Answer.{Answer}
 use Rattle.desk.specs.Views.{Held, Heard}
 
 pub late_fault : (e : OpFault) (scheme : Scheme) (helds : List Held) (seats : List (List Heard)) → IsTableFault scheme helds seats e → IsLateFault e

@@ -1,5 +1,3 @@
-pub mod Answers
-pub mod Heard
 pub mod Gathered
 pub mod Settled
 pub mod Runs

@@ -11,9 +11,9 @@ use Rattle.inputs.specs.declared.fault.OpFault.{OpFault}
 use Rattle.inputs.specs.declared.fault.OpFault.TheVariants.{Write, Store, Stuck, Unsettled, NoMemory}
 use Rattle.audit.specs.Audits.{IsAuditTable}
 use Rattle.scripts.specs.declared.line.ScriptLine.{ScriptLine}
-use Rattle.runs.specs.Answers.{AreAnswers, IsAnswer, answer_lines}
+use Rattle.playing.specs.Answers.{AreAnswers, IsAnswer, answer_lines}
 use Rattle.runs.specs.Settled.{AreSettled, FailsToSettle}
-use Rattle.runs.specs.declared.answer.Answer.{Answer}
+use Rattle.playing.specs.declared.answer.Answer.{Answer}
 
 -- ---- the table of states, and of what their threads were told
 

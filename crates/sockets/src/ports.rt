@@ -6,14 +6,19 @@ use crate::loopback::directions;
 use crate::port::Port;
 use sessions::Dial;
 use std::alloc::Global;
+use std::io::BufReader;
 use std::marker::Model;
 use std::net::{Net, SocketAddr, TcpStream};
 use units::{NoMemory, Node};
+
+/// How many bytes are read of a connection at once: a reply has fewer.
+const READ_AT_ONCE: usize = 256;
 
 /// Where each of some nodes accepts connections.
 #[derive(Drop)]
 pub struct Ports<'a, R: Net> {
     net: &'a R,
+    alloc: Global,
     places: Vec<(Node, SocketAddr)>,
 }
 
@@ -33,6 +38,7 @@ impl<'a, R: Net> Ports<'a, R> {
     {
         Ports {
             net,
+            alloc,
             places: Vec::new(alloc),
         }
     }
@@ -80,13 +86,16 @@ impl<'a, R: Net> Ports<'a, R> {
 }
 
 impl<'a, R: Net<Stream = TcpStream>> Dial for Ports<'a, R> {
-    type Reader = TcpStream;
+    // One exchange reads a byte at a time, up to its newline.
+    type Reader = BufReader<TcpStream>;
 
     type Writer = TcpStream;
 
-    fn connect(&self, peer: Node) -> Option<(TcpStream, TcpStream)> {
+    fn connect(&self, peer: Node) -> Option<(BufReader<TcpStream>, TcpStream)> {
         let address = self.address_of(peer)?;
         let stream = self.net.connect(address).ok()?;
-        directions(stream)
+        let (reader, writer) = directions(stream)?;
+        let reader = BufReader::with_capacity(self.alloc, READ_AT_ONCE, reader).ok()?;
+        Some((reader, writer))
     }
 }

@@ -1,5 +1,5 @@
-//! Worked rows of messages, records, lines, replies, the command line, `rehearse` and `show`: texts from outside,
-//! each public function with enough memory, and streams that fail midway.
+//! Worked rows of messages, records, lines, replies, scripts, the command line, `rehearse` and `show`: texts from
+//! outside, each public function with enough memory, and streams that fail midway.
 #![tactic(auto)]
 
 #[cfg(test)]
@@ -12,6 +12,8 @@ mod record_rows;
 mod rehearsal_rows;
 #[cfg(test)]
 mod reply_rows;
+#[cfg(test)]
+mod script_rows;
 #[cfg(test)]
 mod show_rows;
 #[cfg(test)]

@@ -3,7 +3,8 @@ use Rattle.desk.specs.Settling.{IsSettled}
 use Rattle.desk.specs.Views.{Heard}
 use Rattle.world.specs.Kept.{nodes}
 use Rattle.runs.specs.Settled.{FailsToSettleAt}
-use Rattle.runs.proofs.Settling.{fails_at, found_at, image_found, settled_more}
+use Rattle.playing.proofs.HeardLines.{found_at}
+use Rattle.runs.proofs.Settling.{fails_at, image_found, settled_more}
 use Rattle.runs.proofs.reporting.settle_all.Goals as goal
 
 pub returns-in-Err-clause-err : goal.returns-in-Err-clause-err

@@ -1,0 +1,162 @@
+#!/usr/bin/env python3
+"""Refuses each allocation of whole commands in turn: what is written is nothing or all, and no store changes.
+
+`rehearse` reads the input of each example named, and `audit` the stores of a whole transfer and of the one whose proposal
+comes too late. Each is run once with all the memory that it asks for, and then once for each of its allocations, of which
+that one is refused (`no_memory.c`, loaded before the C library). Each time it must write what the first run wrote, or
+nothing, with `out of memory` on standard error and exit status 5; and the stores must have the records that they had. The
+exit status is 1 where that isn't so.
+"""
+
+import argparse
+import json
+import os
+import pathlib
+import shutil
+import sqlite3
+import subprocess
+import sys
+import tempfile
+
+from audit import MOMENT, TABLES
+from rehearse import LAUNCHER, PROGRAM
+
+TOP = pathlib.Path(__file__).resolve().parent.parent
+SOURCE = TOP / "bench" / "no_memory.c"
+OUT_OF_MEMORY = (5, b"", b"kyoto-link: out of memory\n")
+EXAMPLES = ("one_transfer", "stale_proposal", "everything_again", "crash_before_commit", "faults/first_fault_of_two")
+UNITS = ["NZ:1:1-100:AAU"]
+# A clean-up a day after the moment of all messages.
+CLEANED_UP = {"input": "clean_up", "moment": MOMENT + 86_400}
+PROPOSED = {"account": 1, "input": "propose", "to_account": 7, "to_registry": "JP", "units": UNITS}
+
+
+def received(**message):
+    return {"input": "received", "message": message, "moment": MOMENT}
+
+
+def proposal(source, status, to, name):
+    words = {"account": 1, "to_account": 7, "to_registry": "JP", "units": UNITS}
+    return received(call="AcceptProposal", status=status, to=to, transaction=name, **{"from": source}, **words)
+
+
+def notification(source, status, to, name):
+    return received(call="AcceptNotification", codes=[], status=status, to=to, transaction=name, **{"from": source})
+
+
+WHOLE = {
+    "ITL": [
+        proposal("NZ", "Proposed", "ITL", "NZ1"),
+        notification("JP", "Accepted", "ITL", "NZ1"),
+        notification("NZ", "Completed", "ITL", "NZ1"),
+    ],
+    "JP": [proposal("ITL", "Checked", "JP", "NZ1"), notification("ITL", "Completed", "JP", "NZ1")],
+    "NZ": [PROPOSED, notification("ITL", "Accepted", "NZ", "NZ1")],
+}
+# NZ1 is cancelled, NZ2 takes its place, and then the proposal of NZ1 comes to JP.
+STALE = {
+    "ITL": [
+        proposal("NZ", "Proposed", "ITL", "NZ1"),
+        CLEANED_UP,
+        proposal("NZ", "Proposed", "ITL", "NZ2"),
+        notification("JP", "Accepted", "ITL", "NZ2"),
+        notification("NZ", "Completed", "ITL", "NZ2"),
+    ],
+    "JP": [
+        proposal("ITL", "Checked", "JP", "NZ2"),
+        notification("ITL", "Completed", "JP", "NZ2"),
+        proposal("ITL", "Checked", "JP", "NZ1"),
+    ],
+    "NZ": [
+        PROPOSED,
+        notification("ITL", "Cancelled", "NZ", "NZ1"),
+        PROPOSED,
+        notification("ITL", "Accepted", "NZ", "NZ2"),
+    ],
+}
+
+
+def write_stores(folder, journals):
+    folder.mkdir()
+    for node, records in journals.items():
+        texts = [json.dumps(record, separators=(",", ":"), sort_keys=True) for record in records]
+        store = sqlite3.connect(folder / f"{node}.db")
+        for table in TABLES:
+            store.execute(table)
+        store.execute("INSERT INTO about VALUES (1, 1, ?1)", (node,))
+        store.executemany("INSERT INTO entries VALUES (?1, ?2)", enumerate(texts))
+        store.commit()
+        store.close()
+
+
+def records_in(folder):
+    """The rows of all stores."""
+    found = {}
+    for path in sorted(folder.glob("*.db")):
+        store = sqlite3.connect(path)
+        found[path.name] = (store.execute("SELECT * FROM about").fetchall(), store.execute("SELECT * FROM entries").fetchall())
+        store.close()
+    return found
+
+
+class Refusing:
+    """Runs the program with one allocation refused."""
+
+    def __init__(self, room):
+        self.library = pathlib.Path(room) / "no_memory.so"
+        self.told = pathlib.Path(room) / "refused"
+        if shutil.which("gcc") is None:
+            sys.exit("gcc, which builds no_memory.c, isn't on PATH")
+        words = ["gcc", "-O2", "-std=gnu11", "-Wall", "-Wextra", "-shared", "-fPIC", "-o", self.library, SOURCE, "-ldl"]
+        if subprocess.run(words, check=False).returncode != 0:
+            sys.exit("no_memory.c could not be built")
+
+    def run(self, words, text, number):
+        """What a run came to, and whether an allocation was refused. None is where the number is 0."""
+        self.told.unlink(missing_ok=True)
+        given = os.environ | {"LD_PRELOAD": str(self.library), "REFUSE": str(number), "REFUSED": str(self.told)}
+        ended = subprocess.run([PROGRAM, *words], input=text, capture_output=True, env=given, check=False)
+        return (ended.returncode, ended.stdout, ended.stderr), self.told.exists()
+
+
+def refuse_each(name, refusing, words, text, folder):
+    """Whether each run came to all or nothing."""
+    whole, _ = refusing.run(words, text, 0)
+    before = records_in(folder) if folder else None
+    number, refused_runs, kept = 1, 0, True
+    while True:
+        came, refused = refusing.run(words, text, number)
+        if not refused:
+            break
+        refused_runs += came == OUT_OF_MEMORY
+        if came not in (whole, OUT_OF_MEMORY) or (folder and records_in(folder) != before):
+            kept = False
+            print(f"{name}: with allocation {number} refused: status {came[0]}, {len(came[1])} bytes written, {came[2]!r}")
+        number += 1
+    print(f"{name}: {number - 1} allocations; out of memory {refused_runs} times, else all was written", flush=True)
+    return kept and number > 1
+
+
+def main():
+    words = argparse.ArgumentParser(description=__doc__, formatter_class=argparse.RawDescriptionHelpFormatter)
+    words.parse_args()
+    subprocess.run([LAUNCHER, "help"], stdout=subprocess.DEVNULL, check=True)
+    kept = True
+    with tempfile.TemporaryDirectory() as room:
+        refusing = Refusing(room)
+        for name in EXAMPLES:
+            text = (TOP / "examples" / name / "input").read_bytes()
+            kept = refuse_each(f"rehearse {name}", refusing, ["rehearse"], text, None) and kept
+        scheme = pathlib.Path(room) / "scheme"
+        text = (TOP / "examples" / "stale_proposal" / "input").read_bytes()
+        scheme.write_bytes(text.split(b"\n", 1)[0] + b"\n")
+        for name, journals in (("one_transfer", WHOLE), ("stale_proposal", STALE)):
+            folder = pathlib.Path(room) / name
+            write_stores(folder, journals)
+            kept = refuse_each(f"audit {name}", refusing, ["audit", scheme, folder], b"", folder) and kept
+    print("all or nothing each time" if kept else "something else was written, or a store changed")
+    return 0 if kept else 1
+
+
+if __name__ == "__main__":
+    sys.exit(main())

@@ -1,0 +1,74 @@
+//! What calls on a map of units take.
+
+use crate::fault::Fault;
+use crate::work::Taken;
+use std::alloc::Global;
+use std::rt::Clock;
+use std::time::Instant;
+use units::{Block, Code, Kind, Period, UnitMap, overlaps};
+
+/// How often the blocks of a call are given another kind.
+const CALLS: u32 = 10_000;
+
+const UNITS_OF_AN_INTERVAL: u64 = 10;
+
+const BLOCKS_OF_A_CALL: u64 = 16;
+
+/// What the next interval is found by: a step that shares no factor with the usual numbers of intervals.
+const STEP: u64 = 7_919;
+
+/// The kind of the interval at that place.
+fn kind_at(place: u64) -> Kind {
+    if place % 2 == 0 { Kind::Aau } else { Kind::Cer }
+}
+
+/// The block of the interval at that place.
+fn block_at(origin: Code, place: u64) -> Result<Block, Fault> {
+    let first = place.saturating_mul(UNITS_OF_AN_INTERVAL).saturating_add(1);
+    let last = first.saturating_add(UNITS_OF_AN_INTERVAL - 1);
+    Ok(Block::new(origin, Period::First, kind_at(place), first, last)?)
+}
+
+/// A map of that many intervals, the kinds of neighbours different.
+fn map_of(alloc: Global, origin: Code, intervals: u64) -> Result<UnitMap<Kind>, Fault> {
+    let mut kinds = UnitMap::new(alloc);
+    for place in 0..intervals {
+        let block = block_at(origin, place)?;
+        kinds.set(&block, Some(block.raw.kind))?;
+    }
+    Ok(kinds)
+}
+
+/// The blocks of a call, one in each of 16 intervals that lie apart.
+fn blocks_from(
+    alloc: Global,
+    origin: Code,
+    place: u64,
+    intervals: u64,
+) -> Result<Vec<Block>, Fault> {
+    let stride = intervals / BLOCKS_OF_A_CALL;
+    let mut blocks = Vec::new(alloc);
+    for part in 0..BLOCKS_OF_A_CALL {
+        let at = place.saturating_add(part * stride) % intervals.max(1);
+        blocks.push(block_at(origin, at)?)?;
+    }
+    Ok(blocks)
+}
+
+/// What it takes to give 16 blocks of a map of that many intervals another kind and their own again, 10,000 times.
+pub fn in_map(clock: &impl Clock, alloc: Global, intervals: u32) -> Result<Taken, Fault> {
+    let origin = Code::read("NZ").ok_or(Fault::Input)?;
+    let intervals = u64::from(intervals);
+    let mut kinds = map_of(alloc, origin, intervals)?;
+    let start = Instant::now(clock)?;
+    for call in 0..CALLS {
+        let place = u64::from(call).saturating_mul(STEP) % intervals.max(1);
+        let blocks = blocks_from(alloc, origin, place, intervals)?;
+        if !overlaps(&blocks) {
+            kinds.set_all(&blocks, |_| Some(Kind::Rmu))?;
+            kinds.set_all(&blocks, |block| Some(block.raw.kind))?;
+        }
+    }
+    let time = start.elapsed(clock)?;
+    Ok(Taken { time, count: CALLS })
+}

@@ -1,0 +1,55 @@
+//! What look-ups in an outbox take.
+
+use crate::fault::Fault;
+use crate::work::Taken;
+use outbox::Outbox;
+use status::TransactionId;
+use std::alloc::Global;
+use std::rt::Clock;
+use std::time::Instant;
+use units::{Code, Node};
+use wire::{Message, Request};
+
+/// How often the next message that waits is looked for.
+const CALLS: u32 = 10_000;
+
+/// One of this many messages isn't acknowledged.
+const WAITING: usize = 2;
+
+/// What the next key is found by: a step that shares no factor with the usual numbers of messages.
+const STEP: usize = 7_919;
+
+/// An outbox of that many messages of one record each, of which every other is acknowledged.
+fn outbox_of(alloc: Global, origin: Code, messages: u32) -> Result<Outbox, Fault> {
+    let mut outbox = Outbox::new(alloc);
+    let id = TransactionId::new(origin, 1).ok_or(Fault::Input)?;
+    let from = Node::Registry(origin);
+    let to = Node::Itl;
+    for _ in 0..messages {
+        let mut sent = Vec::new(alloc);
+        sent.push(Message::Request(Request { from, to, id }))?;
+        outbox.record(sent)?;
+    }
+    for key in 0..outbox.sends() {
+        if key % WAITING != 0 && key < outbox.sends() {
+            outbox.acknowledge(key)?;
+        }
+    }
+    Ok(outbox)
+}
+
+/// What it takes to look for the next message that waits, 10,000 times, and how many of the look-ups found one.
+pub fn in_outbox(clock: &impl Clock, alloc: Global, messages: u32) -> Result<Taken, Fault> {
+    let origin = Code::read("NZ").ok_or(Fault::Input)?;
+    let outbox = outbox_of(alloc, origin, messages)?;
+    let start = Instant::now(clock)?;
+    let mut count: u32 = 0;
+    for call in 0..CALLS {
+        let from = (call as usize).saturating_mul(STEP) % (messages as usize).max(1);
+        if outbox.next_unacknowledged(Node::Itl, from).is_some() {
+            count = count.saturating_add(1);
+        }
+    }
+    let time = start.elapsed(clock)?;
+    Ok(Taken { time, count })
+}

@@ -1,0 +1,4 @@
+pub mod HeardLines
+pub mod Hearing
+pub mod Lines
+pub mod Places

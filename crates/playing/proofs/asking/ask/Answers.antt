@@ -1,0 +1,11 @@
+use Rattle.playing.proofs.HeardLines.{heard_line}
+use Rattle.playing.proofs.asking.ask.Goals as goal
+
+pub returns-in-Order-clause-heard : goal.returns-in-Order-clause-heard
+returns-in-Order-clause-heard g c = heard_line _ _ c.order_copy.new.seat _ c.in-Order.is c.order_copy.ensures.heard
+
+pub returns-in-Status-clause-heard : goal.returns-in-Status-clause-heard
+returns-in-Status-clause-heard g c = heard_line _ _ c.question.new.seat _ c.in-Status.is c.question.ensures.heard
+
+pub returns-in-Until-clause-heard : goal.returns-in-Until-clause-heard
+returns-in-Until-clause-heard g c = heard_line _ _ c.question_until.new.seat _ c.in-Until.is c.question_until.ensures.heard

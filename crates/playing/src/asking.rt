@@ -1,0 +1,149 @@
+//! One line of a script, at the desk of its node.
+ghost use Rattle.std.specs.Prelude.{◌≡◌};
+ghost use Rattle.answers.specs.Answers.{is_without_journal};
+ghost use Rattle.playing.specs.Answers.{asked_by};
+ghost use Rattle.playing.specs.Heard.{Grows, HasHeard, IsConfirmed};
+
+use desk::{Asked, Bell, Desk, Seat, Taken, Told};
+use protocol::NodeCore;
+use scripts::ScriptLine;
+use status::{Status, TransactionId};
+use std::rt::Clock as SystemClock;
+use std::sync::Wait;
+use std::thread;
+use std::time::Duration;
+use units::Refusal;
+use units::refusal_code::{NODE_STOPPED, OUT_OF_MEMORY};
+use wire::Input;
+
+/// How long a script waits before it asks again, in milliseconds.
+const TURN: u64 = 1;
+
+/// Whether no journal judged what was told: the node had stopped, or memory ran out.
+fn is_unjudged(told: Told) -> bool
+    ensures { result ≡ is_without_journal told }
+{
+    match told {
+        Told::Refused(refusal) => { refusal.code == NODE_STOPPED || refusal.code == OUT_OF_MEMORY }
+        _ => false,
+    }
+}
+
+/// What was told, once all records are committed that the journal had then; at once where no journal judged it. Refusal
+/// `NODE_STOPPED` where the node stopped before.
+fn confirmed<C: NodeCore, B: Bell, R: Wait>(
+    rt: &R,
+    desk: &Desk<C, B>,
+    seat: &mut Seat,
+    taken: Taken,
+) -> Told
+    ensures { IsConfirmed seat.old taken seat.new result }
+{
+    let told = taken.told();
+    if is_unjudged(told) {
+        return told;
+    }
+    match desk.confirm(rt, seat, taken) {
+        Ok(_) => told,
+        Err(refusal) => Told::Refused(refusal),
+    }
+}
+
+/// What the node tells of an order, once its record is committed.
+fn order<C: NodeCore, B: Bell, R: Wait>(
+    rt: &R,
+    desk: &Desk<C, B>,
+    seat: &mut Seat,
+    input: Input,
+) -> Told
+    ensures heard { HasHeard seat.new (Asked.Take input) result }
+    ensures grows { Grows seat.old seat.new }
+{
+    let taken = desk.take(rt, seat, input);
+    confirmed(rt, desk, seat, taken)
+}
+
+/// The same of a copy of the order; refusal `OUT_OF_MEMORY` where there is no memory for one.
+fn order_copy<C: NodeCore, B: Bell, R: Wait>(
+    rt: &R,
+    desk: &Desk<C, B>,
+    seat: &mut Seat,
+    input: &Input,
+) -> Told
+    ensures heard { HasHeard seat.new (Asked.Take input.now) result }
+    ensures grows { Grows seat.old seat.new }
+{
+    match input.copy() {
+        Ok(input) => order(rt, desk, seat, input),
+        Err(_) => Told::Refused(Refusal::NO_MEMORY),
+    }
+}
+
+/// Where the transaction stands at the node, once what says so is committed.
+fn question<C: NodeCore, B: Bell, R: Wait>(
+    rt: &R,
+    desk: &Desk<C, B>,
+    seat: &mut Seat,
+    id: TransactionId,
+) -> Told
+    ensures heard { HasHeard seat.new (Asked.Query id) result }
+    ensures grows { Grows seat.old seat.new }
+{
+    let taken = desk.query(rt, seat, id);
+    confirmed(rt, desk, seat, taken)
+}
+
+/// Whether there is nothing more to wait for: the transaction has the status, or the node has stopped.
+fn is_over(told: Told, status: Status) -> bool {
+    match told {
+        Told::Status(found) => found == Some(status),
+        Told::Refused(refusal) => refusal.code == NODE_STOPPED,
+        Told::Step(_) => false,
+    }
+}
+
+/// Asks where the transaction stands until it has that status, at most that many times, and returns what was told
+/// last. A stopped node isn't asked again.
+fn question_until<C: NodeCore, B: Bell, R: Wait + SystemClock>(
+    rt: &R,
+    desk: &Desk<C, B>,
+    seat: &mut Seat,
+    id: TransactionId,
+    status: Status,
+    turns: u64,
+) -> Told
+    ensures heard { HasHeard seat.new (Asked.Query id) result }
+    ensures grows { Grows seat.old seat.new }
+{
+    let mut told = question(rt, desk, seat, id);
+    for _ in 1..turns {
+        if is_over(told, status) {
+            break;
+        }
+        thread::sleep(rt, Duration::from_millis(TURN));
+        told = question(rt, desk, seat, id);
+    }
+    told
+}
+
+/// What the node tells of a line of a script.
+pub(crate) fn ask<C: NodeCore, B: Bell, R: Wait + SystemClock>(
+    rt: &R,
+    desk: &Desk<C, B>,
+    seat: &mut Seat,
+    line: &ScriptLine,
+) -> Told
+    ensures heard { HasHeard seat.new (asked_by line.now) result }
+    ensures grows { Grows seat.old seat.new }
+{
+    match line {
+        ScriptLine::Order { input, .. } => order_copy(rt, desk, seat, input),
+        ScriptLine::Status { id, .. } => question(rt, desk, seat, *id),
+        ScriptLine::Until {
+            id,
+            status,
+            turns,
+            ..
+        } => question_until(rt, desk, seat, *id, *status, *turns),
+    }
+}

@@ -1,0 +1,101 @@
+//! The lines of a script, one after another, at the desks of all nodes.
+ghost use Rattle.std.specs.Prelude.{◌≡◌, ◌<◌, ◌++◌, ◌∷◌, [], true, false, length, IfNone, IfOk, IfSome, OnOk, Some};
+ghost use Rattle.scheme.specs.declared.registries.Scheme.{Scheme as AScheme};
+ghost use Rattle.protocol.specs.World.{is_order, opening};
+ghost use Rattle.weave.specs.Following.{place_of};
+ghost use Rattle.world.specs.Kept.{nodes};
+ghost use Rattle.playing.specs.Answers.{is_possible, node_of};
+ghost use Rattle.playing.specs.Heard.{AllGrow, AreHeard, IsHeard};
+
+use crate::answer::Answer;
+use crate::asking::ask;
+use desk::{Bell, Desk, Seat};
+use protocol::NodeCore;
+use scheme::Scheme;
+use scripts::ScriptLine;
+use std::alloc::Global;
+use std::rt::Clock as SystemClock;
+use std::sync::Wait;
+use units::{NoMemory, Node};
+use weave::place_of;
+use wire::Input;
+
+/// Whether a node of that kind takes the order.
+fn takes(node: Node, input: &Input) -> bool
+    ensures { (scheme : AScheme) → result ≡ is_order (opening scheme) node input.now }
+{
+    match input {
+        Input::Propose(_) | Input::Request(_) | Input::OpenAccount(_) | Input::CloseAccount(_) =>
+            matches!(node, Node::Registry(_)),
+        Input::CleanUp(_) | Input::Eligible { .. } => matches!(node, Node::Itl),
+        Input::Ack(_) | Input::Received { .. } => false,
+    }
+}
+
+/// The place of the line's node, where the line is possible.
+fn place_for(scheme: &Scheme, line: &ScriptLine) -> Option<usize>
+    ensures some { IfSome result (λ at. (place_of scheme.now (node_of line.now) ≡ Some at) × (at < length (nodes scheme.now)) × (is_possible scheme.now line.now ≡ true)) }
+    ensures none { IfNone result (is_possible scheme.now line.now ≡ false) }
+{
+    match line {
+        ScriptLine::Order { node, input } => {
+            if takes(*node, input) {
+                place_of(scheme, *node)
+            } else {
+                None
+            }
+        }
+        ScriptLine::Status { node, .. } => place_of(scheme, *node),
+        ScriptLine::Until { node, .. } => place_of(scheme, *node),
+    }
+}
+
+/// What a line comes to.
+fn play<C: NodeCore, B: Bell, R: Wait + SystemClock>(
+    rt: &R,
+    scheme: &Scheme,
+    desks: &[Desk<C, B>],
+    seats: &mut [Seat],
+    line: &ScriptLine,
+) -> Answer
+    requires desks { length desks.now ≡ length (nodes scheme.now) }
+    requires seats { length seats.old ≡ length (nodes scheme.now) }
+    ensures heard { IsHeard scheme.now seats.new line.now result }
+    ensures grow { AllGrow seats.old seats.new }
+    ensures count { length seats.new ≡ length seats.old }
+{
+    match place_for(scheme, line) {
+        Some(at) => Answer::Told(ask(rt, &desks[at], &mut seats[at], line)),
+        None => Answer::NotPossible,
+    }
+}
+
+fn push(answers: &mut Vec<Answer>, answer: Answer) -> Result<(), NoMemory>
+    ensures { OnOk result (answers.new.items ≡ answers.old.items ++ answer ∷ []) }
+{
+    answers.push(answer)?;
+    Ok(())
+}
+
+/// What the lines come to, one after another. Fails with `NoMemory` where memory ran out for the answers, before the
+/// first line.
+pub(crate) fn play_all<C: NodeCore, B: Bell, R: Wait + SystemClock>(
+    rt: &R,
+    alloc: Global,
+    scheme: &Scheme,
+    desks: &[Desk<C, B>],
+    seats: &mut [Seat],
+    lines: &[ScriptLine],
+) -> Result<Vec<Answer>, NoMemory>
+    requires desks { length desks.now ≡ length (nodes scheme.now) }
+    requires seats { length seats.old ≡ length (nodes scheme.now) }
+    ensures heard { IfOk result (λ v. AreHeard scheme.now seats.new lines.now v.items) }
+    ensures count { length seats.new ≡ length seats.old }
+{
+    let mut answers = Vec::with_capacity(alloc, lines.len())?;
+    for line in lines {
+        let answer = play(rt, scheme, desks, seats, line);
+        push(&mut answers, answer)?;
+    }
+    Ok(answers)
+}

@@ -1,8 +1,0 @@
-use Rattle.runs.proofs.Hearing.{grows_asked, heard_order}
-use Rattle.runs.proofs.asking.order.Goals as goal
-
-pub returns-clause-grows : goal.returns-clause-grows
-returns-clause-grows g c = grows_asked _ _ _ _ _ c.take-taken.ensures.seat c.confirmed.ensures
-
-pub returns-clause-heard : goal.returns-clause-heard
-returns-clause-heard g c = heard_order c.args.seat.now c.take-taken.new.seat c.confirmed.new.seat _ _ _ c.take-taken.ensures.asked c.take-taken.ensures.told c.take-taken.ensures.seat c.confirmed.ensures

@@ -1,8 +1,0 @@
-use Rattle.runs.proofs.Hearing.{grows_asked, heard_question}
-use Rattle.runs.proofs.asking.question.Goals as goal
-
-pub returns-clause-grows : goal.returns-clause-grows
-returns-clause-grows g c = grows_asked _ _ _ _ _ c.query-taken.ensures.seat c.confirmed.ensures
-
-pub returns-clause-heard : goal.returns-clause-heard
-returns-clause-heard g c = heard_question c.args.seat.now c.query-taken.new.seat c.confirmed.new.seat _ _ _ c.query-taken.ensures.asked c.query-taken.ensures.told c.query-taken.ensures.seat c.confirmed.ensures

@@ -1,9 +1,0 @@
-use Rattle.desk.specs.declared.notes.Asked.TheVariants.{Query}
-use Rattle.runs.specs.Heard.{Grows, HasHeard}
-use Rattle.runs.proofs.asking.question_until.Given as goal
-
-abbrev pub invariant-loop : goal.invariant-loop
-invariant-loop g l = record {
-  heard : HasHeard l.seat (Query l.id) l.told;
-  grows : Grows l.initial.seat l.seat;
-}

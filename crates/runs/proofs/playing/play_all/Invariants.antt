@@ -1,9 +1,0 @@
-use Rattle.std.proofs.Common.{◌≡◌, length, take}
-use Rattle.runs.specs.Heard.{AreHeard}
-use Rattle.runs.proofs.playing.play_all.Given as goal
-
-abbrev pub invariant-loop-line : goal.invariant-loop-line
-invariant-loop-line g l = record {
-  heard : AreHeard l.scheme l.seats (take l.line-index l.lines) l.answers.items;
-  count : length l.seats ≡ length l.initial.seats;
-}

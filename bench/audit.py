@@ -63,10 +63,10 @@ def journals(codes, count):
     return records
 
 
-def write_stores(folder, codes, count):
-    """Makes a store for each node, and returns the bytes of all records."""
+def write_stores(folder, texts_of):
+    """Makes a store for each node with the texts of its records, and returns the bytes of all records."""
     length = 0
-    for node, texts in journals(codes, count).items():
+    for node, texts in texts_of.items():
         store = sqlite3.connect(folder / f"{node}.db")
         for table in TABLES:
             store.execute(table)
@@ -103,7 +103,7 @@ def measure(name, codes, largest, runs, room):
             folder, given, taken = pathlib.Path(place) / "stores", pathlib.Path(place) / "scheme", pathlib.Path(place) / "output"
             folder.mkdir()
             given.write_text(scheme(codes, size // len(codes) + 1) + "\n", encoding="utf-8")
-            length = write_stores(folder, codes, size)
+            length = write_stores(folder, journals(codes, size))
             words = [PROGRAM, "audit", given, folder]
             run(words, given, taken)
             check_table(taken, name, size)

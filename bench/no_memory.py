@@ -18,7 +18,7 @@ import subprocess
 import sys
 import tempfile
 
-from audit import MOMENT, TABLES
+from audit import MOMENT, write_stores
 from rehearse import LAUNCHER, PROGRAM
 
 TOP = pathlib.Path(__file__).resolve().parent.parent
@@ -76,17 +76,12 @@ STALE = {
 }
 
 
-def write_stores(folder, journals):
-    folder.mkdir()
-    for node, records in journals.items():
-        texts = [json.dumps(record, separators=(",", ":"), sort_keys=True) for record in records]
-        store = sqlite3.connect(folder / f"{node}.db")
-        for table in TABLES:
-            store.execute(table)
-        store.execute("INSERT INTO about VALUES (1, 1, ?1)", (node,))
-        store.executemany("INSERT INTO entries VALUES (?1, ?2)", enumerate(texts))
-        store.commit()
-        store.close()
+def text_of(record):
+    return json.dumps(record, separators=(",", ":"), sort_keys=True)
+
+
+def texts_of(journals):
+    return {node: [text_of(record) for record in records] for node, records in journals.items()}
 
 
 def records_in(folder):
@@ -152,7 +147,8 @@ def main():
         scheme.write_bytes(text.split(b"\n", 1)[0] + b"\n")
         for name, journals in (("one_transfer", WHOLE), ("stale_proposal", STALE)):
             folder = pathlib.Path(room) / name
-            write_stores(folder, journals)
+            folder.mkdir()
+            write_stores(folder, texts_of(journals))
             kept = refuse_each(f"audit {name}", refusing, ["audit", scheme, folder], b"", folder) and kept
     print("all or nothing each time" if kept else "something else was written, or a store changed")
     return 0 if kept else 1

@@ -2,8 +2,8 @@
 use Rattle.std.proofs.Common.{◌≡◌, ℕ, ◌+◌, ◌<◌, ◌≤◌, List, ◌++◌, length, Option, refl, sym, ap, subst, ◌∙◌, arith, append-nil, length-append}
 use Rattle.std.specs.List.{AllByRecursion}
 use Rattle.units.specs.Limits.{longest_line}
-use Rattle.wire.specs.Held.{Held}
-use Rattle.wire.specs.Lines.{stream_of, IsWithin, Splits, IsOver}
+use Rattle.stream_lines.specs.Held.{Held}
+use Rattle.stream_lines.specs.Lines.{stream_of, IsWithin, Splits, IsOver}
 use Rattle.exchanges.specs.Calls.{GoesOn}
 use Rattle.exchanges.specs.Given.{Given, lines_of}
 use Rattle.exchanges.specs.Pieces.{piece_end, open_with, IsSmall, ServesPiece, most_lines}

@@ -4,9 +4,9 @@ use Rattle.std.proofs.KnownBytes.{Appends-nil, Consumes-nil, Consumes-trans, Con
 use Rattle.std.specs.Io.KnownBytes.{Consumes, Keeps}
 use Rattle.std.specs.List.{AllByRecursion}
 use Rattle.units.specs.Limits.{longest_line}
-use Rattle.wire.specs.Held.{Held}
-use Rattle.wire.specs.Lines.{stream_of, IsWithin}
-use Rattle.wire.proofs.Streams.{stream_append}
+use Rattle.stream_lines.specs.Held.{Held}
+use Rattle.stream_lines.specs.Lines.{stream_of, IsWithin}
+use Rattle.stream_lines.proofs.Streams.{stream_append}
 use Rattle.exchanges.specs.Calls.{GoesOn}
 use Rattle.exchanges.specs.Counts.{most_interruptions}
 use Rattle.exchanges.specs.Given.{Given, lines_of}

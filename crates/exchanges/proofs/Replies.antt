@@ -5,11 +5,11 @@ use Rattle.std.proofs.Math.Seq.{take-add, take-append_seam, drop-append_seam}
 use Rattle.std.proofs.KnownBytes.{Appends-trans}
 use Rattle.std.specs.Io.KnownBytes.{Appends}
 use Rattle.std.specs.List.{AllByRecursion}
-use Rattle.wire.specs.Lines.{stream_of}
+use Rattle.stream_lines.specs.Lines.{stream_of}
 use Rattle.wire.specs.Replies.{reply_text}
 use Rattle.wire.specs.declared.reply.Reply.{Reply}
 use Rattle.wire.specs.declared.reply.Reply.TheVariants.{Received, Refused}
-use Rattle.wire.proofs.Streams.{stream_append}
+use Rattle.stream_lines.proofs.Streams.{stream_append}
 use Rattle.wire.proofs.ReplyTexts.{text_received, text_refused}
 use Rattle.exchanges.specs.Calls.{GoesOn}
 use Rattle.exchanges.specs.Counts.{next, FailsAfter}

@@ -1,7 +1,7 @@
 -- What single calls do to the counts, and what reading a line takes. No public contract cites it.
 use Rattle.std.specs.Prelude.{◌≡◌, ℕ, ◌+◌, ◌%◌, ◌^◌, List, [], ◌∷◌, ◌++◌, length, Option, Result, Ok, Err}
 use Rattle.units.specs.Limits.{longest_line}
-use Rattle.wire.specs.Lines.{HasNoNewline, IsWithin}
+use Rattle.stream_lines.specs.Lines.{HasNoNewline, IsWithin}
 use Rattle.exchanges.specs.Watched.{Watched}
 use Rattle.exchanges.specs.Counts.{next}
 use Rattle.exchanges.specs.Streams.{Takes, TakesAll, TakesAndFails}

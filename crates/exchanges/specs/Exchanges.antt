@@ -1,7 +1,7 @@
 -- What an exchange writes and reads.
 use Rattle.std.specs.Prelude.{◌≡◌, ℕ, ◌+◌, List, [], ◌∷◌, ◌++◌, length, Option, ◌⊎◌}
 use Rattle.units.specs.Limits.{longest_line}
-use Rattle.wire.specs.Lines.{HasNoNewline, IsWithin}
+use Rattle.stream_lines.specs.Lines.{HasNoNewline, IsWithin}
 use Rattle.wire.specs.Replies.{IsReply}
 use Rattle.wire.specs.declared.reply.Reply.{Reply}
 use Rattle.exchanges.specs.Counts.{most_interruptions}

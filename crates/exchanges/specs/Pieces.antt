@@ -2,8 +2,8 @@
 use Rattle.std.specs.Prelude.{◌≡◌, ℕ, ◌+◌, ◌*◌, ◌<◌, ◌≤◌, List, [], ◌++◌, length, take, false, Option}
 use Rattle.std.specs.List.{AllByRecursion}
 use Rattle.units.specs.Limits.{longest_line}
-use Rattle.wire.specs.Held.{Held}
-use Rattle.wire.specs.Lines.{stream_of, HasNoNewline, IsWithin}
+use Rattle.stream_lines.specs.Held.{Held}
+use Rattle.stream_lines.specs.Lines.{stream_of, HasNoNewline, IsWithin}
 use Rattle.exchanges.specs.Calls.{GoesOn}
 use Rattle.exchanges.specs.Given.{Given, lines_of}
 use Rattle.exchanges.specs.Sessions.{RepliesToAll, RepliesToTheStop, RepliesCutShort}

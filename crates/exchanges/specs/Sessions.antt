@@ -3,7 +3,7 @@ use Rattle.std.specs.Prelude.{◌≡◌, ℕ, ◌+◌, ◌<◌, ◌≤◌, List,
 use Rattle.std.specs.Io.KnownBytes.{Appends, Consumes, IsAtEnd}
 use Rattle.std.specs.List.{AllByRecursion}
 use Rattle.units.specs.Limits.{longest_line}
-use Rattle.wire.specs.Lines.{stream_of, HasNoNewline, IsWithin}
+use Rattle.stream_lines.specs.Lines.{stream_of, HasNoNewline, IsWithin}
 use Rattle.exchanges.specs.Counts.{GoesUp, Fails, most_interruptions}
 use Rattle.exchanges.specs.Given.{Given, lines_of, replies_text, IsStopped, NoneStopped}
 use Rattle.exchanges.specs.Watched.{Watched}

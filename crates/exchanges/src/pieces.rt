@@ -1,7 +1,7 @@
 //! Replies to the lines of a stream, piece by piece.
 ghost use Rattle.std.specs.Prelude.{◌≡◌, ◌<◌, ◌≤◌, ◌++◌, length, false};
 ghost use Rattle.units.specs.Limits.{longest_line};
-ghost use Rattle.wire.specs.Lines.{IsWithin};
+ghost use Rattle.stream_lines.specs.Lines.{IsWithin};
 ghost use Rattle.exchanges.specs.Pieces.{piece_end, open_with, IsSmall, ServesPiece, StreamEnds};
 
 use crate::answerer::Answerer;
@@ -9,7 +9,7 @@ use crate::counted::Counted;
 use crate::ends::SessionEnd;
 use crate::replying::{LinesEnd, serve_lines};
 use std::io::Write;
-use wire::{LineFault, Splitter};
+use stream_lines::{LineFault, Splitter};
 
 /// How many bytes are read at once at most.
 pub(crate) const PIECE: usize = 4_096;

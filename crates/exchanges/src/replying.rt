@@ -9,9 +9,10 @@ use crate::answerer::Answerer;
 use crate::counted::Counted;
 use crate::writing::write_all;
 use std::io::Write;
+use stream_lines::Line;
 use units::NoMemory;
 use units::refusal_code::NODE_STOPPED;
-use wire::{Line, Reply};
+use wire::Reply;
 
 /// How the replies to some lines ended.
 #[derive(Clone, Copy, Debug, PartialEq, Eq)]

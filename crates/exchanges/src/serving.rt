@@ -9,8 +9,8 @@ use crate::replying::REPLY_LINE;
 use crate::writing::MOST_INTERRUPTIONS;
 use std::alloc::Global;
 use std::io::{Read, Write};
+use stream_lines::Splitter;
 use units::limits::LONGEST_LINE;
-use wire::Splitter;
 
 /// How often a session reads at most.
 const MOST_READS: usize = 1_000_000;

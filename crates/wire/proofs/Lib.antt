@@ -1,5 +1,3 @@
-pub mod Streams
-pub mod Pieces
 pub mod Items
 pub mod Told
 pub mod OneMessage

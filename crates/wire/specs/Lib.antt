@@ -1,6 +1,3 @@
-pub mod Held
-pub mod Lines
-pub mod Splitting
 pub mod Codes
 pub mod NotifiedStatuses
 pub mod Objects

@@ -3,7 +3,6 @@
 
 mod codes;
 mod input;
-mod lines;
 mod lists;
 mod members;
 mod message;
@@ -20,12 +19,12 @@ mod writing_records;
 pub use codes::{AcquirerCodes, LogCodes};
 pub use fields::ReadFault;
 pub use input::{Input, Number};
-pub use lines::{Line, LineFault, Splitter, Truncated, cuts};
 pub use message::{Message, Notification, Proposal, ProposalStatus, Request};
 pub use notified::NotifiedStatus;
 pub use reading::{decode, one_message};
 pub use reading_records::{decode_input, one_input};
 pub use reply::{Reply, ReplyFault, one_reply};
 pub use reply_code::ReplyCode;
+pub use stream_lines::{Line, LineFault, Splitter, Truncated, cuts};
 pub use writing::encode;
 pub use writing_records::encode_input;

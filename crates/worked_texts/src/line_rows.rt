@@ -1,7 +1,7 @@
 use crate::message_rows::{NOTIFICATION, PROPOSAL, REQUEST, assert_written};
 use std::alloc::{AllocError, Global};
 use std::process::Abort;
-use wire::{Line, LineFault, Splitter, Truncated};
+use stream_lines::{Line, LineFault, Splitter, Truncated};
 
 const LIMIT: usize = 8192;
 

@@ -1,11 +1,11 @@
 use Rattle.std.proofs.Common.{◌≡◌, ◌≤◌, ◌++◌, ℕ, List, length, arith, sym, ap, subst, ◌∙◌}
 use Rattle.units.specs.Limits.{longest_line}
-use Rattle.wire.specs.Held.{Held}
-use Rattle.wire.specs.Lines.{Splits, IsOver}
-use Rattle.wire.specs.Splitting.{Faults}
-use Rattle.wire.specs.declared.lines.Line.{Line}
-use Rattle.wire.specs.declared.lines.LineFault.{LineFault}
-use Rattle.wire.specs.declared.lines.LineFault.TheVariants as faults
+use Rattle.stream_lines.specs.Held.{Held}
+use Rattle.stream_lines.specs.Lines.{Splits, IsOver}
+use Rattle.stream_lines.specs.Splitting.{Faults}
+use Rattle.stream_lines.specs.declared.splitter.Line.{Line}
+use Rattle.stream_lines.specs.declared.splitter.LineFault.{LineFault}
+use Rattle.stream_lines.specs.declared.splitter.LineFault.TheVariants as faults
 use Rattle.exchanges.specs.Pieces.{open_with, most_lines}
 use Rattle.exchanges.specs.declared.pieces.PieceEnd.TheVariants.{Replied, TooLong}
 use Rattle.exchanges.proofs.Cuts.{few_lines, piece_ends, piece_replied, piece_too_long, small_end}

@@ -1,6 +1,6 @@
 use Rattle.std.proofs.Common.{◌<◌, ◌≤◌, ◌+◌, ◌-◌, vec_len, vec_capacity}
 use Rattle.units.specs.Limits.{longest_line}
-use Rattle.wire.specs.Lines.{HasNoNewline}
+use Rattle.stream_lines.specs.Lines.{HasNoNewline}
 use Rattle.exchanges.specs.Calls.{GoesOn}
 use Rattle.exchanges.specs.Counts.{most_interruptions}
 use Rattle.exchanges.specs.Streams.{Takes}

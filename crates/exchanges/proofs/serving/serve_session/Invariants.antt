@@ -1,6 +1,6 @@
 use Rattle.std.proofs.Common.{◌≡◌, ◌<◌, ◌≤◌, ◌*◌, ◌-◌}
 use Rattle.units.specs.Limits.{longest_line}
-use Rattle.wire.specs.Lines.{IsWithin}
+use Rattle.stream_lines.specs.Lines.{IsWithin}
 use Rattle.exchanges.specs.Calls.{GoesOn}
 use Rattle.exchanges.specs.Counts.{GoesUp, most_interruptions}
 use Rattle.exchanges.specs.Pieces.{open_with}

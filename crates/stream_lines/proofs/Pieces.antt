@@ -1,8 +1,8 @@
 -- A stream in pieces and as one: the same lines, and one way only to have them.
 use Rattle.std.proofs.Common.{◌≡◌, ◌≢◌, ℕ, zero, suc, ◌+◌, ◌≤◌, List, [], ◌∷◌, ◌++◌, length, take, refl, sym, ap, subst, ◌∙◌, arith}
 use Rattle.std.specs.List.{AllByRecursion}
-use Rattle.wire.specs.Lines.{stream_of, HasNoNewline, IsWithin, Splits, IsOver}
-use Rattle.wire.proofs.Streams.{stream_append}
+use Rattle.stream_lines.specs.Lines.{stream_of, HasNoNewline, IsWithin, Splits, IsOver}
+use Rattle.stream_lines.proofs.Streams.{stream_append}
 
 stream_join : (ls ms : List (List ℕ)) (rest : List ℕ) → stream_of (ls ++ ms) rest ≡ stream_of ls (stream_of ms rest)
 stream_join [] ms rest = refl

@@ -1,6 +1,6 @@
 use Rattle.std.proofs.Common.{◌++◌, take}
-use Rattle.wire.specs.Lines.{Splits}
-use Rattle.wire.proofs.lines.cut_lines.Given as goal
+use Rattle.stream_lines.specs.Lines.{Splits}
+use Rattle.stream_lines.proofs.splitter.cut_lines.Given as goal
 
 abbrev pub invariant-loop-byte : goal.invariant-loop-byte
 invariant-loop-byte l = Splits l.limit (l.held ++ take l.byte-index l.piece) l.lines.items l.line.items

@@ -1,12 +1,12 @@
 -- What a splitter keeps, and what it returns.
 use Rattle.std.specs.Prelude.{◌≡◌, ℕ, List, ◌++◌, true, false, Result, Ok, Err}
-use Rattle.wire.specs.Lines.{Splits, IsOver}
-use Rattle.wire.specs.declared.lines.Line.{Line}
-use Rattle.wire.specs.declared.lines.LineFault.{LineFault}
-use Rattle.wire.specs.declared.lines.LineFault.TheVariants.{TooLong, Closed, NoMemory}
-use Rattle.wire.specs.declared.lines.Cut.{Cut}
-use Rattle.wire.specs.declared.lines.Cut.TheVariants.{Whole, Over}
-use Rattle.wire.specs.Held.{Held}
+use Rattle.stream_lines.specs.Lines.{Splits, IsOver}
+use Rattle.stream_lines.specs.declared.splitter.Line.{Line}
+use Rattle.stream_lines.specs.declared.splitter.LineFault.{LineFault}
+use Rattle.stream_lines.specs.declared.splitter.LineFault.TheVariants.{TooLong, Closed, NoMemory}
+use Rattle.stream_lines.specs.declared.splitter.Cut.{Cut}
+use Rattle.stream_lines.specs.declared.splitter.Cut.TheVariants.{Whole, Over}
+use Rattle.stream_lines.specs.Held.{Held}
 
 -- why a piece wasn't taken, and what that leaves
 abbrev pub Faults : Held → Held → List ℕ → LineFault → Type 0

@@ -1,7 +1,7 @@
 //! A stream's lines, each ended by a newline (byte 10), whatever pieces the stream comes in.
 ghost use Rattle.std.specs.Prelude.{◌≡◌, ◌↔◌, ℕ, List, [], ◌++◌, IsTrue, is_ok, IfOk, true, false};
-ghost use Rattle.wire.specs.Lines.{IsWithin, Splits, IsOver};
-ghost use Rattle.wire.specs.Splitting.{IsCut, Feeds};
+ghost use Rattle.stream_lines.specs.Lines.{IsWithin, Splits, IsOver};
+ghost use Rattle.stream_lines.specs.Splitting.{IsCut, Feeds};
 
 use bytes::BytesMut;
 use std::alloc::{AllocError, Global};
@@ -92,8 +92,8 @@ pub struct Splitter {
 }
 
 impl Model for Splitter {
-    ghost use Rattle.wire.specs.Held.{Held};
-    ghost use Rattle.wire.specs.Lines.{IsWithin};
+    ghost use Rattle.stream_lines.specs.Held.{Held};
+    ghost use Rattle.stream_lines.specs.Lines.{IsWithin};
 
     ghost Value = { Held };
 

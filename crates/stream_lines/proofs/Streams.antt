@@ -2,7 +2,7 @@
 use Rattle.std.proofs.Common.{◌≡◌, ◌≢◌, ℕ, ◌+◌, ◌<◌, ◌≤◌, List, [], ◌∷◌, ◌++◌, length, get_or, take, drop, refl, sym, ap, subst, ◌∙◌, arith, append_assoc, length-append}
 use Rattle.std.proofs.lemmas.List.{take_more, drop_more, take-append-drop, take_at}
 use Rattle.std.specs.List.{AllByRecursion}
-use Rattle.wire.specs.Lines.{stream_of, HasNoNewline, IsWithin, Splits, IsOver}
+use Rattle.stream_lines.specs.Lines.{stream_of, HasNoNewline, IsWithin, Splits, IsOver}
 
 pub stream_append : (ls : List (List ℕ)) (rest xs : List ℕ) → stream_of ls (rest ++ xs) ≡ stream_of ls rest ++ xs
 stream_append [] rest xs = refl

@@ -1,7 +1,7 @@
 use Rattle.std.proofs.Common.{◌<◌, length, arith}
-use Rattle.wire.proofs.Streams.{ends_line, goes_on, is_over}
-use Rattle.wire.proofs.lines.cut_lines.Goals as goal
-use Rattle.wire.proofs.lines.cut_lines.Goals.{then-byte-eq10+in_ok-push, else-byte-eq10+then-len-limit+in_ok-push-2}
+use Rattle.stream_lines.proofs.Streams.{ends_line, goes_on, is_over}
+use Rattle.stream_lines.proofs.splitter.cut_lines.Goals as goal
+use Rattle.stream_lines.proofs.splitter.cut_lines.Goals.{then-byte-eq10+in_ok-push, else-byte-eq10+then-len-limit+in_ok-push-2}
 
 pub returns-else-len-limit : goal.returns-else-len-limit
 returns-else-len-limit c =

@@ -1,5 +1,5 @@
-use Rattle.wire.proofs.Pieces.{joined, joined_over, one_split, one_over, not_both}
-use Rattle.wire.proofs.lines.cuts.Goals as goal
+use Rattle.stream_lines.proofs.Pieces.{joined, joined_over, one_split, one_over, not_both}
+use Rattle.stream_lines.proofs.splitter.cuts.Goals as goal
 
 pub returns-clause-joined : goal.returns-clause-joined
 returns-clause-joined c = joined

@@ -3,6 +3,7 @@ use Rattle.std.specs.Prelude.{◌≡◌, ◌≢◌, ◌<◌, ℕ, Bool, false, L
 use Rattle.units.specs.declared.code.Node.{Node}
 use Rattle.wire.specs.declared.input.Input.{Input}
 use Rattle.scheme.specs.declared.registries.Scheme.{Scheme}
+use Rattle.protocol.specs.Cores.{Replays}
 use Rattle.stores.specs.Records.{Places, AreRecords}
 use Rattle.stores.specs.declared.fault.StoreFault.{StoreFault}
 use Rattle.stores.specs.declared.fault.StoreFault.TheVariants as store_fault
@@ -24,7 +25,7 @@ module _ {S : Type 0} (is_honest : S → Type 0) (content : S → Places) (must_
 module _ {S : Type 0} (is_honest : S → Type 0) (content : S → Places) (may_hold : S → Places → Type 0) (must_reopen : S → Bool) where
   -- the node's store was read, its records are that journal, and the node records each after those before it
   abbrev pub IsLoadedAs : Scheme → Node → S → S → List Input → Type 0
-  IsLoadedAs scheme n old new journal = IsLoaded is_honest content may_hold must_reopen scheme n old new (Ok journal)
+  IsLoadedAs scheme n old new journal = Replays scheme n journal × IsLoaded is_honest content may_hold must_reopen scheme n old new (Ok journal)
 
   -- the stores of the first nodes were read, and their records are these journals
   abbrev pub AreLoadedTo : ℕ → Scheme → List Node → List S → List S → List (List Input) → Type 0

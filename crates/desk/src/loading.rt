@@ -2,6 +2,7 @@
 ghost use Rattle.std.specs.Prelude.{◌≡◌, ◌<◌, ◌^◌, [], false, true, length, take, drop, IfOk, Ok};
 ghost use Rattle.stores.specs.Calls.{Loads};
 ghost use Rattle.stores.specs.Faults.{faults_after};
+ghost use Rattle.protocol.specs.Cores.{Replays};
 ghost use Rattle.desk.specs.Loading.{IsLoaded, IsReadOn, IsReadTo, damage_of, journal_in};
 
 use crate::state::State;
@@ -84,6 +85,7 @@ impl<C: NodeCore> State<C> {
     ) -> Result<State<C>, StoreFault>
         requires { C.journal_of core ≡ [] }
         ensures state { IfOk result (λ s. s ≡ record { scheme = C.scheme_of core; node = C.node_of core; journal = s.journal; committed = length s.journal; opening = length s.journal; runs = true }) }
+        ensures replays { IfOk result (λ s. Replays s.scheme s.node s.journal) }
         ensures loaded { IsLoaded S.is_honest S.content S.may_hold S.must_reopen (C.scheme_of core) (C.node_of core) store.old store.new (journal_in result) }
         ensures faults { S.faults store.new ≡ faults_after (S.faults store.old) result }
         ensures whose { S.whose store.new ≡ S.whose store.old }

@@ -1,5 +1,6 @@
 //! A node's state.
 ghost use Rattle.std.specs.Prelude.{◌≡◌, ◌+◌, ◌<◌, ◌≤◌, [], true, false, length, take, slice_get, option_copied, option_map, None, Some, Ok, Err, IfOk, IfSome, MatchResult};
+ghost use Rattle.protocol.specs.Cores.{Replays};
 ghost use Rattle.protocol.specs.History.{is_acknowledged, sends};
 ghost use Rattle.protocol.specs.Unacknowledged.{IsLeastFrom, awaits};
 ghost use Rattle.units.specs.RefusalCodes.{out_of_memory};
@@ -120,11 +121,13 @@ pub(crate) fn tell(returned: Result<Stepped, Refusal>) -> Told
 }
 
 impl<C: NodeCore> State<C> {
-    /// A state that runs, in which the whole journal of the core is committed.
+    /// A state that runs, in which the whole journal of the core is committed. Each of its records is recorded at its
+    /// place after those before it.
     pub fn new(alloc: Global, core: C) -> State<C>
-        ensures { result ≡ record { scheme = C.scheme_of core; node = C.node_of core; journal = C.journal_of core; committed = length (C.journal_of core); opening = length (C.journal_of core); runs = true } }
+        ensures state { result ≡ record { scheme = C.scheme_of core; node = C.node_of core; journal = C.journal_of core; committed = length (C.journal_of core); opening = length (C.journal_of core); runs = true } }
+        ensures replays { Replays result.scheme result.node result.journal }
     {
-        let records = core.records();
+        let records = core.journal().len();
         State {
             alloc,
             core,

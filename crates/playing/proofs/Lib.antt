@@ -2,3 +2,4 @@ pub mod HeardLines
 pub mod Hearing
 pub mod Lines
 pub mod Places
+pub mod Wired

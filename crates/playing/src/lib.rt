@@ -5,6 +5,8 @@ mod answer;
 mod asking;
 mod playing;
 mod threads;
+mod wiring;
 
 pub use answer::{Answer, lines_of};
-pub use threads::{Ends, Network, Played, desks_of, nodes_to_run, run_and_play};
+pub use threads::{Ends, Loaded, Played, Run, run_and_play};
+pub use wiring::Network;

@@ -1,17 +1,18 @@
 //! The threads of all nodes, and the one that plays a script.
-ghost use Rattle.std.specs.Prelude.{◌≡◌, ◌<◌, ◌+◌, ◌++◌, ◌∷◌, [], length, vec_len, IfOk, OnOk};
+ghost use Rattle.std.specs.Prelude.{◌≡◌, length, vec_len, IfOk};
 ghost use Rattle.std.specs.Thread.{IsSync};
 ghost use Rattle.world.specs.Kept.{nodes};
 ghost use Rattle.playing.specs.Heard.{AreHeard};
 
 use crate::answer::Answer;
 use crate::playing::play_all;
+use crate::wiring::{Network, desks_of, nodes_to_run};
 use answers::Clock;
 use desk::{Bell, Desk, Gate, RoomBell, Seat, State};
 use node::Core;
 use scheme::Scheme;
 use scripts::ScriptLine;
-use sessions::{Dial, Listen, NodeEnd, NodeParts, NodeToRun, run_all};
+use sessions::{Dial, Listen, NodeEnd, NodeToRun, run_all};
 use std::alloc::Global;
 use std::rt::Clock as SystemClock;
 use std::sync::Wait;
@@ -19,15 +20,14 @@ use std::thread;
 use std::thread::Threads;
 use stores::NodeStore;
 use units::{NoMemory, Node};
+use weave::nodes_of;
 
-/// How the nodes of a run meet: what accepts each node's connections, in the order of the nodes; what makes
-/// connections; the clock of all; and the gate that their job workers pass.
-#[derive(Clone, Copy)]
-pub struct Network<'a, L, D, K, G> {
-    pub listeners: &'a [L],
-    pub dial: &'a D,
-    pub clock: &'a K,
-    pub gate: &'a G,
+/// The states of all nodes, and the stores that they were loaded from: those of the log, and then those of the
+/// registries in the scheme's order.
+#[derive(Drop)]
+pub struct Loaded<S> {
+    pub states: Vec<State<Core>>,
+    pub stores: Vec<S>,
 }
 
 /// How the nodes' threads ended, in the order of the nodes: for each its seats, its store and the fault of that, or that
@@ -41,76 +41,13 @@ pub struct Played {
     pub answers: Vec<Answer>,
 }
 
-fn push_desk(
-    desks: &mut Vec<Desk<Core, RoomBell>>,
-    desk: Desk<Core, RoomBell>,
-) -> Result<(), NoMemory>
-    ensures { OnOk result (length desks.new.items ≡ length desks.old.items + 1) }
-{
-    desks.push(desk)?;
-    Ok(())
-}
-
-/// A desk for each state.
-///
-/// # Errors
-///
-/// Fails with `NoMemory` where memory ran out.
-pub fn desks_of(
-    alloc: Global,
-    states: Vec<State<Core>>,
-) -> Result<Vec<Desk<Core, RoomBell>>, NoMemory>
-    ensures { IfOk result (λ v. vec_len v ≡ vec_len states) }
-{
-    let mut desks = Vec::new(alloc);
-    for state in states {
-        push_desk(&mut desks, Desk::new(state, RoomBell::new()))?;
-    }
-    Ok(desks)
-}
-
-/// The nodes that the node at that place sends to: the log sends to all registries, and a registry to the log.
-fn peers_of(names: &[Node], at: usize) -> &[Node]
-    requires { 0 < length names.now }
-{
-    if at == 0 { &names[1..] } else { &names[..1] }
-}
-
-/// The nodes with their stores, to run: each with its desk and its listener.
-///
-/// # Errors
-///
-/// Fails with `NoMemory` where memory ran out.
-pub fn nodes_to_run<'a, S, L, D, K, G>(
-    alloc: Global,
-    names: &'a [Node],
-    desks: &'a [Desk<Core, RoomBell>],
-    network: &Network<'a, L, D, K, G>,
-    stores: Vec<S>,
-) -> Result<Vec<NodeToRun<'a, Core, RoomBell, L, D, K, G, S>>, NoMemory>
-where
-    S: NodeStore + Drop,
-    requires desks { length desks.now ≡ length names.now }
-    requires listeners { length network.now.listeners.now ≡ length names.now }
-    requires stores { vec_len stores ≡ length names.now }
-    ensures { IfOk result (λ v. vec_len v ≡ length names.now) }
-{
-    let mut nodes = Vec::with_capacity(alloc, names.len())?;
-    let mut at = 0;
-    for store in stores {
-        let parts = NodeParts {
-            node: names[at],
-            desk: &desks[at],
-            listen: &network.listeners[at],
-            dial: network.dial,
-            peers: peers_of(names, at),
-            clock: network.clock,
-            gate: network.gate,
-        };
-        nodes.push(NodeToRun { parts, store })?;
-        at += 1;
-    }
-    Ok(nodes)
+/// What a run left: the desks of all nodes, how their threads ended, and what the script came to, or that memory ran out
+/// for its answers.
+#[derive(Drop)]
+pub struct Run<S> {
+    pub desks: Vec<Desk<Core, RoomBell>>,
+    pub ends: Ends<S>,
+    pub played: Result<Played, NoMemory>,
 }
 
 /// All desks stop.
@@ -188,15 +125,9 @@ fn play_and_stop<R: Wait + SystemClock>(
     played
 }
 
-/// Runs the nodes in threads of their own while the script's lines are ordered and asked one after another; then stops
-/// all nodes, and returns once their threads have ended. Each order and each question is answered once all records are
-/// committed that the node's journal had then.
-///
-/// # Errors
-///
-/// The first result is `NoMemory` where memory for the threads ran out, and the second where memory for the answers
-/// did. All nodes have stopped in any case.
-pub fn run_and_play<S, L, D, K, G, R>(
+/// Runs the nodes in threads of their own while the script is played, and then stops all nodes. The first result is
+/// `NoMemory` where memory for the threads ran out, and the second where memory for the answers did.
+fn run_beside_script<S, L, D, K, G, R>(
     rt: &R,
     alloc: Global,
     scheme: &Scheme,
@@ -228,4 +159,86 @@ where
             ensures seats { IfOk result (λ p. vec_len p.seats ≡ length (nodes scheme.entry.now)) }
         { play_and_stop(rt, alloc, scheme, desks, lines) },
     )
+}
+
+/// All nodes, the log and then the registries in the scheme's order, and the desk of each.
+#[derive(Drop)]
+struct NodesAtDesks {
+    nodes: Vec<Node>,
+    desks: Vec<Desk<Core, RoomBell>>,
+}
+
+/// Runs the nodes in threads of their own while the script is played, each with the store at its place, as
+/// `run_beside_script` does.
+fn run_wired<'a, S, L, D, K, G, R>(
+    rt: &R,
+    alloc: Global,
+    scheme: &Scheme,
+    lines: &[ScriptLine],
+    all: &'a NodesAtDesks,
+    stores: Vec<S>,
+    network: &Network<'a, L, D, K, G>,
+) -> Result<(Ends<S>, Result<Played, NoMemory>), NoMemory>
+where
+    S: NodeStore + Send + Drop,
+    L: Listen + Sync,
+    D: Dial + Sync,
+    K: Clock + Sync,
+    G: Gate + Sync,
+    R: Threads + Wait + SystemClock + Sync,
+    requires names { all.now.nodes.items ≡ nodes scheme.now }
+    requires desks { vec_len all.now.desks ≡ length (nodes scheme.now) }
+    requires stores { vec_len stores ≡ length (nodes scheme.now) }
+    requires listeners { length network.now.listeners.now ≡ length (nodes scheme.now) }
+    ensures ends { IfOk result (λ r. IfOk r.0 (λ v. vec_len v ≡ length (nodes scheme.now))) }
+    ensures heard { IfOk result (λ r. IfOk r.1 (λ p. AreHeard scheme.now p.seats.items lines.now p.answers.items)) }
+    ensures seats { IfOk result (λ r. IfOk r.1 (λ p. vec_len p.seats ≡ length (nodes scheme.now))) }
+{
+    let desks = all.desks.as_slice();
+    let nodes = nodes_to_run(alloc, all.nodes.as_slice(), desks, network, stores)?;
+    Ok(run_beside_script(rt, alloc, scheme, desks, lines, nodes))
+}
+
+/// Makes a desk of each node's state, and runs the nodes in threads of their own while the script's lines are ordered
+/// and asked one after another; then stops all nodes, and returns once their threads have ended. Each order and each
+/// question is answered once all records are committed that the node's journal had then.
+///
+/// # Errors
+///
+/// Fails with `NoMemory` where memory ran out before a thread was started. In what it returns `ends` is `NoMemory` where
+/// memory for the threads ran out, and `played` where memory for the answers did. All nodes have stopped in any case.
+pub fn run_and_play<S, L, D, K, G, R>(
+    rt: &R,
+    alloc: Global,
+    scheme: &Scheme,
+    lines: &[ScriptLine],
+    loaded: Loaded<S>,
+    network: &Network<'_, L, D, K, G>,
+) -> Result<Run<S>, NoMemory>
+where
+    S: NodeStore + Send + Drop,
+    L: Listen + Sync,
+    D: Dial + Sync,
+    K: Clock + Sync,
+    G: Gate + Sync,
+    R: Threads + Wait + SystemClock + Sync,
+    requires states { vec_len loaded.states ≡ length (nodes scheme.now) }
+    requires stores { vec_len loaded.stores ≡ length (nodes scheme.now) }
+    requires listeners { length network.now.listeners.now ≡ length (nodes scheme.now) }
+    ensures desks { IfOk result (λ r. vec_len r.desks ≡ length (nodes scheme.now)) }
+    ensures ends { IfOk result (λ r. IfOk r.ends (λ v. vec_len v ≡ length (nodes scheme.now))) }
+    ensures heard { IfOk result (λ r. IfOk r.played (λ p. AreHeard scheme.now p.seats.items lines.now p.answers.items)) }
+    ensures seats { IfOk result (λ r. IfOk r.played (λ p. vec_len p.seats ≡ length (nodes scheme.now))) }
+{
+    let Loaded { states, stores } = loaded;
+    let all = NodesAtDesks {
+        nodes: nodes_of(alloc, scheme)?,
+        desks: desks_of(alloc, states)?,
+    };
+    let (ends, played) = run_wired(rt, alloc, scheme, lines, &all, stores, network)?;
+    Ok(Run {
+        desks: all.desks,
+        ends,
+        played,
+    })
 }

@@ -5,5 +5,6 @@ mod gathering;
 mod reporting;
 mod running;
 
+pub use playing::{Loaded, Network};
 pub use reporting::report_run;
-pub use running::{Loaded, run_script};
+pub use running::run_script;

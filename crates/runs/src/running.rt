@@ -12,10 +12,10 @@ ghost use Rattle.playing.specs.declared.answer.Answer.{Answer as AnAnswer};
 use crate::gathering::{gather, states_of};
 use crate::reporting::report_of;
 use answers::Clock;
-use desk::{Desk, Gate, RoomBell, Seat, State};
+use desk::{Desk, Gate, RoomBell, Seat};
 use inputs::{OpFault, store_fault, write_out};
 use node::Core;
-use playing::{Ends, Network, Played, desks_of, lines_of, nodes_to_run, run_and_play};
+use playing::{Ends, Loaded, Network, Played, Run, lines_of, run_and_play};
 use scheme::Scheme;
 use scripts::ScriptLine;
 use sessions::{Dial, Listen};
@@ -27,14 +27,6 @@ use std::thread::Threads;
 use stores::{NodeStore, StoreFault};
 use units::{NoMemory, Node};
 use weave::nodes_of;
-
-/// The states of all nodes, and the stores that they were loaded from: those of the log, and then those of the
-/// registries in the scheme's order.
-#[derive(Drop)]
-pub struct Loaded<S> {
-    pub states: Vec<State<Core>>,
-    pub stores: Vec<S>,
-}
 
 /// Fails with the first fault of a store, where there is one.
 fn check_stores(names: &[Node], faults: &[Option<StoreFault>]) -> Result<(), OpFault>
@@ -151,10 +143,10 @@ where
     ensures ok { OnOk result ((text : List ℕ) × IsRunReport scheme.now lines.now text × Appends (W.contents writer.old) (W.contents writer.new) text) }
     ensures err { IfErr result (λ e. FailsToRun e scheme.now lines.now (W.contents writer.old) (W.contents writer.new)) }
 {
-    let Loaded { states, stores } = loaded;
-    let names = nodes_of(alloc, scheme)?;
-    let desks = desks_of(alloc, states)?;
-    let nodes = nodes_to_run(alloc, names.as_slice(), desks.as_slice(), network, stores)?;
-    let (ends, played) = run_and_play(rt, alloc, scheme, desks.as_slice(), lines, nodes);
+    let Run {
+        desks,
+        ends,
+        played,
+    } = run_and_play(rt, alloc, scheme, lines, loaded, network)?;
     write_run(alloc, scheme, desks, ends, played?, lines, writer)
 }

@@ -1,0 +1,33 @@
+-- Which nodes send to which; lists that grow by an element, seen by a part of each.
+use Rattle.std.proofs.Common.{◌≡◌, ℕ, zero, suc, ◌+◌, ◌<◌, List, [], ◌∷◌, ◌++◌, length, take, drop, map, get_or, refl, ap, sym, ◌∙◌, arith, append_assoc, length-append}
+use Rattle.std.specs.Prelude.{slice_get, Some}
+use Rattle.std.proofs.lemmas.List.{map-append, take_more}
+use Rattle.units.specs.declared.code.Node.{Node}
+use Rattle.playing.specs.Wiring.{peers_of}
+
+pub log_peers : (names : List Node) → 0 < length names → slice_get (peers_of names) 0 ≡ Some (drop 1 names)
+log_peers [] low = absurd (omega (arith, low))
+log_peers (log ∷ registries) low = refl
+
+each_log : (log : Node) (registries : List Node) (k : ℕ) → k < length registries → slice_get (map (λ r. log ∷ []) registries) k ≡ Some (log ∷ [])
+each_log log [] k low = absurd (omega (arith, low))
+each_log log (r ∷ rs) zero low = refl
+each_log log (r ∷ rs) (suc k) low = each_log log rs k (omega (arith, low))
+
+pub registry_peers : (names : List Node) (at : ℕ) → 0 < at → at < length names → slice_get (peers_of names) at ≡ Some (take 1 names)
+registry_peers [] at above low = absurd (omega (arith, low))
+registry_peers (log ∷ registries) zero above low = absurd (omega (arith, above))
+registry_peers (log ∷ registries) (suc k) above low = each_log log registries k (omega (arith, low))
+
+-- one element more, whose part is the next of the list
+pub part_more : {X Y : Type 0} (f : X → Y) (xs : List X) (x : X) (zs : List X) (ys : List Y) (k : ℕ) → zs ≡ xs ++ x ∷ [] → k < length ys → map f xs ≡ take k ys → f x ≡ get_or ys k (f x) → map f zs ≡ take (k + 1) ys
+part_more f xs x zs ys k more low same item =
+    ap (map f) more ∙ map-append f xs (x ∷ []) ∙ ap (λ t. t ++ f x ∷ []) same ∙ ap (λ y. take k ys ++ y ∷ []) item ∙ sym (take_more ys k (f x) low)
+
+-- one element more, whose part is the first of what is left
+pub part_moved : {X Y : Type 0} (f : X → Y) (xs : List X) (x : X) (zs : List X) (rest ys : List Y) → zs ≡ xs ++ x ∷ [] → map f xs ++ f x ∷ rest ≡ ys → map f zs ++ rest ≡ ys
+part_moved f xs x zs rest ys more same = ap (λ t. map f t ++ rest) more ∙ ap (λ t. t ++ rest) (map-append f xs (x ∷ [])) ∙ append_assoc (map f xs) (f x ∷ []) rest ∙ same
+
+-- as many
+pub pushed_count : {X : Type 0} (xs : List X) (x : X) (zs : List X) (k : ℕ) → zs ≡ xs ++ x ∷ [] → length xs ≡ k → length zs ≡ k + 1
+pushed_count xs x zs k more same = ap (λ l. length l) more ∙ length-append xs (x ∷ []) ∙ ap (λ n. n + 1) same

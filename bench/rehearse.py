@@ -136,20 +136,31 @@ def check_output(path, name, events):
             sys.exit(f"{name}: the output has no end")
 
 
-def measure(name, lines_of, largest, runs, room):
-    """Prints a line for each size of a load, and returns whether it keeps the limits."""
-    kept, before = True, None
-    given, taken = room / "input", room / "output"
+def inputs_of(name, lines_of, largest, room):
+    """The three sizes of a load, each with the file of its input, which is run once for a look at its output."""
+    inputs, taken = [], room / "output"
     for size in (largest // 4, largest // 2, largest):
+        given = room / f"input-{size}"
         count = write_lines(given, lines_of(size))
         length = given.stat().st_size
         if length > LONGEST_INPUT:
             sys.exit(f"{name}: an input of {length:,} bytes is too long")
         run([PROGRAM, "rehearse"], given, taken)
         check_output(taken, name, count - 1)
-        measured = [run([PROGRAM, "rehearse"], given, taken) for _ in range(runs)]
-        best = min(spent for spent, _ in measured)
-        memory = max(peak for _, peak in measured) / length
+        inputs.append((size, given))
+    return inputs
+
+
+def measure(name, lines_of, largest, runs, room):
+    """Prints a line for each size of a load, and returns whether it keeps the limits. The sizes take turns, so that a slow moment
+    of the machine doesn't fall on one of them alone."""
+    kept, before, taken = True, None, room / "output"
+    inputs = inputs_of(name, lines_of, largest, room)
+    measured = [[run([PROGRAM, "rehearse"], given, taken) for _, given in inputs] for _ in range(runs)]
+    for (size, given), of_size in zip(inputs, zip(*measured)):
+        length = given.stat().st_size
+        best = min(spent for spent, _ in of_size)
+        memory = max(peak for _, peak in of_size) / length
         kept = kept and memory <= MOST_TIMES_BYTES
         text = f"{name:<32} {size:>8,}  {length:>10,} bytes  {best:8.3f} s  memory {memory:5.1f}"
         if before is not None:

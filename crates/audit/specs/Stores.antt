@@ -1,10 +1,10 @@
 -- The stores of all nodes, read.
-use Rattle.std.specs.Prelude.{◌≡◌, ◌≢◌, ◌<◌, ℕ, Bool, false, List, Result, Ok, Err, Some, length, slice_get}
+use Rattle.std.specs.Prelude.{◌≡◌, ◌≢◌, ◌<◌, ℕ, Bool, false, List, Ok, Err, Some, length, slice_get}
 use Rattle.units.specs.declared.code.Node.{Node}
 use Rattle.wire.specs.declared.input.Input.{Input}
 use Rattle.scheme.specs.declared.registries.Scheme.{Scheme}
 use Rattle.protocol.specs.Cores.{Replays}
-use Rattle.stores.specs.Records.{Places, AreRecords}
+use Rattle.stores.specs.Records.{Places}
 use Rattle.stores.specs.declared.fault.StoreFault.{StoreFault}
 use Rattle.stores.specs.declared.fault.StoreFault.TheVariants as store_fault
 use Rattle.desk.specs.Loading.{IsLoaded}

@@ -1,14 +1,17 @@
 //! The table of one run that leads to the records of all stores.
-ghost use Rattle.std.specs.Prelude.{◌≡◌, ◌≤◌, ℕ, List, IfErr, IfOk, OnOk, length, map, string_bytes};
+ghost use Rattle.std.specs.Prelude.{◌≡◌, ◌≤◌, ℕ, All, List, IfErr, IfOk, OnOk, length, map, string_bytes};
 ghost use Rattle.std.specs.Io.KnownBytes.{Appends};
 ghost use Rattle.audit.specs.Audits.{Audits, FailsToAudit, FailsToWeave, IsAuditTable, of_weaving};
 ghost use Rattle.audit.specs.Stores.{AreKept, AreLoaded, FailsToLoad};
 ghost use Rattle.desk.specs.Views.{committed_records};
+ghost use Rattle.node.specs.Cores as node_cores;
+ghost use Rattle.scheme.specs.declared.registries.Scheme.{Scheme};
+ghost use Rattle.weave.specs.Following.{IsWeaveFault, IsWoven, journal_of};
 ghost use Rattle.wire.specs.declared.input.Input.{Input};
 ghost use Rattle.world.specs.Kept.{nodes};
 
 use crate::journals::journals_of;
-use crate::loading::{load_all, load_watched};
+use crate::loading::load_cores;
 use desk::State;
 use inputs::{OpFault, write_out};
 use node::Core;
@@ -18,7 +21,7 @@ use std::io::Write;
 use stores::NodeStore;
 use tables::push_table;
 use totals::tonnes_add_up;
-use weave::{Nobody, Watch, WeaveFault, weave_watched};
+use weave::{Nobody, Watch, WeaveFault, Woven, weave, weave_cores};
 
 /// What a fault of weaving is to the command.
 fn fault_of(fault: WeaveFault) -> OpFault
@@ -27,6 +30,22 @@ fn fault_of(fault: WeaveFault) -> OpFault
     match fault {
         WeaveFault::Stuck { node, place } => OpFault::Stuck { node, place },
         WeaveFault::NoMemory => OpFault::NoMemory,
+    }
+}
+
+/// The table of what was woven, or what its fault is to the command.
+fn table_of_woven(alloc: Global, woven: Result<Woven, WeaveFault>) -> Result<String, OpFault>
+    ensures ok { (scheme : Scheme) (journals : List (List Input)) → IfOk woven (λ w. IsWoven scheme (journal_of scheme journals) w.events.items w.world) → IfOk result (λ s. IsAuditTable scheme journals (string_bytes s)) }
+    ensures err { (scheme : Scheme) (journals : List (List Input)) → IfErr woven (IsWeaveFault scheme (journal_of scheme journals)) → IfErr result (FailsToWeave scheme journals) }
+{
+    match woven {
+        Ok(woven) => {
+            let mut text = String::new(alloc);
+            tonnes_add_up();
+            push_table(alloc, &mut text, &woven.world)?;
+            Ok(text)
+        }
+        Err(fault) => Err(fault_of(fault)),
     }
 }
 
@@ -41,29 +60,24 @@ pub fn table_of(alloc: Global, scheme: &Scheme, states: &[State<Core>]) -> Resul
     ensures ok { IfOk result (λ s. IsAuditTable scheme.now (map committed_records states.now) (string_bytes s)) }
     ensures err { IfErr result (FailsToWeave scheme.now (map committed_records states.now)) }
 {
-    table_watched(alloc, scheme, states, &mut Nobody)
+    let journals = journals_of(alloc, states)?;
+    table_of_woven(alloc, weave(alloc, scheme, journals.as_slice()))
 }
 
-/// As `table_of`, and tells of each record that is woven.
-fn table_watched<P: Watch>(
+/// The table of a run that leads to the records of these cores, one for each node: the log's, then those of the
+/// registries in the scheme's order. Tells of each record that is woven.
+fn table_of_cores<P: Watch>(
     alloc: Global,
     scheme: &Scheme,
-    states: &[State<Core>],
+    cores: Vec<Core>,
     watch: &mut P,
 ) -> Result<String, OpFault>
-    requires { length states.now ≡ length (nodes scheme.now) }
-    ensures ok { IfOk result (λ s. IsAuditTable scheme.now (map committed_records states.now) (string_bytes s)) }
-    ensures err { IfErr result (FailsToWeave scheme.now (map committed_records states.now)) }
+    requires nodes { map node_cores.node_of cores.items ≡ nodes scheme.now }
+    requires schemes { All (λ core. node_cores.scheme_of core ≡ scheme.now) cores.items }
+    ensures ok { IfOk result (λ s. IsAuditTable scheme.now (map node_cores.journal_of cores.items) (string_bytes s)) }
+    ensures err { IfErr result (FailsToWeave scheme.now (map node_cores.journal_of cores.items)) }
 {
-    let journals = journals_of(alloc, states)?;
-    let woven = match weave_watched(alloc, scheme, journals.as_slice(), watch) {
-        Ok(woven) => woven,
-        Err(fault) => return Err(fault_of(fault)),
-    };
-    let mut text = String::new(alloc);
-    tonnes_add_up();
-    push_table(alloc, &mut text, &woven.world)?;
-    Ok(text)
+    table_of_woven(alloc, weave_cores(alloc, scheme, cores, watch))
 }
 
 /// Reads the stores of the first nodes: the log's, then those of the registries in the scheme's order. So a fault of
@@ -83,7 +97,7 @@ pub fn read_first<S: NodeStore>(
     ensures err { IfErr result (FailsToLoad S.is_honest S.content S.may_hold S.must_reopen scheme.now (nodes scheme.now) stores.old stores.new) }
     ensures kept { AreKept S.is_honest S.content S.must_reopen stores.old stores.new }
 {
-    let _states = load_all(alloc, scheme, stores)?;
+    let _cores = load_cores(alloc, scheme, stores, &mut Nobody)?;
     Ok(())
 }
 
@@ -133,8 +147,8 @@ pub fn audit_watched<S: NodeStore, W: Write, P: Watch>(
     ensures err { IfErr result (λ e. FailsToAudit S.is_honest S.content S.may_hold S.must_reopen e scheme.now stores.old stores.new (W.contents writer.old) (W.contents writer.new)) }
     ensures kept { AreKept S.is_honest S.content S.must_reopen stores.old stores.new }
 {
-    let states = load_watched(alloc, scheme, stores, watch)?;
-    let table = table_watched(alloc, scheme, states.as_slice(), watch)?;
+    let cores = load_cores(alloc, scheme, stores, watch)?;
+    let table = table_of_cores(alloc, scheme, cores, watch)?;
     watch.finished();
     write_out(writer, table.as_str())
 }

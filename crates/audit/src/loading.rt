@@ -1,42 +1,91 @@
-//! The states that the records of all nodes' stores lead to.
-ghost use Rattle.std.specs.Prelude.{◌≡◌, ◌≤◌, ◌++◌, ◌∷◌, [], IfErr, IfOk, OnOk, length, map};
+//! The cores that the records of all nodes' stores lead to, and states of them.
+ghost use Rattle.std.specs.Prelude.{◌≡◌, ◌≤◌, ◌++◌, ◌∷◌, [], All, IfErr, IfOk, OnOk, length, map, take};
 ghost use Rattle.audit.specs.Stores.{AreKept, AreLoaded, FailsToLoad, FailsToLoadAt, IsKept, IsLoadedAs};
 ghost use Rattle.desk.specs.Views.{committed_records};
+ghost use Rattle.node.specs.Cores.{journal_of, node_of, scheme_of};
 ghost use Rattle.world.specs.Kept.{nodes};
 
 use crate::journals::node_at;
 use desk::State;
 use inputs::{OpFault, store_fault};
 use node::Core;
+use protocol::NodeCore;
 use scheme::Scheme;
 use std::alloc::Global;
 use stores::NodeStore;
 use units::{NoMemory, Node};
 use weave::{Nobody, Watch};
 
-/// The state that the records of the node's store lead to.
+/// The core that the records of the node's store lead to.
 fn load_one<S: NodeStore>(
     alloc: Global,
     scheme: &Scheme,
     node: Node,
     store: &mut S,
-) -> Result<State<Core>, OpFault>
-    ensures ok { IfOk result (λ s. IsLoadedAs S.is_honest S.content S.may_hold S.must_reopen scheme.now node store.old store.new (committed_records s)) }
+) -> Result<Core, OpFault>
+    ensures ok { IfOk result (λ core. IsLoadedAs S.is_honest S.content S.may_hold S.must_reopen scheme.now node store.old store.new (journal_of core)) }
+    ensures scheme { IfOk result (λ core. scheme_of core ≡ scheme.now) }
+    ensures node { IfOk result (λ core. node_of core ≡ node) }
     ensures err { IfErr result (FailsToLoadAt S.is_honest S.content S.may_hold S.must_reopen scheme.now node store.old store.new) }
     ensures kept { IsKept S.is_honest S.content S.must_reopen store.old store.new }
 {
     let core = Core::new(alloc, scheme, node)?;
     match State::load_from(alloc, core, store) {
-        Ok(state) => Ok(state),
+        Ok(state) => Ok(state.into_core()),
         Err(fault) => Err(store_fault(node, fault)),
     }
 }
 
-fn push(states: &mut Vec<State<Core>>, state: State<Core>) -> Result<(), NoMemory>
-    ensures { OnOk result (states.new.items ≡ states.old.items ++ state ∷ []) }
+fn push(cores: &mut Vec<Core>, core: Core) -> Result<(), NoMemory>
+    ensures { OnOk result (cores.new.items ≡ cores.old.items ++ core ∷ []) }
 {
-    states.push(state)?;
+    cores.push(core)?;
     Ok(())
+}
+
+/// The cores that the records of the first nodes' stores lead to: the log's, then those of the registries in the
+/// scheme's order. Tells of each store's records once they are read.
+///
+/// # Errors
+///
+/// Fails with `Store` for the first of the stores that could not be read, or has a damaged record, as `audit` does, and
+/// with `NoMemory` where memory ran out.
+pub(crate) fn load_cores<S: NodeStore, P: Watch>(
+    alloc: Global,
+    scheme: &Scheme,
+    stores: &mut [S],
+    watch: &mut P,
+) -> Result<Vec<Core>, OpFault>
+    requires { length stores.old ≤ length (nodes scheme.now) }
+    ensures ok { IfOk result (λ v. AreLoaded S.is_honest S.content S.may_hold S.must_reopen scheme.now (nodes scheme.now) stores.old stores.new (map journal_of v.items)) }
+    ensures nodes { IfOk result (λ v. map node_of v.items ≡ take (length stores.old) (nodes scheme.now)) }
+    ensures schemes { IfOk result (λ v. All (λ core. scheme_of core ≡ scheme.now) v.items) }
+    ensures err { IfErr result (FailsToLoad S.is_honest S.content S.may_hold S.must_reopen scheme.now (nodes scheme.now) stores.old stores.new) }
+    ensures kept { AreKept S.is_honest S.content S.must_reopen stores.old stores.new }
+{
+    let mut cores = Vec::new(alloc);
+    for store in stores.iter_mut() {
+        let node = node_at(scheme, cores.len());
+        match load_one(alloc, scheme, node, store) {
+            Ok(core) => {
+                watch.read(core.records());
+                push(&mut cores, core)?;
+            }
+            Err(fault) => return Err(fault),
+        }
+    }
+    Ok(cores)
+}
+
+/// A state of each core, in which its whole journal is committed.
+fn states_of(alloc: Global, cores: Vec<Core>) -> Result<Vec<State<Core>>, NoMemory>
+    ensures { IfOk result (λ v. map committed_records v.items ≡ map journal_of cores.items) }
+{
+    let mut states = Vec::new(alloc);
+    for core in cores {
+        states.push(State::new(alloc, core))?;
+    }
+    Ok(states)
 }
 
 /// The states that the records of the first nodes' stores lead to: the log's, then those of the registries in the
@@ -56,31 +105,6 @@ pub fn load_all<S: NodeStore>(
     ensures err { IfErr result (FailsToLoad S.is_honest S.content S.may_hold S.must_reopen scheme.now (nodes scheme.now) stores.old stores.new) }
     ensures kept { AreKept S.is_honest S.content S.must_reopen stores.old stores.new }
 {
-    load_watched(alloc, scheme, stores, &mut Nobody)
-}
-
-/// As `load_all`, and tells of each store's records once they are read.
-pub(crate) fn load_watched<S: NodeStore, P: Watch>(
-    alloc: Global,
-    scheme: &Scheme,
-    stores: &mut [S],
-    watch: &mut P,
-) -> Result<Vec<State<Core>>, OpFault>
-    requires { length stores.old ≤ length (nodes scheme.now) }
-    ensures ok { IfOk result (λ v. AreLoaded S.is_honest S.content S.may_hold S.must_reopen scheme.now (nodes scheme.now) stores.old stores.new (map committed_records v.items)) }
-    ensures err { IfErr result (FailsToLoad S.is_honest S.content S.may_hold S.must_reopen scheme.now (nodes scheme.now) stores.old stores.new) }
-    ensures kept { AreKept S.is_honest S.content S.must_reopen stores.old stores.new }
-{
-    let mut states = Vec::new(alloc);
-    for store in stores.iter_mut() {
-        let node = node_at(scheme, states.len());
-        match load_one(alloc, scheme, node, store) {
-            Ok(state) => {
-                watch.read(state.committed().len());
-                push(&mut states, state)?;
-            }
-            Err(fault) => return Err(fault),
-        }
-    }
-    Ok(states)
+    let cores = load_cores(alloc, scheme, stores, &mut Nobody)?;
+    Ok(states_of(alloc, cores)?)
 }

@@ -302,6 +302,15 @@ impl<C: NodeCore> State<C> {
         self.runs
     }
 
+    /// The core, which has all records of the journal, committed or not.
+    pub fn into_core(self) -> C
+        ensures scheme { C.scheme_of result ≡ self.scheme }
+        ensures node { C.node_of result ≡ self.node }
+        ensures journal { C.journal_of result ≡ self.journal }
+    {
+        self.core
+    }
+
     /// The node whose state it is.
     pub fn node(&self) -> Node
         ensures { result ≡ self.now.node }

@@ -1,7 +1,7 @@
 -- What is kept while journals are followed, after one record more and after one message more.
-use Rattle.std.proofs.Common.{◌≡◌, ℕ, suc, ◌+◌, ◌-◌, ◌<◌, ◌≤◌, List, [], ◌∷◌, ◌++◌, Bool, true, false, cond, Option, Some, None, inl, inr, refl, sym, ap, subst, ◌∙◌, length, map, arith, append_assoc, length-append}
-use Rattle.std.specs.Prelude.{slice_get, slice_index, Contains, if◌then◌else◌, ◌⊎◌}
-use Rattle.std.proofs.lemmas.Bool.{cases_Bool, cond-true, cond-false}
+use Rattle.std.proofs.Common.{◌≡◌, ℕ, ◌+◌, ◌-◌, ◌<◌, ◌≤◌, List, [], ◌∷◌, ◌++◌, Bool, true, false, cond, Some, inl, inr, refl, sym, ap, subst, ◌∙◌, length, arith, length-append}
+use Rattle.std.specs.Prelude.{Contains, if◌then◌else◌, ◌⊎◌}
+use Rattle.std.proofs.lemmas.Bool.{cases_Bool, cond-true}
 use Rattle.units.proofs.Same.{node_of_same}
 use Rattle.units.specs.Code.{same_node}
 use Rattle.units.specs.declared.code.Node.{Node}
@@ -12,9 +12,8 @@ use Rattle.wire.specs.Parties.{receiver, transaction}
 use Rattle.wire.specs.declared.input.Input.{Input}
 use Rattle.wire.specs.declared.message.Message.{Message}
 use Rattle.scheme.specs.declared.registries.Scheme.{Scheme}
-use Rattle.protocol.specs.Registries.{is_node}
 use Rattle.protocol.specs.Weave.{Gives, IsQuiet}
-use Rattle.protocol.specs.World.{World, opening, run, station, step, was_posted}
+use Rattle.protocol.specs.World.{World, Station, opening, run, step, was_posted}
 use Rattle.protocol.specs.declared.event.Outcome.TheVariants.{Recorded}
 use Rattle.protocol.specs.declared.event.Posted.{Posted}
 use Rattle.protocol.specs.declared.event.WorldEvent.{WorldEvent}
@@ -23,11 +22,12 @@ use Rattle.lemmas.proofs.Membership.{In}
 use Rattle.safety.proofs.WorldLemmas.NodesWithStation.{AllPlaced, opening_placed, run_placed}
 use Rattle.safety.proofs.WorldLemmas.QuietWorlds.{run_append}
 use Rattle.weave.specs.Following.{committed_at}
-use Rattle.weave.specs.Steps.{AreAllPlaced, Follows, HasCommittedSame, Waits, left_of, next_message, sent_count, with_message}
+use Rattle.weave.specs.Kept.{left_in}
+use Rattle.weave.specs.Steps.{AreAllPlaced, Follows, Waits, left_of, next_message, whole_at, with_message, without_tails}
 use Rattle.weave.proofs.Lists.{contains_left, contains_last, one_more}
 use Rattle.weave.proofs.OneMore.{Advances, advances, committed_elsewhere, committed_here, front_on, sent_more}
-use Rattle.weave.proofs.Posting.{is_sent, posts, waits_more}
-use Rattle.weave.proofs.Waiting.{IsSameFor, waits_on}
+use Rattle.weave.proofs.Posting.{posts, waits_more}
+use Rattle.weave.proofs.Waiting.{waits_on}
 
 -- ---- one record more
 
@@ -108,9 +108,20 @@ follows_posted scheme journals w events places more posted due n key m f own is 
 
 -- ---- what is left
 
-pub left_same : (journals : Node → List Input) (w v : World) (ns : List Node) → HasCommittedSame w v → left_of journals v ns ≡ left_of journals w ns
-left_same journals w v [] same = refl
-left_same journals w v (n ∷ ns) same = omega (arith, left_same journals w v ns same, ap length (same n))
+-- in worlds with the same stations
+pub left_stations : (w v : World) → v.stations ≡ w.stations → (ns : List Node) → left_in v ns ≡ left_in w ns
+left_stations w v same [] = refl
+left_stations w v same (n ∷ ns) =
+    let first : length (whole_at v n) - length (committed_at (without_tails v) n) ≡ length (whole_at w n) - length (committed_at (without_tails w) n) =
+    ap (λ (ss : List Station). length (whole_at (record w { stations = ss }) n) - length (committed_at (without_tails (record w { stations = ss })) n)) same in
+    omega (arith, first, left_stations w v same ns)
+
+-- of journals that are the same at each node
+pub left_journals : (js ks : Node → List Input) (w : World) → ((n : Node) → ks n ≡ js n) → (ns : List Node) → left_of ks w ns ≡ left_of js w ns
+left_journals js ks w same [] = refl
+left_journals js ks w same (n ∷ ns) =
+    let first : length (ks n) - length (committed_at w n) ≡ length (js n) - length (committed_at w n) = ap (λ (xs : List Input). length xs - length (committed_at w n)) (same n) in
+    omega (arith, first, left_journals js ks w same ns)
 
 module _ (journals : Node → List Input) (w v : World) (n : Node) (input : Input) (rest : List Input) (a : Advances w v n input) (left : journals n ≡ committed_at w n ++ input ∷ rest) where
   here : length (committed_at v n) ≡ length (committed_at w n) + 1

@@ -1,11 +1,15 @@
 pub mod Lists
 pub mod Turns
+pub mod Tails
 pub mod Waiting
 pub mod OneMore
 pub mod Posting
 pub mod Followed
 pub mod Tried
 pub mod Rounds
+pub mod NodePlaces
 pub mod Ends
 pub mod SchemeNodes
+pub mod NextEvents
 pub mod Opened
+pub mod Replayed

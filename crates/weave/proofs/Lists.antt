@@ -1,9 +1,9 @@
 -- Elements of lists that get longer, and the place at which a test first passes.
-use Rattle.std.proofs.Common.{◌≡◌, ℕ, zero, suc, ◌+◌, ◌<◌, ◌≤◌, List, [], ◌∷◌, ◌++◌, Bool, true, false, cond, Option, Some, None, inl, inr, refl, sym, ap, subst, ◌∙◌, length, map, arith, Bor}
+use Rattle.std.proofs.Common.{◌≡◌, ℕ, zero, suc, ◌+◌, ◌<◌, ◌≤◌, List, [], ◌∷◌, ◌++◌, Bool, true, false, cond, Option, Some, None, inl, inr, refl, sym, ap, ◌∙◌, length, map, take, arith, Bor}
 use Rattle.std.specs.Prelude.{slice_get, get_or, Contains, IfNone, ◌⊎◌}
 use Rattle.std.specs.List.{position_from}
 use Rattle.std.specs.Option.{option_copied, option_map_or}
-use Rattle.lemmas.proofs.Membership.{In, In_left, In_right}
+use Rattle.lemmas.proofs.Membership.{In_left, In_right}
 use Rattle.lemmas.proofs.Positions.{In_contains, contains_in}
 
 pub front_get : {X : Type 0} (xs ys : List X) (k : ℕ) → k < length xs → slice_get (xs ++ ys) k ≡ slice_get xs k
@@ -11,10 +11,19 @@ front_get [] ys k below = absurd (omega arith)
 front_get (x ∷ xs) ys zero below = refl
 front_get (x ∷ xs) ys (suc k) below = front_get xs ys k (omega arith)
 
+pub take_front : {X : Type 0} (xs ys : List X) → take (length xs) (xs ++ ys) ≡ xs
+take_front [] ys = refl
+take_front {X = X} (x ∷ xs) ys = ap (λ (l : List X). x ∷ l) (take_front xs ys)
+
 pub past_end : {X : Type 0} (xs : List X) (k : ℕ) → slice_get xs k ≡ None → length xs ≤ k
 past_end [] k e = omega arith
 past_end (x ∷ xs) zero e = absurd (cc (e))
 past_end (x ∷ xs) (suc k) e = omega (arith, past_end xs k e)
+
+pub get_at : {X : Type 0} (xs : List X) (k : ℕ) (d : X) → k < length xs → slice_get xs k ≡ Some (get_or xs k d)
+get_at [] k d below = absurd (omega arith)
+get_at (y ∷ xs) zero d below = refl
+get_at (y ∷ xs) (suc k) d below = get_at xs k d (omega arith)
 
 -- an element of a list with one element more
 pub one_more : {X : Type 0} (xs : List X) (y x : X) (k : ℕ) → slice_get (xs ++ y ∷ []) k ≡ Some x → ((k < length xs) × (slice_get xs k ≡ Some x)) ⊎ ((k ≡ length xs) × (y ≡ x))
@@ -37,6 +46,11 @@ pub map_get : {X Y : Type 0} (f : X → Y) (xs : List X) (at : ℕ) (r : X) (d :
 map_get f [] at r d below is = absurd (omega arith)
 map_get f (x ∷ xs) zero r d below is = ap f (sym is)
 map_get f (x ∷ xs) (suc at) r d below is = map_get f xs at r d (omega arith) is
+
+pub image_at : {X Y : Type 0} (f : X → Y) (xs : List X) (k : ℕ) (d : X) → k < length xs → slice_get (map f xs) k ≡ Some (f (get_or xs k d))
+image_at f [] k d below = absurd (omega arith)
+image_at f (y ∷ xs) zero d below = refl
+image_at f (y ∷ xs) (suc k) d below = image_at f xs k d (omega arith)
 
 -- what stands at a place that the list has, whatever would stand for it
 pub in_range : {X : Type 0} (xs : List X) (at : ℕ) (r d : X) → at < length xs → r ≡ get_or xs at r → get_or xs at d ≡ r

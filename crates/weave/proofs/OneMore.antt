@@ -1,10 +1,9 @@
 -- A world in which one node has recorded one input more, and has committed it.
-use Rattle.std.proofs.Common.{◌≡◌, ℕ, ◌<◌, ◌≤◌, List, [], ◌∷◌, ◌++◌, Bool, true, false, cond, Option, Some, None, inl, inr, refl, sym, ap, subst, ◌∙◌, length, arith}
-use Rattle.std.specs.Prelude.{is_some, slice_get, Contains, ◌⊎◌}
-use Rattle.std.proofs.lemmas.Bool.{cases_Bool, cond-true, cond-false}
+use Rattle.std.proofs.Common.{◌≡◌, ℕ, ◌≤◌, List, [], ◌∷◌, ◌++◌, Bool, true, false, cond, Option, Some, None, inl, inr, refl, sym, ap, subst, ◌∙◌, length, arith}
+use Rattle.std.specs.Prelude.{is_some, slice_get, Contains}
+use Rattle.std.proofs.lemmas.Bool.{cases_Bool}
 use Rattle.std.proofs.lemmas.List.{append-nil}
 use Rattle.std.proofs.Common.{append_assoc, length-append}
-use Rattle.std.proofs.lemmas.List.{append_cancel_left}
 use Rattle.units.proofs.Same.{node_of_same}
 use Rattle.units.specs.Code.{same_node}
 use Rattle.units.specs.declared.code.Node.{Node}
@@ -24,7 +23,6 @@ use Rattle.protocol.specs.declared.event.Outcome.TheVariants.{Recorded, NotPossi
 use Rattle.protocol.specs.declared.event.Posted.{Posted}
 use Rattle.protocol.specs.declared.event.WorldEvent.{WorldEvent}
 use Rattle.protocol.specs.declared.event.WorldEvent.TheVariants.{Commit}
-use Rattle.lemmas.proofs.OneValue.{one_some}
 use Rattle.safety.proofs.WorldLemmas.NodesWithStation.{AllPlaced}
 use Rattle.safety.proofs.WorldLemmas.QuietWorlds.{Grown, record_on}
 use Rattle.safety.proofs.WorldLemmas.SchemesKept.{run_scheme}
@@ -68,7 +66,7 @@ running_says : (s : Station) (b : Bool) (t : Turn) (place : ℕ) → (cond b t (
 running_says s true t place e = e
 running_says s false t place e = absurd (cc (e))
 
-take_says : (scheme : Scheme) (n : Node) (s : Station) (input : Input) (place : ℕ) → s.node ≡ n → s.tail ≡ [] → (take_input scheme input s).outcome ≡ Recorded place
+pub take_says : (scheme : Scheme) (n : Node) (s : Station) (input : Input) (place : ℕ) → s.node ≡ n → s.tail ≡ [] → (take_input scheme input s).outcome ≡ Recorded place
     → (xs : List Transition) × (verdict scheme n (history scheme n s.committed) input ≡ IsRecorded xs)
 take_says scheme n s input place own settled e =
     let v = verdict scheme s.node (history scheme s.node (journal s)) input in

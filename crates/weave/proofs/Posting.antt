@@ -1,6 +1,6 @@
 -- A node's messages are posted one after another: what one more leaves of the world, and when none is left.
-use Rattle.std.proofs.Common.{◌≡◌, ◌≢◌, ℕ, ◌+◌, ◌<◌, ◌≤◌, List, [], ◌∷◌, ◌++◌, Bool, true, false, cond, Option, Some, None, inl, inr, refl, sym, ap, subst, ◌∙◌, length, arith}
-use Rattle.std.specs.Prelude.{is_some, slice_get, Contains, option_and_then, ◌⊎◌, ◌||◌, ◌&&◌, ◌==◌}
+use Rattle.std.proofs.Common.{◌≡◌, ◌≢◌, ℕ, ◌+◌, ◌<◌, List, [], ◌∷◌, ◌++◌, Bool, true, false, cond, Option, Some, None, inl, inr, refl, sym, ap, subst, ◌∙◌, arith}
+use Rattle.std.specs.Prelude.{slice_get, Contains, option_and_then, ◌⊎◌, ◌||◌, ◌&&◌, ◌==◌}
 use Rattle.std.specs.List.{list_any}
 use Rattle.std.proofs.lemmas.Bool.{cases_Bool, eqb-true, eqb-false}
 use Rattle.std.proofs.lemmas.List.Folds.{list_any-append}
@@ -17,13 +17,13 @@ use Rattle.protocol.specs.Registries.{is_node}
 use Rattle.protocol.specs.Verdict.{history}
 use Rattle.protocol.specs.WayOut.{IsIdle}
 use Rattle.protocol.specs.Weave.{IsQuiet}
-use Rattle.protocol.specs.World.{World, Station, Stepped, station, sent, posted, was_posted, step}
+use Rattle.protocol.specs.World.{World, Station, station, sent, posted, step}
 use Rattle.protocol.specs.declared.event.Posted.{Posted}
 use Rattle.protocol.specs.declared.event.WorldEvent.TheVariants.{Post}
 use Rattle.lemmas.proofs.Membership.{In, In_cases}
 use Rattle.lemmas.proofs.OneValue.{one_some}
 use Rattle.safety.proofs.WorldLemmas.StationsAfterPut.{found_at_node}
-use Rattle.weave.specs.Steps.{IsPostedTo, Waits, next_message, sent_count, with_message}
+use Rattle.weave.specs.Steps.{IsPostedTo, Waits, next_message, with_message}
 use Rattle.weave.proofs.Lists.{contains_left, contains_last, past_end}
 use Rattle.weave.proofs.Waiting.{IsSameFor, waits_on}
 

@@ -1,12 +1,9 @@
 -- One look at a node: it rests, or it takes a record and its messages are posted.
-use Rattle.std.proofs.Common.{◌≡◌, ◌≢◌, ℕ, zero, suc, ◌+◌, ◌<◌, ◌≤◌, List, [], ◌∷◌, ◌++◌, Bool, true, false, cond, Option, Some, None, inl, inr, refl, sym, ap, subst, ◌∙◌, length, get_or, arith, get_or-set_same, get_or-set_other, append_assoc}
-use Rattle.std.specs.Prelude.{slice_get, slice_index, slice_index_or, Contains, ◌⊎◌, ◌==◌, if◌then◌else◌}
-use Rattle.std.specs.Option.{option_map_or}
+use Rattle.std.proofs.Common.{◌≡◌, ◌≢◌, ℕ, ◌+◌, ◌<◌, ◌≤◌, List, [], ◌∷◌, ◌++◌, true, false, Some, None, Ok, inl, inr, refl, sym, ap, subst, ◌∙◌, length, map, arith, get_or-set_same, get_or-set_other}
+use Rattle.std.specs.Prelude.{is_some, option_map, slice_get, slice_index, Contains, ◌⊎◌, ◌==◌, if◌then◌else◌}
 use Rattle.std.proofs.Math.ListN.{set, length-set}
 use Rattle.std.proofs.lemmas.Bool.{cases_Bool, eqb-true, eqb-false}
 use Rattle.std.proofs.lemmas.Option.{slice_get_within}
-use Rattle.units.proofs.Same.{node_of_same}
-use Rattle.units.specs.Code.{same_node}
 use Rattle.units.specs.declared.code.Node.{Node}
 use Rattle.status.specs.declared.id.TransactionId.{TransactionId}
 use Rattle.wire.specs.declared.input.Input.{Input}
@@ -15,40 +12,44 @@ use Rattle.wire.specs.Parties.{receiver, transaction}
 use Rattle.wire.specs.declared.message.Message.{Message}
 use Rattle.status.specs.Id.{same_id}
 use Rattle.protocol.specs.declared.event.Posted.{Posted}
-use Rattle.protocol.specs.Claims.{committed_of}
+use Rattle.protocol.specs.Claims.{committed_of, committed_part, whole}
+use Rattle.protocol.specs.Cores.{answer}
 use Rattle.protocol.specs.History.{sends}
 use Rattle.protocol.specs.Registries.{is_node}
 use Rattle.protocol.specs.Weave.{IsQuiet}
-use Rattle.protocol.specs.World.{Stepped, World, run, step}
-use Rattle.protocol.specs.declared.event.Outcome.{Outcome}
+use Rattle.protocol.specs.World.{Station, World, opening, run, station, step}
 use Rattle.protocol.specs.declared.event.Outcome.TheVariants.{Recorded}
 use Rattle.protocol.specs.declared.event.WorldEvent.{WorldEvent}
 use Rattle.protocol.specs.declared.event.WorldEvent.TheVariants.{Commit, Post}
+use Rattle.protocol.specs.declared.node_core.Stepped.TheVariants as stepped
 use Rattle.lemmas.proofs.Membership.{In, In_cases, In_slice_get}
 use Rattle.lemmas.proofs.OneValue.{one_some}
 use Rattle.lemmas.proofs.Positions.{In_contains, contains_in}
+use Rattle.safety.proofs.WorldLemmas.SchemesKept.{run_scheme}
 use Rattle.world.specs.Kept.{nodes}
-use Rattle.weave.specs.Following.{committed_at, journal_of, place_of}
-use Rattle.weave.specs.Kept.{HasPosted, HasTaken, IsFollowing, IsFollowingWith, IsPosting, Posts, Takes, places_of}
-use Rattle.weave.specs.Steps.{Follows, HasCommittedSame, IsBest, IsNotRecorded, IsPostedTo, Waits, left_of, next_message, sent_count, with_message}
+use Rattle.weave.specs.Following.{committed_at, place_of}
+use Rattle.weave.specs.Kept.{HasPosted, HasWholeSame, IsFollowing, IsFollowingWith, IsPosting, Posts, Takes, left_in, places_of}
+use Rattle.weave.specs.Steps.{Fits, Follows, IsNextBy, IsNotRecorded, IsPostedTo, Waits, idle_station, next_message, sent_count, whole_at, with_message, without_tails}
 use Rattle.weave.specs.declared.following.Following.{Following}
 use Rattle.weave.specs.declared.following.Progress.{Progress}
 use Rattle.weave.specs.declared.following.Progress.TheVariants.{Advanced, Rests}
-use Rattle.weave.proofs.Followed.{fewer, follows_posted, follows_taken, left_same, taken_advances}
-use Rattle.weave.proofs.Lists.{contains_last, contains_left, place_passes}
+use Rattle.weave.proofs.NodePlaces.{node_of_place, node_there}
+use Rattle.weave.proofs.Followed.{all_placed, fewer, follows_posted, follows_taken, left_journals, left_stations, taken_advances}
+use Rattle.weave.proofs.Lists.{contains_last, contains_left}
 use Rattle.weave.proofs.OneMore.{Advances, posted_to, sent_more}
 use Rattle.weave.proofs.Posting.{all_posted, is_sent, posted_more}
-use Rattle.weave.proofs.Tried.{came, stands_last}
+use Rattle.weave.proofs.Tails.{commit_idle, commit_nodes, commit_whole, fits_idle, is_recorded, next_same, raw_station, station_idle, takes_and_commits, whole_none}
+use Rattle.weave.proofs.Tried.{stands_last}
 
 -- ---- what is kept, by other names
 
-pub follows_same : (scheme : Scheme) (journals : Node → List Input) (w v : World) (events es : List WorldEvent) (places ps : TransactionId → List ℕ) (posted po : List ℕ) (due du : List Node)
-    → v ≡ w → es ≡ events → ((t : TransactionId) → ps t ≡ places t) → po ≡ posted → du ≡ due → Follows scheme journals w events places posted due → Follows scheme journals v es ps po du
-follows_same scheme journals w v events es places ps posted po due du world_is events_are places_are posted_are due_are f =
-    subst (λ z. Follows scheme journals z es ps po du) (sym world_is)
-    (subst (λ z. Follows scheme journals w z ps po du) (sym events_are)
-    (subst (λ z. Follows scheme journals w events ps z du) (sym posted_are)
-    (subst (λ z. Follows scheme journals w events ps posted z) (sym due_are)
+pub follows_same : (scheme : Scheme) (w v : World) (events es : List WorldEvent) (places ps : TransactionId → List ℕ) (posted po : List ℕ) (due du : List Node)
+    → v ≡ w → es ≡ events → ((t : TransactionId) → ps t ≡ places t) → po ≡ posted → du ≡ due → Follows scheme (whole_at w) (without_tails w) events places posted due → Follows scheme (whole_at v) (without_tails v) es ps po du
+follows_same scheme w v events es places ps posted po due du world_is events_are places_are posted_are due_are f =
+    subst (λ (z : World). Follows scheme (whole_at z) (without_tails z) es ps po du) (sym world_is)
+    (subst (λ z. Follows scheme (whole_at w) (without_tails w) z ps po du) (sym events_are)
+    (subst (λ z. Follows scheme (whole_at w) (without_tails w) events ps z du) (sym posted_are)
+    (subst (λ z. Follows scheme (whole_at w) (without_tails w) events ps posted z) (sym due_are)
     (record {
       led = f.led;
       front = f.front;
@@ -57,6 +58,33 @@ follows_same scheme journals w v events es places ps posted po due du world_is e
       counts = f.counts;
       waits = f.waits;
     }))))
+
+waits_journals : (w : World) (js ks : Node → List Input) (n : Node) → ks n ≡ js n → Waits w js n → Waits w ks n
+waits_journals w js ks n same h input rest left = h input rest (sym same ∙ left)
+
+-- the journals are the same at each node
+pub follows_journals : (scheme : Scheme) (js ks : Node → List Input) (w : World) (events : List WorldEvent) (places : TransactionId → List ℕ) (posted : List ℕ) (due : List Node) → ((n : Node) → ks n ≡ js n)
+    → Follows scheme js w events places posted due → Follows scheme ks w events places posted due
+follows_journals scheme js ks w events places posted due same f = record {
+  led = f.led;
+  front = λ n. ((f.front n).0, same n ∙ (f.front n).1);
+  placed = f.placed;
+  counted = f.counted;
+  counts = f.counts;
+  waits = λ n. elim (f.waits n) [ inl h ↦ inl h | inr h ↦ inr (waits_journals w js ks n (same n) h) ];
+}
+
+-- as much is due, by another name
+pub with_due : (scheme : Scheme) (f g : Following) (due du : List Node) → g.world ≡ f.world → g.events.items ≡ f.events.items → ((t : TransactionId) → places_of g t ≡ places_of f t) → g.posted.items ≡ f.posted.items → due ≡ du
+    → IsFollowingWith scheme f due → IsFollowingWith scheme g du
+with_due scheme f g due du world_is events_are places_are posted_are due_are i = record {
+  follows = follows_same scheme f.world g.world f.events.items g.events.items (places_of f) (places_of g) f.posted.items g.posted.items due du world_is events_are places_are posted_are (sym due_are) i.follows;
+  nodes_are = ap (λ (z : World). map (λ (x : Station). x.node) z.stations) world_is ∙ i.nodes_are;
+}
+
+-- whole journals of the same stations
+pub whole_stations : (w v : World) → v.stations ≡ w.stations → HasWholeSame w v
+whole_stations w v same n = ap (λ (ss : List Station). whole_at (record w { stations = ss }) n) same
 
 -- ---- the next record of a journal
 
@@ -100,97 +128,111 @@ follows_rests scheme journals w events places posted due n f waits = record {
     cases m (inr (inl e)) = inr (subst (Waits w journals) e waits)
     cases m (inr (inr h)) = absurd h
 
-module _ (scheme : Scheme) (js : List (List Input)) (f : Following) (n : Node) (follows : IsFollowingWith scheme (journal_of scheme js) f (f.due.items ++ n ∷ [])) (quiet : IsQuiet f.world) where
-  rests : Waits f.world (journal_of scheme js) n → IsFollowing scheme (journal_of scheme js) f
+module _ (scheme : Scheme) (f : Following) (n : Node) (follows : IsFollowingWith scheme f (f.due.items ++ n ∷ [])) (quiet : IsQuiet (without_tails f.world)) where
+  pub rests : Waits (without_tails f.world) (whole_at f.world) n → IsFollowing scheme f
   rests waits = record {
-    follows = follows_rests scheme (journal_of scheme js) f.world f.events.items (places_of f) f.posted.items f.due.items n follows waits;
+    follows = record {
+      follows = follows_rests scheme (whole_at f.world) (without_tails f.world) f.events.items (places_of f) f.posted.items f.due.items n follows.follows waits;
+      nodes_are = follows.nodes_are;
+    };
     quiet = quiet;
   }
 
+  scheme_is : f.world.scheme ≡ scheme
+  scheme_is = ap (λ (z : World). z.scheme) follows.follows.led ∙ run_scheme (opening scheme) f.events.items
+
   -- it is no node of the scheme
-  pub rests_nowhere : place_of scheme n ≡ None → IsFollowing scheme (journal_of scheme js) f
+  pub rests_nowhere : place_of scheme n ≡ None → IsFollowing scheme f
   rests_nowhere none =
-      rests (waits_end f.world (journal_of scheme js) n (ap (λ o. slice_get (option_map_or (λ k. slice_index_or js k []) o []) (length (committed_at f.world n))) none))
+      let outside : is_node f.world.scheme n ≡ false = ap (λ (z : Scheme). is_node z n) scheme_is ∙ sym (node_there scheme n) ∙ ap is_some none in
+      let nothing : whole_at f.world n ≡ [] = whole_none f.world n (all_placed scheme (whole_at f.world) (without_tails f.world) f.events.items (places_of f) f.posted.items (f.due.items ++ n ∷ []) follows.follows n ∙ outside) in
+      rests (waits_end (without_tails f.world) (whole_at f.world) n (ap (λ (xs : List Input). slice_get xs (length (committed_at (without_tails f.world) n))) nothing))
 
-  -- no record is left
-  pub rests_done : slice_get (journal_of scheme js n) (length (committed_at f.world n)) ≡ None → IsFollowing scheme (journal_of scheme js) f
-  rests_done none = rests (waits_end f.world (journal_of scheme js) n none)
-
-  -- no event makes it record the next one
-  pub rests_waiting : (g : Following) (input : Input) → slice_get (journal_of scheme js n) (length (committed_at f.world n)) ≡ Some input → IsNotRecorded f.world n input → g ≡ f → IsFollowing scheme (journal_of scheme js) g
-  rests_waiting g input next none same = subst (IsFollowing scheme (journal_of scheme js)) (sym same) (rests (waits_for f.world (journal_of scheme js) n input next none))
-
--- the journal of the node at a place
-pub journal_is : (scheme : Scheme) (js : List (List Input)) (n : Node) (at : ℕ) (journal : List Input) → place_of scheme n ≡ Some at → slice_index_or js at [] ≡ journal → journal_of scheme js n ≡ journal
-journal_is scheme js n at journal place is = ap (λ o. option_map_or (λ k. slice_index_or js k []) o []) place ∙ is
+  -- it is one, which is idle without its tail
+  pub idle_there : (at : ℕ) → place_of scheme n ≡ Some at → (s : Station) × (station f.world n ≡ Some s) × (s.runs ≡ true)
+  idle_there at place =
+      let idle = quiet.idle n (ap (λ (z : Scheme). is_node z n) scheme_is ∙ sym (node_there scheme n) ∙ ap is_some place) in
+      let raw = raw_station (station f.world n) idle.at (sym (station_idle f.world n) ∙ idle.is) in
+      (raw.0, raw.1, raw.2 ∙ idle.runs)
 
 -- ---- the node takes a record
 
--- an event that is recorded, and a commit
-pub takes_by : (f g : Following) (e : WorldEvent) (n : Node) (input : Input) (place : ℕ) (o : Outcome) (mid : World) → IsBest f.world e n input → came mid (Recorded place) ≡ step f.world e → came g.world o ≡ step mid (Commit n 1)
-    → g.events.items ≡ (f.events.items ++ e ∷ []) ++ Commit n 1 ∷ [] → ((t : TransactionId) → places_of g t ≡ places_of f t) → g.posted.items ≡ f.posted.items → g.due.items ≡ f.due.items ++ n ∷ [] → Takes f g n input
-takes_by f g e n input place o mid best first second events places posted due = record {
-  event = e;
-  place = place;
-  gives = best.gives;
-  recorded = sym (ap (λ (z : Stepped). z.outcome) first);
-  world = ap (λ (z : Stepped). z.world) second ∙ ap (λ (z : Stepped). (step z.world (Commit n 1)).world) first;
-  events = events ∙ append_assoc f.events.items (e ∷ []) (Commit n 1 ∷ []);
-  places = places;
-  posted = posted;
-  due = due;
-}
+module _ (scheme : Scheme) (f g : Following) (n : Node) (e : WorldEvent) (at : ℕ) (follows : IsFollowingWith scheme f (f.due.items ++ n ∷ [])) (quiet : IsQuiet (without_tails f.world)) (place : place_of scheme n ≡ Some at) (by : IsNextBy f.world n e)
+    (t : Takes f g n e) where
+  there : (s : Station) × (station f.world n ≡ Some s) × (s.runs ≡ true)
+  there = idle_there scheme f n follows quiet at place
 
--- what stands at a node's place is the node
-pub node_of_place : (scheme : Scheme) (n : Node) (at : ℕ) → place_of scheme n ≡ Some at → slice_get (nodes scheme) at ≡ Some n
-node_of_place scheme n at e =
-    let r = place_passes (λ m. same_node m n) 0 (nodes scheme) at e in
-    let same : r.0 ≡ at = omega (arith, r.1) in
-    subst (λ k. slice_get (nodes scheme) k ≡ Some n) same (r.2.1 ∙ ap Some (node_of_same r.2.0 n r.2.2))
+  s : Station
+  s = there.0
 
-module _ (scheme : Scheme) (journals : Node → List Input) (f g : Following) (n : Node) (input : Input) (at : ℕ) (follows : IsFollowingWith scheme journals f (f.due.items ++ n ∷ [])) (quiet : IsQuiet f.world)
-    (next : slice_get (journals n) (length (committed_at f.world n)) ≡ Some input) (place : place_of scheme n ≡ Some at) (t : Takes f g n input) where
-  left : (rest : List Input) × (journals n ≡ committed_at f.world n ++ input ∷ rest)
-  left =
-      let front = follows.front n in
-      let more = next_of (committed_at f.world n) front.0 input (sym (ap (λ xs. slice_get xs (length (committed_at f.world n))) front.1) ∙ next) in
-      (more.0, front.1 ∙ ap (λ xs. committed_at f.world n ++ xs) more.1)
+  here : station (without_tails f.world) n ≡ Some (idle_station there.0)
+  here = station_idle f.world n ∙ ap (option_map idle_station) there.1
 
-  one_input : Advances f.world g.world n input
+  committed_is : committed_at f.world n ≡ there.0.committed
+  committed_is = ap committed_part there.1
+
+  tail : (rest : List Input) × (there.0.tail ≡ by.input ∷ rest)
+  tail =
+      next_of there.0.committed there.0.tail by.input
+      (sym (ap (λ o. slice_get (whole o) (length there.0.committed)) there.1) ∙ ap (λ (xs : List Input). slice_get (whole_at f.world n) (length xs)) (sym committed_is) ∙ by.next)
+
+  due : answer f.world.scheme n there.0.committed by.input ≡ Ok (stepped.Recorded (length (committed_at f.world n)))
+  due = ap (λ (xs : List Input). answer f.world.scheme n xs by.input) (sym committed_is) ∙ by.recorded
+
+  fits : Fits (without_tails f.world) e n by.input
+  fits = fits_idle f.world e n by.input by.fits
+
+  recorded : (step (without_tails f.world) e).outcome ≡ Recorded (length (there.0.committed ++ []))
+  recorded = is_recorded (without_tails f.world) n (idle_station there.0) by.input e (length (committed_at f.world n)) here there.2 refl fits due
+
+  goes_on : without_tails g.world ≡ run (without_tails f.world) (e ∷ Commit n 1 ∷ [])
+  goes_on =
+      ap without_tails t.world ∙ commit_idle f.world n there.0 by.input there.1 there.2 tail.0 tail.1
+      ∙ sym (takes_and_commits (without_tails f.world) n (idle_station there.0) by.input e (length (committed_at f.world n)) here there.2 refl fits due)
+
+  left : whole_at f.world n ≡ committed_at (without_tails f.world) n ++ by.input ∷ tail.0
+  left = ap whole there.1 ∙ ap (λ (xs : List Input). there.0.committed ++ xs) tail.1 ∙ ap (λ o. committed_part o ++ by.input ∷ tail.0) (sym here)
+
+  pub takes_whole : HasWholeSame f.world g.world
+  takes_whole m = ap (λ (z : World). whole_at z m) t.world ∙ commit_whole f.world n there.0 by.input there.1 there.2 tail.0 tail.1 m
+
+  one_input : Advances (without_tails f.world) (without_tails g.world) n by.input
   one_input =
-      subst (λ (z : World). Advances f.world z n input) (sym t.world)
-      (taken_advances scheme journals f.world f.events.items (places_of f) f.posted.items (f.due.items ++ n ∷ []) follows n input left.0 t.event t.place quiet left.1 t.gives t.recorded)
+      subst (λ (z : World). Advances (without_tails f.world) z n by.input) (sym goes_on)
+      (taken_advances scheme (whole_at f.world) (without_tails f.world) f.events.items (places_of f) f.posted.items (f.due.items ++ n ∷ []) follows.follows n by.input tail.0 e (length (there.0.committed ++ [])) quiet left fits.gives recorded)
 
-  key_is : slice_index g.posted.items at ≡ slice_index f.posted.items at
-  key_is = ap (λ ks. slice_index ks at) t.posted
+  few : slice_index g.posted.items at ≤ sent_count (without_tails f.world) n
+  few = subst (λ k. k ≤ sent_count (without_tails f.world) n) (sym (ap (λ ks. slice_index ks at) t.posted)) (follows.follows.counts at n (node_of_place scheme n at place))
 
-  few : slice_index g.posted.items at ≤ sent_count f.world n
-  few = subst (λ k. k ≤ sent_count f.world n) (sym key_is) (follows.counts at n (node_of_place scheme n at place))
+  goes_with : Follows scheme (whole_at g.world) (without_tails g.world) (f.events.items ++ e ∷ Commit n 1 ∷ []) (places_of f) f.posted.items (f.due.items ++ n ∷ [])
+  goes_with =
+      follows_journals scheme (whole_at f.world) (whole_at g.world) (without_tails g.world) (f.events.items ++ e ∷ Commit n 1 ∷ []) (places_of f) f.posted.items (f.due.items ++ n ∷ []) takes_whole
+      (subst (λ (z : World). Follows scheme (whole_at f.world) z (f.events.items ++ e ∷ Commit n 1 ∷ []) (places_of f) f.posted.items (f.due.items ++ n ∷ [])) (sym goes_on)
+      (follows_taken scheme (whole_at f.world) (without_tails f.world) f.events.items (places_of f) f.posted.items (f.due.items ++ n ∷ []) follows.follows n by.input tail.0 e (length (there.0.committed ++ [])) quiet left fits.gives recorded
+      (contains_last f.due.items n)))
 
-  pub takes_posting : IsPosting scheme journals g n (slice_index g.posted.items at)
+  pub takes_posting : IsPosting scheme g n (slice_index g.posted.items at)
   takes_posting = record {
-    follows = follows_same scheme journals (run f.world (t.event ∷ Commit n 1 ∷ [])) g.world (f.events.items ++ t.event ∷ Commit n 1 ∷ []) g.events.items (places_of f) (places_of g) f.posted.items g.posted.items (f.due.items ++ n ∷ []) g.due.items t.world t.events t.places t.posted t.due
-        (follows_taken scheme journals f.world f.events.items (places_of f) f.posted.items (f.due.items ++ n ∷ []) follows n input left.0 t.event t.place quiet left.1 t.gives t.recorded (contains_last f.due.items n));
+    follows = record {
+      follows = follows_same scheme g.world g.world (f.events.items ++ e ∷ Commit n 1 ∷ []) g.events.items (places_of f) (places_of g) f.posted.items g.posted.items (f.due.items ++ n ∷ []) g.due.items refl t.events t.places t.posted t.due goes_with;
+      nodes_are = ap (λ (z : World). map (λ (x : Station). x.node) z.stations) t.world ∙ commit_nodes f.world n ∙ follows.nodes_are;
+    };
     node = subst (λ (z : Scheme). is_node z n ≡ true) (sym one_input.scheme) one_input.node;
     due = subst (λ (ns : List Node). Contains ns n) (sym t.due) (contains_last f.due.items n);
-    posted = posted_to f.world g.world n input one_input quiet (slice_index g.posted.items at) few;
-    few = let more = sent_more f.world g.world n input one_input n in omega (arith, few);
+    posted = posted_to (without_tails f.world) (without_tails g.world) n by.input one_input quiet (slice_index g.posted.items at) few;
+    few = let more = sent_more (without_tails f.world) (without_tails g.world) n by.input one_input n in omega (arith, few);
   }
 
   -- and fewer records are left
-  pub takes_fewer : (v : World) → HasCommittedSame g.world v → left_of journals v (nodes scheme) < left_of journals f.world (nodes scheme)
+  pub takes_fewer : (v : World) → v.stations ≡ g.world.stations → left_in v (nodes scheme) < left_in f.world (nodes scheme)
   takes_fewer v same =
-      let less = fewer journals f.world g.world n input left.0 one_input left.1 (nodes scheme) (In_slice_get (nodes scheme) at n (node_of_place scheme n at place)) in
-      omega (arith, less, left_same journals g.world v (nodes scheme) same)
-
-pub taken_on : (f g : Following) (n : Node) (input : Input) (p : Progress) → (p ≡ Rests → ⊥) → HasTaken f g n input p → Takes f g n input
-taken_on f g n input Advanced went h = h
-taken_on f g n input Rests went h = absurd (went refl)
+      let less = fewer (whole_at f.world) (without_tails f.world) (without_tails g.world) n by.input tail.0 one_input left (nodes scheme) (In_slice_get (nodes scheme) at n (node_of_place scheme n at place)) in
+      omega (arith, less, left_stations g.world v same (nodes scheme), left_journals (whole_at f.world) (whole_at g.world) (without_tails g.world) takes_whole (nodes scheme))
 
 -- ---- its messages are posted
 
-pub posts_same : (f g : Following) (n : Node) (key : ℕ) → Posts f g n key → HasCommittedSame f.world g.world
-posts_same f g n key p m = ap (λ (z : World). committed_at z m) p.world
+pub posts_same : (f g : Following) (n : Node) (key : ℕ) → Posts f g n key → g.world.stations ≡ f.world.stations
+posts_same f g n key p = ap (λ (z : World). z.stations) p.world
 
 -- a message found last in the bag
 pub posts_by : (f g : Following) (n : Node) (key : ℕ) (m : Message) (p : Posted) (id : TransactionId) (to : Node) (bag : List Posted) → next_message f.world n key ≡ Some m → g.world ≡ with_message f.world n key m → bag ≡ f.world.bag
@@ -215,49 +257,59 @@ pub posted_on : (f g : Following) (n : Node) (key : ℕ) (p : Progress) → (p �
 posted_on f g n key Advanced went h = h
 posted_on f g n key Rests went h = absurd (went refl)
 
-module _ (scheme : Scheme) (journals : Node → List Input) (f g : Following) (n : Node) (key : ℕ) (i : IsPosting scheme journals f n key) where
-  pub posts_posting : Posts f g n key → IsPosting scheme journals g n (key + 1)
-  posts_posting p = record {
-    follows = follows_same scheme journals (with_message f.world n key p.message) g.world (f.events.items ++ Post n key ∷ []) g.events.items (places_of g) (places_of g) f.posted.items g.posted.items (f.due.items ++ receiver p.message ∷ []) g.due.items p.world p.events (λ t. refl) p.posted p.due
-        (follows_posted scheme journals f.world f.events.items (places_of f) (places_of g) f.posted.items f.due.items n key p.message i.follows i.due p.next p.places);
-    node = subst (λ (z : World). is_node z.scheme n ≡ true) (sym p.world) i.node;
-    due = subst (λ (ns : List Node). Contains ns n) (sym p.due) (contains_left f.due.items (receiver p.message ∷ []) n i.due);
-    posted = subst (λ (z : World). IsPostedTo z n (key + 1)) (sym p.world) (posted_more f.world n key p.message p.next i.posted);
-    few = subst (λ (z : World). key + 1 ≤ sent_count z n) (sym p.world) (let below = slice_get_within (sends (committed_of f.world n)) key p.message (is_sent f.world n key p.message p.next) in omega (arith, below));
-  }
+module _ (scheme : Scheme) (f g : Following) (n : Node) (key : ℕ) (i : IsPosting scheme f n key) where
+  pub posts_posting : Posts f g n key → IsPosting scheme g n (key + 1)
+  posts_posting p =
+      let next : next_message (without_tails f.world) n key ≡ Some p.message = next_same f.world n key ∙ p.next in
+      let longer : World = with_message f.world n key p.message in
+      record {
+        follows = record {
+          follows = follows_same scheme longer g.world (f.events.items ++ Post n key ∷ []) g.events.items (places_of g) (places_of g) f.posted.items g.posted.items (f.due.items ++ receiver p.message ∷ []) g.due.items p.world p.events (λ t. refl) p.posted p.due
+              (follows_posted scheme (whole_at f.world) (without_tails f.world) f.events.items (places_of f) (places_of g) f.posted.items f.due.items n key p.message i.follows.follows i.due next p.places);
+          nodes_are = ap (λ (z : World). map (λ (x : Station). x.node) z.stations) p.world ∙ i.follows.nodes_are;
+        };
+        node = subst (λ (z : World). is_node z.scheme n ≡ true) (sym p.world) i.node;
+        due = subst (λ (ns : List Node). Contains ns n) (sym p.due) (contains_left f.due.items (receiver p.message ∷ []) n i.due);
+        posted = subst (λ (z : World). IsPostedTo (without_tails z) n (key + 1)) (sym p.world) (posted_more (without_tails f.world) n key p.message next i.posted);
+        few = subst (λ (z : World). key + 1 ≤ sent_count (without_tails z) n) (sym p.world)
+            (let below = slice_get_within (sends (committed_of (without_tails f.world) n)) key p.message (is_sent (without_tails f.world) n key p.message next) in omega (arith, below));
+      }
 
   -- none is left to post
-  pub posting_ends : (p : Progress) → p ≡ Rests → HasPosted f g n key p → IsPosting scheme journals g n key × IsQuiet g.world
+  pub posting_ends : (p : Progress) → p ≡ Rests → HasPosted f g n key p → IsPosting scheme g n key × IsQuiet (without_tails g.world)
   posting_ends p is h =
       let r : (next_message f.world n key ≡ None) × (g ≡ f) = subst (HasPosted f g n key) is h in
-      subst (λ (z : Following). IsPosting scheme journals z n key × IsQuiet z.world) (sym r.1) (i, all_posted f.world n key i.node i.posted r.0)
+      subst (λ (z : Following). IsPosting scheme z n key × IsQuiet (without_tails z.world)) (sym r.1) (i, all_posted (without_tails f.world) n key i.node i.posted (next_same f.world n key ∙ r.0))
 
   -- how many were posted is written down
-  pub stored : (at : ℕ) → place_of scheme n ≡ Some at → at < length f.posted.items → IsQuiet f.world → g.world ≡ f.world → g.events.items ≡ f.events.items → ((t : TransactionId) → places_of g t ≡ places_of f t)
-      → g.posted.items ≡ set f.posted.items at key → g.due.items ≡ f.due.items → IsFollowing scheme journals g
+  pub stored : (at : ℕ) → place_of scheme n ≡ Some at → at < length f.posted.items → IsQuiet (without_tails f.world) → g.world ≡ f.world → g.events.items ≡ f.events.items → ((t : TransactionId) → places_of g t ≡ places_of f t)
+      → g.posted.items ≡ set f.posted.items at key → g.due.items ≡ f.due.items → IsFollowing scheme g
   stored at place within quiet world_is events_are places_are posted_are due_are = record {
-    follows = follows_same scheme journals f.world g.world f.events.items g.events.items (places_of f) (places_of g) (set f.posted.items at key) g.posted.items f.due.items g.due.items world_is events_are places_are posted_are due_are (record {
-      led = i.follows.led;
-      front = i.follows.front;
-      placed = i.follows.placed;
-      counted = length-set f.posted.items at key ∙ i.follows.counted;
-      counts = λ k m is. counts_set k m is;
-      waits = i.follows.waits;
-    });
-    quiet = subst IsQuiet (sym world_is) quiet;
+    follows = record {
+      follows = follows_same scheme f.world g.world f.events.items g.events.items (places_of f) (places_of g) (set f.posted.items at key) g.posted.items f.due.items g.due.items world_is events_are places_are posted_are due_are (record {
+        led = i.follows.follows.led;
+        front = i.follows.follows.front;
+        placed = i.follows.follows.placed;
+        counted = length-set f.posted.items at key ∙ i.follows.follows.counted;
+        counts = λ k m is. counts_set k m is;
+        waits = i.follows.follows.waits;
+      });
+      nodes_are = ap (λ (z : World). map (λ (x : Station). x.node) z.stations) world_is ∙ i.follows.nodes_are;
+    };
+    quiet = subst (λ (z : World). IsQuiet (without_tails z)) (sym world_is) quiet;
   }
     where
       same_or_not : (k j : ℕ) → (k ≡ j) ⊎ (k ≢ j)
       same_or_not k j = elim (cases_Bool (k == j)) [ inl y ↦ inl (eqb-true k j y) | inr d ↦ inr (eqb-false k j d) ]
 
-      counts_set : (k : ℕ) (m : Node) → slice_get (nodes scheme) k ≡ Some m → slice_index (set f.posted.items at key) k ≤ sent_count f.world m
+      counts_set : (k : ℕ) (m : Node) → slice_get (nodes scheme) k ≡ Some m → slice_index (set f.posted.items at key) k ≤ sent_count (without_tails f.world) m
       counts_set k m is =
           elim (same_or_not k at) [
             | inl e ↦
                 let here : Some n ≡ Some m = sym (node_of_place scheme n at place) ∙ subst (λ z. slice_get (nodes scheme) z ≡ Some m) e is in
                 let written : slice_index (set f.posted.items at key) k ≡ key = subst (λ z. slice_index (set f.posted.items at key) z ≡ key) (sym e) (get_or-set_same f.posted.items at key 0 within) in
-                subst (λ z. slice_index (set f.posted.items at key) k ≤ sent_count f.world z) (one_some n m here) (omega (arith, written, i.few))
+                subst (λ z. slice_index (set f.posted.items at key) k ≤ sent_count (without_tails f.world) z) (one_some n m here) (omega (arith, written, i.few))
             | inr ne ↦
                 let as_before : slice_index (set f.posted.items at key) k ≡ slice_index f.posted.items k = get_or-set_other f.posted.items at k key 0 ne in
-                omega (arith, as_before, i.follows.counts k m is)
+                omega (arith, as_before, i.follows.follows.counts k m is)
           ]

@@ -1,7 +1,8 @@
--- Events that are tried: that an event gives a node its input as well as any, and what is known where it comes to
--- nothing.
-use Rattle.std.proofs.Common.{◌≡◌, ◌≢◌, ℕ, List, [], ◌∷◌, ◌++◌, Bool, true, false, cond, Option, Some, None, inl, inr, refl, sym, ap, subst, ◌∙◌, length}
-use Rattle.std.specs.Prelude.{slice_get, option_copied, Contains}
+-- Events for a node's next record: which one fits, and where none does. What posting comes to, and where a message
+-- is found.
+use Rattle.std.proofs.Common.{◌≡◌, ℕ, List, true, false, Option, Some, None, refl, sym, ap, subst, ◌∙◌, length}
+use Rattle.std.specs.Prelude.{slice_get, Contains}
+use Rattle.std.proofs.lemmas.Bool.{cond-false}
 use Rattle.units.specs.declared.code.Node.{Node}
 use Rattle.status.specs.declared.id.TransactionId.{TransactionId}
 use Rattle.status.specs.declared.moment.Moment.{Moment}
@@ -9,33 +10,25 @@ use Rattle.wire.specs.Parties.{receiver, transaction}
 use Rattle.wire.specs.declared.input.Input.{Input}
 use Rattle.wire.specs.declared.input.Input.TheVariants.{Received}
 use Rattle.wire.specs.declared.message.Message.{Message}
-use Rattle.protocol.specs.Weave.{Gives}
-use Rattle.protocol.specs.World.{World, Stepped, posted, step}
+use Rattle.protocol.specs.World.{World, Stepped, is_order, posted, stays, step}
 use Rattle.protocol.specs.declared.event.Outcome.{Outcome}
 use Rattle.protocol.specs.declared.event.Outcome.TheVariants.{Done, NotPossible, Recorded}
 use Rattle.protocol.specs.declared.event.Posted.{Posted}
-use Rattle.protocol.specs.declared.event.WorldEvent.{WorldEvent}
 use Rattle.protocol.specs.declared.event.WorldEvent.TheVariants.{Deliver, Post, Take}
-use Rattle.lemmas.proofs.OneValue.{one_some}
 use Rattle.lemmas.proofs.Positions.{last_at}
-use Rattle.weave.specs.Steps.{AreAllPlaced, HasMessage, IsBest, IsNotRecorded, next_message, with_message}
-use Rattle.weave.proofs.Turns.{NotRecorded, deliver_any, gives_still, message_none, order_any}
+use Rattle.weave.specs.Steps.{AreAllPlaced, Fits, HasMessage, IsNotRecorded, next_message, with_message}
+use Rattle.weave.proofs.Turns.{message_none, order_any, taken}
 
 abbrev pub came : World → Outcome → Stepped
 came v o = record { world = v; outcome = o }
 
 -- ---- an event for an input
 
-pub best_order : (w : World) (n : Node) (input : Input) → ((m : Message) (moment : Moment) → input ≡ Received m moment → ⊥) → IsBest w (Take n input) n input
-best_order w n input other = record { gives = (refl, refl); best = λ e place g r. order_any w n input e place other g r }
+pub fits_order : (w : World) (n : Node) (input : Input) → is_order w n input ≡ true → Fits w (Take n input) n input
+fits_order w n input order = record { gives = (refl, refl); allowed = order }
 
-pub best_delivery : (w : World) (n : Node) (m : Message) (moment : Moment) (index : ℕ) → HasMessage w.bag m index → receiver m ≡ n → IsBest w (Deliver index moment) n (Received m moment)
-best_delivery w n m moment index h to =
-    let there : receiver h.0.message ≡ n = ap receiver h.2 ∙ to in
-    record {
-      gives = (h.0, h.1, there, ap (λ z. Received z moment) h.2);
-      best = λ e place g r. deliver_any w index n h.0 moment e place h.1 there (subst (λ z. Gives w e n (Received z moment)) (sym h.2) g) r;
-    }
+pub fits_delivery : (w : World) (n : Node) (m : Message) (moment : Moment) (index : ℕ) → HasMessage w.bag m index → receiver m ≡ n → Fits w (Deliver index moment) n (Received m moment)
+fits_delivery w n m moment index h to = record { gives = (h.0, h.1, ap receiver h.2 ∙ to, ap (λ z. Received z moment) h.2); allowed = tt }
 
 pub no_delivery : (w : World) (n : Node) (m : Message) (moment : Moment) → ((k : ℕ) → HasMessage w.bag m k → ⊥) → IsNotRecorded w n (Received m moment)
 no_delivery w n m moment none e place g r = message_none w n m moment e place (λ index p is to same. none index (p, is, same)) g r
@@ -43,13 +36,14 @@ no_delivery w n m moment none e place g r = message_none w n m moment e place (�
 pub other_delivery : (w : World) (n : Node) (m : Message) (moment : Moment) → (receiver m ≡ n → ⊥) → IsNotRecorded w n (Received m moment)
 other_delivery w n m moment apart e place g r = message_none w n m moment e place (λ index p is to same. apart (ap receiver (sym same) ∙ to)) g r
 
--- what was tried is not recorded
-pub rests_after : (w v : World) (e : WorldEvent) (n : Node) (input : Input) (o : Outcome) → IsBest w e n input → NotRecorded o → came v o ≡ step w e → IsNotRecorded w n input × (v ≡ w)
-rests_after w v e n input o best none does =
-    let came_to : o ≡ (step w e).outcome = ap (λ (z : Stepped). z.outcome) does in (
-      λ other place g r. none place (came_to ∙ best.best other place g r),
-      ap (λ (z : Stepped). z.world) does ∙ gives_still w e n input best.gives (λ place h. none place (came_to ∙ h)),
-    )
+not_ordered : (w : World) (n : Node) (input : Input) (place : ℕ) → is_order w n input ≡ false → (step w (Take n input)).outcome ≡ Recorded place → ⊥
+unfolding step
+not_ordered w n input place none r =
+    let clash : NotPossible ≡ Recorded place = sym (ap (λ (z : Stepped). z.outcome) (cond-false (is_order w n input) (taken w n input) (stays w NotPossible) none)) ∙ r in
+    cc (clash)
+
+pub no_order : (w : World) (n : Node) (input : Input) → ((m : Message) (moment : Moment) → input ≡ Received m moment → ⊥) → is_order w n input ≡ false → IsNotRecorded w n input
+no_order w n input other none e place g r = not_ordered w n input place none (order_any w n input e place other g r)
 
 -- ---- a message posted
 

@@ -1,22 +1,18 @@
 -- A node waits until its own station changes or a message comes for it: no other event of the world lets it record
 -- what it didn't before.
 use Rattle.std.proofs.Common.{◌≡◌, ℕ, List, ◌∷◌, ◌++◌, Bool, true, false, cond, Option, Some, None, refl, sym, ap, subst, ◌∙◌}
-use Rattle.std.specs.Prelude.{slice_get}
 use Rattle.units.specs.declared.code.Node.{Node}
 use Rattle.wire.specs.declared.input.Input.{Input}
 use Rattle.wire.specs.declared.input.Input.TheVariants.{Propose, Request, OpenAccount, CloseAccount, Ack, CleanUp, Eligible, Received}
 use Rattle.scheme.specs.declared.registries.Scheme.{Scheme}
 use Rattle.protocol.specs.Claims.{committed_part}
-use Rattle.protocol.specs.Weave.{Gives}
 use Rattle.wire.specs.Parties.{receiver}
 use Rattle.protocol.specs.World.{World, Station, Turn, Stepped, station, stays, take_input, at_node, is_order, was_posted, step}
 use Rattle.protocol.specs.declared.event.Outcome.TheVariants.{Recorded, NotPossible}
 use Rattle.protocol.specs.declared.event.Posted.{Posted}
-use Rattle.protocol.specs.declared.event.WorldEvent.{WorldEvent}
 use Rattle.protocol.specs.declared.event.WorldEvent.TheVariants.{Take, Commit, Post, Deliver, Crash, Restart}
 use Rattle.lemmas.proofs.Membership.{In, In_slice_get}
 use Rattle.lemmas.proofs.Positions as positions
-use Rattle.weave.specs.Following.{committed_at}
 use Rattle.weave.specs.Steps.{IsNotRecorded, Waits}
 use Rattle.weave.proofs.Turns.{taken, gives_step, deliver_at}
 

@@ -1,15 +1,16 @@
 -- Journals of all nodes, followed into one world: how far, and why not further.
-use Rattle.std.specs.Prelude.{◌≡◌, ◌<◌, ◌⊎◌, ℕ, List, [], ◌∷◌, ◌++◌, Contains, length, slice_get, slice_index_or, Option, Some}
+use Rattle.std.specs.Prelude.{◌≡◌, ◌<◌, ℕ, List, [], length, slice_get, slice_index_or, Option, Some}
 use Rattle.std.specs.List.{position_from}
 use Rattle.std.specs.Option.{option_map_or}
 use Rattle.units.specs.Code.{same_node}
 use Rattle.units.specs.declared.code.Node.{Node}
 use Rattle.wire.specs.declared.input.Input.{Input}
 use Rattle.scheme.specs.declared.registries.Scheme.{Scheme}
-use Rattle.protocol.specs.Claims.{committed_part}
-use Rattle.protocol.specs.Weave.{ArePrefixes, Gives, IsQuiet, IsStuck, Projects}
-use Rattle.protocol.specs.World.{World, opening, run, station, step}
-use Rattle.protocol.specs.declared.event.Outcome.TheVariants.{Recorded}
+use Rattle.protocol.specs.Claims.{DeliversWelcome, committed_of, committed_part, live_of}
+use Rattle.protocol.specs.Headline.{IsSafe}
+use Rattle.protocol.specs.WayOut.{WayOut}
+use Rattle.protocol.specs.Weave.{ArePrefixes, IsQuiet, IsStuck, Projects}
+use Rattle.protocol.specs.World.{World, opening, run, station}
 use Rattle.protocol.specs.declared.event.WorldEvent.{WorldEvent}
 use Rattle.world.specs.Kept.{nodes}
 use Rattle.weave.specs.declared.fault.WeaveFault.{WeaveFault}
@@ -50,6 +51,16 @@ pub record IsStuckAt (scheme : Scheme) (journals : Node → List Input) (n : Nod
   pub followed : HasFollowed (run (opening scheme) events) journals
   pub stuck : IsStuck (run (opening scheme) events) journals
   pub first : IsFirstLeft (run (opening scheme) events) journals n place
+
+-- the events lead to the journals and to the world, in which no tonne is in two places and none is lost, and from which
+-- there is a way out
+pub record IsWoven (scheme : Scheme) (journals : Node → List Input) (events : List WorldEvent) (w : World) : Type 0 where
+  pub projects : Projects scheme events journals
+  pub world : w ≡ run (opening scheme) events
+  pub live : IsSafe scheme (live_of w)
+  pub committed : IsSafe scheme (committed_of w)
+  pub welcome : DeliversWelcome w
+  pub way_out : WayOut w
 
 -- no list of events leads to the journals
 abbrev pub HasNoEvents : Scheme → (Node → List Input) → Type 0

@@ -1,22 +1,20 @@
 -- What is kept while journals are followed, and what each step changes of it. No public contract cites it.
 use Rattle.std.specs.BTreeMap as tree
 use Rattle.std.specs.Option.{option_map_or}
-use Rattle.std.specs.Prelude.{◌≡◌, ◌<◌, ◌≤◌, ◌+◌, ◌-◌, ℕ, true, false, List, [], ◌∷◌, ◌++◌, Contains, length, option_and_then, Option, Some, None, if◌then◌else◌}
+use Rattle.std.specs.Prelude.{◌≡◌, ◌<◌, ◌≤◌, ℕ, true, List, [], ◌∷◌, ◌++◌, Contains, length, map, Some, None, if◌then◌else◌}
 use Rattle.units.specs.declared.code.Node.{Node}
 use Rattle.status.specs.Id.{id_cmp, same_id}
 use Rattle.status.specs.declared.id.TransactionId.{TransactionId}
 use Rattle.wire.specs.Parties.{receiver, transaction}
-use Rattle.wire.specs.declared.input.Input.{Input}
 use Rattle.wire.specs.declared.message.Message.{Message}
 use Rattle.scheme.specs.declared.registries.Scheme.{Scheme}
 use Rattle.protocol.specs.Registries.{is_node}
-use Rattle.protocol.specs.Weave.{Gives, IsQuiet}
-use Rattle.protocol.specs.World.{World, run, sent, station, step}
-use Rattle.protocol.specs.declared.event.Outcome.TheVariants.{Recorded}
+use Rattle.protocol.specs.Weave.{IsQuiet}
+use Rattle.protocol.specs.World.{World, step}
 use Rattle.protocol.specs.declared.event.WorldEvent.{WorldEvent}
 use Rattle.protocol.specs.declared.event.WorldEvent.TheVariants.{Commit, Post}
-use Rattle.weave.specs.Following.{committed_at}
-use Rattle.weave.specs.Steps.{Follows, IsNotRecorded, IsPostedTo, left_of, next_message, sent_count, with_message}
+use Rattle.world.specs.Kept.{nodes}
+use Rattle.weave.specs.Steps.{Follows, IsPostedTo, left_of, next_message, sent_count, whole_at, with_message, without_tails}
 use Rattle.weave.specs.declared.following.Following.{Following}
 use Rattle.weave.specs.declared.following.Progress.{Progress}
 use Rattle.weave.specs.declared.following.Progress.TheVariants.{Advanced, Rests}
@@ -26,40 +24,41 @@ places_of f t = option_map_or (λ v. v.items) (tree.get id_cmp f.places t) []
 
 -- ---- what is kept
 
--- the journals are followed so far, where these nodes are due
-abbrev pub IsFollowingWith : Scheme → (Node → List Input) → Following → List Node → Type 0
-IsFollowingWith scheme journals f due = Follows scheme journals f.world f.events.items (places_of f) f.posted.items due
+-- the committed journals are followed so far, where these nodes are due: the nodes' whole journals are to be reached
+pub record IsFollowingWith (scheme : Scheme) (f : Following) (due : List Node) : Type 0 where
+  pub follows : Follows scheme (whole_at f.world) (without_tails f.world) f.events.items (places_of f) f.posted.items due
+  pub nodes_are : map (λ s. s.node) f.world.stations ≡ nodes scheme
 
 -- and nothing that was sent is left to post
-pub record IsFollowing (scheme : Scheme) (journals : Node → List Input) (f : Following) : Type 0 where
-  pub follows : IsFollowingWith scheme journals f f.due.items
-  pub quiet : IsQuiet f.world
+pub record IsFollowing (scheme : Scheme) (f : Following) : Type 0 where
+  pub follows : IsFollowingWith scheme f f.due.items
+  pub quiet : IsQuiet (without_tails f.world)
 
 -- the node's messages are posted below that key, and all those of others
-pub record IsPosting (scheme : Scheme) (journals : Node → List Input) (f : Following) (n : Node) (key : ℕ) : Type 0 where
-  pub follows : IsFollowingWith scheme journals f f.due.items
+pub record IsPosting (scheme : Scheme) (f : Following) (n : Node) (key : ℕ) : Type 0 where
+  pub follows : IsFollowingWith scheme f f.due.items
   pub node : is_node f.world.scheme n ≡ true
   pub due : Contains f.due.items n
-  pub posted : IsPostedTo f.world n key
-  pub few : key ≤ sent_count f.world n
+  pub posted : IsPostedTo (without_tails f.world) n key
+  pub few : key ≤ sent_count (without_tails f.world) n
+
+-- the whole journals are the same
+abbrev pub HasWholeSame : World → World → Type 0
+HasWholeSame w v = (n : Node) → whole_at v n ≡ whole_at w n
+
+-- how many records of these nodes' journals are left
+abbrev pub left_in : World → List Node → ℕ
+left_in w ns = left_of (whole_at w) (without_tails w) ns
 
 -- ---- what a step changes
 
--- the node records the input and commits it, and is due again
-pub record Takes (f g : Following) (n : Node) (input : Input) : Type 0 where
-  pub event : WorldEvent
-  pub place : ℕ
-  pub gives : Gives f.world event n input
-  pub recorded : (step f.world event).outcome ≡ Recorded place
-  pub world : g.world ≡ run f.world (event ∷ Commit n 1 ∷ [])
-  pub events : g.events.items ≡ f.events.items ++ event ∷ Commit n 1 ∷ []
+-- the node's next record is committed, the event is noted, and the node is due again
+pub record Takes (f g : Following) (n : Node) (e : WorldEvent) : Type 0 where
+  pub world : g.world ≡ (step f.world (Commit n 1)).world
+  pub events : g.events.items ≡ f.events.items ++ e ∷ Commit n 1 ∷ []
   pub places : (t : TransactionId) → places_of g t ≡ places_of f t
   pub posted : g.posted.items ≡ f.posted.items
   pub due : g.due.items ≡ f.due.items ++ n ∷ []
-
-abbrev pub HasTaken : Following → Following → Node → Input → Progress → Type 0
-HasTaken f g n input Advanced = Takes f g n input
-HasTaken f g n input Rests = IsNotRecorded f.world n input × (g ≡ f)
 
 -- the message with that key is posted, and its receiver is due
 pub record Posts (f g : Following) (n : Node) (key : ℕ) : Type 0 where
@@ -76,11 +75,11 @@ HasPosted f g n key Advanced = Posts f g n key
 HasPosted f g n key Rests = (next_message f.world n key ≡ None) × (g ≡ f)
 
 -- the world went on and fewer records are left, or it stands still and so does what is due
-abbrev pub IsFewer : (Node → List Input) → List Node → Following → Following → Progress → Type 0
-IsFewer journals ns f g Advanced = left_of journals g.world ns < left_of journals f.world ns
-IsFewer journals ns f g Rests = g ≡ f
+abbrev pub IsFewer : List Node → Following → Following → Progress → Type 0
+IsFewer ns f g Advanced = left_in g.world ns < left_in f.world ns
+IsFewer ns f g Rests = g ≡ f
 
 -- the world went on and fewer records are left, or no node is due
-abbrev pub IsFewerOrDone : (Node → List Input) → List Node → Following → Following → Progress → Type 0
-IsFewerOrDone journals ns f g Advanced = left_of journals g.world ns < left_of journals f.world ns
-IsFewerOrDone journals ns f g Rests = g.due.items ≡ []
+abbrev pub IsFewerOrDone : List Node → Following → Following → Progress → Type 0
+IsFewerOrDone ns f g Advanced = left_in g.world ns < left_in f.world ns
+IsFewerOrDone ns f g Rests = g.due.items ≡ []

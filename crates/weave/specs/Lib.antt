@@ -2,3 +2,4 @@ pub mod Following
 pub mod Steps
 pub mod Kept
 pub mod Left
+pub mod Ahead

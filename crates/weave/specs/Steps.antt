@@ -1,5 +1,5 @@
 -- What a node waits for, and what is posted of a node's messages. No public contract cites it.
-use Rattle.std.specs.Prelude.{◌≡◌, ◌<◌, ◌≤◌, ◌⊎◌, ℕ, true, false, List, [], ◌∷◌, ◌++◌, Contains, length, slice_get, slice_index, option_and_then, Option, Some, ◌+◌, ◌-◌}
+use Rattle.std.specs.Prelude.{◌≡◌, ◌<◌, ◌≤◌, ◌⊎◌, ℕ, true, false, List, [], ◌∷◌, ◌++◌, Contains, length, map, slice_get, slice_index, option_and_then, Option, Some, Ok, ◌+◌, ◌-◌}
 use Rattle.units.specs.Code.{same_node}
 use Rattle.units.specs.declared.code.Node.{Node}
 use Rattle.status.specs.declared.id.TransactionId.{TransactionId}
@@ -7,17 +7,32 @@ use Rattle.wire.specs.Parties.{transaction}
 use Rattle.wire.specs.declared.input.Input.{Input}
 use Rattle.wire.specs.declared.message.Message.{Message}
 use Rattle.scheme.specs.declared.registries.Scheme.{Scheme}
-use Rattle.protocol.specs.Claims.{committed_of}
+use Rattle.protocol.specs.Claims.{committed_of, whole}
+use Rattle.protocol.specs.Cores.{answer}
 use Rattle.protocol.specs.History.{sends}
 use Rattle.protocol.specs.Registries.{is_node}
 use Rattle.protocol.specs.WayOut.{IsIdle}
 use Rattle.protocol.specs.Weave.{ArePrefixes, Gives}
-use Rattle.protocol.specs.World.{World, opening, run, sent, station, step}
+use Rattle.protocol.specs.World.{World, Station, is_order, opening, run, sent, station, step}
 use Rattle.protocol.specs.declared.event.Outcome.TheVariants.{Recorded}
 use Rattle.protocol.specs.declared.event.Posted.{Posted}
 use Rattle.protocol.specs.declared.event.WorldEvent.{WorldEvent}
+use Rattle.protocol.specs.declared.event.WorldEvent.TheVariants.{Take}
+use Rattle.protocol.specs.declared.node_core.Stepped.TheVariants as stepped
 use Rattle.world.specs.Kept.{nodes}
 use Rattle.weave.specs.Following.{committed_at}
+
+-- ---- the world that has only the committed journals
+
+abbrev pub idle_station : Station → Station
+idle_station s = record s { tail = [] }
+
+abbrev pub without_tails : World → World
+without_tails w = record w { stations = map idle_station w.stations }
+
+-- the journal of a node with its tail
+abbrev pub whole_at : World → Node → List Input
+whole_at w n = whole (station w n)
 
 -- ---- what a node waits for
 
@@ -25,14 +40,26 @@ use Rattle.weave.specs.Following.{committed_at}
 abbrev pub IsNotRecorded : World → Node → Input → Type 0
 IsNotRecorded w n input = (e : WorldEvent) (place : ℕ) → Gives w e n input → (step w e).outcome ≡ Recorded place → ⊥
 
--- the event gives the node the input, and where any event makes the node record it, this one does
-pub record IsBest (w : World) (e : WorldEvent) (n : Node) (input : Input) : Type 0 where
+-- the node may take the input so: as an order of its, or as a message
+abbrev pub IsAllowed : World → WorldEvent → Type 0
+IsAllowed w (Take n input) = is_order w n input ≡ true
+IsAllowed w _ = Unit {0}
+
+-- the event gives the node the input, which the node may take so
+pub record Fits (w : World) (e : WorldEvent) (n : Node) (input : Input) : Type 0 where
   pub gives : Gives w e n input
-  pub best : (other : WorldEvent) (place : ℕ) → Gives w other n input → (step w other).outcome ≡ Recorded place → (step w e).outcome ≡ Recorded place
+  pub allowed : IsAllowed w e
 
 -- no event makes the node record the next input of its journal
 abbrev pub Waits : World → (Node → List Input) → Node → Type 0
 Waits w journals n = (input : Input) (rest : List Input) → journals n ≡ committed_at w n ++ input ∷ rest → IsNotRecorded w n input
+
+-- the event gives the node the first record of its tail, and the node records it after the committed ones
+pub record IsNextBy (w : World) (n : Node) (e : WorldEvent) : Type 0 where
+  pub input : Input
+  pub next : slice_get (whole_at w n) (length (committed_at w n)) ≡ Some input
+  pub recorded : answer w.scheme n (committed_at w n) input ≡ Ok (stepped.Recorded (length (committed_at w n)))
+  pub fits : Fits w e n input
 
 -- ---- what is posted
 
@@ -72,10 +99,6 @@ pub record Follows (scheme : Scheme) (journals : Node → List Input) (w : World
   pub counted : length posted ≡ length (nodes scheme)
   pub counts : (k : ℕ) (n : Node) → slice_get (nodes scheme) k ≡ Some n → slice_index posted k ≤ sent_count w n
   pub waits : (n : Node) → Contains due n ⊎ Waits w journals n
-
--- committed journals are the same
-abbrev pub HasCommittedSame : World → World → Type 0
-HasCommittedSame w v = (n : Node) → committed_at v n ≡ committed_at w n
 
 -- what isn't a node of the scheme has no journal
 abbrev pub HasNodesAlone : Scheme → (Node → List Input) → Type 0

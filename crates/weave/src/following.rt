@@ -1,25 +1,25 @@
 //! Journals followed into one world, as far as posted messages allow.
-ghost use Rattle.std.specs.Prelude.{◌≡◌, ◌<◌, ◌++◌, ◌∷◌, [], List, IfOk, OnOk, Some, length, map, slice_index};
+ghost use Rattle.std.specs.Prelude.{◌≡◌, ◌<◌, ◌++◌, ◌∷◌, [], All, IfOk, OnOk, Some, length, map, slice_index};
 ghost use Rattle.units.specs.declared.code.Node.{Node};
-ghost use Rattle.wire.specs.declared.input.Input.{Input};
 ghost use Rattle.scheme.specs.declared.registries.Scheme.{Scheme};
+ghost use Rattle.node.specs.Cores as node_cores;
 ghost use Rattle.protocol.specs.Weave.{IsQuiet};
 ghost use Rattle.weave.specs.Following.{journal_of, place_of};
-ghost use Rattle.weave.specs.Kept.{HasPosted, HasTaken, IsFewer, IsFewerOrDone, IsFollowing, IsFollowingWith, IsPosting, places_of};
-ghost use Rattle.weave.specs.Steps.{AreAllPlaced, HasCommittedSame, HasNodesAlone};
+ghost use Rattle.weave.specs.Kept.{HasPosted, IsFewer, IsFewerOrDone, IsFollowing, IsFollowingWith, IsPosting, Takes, HasWholeSame};
+ghost use Rattle.weave.specs.Steps.{whole_at, without_tails};
 ghost use Rattle.world.specs.Kept.{nodes};
 
-use crate::giving::event_for;
-use crate::nodes::{journal_at, next_input, nodes_of, place_of};
+use crate::giving::next_event;
+use crate::nodes::{nodes_of, place_of};
 use crate::places::add_place;
 use crate::watch::Watch;
+use node::Core;
 use protocol::{Outcome, WorldEvent};
 use scheme::Scheme;
 use status::TransactionId;
 use std::alloc::Global;
 use std::collections::BTreeMap;
 use units::{NoMemory, Node};
-use wire::Input;
 use world::World;
 
 /// What a look at a node came to.
@@ -31,11 +31,14 @@ pub(crate) enum Progress {
     Rests,
 }
 
-/// The world so far, the events that lead to it, and where to look next.
+/// How far the journals are followed, the events that lead there, and where to look next.
 #[derive(Drop)]
 pub(crate) struct Following {
     pub alloc: Global,
+    /// The records that a node has taken so far are committed, and those that are left of its journal are its tail: no
+    /// core takes a record again that it has already.
     pub world: World,
+    /// These lead to the world without its tails.
     pub events: Vec<WorldEvent>,
     /// Where the bag has the messages of each transaction.
     pub places: BTreeMap<TransactionId, Vec<u64>>,
@@ -46,24 +49,16 @@ pub(crate) struct Following {
 }
 
 impl Following {
-    /// The node records the input and commits it, if an event gives it now. Then the node is due again.
-    fn take(&mut self, node: Node, input: &Input) -> Result<Progress, NoMemory>
-        requires { AreAllPlaced (places_of self.old) self.old.world.bag }
-        ensures { IfOk result (HasTaken self.old self.new node input.now) }
+    /// The node commits its next record, which the event gives it. Then the node is due again.
+    fn take(&mut self, node: Node, event: WorldEvent) -> Result<(), NoMemory>
+        ensures { OnOk result (Takes self.old self.new node event) }
     {
-        let Some(event) = event_for(&self.world, &self.places, node, input)? else {
-            return Ok(Progress::Rests);
-        };
-        match self.world.apply(&event)? {
-            Outcome::Recorded(_) => {}
-            _ => return Ok(Progress::Rests),
-        }
         let commit = WorldEvent::Commit { node, count: 1 };
         self.world.apply(&commit)?;
         self.events.push(event)?;
         self.events.push(commit)?;
         self.due.push(node)?;
-        Ok(Progress::Advanced)
+        Ok(())
     }
 
     /// Posts the node's message with that key, if there is one. Then its receiver is due.
@@ -89,8 +84,8 @@ impl Following {
 
     /// Posts the node's messages from that key on, and returns the key that the next one will have.
     fn post_from(&mut self, node: Node, first: u64) -> Result<u64, NoMemory>
-        ensures follows { (scheme : Scheme) (journals : Node → List Input) → IsPosting scheme journals self.old node first → IfOk result (λ key. IsPosting scheme journals self.new node key × IsQuiet self.new.world) }
-        ensures committed { IfOk result (λ key. HasCommittedSame self.old.world self.new.world) }
+        ensures follows { (scheme : Scheme) → IsPosting scheme self.old node first → IfOk result (λ key. IsPosting scheme self.new node key × IsQuiet (without_tails self.new.world)) }
+        ensures stations { OnOk result (self.new.world.stations ≡ self.old.world.stations) }
         ensures posted { OnOk result (self.new.posted.items ≡ self.old.posted.items) }
     {
         for key in first..u64::MAX {
@@ -105,8 +100,8 @@ impl Following {
     /// Posts what the node at that place has sent and not posted.
     fn post_all(&mut self, node: Node, at: usize) -> Result<(), NoMemory>
         requires { at < length self.old.posted.items }
-        ensures follows { (scheme : Scheme) (journals : Node → List Input) → place_of scheme node ≡ Some at → IsPosting scheme journals self.old node (slice_index self.old.posted.items at) → OnOk result (IsFollowing scheme journals self.new) }
-        ensures committed { OnOk result (HasCommittedSame self.old.world self.new.world) }
+        ensures follows { (scheme : Scheme) → place_of scheme node ≡ Some at → IsPosting scheme self.old node (slice_index self.old.posted.items at) → OnOk result (IsFollowing scheme self.new) }
+        ensures stations { OnOk result (self.new.world.stations ≡ self.old.world.stations) }
     {
         let first = self.posted[at];
         let until = self.post_from(node, first)?;
@@ -114,56 +109,52 @@ impl Following {
         Ok(())
     }
 
-    /// The node records the next record of its journal, commits it and posts what it sends, if an event gives it the
-    /// record now. Then the node is due again.
-    fn record_next(
-        &mut self,
-        scheme: &Scheme,
-        journals: &[&[Input]],
-        node: Node,
-    ) -> Result<Progress, NoMemory>
-        requires count { length journals.now ≡ length (nodes scheme.now) }
-        requires follows { IsFollowingWith scheme.now (journal_of scheme.now (map (λ j. j.now) journals.now)) self.old (self.old.due.items ++ node ∷ []) }
-        requires quiet { IsQuiet self.old.world }
-        ensures follows { IfOk result (λ progress. IsFollowing scheme.now (journal_of scheme.now (map (λ j. j.now) journals.now)) self.new) }
-        ensures fewer { IfOk result (IsFewer (journal_of scheme.now (map (λ j. j.now) journals.now)) (nodes scheme.now) self.old self.new) }
+    /// The node commits the next record of its journal and posts what it sends, if an event gives it the record now.
+    /// Then the node is due again.
+    fn record_next(&mut self, scheme: &Scheme, node: Node) -> Result<Progress, NoMemory>
+        requires follows { IsFollowingWith scheme.now self.old (self.old.due.items ++ node ∷ []) }
+        requires quiet { IsQuiet (without_tails self.old.world) }
+        ensures follows { IfOk result (λ progress. IsFollowing scheme.now self.new) }
+        ensures whole { IfOk result (λ progress. HasWholeSame self.old.world self.new.world) }
+        ensures fewer { IfOk result (IsFewer (nodes scheme.now) self.old self.new) }
     {
         let Some(at) = place_of(scheme, node) else {
             return Ok(Progress::Rests);
         };
-        let Some(input) = next_input(&self.world, journal_at(journals, at), node) else {
+        let Some(event) = next_event(&self.world, &self.places, node)? else {
             return Ok(Progress::Rests);
         };
-        if let Progress::Rests = self.take(node, input)? {
-            return Ok(Progress::Rests);
-        }
+        self.take(node, event)?;
         self.post_all(node, at)?;
         Ok(Progress::Advanced)
     }
 
     /// One of the nodes that are due records its next record, if any of them does.
-    fn advance(&mut self, scheme: &Scheme, journals: &[&[Input]]) -> Result<Progress, NoMemory>
-        requires count { length journals.now ≡ length (nodes scheme.now) }
-        requires follows { IsFollowing scheme.now (journal_of scheme.now (map (λ j. j.now) journals.now)) self.old }
-        ensures follows { IfOk result (λ progress. IsFollowing scheme.now (journal_of scheme.now (map (λ j. j.now) journals.now)) self.new) }
-        ensures fewer { IfOk result (IsFewerOrDone (journal_of scheme.now (map (λ j. j.now) journals.now)) (nodes scheme.now) self.old self.new) }
+    fn advance(&mut self, scheme: &Scheme) -> Result<Progress, NoMemory>
+        requires { IsFollowing scheme.now self.old }
+        ensures follows { IfOk result (λ progress. IsFollowing scheme.now self.new) }
+        ensures whole { IfOk result (λ progress. HasWholeSame self.old.world self.new.world) }
+        ensures fewer { IfOk result (IsFewerOrDone (nodes scheme.now) self.old self.new) }
     {
         while let Some(node) = self.due.pop() {
-            if let Progress::Advanced = self.record_next(scheme, journals, node)? {
+            if let Progress::Advanced = self.record_next(scheme, node)? {
                 return Ok(Progress::Advanced);
             }
         }
         Ok(Progress::Rests)
     }
 
-    /// The opening world, at which each node has to be looked at.
-    fn new(alloc: Global, scheme: &Scheme) -> Result<Following, NoMemory>
-        ensures { IfOk result (λ f. (journals : Node → List Input) → HasNodesAlone scheme.now journals → IsFollowing scheme.now journals f) }
+    /// The opening world, with the cores' journals as tails. Each node has to be looked at.
+    fn new(alloc: Global, scheme: &Scheme, cores: Vec<Core>) -> Result<Following, NoMemory>
+        requires nodes { map node_cores.node_of cores.items ≡ nodes scheme.now }
+        requires schemes { All (λ core. node_cores.scheme_of core ≡ scheme.now) cores.items }
+        ensures follows { IfOk result (IsFollowing scheme.now) }
+        ensures whole { IfOk result (λ f. (n : Node) → whole_at f.world n ≡ journal_of scheme.now (map node_cores.journal_of cores.items) n) }
     {
         let due = nodes_of(alloc, scheme)?;
         Ok(Following {
             alloc,
-            world: World::new(alloc, scheme)?,
+            world: World::uncommitted(alloc, scheme, cores)?,
             events: Vec::new(alloc),
             places: BTreeMap::new(alloc),
             posted: vec![in alloc; 0; due.len()]?,
@@ -172,19 +163,21 @@ impl Following {
     }
 }
 
-/// Follows the journals as far as they go, and tells of each record.
+/// Follows the journals of the cores as far as they go, and tells of each record.
 pub(crate) fn follow<W: Watch>(
     alloc: Global,
     scheme: &Scheme,
-    journals: &[&[Input]],
+    cores: Vec<Core>,
     watch: &mut W,
 ) -> Result<Following, NoMemory>
-    requires { length journals.now ≡ length (nodes scheme.now) }
-    ensures follows { IfOk result (IsFollowing scheme.now (journal_of scheme.now (map (λ j. j.now) journals.now))) }
+    requires nodes { map node_cores.node_of cores.items ≡ nodes scheme.now }
+    requires schemes { All (λ core. node_cores.scheme_of core ≡ scheme.now) cores.items }
+    ensures follows { IfOk result (IsFollowing scheme.now) }
+    ensures whole { IfOk result (λ f. (n : Node) → whole_at f.world n ≡ journal_of scheme.now (map node_cores.journal_of cores.items) n) }
     ensures done { IfOk result (λ f. f.due.items ≡ []) }
 {
-    let mut following = Following::new(alloc, scheme)?;
-    while let Progress::Advanced = following.advance(scheme, journals)? {
+    let mut following = Following::new(alloc, scheme, cores)?;
+    while let Progress::Advanced = following.advance(scheme)? {
         watch.woven();
     }
     Ok(following)

@@ -3,8 +3,9 @@ ghost use Rattle.std.specs.BTreeMap as tree;
 ghost use Rattle.std.specs.Option.{option_map_or};
 ghost use Rattle.std.specs.Prelude.{◌≡◌, ◌↔◌, [], IfNone, IfOk, IfSome, IsTrue};
 ghost use Rattle.status.specs.Id.{id_cmp};
-ghost use Rattle.weave.specs.Steps.{AreAllPlaced, IsBest, IsNotRecorded};
+ghost use Rattle.weave.specs.Steps.{AreAllPlaced, Fits, IsNextBy, IsNotRecorded, Waits, whole_at, without_tails};
 
+use crate::nodes::next_input;
 use crate::places::place_in_bag;
 use protocol::WorldEvent;
 use status::{Moment, TransactionId};
@@ -28,8 +29,8 @@ fn delivery_of(
     moment: Moment,
 ) -> Option<WorldEvent>
     requires { AreAllPlaced (λ t. option_map_or (λ v. v.items) (tree.get id_cmp places.now t) []) world.now.bag }
-    ensures some { IfSome result (λ e. IsBest world.now e node (Input.Received message.now moment)) }
-    ensures none { IfNone result (IsNotRecorded world.now node (Input.Received message.now moment)) }
+    ensures some { IfSome result (λ e. Fits world.now e node (Input.Received message.now moment)) }
+    ensures none { IfNone result (IsNotRecorded (without_tails world.now) node (Input.Received message.now moment)) }
 {
     if !are_same_nodes(message.receiver(), node) {
         return None;
@@ -41,20 +42,40 @@ fn delivery_of(
     })
 }
 
-/// An event that gives the node the input, or `None` where no event makes the node record it in this world.
-pub(crate) fn event_for(
+/// An event that gives the node the input, or `None` where no event makes the node record it after the committed ones.
+fn event_for(
     world: &World,
     places: &BTreeMap<TransactionId, Vec<u64>>,
     node: Node,
     input: &Input,
 ) -> Result<Option<WorldEvent>, NoMemory>
     requires { AreAllPlaced (λ t. option_map_or (λ v. v.items) (tree.get id_cmp places.now t) []) world.now.bag }
-    ensures some { IfOk result (λ o. IfSome o (λ e. IsBest world.now e node input.now)) }
-    ensures none { IfOk result (λ o. IfNone o (IsNotRecorded world.now node input.now)) }
+    ensures some { IfOk result (λ o. IfSome o (λ e. Fits world.now e node input.now)) }
+    ensures none { IfOk result (λ o. IfNone o (IsNotRecorded (without_tails world.now) node input.now)) }
 {
     if let Input::Received { message, moment } = input {
         return Ok(delivery_of(world, places, node, message, *moment));
     }
+    if !world.is_order(node, input) {
+        return Ok(None);
+    }
     let input = input.copy()?;
     Ok(Some(WorldEvent::Take { node, input }))
+}
+
+/// An event that gives the node the first record of its tail, or `None` where there is none or no event makes the node
+/// record it after the committed ones.
+pub(crate) fn next_event(
+    world: &World,
+    places: &BTreeMap<TransactionId, Vec<u64>>,
+    node: Node,
+) -> Result<Option<WorldEvent>, NoMemory>
+    requires { AreAllPlaced (λ t. option_map_or (λ v. v.items) (tree.get id_cmp places.now t) []) world.now.bag }
+    ensures some { IfOk result (λ o. IfSome o (IsNextBy world.now node)) }
+    ensures none { IfOk result (λ o. IfNone o (Waits (without_tails world.now) (whole_at world.now) node)) }
+{
+    let Some(input) = next_input(world, node) else {
+        return Ok(None);
+    };
+    event_for(world, places, node, input)
 }

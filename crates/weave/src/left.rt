@@ -1,13 +1,10 @@
 //! Records that are left.
-ghost use Rattle.std.specs.Prelude.{◌≡◌, IfNone, IfSome, length, map};
-ghost use Rattle.weave.specs.Following.{journal_of};
-ghost use Rattle.weave.specs.Left.{AreDoneBelow, IsLeft};
-ghost use Rattle.world.specs.Kept.{nodes};
+ghost use Rattle.std.specs.Prelude.{◌≡◌, IfNone, IfSome, length};
+ghost use Rattle.weave.specs.Left.{AreDoneBelow, IsLeft, count_at};
 
-use crate::nodes::{committed_count, journal_at, place_of};
+use crate::nodes::{committed_count, place_of};
 use scheme::Scheme;
 use units::Node;
-use wire::Input;
 use world::World;
 
 /// A record that a node has not recorded yet.
@@ -17,31 +14,29 @@ pub(crate) struct Left {
     pub place: usize,
 }
 
-/// How many records the journal of that node has.
-fn record_count(scheme: &Scheme, journals: &[&[Input]], node: Node) -> usize
-    requires { length journals.now ≡ length (nodes scheme.now) }
-    ensures { result ≡ length (journal_of scheme.now (map (λ j. j.now) journals.now) node) }
+/// How many records the journal of that node has, by the node's place.
+fn record_count(scheme: &Scheme, counts: &[usize], node: Node) -> usize
+    ensures { result ≡ count_at scheme.now counts.now node }
 {
     match place_of(scheme, node) {
-        Some(at) => journal_at(journals, at).len(),
+        Some(at) => counts.get(at).copied().unwrap_or(0),
         None => 0,
     }
 }
 
-/// The first of the nodes with a record left, and that record's place.
+/// The first of the nodes with a record left, and that record's place. `counts` has the records of each node's journal.
 pub(crate) fn first_left(
     world: &World,
     scheme: &Scheme,
     among: &[Node],
-    journals: &[&[Input]],
+    counts: &[usize],
 ) -> Option<Left>
-    requires { length journals.now ≡ length (nodes scheme.now) }
-    ensures some { IfSome result (λ l. IsLeft world.now (journal_of scheme.now (map (λ j. j.now) journals.now)) among.now l.node l.place) }
-    ensures none { IfNone result (AreDoneBelow world.now (journal_of scheme.now (map (λ j. j.now) journals.now)) among.now (length among.now)) }
+    ensures some { IfSome result (λ l. IsLeft world.now (count_at scheme.now counts.now) among.now l.node l.place) }
+    ensures none { IfNone result (AreDoneBelow world.now (count_at scheme.now counts.now) among.now (length among.now)) }
 {
     for node in among {
         let place = committed_count(world, *node);
-        if place < record_count(scheme, journals, *node) {
+        if place < record_count(scheme, counts, *node) {
             return Some(Left { node: *node, place });
         }
     }

@@ -1,6 +1,7 @@
 //! From journals of all nodes back to one run: a list of events that leads to them, or that there is none.
 #![tactic(auto)]
 
+mod cores;
 mod fault;
 mod following;
 mod giving;
@@ -13,4 +14,4 @@ mod weaving;
 pub use fault::WeaveFault;
 pub use nodes::{nodes_of, place_of};
 pub use watch::{Nobody, Watch};
-pub use weaving::{Woven, weave, weave_watched};
+pub use weaving::{Woven, weave, weave_cores};

@@ -1,11 +1,14 @@
 //! The nodes of a scheme, and what is left of their journals.
 ghost use Rattle.std.specs.List.{position_from};
-ghost use Rattle.std.specs.Prelude.{◌≡◌, ◌<◌, [], IfOk, length, map, option_copied, slice_get, slice_index_or};
+ghost use Rattle.std.specs.Prelude.{◌≡◌, IfOk, IfSome, Ok, length, option_copied, slice_get};
 ghost use Rattle.std.specs.declared.cmp.Ordering.TheVariants.{Less};
 ghost use Rattle.units.specs.Apart.{Pairwise};
 ghost use Rattle.units.specs.Code.{same_code};
 ghost use Rattle.units.specs.Keys.{code_cmp};
+ghost use Rattle.protocol.specs.Cores.{answer};
+ghost use Rattle.protocol.specs.declared.node_core.Stepped.TheVariants as stepped;
 ghost use Rattle.weave.specs.Following.{committed_at, place_of};
+ghost use Rattle.weave.specs.Steps.{whole_at};
 ghost use Rattle.world.specs.Kept.{nodes};
 
 use scheme::{Scheme, SchemeRegistry};
@@ -50,14 +53,6 @@ pub fn nodes_of(alloc: Global, scheme: &Scheme) -> Result<Vec<Node>, NoMemory>
     Ok(nodes)
 }
 
-/// The journal at that place.
-pub(crate) fn journal_at<'a>(journals: &[&'a [Input]], at: usize) -> &'a [Input]
-    requires { at < length journals.now }
-    ensures { result.now ≡ slice_index_or (map (λ j. j.now) journals.now) at [] }
-{
-    journals[at]
-}
-
 /// How many records the node has committed.
 pub(crate) fn committed_count(world: &World, node: Node) -> usize
     ensures { result ≡ length (committed_at world.now node) }
@@ -68,9 +63,18 @@ pub(crate) fn committed_count(world: &World, node: Node) -> usize
     }
 }
 
-/// The record of the journal that the node has not committed yet.
-pub(crate) fn next_input<'a>(world: &World, journal: &'a [Input], node: Node) -> Option<&'a Input>
-    ensures { option_copied result ≡ slice_get journal.now (length (committed_at world.now node)) }
+/// The record of the journal at that place.
+fn record_at(journal: &[Input], place: usize) -> Option<&Input>
+    ensures { option_copied result ≡ slice_get journal.now place }
 {
-    journal.get(committed_count(world, node))
+    journal.get(place)
+}
+
+/// The first record of the node's tail, which the node records after the committed ones.
+pub(crate) fn next_input(world: &World, node: Node) -> Option<&Input>
+    ensures value { option_copied result ≡ slice_get (whole_at world.now node) (length (committed_at world.now node)) }
+    ensures recorded { IfSome result (λ input. answer world.now.scheme node (committed_at world.now node) input.now ≡ Ok (stepped.Recorded (length (committed_at world.now node)))) }
+{
+    let journal = world.journal(node)?;
+    record_at(journal, committed_count(world, node))
 }

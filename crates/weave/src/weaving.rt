@@ -1,18 +1,18 @@
 //! From journals of all nodes back to one run.
-ghost use Rattle.std.specs.Prelude.{◌≡◌, IfErr, IfOk, length, map};
-ghost use Rattle.protocol.specs.Claims.{DeliversWelcome, committed_of, live_of};
-ghost use Rattle.protocol.specs.Headline.{IsSafe};
-ghost use Rattle.protocol.specs.WayOut.{WayOut};
-ghost use Rattle.protocol.specs.Weave.{Projects};
-ghost use Rattle.protocol.specs.World.{opening, run};
-ghost use Rattle.weave.specs.Following.{IsWeaveFault, journal_of};
+ghost use Rattle.std.specs.Prelude.{◌≡◌, All, IfErr, IfOk, List, length, map};
+ghost use Rattle.wire.specs.declared.input.Input.{Input};
+ghost use Rattle.node.specs.Cores as node_cores;
+ghost use Rattle.weave.specs.Ahead.{AreAhead};
+ghost use Rattle.weave.specs.Following.{IsWeaveFault, IsWoven, journal_of};
 ghost use Rattle.world.specs.Kept.{nodes};
 
+use crate::cores::{lengths_of, record_counts, replayed};
 use crate::fault::WeaveFault;
 use crate::following::{Following, follow};
 use crate::left::first_left;
 use crate::nodes::nodes_of;
 use crate::watch::{Nobody, Watch};
+use node::Core;
 use protocol::WorldEvent;
 use scheme::Scheme;
 use std::alloc::Global;
@@ -36,40 +36,53 @@ pub struct Woven {
 /// first node with a record left and the place of that record. Fails with `NoMemory` where there is no room.
 pub fn weave(alloc: Global, scheme: &Scheme, journals: &[&[Input]]) -> Result<Woven, WeaveFault>
     requires { length journals.now ≡ length (nodes scheme.now) }
-    ensures projects { IfOk result (λ w. Projects scheme.now w.events.items (journal_of scheme.now (map (λ j. j.now) journals.now))) }
-    ensures world { IfOk result (λ w. w.world ≡ run (opening scheme.now) w.events.items) }
-    ensures live { IfOk result (λ w. IsSafe scheme.now (live_of w.world)) }
-    ensures committed { IfOk result (λ w. IsSafe scheme.now (committed_of w.world)) }
-    ensures welcome { IfOk result (λ w. DeliversWelcome w.world) }
-    ensures way_out { IfOk result (λ w. WayOut w.world) }
+    ensures ok { IfOk result (λ w. IsWoven scheme.now (journal_of scheme.now (map (λ j. j.now) journals.now)) w.events.items w.world) }
     ensures err { IfErr result (IsWeaveFault scheme.now (journal_of scheme.now (map (λ j. j.now) journals.now))) }
 {
-    weave_watched(alloc, scheme, journals, &mut Nobody)
+    let counts = lengths_of(alloc, journals)?;
+    let cores = replayed(alloc, scheme, journals)?;
+    weave_on(alloc, scheme, cores, counts.as_slice(), &mut Nobody)
 }
 
-/// As `weave`, and tells of each record that is woven.
+/// As `weave` does with the journals of these cores, one for each node: the log's, then those of the registries in the
+/// scheme's order. They are the cores of the world that is returned, and none of them takes a record again. Tells of
+/// each record that is woven.
 ///
 /// # Errors
 ///
-/// Fails as `weave` does.
-pub fn weave_watched<W: Watch>(
+/// Fails as `weave` does. The cores are gone then.
+pub fn weave_cores<W: Watch>(
     alloc: Global,
     scheme: &Scheme,
-    journals: &[&[Input]],
+    cores: Vec<Core>,
     watch: &mut W,
 ) -> Result<Woven, WeaveFault>
-    requires { length journals.now ≡ length (nodes scheme.now) }
-    ensures projects { IfOk result (λ w. Projects scheme.now w.events.items (journal_of scheme.now (map (λ j. j.now) journals.now))) }
-    ensures world { IfOk result (λ w. w.world ≡ run (opening scheme.now) w.events.items) }
-    ensures live { IfOk result (λ w. IsSafe scheme.now (live_of w.world)) }
-    ensures committed { IfOk result (λ w. IsSafe scheme.now (committed_of w.world)) }
-    ensures welcome { IfOk result (λ w. DeliversWelcome w.world) }
-    ensures way_out { IfOk result (λ w. WayOut w.world) }
-    ensures err { IfErr result (IsWeaveFault scheme.now (journal_of scheme.now (map (λ j. j.now) journals.now))) }
+    requires nodes { map node_cores.node_of cores.items ≡ nodes scheme.now }
+    requires schemes { All (λ core. node_cores.scheme_of core ≡ scheme.now) cores.items }
+    ensures ok { IfOk result (λ w. IsWoven scheme.now (journal_of scheme.now (map node_cores.journal_of cores.items)) w.events.items w.world) }
+    ensures err { IfErr result (IsWeaveFault scheme.now (journal_of scheme.now (map node_cores.journal_of cores.items))) }
+{
+    let counts = record_counts(alloc, cores.as_slice())?;
+    weave_on(alloc, scheme, cores, counts.as_slice(), watch)
+}
+
+/// Weaves the journals of which the cores have the first records, as far as they are recorded. `counts` has the number
+/// of all records of each journal.
+fn weave_on<W: Watch>(
+    alloc: Global,
+    scheme: &Scheme,
+    cores: Vec<Core>,
+    counts: &[usize],
+    watch: &mut W,
+) -> Result<Woven, WeaveFault>
+    requires nodes { map node_cores.node_of cores.items ≡ nodes scheme.now }
+    requires schemes { All (λ core. node_cores.scheme_of core ≡ scheme.now) cores.items }
+    ensures ok { (journals : List (List Input)) → counts.now ≡ map (λ j. length j) journals → AreAhead scheme.now journals (map node_cores.journal_of cores.items) → IfOk result (λ w. IsWoven scheme.now (journal_of scheme.now journals) w.events.items w.world) }
+    ensures err { (journals : List (List Input)) → counts.now ≡ map (λ j. length j) journals → AreAhead scheme.now journals (map node_cores.journal_of cores.items) → IfErr result (IsWeaveFault scheme.now (journal_of scheme.now journals)) }
 {
     let nodes = nodes_of(alloc, scheme)?;
-    let Following { world, events, .. } = follow(alloc, scheme, journals, watch)?;
-    if let Some(left) = first_left(&world, scheme, nodes.as_slice(), journals) {
+    let Following { world, events, .. } = follow(alloc, scheme, cores, watch)?;
+    if let Some(left) = first_left(&world, scheme, nodes.as_slice(), counts) {
         return Err(WeaveFault::Stuck {
             node: left.node,
             place: left.place,

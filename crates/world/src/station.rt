@@ -51,12 +51,12 @@ fn core_before(core: &Core, records: usize) -> Result<Core, NoMemory>
 }
 
 impl Station {
-    ghost use Rattle.world.specs.Stations.{station_of};
+    ghost use Rattle.world.specs.Stations.{station_of, uncommitted_station};
 
-    /// A running node with that core, which has recorded nothing. Takes no memory.
+    /// A running node with that core, which has committed no record of its journal and has posted nothing. Takes no
+    /// memory.
     pub(crate) fn new(alloc: Global, core: Core) -> Station
-        requires { journal_of core ≡ [] }
-        ensures opens { station_of result ≡ worlds.opening_station (node_of core) }
+        ensures seen { station_of result ≡ uncommitted_station core }
         ensures core { result.core ≡ core }
         ensures posted { (key : ℕ) → contains nat_cmp result.posted key ≡ false }
     {

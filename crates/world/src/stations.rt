@@ -1,6 +1,8 @@
 //! The nodes of a world, by the node that each is.
+ghost use Rattle.std.specs.BTreeSet.{contains};
 ghost use Rattle.std.specs.List.{position_from};
-ghost use Rattle.std.specs.Prelude.{◌≡◌, ◌∷◌, map, All, IfOk};
+ghost use Rattle.std.specs.Ordering.{nat_cmp};
+ghost use Rattle.std.specs.Prelude.{◌≡◌, ◌∷◌, ℕ, false, map, All, IfOk};
 ghost use Rattle.std.specs.declared.cmp.Ordering.TheVariants.{Less};
 ghost use Rattle.units.specs.Apart.{Pairwise};
 ghost use Rattle.units.specs.Code.{same_code, same_node};
@@ -8,7 +10,7 @@ ghost use Rattle.units.specs.Keys.{code_cmp};
 ghost use Rattle.node.specs.Cores.{node_of};
 ghost use Rattle.protocol.specs.World.{opening_station};
 ghost use Rattle.world.specs.Kept.{IsFresh, nodes};
-ghost use Rattle.world.specs.Stations.{station_of};
+ghost use Rattle.world.specs.Stations.{station_of, uncommitted_station};
 
 use crate::station::Station;
 use node::Core;
@@ -58,6 +60,22 @@ pub(crate) fn opening_stations(alloc: Global, scheme: &Scheme) -> Result<Vec<Sta
     stations.push(opening_station(alloc, scheme, Node::Itl)?)?;
     for member in scheme.registries() {
         stations.push(opening_station(alloc, scheme, Node::Registry(member.code))?)?;
+    }
+    Ok(stations)
+}
+
+/// The stations of these cores, each of which has committed and posted nothing.
+pub(crate) fn uncommitted_stations(
+    alloc: Global,
+    cores: Vec<Core>,
+) -> Result<Vec<Station>, NoMemory>
+    ensures cores { IfOk result (λ v. map (λ s. s.core) v.items ≡ cores.items) }
+    ensures seen { IfOk result (λ v. All (λ s. station_of s ≡ uncommitted_station s.core) v.items) }
+    ensures posted { IfOk result (λ v. All (λ s. (key : ℕ) → contains nat_cmp s.posted key ≡ false) v.items) }
+{
+    let mut stations = Vec::new(alloc);
+    for core in cores {
+        stations.push(Station::new(alloc, core))?;
     }
     Ok(stations)
 }

@@ -5,6 +5,7 @@ ghost use Rattle.std.specs.Prelude.{◌≡◌, ◌++◌, [], cond, map, is_some,
 ghost use Rattle.units.specs.Unit.{covers, have_unit};
 ghost use Rattle.node.specs.Cores.{node_of, scheme_of};
 ghost use Rattle.protocol.specs.Claims.{at_registry, live_of};
+ghost use Rattle.protocol.specs.Cores.{Replays};
 ghost use Rattle.protocol.specs.History.{holds, is_status, spendable, stands, transitions_of};
 ghost use Rattle.protocol.specs.Registries.{has_member, is_node};
 ghost use Rattle.protocol.specs.Table.{due, is_due, proposal_in, proposed, transactions};
@@ -111,9 +112,11 @@ impl World {
         station.core.status_of(id)
     }
 
-    /// A node's journal with its tail, or `None` where the scheme has no such node.
+    /// A node's journal with its tail, or `None` where the scheme has no such node. Each record was recorded at its
+    /// place after those before it.
     pub fn journal(&self, node: Node) -> Option<&[Input]>
-        ensures { option_copied result ≡ option_map journal (station self.now node) }
+        ensures value { option_copied result ≡ option_map journal (station self.now node) }
+        ensures replays { IfSome result (λ j. Replays self.now.scheme node j.now) }
     {
         let station = self.station(node)?;
         Some(station.core.journal())

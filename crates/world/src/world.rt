@@ -1,15 +1,19 @@
 //! The world: all nodes, and the bag of all messages that were ever posted.
-ghost use Rattle.std.specs.Prelude.{◌≡◌, List, slice_get, option_map, option_and_then, option_copied, IfOk, OnErr, OnOk};
+ghost use Rattle.std.specs.Prelude.{◌≡◌, All, List, map, slice_get, option_map, option_and_then, option_copied, IfOk, OnErr, OnOk};
 ghost use Rattle.scheme.specs.declared.registries.Scheme.{Scheme};
+ghost use Rattle.node.specs.Cores.{node_of, scheme_of};
 ghost use Rattle.protocol.specs.Claims.{DeliversWelcome, committed_of, live_of};
 ghost use Rattle.protocol.specs.Headline.{IsSafe};
 ghost use Rattle.protocol.specs.Owner.{OwnersMove};
 ghost use Rattle.protocol.specs.WayOut.{WayOut};
 ghost use Rattle.protocol.specs.World.{at_node, is_order, is_registry, opening, run, sent, station, step, take_input, was_posted};
 ghost use Rattle.protocol.specs.declared.event.WorldEvent.{WorldEvent};
+ghost use Rattle.world.specs.Kept.{nodes};
+ghost use Rattle.world.specs.Stations.{uncommitted};
 
 use crate::station::Station;
-use crate::stations::{opening_stations, place_of};
+use crate::stations::{opening_stations, place_of, uncommitted_stations};
+use node::Core;
 use protocol::{Outcome, Posted, WorldEvent};
 use scheme::Scheme;
 use status::Moment;
@@ -82,6 +86,26 @@ impl World {
         })
     }
 
+    /// The world of these cores, one for each node of the scheme: the log's, then those of the registries in the
+    /// scheme's order. Each node runs, its core's journal is its tail, of which nothing is committed, and no message
+    /// is posted. Or `NoMemory`.
+    ///
+    /// There need be no list of events that leads to this world, so that nothing is known of what `apply` says of
+    /// worlds that events lead to.
+    pub fn uncommitted(alloc: Global, scheme: &Scheme, cores: Vec<Core>) -> Result<World, NoMemory>
+        requires nodes { map node_of cores.items ≡ nodes scheme.now }
+        requires schemes { All (λ core. scheme_of core ≡ scheme.now) cores.items }
+        ensures { IfOk result (λ w. w ≡ uncommitted scheme.now cores.items) }
+    {
+        let stations = uncommitted_stations(alloc, cores)?;
+        Ok(World {
+            alloc,
+            scheme: scheme.copy(alloc)?,
+            stations,
+            bag: Vec::new(alloc),
+        })
+    }
+
     /// Whether the node posted the message with that key.
     fn was_posted(&self, node: Node, key: u64) -> bool
         ensures { result ≡ was_posted self.now node key }
@@ -92,8 +116,9 @@ impl World {
         }
     }
 
-    /// Whether the node takes such inputs as orders, or the input acknowledges a message that it posted.
-    fn is_order(&self, node: Node, input: &Input) -> bool
+    /// Whether the node takes such inputs as orders, or the input acknowledges a message that it posted. A message that
+    /// was received is no order.
+    pub fn is_order(&self, node: Node, input: &Input) -> bool
         ensures { result ≡ is_order self.now node input.now }
     {
         match input {

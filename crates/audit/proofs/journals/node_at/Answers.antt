@@ -1,4 +1,4 @@
-use Rattle.std.proofs.Common.{◌≡◌, ◌≢◌, ◌∙◌, List, ◌∷◌, map, length, sym, ap, arith}
+use Rattle.std.proofs.Common.{◌≢◌, ◌∙◌, List, ◌∷◌, map, length, sym, ap, arith}
 use Rattle.std.specs.Prelude.{slice_get}
 use Rattle.std.proofs.lemmas.List.{length-map}
 use Rattle.units.specs.declared.code.Node.TheVariants.{Itl, Registry}

@@ -1,5 +1,4 @@
-use Rattle.std.proofs.Common.{◌≡◌, ◌∙◌, Ok, Err, ap, subst, take}
-use Rattle.std.proofs.Math.Seq.{take-length}
+use Rattle.std.proofs.Common.{◌∙◌, Ok, Err, ap, subst}
 use Rattle.units.specs.declared.code.Node.{Node}
 use Rattle.scheme.specs.declared.registries.Scheme.{Scheme}
 use Rattle.node.specs.Cores.{scheme_of}
@@ -21,9 +20,14 @@ returns-in-Ok-clause-ok g c =
     let made = c.in-Ok.ensures.state in
     let is_scheme = ap (λ (h : Held). h.scheme) made ∙ c.in_ok-core.ensures.0 in
     let is_node = ap (λ (h : Held). h.node) made ∙ c.in_ok-core.ensures.1 in
-    let is_whole = ap (λ (h : Held). take h.committed c.in-Ok.state.journal) made ∙ take-length c.in-Ok.state.journal in
     let replayed = subst (λ n. Replays c.args.scheme.now n c.in-Ok.state.journal) is_node
     (subst (λ s. Replays s c.in-Ok.state.node c.in-Ok.state.journal) is_scheme c.in-Ok.ensures.replays) in
     let loaded = subst (λ (s : Scheme). IsLoaded g.S.NodeStore.is_honest g.S.NodeStore.content g.S.NodeStore.may_hold g.S.NodeStore.must_reopen s c.args.node c.args.store.now c.load_from.new.store (Ok c.in-Ok.state.journal)) c.in_ok-core.ensures.0
     (subst (λ (n : Node). IsLoaded g.S.NodeStore.is_honest g.S.NodeStore.content g.S.NodeStore.may_hold g.S.NodeStore.must_reopen (scheme_of c.in_ok-core.core) n c.args.store.now c.load_from.new.store (Ok c.in-Ok.state.journal)) c.in_ok-core.ensures.1 c.in-Ok.ensures.loaded) in
-    rw is_whole (replayed, loaded)
+    rw c.into_core.ensures.journal (replayed, loaded)
+
+pub returns-in-Ok-clause-scheme : goal.returns-in-Ok-clause-scheme
+returns-in-Ok-clause-scheme g c = c.into_core.ensures.scheme ∙ ap (λ (h : Held). h.scheme) c.in-Ok.ensures.state ∙ c.in_ok-core.ensures.0
+
+pub returns-in-Ok-clause-node : goal.returns-in-Ok-clause-node
+returns-in-Ok-clause-node g c = c.into_core.ensures.node ∙ ap (λ (h : Held). h.node) c.in-Ok.ensures.state ∙ c.in_ok-core.ensures.1

@@ -1,4 +1,4 @@
-use Rattle.std.proofs.Common.{Some, sym, ap, ◌∙◌}
+use Rattle.std.proofs.Common.{sym, ap, ◌∙◌}
 use Rattle.lemmas.proofs.OneValue.{one_some}
 use Rattle.protocol.specs.declared.event.Posted.{Posted}
 use Rattle.weave.proofs.places.is_there.Goals as goal

@@ -1,11 +1,10 @@
-use Rattle.std.proofs.Common.{◌≡◌, map, vec_len}
-use Rattle.weave.specs.Following.{journal_of}
+use Rattle.std.proofs.Common.{◌≡◌, vec_len}
 use Rattle.weave.specs.Kept.{IsFollowing}
 use Rattle.weave.proofs.following.Following.advance.Given as goal
 
 abbrev pub invariant-loop-node : goal.invariant-loop-node
 invariant-loop-node l = record {
-  follows : IsFollowing l.scheme (journal_of l.scheme (map (λ j. j.now) l.journals)) l.self;
+  follows : IsFollowing l.scheme l.self;
   world : l.self.world ≡ l.initial.self.world;
 }
 

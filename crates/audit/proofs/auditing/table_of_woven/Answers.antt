@@ -1,0 +1,15 @@
+use Rattle.std.proofs.Common.{◌∙◌, ◌++◌, ℕ, List, ap, subst}
+use Rattle.std.specs.Prelude.{IfErr, IfOk}
+use Rattle.weave.specs.Following.{IsWeaveFault, IsWoven, journal_of}
+use Rattle.audit.proofs.Tables.{audited, fails_to_weave}
+use Rattle.audit.proofs.auditing.table_of_woven.Goals as goal
+
+pub returns-in-Err-clause-err : goal.returns-in-Err-clause-err
+returns-in-Err-clause-err c scheme journals fails =
+    rw c.fault_of.ensures (fails_to_weave scheme journals c.in-Err.fault (subst (λ r. IfErr r (IsWeaveFault scheme (journal_of scheme journals))) c.in-Err.is fails))
+
+pub returns-in_ok-push_table-in-Ok-clause-ok : goal.returns-in_ok-push_table-in-Ok-clause-ok
+returns-in_ok-push_table-in-Ok-clause-ok c scheme journals woven =
+    let here = subst (λ r. IfOk r (λ w. IsWoven scheme (journal_of scheme journals) w.events.items w.world)) c.in-Ok.is woven in
+    audited c.tonnes_add_up.ensures.sums c.tonnes_add_up.ensures.fits scheme journals c.in-Ok.woven.events.items c.in-Ok.woven.world c.in_ok-push_table-in-Ok.ensures.0 _ here.world here.projects c.in_ok-push_table-in-Ok.ensures.1
+    (c.in_ok-push_table-in-Ok.ensures.2 ∙ ap (λ (bytes : List ℕ). bytes ++ c.in_ok-push_table-in-Ok.ensures.0) c.new-text.ensures.bytes)

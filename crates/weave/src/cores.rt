@@ -1,0 +1,73 @@
+//! Cores that record journals, as far as they do.
+ghost use Rattle.std.specs.Prelude.{◌≡◌, All, IfOk, length, map};
+ghost use Rattle.node.specs.Cores as node_cores;
+ghost use Rattle.weave.specs.Ahead.{AreAhead, IsAhead};
+ghost use Rattle.world.specs.Kept.{nodes};
+
+use crate::nodes::nodes_of;
+use node::Core;
+use protocol::{NodeCore, ReplayFault, resume};
+use scheme::Scheme;
+use std::alloc::Global;
+use units::{NoMemory, Node};
+use wire::Input;
+
+/// How many records each core has.
+pub(crate) fn record_counts(alloc: Global, cores: &[Core]) -> Result<Vec<usize>, NoMemory>
+    ensures { IfOk result (λ v. v.items ≡ map (λ core. length (node_cores.journal_of core)) cores.now) }
+{
+    let mut counts = Vec::new(alloc);
+    for core in cores {
+        counts.push(core.records())?;
+    }
+    Ok(counts)
+}
+
+/// How many records each journal has.
+pub(crate) fn lengths_of(alloc: Global, journals: &[&[Input]]) -> Result<Vec<usize>, NoMemory>
+    ensures { IfOk result (λ v. v.items ≡ map (λ j. length j.now) journals.now) }
+{
+    let mut lengths = Vec::new(alloc);
+    for journal in journals {
+        lengths.push(journal.len())?;
+    }
+    Ok(lengths)
+}
+
+/// The node's core, with the first records of the journal: all, or those before the first one that it doesn't record.
+fn replayed_one(
+    alloc: Global,
+    scheme: &Scheme,
+    node: Node,
+    journal: &[Input],
+) -> Result<Core, NoMemory>
+    ensures scheme { IfOk result (λ core. node_cores.scheme_of core ≡ scheme.now) }
+    ensures node { IfOk result (λ core. node_cores.node_of core ≡ node) }
+    ensures ahead { IfOk result (λ core. IsAhead scheme.now node journal.now (node_cores.journal_of core)) }
+{
+    let mut core = Core::new(alloc, scheme, node)?;
+    match resume(&mut core, journal) {
+        Ok(()) => Ok(core),
+        Err(ReplayFault::NotRecorded(_)) => Ok(core),
+        Err(ReplayFault::NoMemory) => Err(NoMemory),
+    }
+}
+
+/// A core for each journal, with the first records of it: all, or those before the first one that isn't recorded.
+pub(crate) fn replayed(
+    alloc: Global,
+    scheme: &Scheme,
+    journals: &[&[Input]],
+) -> Result<Vec<Core>, NoMemory>
+    requires { length journals.now ≡ length (nodes scheme.now) }
+    ensures nodes { IfOk result (λ v. map node_cores.node_of v.items ≡ nodes scheme.now) }
+    ensures schemes { IfOk result (λ v. All (λ core. node_cores.scheme_of core ≡ scheme.now) v.items) }
+    ensures ahead { IfOk result (λ v. AreAhead scheme.now (map (λ j. j.now) journals.now) (map node_cores.journal_of v.items)) }
+{
+    let names = nodes_of(alloc, scheme)?;
+    let mut cores = Vec::new(alloc);
+    for at in 0..names.len() {
+        cores.push(replayed_one(alloc, scheme, names[at], journals[at])?)?;
+    }
+    Ok(cores)
+}

@@ -8,7 +8,7 @@ use Rattle.lemmas.proofs.OneValue.{one_some}
 use Rattle.desk.specs.Views.{Heard}
 use Rattle.desk.specs.declared.notes.Told.{Told}
 use Rattle.scripts.specs.declared.line.ScriptLine.{ScriptLine}
-use Rattle.audit.proofs.Places.{get_at}
+use Rattle.weave.proofs.Lists.{get_at}
 use Rattle.playing.specs.Answers.{asked_by}
 use Rattle.playing.specs.Heard.{AllGrow, AreHeard, Grows, HasHeard, IsHeard}
 use Rattle.playing.specs.declared.answer.Answer.{Answer}

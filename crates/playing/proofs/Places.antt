@@ -8,7 +8,7 @@ use Rattle.protocol.specs.Registries.{is_node}
 use Rattle.protocol.specs.World.{is_order, opening}
 use Rattle.world.specs.Kept.{nodes}
 use Rattle.weave.specs.Following.{place_of}
-use Rattle.weave.proofs.Ends.{node_there, place_within}
+use Rattle.weave.proofs.NodePlaces.{node_there, place_within}
 use Rattle.scripts.specs.declared.line.ScriptLine.{ScriptLine}
 use Rattle.scripts.specs.declared.line.ScriptLine.TheVariants as line
 use Rattle.playing.specs.Answers.{is_possible, node_of}

@@ -9,8 +9,7 @@ use Rattle.desk.specs.Settling.{IsSettled}
 use Rattle.desk.specs.Views.{Held, Heard, committed_records}
 use Rattle.world.specs.Kept.{nodes}
 use Rattle.weave.specs.Following.{journal_of}
-use Rattle.weave.proofs.Ends.{place_within}
-use Rattle.weave.proofs.Rounds.{journal_is, node_of_place}
+use Rattle.weave.proofs.NodePlaces.{journal_is, node_of_place, place_within}
 use Rattle.scripts.specs.declared.line.ScriptLine.{ScriptLine}
 use Rattle.playing.specs.Answers.{IsAnswer, IsBorne, answer_lines, asked_by, node_of}
 use Rattle.runs.specs.Gathered.{AreGathered}
@@ -38,7 +37,7 @@ module _ (scheme : Scheme) (helds : List Held) (own : List Heard) (seats : List 
       let settled : IsSettled scheme (node_of l) held.0 heard.0 = r.settled x.at (node_of l) held.0 heard.0 (omega (arith, low, all)) (node_of_place scheme (node_of l) x.at x.place) held.1 heard.1 in
       let among : Contains heard.0 x.seat = gathered.each x.at x.seat heard.0 (omega (arith, low, each)) x.is heard.1 in
       let journal : journal_of scheme (committed_by_all helds) (node_of l) ≡ committed_records held.0 =
-      journal_is scheme (committed_by_all helds) (node_of l) x.at (committed_records held.0) x.place (image_or committed_records helds x.at held.0 [] held.1) in
+      journal_is scheme (node_of l) x.at x.place (committed_by_all helds) ∙ image_or committed_records helds x.at held.0 [] held.1 in
       (h.0, subst (λ (js : List Input). IsBorne scheme (node_of l) js (asked_by l) told) (sym journal) (borne scheme (node_of l) held.0 heard.0 x.seat settled among (asked_by l) told x.heard))
 
   pub run_report : (lines : List ScriptLine) (answers : List Answer) (first text : List ℕ) → AreHeard scheme own lines answers → first ≡ answer_lines 1 answers → text ≡ first ++ table → IsRunReport scheme lines text

@@ -10,7 +10,7 @@ use Rattle.desk.specs.Views.{Held, Heard}
 use Rattle.inputs.specs.declared.fault.OpFault.{OpFault}
 use Rattle.inputs.specs.declared.fault.OpFault.TheVariants.{Input, Read, Write, Store, Stuck, Unsettled, NoMemory}
 use Rattle.world.specs.Kept.{nodes}
-use Rattle.audit.proofs.Places.{image_at}
+use Rattle.weave.proofs.Lists.{image_at}
 use Rattle.audit.specs.Audits.{FailsToWeave}
 use Rattle.runs.specs.Runs.{IsTableFault, committed_by_all}
 use Rattle.runs.specs.Settled.{AreSettled, AreSettledTo, FailsToSettle, FailsToSettleAt}

@@ -1,5 +1,5 @@
 use Rattle.std.proofs.Common.{◌<◌, length, arith}
-use Rattle.audit.proofs.Places.{get_at}
+use Rattle.weave.proofs.Lists.{get_at}
 use Rattle.playing.proofs.Lines.{text_more}
 use Rattle.playing.proofs.answer.lines_of.Goals as goal
 

@@ -1,7 +1,8 @@
 #!/usr/bin/env python3
-"""Refuses each allocation of whole commands in turn: what is written is nothing or all, and no store changes.
+"""Refuses each allocation of whole commands, and of a test, in turn: what is written is nothing or all, and no store changes.
 
-`rehearse` reads the input of each example named, and `audit` the stores of a whole transfer and of the one whose proposal
+The test `stale_proposal` of `worked_runs` reads three journals and has `weave` follow them; a call that found no memory is
+made again. With each of its allocations refused it must pass, or stop in reading. `rehearse` reads the input of each example named, and `audit` the stores of a whole transfer and of the one whose proposal
 comes too late. Each is run once with all the memory that it asks for, and then once for each of its allocations, of which
 that one is refused (`no_memory.c`, loaded before the C library). Each time it must write what the first run wrote, or
 nothing, with `out of memory` on standard error and exit status 5; and the stores must have the records that they had. The
@@ -24,6 +25,10 @@ from rehearse import LAUNCHER, PROGRAM
 TOP = pathlib.Path(__file__).resolve().parent.parent
 SOURCE = TOP / "bench" / "no_memory.c"
 OUT_OF_MEMORY = (5, b"", b"kyoto-link: out of memory\n")
+TESTS = TOP / "crates" / "worked_runs"
+TEST = "weave_rows::stale_proposal"
+# What the test says where it has no memory to read its scheme and its journals.
+UNREAD = ("a scheme: NoMemory", "a record: NoMemory", "memory: AllocFailed { .. }")
 EXAMPLES = ("one_transfer", "stale_proposal", "everything_again", "crash_before_commit", "faults/first_fault_of_two")
 UNITS = ["NZ:1:1-100:AAU"]
 # A clean-up a day after the moment of all messages.
@@ -106,11 +111,11 @@ class Refusing:
         if subprocess.run(words, check=False).returncode != 0:
             sys.exit("no_memory.c could not be built")
 
-    def run(self, words, text, number):
+    def run(self, words, text, number, program=PROGRAM):
         """What a run came to, and whether an allocation was refused. None is where the number is 0."""
         self.told.unlink(missing_ok=True)
         given = os.environ | {"LD_PRELOAD": str(self.library), "REFUSE": str(number), "REFUSED": str(self.told)}
-        ended = subprocess.run([PROGRAM, *words], input=text, capture_output=True, env=given, check=False)
+        ended = subprocess.run([program, *words], input=text, capture_output=True, env=given, check=False)
         return (ended.returncode, ended.stdout, ended.stderr), self.told.exists()
 
 
@@ -132,13 +137,30 @@ def refuse_each(name, refusing, words, text, folder):
     return kept and number > 1
 
 
+def refuse_each_of_test(refusing):
+    """Whether the test passed, or stopped in reading, each time."""
+    program = TESTS / "out" / "worked_runs_tests"
+    if not program.is_file():
+        subprocess.run(["rt", "test"], cwd=TESTS, check=True)
+    number, passed, unread = 1, 0, 0
+    while True:
+        came, refused = refusing.run([TEST], b"", number, program)
+        if not refused:
+            break
+        passed += came[0] == 0
+        unread += came[0] != 0 and came[2].decode().rstrip().endswith(UNREAD)
+        number += 1
+    print(f"test {TEST}: {number - 1} allocations; stopped in reading {unread} times, passed {passed} times", flush=True)
+    return passed > 0 and passed + unread == number - 1
+
+
 def main():
     words = argparse.ArgumentParser(description=__doc__, formatter_class=argparse.RawDescriptionHelpFormatter)
     words.parse_args()
     subprocess.run([LAUNCHER, "help"], stdout=subprocess.DEVNULL, check=True)
-    kept = True
     with tempfile.TemporaryDirectory() as room:
         refusing = Refusing(room)
+        kept = refuse_each_of_test(refusing)
         for name in EXAMPLES:
             text = (TOP / "examples" / name / "input").read_bytes()
             kept = refuse_each(f"rehearse {name}", refusing, ["rehearse"], text, None) and kept

@@ -10,6 +10,8 @@ exit status is 1 where that isn't so.
 """
 
 import argparse
+import concurrent.futures
+import itertools
 import json
 import os
 import pathlib
@@ -100,41 +102,54 @@ def records_in(folder):
 
 
 class Refusing:
-    """Runs the program with one allocation refused."""
+    """Runs programs with one allocation refused. Each thread has a room of its own."""
 
     def __init__(self, room):
-        self.library = pathlib.Path(room) / "no_memory.so"
-        self.told = pathlib.Path(room) / "refused"
+        self.room = pathlib.Path(room)
+        self.library = self.room / "no_memory.so"
         if shutil.which("gcc") is None:
             sys.exit("gcc, which builds no_memory.c, isn't on PATH")
         words = ["gcc", "-O2", "-std=gnu11", "-Wall", "-Wextra", "-shared", "-fPIC", "-o", self.library, SOURCE, "-ldl"]
         if subprocess.run(words, check=False).returncode != 0:
             sys.exit("no_memory.c could not be built")
 
-    def run(self, words, text, number, program=PROGRAM):
+    def run(self, words, text, number, program=PROGRAM, thread=0):
         """What a run came to, and whether an allocation was refused. None is where the number is 0."""
-        self.told.unlink(missing_ok=True)
-        given = os.environ | {"LD_PRELOAD": str(self.library), "REFUSE": str(number), "REFUSED": str(self.told)}
+        told = self.room / f"refused-{thread}"
+        told.unlink(missing_ok=True)
+        given = os.environ | {"LD_PRELOAD": str(self.library), "REFUSE": str(number), "REFUSED": str(told)}
         ended = subprocess.run([program, *words], input=text, capture_output=True, env=given, check=False)
-        return (ended.returncode, ended.stdout, ended.stderr), self.told.exists()
+        return (ended.returncode, ended.stdout, ended.stderr), told.exists()
 
 
 def refuse_each(name, refusing, words, text, folder):
-    """Whether each run came to all or nothing."""
-    whole, _ = refusing.run(words, text, 0)
+    """Whether each run came to all or nothing. Several threads take the numbers of allocations in turn."""
+    whole, _ = refusing.run(words(folder), text, 0)
     before = records_in(folder) if folder else None
-    number, refused_runs, kept = 1, 0, True
-    while True:
-        came, refused = refusing.run(words, text, number)
-        if not refused:
-            break
-        refused_runs += came == OUT_OF_MEMORY
-        if came not in (whole, OUT_OF_MEMORY) or (folder and records_in(folder) != before):
-            kept = False
-            print(f"{name}: with allocation {number} refused: status {came[0]}, {len(came[1])} bytes written, {came[2]!r}")
-        number += 1
-    print(f"{name}: {number - 1} allocations; out of memory {refused_runs} times, else all was written", flush=True)
-    return kept and number > 1
+    numbers = itertools.count(1)
+
+    def take(thread):
+        """How many of this thread's runs had an allocation refused, how many ran out of memory, and what else came of them."""
+        own = pathlib.Path(shutil.copytree(folder, f"{folder}-{thread}")) if folder else None
+        runs, unwritten, others = 0, 0, []
+        while True:
+            number = next(numbers)
+            came, refused = refusing.run(words(own), text, number, thread=thread)
+            if not refused:
+                return runs, unwritten, others
+            runs += 1
+            unwritten += came == OUT_OF_MEMORY
+            if came not in (whole, OUT_OF_MEMORY) or (own and records_in(own) != before):
+                others.append(f"with allocation {number} refused: status {came[0]}, {len(came[1])} bytes written, {came[2]!r}")
+
+    count = os.cpu_count() or 1
+    with concurrent.futures.ThreadPoolExecutor(count) as threads:
+        ended = list(threads.map(take, range(count)))
+    for text in [text for _, _, others in ended for text in others]:
+        print(f"{name}: {text}")
+    runs, unwritten = (sum(it[part] for it in ended) for part in (0, 1))
+    print(f"{name}: {runs} allocations; out of memory {unwritten} times, else all was written", flush=True)
+    return runs > 0 and not any(others for _, _, others in ended)
 
 
 def refuse_each_of_test(refusing):
@@ -163,7 +178,7 @@ def main():
         kept = refuse_each_of_test(refusing)
         for name in EXAMPLES:
             text = (TOP / "examples" / name / "input").read_bytes()
-            kept = refuse_each(f"rehearse {name}", refusing, ["rehearse"], text, None) and kept
+            kept = refuse_each(f"rehearse {name}", refusing, lambda _: ["rehearse"], text, None) and kept
         scheme = pathlib.Path(room) / "scheme"
         text = (TOP / "examples" / "stale_proposal" / "input").read_bytes()
         scheme.write_bytes(text.split(b"\n", 1)[0] + b"\n")
@@ -171,7 +186,7 @@ def main():
             folder = pathlib.Path(room) / name
             folder.mkdir()
             write_stores(folder, texts_of(journals))
-            kept = refuse_each(f"audit {name}", refusing, ["audit", scheme, folder], b"", folder) and kept
+            kept = refuse_each(f"audit {name}", refusing, lambda stores: ["audit", scheme, stores], b"", folder) and kept
     print("all or nothing each time" if kept else "something else was written, or a store changed")
     return 0 if kept else 1
 

@@ -1,8 +1,10 @@
 #!/usr/bin/env python3
-"""Refuses each allocation of whole commands, and of a test, in turn: what is written is nothing or all, and no store changes.
+"""Refuses each allocation of a test and of whole commands in turn: a command writes all or nothing, and no store changes.
 
 The test `stale_proposal` of `worked_runs` reads three journals and has `weave` follow them; a call that found no memory is
-made again. With each of its allocations refused it must pass, or stop in reading. `rehearse` reads the input of each example named, and `audit` the stores of a whole transfer and of the one whose proposal
+made again. With each of its allocations refused it must pass, or stop in reading.
+
+`rehearse` reads the input of each example named, and `audit` the stores of a whole transfer and of the one whose proposal
 comes too late. Each is run once with all the memory that it asks for, and then once for each of its allocations, of which
 that one is refused (`no_memory.c`, loaded before the C library). Each time it must write what the first run wrote, or
 nothing, with `out of memory` on standard error and exit status 5; and the stores must have the records that they had. The
@@ -154,9 +156,8 @@ def refuse_each(name, refusing, words, text, folder):
 
 def refuse_each_of_test(refusing):
     """Whether the test passed, or stopped in reading, each time."""
+    subprocess.run(["rt", "test"], cwd=TESTS, stdout=subprocess.DEVNULL, check=True)
     program = TESTS / "out" / "worked_runs_tests"
-    if not program.is_file():
-        subprocess.run(["rt", "test"], cwd=TESTS, check=True)
     number, passed, unread = 1, 0, 0
     while True:
         came, refused = refusing.run([TEST], b"", number, program)

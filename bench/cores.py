@@ -10,14 +10,11 @@ longer than the orders.
 
 import argparse
 import os
-import pathlib
 import subprocess
 import sys
 
-import building
+from building import PROGRAM, prove_and_build
 
-CRATE = pathlib.Path(__file__).resolve().parent.parent / "crates" / "core_bench"
-PROGRAM = CRATE / "out" / "core_bench"
 SIZES = (100_000, 200_000, 400_000)
 ACCOUNT_ORDERS = 1_000_000
 # For so few inputs the program prints nothing.
@@ -93,7 +90,7 @@ def main():
     parser = argparse.ArgumentParser(description=__doc__.splitlines()[0])
     parser.add_argument("--runs", type=int, default=5, help="runs of each size; the best times count")
     given = parser.parse_args()
-    building.prove_and_build(CRATE, ["transfers", str(LEAST)])
+    prove_and_build()
     runs = max(1, given.runs)
     kept = print_transfers("transfers", runs)
     print_accounts(runs)

@@ -13,12 +13,10 @@ import subprocess
 import sys
 import tempfile
 
-import building
 import store
+from building import PROGRAM, prove_and_build
 
 TOP = pathlib.Path(__file__).resolve().parent.parent
-CRATE = TOP / "crates" / "store_bench"
-PROGRAM = CRATE / "out" / "store_bench"
 RECORDS = 100_000
 MOST_RECORDS = 999_999
 KEYS = 1_000_000
@@ -58,7 +56,7 @@ def parse_words():
 
 def main():
     given = parse_words()
-    building.prove_and_build(CRATE, ["memory", "0"])
+    prove_and_build()
     with tempfile.TemporaryDirectory(dir=given.folder) as folder:
         room = pathlib.Path(folder)
         program_in_c = room / "store_c"

@@ -13,11 +13,9 @@ import subprocess
 import sys
 import tempfile
 
-import building
+from building import PROGRAM, prove_and_build
 
 TOP = pathlib.Path(__file__).resolve().parent.parent
-CRATE = TOP / "crates" / "exchange_bench"
-PROGRAM = CRATE / "out" / "exchange_bench"
 SOURCE = TOP / "bench" / "exchange.c"
 LEAST_OF_C = 0.7
 
@@ -30,10 +28,10 @@ def build_c(program):
         sys.exit("exchange.c could not be built")
 
 
-def rate(program, count):
-    ended = subprocess.run([program, str(count)], capture_output=True, text=True, check=False)
+def rate(words, count):
+    ended = subprocess.run([*words, str(count)], capture_output=True, text=True, check=False)
     if ended.returncode != 0:
-        sys.exit(f"{program} ended with status {ended.returncode}: {ended.stderr.strip()}")
+        sys.exit(f"{words[0]} ended with status {ended.returncode}: {ended.stderr.strip()}")
     return count / (int(ended.stdout) / 1_000_000)
 
 
@@ -42,11 +40,12 @@ def main():
     words.add_argument("--exchanges", type=int, default=20_000)
     words.add_argument("--runs", type=int, default=5)
     given = words.parse_args()
-    building.prove_and_build(CRATE, ["0"])
+    prove_and_build()
     with tempfile.TemporaryDirectory() as room:
         c_program = pathlib.Path(room) / "exchange"
         build_c(c_program)
-        rates = [(rate(PROGRAM, given.exchanges), rate(c_program, given.exchanges)) for _ in range(given.runs)]
+        programs = ([PROGRAM, "exchanges"], [c_program])
+        rates = [[rate(words, given.exchanges) for words in programs] for _ in range(given.runs)]
     ours, of_c = (max(column) for column in zip(*rates))
     ratio = ours / of_c
     print(f"exchanges a second: {ours:,.0f}; C: {of_c:,.0f}; ratio {ratio:.2f} (at least {LEAST_OF_C})")

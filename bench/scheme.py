@@ -9,16 +9,13 @@ the ratio of each doubling of the scheme's time. The exit status is 1 where a ra
 import argparse
 import itertools
 import json
-import pathlib
 import random
 import string
 import subprocess
 import sys
 
-import building
+from building import PROGRAM, prove_and_build
 
-CRATE = pathlib.Path(__file__).resolve().parent.parent / "crates" / "core_bench"
-PROGRAM = CRATE / "out" / "core_bench"
 # Blocks, and the registries that they are spread over.
 SIZES = ((2_500, 8), (5_000, 16), (10_000, 32))
 ACCOUNTS = 1_000
@@ -76,7 +73,7 @@ def main():
     parser.add_argument("--runs", type=int, default=20, help="runs of each; the best times count")
     given = parser.parse_args()
     rounds = min(max(LEAST_ROUNDS, given.rounds), MOST_ROUNDS)
-    building.prove_and_build(CRATE, ["transfers", "9"])
+    prove_and_build()
     texts = {blocks: scheme_text(blocks, registries) for blocks, registries in SIZES}
     best = {blocks: (float("inf"), float("inf")) for blocks in texts}
     for _ in range(max(1, given.runs)):

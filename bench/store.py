@@ -14,11 +14,9 @@ import subprocess
 import sys
 import tempfile
 
-import building
+from building import PROGRAM, prove_and_build
 
 TOP = pathlib.Path(__file__).resolve().parent.parent
-CRATE = TOP / "crates" / "store_bench"
-PROGRAM = CRATE / "out" / "store_bench"
 SOURCE = TOP / "bench" / "store.c"
 RECORD = '{"account":1,"input":"propose","to_account":7,"to_registry":"JP","units":["NZ:1:1-100:AAU"]}'
 BATCH = 64
@@ -138,8 +136,7 @@ def parse_words():
 
 def main():
     given = parse_words()
-    # no records
-    building.prove_and_build(CRATE, ["store", "store", "0", "1", "0"])
+    prove_and_build()
     with tempfile.TemporaryDirectory(dir=given.folder) as folder:
         room = pathlib.Path(folder)
         program_in_c = room / "store_c"

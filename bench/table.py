@@ -7,14 +7,11 @@ of the doubling of the size. The exit status is 1 where a ratio is over its limi
 """
 
 import argparse
-import pathlib
 import subprocess
 import sys
 
-import building
+from building import PROGRAM, prove_and_build
 
-CRATE = pathlib.Path(__file__).resolve().parent.parent / "crates" / "core_bench"
-PROGRAM = CRATE / "out" / "core_bench"
 # Intervals and messages.
 SIZES = ((100_000, 1_000_000), (200_000, 2_000_000))
 # What the program makes of either.
@@ -43,7 +40,7 @@ def main():
     parser = argparse.ArgumentParser(description=__doc__.splitlines()[0])
     parser.add_argument("--runs", type=int, default=5, help="runs of each size; the best times count")
     given = parser.parse_args()
-    building.prove_and_build(CRATE, ["transfers", "9"])
+    prove_and_build()
     best = {size: (float("inf"), float("inf")) for size in SIZES}
     for _ in range(max(1, given.runs)):
         for size in SIZES:

@@ -1,4 +1,3 @@
-pub mod Places
 pub mod NodePlaces
 pub mod Loaded
 pub mod Tables

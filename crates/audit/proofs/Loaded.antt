@@ -18,7 +18,7 @@ use Rattle.inputs.specs.declared.fault.OpFault.{OpFault}
 use Rattle.inputs.specs.declared.fault.OpFault.TheVariants.{Input as Line, Read, Write, Store, Stuck, Unsettled}
 use Rattle.inputs.specs.declared.fault.OpFault.TheVariants as op
 use Rattle.audit.specs.Stores.{AreKept, AreLoadedTo, FailsToLoad, FailsToLoadAt, IsKept, IsLoadedAs}
-use Rattle.audit.proofs.Places.{set_here, set_other}
+use Rattle.weave.proofs.Lists.{set_here, set_other}
 
 same_or_not : (k j : ℕ) → (k ≡ j) ⊎ (k ≢ j)
 same_or_not k j = elim (cases_Bool (k == j)) [ inl y ↦ inl (eqb-true k j y) | inr d ↦ inr (eqb-false k j d) ]

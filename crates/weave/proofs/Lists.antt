@@ -1,7 +1,8 @@
--- Elements of lists that get longer, and the place at which a test first passes.
-use Rattle.std.proofs.Common.{◌≡◌, ℕ, zero, suc, ◌+◌, ◌<◌, ◌≤◌, List, [], ◌∷◌, ◌++◌, Bool, true, false, cond, Option, Some, None, inl, inr, refl, sym, ap, ◌∙◌, length, map, take, arith, Bor}
+-- Elements of lists that get longer or have an element set, and the place at which a test first passes.
+use Rattle.std.proofs.Common.{◌≡◌, ◌≢◌, ℕ, zero, suc, ◌+◌, ◌<◌, ◌≤◌, List, [], ◌∷◌, ◌++◌, Bool, true, false, cond, Option, Some, None, inl, inr, refl, sym, ap, ◌∙◌, length, map, take, arith, Bor}
 use Rattle.std.specs.Prelude.{slice_get, get_or, Contains, IfNone, ◌⊎◌}
 use Rattle.std.specs.List.{position_from}
+use Rattle.std.proofs.Math.ListN.{set}
 use Rattle.std.specs.Option.{option_copied, option_map_or}
 use Rattle.lemmas.proofs.Membership.{In_left, In_right}
 use Rattle.lemmas.proofs.Positions.{In_contains, contains_in}
@@ -96,3 +97,16 @@ place_none p k (y ∷ xs) e j x is passes = pick (place_none p (k + 1) xs) (p y)
 pub position_map : {X Y : Type 0} (f : X → Y) (p : Y → Bool) (k : ℕ) (xs : List X) → position_from p k (map f xs) ≡ position_from (λ x. p (f x)) k xs
 position_map f p k [] = refl
 position_map f p k (x ∷ xs) = ap (cond (p (f x)) (Some k)) (position_map f p (k + 1) xs)
+
+-- a list with an element set, there and elsewhere
+pub set_here : {X : Type 0} (xs : List X) (at : ℕ) (v : X) → at < length xs → slice_get (set xs at v) at ≡ Some v
+set_here [] at v below = absurd (omega arith)
+set_here (x ∷ xs) zero v below = refl
+set_here (x ∷ xs) (suc at) v below = set_here xs at v (omega arith)
+
+pub set_other : {X : Type 0} (xs : List X) (at k : ℕ) (v : X) → k ≢ at → slice_get (set xs at v) k ≡ slice_get xs k
+set_other [] at k v apart = refl
+set_other (x ∷ xs) zero zero v apart = absurd (apart refl)
+set_other (x ∷ xs) zero (suc k) v apart = refl
+set_other (x ∷ xs) (suc at) zero v apart = refl
+set_other (x ∷ xs) (suc at) (suc k) v apart = set_other xs at k v (λ e. apart (ap suc e))

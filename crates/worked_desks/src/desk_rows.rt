@@ -43,6 +43,25 @@ fn messages_leave_after_their_commit(rt: HostRuntime) {
     assert_next(&rt, &desk, [Some(0), Some(1), None]);
 }
 
+/// Asks the desk where that transaction stands, and asserts what it tells, with how many records.
+fn query(
+    rt: &(impl Wait + Abort),
+    desk: &NzDesk,
+    seat: &mut Seat,
+    id: TransactionId,
+    expected: (Told, usize),
+) -> Taken {
+    let taken = desk.query(rt, seat, id);
+    assert_eq!(rt; (taken.told(), taken.length()), expected);
+    taken
+}
+
+/// Waits until that is committed, and gives how many records the seat knows to be.
+fn confirmed(rt: &(impl Wait + Abort), desk: &NzDesk, seat: &mut Seat, taken: Taken) -> usize {
+    assert!(rt; desk.confirm(rt, seat, taken).is_ok());
+    seat.confirmed()
+}
+
 #[test]
 fn a_query_is_confirmed(rt: HostRuntime) {
     let alloc = rt.alloc();
@@ -50,11 +69,9 @@ fn a_query_is_confirmed(rt: HostRuntime) {
     let desk = desk_of_two(&rt, alloc, &mut a, &mut b);
     assert_eq!(rt; commit(&rt, alloc, &desk), 2);
     let id = TransactionId::read("NZ1").expect(&rt, "an identifier");
-    let taken = desk.query(&rt, &mut a, id);
-    assert_eq!(rt; taken.told(), Told::Status(Some(Status::Proposed)));
-    assert_eq!(rt; taken.length(), 2);
-    assert!(rt; desk.confirm(&rt, &mut a, taken).is_ok());
-    assert_eq!(rt; a.confirmed(), 2);
+    let expected = (Told::Status(Some(Status::Proposed)), 2);
+    let taken = query(&rt, &desk, &mut a, id, expected);
+    assert_eq!(rt; confirmed(&rt, &desk, &mut a, taken), 2);
 }
 
 /// What the first seat is told after that, up to the stop.
@@ -74,6 +91,17 @@ fn assert_stops(rt: &(impl Wait + Abort), alloc: Global, desk: &NzDesk, seat: &m
     assert_next(rt, desk, [None, None, None]);
 }
 
+/// Asserts that the state settles with all seats, and not without the second one, which was told of record 1.
+fn assert_settles(rt: &impl Abort, state: &NzState, seats: &[Seat; 2]) {
+    let life = Life {
+        opening: 0,
+        records: 3,
+        committed: 2,
+    };
+    assert_eq!(rt; settle(state, seats), Ok(life));
+    assert_eq!(rt; settle(state, &seats[..1]), Err(Unsettled::Missing(1)));
+}
+
 #[test]
 fn a_stopped_desk_settles(rt: HostRuntime) {
     let alloc = rt.alloc();
@@ -82,15 +110,7 @@ fn a_stopped_desk_settles(rt: HostRuntime) {
     assert_eq!(rt; commit(&rt, alloc, &desk), 2);
     take_all(&rt, alloc, &desk, &mut a, TOLD);
     assert_stops(&rt, alloc, &desk, &mut a);
-    let state = desk.end();
-    let life = Life {
-        opening: 0,
-        records: 3,
-        committed: 2,
-    };
-    let seats = [a, b];
-    assert_eq!(rt; settle(&state, &seats), Ok(life));
-    assert_eq!(rt; settle(&state, &seats[..1]), Err(Unsettled::Missing(1)));
+    assert_settles(&rt, &desk.end(), &[a, b]);
 }
 
 /// Has the desk record that many inputs, by which an account is closed and opened in turn.
@@ -138,18 +158,36 @@ fn stored(rt: &impl Abort, store: &mut MemoryStore) -> usize {
     store.load().expect(rt, "memory").len()
 }
 
+/// Asserts how many records the state has committed, and how many it would next.
+fn assert_committed(rt: &impl Abort, state: &NzState, committed: usize, next: usize) {
+    assert_eq!(rt; state.committed().len(), committed);
+    assert_eq!(rt; state.batch(64).expect(rt, "memory").len(), next);
+}
+
+/// Has the state commit at most `max` records, and asserts how many the store has then.
+fn commit_up_to(
+    rt: &impl Abort,
+    state: &mut NzState,
+    store: &mut MemoryStore,
+    max: usize,
+    records: usize,
+) {
+    let before = stored(rt, store);
+    let committed = commit_batch(rt, state, store, max);
+    assert_eq!(rt; before.checked_add(committed), Some(records));
+    assert_eq!(rt; stored(rt, store), records);
+}
+
 #[test]
 fn a_state_commits_in_batches(rt: HostRuntime) {
     let alloc = rt.alloc();
     let mut state = state_of_two(&rt, alloc);
-    assert_eq!(rt; state.batch(64).expect(&rt, "memory").len(), 2);
     let mut store = MemoryStore::new(alloc, nz(&rt));
-    assert_eq!(rt; commit_batch(&rt, &mut state, &mut store, 1), 1);
-    assert_eq!(rt; state.committed().len(), 1);
-    assert_eq!(rt; stored(&rt, &mut store), 1);
-    assert_eq!(rt; commit_batch(&rt, &mut state, &mut store, 64), 1);
-    assert_eq!(rt; stored(&rt, &mut store), 2);
-    assert_eq!(rt; commit_batch(&rt, &mut state, &mut store, 64), 0);
+    assert_committed(&rt, &state, 0, 2);
+    for (max, records) in [(1, 1), (64, 2), (64, 2)] {
+        commit_up_to(&rt, &mut state, &mut store, max, records);
+        assert_committed(&rt, &state, records, 2_usize.saturating_sub(records));
+    }
 }
 
 /// How many records the journal had when that was taken of which there is a receipt.

@@ -1,7 +1,8 @@
 use crate::journals::{
     ACCEPTED, ASKED, CHECKED, COMPLETED, NONE, PROPOSED, TOLD_JP, TOLD_NZ, assert_fault,
-    assert_table, registry,
+    assert_table,
 };
+use crate::registries::registry;
 use inputs::OpFault;
 use stores::StoreFault;
 use units::Node;

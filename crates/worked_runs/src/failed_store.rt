@@ -1,4 +1,5 @@
-use crate::nodes::{played, registry};
+use crate::nodes::played;
+use crate::registries::registry;
 use inputs::OpFault;
 use std::alloc::Global;
 use std::net::{Net, TcpListener, TcpStream};

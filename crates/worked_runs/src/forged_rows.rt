@@ -1,4 +1,5 @@
-use crate::journals::{ACCEPTED, ASKED, CHECKED, NONE, PROPOSED, TOLD_JP, assert_fault, registry};
+use crate::journals::{ACCEPTED, ASKED, CHECKED, NONE, PROPOSED, TOLD_JP, assert_fault};
+use crate::registries::registry;
 use inputs::OpFault;
 use units::Node;
 

@@ -1,19 +1,13 @@
 //! The journals of the worked scheme's nodes, and stores that have them.
 
-ghost use Rattle.std.specs.Prelude.{◌≡◌, length};
-ghost use Rattle.world.specs.Kept.{nodes};
-
+use crate::registries::{registry, worked_scheme};
 use audit::audit;
 use inputs::OpFault;
-use scheme::Scheme;
 use std::alloc::Global;
 use std::process::Abort;
 use stores::{MemoryStore, NodeStore};
-use units::{Code, Node};
+use units::Node;
 use wire::decode_input;
-
-const SCHEME: &str =
-    r#"{"records":1000,"registries":[{"accounts":[7,8],"allotted":[],"code":"JP","eligible":true,"kinds":["AAU","CER"]},{"accounts":[1,2],"allotted":[{"account":1,"units":["NZ:1:1-100:AAU"]}],"code":"NZ","eligible":true,"kinds":["AAU","RMU","ERU","CER","tCER","lCER"]}]}"#;
 
 /// What NZ proposes.
 pub const PROPOSED: &str =
@@ -48,19 +42,6 @@ pub const NONE: &[&str] = &[];
 
 /// Records of the log, of JP and of NZ.
 pub type Journals<'a> = [&'a [&'a str]; 3];
-
-pub fn registry(rt: &impl Abort, code: &str) -> Node {
-    Node::Registry(Code::read(code).expect(rt, "a code"))
-}
-
-/// The scheme, of the log and two registries.
-pub fn worked_scheme(rt: &impl Abort, alloc: Global) -> Scheme
-    ensures { length (nodes result) ≡ 3 }
-{
-    let scheme = Scheme::read(alloc, SCHEME.as_bytes()).expect(rt, "a scheme");
-    assert_eq!(rt; scheme.registries().len(), 2);
-    scheme
-}
 
 /// A store with these records.
 fn store_of(rt: &impl Abort, alloc: Global, node: Node, journal: &[&str]) -> MemoryStore {

@@ -1,20 +1,42 @@
-//! Worked rows of `audit` and `weave`, over stores whose records one run leads to, forged ones and stores with a fault,
-//! and of `runs`: scripts over nodes with threads, sockets of this machine and stores in memory.
+//! Worked rows of what nodes do together: exchanges and a node's sessions, over bytes in memory that end, fail or are
+//! interrupted anywhere, at a desk alone, and with the threads of nodes over sockets of this machine; `audit` and
+//! `weave`, over stores whose records one run leads to, forged ones and stores with a fault; and `runs`, scripts over
+//! nodes with threads, sockets of this machine and stores in memory.
 #![tactic(auto)]
 
 #[cfg(test)]
 mod audit_rows;
 #[cfg(test)]
+mod desk_rows;
+#[cfg(test)]
+mod exchange_rows;
+#[cfg(test)]
 mod failed_store;
+#[cfg(test)]
+mod failing_accepts;
 #[cfg(test)]
 mod forged_rows;
 #[cfg(test)]
 mod journals;
 #[cfg(test)]
+mod meetings;
+#[cfg(test)]
 mod nodes;
 #[cfg(test)]
 mod not_possible;
 #[cfg(test)]
+mod one_node;
+#[cfg(test)]
+mod registries;
+#[cfg(test)]
+mod session_rows;
+#[cfg(test)]
+mod stations;
+#[cfg(test)]
+mod streams;
+#[cfg(test)]
 mod threaded_run;
+#[cfg(test)]
+mod waits;
 #[cfg(test)]
 mod weave_rows;

@@ -1,13 +1,11 @@
 //! The nodes of the worked scheme, and what a script comes to at them.
-ghost use Rattle.std.specs.Prelude.{◌≡◌, length};
-ghost use Rattle.world.specs.Kept.{nodes};
 
+use crate::registries::{registry, worked_scheme};
 use answers::WallClock;
 use audit::load_all;
 use desk::OpenGate;
 use inputs::OpFault;
 use runs::{Loaded, Network, run_script};
-use scheme::Scheme;
 use scripts::{ScriptLine, read_script};
 use sockets::{Ports, open_ports};
 use std::alloc::Global;
@@ -17,16 +15,8 @@ use std::rt::Clock as SystemClock;
 use std::sync::Wait;
 use std::thread::Threads;
 use stores::MemoryStore;
-use units::{Code, Node};
+use units::Node;
 use weave::nodes_of;
-
-const SCHEME: &str =
-    r#"{"records":1000,"registries":[{"accounts":[7,8],"allotted":[],"code":"JP","eligible":true,"kinds":["AAU","CER"]},{"accounts":[1,2],"allotted":[{"account":1,"units":["NZ:1:1-100:AAU"]}],"code":"NZ","eligible":true,"kinds":["AAU","RMU","ERU","CER","tCER","lCER"]}]}"#;
-
-/// A registry of the scheme.
-pub fn registry(rt: &impl Abort, code: &str) -> Node {
-    Node::Registry(Code::read(code).expect(rt, "a code"))
-}
 
 /// Empty stores of the log, of JP and of NZ.
 pub fn new_stores(rt: &impl Abort, alloc: Global) -> [MemoryStore; 3] {
@@ -35,15 +25,6 @@ pub fn new_stores(rt: &impl Abort, alloc: Global) -> [MemoryStore; 3] {
         MemoryStore::new(alloc, registry(rt, "JP")),
         MemoryStore::new(alloc, registry(rt, "NZ")),
     ]
-}
-
-/// The scheme, of the log and two registries.
-fn worked_scheme(rt: &impl Abort, alloc: Global) -> Scheme
-    ensures { length (nodes result) ≡ 3 }
-{
-    let scheme = Scheme::read(alloc, SCHEME.as_bytes()).expect(rt, "a scheme");
-    assert_eq!(rt; scheme.registries().len(), 2);
-    scheme
 }
 
 fn lines_of(rt: &impl Abort, alloc: Global, script: &str) -> Vec<ScriptLine> {

@@ -1,4 +1,5 @@
-use crate::journals::{ASKED, PROPOSED, registry, worked_scheme};
+use crate::journals::{ASKED, PROPOSED};
+use crate::registries::{registry, worked_scheme};
 use status::{Status, TransactionId};
 use std::alloc::Global;
 use std::process::Abort;

@@ -8,7 +8,7 @@ use Rattle.world.specs.Kept.{nodes}
 use Rattle.audit.proofs.Loaded.{fails_first, kept_more, loaded_more}
 use Rattle.weave.proofs.Lists.{get_at}
 use Rattle.weave.proofs.Replayed.{nodes_more}
-use Rattle.audit.proofs.Places.{set_other}
+use Rattle.weave.proofs.Lists.{set_other}
 use Rattle.audit.proofs.loading.load_cores.Goals as goal
 
 pub returns-in-Err-clause-err : goal.returns-in-Err-clause-err

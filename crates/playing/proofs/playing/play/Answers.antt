@@ -1,6 +1,5 @@
 use Rattle.std.proofs.Common.{◌<◌, length, arith}
-use Rattle.weave.proofs.Lists.{get_at}
-use Rattle.audit.proofs.Places.{set_here}
+use Rattle.weave.proofs.Lists.{get_at, set_here}
 use Rattle.playing.proofs.HeardLines.{grow_at}
 use Rattle.playing.proofs.playing.play.Goals as goal
 

@@ -8,7 +8,7 @@ use units::{Block, Code, Items, Kind, Node, Period};
 use wire::{Input, Message, Notification, NotifiedStatus, Number, Proposal, ProposalStatus};
 
 /// How many registries the scheme has.
-const REGISTRIES: u32 = 31;
+pub const REGISTRIES: u32 = 31;
 
 /// Each registry's account, which all of its units are in.
 const ACCOUNT: u64 = 1;

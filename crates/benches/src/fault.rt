@@ -1,18 +1,21 @@
 //! Why nothing is measured, or no more.
 
+use desk::Unsettled;
 use scheme::SchemeFault;
 use std::alloc::{AllocError, AllocFailed};
 use std::io;
+use stores::StoreFault;
 use thiserror::Error;
 use units::{BlockFault, NoMemory, Refusal};
+use wire::ReadFault;
 
 /// Why nothing is measured, or no more.
 #[derive(Debug, Drop, Error)]
 pub enum Fault {
-    /// The words are not a kind of work and a number.
-    #[error("two words are wanted, one of transfers, accounts, log, clean-ups, eligibility, map, outbox and scheme, and a number from 9 to 10,000,000")]
+    /// The words are not a kind of work with what it needs, or a number is too small or too large.
+    #[error("wanted: transfers, accounts, log, clean-ups, eligibility, map, outbox or scheme with a number of at least 9; memory, alone, sends or exchanges with a number; file PATH RECORDS; or store PATH RECORDS SIZE LOADS")]
     Words,
-    /// A number of an input is out of its range.
+    /// A number, a code or an order of an input is none.
     #[error("an input can't be made")]
     Input,
     /// The text on standard input is no scheme.
@@ -21,6 +24,21 @@ pub enum Fault {
     /// An input was refused.
     #[error("an input was refused with {0}")]
     Refused(u16),
+    /// Something else was recorded or found than was given.
+    #[error("not all that was given was recorded")]
+    Recorded,
+    /// Other records were loaded than were appended.
+    #[error("the store doesn't load as many records as were appended")]
+    Count,
+    /// The threads were told something else than one thread alone would have been.
+    #[error("{0}")]
+    Unsettled(Unsettled),
+    /// The store has a fault.
+    #[error("{0}")]
+    Store(StoreFault),
+    /// An exchange failed.
+    #[error("the system or memory failed, or a message had another reply")]
+    Exchange,
     /// Memory was refused.
     #[error("out of memory")]
     NoMemory,
@@ -44,6 +62,15 @@ impl<T: Drop> From<AllocFailed<T>> for Fault {
 impl From<NoMemory> for Fault {
     fn from(_: NoMemory) -> Fault {
         Fault::NoMemory
+    }
+}
+
+impl From<ReadFault> for Fault {
+    fn from(fault: ReadFault) -> Fault {
+        match fault {
+            ReadFault::NoMemory => Fault::NoMemory,
+            ReadFault::Shape => Fault::Input,
+        }
     }
 }
 
@@ -72,6 +99,24 @@ impl From<Refusal> for Fault {
     }
 }
 
+impl From<Unsettled> for Fault {
+    fn from(fault: Unsettled) -> Fault {
+        match fault {
+            Unsettled::NoMemory => Fault::NoMemory,
+            fault => Fault::Unsettled(fault),
+        }
+    }
+}
+
+impl From<StoreFault> for Fault {
+    fn from(fault: StoreFault) -> Fault {
+        match fault {
+            StoreFault::NoMemory => Fault::NoMemory,
+            fault => Fault::Store(fault),
+        }
+    }
+}
+
 impl From<serde_json::Error> for Fault {
     fn from(error: serde_json::Error) -> Fault {
         if error.is_memory() {
@@ -92,9 +137,15 @@ impl Fault {
     /// The program's exit status.
     pub fn status(&self) -> u8 {
         match self {
-            Fault::System(_) => 1,
+            Fault::System(_) | Fault::Exchange => 1,
             Fault::Words => 2,
-            Fault::Input | Fault::Text(_) | Fault::Refused(_) => 3,
+            Fault::Input
+            | Fault::Text(_)
+            | Fault::Refused(_)
+            | Fault::Recorded
+            | Fault::Count
+            | Fault::Unsettled(_)
+            | Fault::Store(_) => 3,
             Fault::NoMemory => 5,
         }
     }

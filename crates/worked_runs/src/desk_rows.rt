@@ -1,4 +1,5 @@
-use crate::stations::{COMPLETED, NodeDesk, StillClock, UNKNOWN, desk_of, refused, registry};
+use crate::registries::registry;
+use crate::stations::{COMPLETED, NodeDesk, StillClock, UNKNOWN, desk_of, refused};
 use answers::{Answer, DeskAnswerer};
 use desk::Seat;
 use exchanges::{Counted, SessionEnd, serve_session};

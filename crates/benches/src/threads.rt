@@ -1,14 +1,18 @@
 //! Proposals that threads give a desk.
 
 use crate::fault::Fault;
+use crate::nz::{code, memory_store, nz_state};
+use crate::work::one;
 use desk::{BATCH, Bell, Desk, RoomBell, Seat, State, Told, settle};
 use protocol::Stepped;
 use registry_core::RegistryCore;
 use status::Order;
 use std::alloc::Global;
+use std::rt::Clock;
 use std::sync::Wait;
 use std::thread;
 use std::thread::Threads;
+use std::time::{Duration, Instant};
 use stores::{NodeStore, StoreFault};
 use units::{Code, Items, Kind, Period, RawBlock};
 use wire::Input;
@@ -28,7 +32,7 @@ const STEP: u64 = 2;
 
 /// An order to transfer the unit of that place to JP.
 fn proposal(alloc: Global, jp: Code, place: u64) -> Result<Input, Fault> {
-    let origin = Code::read("NZ").ok_or(Fault::Input)?;
+    let origin = code("NZ")?;
     let number = place.saturating_mul(STEP).saturating_add(1);
     let block = RawBlock {
         origin,
@@ -134,7 +138,7 @@ fn take_and_commit<S: NodeStore + Send + Drop, R: Threads + Wait + Sync>(
 }
 
 /// Has threads record and commit that many proposals, and settles.
-pub fn run_threads<S: NodeStore + Send + Drop, R: Threads + Wait + Sync>(
+fn run_threads<S: NodeStore + Send + Drop, R: Threads + Wait + Sync>(
     rt: &R,
     alloc: Global,
     desk: NzDesk,
@@ -152,23 +156,47 @@ pub fn run_threads<S: NodeStore + Send + Drop, R: Threads + Wait + Sync>(
 }
 
 /// Has one thread record and commit that many proposals.
-pub fn run_alone<S: NodeStore + Drop>(
+fn run_alone<S: NodeStore>(
     alloc: Global,
-    mut state: State<RegistryCore>,
-    mut store: S,
+    state: &mut State<RegistryCore>,
+    store: &mut S,
     records: u32,
     jp: Code,
 ) -> Result<(), Fault> {
     for place in 0..u64::from(records) {
         let _taken = state.take(proposal(alloc, jp, place)?);
         if place % BATCH as u64 == 0 {
-            state.commit(&mut store, BATCH)?;
+            state.commit(store, BATCH)?;
         }
     }
-    state.commit(&mut store, BATCH)?;
+    state.commit(store, BATCH)?;
     if state.committed().len() == records as usize {
         Ok(())
     } else {
         Err(Fault::Recorded)
     }
+}
+
+/// How long threads take over a store.
+pub fn threads_time<R: Threads + Wait + Clock + Sync, S: NodeStore + Send + Drop>(
+    rt: &R,
+    alloc: Global,
+    store: Result<S, Fault>,
+    records: u32,
+) -> Result<Vec<Duration>, Fault> {
+    let store = store?;
+    let desk = Desk::new(nz_state(alloc)?, RoomBell::new());
+    let start = Instant::now(rt)?;
+    run_threads(rt, alloc, desk, store, records, code("JP")?)?;
+    one(alloc, start.elapsed(rt)?)
+}
+
+/// How long one thread takes over a store in memory.
+pub fn alone_time(clock: &impl Clock, alloc: Global, records: u32) -> Result<Vec<Duration>, Fault> {
+    let jp = code("JP")?;
+    let mut store = memory_store(alloc)?;
+    let mut state = nz_state(alloc)?;
+    let start = Instant::now(clock)?;
+    run_alone(alloc, &mut state, &mut store, records, jp)?;
+    one(alloc, start.elapsed(clock)?)
 }

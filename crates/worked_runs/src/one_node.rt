@@ -1,6 +1,6 @@
+use crate::registries::registry;
 use crate::stations::{
     COMPLETED, Ended, Station, UNKNOWN, call, message, open_station, parts_of, records_of, refused,
-    registry,
 };
 use desk::OpenGate;
 use exchanges::Exchange;

@@ -3,6 +3,7 @@
 ghost use Rattle.std.specs.Prelude.{◌<◌};
 
 use crate::fault::Fault;
+use crate::nz::file_store;
 use std::alloc::Global;
 use std::rt::Clock;
 use std::time::{Duration, Instant};
@@ -62,7 +63,7 @@ fn load_time<S: NodeStore>(
 }
 
 /// The time of appending, and then that of each loading.
-pub fn store_times<S: NodeStore>(
+fn store_times<S: NodeStore>(
     clock: &impl Clock,
     alloc: Global,
     store: &mut S,
@@ -75,4 +76,10 @@ pub fn store_times<S: NodeStore>(
         times.push(load_time(clock, store, records.len())?)?;
     }
     Ok(times)
+}
+
+/// How long a store takes that is made at the path.
+pub fn path_times(rt: &HostRuntime, path: &str, batches: &Batches) -> Result<Vec<Duration>, Fault> {
+    let mut store = file_store(rt, path)?;
+    store_times(rt, rt.alloc(), &mut store, batches)
 }

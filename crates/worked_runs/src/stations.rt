@@ -1,10 +1,10 @@
 //! Nodes of the worked scheme with their desks and ports, and what others send them.
 
+use crate::registries::worked_scheme;
 use answers::Clock;
 use desk::{Desk, Gate, RoomBell, Seat, State, settle};
 use exchanges::{Counted, Exchange, exchange};
 use node::Core;
-use scheme::Scheme;
 use sessions::{Dial, Listen, NodeEnd, NodeParts, NodeToRun, run_all};
 use sockets::Port;
 use status::Moment;
@@ -15,11 +15,8 @@ use std::sync::Wait;
 use std::sync::atomic::{AtomicU64, Ordering};
 use std::thread::Threads;
 use stores::MemoryStore;
-use units::{Code, NoMemory, Node};
+use units::{NoMemory, Node};
 use wire::{Message, Reply, ReplyCode, decode};
-
-const SCHEME: &str =
-    r#"{"records":1000,"registries":[{"accounts":[7,8],"allotted":[],"code":"JP","eligible":true,"kinds":["AAU","CER"]},{"accounts":[1,2],"allotted":[{"account":1,"units":["NZ:1:1-100:AAU"]}],"code":"NZ","eligible":true,"kinds":["AAU","RMU","ERU","CER","tCER","lCER"]}]}"#;
 
 /// The log tells NZ that a transfer is completed that NZ never proposed.
 pub const COMPLETED: &str =
@@ -99,12 +96,8 @@ pub struct Station {
     pub listen: FailingPort,
 }
 
-pub fn registry(rt: &impl Abort, code: &str) -> Node {
-    Node::Registry(Code::read(code).expect(rt, "a code"))
-}
-
 pub fn desk_of(rt: &impl Abort, alloc: Global, node: Node) -> NodeDesk {
-    let scheme = Scheme::read(alloc, SCHEME.as_bytes()).expect(rt, "a scheme");
+    let scheme = worked_scheme(rt, alloc);
     let core = Core::new(alloc, &scheme, node).expect(rt, "memory");
     Desk::new(State::new(alloc, core), RoomBell::new())
 }
@@ -179,6 +172,17 @@ where
     run_all(rt, alloc, nodes)
 }
 
+/// The seats of a node that ended without a fault, and that other one.
+fn seats_of(rt: &impl Abort, end: Ended, other: Option<Seat>) -> Vec<Seat> {
+    let end = end.expect(rt, "memory");
+    assert_eq!(rt; end.fault, None);
+    let mut seats = end.seats;
+    if let Some(seat) = other {
+        seats.push(seat).expect(rt, "memory");
+    }
+    seats
+}
+
 /// How many records the node has and how many it has committed, as its threads were told, and whoever has that other
 /// seat.
 pub fn records_of(
@@ -187,12 +191,7 @@ pub fn records_of(
     end: Ended,
     other: Option<Seat>,
 ) -> (usize, usize) {
-    let end = end.expect(rt, "memory");
-    assert_eq!(rt; end.fault, None);
-    let mut seats = end.seats;
-    if let Some(seat) = other {
-        seats.push(seat).expect(rt, "memory");
-    }
+    let seats = seats_of(rt, end, other);
     let life = settle(&desk.end(), seats.as_slice()).expect(rt, "a life");
     (life.records, life.committed)
 }

@@ -1,11 +1,14 @@
 use crate::cores::{ROOM, assert_sent, scheme, walk};
 use crate::logs::{assert_owner, log, opening_register};
 use checks::log_findings;
+use log_core::LogCore;
 use protocol::Outcome::{Late, Recorded, Refused, Repeat};
 use protocol::{NodeCore, Outcome, ReplayFault, resume};
 use status::Content;
+use std::alloc::Global;
+use std::process::Abort;
 use units::{Block, Code, Items};
-use wire::decode_input;
+use wire::{LogCodes, decode_input};
 
 const PROPOSAL: &str =
     r#"{"input":"received","message":{"account":1,"call":"AcceptProposal","from":"NZ","status":"Proposed","to":"ITL","to_account":7,"to_registry":"JP","transaction":"NZ1","units":["NZ:1:1-100:AAU"]},"moment":1335830400}"#;
@@ -79,17 +82,27 @@ fn findings_terminate_a_transfer(rt: HostRuntime) {
     )
 }
 
+/// A transfer of that block from JP to itself.
+fn content_of(rt: &impl Abort, alloc: Global, jp: Code, block: &str) -> Content {
+    let block = Block::read(block).expect(rt, "a block");
+    let units = Items::from_vec(Vec::from_slice(alloc, &[block]).expect(rt, "memory"));
+    Content::new(7, jp, 7, units).expect(rt, "a content")
+}
+
+/// What the log finds at the start in a transfer that JP proposes.
+fn findings_at_start(rt: &impl Abort, alloc: Global, jp: Code, content: &Content) -> LogCodes {
+    let scheme = scheme(rt, alloc, ROOM);
+    let register = opening_register(rt, alloc, &scheme);
+    let found = log_findings(alloc, &scheme, &register, jp, content).expect(rt, "memory");
+    found.expect(rt, "findings")
+}
+
 #[test]
 fn a_proposal_has_all_its_findings(rt: HostRuntime) {
     let alloc = rt.alloc();
     let jp = Code::read("JP").expect(&rt, "a code");
-    let block = Block::read("NZ:1:100-101:CER").expect(&rt, "a block");
-    let units = Items::from_vec(Vec::from_slice(alloc, &[block]).expect(&rt, "memory"));
-    let content = Content::new(7, jp, 7, units).expect(&rt, "a content");
-    let scheme = scheme(&rt, alloc, ROOM);
-    let register = opening_register(&rt, alloc, &scheme);
-    let found = log_findings(alloc, &scheme, &register, jp, &content).expect(&rt, "memory");
-    let codes = found.expect(&rt, "findings");
+    let content = content_of(&rt, alloc, jp, "NZ:1:100-101:CER");
+    let codes = findings_at_start(&rt, alloc, jp, &content);
     assert_eq!(rt; codes.as_slice(), [201, 203, 204, 206].as_slice());
 }
 
@@ -105,6 +118,12 @@ const TRANSFER: &[(&str, Outcome)] = &[
     (r#"{"input":"ack","key":3}"#, Refused(46)),
 ];
 
+/// Asserts that the log doesn't record that at that place.
+fn assert_no_record(rt: &impl Abort, alloc: Global, log: &mut LogCore, text: &str, place: usize) {
+    let record = [decode_input(alloc, text.as_bytes()).expect(rt, "an input")];
+    assert_eq!(rt; resume(log, &record), Err(ReplayFault::NotRecorded(place)));
+}
+
 #[test]
 fn a_completed_transfer_moves_the_book(rt: HostRuntime) {
     let alloc = rt.alloc();
@@ -112,8 +131,7 @@ fn a_completed_transfer_moves_the_book(rt: HostRuntime) {
     walk(&rt, alloc, &mut log, TRANSFER);
     assert_owner(&rt, &log, "NZ:1:100-100:AAU", "JP", false);
     assert!(rt; log.acknowledged(0) && !log.acknowledged(1));
-    let record = [decode_input(alloc, PROPOSAL.as_bytes()).expect(&rt, "an input")];
-    assert_eq!(rt; resume(&mut log, &record), Err(ReplayFault::NotRecorded(4)));
+    assert_no_record(&rt, alloc, &mut log, PROPOSAL, 4);
 }
 
 const CLEANED: &[(&str, Outcome)] = &[

@@ -1,6 +1,7 @@
+use crate::registries::registry;
 use crate::stations::{
     ACCEPTED, CANCELLED, Ended, PROPOSAL, Station, UNKNOWN, call, message, open_station,
-    records_of, refused, registry, run_both,
+    records_of, refused, run_both,
 };
 use crate::waits::{HeldGate, Signals};
 use desk::{Gate, OpenGate};

@@ -5,7 +5,7 @@ use crate::log_rounds::{
     clean_up, codes, eligibility_orders, log_rounds_of, proposals_of, scheme_text,
 };
 use crate::rounds::{Nodes, account_orders, rounds_of};
-use crate::work::{Taken, Work};
+use crate::work::{Inputs, Taken};
 use log_core::LogCore;
 use protocol::{NodeCore, Stepped};
 use registry_core::RegistryCore;
@@ -13,6 +13,7 @@ use scheme::Scheme;
 use std::alloc::Global;
 use std::rt::Clock;
 use std::time::Instant;
+use units::Code;
 use wire::Input;
 
 /// As many records as a scheme allows. All units are in account 2 of NZ.
@@ -43,40 +44,69 @@ fn drive<C: NodeCore>(
     })
 }
 
+/// NZ of the scheme.
+fn registry_of(alloc: Global, nodes: Nodes) -> Result<RegistryCore, Fault> {
+    let scheme = Scheme::read(alloc, SCHEME.as_bytes())?;
+    Ok(RegistryCore::new(alloc, &scheme, nodes.own)?)
+}
+
 /// What a registry takes.
 pub fn at_registry(
     clock: &impl Clock,
     alloc: Global,
-    work: Work,
+    kind: Inputs,
     count: u32,
 ) -> Result<Taken, Fault> {
     let nodes = Nodes::read().ok_or(Fault::Input)?;
-    let scheme = Scheme::read(alloc, SCHEME.as_bytes())?;
-    let mut core = RegistryCore::new(alloc, &scheme, nodes.own)?;
-    let inputs = if work == Work::Transfers {
-        rounds_of(alloc, nodes, count)?
-    } else {
-        account_orders(alloc)?
+    let inputs = match kind {
+        Inputs::Transfers => rounds_of(alloc, nodes, count)?,
+        _ => account_orders(alloc)?,
     };
+    let mut core = registry_of(alloc, nodes)?;
     drive(clock, &mut core, &inputs, count)
 }
 
-/// What the log takes.
-pub fn at_log(clock: &impl Clock, alloc: Global, work: Work, count: u32) -> Result<Taken, Fault> {
-    let codes = codes(alloc)?;
-    let text = scheme_text(alloc, &codes)?;
+/// The log of the scheme of these registries.
+pub fn log_of(alloc: Global, codes: &[Code]) -> Result<LogCore, Fault> {
+    let text = scheme_text(alloc, codes)?;
     let scheme = Scheme::read(alloc, text.as_bytes())?;
-    let mut core = LogCore::new(alloc, &scheme)?;
-    if work == Work::Log {
-        let inputs = log_rounds_of(alloc, &codes, count)?;
-        return drive(clock, &mut core, &inputs, count);
-    }
-    let proposals = proposals_of(alloc, &codes, CHECKED)?;
-    drive(clock, &mut core, &proposals, CHECKED)?;
-    let inputs = if work == Work::CleanUps {
-        clean_up(alloc)?
-    } else {
-        eligibility_orders(alloc, &codes)?
+    Ok(LogCore::new(alloc, &scheme)?)
+}
+
+/// Gives the log the proposals that stand Checked from then on.
+fn propose(
+    clock: &impl Clock,
+    alloc: Global,
+    log: &mut LogCore,
+    codes: &[Code],
+) -> Result<(), Fault> {
+    let proposals = proposals_of(alloc, codes, CHECKED)?;
+    drive(clock, log, &proposals, CHECKED)?;
+    Ok(())
+}
+
+/// What the log of these registries takes.
+fn at_log_of(
+    clock: &impl Clock,
+    alloc: Global,
+    codes: &[Code],
+    kind: Inputs,
+    count: u32,
+) -> Result<Taken, Fault> {
+    let inputs = match kind {
+        Inputs::Log => log_rounds_of(alloc, codes, count)?,
+        Inputs::CleanUps => clean_up(alloc)?,
+        _ => eligibility_orders(alloc, codes)?,
     };
-    drive(clock, &mut core, &inputs, count)
+    let mut log = log_of(alloc, codes)?;
+    if kind != Inputs::Log {
+        propose(clock, alloc, &mut log, codes)?;
+    }
+    drive(clock, &mut log, &inputs, count)
+}
+
+/// What the log takes.
+pub fn at_log(clock: &impl Clock, alloc: Global, kind: Inputs, count: u32) -> Result<Taken, Fault> {
+    let codes = codes(alloc)?;
+    at_log_of(clock, alloc, &codes, kind, count)
 }

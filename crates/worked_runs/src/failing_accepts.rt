@@ -1,6 +1,7 @@
+use crate::registries::registry;
 use crate::stations::{
     COMPLETED, Ended, NodeDesk, Station, UNKNOWN, call, message, open_station, records_of, refused,
-    registry, run_both,
+    run_both,
 };
 use crate::waits::TURNS;
 use desk::{OpenGate, Seat, Told};
@@ -9,6 +10,7 @@ use protocol::Stepped;
 use sessions::Dial;
 use sockets::Ports;
 use std::alloc::Global;
+use std::process::Abort;
 use std::rt::Clock;
 use std::sync::Wait;
 use std::thread;
@@ -99,6 +101,20 @@ where
     )
 }
 
+/// Asserts that NZ has the record of the order, which that seat was told of, and JP none.
+fn assert_records(
+    rt: &impl Abort,
+    (nz, jp): (NodeDesk, NodeDesk),
+    ran: Result<Vec<Ended>, NoMemory>,
+    seat: Seat,
+) {
+    let mut ends = ran.expect(rt, "memory");
+    let at_jp = ends.pop().expect(rt, "an end");
+    let at_nz = ends.pop().expect(rt, "an end");
+    assert_eq!(rt; records_of(rt, nz, at_nz, Some(seat)), (1, 1));
+    assert_eq!(rt; records_of(rt, jp, at_jp, None), (0, 0));
+}
+
 /// At NZ all accepts fail but the last that may, and it replies; at JP all fail, and it stops, and no other node does.
 #[test]
 fn hundred_accepts(rt: HostRuntime) {
@@ -117,9 +133,5 @@ fn hundred_accepts(rt: HostRuntime) {
         Some(Exchange::Answered(refused(&rt, UNKNOWN)))
     );
     assert_eq!(rt; after.told, Told::Step(Stepped::Recorded(0)));
-    let mut ends = ran.expect(&rt, "memory");
-    let at_jp = ends.pop().expect(&rt, "an end");
-    let at_nz = ends.pop().expect(&rt, "an end");
-    assert_eq!(rt; records_of(&rt, nz.desk, at_nz, Some(after.seat)), (1, 1));
-    assert_eq!(rt; records_of(&rt, jp.desk, at_jp, None), (0, 0));
+    assert_records(&rt, (nz.desk, jp.desk), ran, after.seat);
 }

@@ -1,0 +1,124 @@
+//! The next messages of a log that has many to send.
+
+ghost use Rattle.std.specs.Prelude.{◌<◌};
+
+use crate::cores::log_of;
+use crate::fault::Fault;
+use crate::log_rounds::{REGISTRIES, codes, proposals_of};
+use desk::{State, Told};
+use log_core::LogCore;
+use protocol::Stepped;
+use std::alloc::Global;
+use std::collections::BTreeMap;
+use std::rt::Clock;
+use std::time::{Duration, Instant};
+use stores::MemoryStore;
+use units::{Code, Node};
+use wire::Input;
+
+/// How many calls are measured.
+const CALLS: u32 = 10_000;
+
+/// How far the key of one call is from the next one's.
+const STRIDE: u32 = 97;
+
+/// Has the state record the proposal, and commits that.
+fn record(
+    state: &mut State<LogCore>,
+    store: &mut MemoryStore,
+    proposal: Input,
+) -> Result<(), Fault> {
+    let taken = state.take(proposal);
+    if !matches!(taken.told(), Told::Step(Stepped::Recorded(_))) {
+        return Err(Fault::Recorded);
+    }
+    state.commit(store, 1)?;
+    Ok(())
+}
+
+/// Has the state record the proposals, and commits them.
+fn record_all(
+    state: &mut State<LogCore>,
+    alloc: Global,
+    proposals: Vec<Input>,
+) -> Result<(), Fault> {
+    let mut store = MemoryStore::new(alloc, Node::Itl);
+    for proposal in proposals {
+        record(state, &mut store, proposal)?;
+    }
+    Ok(())
+}
+
+/// The log's state, with that many messages to send, all committed.
+fn log_state(alloc: Global, codes: &[Code], keys: u32) -> Result<State<LogCore>, Fault> {
+    let proposals = proposals_of(alloc, codes, keys)?;
+    let mut state = State::new(alloc, log_of(alloc, codes)?);
+    record_all(&mut state, alloc, proposals)?;
+    Ok(state)
+}
+
+/// How long the calls for the next message take.
+fn sends_time(
+    clock: &impl Clock,
+    state: &State<LogCore>,
+    codes: &[Code],
+    keys: u32,
+) -> Result<Duration, Fault>
+    requires { 0 < keys }
+{
+    let mut found = 0;
+    let start = Instant::now(clock)?;
+    for call in 0..CALLS {
+        let peer = *codes.get((call % REGISTRIES) as usize).ok_or(Fault::Input)?;
+        let from = call.wrapping_mul(STRIDE) % keys;
+        if state
+            .next_send(Node::Registry(peer), from as usize)
+            .is_some()
+        {
+            found = u32::saturating_add(found, 1);
+        }
+    }
+    let time = start.elapsed(clock)?;
+    // Near the end some peer may have no message left.
+    if found > CALLS / 2 {
+        Ok(time)
+    } else {
+        Err(Fault::Recorded)
+    }
+}
+
+/// How long look-ups in an ordered map of that many keys take.
+fn lookups_time(clock: &impl Clock, alloc: Global, keys: u32) -> Result<Duration, Fault>
+    requires { 0 < keys }
+{
+    let mut map = BTreeMap::new(alloc);
+    for key in 0..keys {
+        map.insert(key, key)?;
+    }
+    let mut found = 0;
+    let start = Instant::now(clock)?;
+    for call in 0..CALLS {
+        if map.contains_key(&(call.wrapping_mul(STRIDE) % keys)) {
+            found = u32::saturating_add(found, 1);
+        }
+    }
+    let time = start.elapsed(clock)?;
+    if found == CALLS {
+        Ok(time)
+    } else {
+        Err(Fault::Recorded)
+    }
+}
+
+/// How long calls for the next of that many messages take, and then as many look-ups in an ordered map of as many keys.
+pub fn sends_times(clock: &impl Clock, alloc: Global, keys: u32) -> Result<Vec<Duration>, Fault> {
+    if keys == 0 {
+        return Err(Fault::Words);
+    }
+    let codes = codes(alloc)?;
+    let state = log_state(alloc, codes.as_slice(), keys)?;
+    let mut times = Vec::new(alloc);
+    times.push(sends_time(clock, &state, codes.as_slice(), keys)?)?;
+    times.push(lookups_time(clock, alloc, keys)?)?;
+    Ok(times)
+}

@@ -1,0 +1,161 @@
+//! What is measured.
+
+ghost use Rattle.std.specs.Prelude.{◌≤◌, IfSome};
+
+use crate::fault::Fault;
+use crate::file_times::Batches;
+use std::alloc::Global;
+use std::time::Duration;
+
+/// One round of inputs.
+pub const LEAST_INPUTS: u32 = 9;
+
+const MOST_INPUTS: u32 = 10_000_000;
+
+const MOST_RECORDS: u32 = 999_999;
+
+const MOST_OF_A_BATCH: u32 = 1_000_000;
+
+const MOST_LOADS: u32 = 1_000;
+
+const MOST_KEYS: u32 = 1_000_000;
+
+const MOST_EXCHANGES: u32 = 1_000_000;
+
+/// What inputs or calls are of, at a core or one of its parts.
+#[derive(Clone, Copy, Debug, PartialEq, Eq)]
+pub enum Inputs {
+    /// Whole transfers, at a registry in both roles.
+    Transfers,
+    /// Orders to close and to open an account.
+    Accounts,
+    /// Whole transfers, at the log.
+    Log,
+    /// Clean-ups by which nothing is due.
+    CleanUps,
+    /// Orders on the eligibility of a registry.
+    Eligibility,
+    /// Calls on a map of many intervals of units.
+    Map,
+    /// Look-ups in an outbox of many messages.
+    Outbox,
+    /// Readings of a scheme.
+    Scheme,
+}
+
+impl Inputs {
+    /// The inputs that the word names.
+    fn read(word: &str) -> Option<Inputs> {
+        match word {
+            "transfers" => Some(Inputs::Transfers),
+            "accounts" => Some(Inputs::Accounts),
+            "log" => Some(Inputs::Log),
+            "clean-ups" => Some(Inputs::CleanUps),
+            "eligibility" => Some(Inputs::Eligibility),
+            "map" => Some(Inputs::Map),
+            "outbox" => Some(Inputs::Outbox),
+            "scheme" => Some(Inputs::Scheme),
+            _ => None,
+        }
+    }
+}
+
+/// What is asked for.
+#[derive(Drop)]
+pub enum Work<'a> {
+    /// That many inputs or calls.
+    Inputs(Inputs, u32),
+    /// A store that is made at that path.
+    Store(&'a str, Batches),
+    /// Threads at a desk, whose store is in memory.
+    Memory(u32),
+    /// Threads at a desk, whose store is made at that path.
+    File(&'a str, u32),
+    /// One thread.
+    Alone(u32),
+    /// The next messages of a log.
+    Sends(u32),
+    /// Exchanges over sockets of this machine.
+    Exchanges(u32),
+}
+
+/// The number that the word writes, where it is neither too small nor too large.
+fn number(word: &str, least: u32, most: u32) -> Option<u32>
+    ensures { IfSome result (λ n. (least ≤ n) × (n ≤ most)) }
+{
+    let number = word.parse::<u32>().ok()?;
+    if least <= number && number <= most {
+        Some(number)
+    } else {
+        None
+    }
+}
+
+/// What is appended and loaded.
+fn batches(records: &str, size: &str, loads: &str) -> Option<Batches> {
+    let records = number(records, 0, MOST_RECORDS)?;
+    let size = number(size, 1, MOST_OF_A_BATCH)?;
+    let loads = number(loads, 0, MOST_LOADS)?;
+    Some(Batches {
+        records,
+        size,
+        loads,
+    })
+}
+
+/// A work that is asked for by one number.
+fn counted(work: &str, count: &str) -> Option<Work<'static>> {
+    match work {
+        "memory" => Some(Work::Memory(number(count, 0, MOST_RECORDS)?)),
+        "alone" => Some(Work::Alone(number(count, 0, MOST_RECORDS)?)),
+        "sends" => Some(Work::Sends(number(count, 0, MOST_KEYS)?)),
+        "exchanges" => Some(Work::Exchanges(number(count, 0, MOST_EXCHANGES)?)),
+        _ => {
+            let inputs = Inputs::read(work)?;
+            Some(Work::Inputs(inputs, number(count, LEAST_INPUTS, MOST_INPUTS)?))
+        }
+    }
+}
+
+impl Work<'_> {
+    /// What the words ask for, the first word being the program's own name.
+    pub fn read(words: &[String]) -> Option<Work<'_>> {
+        match words {
+            [_, work, path, records, size, loads] if work.as_str() == "store" => {
+                Some(Work::Store(path, batches(records, size, loads)?))
+            }
+            [_, work, path, records] if work.as_str() == "file" => {
+                Some(Work::File(path, number(records, 0, MOST_RECORDS)?))
+            }
+            [_, work, count] => counted(work, count),
+            _ => None,
+        }
+    }
+
+    /// Whether nothing is asked for.
+    pub fn is_nothing(&self) -> bool {
+        match self {
+            Work::Inputs(_, _) => false,
+            Work::Store(_, batches) => batches.records == 0,
+            Work::Memory(count)
+            | Work::File(_, count)
+            | Work::Alone(count)
+            | Work::Sends(count)
+            | Work::Exchanges(count) => *count == 0,
+        }
+    }
+}
+
+/// How long some inputs or calls took, and how many of them were recorded, or found something.
+#[derive(Clone, Copy, Debug)]
+pub struct Taken {
+    pub time: Duration,
+    pub count: u32,
+}
+
+/// The one time, as a list.
+pub fn one(alloc: Global, time: Duration) -> Result<Vec<Duration>, Fault> {
+    let mut times = Vec::new(alloc);
+    times.push(time)?;
+    Ok(times)
+}

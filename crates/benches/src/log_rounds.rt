@@ -1,11 +1,11 @@
 //! The inputs that the log is given.
 
 use crate::fault::Fault;
-use crate::rounds::{MOMENT, received};
+use crate::rounds::{MOMENT, ack_of, block_of, received};
 use status::{Content, Moment, TransactionId};
 use std::alloc::Global;
-use units::{Block, Code, Items, Kind, Node, Period};
-use wire::{Input, Message, Notification, NotifiedStatus, Number, Proposal, ProposalStatus};
+use units::{Code, Items, Node};
+use wire::{Input, Message, Notification, NotifiedStatus, Proposal, ProposalStatus};
 
 /// How many registries the scheme has.
 pub const REGISTRIES: u32 = 31;
@@ -15,14 +15,6 @@ const ACCOUNT: u64 = 1;
 
 /// How many units each registry has.
 const UNITS_OF_A_REGISTRY: u64 = 100_000_000;
-
-const UNITS_OF_A_BLOCK: u64 = 10;
-
-/// How far one round's block is from the next one of its registry: half of the units between them stay.
-const UNITS_OF_A_ROUND: u64 = 2 * UNITS_OF_A_BLOCK;
-
-/// The messages that the log sends in a round.
-const MESSAGES_OF_A_ROUND: u64 = 3;
 
 /// The codes of the registries: AA, AB, and so on.
 pub fn codes(alloc: Global) -> Result<Vec<Code>, Fault> {
@@ -111,18 +103,9 @@ impl Round {
         TransactionId::new(self.initiator, number).ok_or(Fault::Input)
     }
 
-    /// The round's block of the initiator's units.
-    fn block(&self) -> Result<Block, Fault> {
-        let first = u64::from(self.turn())
-            .saturating_mul(UNITS_OF_A_ROUND)
-            .saturating_add(1);
-        let last = first.saturating_add(UNITS_OF_A_BLOCK - 1);
-        let (origin, period) = (self.initiator, Period::First);
-        Ok(Block::new(origin, period, Kind::Aau, first, last)?)
-    }
-
     fn proposal(&self, alloc: Global) -> Result<Input, Fault> {
-        let units = Items::from_vec(Vec::from_slice(alloc, &[self.block()?])?);
+        let block = block_of(self.initiator, self.turn())?;
+        let units = Items::from_vec(Vec::from_slice(alloc, &[block])?);
         let content = Content::new(ACCOUNT, self.acquirer, ACCOUNT, units);
         received(Message::Proposal(Proposal {
             from: Node::Registry(self.initiator),
@@ -145,15 +128,12 @@ impl Round {
 
     /// The acknowledgement of one of the round's messages.
     fn ack(&self, sent: Sent) -> Result<Input, Fault> {
-        let place = match sent {
+        let message = match sent {
             Sent::Checked => 0,
             Sent::Accepted => 1,
             Sent::Completed => 2,
         };
-        let key = u64::from(self.place)
-            .saturating_mul(MESSAGES_OF_A_ROUND)
-            .saturating_add(place);
-        Ok(Input::Ack(Number::new(key).ok_or(Fault::Input)?))
+        ack_of(self.place, message)
     }
 
     fn input(&self, alloc: Global, step: Step) -> Result<Input, Fault> {

@@ -17,7 +17,7 @@ const OTHER_ACCOUNT: u64 = 7;
 
 const UNITS_OF_A_BLOCK: u64 = 10;
 
-/// How far one round's block is from the next: half of the units between them stay.
+/// How far one round's block is from the next one of its registry: half of the units between them stay.
 const UNITS_OF_A_ROUND: u64 = 2 * UNITS_OF_A_BLOCK;
 
 /// How many messages a round sends.
@@ -88,17 +88,8 @@ impl Round {
         TransactionId::new(code, number).ok_or(Fault::Input)
     }
 
-    /// The round's block of that registry's units.
-    fn block(&self, origin: Code) -> Result<Block, Fault> {
-        let first = u64::from(self.place)
-            .saturating_mul(UNITS_OF_A_ROUND)
-            .saturating_add(1);
-        let last = first.saturating_add(UNITS_OF_A_BLOCK - 1);
-        Ok(Block::new(origin, Period::First, Kind::Aau, first, last)?)
-    }
-
     fn order(&self, alloc: Global) -> Result<Input, Fault> {
-        let block = self.block(self.nodes.own)?;
+        let block = block_of(self.nodes.own, self.place)?;
         let units: Vec<RawBlock> = Vec::from_slice(alloc, &[block.raw])?;
         let order = Order::new(
             FULL_ACCOUNT,
@@ -111,7 +102,7 @@ impl Round {
 
     /// The other registry's proposal, as the log passes it on.
     fn proposal(&self, alloc: Global) -> Result<Input, Fault> {
-        let block = self.block(self.nodes.other)?;
+        let block = block_of(self.nodes.other, self.place)?;
         let units = Items::from_vec(Vec::from_slice(alloc, &[block])?);
         let content = Content::new(OTHER_ACCOUNT, self.nodes.own, FULL_ACCOUNT, units);
         received(Message::Proposal(Proposal {
@@ -135,15 +126,12 @@ impl Round {
 
     /// The acknowledgement of one of the round's messages.
     fn ack(&self, sent: Sent) -> Result<Input, Fault> {
-        let place = match sent {
+        let message = match sent {
             Sent::Proposal => 0,
             Sent::Completed => 1,
             Sent::Accepted => 2,
         };
-        let key = u64::from(self.place)
-            .saturating_mul(MESSAGES_OF_A_ROUND)
-            .saturating_add(place);
-        Ok(Input::Ack(Number::new(key).ok_or(Fault::Input)?))
+        ack_of(self.place, message)
     }
 
     fn input(&self, alloc: Global, step: Step) -> Result<Input, Fault> {
@@ -155,6 +143,23 @@ impl Round {
             Step::Ack(sent) => self.ack(sent),
         }
     }
+}
+
+/// The block of a registry's units that is transferred in its round of that place.
+pub fn block_of(origin: Code, place: u32) -> Result<Block, Fault> {
+    let first = u64::from(place)
+        .saturating_mul(UNITS_OF_A_ROUND)
+        .saturating_add(1);
+    let last = first.saturating_add(UNITS_OF_A_BLOCK - 1);
+    Ok(Block::new(origin, Period::First, Kind::Aau, first, last)?)
+}
+
+/// The acknowledgement of the message of that place among those that the round of that place sends.
+pub fn ack_of(round: u32, message: u64) -> Result<Input, Fault> {
+    let key = u64::from(round)
+        .saturating_mul(MESSAGES_OF_A_ROUND)
+        .saturating_add(message);
+    Ok(Input::Ack(Number::new(key).ok_or(Fault::Input)?))
 }
 
 /// The input by which a message comes.

@@ -1,4 +1,4 @@
-use crate::streams::{Dripping, Full, Halting};
+use crate::streams::{Dripping, Full, Halting, long_line};
 use exchanges::{Counted, Exchange, exchange};
 use std::alloc::Global;
 use std::process::Abort;
@@ -72,21 +72,11 @@ fn the_whole_text_is_written(rt: HostRuntime) {
     }
 }
 
-/// A reply of that many bytes before its newline.
-fn long_reply(rt: &impl Abort, alloc: Global, bytes: usize) -> Vec<u8> {
-    let mut reply = Vec::new(alloc);
-    for _ in 0..bytes {
-        reply.push(b' ').expect(rt, "memory");
-    }
-    reply.push(b'\n').expect(rt, "memory");
-    reply
-}
-
 #[test]
 fn a_long_reply_is_a_bad_one(rt: HostRuntime) {
     let alloc = rt.alloc();
     let message = message(&rt, alloc);
-    let reply = long_reply(&rt, alloc, 8_193);
+    let reply = long_line(&rt, alloc, b' ', 8_193);
     let mut reader = Counted::new(reply.as_slice());
     let ended = exchange(
         alloc,

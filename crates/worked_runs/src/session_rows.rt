@@ -1,8 +1,7 @@
-use crate::streams::{Dripping, Endless, Full};
+use crate::streams::{Dripping, Endless, Full, long_line};
 use exchanges::{Answerer, Counted, SessionEnd, serve_session};
 use std::alloc::Global;
 use std::io::{Read, Write};
-use std::process::Abort;
 use units::refusal_code::{NODE_STOPPED, NOT_A_MESSAGE};
 use units::{Items, NoMemory};
 use wire::{Reply, ReplyCode};
@@ -110,16 +109,6 @@ fn a_session_ends_where_its_streams_fail(rt: HostRuntime) {
     }
 }
 
-/// That many bytes without a newline, and one then.
-fn long_line(rt: &impl Abort, alloc: Global, bytes: usize) -> Vec<u8> {
-    let mut line = Vec::new(alloc);
-    for _ in 0..bytes {
-        line.push(b'x').expect(rt, "memory");
-    }
-    line.push(b'\n').expect(rt, "memory");
-    line
-}
-
 #[test]
 fn a_line_is_too_long_by_one_byte(rt: HostRuntime) {
     let alloc = rt.alloc();
@@ -127,7 +116,7 @@ fn a_line_is_too_long_by_one_byte(rt: HostRuntime) {
         (8_192, SessionEnd::PeerEnded, 1),
         (8_193, SessionEnd::TooLong, 0),
     ] {
-        let line = long_line(&rt, alloc, bytes);
+        let line = long_line(&rt, alloc, b'x', bytes);
         let mut writer = Counted::new(Full { room: NEVER });
         assert_eq!(rt; served(alloc, line.as_slice(), &mut writer), (end, lines));
     }

@@ -1,6 +1,8 @@
-//! Readers and writers that fail midway.
+//! Readers and writers that fail midway, and lines that are too long.
 
+use std::alloc::Global;
 use std::io::{self, ErrorKind, Read, Write};
+use std::process::Abort;
 
 /// Gives its bytes one by one, and fails in the place of the byte at `fails_at`.
 #[derive(Drop)]
@@ -83,4 +85,14 @@ impl Write for Halting {
     fn flush(&mut self) -> io::Result<()> {
         Ok(())
     }
+}
+
+/// A line of that byte, that often, before its newline.
+pub fn long_line(rt: &impl Abort, alloc: Global, byte: u8, count: usize) -> Vec<u8> {
+    let mut line = Vec::new(alloc);
+    for _ in 0..count {
+        line.push(byte).expect(rt, "memory");
+    }
+    line.push(b'\n').expect(rt, "memory");
+    line
 }

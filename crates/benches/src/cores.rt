@@ -50,6 +50,20 @@ fn registry_of(alloc: Global, nodes: Nodes) -> Result<RegistryCore, Fault> {
     Ok(RegistryCore::new(alloc, &scheme, nodes.own)?)
 }
 
+/// What NZ of the scheme takes for the inputs.
+fn at_registry_of(
+    clock: &impl Clock,
+    alloc: Global,
+    nodes: Nodes,
+    inputs: &[Input],
+    count: u32,
+) -> Result<Taken, Fault> {
+    let mut core = registry_of(alloc, nodes)?;
+    let taken = drive(clock, &mut core, inputs, count);
+    drop(core);
+    taken
+}
+
 /// What a registry takes.
 pub fn at_registry(
     clock: &impl Clock,
@@ -62,8 +76,9 @@ pub fn at_registry(
         Inputs::Transfers => rounds_of(alloc, nodes, count)?,
         _ => account_orders(alloc)?,
     };
-    let mut core = registry_of(alloc, nodes)?;
-    drive(clock, &mut core, &inputs, count)
+    let taken = at_registry_of(clock, alloc, nodes, &inputs, count);
+    drop(inputs);
+    taken
 }
 
 /// The log of the scheme of these registries.
@@ -85,28 +100,56 @@ fn propose(
     Ok(())
 }
 
-/// What the log of these registries takes.
+/// The inputs of that kind that the log is given.
+fn log_inputs(
+    alloc: Global,
+    codes: &[Code],
+    kind: Inputs,
+    count: u32,
+) -> Result<Vec<Input>, Fault> {
+    match kind {
+        Inputs::Log => log_rounds_of(alloc, codes, count),
+        Inputs::CleanUps => clean_up(alloc),
+        _ => eligibility_orders(alloc, codes),
+    }
+}
+
+/// Gives the log the inputs, after the proposals where the kind wants these.
+fn drive_log(
+    clock: &impl Clock,
+    alloc: Global,
+    log: &mut LogCore,
+    codes: &[Code],
+    kind: Inputs,
+    inputs: &[Input],
+    count: u32,
+) -> Result<Taken, Fault> {
+    if kind != Inputs::Log {
+        propose(clock, alloc, log, codes)?;
+    }
+    drive(clock, log, inputs, count)
+}
+
+/// What the log of these registries takes for the inputs.
 fn at_log_of(
     clock: &impl Clock,
     alloc: Global,
     codes: &[Code],
     kind: Inputs,
+    inputs: &[Input],
     count: u32,
 ) -> Result<Taken, Fault> {
-    let inputs = match kind {
-        Inputs::Log => log_rounds_of(alloc, codes, count)?,
-        Inputs::CleanUps => clean_up(alloc)?,
-        _ => eligibility_orders(alloc, codes)?,
-    };
     let mut log = log_of(alloc, codes)?;
-    if kind != Inputs::Log {
-        propose(clock, alloc, &mut log, codes)?;
-    }
-    drive(clock, &mut log, &inputs, count)
+    let taken = drive_log(clock, alloc, &mut log, codes, kind, inputs, count);
+    drop(log);
+    taken
 }
 
 /// What the log takes.
 pub fn at_log(clock: &impl Clock, alloc: Global, kind: Inputs, count: u32) -> Result<Taken, Fault> {
     let codes = codes(alloc)?;
-    at_log_of(clock, alloc, &codes, kind, count)
+    let inputs = log_inputs(alloc, &codes, kind, count)?;
+    let taken = at_log_of(clock, alloc, &codes, kind, &inputs, count);
+    drop(inputs);
+    taken
 }

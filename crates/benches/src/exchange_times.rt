@@ -89,7 +89,7 @@ fn exchange_all<L: Listen + Sync, D: Dial + Sync, R: Threads + Wait + Clock + Sy
     refused
 }
 
-/// The time that so many exchanges take. `None` where the system or memory failed, or a message had another reply.
+/// The time that so many exchanges take. `None` where the system failed, or a message had another reply.
 fn time_between<L: Listen + Sync, D: Dial + Sync, R: Threads + Wait + Clock + Sync>(
     rt: &R,
     alloc: Global,
@@ -97,16 +97,16 @@ fn time_between<L: Listen + Sync, D: Dial + Sync, R: Threads + Wait + Clock + Sy
     dial: &D,
     node: Node,
     desk: &NzDesk,
+    message: &Message,
     count: u32,
 ) -> Option<Duration> {
-    let message = decode(alloc, COMPLETED.as_bytes()).ok()?;
     let start = Instant::now(rt).ok()?;
-    let refused = exchange_all(rt, alloc, listen, dial, node, desk, &message, count);
+    let refused = exchange_all(rt, alloc, listen, dial, node, desk, message, count);
     let passed = start.elapsed(rt).ok()?;
     if refused == count { Some(passed) } else { None }
 }
 
-/// The same, over a port that the system chooses.
+/// The same, over a port that the system chooses. `None` also where memory failed.
 fn time_of<R>(rt: &R, alloc: Global, node: Node, desk: &NzDesk, count: u32) -> Option<Duration>
 where
     R: Threads + Wait + Clock + Net<Listener = TcpListener, Stream = TcpStream> + Sync,
@@ -114,7 +114,10 @@ where
     let port = Port::open(rt).ok()?;
     let mut ports = Ports::new(rt, alloc);
     ports.add(node, &port).ok()?;
-    time_between(rt, alloc, &port, &ports, node, desk, count)
+    let message = decode(alloc, COMPLETED.as_bytes()).ok()?;
+    let time = time_between(rt, alloc, &port, &ports, node, desk, &message, count);
+    drop(message);
+    time
 }
 
 /// How long that many exchanges take.

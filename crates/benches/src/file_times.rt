@@ -23,14 +23,21 @@ pub struct Batches {
     pub ghost sized: { 0 < size },
 }
 
-/// The records to append.
-fn records(alloc: Global, count: u32) -> Result<Vec<Input>, Fault> {
-    let record = decode_input(alloc, RECORD.as_bytes())?;
+/// That many copies of the record.
+fn copies_of(alloc: Global, record: &Input, count: u32) -> Result<Vec<Input>, Fault> {
     let mut records = Vec::new(alloc);
     for _ in 0..count {
         records.push(record.copy()?)?;
     }
     Ok(records)
+}
+
+/// The records to append.
+fn records(alloc: Global, count: u32) -> Result<Vec<Input>, Fault> {
+    let record = decode_input(alloc, RECORD.as_bytes())?;
+    let records = copies_of(alloc, &record, count);
+    drop(record);
+    records
 }
 
 /// How long the store takes to append the records in batches.
@@ -81,5 +88,7 @@ fn store_times<S: NodeStore>(
 /// How long a store takes that is made at the path.
 pub fn path_times(rt: &HostRuntime, path: &str, batches: &Batches) -> Result<Vec<Duration>, Fault> {
     let mut store = file_store(rt, path)?;
-    store_times(rt, rt.alloc(), &mut store, batches)
+    let times = store_times(rt, rt.alloc(), &mut store, batches);
+    drop(store);
+    times
 }

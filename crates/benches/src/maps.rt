@@ -55,20 +55,39 @@ fn blocks_from(
     Ok(blocks)
 }
 
+/// Gives the blocks another kind and their own again.
+fn set_blocks(kinds: &mut UnitMap<Kind>, blocks: &[Block]) -> Result<(), Fault> {
+    if !overlaps(blocks) {
+        kinds.set_all(blocks, |_| Some(Kind::Rmu))?;
+        kinds.set_all(blocks, |block| Some(block.raw.kind))?;
+    }
+    Ok(())
+}
+
+/// Gives 16 blocks of a map of that many intervals another kind and their own again, 10,000 times.
+fn set_in_turn(
+    clock: &impl Clock,
+    alloc: Global,
+    origin: Code,
+    kinds: &mut UnitMap<Kind>,
+    intervals: u64,
+) -> Result<Taken, Fault> {
+    let start = Instant::now(clock)?;
+    for call in 0..CALLS {
+        let place = u64::from(call).saturating_mul(STEP) % intervals.max(1);
+        let blocks = blocks_from(alloc, origin, place, intervals)?;
+        set_blocks(kinds, &blocks)?;
+    }
+    let time = start.elapsed(clock)?;
+    Ok(Taken { time, count: CALLS })
+}
+
 /// What it takes to give 16 blocks of a map of that many intervals another kind and their own again, 10,000 times.
 pub fn in_map(clock: &impl Clock, alloc: Global, intervals: u32) -> Result<Taken, Fault> {
     let origin = Code::read("NZ").ok_or(Fault::Input)?;
     let intervals = u64::from(intervals);
     let mut kinds = map_of(alloc, origin, intervals)?;
-    let start = Instant::now(clock)?;
-    for call in 0..CALLS {
-        let place = u64::from(call).saturating_mul(STEP) % intervals.max(1);
-        let blocks = blocks_from(alloc, origin, place, intervals)?;
-        if !overlaps(&blocks) {
-            kinds.set_all(&blocks, |_| Some(Kind::Rmu))?;
-            kinds.set_all(&blocks, |block| Some(block.raw.kind))?;
-        }
-    }
-    let time = start.elapsed(clock)?;
-    Ok(Taken { time, count: CALLS })
+    let taken = set_in_turn(clock, alloc, origin, &mut kinds, intervals);
+    drop(kinds);
+    taken
 }

@@ -38,10 +38,8 @@ fn outbox_of(alloc: Global, origin: Code, messages: u32) -> Result<Outbox, Fault
     Ok(outbox)
 }
 
-/// What it takes to look for the next message that waits, 10,000 times, and how many of the look-ups found one.
-pub fn in_outbox(clock: &impl Clock, alloc: Global, messages: u32) -> Result<Taken, Fault> {
-    let origin = Code::read("NZ").ok_or(Fault::Input)?;
-    let outbox = outbox_of(alloc, origin, messages)?;
+/// What it takes to look in the outbox of that many messages for the next one that waits, 10,000 times.
+fn look_ups(clock: &impl Clock, outbox: &Outbox, messages: u32) -> Result<Taken, Fault> {
     let start = Instant::now(clock)?;
     let mut count: u32 = 0;
     for call in 0..CALLS {
@@ -52,4 +50,13 @@ pub fn in_outbox(clock: &impl Clock, alloc: Global, messages: u32) -> Result<Tak
     }
     let time = start.elapsed(clock)?;
     Ok(Taken { time, count })
+}
+
+/// What it takes to look for the next message that waits, 10,000 times, and how many of the look-ups found one.
+pub fn in_outbox(clock: &impl Clock, alloc: Global, messages: u32) -> Result<Taken, Fault> {
+    let origin = Code::read("NZ").ok_or(Fault::Input)?;
+    let outbox = outbox_of(alloc, origin, messages)?;
+    let taken = look_ups(clock, &outbox, messages);
+    drop(outbox);
+    taken
 }

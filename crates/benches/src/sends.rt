@@ -22,14 +22,21 @@ const CALLS: u32 = 10_000;
 /// How far the key of one call is from the next one's.
 const STRIDE: u32 = 97;
 
+/// Has the state take the proposal, and returns whether it was recorded.
+fn take(state: &mut State<LogCore>, proposal: Input) -> bool {
+    let taken = state.take(proposal);
+    let is_recorded = matches!(taken.told(), Told::Step(Stepped::Recorded(_)));
+    drop(taken);
+    is_recorded
+}
+
 /// Has the state record the proposal, and commits that.
 fn record(
     state: &mut State<LogCore>,
     store: &mut MemoryStore,
     proposal: Input,
 ) -> Result<(), Fault> {
-    let taken = state.take(proposal);
-    if !matches!(taken.told(), Told::Step(Stepped::Recorded(_))) {
+    if !take(state, proposal) {
         return Err(Fault::Recorded);
     }
     state.commit(store, 1)?;
@@ -110,6 +117,22 @@ fn lookups_time(clock: &impl Clock, alloc: Global, keys: u32) -> Result<Duration
     }
 }
 
+/// How long calls for the next message take, and then as many look-ups in an ordered map of that many keys.
+fn times_of(
+    clock: &impl Clock,
+    alloc: Global,
+    state: &State<LogCore>,
+    codes: &[Code],
+    keys: u32,
+) -> Result<Vec<Duration>, Fault>
+    requires { 0 < keys }
+{
+    let mut times = Vec::new(alloc);
+    times.push(sends_time(clock, state, codes, keys)?)?;
+    times.push(lookups_time(clock, alloc, keys)?)?;
+    Ok(times)
+}
+
 /// How long calls for the next of that many messages take, and then as many look-ups in an ordered map of as many keys.
 pub fn sends_times(clock: &impl Clock, alloc: Global, keys: u32) -> Result<Vec<Duration>, Fault> {
     if keys == 0 {
@@ -117,8 +140,7 @@ pub fn sends_times(clock: &impl Clock, alloc: Global, keys: u32) -> Result<Vec<D
     }
     let codes = codes(alloc)?;
     let state = log_state(alloc, codes.as_slice(), keys)?;
-    let mut times = Vec::new(alloc);
-    times.push(sends_time(clock, &state, codes.as_slice(), keys)?)?;
-    times.push(lookups_time(clock, alloc, keys)?)?;
-    Ok(times)
+    let times = times_of(clock, alloc, &state, codes.as_slice(), keys);
+    drop(state);
+    times
 }

@@ -3,7 +3,7 @@
 use crate::fault::Fault;
 use crate::nz::{code, memory_store, nz_state};
 use crate::work::one;
-use desk::{BATCH, Bell, Desk, RoomBell, Seat, State, Told, settle};
+use desk::{BATCH, Bell, Desk, RoomBell, Seat, State, Taken, Told, settle};
 use protocol::Stepped;
 use registry_core::RegistryCore;
 use status::Order;
@@ -46,7 +46,49 @@ fn proposal(alloc: Global, jp: Code, place: u64) -> Result<Input, Fault> {
     Ok(Input::Propose(order.ok_or(Fault::Input)?))
 }
 
+/// Waits until what was taken is committed, and returns whether it was.
+fn confirm<R: Wait>(rt: &R, desk: &NzDesk, seat: &mut Seat, taken: Taken) -> bool {
+    let confirmed = desk.confirm(rt, seat, taken);
+    let is_committed = confirmed.is_ok();
+    drop(confirmed);
+    is_committed
+}
+
+/// Has the desk take the input, and waits until the last one is committed. Returns whether it was recorded, and the
+/// last one committed.
+fn take_one<R: Wait>(rt: &R, desk: &NzDesk, seat: &mut Seat, input: Input, is_last: bool) -> bool {
+    let taken = desk.take(rt, seat, input);
+    let is_recorded = matches!(taken.told(), Told::Step(Stepped::Recorded(_)));
+    if is_recorded && is_last {
+        confirm(rt, desk, seat, taken)
+    } else {
+        drop(taken);
+        is_recorded
+    }
+}
+
 /// Has the desk take the proposals of those places, and waits until the last one is committed.
+fn take_each<R: Wait>(
+    rt: &R,
+    alloc: Global,
+    desk: &NzDesk,
+    seat: &mut Seat,
+    jp: Code,
+    first: u64,
+    count: u64,
+) -> Result<(), Fault> {
+    let end = first.saturating_add(count);
+    for place in first..end {
+        let input = proposal(alloc, jp, place)?;
+        let is_last = place.saturating_add(1) == end;
+        if !take_one(rt, desk, seat, input, is_last) {
+            return Err(Fault::Recorded);
+        }
+    }
+    Ok(())
+}
+
+/// The same, at a seat of its own, which it returns.
 fn take_all<R: Wait>(
     rt: &R,
     alloc: Global,
@@ -56,17 +98,13 @@ fn take_all<R: Wait>(
     count: u64,
 ) -> Result<Seat, Fault> {
     let mut seat = Seat::new(alloc);
-    let end = first.saturating_add(count);
-    for place in first..end {
-        let taken = desk.take(rt, &mut seat, proposal(alloc, jp, place)?);
-        if !matches!(taken.told(), Told::Step(Stepped::Recorded(_))) {
-            return Err(Fault::Recorded);
-        }
-        if place.saturating_add(1) == end && desk.confirm(rt, &mut seat, taken).is_err() {
-            return Err(Fault::Recorded);
+    match take_each(rt, alloc, desk, &mut seat, jp, first, count) {
+        Ok(()) => Ok(seat),
+        Err(fault) => {
+            drop(seat);
+            Err(fault)
         }
     }
-    Ok(seat)
 }
 
 /// Commits until the desk has stopped.
@@ -137,6 +175,25 @@ fn take_and_commit<S: NodeStore + Send + Drop, R: Threads + Wait + Sync>(
     seats
 }
 
+/// Settles, and fails where another number of records is committed.
+fn settle_records(state: &State<RegistryCore>, seats: &[Seat], records: u32) -> Result<(), Fault> {
+    let life = settle(state, seats)?;
+    if life.committed == records as usize {
+        Ok(())
+    } else {
+        Err(Fault::Recorded)
+    }
+}
+
+/// Ends the desk, and settles.
+fn end(desk: NzDesk, seats: Vec<Seat>, records: u32) -> Result<(), Fault> {
+    let state = desk.end();
+    let settled = settle_records(&state, seats.as_slice(), records);
+    drop(state);
+    drop(seats);
+    settled
+}
+
 /// Has threads record and commit that many proposals, and settles.
 fn run_threads<S: NodeStore + Send + Drop, R: Threads + Wait + Sync>(
     rt: &R,
@@ -146,13 +203,27 @@ fn run_threads<S: NodeStore + Send + Drop, R: Threads + Wait + Sync>(
     records: u32,
     jp: Code,
 ) -> Result<(), Fault> {
-    let seats = take_and_commit(rt, alloc, &desk, store, jp, records)?;
-    let life = settle(&desk.end(), seats.as_slice())?;
-    if life.committed == records as usize {
-        Ok(())
-    } else {
-        Err(Fault::Recorded)
+    match take_and_commit(rt, alloc, &desk, store, jp, records) {
+        Ok(seats) => end(desk, seats, records),
+        Err(fault) => {
+            drop(desk);
+            Err(fault)
+        }
     }
+}
+
+/// Has the state take the input.
+fn take_alone(state: &mut State<RegistryCore>, input: Input) {
+    drop(state.take(input));
+}
+
+/// Commits a batch of what the state has recorded.
+fn commit_alone<S: NodeStore>(
+    state: &mut State<RegistryCore>,
+    store: &mut S,
+) -> Result<(), StoreFault> {
+    state.commit(store, BATCH)?;
+    Ok(())
 }
 
 /// Has one thread record and commit that many proposals.
@@ -164,12 +235,12 @@ fn run_alone<S: NodeStore>(
     jp: Code,
 ) -> Result<(), Fault> {
     for place in 0..u64::from(records) {
-        let _taken = state.take(proposal(alloc, jp, place)?);
+        take_alone(state, proposal(alloc, jp, place)?);
         if place % BATCH as u64 == 0 {
-            state.commit(store, BATCH)?;
+            commit_alone(state, store)?;
         }
     }
-    state.commit(store, BATCH)?;
+    commit_alone(state, store)?;
     if state.committed().len() == records as usize {
         Ok(())
     } else {
@@ -184,11 +255,34 @@ pub fn threads_time<R: Threads + Wait + Clock + Sync, S: NodeStore + Send + Drop
     store: Result<S, Fault>,
     records: u32,
 ) -> Result<Vec<Duration>, Fault> {
+    let jp = code("JP")?;
     let store = store?;
     let desk = Desk::new(nz_state(alloc)?, RoomBell::new());
-    let start = Instant::now(rt)?;
-    run_threads(rt, alloc, desk, store, records, code("JP")?)?;
-    one(alloc, start.elapsed(rt)?)
+    match Instant::now(rt) {
+        Ok(start) => {
+            run_threads(rt, alloc, desk, store, records, jp)?;
+            one(alloc, start.elapsed(rt)?)
+        }
+        Err(error) => {
+            drop(desk);
+            drop(store);
+            Err(Fault::from(error))
+        }
+    }
+}
+
+/// How long one thread takes over the state and the store.
+fn time_alone<S: NodeStore>(
+    clock: &impl Clock,
+    alloc: Global,
+    state: &mut State<RegistryCore>,
+    store: &mut S,
+    records: u32,
+    jp: Code,
+) -> Result<Duration, Fault> {
+    let start = Instant::now(clock)?;
+    run_alone(alloc, state, store, records, jp)?;
+    Ok(start.elapsed(clock)?)
 }
 
 /// How long one thread takes over a store in memory.
@@ -196,7 +290,8 @@ pub fn alone_time(clock: &impl Clock, alloc: Global, records: u32) -> Result<Vec
     let jp = code("JP")?;
     let mut store = memory_store(alloc)?;
     let mut state = nz_state(alloc)?;
-    let start = Instant::now(clock)?;
-    run_alone(alloc, &mut state, &mut store, records, jp)?;
-    one(alloc, start.elapsed(clock)?)
+    let time = time_alone(clock, alloc, &mut state, &mut store, records, jp);
+    drop(state);
+    drop(store);
+    one(alloc, time?)
 }

@@ -1,4 +1,5 @@
 use crate::nodes::{NzState, nz, nz_core, nz_state, turn};
+use crate::same::{assert_same, assert_same_in};
 use desk::State;
 use std::alloc::Global;
 use std::marker::Model;
@@ -75,31 +76,40 @@ fn counted(rt: &impl Abort, alloc: Global) -> Counted {
 fn state_of(rt: &impl Abort, alloc: Global, records: usize) -> NzState {
     let mut state = nz_state(rt, alloc);
     for place in 0..records {
-        let _taken = state.take(turn(rt, alloc, place));
+        drop(state.take(turn(rt, alloc, place)));
     }
     state
 }
 
+/// Has a state of that many records commit them to the store, and gives how many it committed.
+fn committed(rt: &impl Abort, alloc: Global, store: &mut Counted, records: usize) -> usize {
+    let mut state = state_of(rt, alloc, records);
+    let committed = state.commit(store, records);
+    drop(state);
+    committed.expect(rt, "no fault of the store")
+}
+
 /// A store of that many records, appended at once.
 fn store_of(rt: &impl Abort, alloc: Global, records: usize) -> Counted {
-    let mut state = state_of(rt, alloc, records);
     let mut store = counted(rt, alloc);
-    let committed = state.commit(&mut store, records);
-    assert_eq!(rt; committed.expect(rt, "no fault of the store"), records);
+    assert_same(rt, committed(rt, alloc, &mut store, records), records);
     store
 }
 
 /// How many records a state that is read from the store has.
 fn records_read(rt: &impl Abort, alloc: Global, store: &mut Counted) -> usize {
     let loaded = State::load_from(alloc, nz_core(rt, alloc), store);
-    loaded.ok().expect(rt, "a state").committed().len()
+    let state = loaded.ok().expect(rt, "a state");
+    let records = state.committed().len();
+    drop(state);
+    records
 }
 
 /// How many pages a store of that many records is asked for. It is asked for nothing else.
 fn pages_of(rt: &impl Abort, alloc: Global, records: usize) -> u32 {
     let mut store = store_of(rt, alloc, records);
-    assert_eq!(rt; records_read(rt, alloc, &mut store), records);
-    assert_eq!(rt; (store.appends, store.loads), (1, 0));
+    assert_same(rt, records_read(rt, alloc, &mut store), records);
+    assert_same(rt, (store.appends, store.loads), (1, 0));
     store.pages
 }
 
@@ -107,6 +117,6 @@ fn pages_of(rt: &impl Abort, alloc: Global, records: usize) -> u32 {
 fn stores_are_read_by_pages(rt: HostRuntime) {
     let alloc = rt.alloc();
     for (records, pages) in [(1, 1), (255, 1), (256, 2), (1000, 4)] {
-        assert_eq!(rt; pages_of(&rt, alloc, records), pages, "{records} records");
+        assert_same_in(&rt, pages_of(&rt, alloc, records), pages, records);
     }
 }

@@ -1,10 +1,11 @@
 use crate::nodes::{
-    NzDesk, NzState, TEN, TEN_MORE, commit, input, next_key, nz, nz_desk, nz_state, recorded,
-    take_all, turn,
+    NzDesk, NzState, TEN, TEN_MORE, assert_taken, commit, confirm, next_key, nz, nz_desk, nz_state,
+    query, recorded, take_all, take_at, turn,
 };
+use crate::same::{assert_same, assert_same_in};
 use desk::{Life, Seat, Taken, Told, Unsettled, settle};
 use protocol::Stepped;
-use status::{Status, TransactionId};
+use status::Status;
 use std::alloc::Global;
 use std::process::Abort;
 use std::sync::Wait;
@@ -21,7 +22,7 @@ const CHECKED: &str =
 /// Asserts the keys of the messages that are next for the log, from each of the keys 0 to 2 on.
 fn assert_next(rt: &(impl Wait + Abort), desk: &NzDesk, expected: [Option<usize>; 3]) {
     for from in 0..3 {
-        assert_eq!(rt; next_key(rt, desk, from), expected[from], "from {from}");
+        assert_same_in(rt, next_key(rt, desk, from), expected[from], from);
     }
 }
 
@@ -39,27 +40,17 @@ fn messages_leave_after_their_commit(rt: HostRuntime) {
     let (mut a, mut b) = (Seat::new(alloc), Seat::new(alloc));
     let desk = desk_of_two(&rt, alloc, &mut a, &mut b);
     assert_next(&rt, &desk, [None, None, None]);
-    assert_eq!(rt; commit(&rt, alloc, &desk), 2);
+    assert_same(&rt, commit(&rt, alloc, &desk), 2);
     assert_next(&rt, &desk, [Some(0), Some(1), None]);
+    drop((desk, a, b));
 }
 
-/// Asks the desk where that transaction stands, and asserts what it tells, with how many records.
-fn query(
-    rt: &(impl Wait + Abort),
-    desk: &NzDesk,
-    seat: &mut Seat,
-    id: TransactionId,
-    expected: (Told, usize),
-) -> Taken {
-    let taken = desk.query(rt, seat, id);
-    assert_eq!(rt; (taken.told(), taken.length()), expected);
-    taken
-}
-
-/// Waits until that is committed, and gives how many records the seat knows to be.
-fn confirmed(rt: &(impl Wait + Abort), desk: &NzDesk, seat: &mut Seat, taken: Taken) -> usize {
-    assert!(rt; desk.confirm(rt, seat, taken).is_ok());
-    seat.confirmed()
+/// Asserts that NZ1 stands proposed at the desk, of two records, and confirms that.
+fn assert_proposed(rt: &(impl Wait + Abort), desk: &NzDesk, seat: &mut Seat) {
+    let taken = query(rt, desk, seat);
+    let proposed = Told::Status(Some(Status::Proposed));
+    assert_same(rt, (taken.told(), taken.length()), (proposed, 2));
+    assert!(rt; confirm(rt, desk, seat, taken));
 }
 
 #[test]
@@ -67,11 +58,10 @@ fn a_query_is_confirmed(rt: HostRuntime) {
     let alloc = rt.alloc();
     let (mut a, mut b) = (Seat::new(alloc), Seat::new(alloc));
     let desk = desk_of_two(&rt, alloc, &mut a, &mut b);
-    assert_eq!(rt; commit(&rt, alloc, &desk), 2);
-    let id = TransactionId::read("NZ1").expect(&rt, "an identifier");
-    let expected = (Told::Status(Some(Status::Proposed)), 2);
-    let taken = query(&rt, &desk, &mut a, id, expected);
-    assert_eq!(rt; confirmed(&rt, &desk, &mut a, taken), 2);
+    assert_same(&rt, commit(&rt, alloc, &desk), 2);
+    assert_proposed(&rt, &desk, &mut a);
+    assert_same(&rt, a.confirmed(), 2);
+    drop((desk, a, b));
 }
 
 /// What the first seat is told after that, up to the stop.
@@ -98,8 +88,8 @@ fn assert_settles(rt: &impl Abort, state: &NzState, seats: &[Seat; 2]) {
         records: 3,
         committed: 2,
     };
-    assert_eq!(rt; settle(state, seats), Ok(life));
-    assert_eq!(rt; settle(state, &seats[..1]), Err(Unsettled::Missing(1)));
+    assert_same(rt, settle(state, seats), Ok(life));
+    assert_same(rt, settle(state, &seats[..1]), Err(Unsettled::Missing(1)));
 }
 
 #[test]
@@ -107,18 +97,21 @@ fn a_stopped_desk_settles(rt: HostRuntime) {
     let alloc = rt.alloc();
     let (mut a, mut b) = (Seat::new(alloc), Seat::new(alloc));
     let desk = desk_of_two(&rt, alloc, &mut a, &mut b);
-    assert_eq!(rt; commit(&rt, alloc, &desk), 2);
+    assert_same(&rt, commit(&rt, alloc, &desk), 2);
     take_all(&rt, alloc, &desk, &mut a, TOLD);
     assert_stops(&rt, alloc, &desk, &mut a);
-    assert_settles(&rt, &desk.end(), &[a, b]);
+    let (state, seats) = (desk.end(), [a, b]);
+    assert_settles(&rt, &state, &seats);
+    drop((state, seats));
 }
 
 /// Has the desk record that many inputs, by which an account is closed and opened in turn.
 fn record_many(rt: &(impl Wait + Abort), alloc: Global, desk: &NzDesk, records: usize) {
     let mut seat = Seat::new(alloc);
     for place in 0..records {
-        let _taken = desk.take(rt, &mut seat, turn(rt, alloc, place));
+        drop(desk.take(rt, &mut seat, turn(rt, alloc, place)));
     }
+    drop(seat);
 }
 
 #[test]
@@ -128,16 +121,25 @@ fn a_desk_commits_64_at_most(rt: HostRuntime) {
     record_many(&rt, alloc, &desk, 65);
     let mut store = MemoryStore::new(alloc, nz(&rt));
     for records in [64, 1, 0] {
-        assert_eq!(rt; desk.commit_next(&rt, &mut store), Ok(records));
+        assert_same(&rt, desk.commit_next(&rt, &mut store), Ok(records));
     }
+    drop(desk);
 }
 
 /// A state with two records.
 fn state_of_two(rt: &impl Abort, alloc: Global) -> NzState {
     let mut state = nz_state(rt, alloc);
-    let _first = state.take(input(rt, alloc, TEN));
-    let _second = state.take(input(rt, alloc, TEN_MORE));
+    assert_taken(rt, alloc, &mut state, TEN, recorded(0));
+    assert_taken(rt, alloc, &mut state, TEN_MORE, recorded(1));
     state
+}
+
+/// How many records the state would commit next, where a batch has at most `max`.
+fn next_batch(rt: &impl Abort, state: &NzState, max: usize) -> usize {
+    let batch = state.batch(max).expect(rt, "memory");
+    let records = batch.len();
+    drop(batch);
+    records
 }
 
 /// Has the state commit its next batch, and gives how many records it had.
@@ -147,21 +149,24 @@ fn commit_batch(
     store: &mut MemoryStore,
     max: usize,
 ) -> usize {
-    let batch = state.batch(max).expect(rt, "memory").len();
+    let batch = next_batch(rt, state, max);
     let committed = state.commit(store, max).expect(rt, "no fault of the store");
-    assert_eq!(rt; committed, batch);
+    assert_same(rt, committed, batch);
     committed
 }
 
 /// How many records the store has.
 fn stored(rt: &impl Abort, store: &mut MemoryStore) -> usize {
-    store.load().expect(rt, "memory").len()
+    let loaded = store.load().expect(rt, "memory");
+    let records = loaded.len();
+    drop(loaded);
+    records
 }
 
 /// Asserts how many records the state has committed, and how many it would next.
 fn assert_committed(rt: &impl Abort, state: &NzState, committed: usize, next: usize) {
-    assert_eq!(rt; state.committed().len(), committed);
-    assert_eq!(rt; state.batch(64).expect(rt, "memory").len(), next);
+    assert_same(rt, state.committed().len(), committed);
+    assert_same(rt, next_batch(rt, state, 64), next);
 }
 
 /// Has the state commit at most `max` records, and asserts how many the store has then.
@@ -174,8 +179,8 @@ fn commit_up_to(
 ) {
     let before = stored(rt, store);
     let committed = commit_batch(rt, state, store, max);
-    assert_eq!(rt; before.checked_add(committed), Some(records));
-    assert_eq!(rt; stored(rt, store), records);
+    assert_same(rt, before.checked_add(committed), Some(records));
+    assert_same(rt, stored(rt, store), records);
 }
 
 #[test]
@@ -188,29 +193,49 @@ fn a_state_commits_in_batches(rt: HostRuntime) {
         commit_up_to(&rt, &mut state, &mut store, max, records);
         assert_committed(&rt, &state, records, 2_usize.saturating_sub(records));
     }
+    drop(state);
 }
 
 /// How many records the journal had when that was taken of which there is a receipt.
 fn received(rt: &impl Abort, state: &NzState, taken: Taken) -> usize {
     let receipt = state.receipt(taken).ok().expect(rt, "a receipt");
-    receipt.taken().length()
+    let length = receipt.taken().length();
+    drop(receipt);
+    length
+}
+
+/// What is given back, of which there is no receipt yet.
+fn not_received(rt: &impl Abort, state: &NzState, taken: Taken) -> Taken {
+    state.receipt(taken).err().expect(rt, "what was taken")
 }
 
 /// Has the state commit one record.
 fn commit_one(rt: &impl Abort, alloc: Global, state: &mut NzState) {
     let mut store = MemoryStore::new(alloc, nz(rt));
-    assert_eq!(rt; commit_batch(rt, state, &mut store, 1), 1);
+    assert_same(rt, commit_batch(rt, state, &mut store, 1), 1);
+}
+
+/// Asserts that of the first there is a receipt once one record is committed, and of the second only after another.
+fn assert_receipts(
+    rt: &impl Abort,
+    alloc: Global,
+    state: &mut NzState,
+    first: Taken,
+    second: Taken,
+) {
+    commit_one(rt, alloc, state);
+    assert_same(rt, received(rt, state, first), 1);
+    let second = not_received(rt, state, second);
+    commit_one(rt, alloc, state);
+    assert_same(rt, received(rt, state, second), 2);
 }
 
 #[test]
 fn what_is_committed_has_a_receipt(rt: HostRuntime) {
     let alloc = rt.alloc();
     let mut state = nz_state(&rt, alloc);
-    let first = state.take(input(&rt, alloc, TEN));
-    let second = state.take(input(&rt, alloc, TEN_MORE));
-    commit_one(&rt, alloc, &mut state);
-    assert_eq!(rt; received(&rt, &state, first), 1);
-    let back = state.receipt(second).err().expect(&rt, "what was taken");
-    commit_one(&rt, alloc, &mut state);
-    assert_eq!(rt; received(&rt, &state, back), 2);
+    let first = take_at(&rt, alloc, &mut state, TEN);
+    let second = take_at(&rt, alloc, &mut state, TEN_MORE);
+    assert_receipts(&rt, alloc, &mut state, first, second);
+    drop(state);
 }

@@ -1,7 +1,9 @@
 use crate::nodes::{
-    CLOSE, NzDesk, OPEN, TEN, TEN_MORE, input, next_key, nz, nz_core, nz_desk, recorded, take_all,
+    CLOSE, NzDesk, NzState, OPEN, TEN, TEN_MORE, assert_found, assert_taken, confirm, input,
+    next_key, nz, nz_core, nz_desk, recorded, take, take_all,
 };
-use desk::{Life, Seat, State, Told, settle};
+use crate::same::assert_same;
+use desk::{Life, Seat, State, Told};
 use std::alloc::Global;
 use std::process::Abort;
 use std::sync::Wait;
@@ -19,10 +21,10 @@ fn assert_stops(
     seat: &mut Seat,
     store: &mut MemoryStore,
 ) {
-    assert_eq!(rt; desk.commit_next(rt, store), Err(StoreFault::Device));
-    assert_eq!(rt; desk.commit_next(rt, store), Ok(0));
+    assert_same(rt, desk.commit_next(rt, store), Err(StoreFault::Device));
+    assert_same(rt, desk.commit_next(rt, store), Ok(0));
     take_all(rt, alloc, desk, seat, &[(CLOSE, STOPPED)]);
-    assert_eq!(rt; next_key(rt, desk, 0), None);
+    assert_same(rt, next_key(rt, desk, 0), None);
 }
 
 /// Has a desk fail at its first commit, and settles what its seat was told.
@@ -30,23 +32,36 @@ fn fail(rt: &(impl Wait + Abort), alloc: Global, store: &mut MemoryStore) {
     let desk = nz_desk(rt, alloc);
     let mut seat = Seat::new(alloc);
     take_all(rt, alloc, &desk, &mut seat, &[(TEN, recorded(0))]);
-    let taken = desk.take(rt, &mut seat, input(rt, alloc, TEN_MORE));
+    let taken = take(rt, alloc, &desk, &mut seat, TEN_MORE);
     assert_stops(rt, alloc, &desk, &mut seat, store);
-    assert!(rt; desk.confirm(rt, &mut seat, taken).is_err());
+    assert!(rt; !confirm(rt, &desk, &mut seat, taken));
     let life = Life {
         opening: 0,
         records: 2,
         committed: 0,
     };
-    assert_eq!(rt; settle(&desk.end(), &[seat]), Ok(life));
+    assert_found(rt, desk, seat, Ok(life));
 }
 
 /// The store after a desk's first commit to it failed, of which it keeps all or nothing, opened again.
 fn failed_store(rt: &(impl Wait + Abort), alloc: Global, keeps: Kept) -> MemoryStore {
     let mut store = MemoryStore::fused(alloc, nz(rt), 0, keeps);
     fail(rt, alloc, &mut store);
-    assert_eq!(rt; store.reopen(), Ok(()));
+    assert_same(rt, store.reopen(), Ok(()));
     store
+}
+
+/// The state that is read from the store.
+fn loaded(rt: &impl Abort, alloc: Global, store: &mut MemoryStore) -> NzState {
+    let loaded = State::load_from(alloc, nz_core(rt, alloc), store);
+    loaded.ok().expect(rt, "a state")
+}
+
+/// Asserts that the state runs with that many records, all of them committed, and records another.
+fn assert_goes_on(rt: &impl Abort, alloc: Global, state: &mut NzState, records: usize) {
+    assert_same(rt, state.committed().len(), records);
+    assert!(rt; state.is_running());
+    assert_taken(rt, alloc, state, CLOSE, recorded(records));
 }
 
 #[test]
@@ -54,19 +69,17 @@ fn a_failed_commit_stops_the_node(rt: HostRuntime) {
     let alloc = rt.alloc();
     for (keeps, records) in [(Kept::All, 2), (Kept::None, 0)] {
         let mut store = failed_store(&rt, alloc, keeps);
-        let mut state = State::load_from(alloc, nz_core(&rt, alloc), &mut store)
-            .ok()
-            .expect(&rt, "a state");
-        assert_eq!(rt; state.committed().len(), records);
-        assert!(rt; state.is_running());
-        let taken = state.take(input(&rt, alloc, CLOSE));
-        assert_eq!(rt; taken.told(), recorded(records));
+        let mut state = loaded(&rt, alloc, &mut store);
+        assert_goes_on(&rt, alloc, &mut state, records);
+        drop(state);
     }
 }
 
 /// Puts a record after the others.
 fn append(rt: &impl Abort, alloc: Global, store: &mut MemoryStore, text: &str) {
-    assert_eq!(rt; store.append(&[input(rt, alloc, text)]), Ok(()));
+    let batch = [input(rt, alloc, text)];
+    assert_same(rt, store.append(&batch), Ok(()));
+    drop(batch);
 }
 
 #[test]
@@ -77,5 +90,5 @@ fn a_record_that_is_not_recorded_is_damage(rt: HostRuntime) {
         append(&rt, alloc, &mut store, text);
     }
     let loaded = State::load_from(alloc, nz_core(&rt, alloc), &mut store);
-    assert_eq!(rt; loaded.err(), Some(StoreFault::Damaged(2)));
+    assert_same(&rt, loaded.err(), Some(StoreFault::Damaged(2)));
 }

@@ -11,6 +11,8 @@ mod fault_rows;
 #[cfg(test)]
 mod nodes;
 #[cfg(test)]
+mod same;
+#[cfg(test)]
 mod settle_rows;
 #[cfg(test)]
 mod thread_rows;

@@ -2,10 +2,12 @@
 
 ghost use Rattle.std.specs.Prelude.{◌≡◌, []};
 
-use desk::{Desk, RoomBell, Seat, State, Told};
+use crate::same::{assert_same, assert_same_in};
+use desk::{Desk, Life, RoomBell, Seat, State, Taken, Told, Unsettled, settle};
 use protocol::Stepped;
 use registry_core::RegistryCore;
 use scheme::Scheme;
+use status::TransactionId;
 use std::alloc::Global;
 use std::process::Abort;
 use std::sync::Wait;
@@ -41,7 +43,16 @@ pub fn nz_core(rt: &impl Abort, alloc: Global) -> RegistryCore
 {
     let scheme = Scheme::read(alloc, SCHEME.as_bytes()).expect(rt, "a scheme");
     let code = Code::read("NZ").expect(rt, "a code");
-    RegistryCore::new(alloc, &scheme, code).expect(rt, "memory")
+    let core = RegistryCore::new(alloc, &scheme, code).expect(rt, "memory");
+    drop(scheme);
+    core
+}
+
+/// Asserts what the state tells of an input.
+pub fn assert_taken(rt: &impl Abort, alloc: Global, state: &mut NzState, text: &str, told: Told) {
+    let taken = take_at(rt, alloc, state, text);
+    assert_same(rt, taken.told(), told);
+    drop(taken);
 }
 
 pub fn nz_state(rt: &impl Abort, alloc: Global) -> NzState {
@@ -62,6 +73,47 @@ pub fn turn(rt: &impl Abort, alloc: Global, place: usize) -> Input {
     input(rt, alloc, text)
 }
 
+/// Has the state take an input.
+pub fn take_at(rt: &impl Abort, alloc: Global, state: &mut NzState, text: &str) -> Taken {
+    state.take(input(rt, alloc, text))
+}
+
+/// Has the desk take an input.
+pub fn take(
+    rt: &(impl Wait + Abort),
+    alloc: Global,
+    desk: &NzDesk,
+    seat: &mut Seat,
+    text: &str,
+) -> Taken {
+    desk.take(rt, seat, input(rt, alloc, text))
+}
+
+/// Asks the desk where NZ1 stands.
+pub fn query(rt: &(impl Wait + Abort), desk: &NzDesk, seat: &mut Seat) -> Taken {
+    let id = TransactionId::read("NZ1").expect(rt, "an identifier");
+    desk.query(rt, seat, id)
+}
+
+/// Waits until that is committed, or the desk has stopped. Says whether it is committed.
+pub fn confirm(rt: &(impl Wait + Abort), desk: &NzDesk, seat: &mut Seat, taken: Taken) -> bool {
+    desk.confirm(rt, seat, taken).is_ok()
+}
+
+/// What the state settles to with those seats.
+pub fn settled(state: NzState, seats: &[Seat]) -> Result<Life, Unsettled> {
+    let found = settle(&state, seats);
+    drop(state);
+    found
+}
+
+/// Ends the desk, and asserts what it settles to with the one seat.
+pub fn assert_found(rt: &impl Abort, desk: NzDesk, seat: Seat, expected: Result<Life, Unsettled>) {
+    let seats = [seat];
+    assert_same(rt, settled(desk.end(), &seats), expected);
+    drop(seats);
+}
+
 /// Has the desk take each input, and asserts what it tells.
 pub fn take_all(
     rt: &(impl Wait + Abort),
@@ -71,8 +123,9 @@ pub fn take_all(
     row: &[(&str, Told)],
 ) {
     for (text, expected) in row {
-        let taken = desk.take(rt, seat, input(rt, alloc, text));
-        assert_eq!(rt; taken.told(), *expected, "{text}");
+        let taken = take(rt, alloc, desk, seat, text);
+        assert_same_in(rt, taken.told(), *expected, text);
+        drop(taken);
     }
 }
 
@@ -84,7 +137,10 @@ pub fn recorded(place: usize) -> Told {
 /// The key of the message that is next for the log, from that key on.
 pub fn next_key(rt: &(impl Wait + Abort), desk: &NzDesk, from: usize) -> Option<usize> {
     match desk.next_send(rt, Node::Itl, from).expect(rt, "memory") {
-        Some((key, _)) => Some(key),
+        Some((key, message)) => {
+            drop(message);
+            Some(key)
+        }
         None => None,
     }
 }

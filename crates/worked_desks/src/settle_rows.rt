@@ -1,19 +1,13 @@
 use crate::nodes::{
-    CLOSE, NzDesk, TEN, TEN_MORE, commit, input, nz_desk, nz_state, recorded, take_all,
+    CLOSE, NzDesk, TEN, TEN_MORE, assert_found, assert_taken, commit, confirm, nz_desk, nz_state,
+    query, recorded, settled, take, take_all,
 };
-use desk::{Lengths, Life, Seat, Told, Unsettled, settle};
+use crate::same::assert_same;
+use desk::{Lengths, Life, Seat, Told, Unsettled};
 use protocol::Stepped;
-use status::TransactionId;
 use std::alloc::Global;
 use std::process::Abort;
 use std::sync::Wait;
-
-/// Has the desk tell where NZ1 stands. Gives the length of its journal.
-fn query(rt: &(impl Wait + Abort), desk: &NzDesk, seat: &mut Seat) -> usize {
-    let id = TransactionId::read("NZ1").expect(rt, "an identifier");
-    let taken = desk.query(rt, seat, id);
-    taken.length()
-}
 
 /// A desk with three records.
 fn desk_of_three(rt: &(impl Wait + Abort), alloc: Global) -> NzDesk {
@@ -23,25 +17,45 @@ fn desk_of_three(rt: &(impl Wait + Abort), alloc: Global) -> NzDesk {
         (TEN_MORE, recorded(1)),
         (CLOSE, recorded(2)),
     ];
-    take_all(rt, alloc, &desk, &mut Seat::new(alloc), &row);
+    let mut seat = Seat::new(alloc);
+    take_all(rt, alloc, &desk, &mut seat, &row);
+    drop(seat);
     desk
+}
+
+/// Asks the desk, and asserts how many records it has.
+fn ask(rt: &(impl Wait + Abort), desk: &NzDesk, seat: &mut Seat, records: usize) {
+    let taken = query(rt, desk, seat);
+    assert_same(rt, taken.length(), records);
+    drop(taken);
+}
+
+/// A seat that was told of three records by a desk of its own.
+fn seat_of_three(rt: &(impl Wait + Abort), alloc: Global) -> Seat {
+    let desk = desk_of_three(rt, alloc);
+    let mut seat = Seat::new(alloc);
+    ask(rt, &desk, &mut seat, 3);
+    drop(desk);
+    assert_same(rt, seat.notes().len(), 1);
+    seat
+}
+
+#[test]
+fn fewer_records_at_another_desk_are_found(rt: HostRuntime) {
+    let alloc = rt.alloc();
+    let empty = nz_desk(&rt, alloc);
+    let mut both = seat_of_three(&rt, alloc);
+    ask(&rt, &empty, &mut both, 0);
+    assert_same(&rt, both.lengths(), Lengths::Fell);
+    assert_found(&rt, empty, both, Err(Unsettled::Fell));
 }
 
 #[test]
 fn what_another_desk_told_is_found(rt: HostRuntime) {
     let alloc = rt.alloc();
-    let three = desk_of_three(&rt, alloc);
+    let other = seat_of_three(&rt, alloc);
     let empty = nz_desk(&rt, alloc);
-    let mut both = Seat::new(alloc);
-    assert_eq!(rt; query(&rt, &three, &mut both), 3);
-    assert_eq!(rt; query(&rt, &empty, &mut both), 0);
-    assert_eq!(rt; both.lengths(), Lengths::Fell);
-    let mut other = Seat::new(alloc);
-    assert_eq!(rt; query(&rt, &three, &mut other), 3);
-    assert_eq!(rt; other.notes().len(), 1);
-    let state = empty.end();
-    assert_eq!(rt; settle(&state, &[both]), Err(Unsettled::Fell));
-    assert_eq!(rt; settle(&state, &[other]), Err(Unsettled::Untrue(3)));
+    assert_found(&rt, empty, other, Err(Unsettled::Untrue(3)));
 }
 
 /// A seat that was told by a desk of its own that NZ's first proposal is recorded.
@@ -49,6 +63,7 @@ fn told_seat(rt: &(impl Wait + Abort), alloc: Global) -> Seat {
     let desk = nz_desk(rt, alloc);
     let mut seat = Seat::new(alloc);
     take_all(rt, alloc, &desk, &mut seat, &[(TEN, recorded(0))]);
+    drop(desk);
     seat
 }
 
@@ -56,34 +71,37 @@ fn told_seat(rt: &(impl Wait + Abort), alloc: Global) -> Seat {
 fn confirmed_seat(rt: &(impl Wait + Abort), alloc: Global) -> Seat {
     let desk = nz_desk(rt, alloc);
     let mut seat = Seat::new(alloc);
-    let taken = desk.take(rt, &mut seat, input(rt, alloc, TEN));
-    assert_eq!(rt; commit(rt, alloc, &desk), 1);
-    assert!(rt; desk.confirm(rt, &mut seat, taken).is_ok());
+    let taken = take(rt, alloc, &desk, &mut seat, TEN);
+    assert_same(rt, commit(rt, alloc, &desk), 1);
+    assert!(rt; confirm(rt, &desk, &mut seat, taken));
+    drop(desk);
     seat
 }
 
-/// What is found where a state has that one record, and those are the seats.
-fn settled(rt: &impl Abort, alloc: Global, text: &str, seats: &[Seat]) -> Result<Life, Unsettled> {
+/// Asserts what is found where a state has that one record, and those are the seats.
+fn assert_unsettled(
+    rt: &impl Abort,
+    alloc: Global,
+    text: &str,
+    seats: &[Seat],
+    expected: Unsettled,
+) {
     let mut state = nz_state(rt, alloc);
-    let _taken = state.take(input(rt, alloc, text));
-    settle(&state, seats)
+    assert_taken(rt, alloc, &mut state, text, recorded(0));
+    assert_same(rt, settled(state, seats), Err(expected));
 }
 
 #[test]
 fn seats_of_other_desks_are_found(rt: HostRuntime) {
     let alloc = rt.alloc();
-    let told = [told_seat(&rt, alloc)];
-    assert_eq!(rt;
-        settled(&rt, alloc, CLOSE, &told),
-        Err(Unsettled::Differs(0))
-    );
-    let confirmed = [confirmed_seat(&rt, alloc)];
-    assert_eq!(rt;
-        settled(&rt, alloc, TEN, &confirmed),
-        Err(Unsettled::NotCommitted(1))
-    );
-    let both = [told_seat(&rt, alloc), confirmed_seat(&rt, alloc)];
-    assert_eq!(rt; settled(&rt, alloc, TEN, &both), Err(Unsettled::Twice(0)));
+    let told = told_seat(&rt, alloc);
+    let confirmed = confirmed_seat(&rt, alloc);
+    let both = [told, confirmed];
+    let seats = &both[..];
+    assert_unsettled(&rt, alloc, CLOSE, &seats[..1], Unsettled::Differs(0));
+    assert_unsettled(&rt, alloc, TEN, &seats[1..], Unsettled::NotCommitted(1));
+    assert_unsettled(&rt, alloc, TEN, seats, Unsettled::Twice(0));
+    drop(both);
 }
 
 /// Two records that were told.
@@ -99,12 +117,12 @@ fn an_unconfirmed_tail_settles(rt: HostRuntime) {
     let mut seat = Seat::new(alloc);
     take_all(&rt, alloc, &desk, &mut seat, TWO);
     desk.stop(&rt);
-    assert_eq!(rt; commit(&rt, alloc, &desk), 0);
+    assert_same(&rt, commit(&rt, alloc, &desk), 0);
     let life = Life {
         opening: 0,
         records: 2,
         committed: 0,
     };
-    assert_eq!(rt; seat.tickets().len(), 2);
-    assert_eq!(rt; settle(&desk.end(), &[seat]), Ok(life));
+    assert_same(&rt, seat.tickets().len(), 2);
+    assert_found(&rt, desk, seat, Ok(life));
 }

@@ -1,5 +1,6 @@
-use crate::nodes::{NzState, TEN, TEN_MORE, input, nz, nz_state};
-use desk::{Bell, Desk, Life, RoomBell, Seat, Taken, Told, settle};
+use crate::nodes::{NzState, TEN, TEN_MORE, input, nz, nz_state, settled};
+use crate::same::assert_same;
+use desk::{Bell, Desk, Life, RoomBell, Seat, Taken, Told};
 use protocol::Stepped;
 use registry_core::RegistryCore;
 use status::{Order, Status, TransactionId};
@@ -124,7 +125,24 @@ fn answer_waits<R: Threads + Wait + Clock + Abort + Sync>(
 ) {
     let mut store = MemoryStore::new(alloc, nz(rt));
     let both = confirm_and_commit(rt, desk, seat, &mut store, taken, waits);
-    assert_eq!(rt; both, (true, Seen::Awaited));
+    assert_same(rt, both, (true, Seen::Awaited));
+}
+
+/// Has the watched desk take an input.
+fn take(
+    rt: &(impl Wait + Abort),
+    alloc: Global,
+    desk: &WatchedDesk,
+    seat: &mut Seat,
+    text: &str,
+) -> Taken {
+    desk.take(rt, seat, input(rt, alloc, text))
+}
+
+/// Asks the watched desk where NZ1 stands.
+fn ask(rt: &(impl Wait + Abort), desk: &WatchedDesk, seat: &mut Seat) -> Taken {
+    let id = TransactionId::read("NZ1").expect(rt, "an identifier");
+    desk.query(rt, seat, id)
 }
 
 #[test]
@@ -132,14 +150,14 @@ fn a_receipt_waits_for_the_commit(rt: HostRuntime) {
     let alloc = rt.alloc();
     let desk = watched(nz_state(&rt, alloc));
     let mut seat = Seat::new(alloc);
-    let taken = desk.take(&rt, &mut seat, input(&rt, alloc, TEN));
+    let taken = take(&rt, alloc, &desk, &mut seat, TEN);
     answer_waits(&rt, alloc, &desk, &mut seat, taken, 1);
-    let _recorded = desk.take(&rt, &mut seat, input(&rt, alloc, TEN_MORE));
-    let id = TransactionId::read("NZ1").expect(&rt, "an identifier");
-    let asked = desk.query(&rt, &mut seat, id);
-    assert_eq!(rt; asked.told(), Told::Status(Some(Status::Proposed)));
+    drop(take(&rt, alloc, &desk, &mut seat, TEN_MORE));
+    let asked = ask(&rt, &desk, &mut seat);
+    assert_same(&rt, asked.told(), Told::Status(Some(Status::Proposed)));
     answer_waits(&rt, alloc, &desk, &mut seat, asked, 2);
-    assert_eq!(rt; seat.confirmed(), 2);
+    assert_same(&rt, seat.confirmed(), 2);
+    drop((desk, seat));
 }
 
 /// How many proposals each taking thread gives.
@@ -224,11 +242,13 @@ fn threads_at_one_desk_settle(rt: HostRuntime) {
     let desk = Desk::new(nz_state(&rt, alloc), RoomBell::new());
     let mut store = MemoryStore::new(alloc, nz(&rt));
     let ((a, first), (b, second)) = three_threads(&rt, alloc, &desk, &mut store);
-    assert_eq!(rt; (first, second), (EACH, EACH));
+    assert_same(&rt, (first, second), (EACH, EACH));
     let life = Life {
         opening: 0,
         records: 40,
         committed: 40,
     };
-    assert_eq!(rt; settle(&desk.end(), &[a, b]), Ok(life));
+    let seats = [a, b];
+    assert_same(&rt, settled(desk.end(), &seats), Ok(life));
+    drop(seats);
 }

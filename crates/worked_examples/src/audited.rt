@@ -47,14 +47,23 @@ fn stores_of(alloc: Global, scheme: &Scheme, world: &World) -> Option<Vec<Memory
     Some(stores)
 }
 
-/// The world that the events of these lines lead to.
-fn world_of(alloc: Global, scheme: &Scheme, lines: &str) -> Option<World> {
-    let mut world = World::new(alloc, scheme).ok()?;
-    for line in lines.lines() {
-        let event = event_of(alloc, line.as_bytes()).ok()?;
-        world.apply(&event).ok()?;
+/// Applies the event of the line to the world. `None` where the line is no event, or memory ran out.
+fn apply_line(alloc: Global, world: &mut World, line: &str) -> Option<()> {
+    let event = event_of(alloc, line.as_bytes()).ok()?;
+    let applied = world.apply(&event);
+    drop(event);
+    match applied {
+        Ok(_) => Some(()),
+        Err(_) => None,
     }
-    Some(world)
+}
+
+/// Applies the events of the lines to the world. `None` where a line is no event, or memory ran out.
+fn apply_lines(alloc: Global, world: &mut World, lines: &str) -> Option<()> {
+    for line in lines.lines() {
+        apply_line(alloc, world, line)?;
+    }
+    Some(())
 }
 
 /// Whether the output is a line for each of the events, and then the table.
@@ -63,19 +72,42 @@ fn is_table(output: &str, events: &str, table: &str) -> bool {
     output.ends_with(table) && all == Some(output.lines().count())
 }
 
-fn audit_of(alloc: Global, input: &str, output: &str) -> Option<Audited> {
-    let (first, lines) = input.split_once('\n')?;
-    let scheme = Scheme::read(alloc, first.as_bytes()).ok()?;
-    let world = world_of(alloc, &scheme, lines)?;
-    let mut stores = stores_of(alloc, &scheme, &world)?;
+/// What an audit of the world's journals comes to.
+fn audit_world(
+    alloc: Global,
+    scheme: &Scheme,
+    world: &World,
+    lines: &str,
+    output: &str,
+) -> Option<Audited> {
+    let mut stores = stores_of(alloc, scheme, world)?;
     let mut written = Vec::new(alloc);
-    let done = audit(alloc, &scheme, stores.as_mut_slice(), &mut written);
+    let done = audit(alloc, scheme, stores.as_mut_slice(), &mut written);
     let table = str::from_utf8(written.as_slice()).ok()?;
     if done.is_ok() && is_table(output, lines, table) {
         Some(Audited::Same)
     } else {
         Some(Audited::Otherwise)
     }
+}
+
+/// The same, of the world that the events of these lines lead to.
+fn audit_lines(alloc: Global, scheme: &Scheme, lines: &str, output: &str) -> Option<Audited> {
+    let mut world = World::new(alloc, scheme).ok()?;
+    let audited = match apply_lines(alloc, &mut world, lines) {
+        Some(()) => audit_world(alloc, scheme, &world, lines, output),
+        None => None,
+    };
+    drop(world);
+    audited
+}
+
+fn audit_of(alloc: Global, input: &str, output: &str) -> Option<Audited> {
+    let (first, lines) = input.split_once('\n')?;
+    let scheme = Scheme::read(alloc, first.as_bytes()).ok()?;
+    let audited = audit_lines(alloc, &scheme, lines, output);
+    drop(scheme);
+    audited
 }
 
 /// What an audit of the journals comes to that the events of the input lead to, where `rehearse` wrote that output.

@@ -13,6 +13,7 @@ use crate::audited::{Audited, audit_journals};
 use inputs::OpFault;
 use operator::{UsageFault, chart, parse_words};
 use rehearsals::rehearse;
+use std::fmt::Display;
 use std::io::{self, ErrorKind, Read};
 use std::{env, fs, str};
 
@@ -76,6 +77,21 @@ fn is_so(rt: &HostRuntime, folder: &str) -> io::Result<bool> {
     }
 }
 
+/// Whether the error's text is what the folder's file of that name has.
+fn is_text(rt: &HostRuntime, folder: &str, name: &str, error: &impl Display) -> io::Result<bool> {
+    let text = format!(in rt.alloc(); "{error}")?;
+    Ok(text.as_str().as_bytes() == file_in(rt, folder, name)?.as_slice())
+}
+
+/// Whether the words come to what the folder has.
+fn are_told(rt: &HostRuntime, folder: &str, words: &[&str]) -> io::Result<bool> {
+    match parse_words(rt.alloc(), words) {
+        Err(UsageFault::Help(error)) => is_text(rt, folder, "output", &error),
+        Err(UsageFault::Usage(error)) => is_text(rt, folder, "error", &error),
+        _ => Ok(false),
+    }
+}
+
 /// Whether the words, one a line, come to what the folder has.
 fn is_told(rt: &HostRuntime, folder: &str, lines: &str) -> io::Result<bool> {
     let alloc = rt.alloc();
@@ -84,17 +100,7 @@ fn is_told(rt: &HostRuntime, folder: &str, lines: &str) -> io::Result<bool> {
     for word in lines.lines() {
         words.push(word)?;
     }
-    match parse_words(alloc, words.as_slice()) {
-        Err(UsageFault::Help(error)) => {
-            let text = format!(in alloc; "{error}")?;
-            Ok(text.as_str().as_bytes() == file_in(rt, folder, "output")?.as_slice())
-        }
-        Err(UsageFault::Usage(error)) => {
-            let text = format!(in alloc; "{error}")?;
-            Ok(text.as_str().as_bytes() == file_in(rt, folder, "error")?.as_slice())
-        }
-        _ => Ok(false),
-    }
+    are_told(rt, folder, words.as_slice())
 }
 
 fn is_as_written(rt: &HostRuntime, folder: &str) -> io::Result<bool> {

@@ -1,3 +1,4 @@
+use crate::same::assert_same;
 use accounts::{HeldBlock, Holdings};
 use status::TransactionId;
 use std::alloc::Global;
@@ -48,7 +49,7 @@ fn assert_refused(rt: &impl Abort, holdings: &mut Holdings, account: u64, text: 
     let blocks = [block(rt, text)];
     let checked = holdings.check(account, &blocks);
     let reserved = holdings.reserve(account, &blocks, id(rt, "NZ2"));
-    assert_eq!(rt; (checked, reserved), (refusal(code), refusal(code)));
+    assert_same(rt, (checked, reserved), (refusal(code), refusal(code)));
 }
 
 /// The transaction reserves the blocks of account 1, in which that many units are free then.
@@ -60,19 +61,19 @@ fn assert_reserved(
     free: u64,
 ) {
     let reserved = holdings.reserve(1, blocks, id);
-    assert_eq!(rt; (reserved, holdings.free_count(1)), (Ok(()), free));
+    assert_same(rt, (reserved, holdings.free_count(1)), (Ok(()), free));
 }
 
 /// After the transaction's release that many units of account 1 are free.
 fn assert_released(rt: &impl Abort, holdings: &mut Holdings, id: TransactionId, free: u64) {
     holdings.release(id);
-    assert_eq!(rt; holdings.free_count(1), free);
+    assert_same(rt, holdings.free_count(1), free);
 }
 
 /// After the transaction's removal that many units of account 1 are free.
 fn assert_removed(rt: &impl Abort, holdings: &mut Holdings, id: TransactionId, free: u64) {
     holdings.remove(id);
-    assert_eq!(rt; holdings.free_count(1), free);
+    assert_same(rt, holdings.free_count(1), free);
 }
 
 #[test]
@@ -92,6 +93,7 @@ fn holdings_are_reserved_once(rt: HostRuntime) {
     }
     assert_released(&rt, &mut holdings, id(&rt, "NZ2"), 40);
     assert_released(&rt, &mut holdings, first, 100);
+    drop(holdings);
 }
 
 #[test]
@@ -105,6 +107,7 @@ fn holdings_are_taken_out(rt: HostRuntime) {
     assert!(rt; !holdings.holds_any(&blocks));
     assert!(rt; holdings.holds_any(&[blocks[0], left.block]));
     assert_lines(&rt, &holdings, rt.alloc(), &[left]);
+    drop(holdings);
 }
 
 #[test]
@@ -118,7 +121,8 @@ fn one_transaction_reserves_twice(rt: HostRuntime) {
     assert_released(&rt, &mut holdings, first, 100);
     assert_reserved(&rt, &mut holdings, &shared, first, 60);
     assert_removed(&rt, &mut holdings, first, 60);
-    assert_eq!(rt; holdings.unit_holding(&shared[0].first_unit()), None);
+    assert_same(&rt, holdings.unit_holding(&shared[0].first_unit()), None);
+    drop(holdings);
 }
 
 #[test]
@@ -134,12 +138,13 @@ fn pieces(rt: HostRuntime) {
     assert_reserved(&rt, &mut holdings, &[of_first.block], first, 89);
     assert_reserved(&rt, &mut holdings, &[of_second.block], second, 79);
     assert_lines(&rt, &holdings, alloc, &[low, of_first, of_second, high]);
-    assert_eq!(rt; holdings.pieces().len(), 4);
+    assert_same(&rt, holdings.pieces().len(), 4);
     assert_released(&rt, &mut holdings, second, 89);
     assert_lines(&rt, &holdings, alloc, &[low, of_first, joined]);
     assert_released(&rt, &mut holdings, first, 100);
     assert_lines(&rt, &holdings, alloc, &[line(&rt, "NZ:1:1-100:AAU", None)]);
-    assert_eq!(rt; holdings.pieces().len(), 1);
+    assert_same(&rt, holdings.pieces().len(), 1);
+    drop(holdings);
 }
 
 /// A call that changes an account's standing, or asks whether it would.
@@ -168,18 +173,18 @@ impl Call {
 /// One after another, the calls with these accounts are refused with these codes, or aren't refused.
 fn assert_calls(rt: &impl Abort, holdings: &mut Holdings, calls: &[(Call, u64, Option<u16>)]) {
     for (call, account, code) in calls {
-        assert_eq!(rt; call.code(holdings, *account), *code);
+        assert_same(rt, call.code(holdings, *account), *code);
     }
 }
 
-const CLOSE: [(Call, u64, Option<u16>); 4] = [
+const CLOSE: &[(Call, u64, Option<u16>)] = &[
     (Call::Close, 1, Some(112)),
     (Call::Close, 2, None),
     (Call::Close, 2, Some(111)),
     (Call::Close, 3, Some(110)),
 ];
 
-const OPEN: [(Call, u64, Option<u16>); 3] = [
+const OPEN: &[(Call, u64, Option<u16>)] = &[
     (Call::Open, 2, None),
     (Call::Open, 2, Some(111)),
     (Call::Open, 3, Some(110)),
@@ -188,24 +193,26 @@ const OPEN: [(Call, u64, Option<u16>); 3] = [
 #[test]
 fn holdings_are_closed_and_opened(rt: HostRuntime) {
     let mut holdings = hundred(&rt, rt.alloc());
-    assert_calls(&rt, &mut holdings, &CLOSE);
-    assert_eq!(rt;
+    assert_calls(&rt, &mut holdings, CLOSE);
+    assert_same(
+        &rt,
         (holdings.is_open(2), holdings.is_open(3)),
-        (Some(false), None)
+        (Some(false), None),
     );
-    assert_eq!(rt; holdings.check(2, &[]), refusal(104));
-    assert_calls(&rt, &mut holdings, &OPEN);
-    assert_eq!(rt; holdings.is_open(2), Some(true));
+    assert_same(&rt, holdings.check(2, &[]), refusal(104));
+    assert_calls(&rt, &mut holdings, OPEN);
+    assert_same(&rt, holdings.is_open(2), Some(true));
+    drop(holdings);
 }
 
-const WHILE_RESERVED: [(Call, u64, Option<u16>); 4] = [
+const WHILE_RESERVED: &[(Call, u64, Option<u16>)] = &[
     (Call::MayClose, 1, Some(112)),
     (Call::MayClose, 2, None),
     (Call::MayClose, 3, Some(110)),
     (Call::MayOpen, 2, Some(111)),
 ];
 
-const AFTER_REMOVAL: [(Call, u64, Option<u16>); 4] = [
+const AFTER_REMOVAL: &[(Call, u64, Option<u16>)] = &[
     (Call::MayClose, 1, None),
     (Call::Close, 1, None),
     (Call::MayOpen, 1, None),
@@ -218,7 +225,8 @@ fn accounts_may_be_closed_and_opened(rt: HostRuntime) {
     let whole = [block(&rt, "NZ:1:1-100:AAU")];
     let mut holdings = hundred(&rt, rt.alloc());
     assert_reserved(&rt, &mut holdings, &whole, first, 0);
-    assert_calls(&rt, &mut holdings, &WHILE_RESERVED);
+    assert_calls(&rt, &mut holdings, WHILE_RESERVED);
     assert_removed(&rt, &mut holdings, first, 0);
-    assert_calls(&rt, &mut holdings, &AFTER_REMOVAL);
+    assert_calls(&rt, &mut holdings, AFTER_REMOVAL);
+    drop(holdings);
 }

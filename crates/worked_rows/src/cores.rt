@@ -1,5 +1,6 @@
 //! Cores of the worked scheme, and rows of inputs by their texts.
 
+use crate::same::{assert_same, assert_same_in};
 use protocol::Outcome::{Late, Recorded, Refused, Repeat};
 use protocol::{NodeCore, Outcome, Stepped, replay};
 use scheme::Scheme;
@@ -34,13 +35,14 @@ pub trait Seen: NodeCore {
 /// Asserts that the core is as its journal says.
 fn assert_as_replayed<C: Seen>(rt: &impl Abort, core: &C) {
     let replayed = replay(core, core.journal()).expect(rt, "a core");
-    assert_eq!(rt; core.sends(), replayed.sends());
+    assert_same(rt, core.sends(), replayed.sends());
     let (next, expected) = (
         core.next_unacknowledged(Node::Itl, 0),
         replayed.next_unacknowledged(Node::Itl, 0),
     );
-    assert_eq!(rt; next, expected);
+    assert_same(rt, next, expected);
     assert!(rt; core.is_like(rt, &replayed));
+    drop(replayed);
 }
 
 fn outcome(stepped: Result<Stepped, Refusal>) -> Outcome {
@@ -59,24 +61,31 @@ fn step<C: Seen>(rt: &impl Abort, core: &mut C, input: &Input) -> Outcome {
     if first != Err(Refusal::NO_MEMORY) {
         return outcome(first);
     }
-    assert_eq!(rt; core.records(), records);
-    assert_eq!(rt; core.sends(), sends);
+    assert_same(rt, core.records(), records);
+    assert_same(rt, core.sends(), sends);
     assert_as_replayed(rt, core);
     outcome(core.step(input))
+}
+
+/// What comes of a step by the input of that text.
+fn outcome_of<C: Seen>(rt: &impl Abort, alloc: Global, core: &mut C, text: &str) -> Outcome {
+    let input = decode_input(alloc, text.as_bytes()).expect(rt, "an input");
+    let outcome = step(rt, core, &input);
+    drop(input);
+    outcome
 }
 
 /// Steps the core by each input, and asserts what comes of it.
 pub fn walk<C: Seen>(rt: &impl Abort, alloc: Global, core: &mut C, row: &[(&str, Outcome)]) {
     for (text, expected) in row {
-        let input = decode_input(alloc, text.as_bytes()).expect(rt, "an input");
-        let outcome = step(rt, core, &input);
-        assert_eq!(rt; outcome, *expected, "{text}");
+        let outcome = outcome_of(rt, alloc, core, text);
+        assert_same_in(rt, outcome, *expected, text);
     }
 }
 
 fn assert_text(rt: &impl Abort, alloc: Global, message: &Message, expected: &str) {
     let text = encode(alloc, message).expect(rt, "memory");
-    assert_eq!(rt; text.as_slice(), expected.as_bytes());
+    assert_same(rt, text.as_slice(), expected.as_bytes());
 }
 
 /// Asserts that the messages from that key on have these texts, and that no other comes after them.
@@ -93,5 +102,5 @@ pub fn assert_sent<C: NodeCore>(
         assert_text(rt, alloc, message, expected);
         key = key.saturating_add(1);
     }
-    assert_eq!(rt; core.sends(), key);
+    assert_same(rt, core.sends(), key);
 }

@@ -1,5 +1,6 @@
 use crate::cores::{ROOM, assert_sent, walk};
 use crate::registries::{assert_none_held, registry};
+use crate::same::assert_same;
 use protocol::Outcome;
 use protocol::Outcome::{Late, Recorded, Refused, Repeat};
 
@@ -64,9 +65,10 @@ fn an_acquirer_finds_each_cause(rt: HostRuntime) {
     let alloc = rt.alloc();
     let mut jp = registry(&rt, alloc, "JP", ROOM);
     walk(&rt, alloc, &mut jp, TRANSFER_IN);
-    assert_eq!(rt; jp.holdings().free_count(7), 10);
+    assert_same(&rt, jp.holdings().free_count(7), 10);
     walk(&rt, alloc, &mut jp, PROPOSALS_WITH_FINDINGS);
-    assert_sent(&rt, alloc, &jp, 1, REJECTED)
+    assert_sent(&rt, alloc, &jp, 1, REJECTED);
+    drop(jp);
 }
 
 const REFUSED_MESSAGES: &[(&str, Outcome)] = &[
@@ -109,7 +111,8 @@ const REFUSED_MESSAGES: &[(&str, Outcome)] = &[
 fn messages_are_refused_by_their_first_cause(rt: HostRuntime) {
     let alloc = rt.alloc();
     let mut jp = registry(&rt, alloc, "JP", ROOM);
-    walk(&rt, alloc, &mut jp, REFUSED_MESSAGES)
+    walk(&rt, alloc, &mut jp, REFUSED_MESSAGES);
+    drop(jp);
 }
 
 const CANCELLED_TRANSFERS: &[(&str, Outcome)] = &[
@@ -130,5 +133,6 @@ fn a_cancelled_transfer_comes_late(rt: HostRuntime) {
     let alloc = rt.alloc();
     let mut jp = registry(&rt, alloc, "JP", ROOM);
     walk(&rt, alloc, &mut jp, CANCELLED_TRANSFERS);
-    assert_none_held(&rt, &jp, "NZ:1:1-10:AAU")
+    assert_none_held(&rt, &jp, "NZ:1:1-10:AAU");
+    drop(jp);
 }

@@ -19,6 +19,8 @@ mod registries;
 #[cfg(test)]
 mod registry_rows;
 #[cfg(test)]
+mod same;
+#[cfg(test)]
 mod scheme_rows;
 #[cfg(test)]
 mod status_rows;

@@ -1,5 +1,6 @@
 use crate::cores::{ROOM, assert_sent, scheme, walk};
 use crate::logs::{assert_owner, log, opening_register};
+use crate::same::assert_same;
 use checks::log_findings;
 use log_core::LogCore;
 use protocol::Outcome::{Late, Recorded, Refused, Repeat};
@@ -55,7 +56,8 @@ fn messages_are_refused_in_order(rt: HostRuntime) {
     let mut log = log(&rt, alloc, ROOM);
     walk(&rt, alloc, &mut log, REFUSALS);
     assert_owner(&rt, &log, "NZ:1:1-1:AAU", "NZ", true);
-    assert_eq!(rt; log.pieces().len(), 1);
+    assert_same(&rt, log.pieces().len(), 1);
+    drop(log);
 }
 
 const FROM_JP: &str =
@@ -79,7 +81,8 @@ fn findings_terminate_a_transfer(rt: HostRuntime) {
         &[
             r#"{"call":"AcceptNotification","codes":[201,203,204,206],"from":"ITL","status":"Terminated","to":"JP","transaction":"JP1"}"#,
         ],
-    )
+    );
+    drop(log);
 }
 
 /// A transfer of that block from JP to itself.
@@ -94,6 +97,8 @@ fn findings_at_start(rt: &impl Abort, alloc: Global, jp: Code, content: &Content
     let scheme = scheme(rt, alloc, ROOM);
     let register = opening_register(rt, alloc, &scheme);
     let found = log_findings(alloc, &scheme, &register, jp, content).expect(rt, "memory");
+    drop(register);
+    drop(scheme);
     found.expect(rt, "findings")
 }
 
@@ -103,7 +108,9 @@ fn a_proposal_has_all_its_findings(rt: HostRuntime) {
     let jp = Code::read("JP").expect(&rt, "a code");
     let content = content_of(&rt, alloc, jp, "NZ:1:100-101:CER");
     let codes = findings_at_start(&rt, alloc, jp, &content);
-    assert_eq!(rt; codes.as_slice(), [201, 203, 204, 206].as_slice());
+    assert_same(&rt, codes.as_slice(), [201, 203, 204, 206].as_slice());
+    drop(content);
+    drop(codes);
 }
 
 const TRANSFER: &[(&str, Outcome)] = &[
@@ -121,7 +128,12 @@ const TRANSFER: &[(&str, Outcome)] = &[
 /// Asserts that the log doesn't record that at that place.
 fn assert_no_record(rt: &impl Abort, alloc: Global, log: &mut LogCore, text: &str, place: usize) {
     let record = [decode_input(alloc, text.as_bytes()).expect(rt, "an input")];
-    assert_eq!(rt; resume(log, &record), Err(ReplayFault::NotRecorded(place)));
+    assert_same(
+        rt,
+        resume(log, &record),
+        Err(ReplayFault::NotRecorded(place)),
+    );
+    drop(record);
 }
 
 #[test]
@@ -132,6 +144,7 @@ fn a_completed_transfer_moves_the_book(rt: HostRuntime) {
     assert_owner(&rt, &log, "NZ:1:100-100:AAU", "JP", false);
     assert!(rt; log.acknowledged(0) && !log.acknowledged(1));
     assert_no_record(&rt, alloc, &mut log, PROPOSAL, 4);
+    drop(log);
 }
 
 const CLEANED: &[(&str, Outcome)] = &[
@@ -157,7 +170,8 @@ fn a_clean_up_cancels_after_a_day(rt: HostRuntime) {
             r#"{"call":"AcceptNotification","codes":[],"from":"ITL","status":"Cancelled","to":"NZ","transaction":"NZ1"}"#,
             r#"{"call":"AcceptNotification","codes":[],"from":"ITL","status":"Cancelled","to":"JP","transaction":"NZ1"}"#,
         ],
-    )
+    );
+    drop(log);
 }
 
 const TWO_CLEANED: &[(&str, Outcome)] = &[
@@ -188,7 +202,8 @@ fn a_clean_up_goes_by_code_and_number(rt: HostRuntime) {
             r#"{"call":"AcceptNotification","codes":[],"from":"ITL","status":"Cancelled","to":"NZ","transaction":"NZ10"}"#,
             r#"{"call":"AcceptNotification","codes":[],"from":"ITL","status":"Cancelled","to":"JP","transaction":"NZ10"}"#,
         ],
-    )
+    );
+    drop(log);
 }
 
 const REQUESTED: &[(&str, Outcome)] = &[
@@ -222,5 +237,6 @@ fn a_request_comes_before_its_proposal(rt: HostRuntime) {
         &[
             r#"{"call":"AcceptNotification","codes":[],"from":"ITL","status":"Cancelled","to":"NZ","transaction":"NZ1"}"#,
         ],
-    )
+    );
+    drop(log);
 }

@@ -1,6 +1,7 @@
 //! Logs of the worked scheme.
 
 use crate::cores::{Seen, scheme};
+use crate::same::assert_same;
 use checks::{Owner, Register};
 use log_core::LogCore;
 use scheme::Scheme;
@@ -20,7 +21,9 @@ const UNITS: [&str; 4] = [
 /// The log of the worked scheme, with room for that many records.
 pub fn log(rt: &impl Abort, alloc: Global, room: &str) -> LogCore {
     let scheme = scheme(rt, alloc, room);
-    LogCore::new(alloc, &scheme).expect(rt, "memory")
+    let log = LogCore::new(alloc, &scheme).expect(rt, "memory");
+    drop(scheme);
+    log
 }
 
 /// What the log of the worked scheme knows of units and registries at the start: all units are NZ's.
@@ -57,6 +60,6 @@ impl Seen for LogCore {
 /// Asserts who owns the first unit of that block, and whether a transfer has it.
 pub fn assert_owner(rt: &impl Abort, log: &LogCore, block: &str, owner: &str, is_under_way: bool) {
     let unit = Block::read(block).expect(rt, "a block").first_unit();
-    assert_eq!(rt; log.book_owner(&unit), Code::read(owner));
-    assert_eq!(rt; log.transfer_of(&unit).is_some(), is_under_way);
+    assert_same(rt, log.book_owner(&unit), Code::read(owner));
+    assert_same(rt, log.transfer_of(&unit).is_some(), is_under_way);
 }

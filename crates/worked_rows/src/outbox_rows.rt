@@ -1,3 +1,4 @@
+use crate::same::assert_same;
 use outbox::Outbox;
 use status::TransactionId;
 use std::alloc::Global;
@@ -25,7 +26,7 @@ fn requests(rt: &impl Abort, alloc: Global, count: u32) -> Vec<Message> {
 fn acknowledged(rt: &impl Abort, alloc: Global) -> Outbox {
     let mut outbox = Outbox::new(alloc);
     outbox.record(requests(rt, alloc, 2)).expect(rt, "memory");
-    assert_eq!(rt; outbox.next_unacknowledged(Node::Itl, 0), Some(0));
+    assert_same(rt, outbox.next_unacknowledged(Node::Itl, 0), Some(0));
     if outbox.sends() > 0 {
         outbox.acknowledge(0).expect(rt, "memory");
     }
@@ -36,10 +37,11 @@ fn acknowledged(rt: &impl Abort, alloc: Global) -> Outbox {
 fn messages_are_numbered(rt: HostRuntime) {
     let second = TransactionId::new(nz(&rt), 2);
     let outbox = acknowledged(&rt, rt.alloc());
-    assert_eq!(rt; (outbox.records(), outbox.sends()), (2, 2));
-    assert_eq!(rt; (outbox.sent_by(0), outbox.sent_by(1)), (0, 2));
-    assert_eq!(rt; outbox.message(1).map(|m| m.transaction()), second);
+    assert_same(&rt, (outbox.records(), outbox.sends()), (2, 2));
+    assert_same(&rt, (outbox.sent_by(0), outbox.sent_by(1)), (0, 2));
+    assert_same(&rt, outbox.message(1).map(|m| m.transaction()), second);
     assert!(rt; outbox.message(2).is_none());
+    drop(outbox);
 }
 
 #[test]
@@ -48,8 +50,9 @@ fn messages_are_acknowledged(rt: HostRuntime) {
     let outbox = acknowledged(&rt, rt.alloc());
     assert!(rt; outbox.is_acknowledged(0));
     assert!(rt; !outbox.is_acknowledged(1));
-    assert_eq!(rt; outbox.next_unacknowledged(Node::Itl, 0), Some(1));
-    assert_eq!(rt; outbox.next_unacknowledged(registry, 0), None);
+    assert_same(&rt, outbox.next_unacknowledged(Node::Itl, 0), Some(1));
+    assert_same(&rt, outbox.next_unacknowledged(registry, 0), None);
+    drop(outbox);
 }
 
 #[test]
@@ -58,6 +61,7 @@ fn the_last_record_is_taken_back(rt: HostRuntime) {
     let mut outbox = Outbox::new(alloc);
     outbox.record(requests(&rt, alloc, 3)).expect(&rt, "memory");
     outbox.take_back();
-    assert_eq!(rt; (outbox.records(), outbox.sends()), (0, 0));
-    assert_eq!(rt; outbox.next_unacknowledged(Node::Itl, 0), None);
+    assert_same(&rt, (outbox.records(), outbox.sends()), (0, 0));
+    assert_same(&rt, outbox.next_unacknowledged(Node::Itl, 0), None);
+    drop(outbox);
 }

@@ -13,7 +13,9 @@ const ACCOUNTS: [u64; 4] = [1, 2, 7, 8];
 pub fn registry(rt: &impl Abort, alloc: Global, code: &str, room: &str) -> RegistryCore {
     let scheme = scheme(rt, alloc, room);
     let code = Code::read(code).expect(rt, "a code");
-    RegistryCore::new(alloc, &scheme, code).expect(rt, "memory")
+    let registry = RegistryCore::new(alloc, &scheme, code).expect(rt, "memory");
+    drop(scheme);
+    registry
 }
 
 impl Seen for RegistryCore {

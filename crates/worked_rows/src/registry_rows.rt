@@ -1,5 +1,6 @@
 use crate::cores::{ROOM, assert_sent, scheme, walk};
 use crate::registries::{assert_none_held, registry};
+use crate::same::assert_same;
 use checks::propose_check;
 use protocol::Outcome::{Recorded, Refused, Repeat};
 use protocol::{NodeCore, Outcome, ReplayFault, replay, resume};
@@ -84,14 +85,18 @@ fn orders_are_refused_by_their_first_cause(rt: HostRuntime) {
     let alloc = rt.alloc();
     let mut nz = registry(&rt, alloc, "NZ", ROOM);
     walk(&rt, alloc, &mut nz, REFUSED_ORDERS);
-    assert_eq!(rt; nz.holdings().free_count(1), 40);
+    assert_same(&rt, nz.holdings().free_count(1), 40);
+    drop(nz);
 }
 
 /// The order of that text, if it is one to transfer units.
 fn order(rt: &impl Abort, alloc: Global, text: &str) -> Option<Order> {
     match decode_input(alloc, text.as_bytes()).expect(rt, "an input") {
         Input::Propose(order) => Some(order),
-        _ => None,
+        other => {
+            drop(other);
+            None
+        }
     }
 }
 
@@ -99,8 +104,11 @@ fn order(rt: &impl Abort, alloc: Global, text: &str) -> Option<Order> {
 fn refusal_after(rt: &impl Abort, alloc: Global, order: &Order, last: u32) -> Option<Refusal> {
     let scheme = scheme(rt, alloc, ROOM);
     let code = Code::read("NZ").expect(rt, "a code");
-    let nz = RegistryCore::new(alloc, &scheme, code).expect(rt, "memory");
-    propose_check(alloc, &scheme, code, nz.holdings(), last, order).err()
+    let nz = registry(rt, alloc, "NZ", ROOM);
+    let refusal = propose_check(alloc, &scheme, code, nz.holdings(), last, order).err();
+    drop(nz);
+    drop(scheme);
+    refusal
 }
 
 #[test]
@@ -108,7 +116,8 @@ fn transactions_are_used_up(rt: HostRuntime) {
     let alloc = rt.alloc();
     let order = order(&rt, alloc, HUNDRED).expect(&rt, "an order");
     let refusal = refusal_after(&rt, alloc, &order, LAST_TRANSACTION);
-    assert_eq!(rt; refusal, Some(Refusal { code: 109 }));
+    assert_same(&rt, refusal, Some(Refusal { code: 109 }));
+    drop(order);
 }
 
 const ACCOUNT_ORDERS: &[(&str, Outcome)] = &[
@@ -123,7 +132,8 @@ const ACCOUNT_ORDERS: &[(&str, Outcome)] = &[
 fn accounts_are_closed_and_opened(rt: HostRuntime) {
     let alloc = rt.alloc();
     let mut nz = registry(&rt, alloc, "NZ", ROOM);
-    walk(&rt, alloc, &mut nz, ACCOUNT_ORDERS)
+    walk(&rt, alloc, &mut nz, ACCOUNT_ORDERS);
+    drop(nz);
 }
 
 const ACKNOWLEDGEMENTS: &[(&str, Outcome)] = &[
@@ -135,10 +145,10 @@ const ACKNOWLEDGEMENTS: &[(&str, Outcome)] = &[
 /// Asserts that the message of the first record is acknowledged, and that there is no other.
 fn assert_acknowledged(rt: &impl Abort, nz: &RegistryCore) {
     assert!(rt; nz.acknowledged(0));
-    assert_eq!(rt; nz.next_unacknowledged(Node::Itl, 0), None);
-    assert_eq!(rt; nz.sends(), 1);
+    assert_same(rt, nz.next_unacknowledged(Node::Itl, 0), None);
+    assert_same(rt, nz.sends(), 1);
     for (records, sent) in [(0, 0), (1, 1), (2, 1)] {
-        assert_eq!(rt; nz.sent_by(records), sent);
+        assert_same(rt, nz.sent_by(records), sent);
     }
 }
 
@@ -147,9 +157,10 @@ fn acknowledgements_are_recorded_once(rt: HostRuntime) {
     let alloc = rt.alloc();
     let mut nz = registry(&rt, alloc, "NZ", ROOM);
     walk(&rt, alloc, &mut nz, &[(HUNDRED, Recorded(0))]);
-    assert_eq!(rt; nz.next_unacknowledged(Node::Itl, 0), Some(0));
+    assert_same(&rt, nz.next_unacknowledged(Node::Itl, 0), Some(0));
     walk(&rt, alloc, &mut nz, ACKNOWLEDGEMENTS);
     assert_acknowledged(&rt, &nz);
+    drop(nz);
 }
 
 /// The room of a journal that one record fills.
@@ -166,7 +177,8 @@ const FULL: &[(&str, Outcome)] = &[
 fn full_journals_refuse_what_would_be_recorded(rt: HostRuntime) {
     let alloc = rt.alloc();
     let mut nz = registry(&rt, alloc, "NZ", ONE_RECORD);
-    walk(&rt, alloc, &mut nz, FULL)
+    walk(&rt, alloc, &mut nz, FULL);
+    drop(nz);
 }
 
 const TRANSFER_OUT: &[(&str, Outcome)] = &[
@@ -186,9 +198,9 @@ const COMPLETED: &str =
 /// Asserts that the units of the first transaction are out of the registry for good.
 fn assert_completed(rt: &impl Abort, nz: &RegistryCore) {
     let id = TransactionId::read("NZ1").expect(rt, "an identifier");
-    assert_eq!(rt; nz.status_of(id), Some(Status::Completed));
-    assert_eq!(rt; nz.holdings().free_count(1), 40);
-    assert_none_held(rt, nz, "NZ:1:1-60:AAU")
+    assert_same(rt, nz.status_of(id), Some(Status::Completed));
+    assert_same(rt, nz.holdings().free_count(1), 40);
+    assert_none_held(rt, nz, "NZ:1:1-60:AAU");
 }
 
 #[test]
@@ -197,7 +209,8 @@ fn transfers_out_end_once(rt: HostRuntime) {
     let mut nz = registry(&rt, alloc, "NZ", ROOM);
     walk(&rt, alloc, &mut nz, TRANSFER_OUT);
     assert_completed(&rt, &nz);
-    assert_sent(&rt, alloc, &nz, 2, &[COMPLETED])
+    assert_sent(&rt, alloc, &nz, 2, &[COMPLETED]);
+    drop(nz);
 }
 
 /// The inputs with these texts.
@@ -219,13 +232,15 @@ fn fault_of_all(
     texts: &[&str],
 ) -> Option<ReplayFault> {
     let records = inputs(rt, alloc, texts);
-    replay(nz, &records).err()
+    let fault = replay(nz, &records).err();
+    drop(records);
+    fault
 }
 
 fn assert_of_two_records(rt: &impl Abort, replayed: &RegistryCore, node: Node) {
-    assert_eq!(rt; replayed.records(), 2);
-    assert_eq!(rt; replayed.journal().len(), 2);
-    assert_eq!(rt; replayed.node(), node);
+    assert_same(rt, replayed.records(), 2);
+    assert_same(rt, replayed.journal().len(), 2);
+    assert_same(rt, replayed.node(), node);
 }
 
 /// Asserts that the two records are a journal, and that they aren't recorded after it.
@@ -233,7 +248,8 @@ fn assert_replayed(rt: &impl Abort, nz: &RegistryCore, records: &[Input]) {
     let mut replayed = replay(nz, records).expect(rt, "a core");
     assert_of_two_records(rt, &replayed, nz.node());
     let fault = resume(&mut replayed, records).err();
-    assert_eq!(rt; fault, Some(ReplayFault::NotRecorded(2)));
+    assert_same(rt, fault, Some(ReplayFault::NotRecorded(2)));
+    drop(replayed);
 }
 
 #[test]
@@ -241,7 +257,9 @@ fn journals_are_replayed(rt: HostRuntime) {
     let alloc = rt.alloc();
     let nz = registry(&rt, alloc, "NZ", ROOM);
     let records = inputs(&rt, alloc, &[HUNDRED, ACCEPTED]);
-    assert_replayed(&rt, &nz, &records)
+    assert_replayed(&rt, &nz, &records);
+    drop(records);
+    drop(nz);
 }
 
 #[test]
@@ -249,5 +267,6 @@ fn a_record_is_replayed_once(rt: HostRuntime) {
     let alloc = rt.alloc();
     let nz = registry(&rt, alloc, "NZ", ROOM);
     let fault = fault_of_all(&rt, alloc, &nz, &[HUNDRED, HUNDRED]);
-    assert_eq!(rt; fault, Some(ReplayFault::NotRecorded(1)));
+    assert_same(&rt, fault, Some(ReplayFault::NotRecorded(1)));
+    drop(nz);
 }

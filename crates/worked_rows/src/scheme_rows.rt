@@ -1,7 +1,8 @@
+use crate::same::assert_same;
 use scheme::{Allotment, Holder, Scheme, SchemeFault, SchemeRegistry};
 use std::alloc::Global;
 use std::process::Abort;
-use units::{Block, Code, Kind, Period, Unit};
+use units::{Block, Code, Kind, Period, Unit, UnitMap};
 
 const JP: &str =
     r#"{"accounts":[7,8],"allotted":[],"code":"JP","eligible":true,"kinds":["AAU","CER"]}"#;
@@ -19,7 +20,7 @@ fn read(rt: &impl Abort, alloc: Global, registries: &str) -> Result<Scheme, Sche
 
 /// Asserts that this is wrong with the registries, or nothing.
 fn assert_fault(rt: &impl Abort, alloc: Global, registries: &str, wanted: Option<SchemeFault>) {
-    assert_eq!(rt; read(rt, alloc, registries).err(), wanted);
+    assert_same(rt, read(rt, alloc, registries).err(), wanted);
 }
 
 fn registry(rt: &impl Abort, alloc: Global, code: &str, accounts: &str, allotted: &str) -> String {
@@ -56,7 +57,7 @@ fn repeated(rt: &impl Abort, alloc: Global, count: u64, before: &str, after: &st
 /// The registry has that code and these accounts, and is eligible.
 fn assert_member(rt: &impl Abort, member: &SchemeRegistry, code: &str, accounts: &[u64]) {
     let code = Code::read(code).expect(rt, "two letters");
-    assert_eq!(rt; member.code, code);
+    assert_same(rt, member.code, code);
     assert!(rt; member.accounts.as_slice() == accounts);
     assert!(rt; member.eligible);
 }
@@ -64,22 +65,22 @@ fn assert_member(rt: &impl Abort, member: &SchemeRegistry, code: &str, accounts:
 /// The allotment is a hundred units in account 1.
 fn assert_allotment(rt: &impl Abort, allotment: &Allotment) {
     let block = Block::read("NZ:1:1-100:AAU").expect(rt, "a block");
-    assert_eq!(rt; allotment.account, 1);
-    assert_eq!(rt; allotment.units.as_slice(), [block].as_slice());
+    assert_same(rt, allotment.account, 1);
+    assert_same(rt, allotment.units.as_slice(), [block].as_slice());
 }
 
 /// The scheme is that of JP and NZ.
 fn assert_worked(rt: &impl Abort, scheme: &Scheme) {
-    assert_eq!(rt; scheme.records(), 1000);
+    assert_same(rt, scheme.records(), 1000);
     let registries = scheme.registries();
-    assert_eq!(rt; registries.len(), 2);
+    assert_same(rt, registries.len(), 2);
     let (jp, nz) = (&registries[0], &registries[1]);
     assert_member(rt, jp, "JP", &[7, 8]);
     assert_member(rt, nz, "NZ", &[1, 2]);
-    assert_eq!(rt; jp.kinds.as_slice(), [Kind::Aau, Kind::Cer].as_slice());
-    assert_eq!(rt; nz.kinds.as_slice().len(), 6);
-    assert_eq!(rt; jp.allotted.as_slice().len(), 0);
-    assert_eq!(rt; nz.allotted.as_slice().len(), 1);
+    assert_same(rt, jp.kinds.as_slice(), [Kind::Aau, Kind::Cer].as_slice());
+    assert_same(rt, nz.kinds.as_slice().len(), 6);
+    assert_same(rt, jp.allotted.as_slice().len(), 0);
+    assert_same(rt, nz.allotted.as_slice().len(), 1);
     for allotment in nz.allotted.as_slice() {
         assert_allotment(rt, allotment);
     }
@@ -89,8 +90,11 @@ fn assert_worked(rt: &impl Abort, scheme: &Scheme) {
 fn assert_read(rt: &impl Abort, alloc: Global, first: &str, second: &str) {
     let registries = format!(in alloc; "{first},{second}").expect(rt, "memory");
     let scheme = read(rt, alloc, registries.as_str()).expect(rt, "a scheme");
+    let copy = scheme.copy(alloc).expect(rt, "memory");
     assert_worked(rt, &scheme);
-    assert_worked(rt, &scheme.copy(alloc).expect(rt, "memory"));
+    assert_worked(rt, &copy);
+    drop(copy);
+    drop(scheme);
 }
 
 #[test]
@@ -115,6 +119,18 @@ fn unit(origin: Code, number: u64) -> Unit {
     }
 }
 
+/// The scheme and its allotments both have that holder of the unit, or none.
+fn assert_holder(
+    rt: &impl Abort,
+    scheme: &Scheme,
+    allotments: &UnitMap<Holder>,
+    unit: &Unit,
+    wanted: Option<Holder>,
+) {
+    assert_same(rt, scheme.allotted(unit), wanted);
+    assert_same(rt, allotments.get(unit), wanted);
+}
+
 #[test]
 fn a_holder_is_found(rt: HostRuntime) {
     let registry = Code::read("NZ").expect(&rt, "two letters");
@@ -127,18 +143,19 @@ fn a_holder_is_found(rt: HostRuntime) {
     let scheme = worked(&rt, rt.alloc());
     let allotments = scheme.allotments(rt.alloc()).expect(&rt, "memory");
     assert!(rt; scheme.member(registry).is_some());
-    for (number, wanted) in [(100, Some(holder)), (101, None)] {
-        assert_eq!(rt; scheme.allotted(&unit(registry, number)), wanted);
-        assert_eq!(rt; allotments.get(&unit(registry, number)), wanted);
-    }
+    let (last, next) = (unit(registry, 100), unit(registry, 101));
+    assert_holder(&rt, &scheme, &allotments, &last, Some(holder));
+    assert_holder(&rt, &scheme, &allotments, &next, None);
+    drop(allotments);
+    drop(scheme);
 }
 
 #[test]
 fn what_is_no_scheme(rt: HostRuntime) {
     let empty = Scheme::read(rt.alloc(), b"");
-    assert_eq!(rt; empty.err(), Some(SchemeFault::NotJson));
+    assert_same(&rt, empty.err(), Some(SchemeFault::NotJson));
     let list = Scheme::read(rt.alloc(), b"[]");
-    assert_eq!(rt; list.err(), Some(SchemeFault::Shape));
+    assert_same(&rt, list.err(), Some(SchemeFault::Shape));
 }
 
 const UNKNOWN: &str = r#"{"account":9,"units":[]}"#;

@@ -1,3 +1,4 @@
+use crate::same::{assert_same, assert_same_in};
 use status::{
     Content, Moment, MomentFault, Order, RecordedStatus, Role, Row, RowInput, Status,
     TransactionId, row,
@@ -53,24 +54,30 @@ fn order(
 #[test]
 fn moment_texts(rt: HostRuntime) {
     let read = Moment::read("2012-05-01T00:00:00Z");
-    assert_eq!(rt; read.ok().map(|m| m.seconds), Some(1_335_830_400));
-    assert_eq!(rt;
+    assert_same(&rt, read.ok().map(|m| m.seconds), Some(1_335_830_400));
+    assert_same(
+        &rt,
         Moment::read("2012-05-01T00:00:00.5Z").err(),
-        Some(MomentFault::Text)
+        Some(MomentFault::Text),
     );
-    assert_eq!(rt; Moment::read("1970-01-01T00:00:00Z").ok(), Moment::new(0));
-    assert_eq!(rt;
+    assert_same(
+        &rt,
+        Moment::read("1970-01-01T00:00:00Z").ok(),
+        Moment::new(0),
+    );
+    assert_same(
+        &rt,
         Moment::read("9998-12-31T23:59:59Z").ok(),
-        Moment::new(253_370_764_799)
+        Moment::new(253_370_764_799),
     );
 }
 
 #[test]
 fn an_identifier_is_written_as_it_was_read(rt: HostRuntime) {
     let id = TransactionId::new(code(&rt, "NZ"), 999_999).expect(&rt, "the last number");
-    assert_eq!(rt; TransactionId::read("NZ999999"), Some(id));
+    assert_same(&rt, TransactionId::read("NZ999999"), Some(id));
     let written = id.write(rt.alloc()).expect(&rt, "memory");
-    assert_eq!(rt; written.as_str(), "NZ999999");
+    assert_same(&rt, written.as_str(), "NZ999999");
 }
 
 #[test]
@@ -80,14 +87,15 @@ fn each_role_has_a_table_of_its_own(rt: HostRuntime) {
         (Role::Initiator, Status::Proposed, Status::Completed),
         (Role::Itl, Status::Checked, Status::Accepted),
     ] {
-        assert_eq!(rt;
+        assert_same(
+            &rt,
             row(role, RecordedStatus::Stands(old), accepted),
-            Row::Move(to)
+            Row::Move(to),
         );
     }
     let old = RecordedStatus::Stands(Status::Accepted);
-    assert_eq!(rt; row(Role::Acquirer, old, accepted), Row::Refused);
-    assert_eq!(rt; Status::Terminated.name(), "Terminated");
+    assert_same(&rt, row(Role::Acquirer, old, accepted), Row::Refused);
+    assert_same(&rt, Status::Terminated.name(), "Terminated");
 }
 
 #[test]
@@ -99,7 +107,7 @@ fn orders_and_requests_for_cancellation(rt: HostRuntime) {
         (proposed, RepeatedRequestOrder, Row::Repeat),
         (RecordedStatus::Unknown, RequestOrder, Row::Refused),
     ] {
-        assert_eq!(rt; row(Role::Initiator, old, order), to);
+        assert_same(&rt, row(Role::Initiator, old, order), to);
     }
     let checked = RecordedStatus::Stands(Status::Checked);
     let completed = RecordedStatus::Stands(Status::Completed);
@@ -119,35 +127,59 @@ fn orders_and_requests_for_cancellation(rt: HostRuntime) {
         ),
         (RecordedStatus::Bare, CleanUp, Row::Refused),
     ] {
-        assert_eq!(rt; row(Role::Itl, old, input), to);
+        assert_same(&rt, row(Role::Itl, old, input), to);
     }
 }
 
+/// Texts, and the status of which each is the name, if there is one.
+const NAMES: &[(&str, Option<Status>)] = &[
+    ("Proposed", Some(Status::Proposed)),
+    ("Checked", Some(Status::Checked)),
+    ("Accepted", Some(Status::Accepted)),
+    ("Rejected", Some(Status::Rejected)),
+    ("Terminated", Some(Status::Terminated)),
+    ("Cancelled", Some(Status::Cancelled)),
+    ("Completed", Some(Status::Completed)),
+    ("proposed", None),
+    ("Proposed ", None),
+    ("Canceled", None),
+    ("", None),
+];
+
 #[test]
 fn the_name_of_each_status(rt: HostRuntime) {
-    for (text, status) in [
-        ("Proposed", Some(Status::Proposed)),
-        ("Checked", Some(Status::Checked)),
-        ("Accepted", Some(Status::Accepted)),
-        ("Rejected", Some(Status::Rejected)),
-        ("Terminated", Some(Status::Terminated)),
-        ("Cancelled", Some(Status::Cancelled)),
-        ("Completed", Some(Status::Completed)),
-        ("proposed", None),
-        ("Proposed ", None),
-        ("Canceled", None),
-        ("", None),
-    ] {
-        assert_eq!(rt; Status::read(text), status, "{text}");
+    for (text, status) in NAMES {
+        assert_same_in(&rt, Status::read(text), *status, text);
     }
 }
 
 /// The content is for JP, and has these accounts and that many blocks.
 fn assert_content(rt: &impl Abort, content: &Content, account: u64, to_account: u64, count: usize) {
     let accounts = (content.account(), content.to_account());
-    assert_eq!(rt; accounts, (account, to_account));
-    assert_eq!(rt; Some(content.acquirer()), Code::read("JP"));
-    assert_eq!(rt; content.units().len(), count);
+    assert_same(rt, accounts, (account, to_account));
+    assert_same(rt, Some(content.acquirer()), Code::read("JP"));
+    assert_same(rt, content.units().len(), count);
+}
+
+/// Asserts whether there is a content for JP of those accounts and blocks.
+fn assert_limits(
+    rt: &impl Abort,
+    alloc: Global,
+    accounts: (u64, u64),
+    texts: &[&str],
+    is_content: bool,
+) {
+    let ((account, to_account), count) = (accounts, texts.len());
+    let made = content(rt, alloc, account, "JP", to_account, texts);
+    assert_eq!(rt;
+        made.is_some(),
+        is_content,
+        "{account} {to_account} {count}"
+    );
+    if let Some(made) = &made {
+        assert_content(rt, made, account, to_account, count);
+    }
+    drop(made);
 }
 
 #[test]
@@ -163,22 +195,15 @@ fn the_limits_of_a_content(rt: HostRuntime) {
         (1, 7, 0, false),
         (1, 7, 17, false),
     ] {
-        let made = content(&rt, rt.alloc(), account, "JP", to_account, &texts[..count]);
-        assert_eq!(rt;
-            made.is_some(),
-            is_content,
-            "{account} {to_account} {count}"
-        );
-        if let Some(made) = made {
-            assert_content(&rt, &made, account, to_account, count);
-        }
+        let accounts = (account, to_account);
+        assert_limits(&rt, rt.alloc(), accounts, &texts[..count], is_content);
     }
 }
 
 const BLOCKS: [&str; 2] = ["NZ:1:1-100:AAU", "CH:2:5-5:CER"];
 
 /// The parts of contents, and whether they are those of account 1, JP, account 7 and the two blocks.
-const CONTENTS: [(u64, &str, u64, &[&str], bool); 8] = [
+const CONTENTS: &[(u64, &str, u64, &[&str], bool)] = &[
     (1, "JP", 7, &["NZ:1:1-100:AAU", "CH:2:5-5:CER"], true),
     (2, "JP", 7, &["NZ:1:1-100:AAU", "CH:2:5-5:CER"], false),
     (1, "NZ", 7, &["NZ:1:1-100:AAU", "CH:2:5-5:CER"], false),
@@ -196,8 +221,8 @@ const CONTENTS: [(u64, &str, u64, &[&str], bool); 8] = [
 ];
 
 /// Whether the contents are the same, whichever is asked.
-fn assert_same(rt: &impl Abort, one: &Content, other: &Content, is_same: bool) {
-    assert_eq!(rt; (one.same(other), other.same(one)), (is_same, is_same));
+fn assert_compared(rt: &impl Abort, one: &Content, other: &Content, is_same: bool) {
+    assert_same(rt, (one.same(other), other.same(one)), (is_same, is_same));
 }
 
 /// The content of those parts, which are within the limits.
@@ -216,16 +241,20 @@ fn made(
 fn a_content_and_its_copy(rt: HostRuntime) {
     let one = made(&rt, rt.alloc(), 1, "JP", 7, &BLOCKS);
     let copy = one.copy().expect(&rt, "memory");
-    assert_same(&rt, &one, &copy, true);
+    assert_compared(&rt, &one, &copy, true);
+    drop(copy);
+    drop(one);
 }
 
 #[test]
 fn contents_are_compared_in_each_part(rt: HostRuntime) {
     let one = made(&rt, rt.alloc(), 1, "JP", 7, &BLOCKS);
     for (account, acquirer, to_account, units, is_same) in CONTENTS {
-        let other = made(&rt, rt.alloc(), account, acquirer, to_account, units);
-        assert_same(&rt, &one, &other, is_same);
+        let other = made(&rt, rt.alloc(), *account, acquirer, *to_account, units);
+        assert_compared(&rt, &one, &other, *is_same);
+        drop(other);
     }
+    drop(one);
 }
 
 /// A copy of the order is the same, is for JP, and has these accounts and one block of those numbers.
@@ -240,12 +269,13 @@ fn assert_copied(
     let copy = order.copy().expect(rt, "memory");
     assert!(rt; copy.same(order));
     let accounts = (copy.account(), copy.to_account());
-    assert_eq!(rt; accounts, (account, to_account));
-    assert_eq!(rt; Some(copy.to_registry()), Code::read("JP"));
-    assert_eq!(rt; copy.units().len(), 1);
+    assert_same(rt, accounts, (account, to_account));
+    assert_same(rt, Some(copy.to_registry()), Code::read("JP"));
+    assert_same(rt, copy.units().len(), 1);
     for block in copy.units() {
-        assert_eq!(rt; (block.first, block.last), (first, last));
+        assert_same(rt, (block.first, block.last), (first, last));
     }
+    drop(copy);
 }
 
 #[test]
@@ -259,9 +289,10 @@ fn the_limits_of_an_order(rt: HostRuntime) {
         (0, 0, 6, TOO_LONG, false),
     ] {
         let made = order(&rt, rt.alloc(), account, to_account, first, last);
-        assert_eq!(rt; made.is_some(), is_order);
-        if let Some(made) = made {
-            assert_copied(&rt, &made, account, to_account, first, last);
+        assert_same(&rt, made.is_some(), is_order);
+        if let Some(made) = &made {
+            assert_copied(&rt, made, account, to_account, first, last);
         }
+        drop(made);
     }
 }

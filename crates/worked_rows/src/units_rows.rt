@@ -1,3 +1,4 @@
+use crate::same::assert_same;
 use std::alloc::Global;
 use std::process::Abort;
 use units::{
@@ -8,9 +9,21 @@ use units::{
 #[test]
 fn block_texts(rt: HostRuntime) {
     assert!(rt; Block::read("NZ:1:999999999999-999999999999:AAU").is_ok());
-    assert_eq!(rt; Block::read("NZ:1:0-5:AAU").err(), Some(BlockFault::Range));
-    assert_eq!(rt; Block::read("NZ:1:6-5:AAU").err(), Some(BlockFault::Range));
-    assert_eq!(rt; Block::read("NZ:3:1-5:AAU").err(), Some(BlockFault::Shape));
+    assert_same(
+        &rt,
+        Block::read("NZ:1:0-5:AAU").err(),
+        Some(BlockFault::Range),
+    );
+    assert_same(
+        &rt,
+        Block::read("NZ:1:6-5:AAU").err(),
+        Some(BlockFault::Range),
+    );
+    assert_same(
+        &rt,
+        Block::read("NZ:3:1-5:AAU").err(),
+        Some(BlockFault::Shape),
+    );
 }
 
 #[test]
@@ -18,11 +31,11 @@ fn a_block_is_written_as_it_was_read(rt: HostRuntime) {
     let text = "CH:2:101-250:tCER";
     let origin = Code::new(b'C', b'H').expect(&rt, "two letters");
     let block = Block::new(origin, Period::Second, Kind::Tcer, 101, 250).expect(&rt, "a block");
-    assert_eq!(rt; Block::read(text), Ok(block));
-    assert_eq!(rt; RawBlock::read(text), Some(block.raw));
+    assert_same(&rt, Block::read(text), Ok(block));
+    assert_same(&rt, RawBlock::read(text), Some(block.raw));
     let written = block.write(rt.alloc()).expect(&rt, "memory");
-    assert_eq!(rt; written.as_str(), text);
-    assert_eq!(rt; block.count(), 150);
+    assert_same(&rt, written.as_str(), text);
+    assert_same(&rt, block.count(), 150);
     let (period, number) = (Period::Second, 250);
     assert!(rt;
         block.has(&Unit {
@@ -35,15 +48,20 @@ fn a_block_is_written_as_it_was_read(rt: HostRuntime) {
 
 #[test]
 fn the_pieces_of_texts(rt: HostRuntime) {
-    assert_eq!(rt; Node::read("ITL"), Some(Node::Itl));
-    assert_eq!(rt;
+    assert_same(&rt, Node::read("ITL"), Some(Node::Itl));
+    assert_same(
+        &rt,
         Node::read("NZ"),
-        Code::read("NZ").map(|c| Node::Registry(c))
+        Code::read("NZ").map(|c| Node::Registry(c)),
     );
-    assert_eq!(rt; Period::read("1"), Some(Period::First));
-    assert_eq!(rt; Kind::read("lCER"), Some(Kind::Lcer));
-    assert_eq!(rt; number("999999999999999999"), Some(999_999_999_999_999_999));
-    assert_eq!(rt; cut("AA:BB:CC", ':'), Some(("AA", "BB:CC")));
+    assert_same(&rt, Period::read("1"), Some(Period::First));
+    assert_same(&rt, Kind::read("lCER"), Some(Kind::Lcer));
+    assert_same(
+        &rt,
+        number("999999999999999999"),
+        Some(999_999_999_999_999_999),
+    );
+    assert_same(&rt, cut("AA:BB:CC", ':'), Some(("AA", "BB:CC")));
 }
 
 #[test]
@@ -52,10 +70,12 @@ fn a_list_and_its_copy(rt: HostRuntime) {
     let numbers = Vec::from_slice(alloc, &[3u64, 1, 2]).expect(&rt, "memory");
     let list = Items::from_vec(numbers);
     let copy = list.copy().expect(&rt, "memory");
-    assert_eq!(rt; list.as_slice(), [3, 1, 2].as_slice());
-    assert_eq!(rt; copy.into_vec().as_slice(), [3, 1, 2].as_slice());
+    assert_same(&rt, list.as_slice(), [3, 1, 2].as_slice());
+    assert_same(&rt, copy.into_vec().as_slice(), [3, 1, 2].as_slice());
     let none: Items<u64> = Items::new(alloc);
-    assert_eq!(rt; none.as_slice().len(), 0);
+    assert_same(&rt, none.as_slice().len(), 0);
+    drop(none);
+    drop(list);
 }
 
 fn nz(rt: &impl Abort, kind: Kind, first: u64, last: u64) -> Block {
@@ -67,18 +87,32 @@ fn aau(rt: &impl Abort, first: u64, last: u64) -> Block {
     nz(rt, Kind::Aau, first, last)
 }
 
+fn refusal(code: u16) -> Result<(), Refusal> {
+    Err(Refusal { code })
+}
+
+/// Adds the block to the set, and asserts what comes of it.
+fn assert_added(rt: &impl Abort, set: &mut BlockSet, block: Block, wanted: Result<(), Refusal>) {
+    assert_same(rt, set.add(block), wanted);
+}
+
+/// Takes the block out of the set, and asserts what comes of it.
+fn assert_taken(rt: &impl Abort, set: &mut BlockSet, block: Block, wanted: Result<(), Refusal>) {
+    assert_same(rt, set.take(block), wanted);
+}
+
 /// A hundred units, put in as two blocks.
 fn hundred(rt: &impl Abort, alloc: Global) -> BlockSet {
     let mut set = BlockSet::new(alloc);
     for block in [aau(rt, 1, 50), aau(rt, 51, 100)] {
-        assert_eq!(rt; set.add(block), Ok(()));
+        assert_added(rt, &mut set, block, Ok(()));
     }
     set
 }
 
 /// The set is these blocks, and has `count` units.
 fn assert_set(rt: &impl Abort, set: &BlockSet, alloc: Global, wanted: &[Block], count: u64) {
-    assert_eq!(rt; set.count(), count);
+    assert_same(rt, set.count(), count);
     let blocks = set.canonical(alloc).expect(rt, "memory");
     assert!(rt; blocks.as_slice() == wanted);
 }
@@ -90,14 +124,16 @@ fn block_set(rt: HostRuntime) {
     let middle = nz(&rt, Kind::Cer, 41, 60);
     let mut set = hundred(&rt, alloc);
     assert_set(&rt, &set, alloc, &[aau(&rt, 1, 100)], 100);
-    assert_eq!(rt; set.take(aau(&rt, 41, 60)), Ok(()));
-    assert_eq!(rt; set.take(aau(&rt, 40, 41)), Err(Refusal { code: 105 }));
-    assert_eq!(rt; set.add(aau(&rt, 100, 101)), Err(Refusal { code: 103 }));
+    assert_taken(&rt, &mut set, aau(&rt, 41, 60), Ok(()));
+    assert_taken(&rt, &mut set, aau(&rt, 40, 41), refusal(105));
+    assert_added(&rt, &mut set, aau(&rt, 100, 101), refusal(103));
     assert_set(&rt, &set, alloc, &[low, high], 80);
-    assert_eq!(rt; set.add(middle), Ok(()));
+    assert_added(&rt, &mut set, middle, Ok(()));
     assert_set(&rt, &set, alloc, &[low, middle, high], 100);
     let copy = set.copy().expect(&rt, "memory");
     assert_set(&rt, &copy, alloc, &[low, middle, high], 100);
+    drop(copy);
+    drop(set);
 }
 
 #[test]
@@ -111,14 +147,15 @@ fn blocks_of_a_set(rt: HostRuntime) {
         ([above, above], false, true),
         ([above, low], false, false),
     ] {
-        assert_eq!(rt; set.contains_all(&blocks), has_all);
-        assert_eq!(rt; set.disjoint(&blocks), has_none);
+        assert_same(&rt, set.contains_all(&blocks), has_all);
+        assert_same(&rt, set.disjoint(&blocks), has_none);
     }
+    drop(set);
 }
 
 /// The set has that many units, in that many intervals.
 fn assert_size(rt: &impl Abort, set: &BlockSet, units: u64, intervals: usize) {
-    assert_eq!(rt; (set.count(), set.pieces().len()), (units, intervals));
+    assert_same(rt, (set.count(), set.pieces().len()), (units, intervals));
 }
 
 #[test]
@@ -128,12 +165,13 @@ fn several_blocks_at_once(rt: HostRuntime) {
     let beyond = [aau(&rt, 2, 3), aau(&rt, 8, 11)];
     let inside = [aau(&rt, 2, 3), aau(&rt, 5, 6)];
     let mut set = BlockSet::new(rt.alloc());
-    assert_eq!(rt; set.add_all(&blocks), Ok(()));
-    assert_eq!(rt; set.add_all(&shared), Err(Refusal { code: 103 }));
-    assert_eq!(rt; set.take_all(&beyond), Err(Refusal { code: 105 }));
+    assert_same(&rt, set.add_all(&blocks), Ok(()));
+    assert_same(&rt, set.add_all(&shared), refusal(103));
+    assert_same(&rt, set.take_all(&beyond), refusal(105));
     assert_size(&rt, &set, 10, 1);
-    assert_eq!(rt; set.take_all(&inside), Ok(()));
+    assert_same(&rt, set.take_all(&inside), Ok(()));
     assert_size(&rt, &set, 6, 3);
+    drop(set);
 }
 
 #[test]
@@ -159,11 +197,12 @@ fn labels_of_units(rt: HostRuntime) {
     };
     let mut kinds = UnitMap::new(rt.alloc());
     label(&rt, &mut kinds, &block, Some(Kind::Aau));
-    assert_eq!(rt; kinds.get(&unit), Some(Kind::Aau));
+    assert_same(&rt, kinds.get(&unit), Some(Kind::Aau));
     label(&rt, &mut kinds, &nz(&rt, Kind::Cer, 4, 6), Some(Kind::Cer));
-    assert_eq!(rt; kinds.count_where(|kind| kind == Kind::Aau), 7);
+    assert_same(&rt, kinds.count_where(|kind| kind == Kind::Aau), 7);
     assert!(rt; kinds.has_some_of(&block, |kind| kind == Kind::Cer));
-    assert_eq!(rt; kinds.pieces().len(), 3);
+    assert_same(&rt, kinds.pieces().len(), 3);
     label(&rt, &mut kinds, &block, None);
-    assert_eq!(rt; kinds.get(&unit), None);
+    assert_same(&rt, kinds.get(&unit), None);
+    drop(kinds);
 }

@@ -1,4 +1,5 @@
 use crate::registries::registry;
+use crate::same::assert_same;
 use crate::stations::{COMPLETED, NodeDesk, StillClock, UNKNOWN, desk_of, refused};
 use answers::{Answer, DeskAnswerer};
 use desk::Seat;
@@ -10,9 +11,9 @@ use units::refusal_code::{NODE_STOPPED, NOT_A_MESSAGE};
 
 /// Asserts that these answers refuse by these codes, one after the other.
 fn assert_refused(rt: &impl Abort, answers: &[Answer], codes: &[u16]) {
-    assert_eq!(rt; answers.len(), codes.len());
+    assert_same(rt, answers.len(), codes.len());
     for (answer, code) in answers.iter().zip(codes) {
-        assert_eq!(rt; answer.reply(), refused(rt, *code));
+        assert_same(rt, answer.reply(), refused(rt, *code));
     }
 }
 
@@ -30,6 +31,7 @@ fn served(
     let mut writer = Counted::new(Vec::new(alloc));
     let end = serve_session(alloc, &mut reader, &mut writer, &mut answerer);
     assert_refused(rt, answerer.answers(), codes);
+    drop(answerer);
     end
 }
 
@@ -46,7 +48,8 @@ fn node_session(rt: HostRuntime) {
         bytes.as_bytes(),
         &[NOT_A_MESSAGE, UNKNOWN],
     );
-    assert_eq!(rt; end, SessionEnd::Truncated);
+    assert_same(&rt, end, SessionEnd::Truncated);
+    drop(desk);
 }
 
 /// Of two lines that write a message the first one is refused, and ends the session.
@@ -57,5 +60,6 @@ fn session_of_a_stopped_node(rt: HostRuntime) {
     desk.stop(&rt);
     let bytes = format!(in alloc; "{COMPLETED}\n{COMPLETED}\n").expect(&rt, "memory");
     let end = served(&rt, alloc, &desk, bytes.as_bytes(), &[NODE_STOPPED]);
-    assert_eq!(rt; end, SessionEnd::Stopped);
+    assert_same(&rt, end, SessionEnd::Stopped);
+    drop(desk);
 }

@@ -1,3 +1,4 @@
+use crate::same::assert_same;
 use crate::streams::{Dripping, Full, Halting, long_line};
 use exchanges::{Counted, Exchange, exchange};
 use std::alloc::Global;
@@ -19,7 +20,10 @@ fn message(rt: &impl Abort, alloc: Global) -> Message {
 fn exchanged(rt: &impl Abort, alloc: Global, bytes: &'static [u8], fails_at: usize) -> Exchange {
     let mut reader = Counted::new(Dripping { bytes, fails_at });
     let mut written = Counted::new(Vec::new(alloc));
-    exchange(alloc, &mut reader, &mut written, &message(rt, alloc))
+    let message = message(rt, alloc);
+    let ended = exchange(alloc, &mut reader, &mut written, &message);
+    drop(message);
+    ended
 }
 
 #[test]
@@ -32,24 +36,23 @@ fn an_exchange_ends_as_its_peer_does(rt: HostRuntime) {
         (b"\n", Exchange::BadReply),
     ];
     for (bytes, expected) in rows {
-        assert_eq!(rt; exchanged(&rt, alloc, bytes, NEVER), expected);
+        assert_same(&rt, exchanged(&rt, alloc, bytes, NEVER), expected);
     }
+}
+
+/// Asserts that the exchange of that row ended so.
+fn assert_ended(rt: &impl Abort, row: usize, ended: Exchange, expected: Exchange) {
+    assert_eq!(rt; ended, expected, "{row}");
 }
 
 #[test]
 fn a_reply_that_is_cut_is_no_reply(rt: HostRuntime) {
     let alloc = rt.alloc();
     for n in 0..RECEIVED.len() {
-        assert_eq!(rt;
-            exchanged(&rt, alloc, &RECEIVED[..n], NEVER),
-            Exchange::PeerEnded,
-            "{n}"
-        );
-        assert_eq!(rt;
-            exchanged(&rt, alloc, RECEIVED, n),
-            Exchange::ReadFault,
-            "{n}"
-        );
+        let ended = exchanged(&rt, alloc, &RECEIVED[..n], NEVER);
+        assert_ended(&rt, n, ended, Exchange::PeerEnded);
+        let ended = exchanged(&rt, alloc, RECEIVED, n);
+        assert_ended(&rt, n, ended, Exchange::ReadFault);
     }
 }
 
@@ -61,15 +64,16 @@ fn the_whole_text_is_written(rt: HostRuntime) {
     for room in 0..104 {
         let mut writer = Counted::new(Full { room });
         let ended = exchange(alloc, &mut Counted::new(RECEIVED), &mut writer, &message);
-        assert_eq!(rt; ended, Exchange::WriteFault(room));
-        assert_eq!(rt; writer.failures(), 1);
+        assert_same(&rt, ended, Exchange::WriteFault(room));
+        assert_same(&rt, writer.failures(), 1);
     }
     for room in [104, 105] {
         let mut writer = Counted::new(Full { room });
         let ended = exchange(alloc, &mut Counted::new(RECEIVED), &mut writer, &message);
-        assert_eq!(rt; ended, Exchange::Answered(Reply::Received));
-        assert_eq!(rt; writer.failures(), 0);
+        assert_same(&rt, ended, Exchange::Answered(Reply::Received));
+        assert_same(&rt, writer.failures(), 0);
     }
+    drop(message);
 }
 
 #[test]
@@ -84,7 +88,8 @@ fn a_long_reply_is_a_bad_one(rt: HostRuntime) {
         &mut Counted::new(Full { room: NEVER }),
         &message,
     );
-    assert_eq!(rt; ended, Exchange::BadReply);
+    assert_same(&rt, ended, Exchange::BadReply);
+    drop(message);
 }
 
 /// What an exchange comes to over a writer that is interrupted that often.
@@ -94,7 +99,10 @@ fn interrupted(rt: &impl Abort, alloc: Global, interruptions: u32) -> Exchange {
         taken: 0,
     };
     let (mut reader, mut writer) = (Counted::new(RECEIVED), Counted::new(halting));
-    exchange(alloc, &mut reader, &mut writer, &message(rt, alloc))
+    let message = message(rt, alloc);
+    let ended = exchange(alloc, &mut reader, &mut writer, &message);
+    drop(message);
+    ended
 }
 
 #[test]
@@ -105,10 +113,7 @@ fn an_interrupted_call_is_made_again(rt: HostRuntime) {
         (19_999, Exchange::Answered(Reply::Received)),
         (20_000, Exchange::WriteFault(0)),
     ] {
-        assert_eq!(rt;
-            interrupted(&rt, alloc, interruptions),
-            expected,
-            "{interruptions}"
-        );
+        let ended = interrupted(&rt, alloc, interruptions);
+        assert_ended(&rt, interruptions as usize, ended, expected);
     }
 }

@@ -1,5 +1,6 @@
 use crate::nodes::played;
 use crate::registries::registry;
+use crate::same::assert_same;
 use inputs::OpFault;
 use std::alloc::Global;
 use std::net::{Net, TcpListener, TcpStream};
@@ -62,7 +63,7 @@ where
         node: nz,
         fault: StoreFault::Device,
     };
-    assert_eq!(rt; done, Err(fault));
+    assert_same(rt, done, Err(fault));
     let line = format!(in alloc; "{fault}").expect(rt, "memory");
     assert!(rt; line.as_str() == FAULT_LINE);
     assert!(rt; written.as_slice() == answers.as_bytes());

@@ -1,7 +1,8 @@
 use crate::registries::registry;
+use crate::same::assert_same;
 use crate::stations::{
-    COMPLETED, Ended, NodeDesk, Station, UNKNOWN, call, message, open_station, records_of, refused,
-    run_both,
+    COMPLETED, Ended, NodeDesk, Station, UNKNOWN, add_port, call, message, open_station,
+    records_of, refused, run_both,
 };
 use crate::waits::TURNS;
 use desk::{OpenGate, Seat, Told};
@@ -104,15 +105,16 @@ where
 /// Asserts that NZ has the record of the order, which that seat was told of, and JP none.
 fn assert_records(
     rt: &impl Abort,
-    (nz, jp): (NodeDesk, NodeDesk),
+    (nz, jp): (Station, Station),
     ran: Result<Vec<Ended>, NoMemory>,
     seat: Seat,
 ) {
     let mut ends = ran.expect(rt, "memory");
     let at_jp = ends.pop().expect(rt, "an end");
     let at_nz = ends.pop().expect(rt, "an end");
-    assert_eq!(rt; records_of(rt, nz, at_nz, Some(seat)), (1, 1));
-    assert_eq!(rt; records_of(rt, jp, at_jp, None), (0, 0));
+    drop(ends);
+    assert_same(rt, records_of(rt, nz, at_nz, Some(seat)), (1, 1));
+    assert_same(rt, records_of(rt, jp, at_jp, None), (0, 0));
 }
 
 /// At NZ all accepts fail but the last that may, and it replies; at JP all fail, and it stops, and no other node does.
@@ -122,16 +124,19 @@ fn hundred_accepts(rt: HostRuntime) {
     let nz = open_station(&rt, alloc, registry(&rt, "NZ"), MOST_FAILING);
     let jp = open_station(&rt, alloc, registry(&rt, "JP"), u64::MAX);
     let mut ports = Ports::new(&rt, alloc);
-    ports.add(nz.node, &nz.listen.port).expect(&rt, "memory");
-    ports.add(jp.node, &jp.listen.port).expect(&rt, "memory");
+    add_port(&rt, &mut ports, &nz);
+    add_port(&rt, &mut ports, &jp);
     let completed = message(&rt, alloc, COMPLETED);
     let order = decode_input(alloc, CLOSE.as_bytes()).expect(&rt, "an order");
     let (ran, after) = run_and_stop(&rt, alloc, &nz, &jp, &ports, &completed, order);
     assert!(rt; after.stopped && after.confirmed);
-    assert_eq!(rt;
+    assert_same(
+        &rt,
         after.exchanged,
-        Some(Exchange::Answered(refused(&rt, UNKNOWN)))
+        Some(Exchange::Answered(refused(&rt, UNKNOWN))),
     );
-    assert_eq!(rt; after.told, Told::Step(Stepped::Recorded(0)));
-    assert_records(&rt, (nz.desk, jp.desk), ran, after.seat);
+    assert_same(&rt, after.told, Told::Step(Stepped::Recorded(0)));
+    drop(completed);
+    drop(ports);
+    assert_records(&rt, (nz, jp), ran, after.seat);
 }

@@ -1,13 +1,14 @@
 //! The journals of the worked scheme's nodes, and stores that have them.
 
 use crate::registries::{registry, worked_scheme};
+use crate::same::assert_same;
 use audit::audit;
 use inputs::OpFault;
 use std::alloc::Global;
 use std::process::Abort;
 use stores::{MemoryStore, NodeStore};
 use units::Node;
-use wire::decode_input;
+use wire::{Input, decode_input};
 
 /// What NZ proposes.
 pub const PROPOSED: &str =
@@ -43,12 +44,19 @@ pub const NONE: &[&str] = &[];
 /// Records of the log, of JP and of NZ.
 pub type Journals<'a> = [&'a [&'a str]; 3];
 
+/// Appends one record.
+fn append(rt: &impl Abort, store: &mut MemoryStore, record: Input) {
+    let batch = [record];
+    assert!(rt; store.append(&batch).is_ok());
+    drop(batch);
+}
+
 /// A store with these records.
 fn store_of(rt: &impl Abort, alloc: Global, node: Node, journal: &[&str]) -> MemoryStore {
     let mut store = MemoryStore::new(alloc, node);
     for text in journal {
-        let input = decode_input(alloc, text.as_bytes()).expect(rt, "a record");
-        assert!(rt; store.append(&[input]).is_ok());
+        let record = decode_input(alloc, text.as_bytes()).expect(rt, "a record");
+        append(rt, &mut store, record);
     }
     store
 }
@@ -68,6 +76,8 @@ pub fn audited(
     ];
     let mut written = Vec::new(alloc);
     let done = audit(alloc, &scheme, &mut stores, &mut written);
+    drop(stores);
+    drop(scheme);
     (done, written)
 }
 
@@ -81,6 +91,6 @@ pub fn assert_table(rt: &impl Abort, alloc: Global, journals: Journals<'_>, tabl
 /// Asserts that the audit of these records fails so, and writes nothing.
 pub fn assert_fault(rt: &impl Abort, alloc: Global, journals: Journals<'_>, fault: OpFault) {
     let (done, written) = audited(rt, alloc, journals);
-    assert_eq!(rt; done, Err(fault));
+    assert_same(rt, done, Err(fault));
     assert!(rt; written.is_empty());
 }

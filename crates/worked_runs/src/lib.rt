@@ -29,6 +29,8 @@ mod one_node;
 #[cfg(test)]
 mod registries;
 #[cfg(test)]
+mod same;
+#[cfg(test)]
 mod session_rows;
 #[cfg(test)]
 mod stations;

@@ -1,6 +1,7 @@
 use crate::registries::registry;
+use crate::same::assert_same;
 use crate::stations::{
-    ACCEPTED, CANCELLED, Ended, PROPOSAL, Station, UNKNOWN, call, message, open_station,
+    ACCEPTED, CANCELLED, Ended, PROPOSAL, Station, UNKNOWN, add_port, call, message, open_station,
     records_of, refused, run_both,
 };
 use crate::waits::{HeldGate, Signals};
@@ -10,7 +11,6 @@ use sessions::Dial;
 use sockets::Ports;
 use std::alloc::Global;
 use std::io::Write;
-use std::net::Net;
 use std::process::Abort;
 use std::rt::Clock;
 use std::sync::Wait;
@@ -92,14 +92,6 @@ fn send_second<D: Dial, R: Clock>(
     end
 }
 
-/// Both nodes accept connections at their ports.
-fn add_ports<R: Net>(rt: &impl Abort, ports: &mut Ports<'_, R>, pair: &Pair) {
-    for station in [&pair.one, &pair.other] {
-        let added = ports.add(station.node, &station.listen.port);
-        added.expect(rt, "memory");
-    }
-}
-
 /// Two clients at the same time. Then both nodes stop.
 fn meet<D: Dial + Sync, R: Threads + Wait + Clock + Sync>(
     rt: &R,
@@ -151,8 +143,9 @@ fn records_of_both(
     let mut ends = ended.expect(rt, "memory");
     let of_other = ends.pop().expect(rt, "an end");
     let of_one = ends.pop().expect(rt, "an end");
-    let (first, _) = records_of(rt, one.desk, of_one, None);
-    let (second, _) = records_of(rt, other.desk, of_other, None);
+    drop(ends);
+    let (first, _) = records_of(rt, one, of_one, None);
+    let (second, _) = records_of(rt, other, of_other, None);
     (first, second)
 }
 
@@ -165,7 +158,8 @@ fn two_sessions_meet(rt: HostRuntime) {
         other: open_station(&rt, alloc, registry(&rt, "NZ"), 0),
     };
     let mut ports = Ports::new(&rt, alloc);
-    add_ports(&rt, &mut ports, &pair);
+    add_port(&rt, &mut ports, &pair.one);
+    add_port(&rt, &mut ports, &pair.other);
     let plan = Plan {
         first: First::Part,
         first_to: Node::Itl,
@@ -174,8 +168,10 @@ fn two_sessions_meet(rt: HostRuntime) {
     };
     let signals = Signals::new();
     let (ended, met) = run_and_meet(&rt, alloc, &ports, &OpenGate, &pair, &plan, &signals);
-    assert_eq!(rt; met, (true, Some(Exchange::Answered(Reply::Received))));
-    assert_eq!(rt; records_of_both(&rt, pair, ended), (1, 0));
+    assert_same(&rt, met, (true, Some(Exchange::Answered(Reply::Received))));
+    drop(ports);
+    drop(plan);
+    assert_same(&rt, records_of_both(&rt, pair, ended), (1, 0));
 }
 
 /// While a gate holds one node, another node replies.
@@ -188,7 +184,8 @@ fn nodes_apart(rt: HostRuntime) {
         other: open_station(&rt, alloc, jp, 0),
     };
     let mut ports = Ports::new(&rt, alloc);
-    add_ports(&rt, &mut ports, &pair);
+    add_port(&rt, &mut ports, &pair.one);
+    add_port(&rt, &mut ports, &pair.other);
     let plan = Plan {
         first: First::Whole(message(&rt, alloc, ACCEPTED), refused(&rt, UNKNOWN)),
         first_to: nz,
@@ -198,7 +195,9 @@ fn nodes_apart(rt: HostRuntime) {
     let signals = Signals::new();
     let gate = HeldGate::new(&rt, nz, &signals);
     let (ended, met) = run_and_meet(&rt, alloc, &ports, &gate, &pair, &plan, &signals);
-    assert_eq!(rt; met, (true, Some(Exchange::Answered(Reply::Received))));
+    assert_same(&rt, met, (true, Some(Exchange::Answered(Reply::Received))));
     assert!(rt; !gate.given_up.is_set());
-    assert_eq!(rt; records_of_both(&rt, pair, ended), (0, 1));
+    drop(ports);
+    drop(plan);
+    assert_same(&rt, records_of_both(&rt, pair, ended), (0, 1));
 }

@@ -70,5 +70,10 @@ where
         &network,
         &mut written,
     );
+    drop(dial);
+    drop(listeners);
+    drop(nodes);
+    drop(lines);
+    drop(scheme);
     (done, written)
 }

@@ -1,6 +1,8 @@
 use crate::registries::registry;
+use crate::same::assert_same;
 use crate::stations::{
-    COMPLETED, Ended, Station, UNKNOWN, call, message, open_station, parts_of, records_of, refused,
+    COMPLETED, Ended, Station, UNKNOWN, add_port, call, message, open_station, parts_of,
+    records_of, refused,
 };
 use desk::OpenGate;
 use exchanges::Exchange;
@@ -57,9 +59,15 @@ fn loopback_exchange(rt: HostRuntime) {
     let alloc = rt.alloc();
     let nz = open_station(&rt, alloc, registry(&rt, "NZ"), 0);
     let mut ports = Ports::new(&rt, alloc);
-    ports.add(nz.node, &nz.listen.port).expect(&rt, "memory");
+    add_port(&rt, &mut ports, &nz);
     let completed = message(&rt, alloc, COMPLETED);
     let (ended, exchanged) = run_and_call(&rt, alloc, &nz, &ports, &completed);
-    assert_eq!(rt; exchanged, Some(Exchange::Answered(refused(&rt, UNKNOWN))));
-    assert_eq!(rt; records_of(&rt, nz.desk, ended, None), (0, 0));
+    assert_same(
+        &rt,
+        exchanged,
+        Some(Exchange::Answered(refused(&rt, UNKNOWN))),
+    );
+    drop(completed);
+    drop(ports);
+    assert_same(&rt, records_of(&rt, nz, ended, None), (0, 0));
 }

@@ -1,3 +1,4 @@
+use crate::same::assert_same;
 use crate::streams::{Dripping, Endless, Full, long_line};
 use exchanges::{Answerer, Counted, SessionEnd, serve_session};
 use std::alloc::Global;
@@ -62,7 +63,9 @@ fn served<R: Read + Drop, W: Write>(
         entries: Vec::new(alloc),
     };
     let end = serve_session(alloc, &mut Counted::new(reader), writer, &mut scribe);
-    (end, scribe.entries.len())
+    let lines = scribe.entries.len();
+    drop(scribe);
+    (end, lines)
 }
 
 const ROWS: [(&[u8], SessionEnd, usize); 6] = [
@@ -79,11 +82,11 @@ fn a_session_ends_as_its_stream_does(rt: HostRuntime) {
     let alloc = rt.alloc();
     for (bytes, end, lines) in ROWS {
         let mut writer = Counted::new(Vec::new(alloc));
-        assert_eq!(rt; served(alloc, bytes, &mut writer), (end, lines));
+        assert_same(&rt, served(alloc, bytes, &mut writer), (end, lines));
         let fails_at = NEVER;
         let mut writer = Counted::new(Full { room: NEVER });
         let dripping = Dripping { bytes, fails_at };
-        assert_eq!(rt; served(alloc, dripping, &mut writer), (end, lines));
+        assert_same(&rt, served(alloc, dripping, &mut writer), (end, lines));
     }
 }
 
@@ -99,13 +102,13 @@ fn a_session_ends_where_its_streams_fail(rt: HostRuntime) {
             fails_at,
         };
         let (end, _) = served(alloc, dripping, &mut writer);
-        assert_eq!(rt; end, SessionEnd::ReadFault);
+        assert_same(&rt, end, SessionEnd::ReadFault);
     }
     for room in 0..62 {
         let mut writer = Counted::new(Full { room });
         let (end, _) = served(alloc, TWO, &mut writer);
-        assert_eq!(rt; end, SessionEnd::WriteFault(room));
-        assert_eq!(rt; writer.failures(), 1);
+        assert_same(&rt, end, SessionEnd::WriteFault(room));
+        assert_same(&rt, writer.failures(), 1);
     }
 }
 
@@ -118,7 +121,11 @@ fn a_line_is_too_long_by_one_byte(rt: HostRuntime) {
     ] {
         let line = long_line(&rt, alloc, b'x', bytes);
         let mut writer = Counted::new(Full { room: NEVER });
-        assert_eq!(rt; served(alloc, line.as_slice(), &mut writer), (end, lines));
+        assert_same(
+            &rt,
+            served(alloc, line.as_slice(), &mut writer),
+            (end, lines),
+        );
     }
 }
 
@@ -127,5 +134,5 @@ fn an_endless_stream_has_a_limit(rt: HostRuntime) {
     let alloc = rt.alloc();
     let mut writer = Counted::new(Full { room: NEVER });
     let ended = served(alloc, Endless { given: 0 }, &mut writer);
-    assert_eq!(rt; ended, (SessionEnd::TurnLimit, 10_000));
+    assert_same(&rt, ended, (SessionEnd::TurnLimit, 10_000));
 }

@@ -1,12 +1,13 @@
 //! Nodes of the worked scheme with their desks and ports, and what others send them.
 
 use crate::registries::worked_scheme;
+use crate::same::assert_same;
 use answers::Clock;
 use desk::{Desk, Gate, RoomBell, Seat, State, settle};
 use exchanges::{Counted, Exchange, exchange};
 use node::Core;
 use sessions::{Dial, Listen, NodeEnd, NodeParts, NodeToRun, run_all};
-use sockets::Port;
+use sockets::{Port, Ports};
 use status::Moment;
 use std::alloc::Global;
 use std::net::{Net, TcpListener, TcpStream};
@@ -99,6 +100,7 @@ pub struct Station {
 pub fn desk_of(rt: &impl Abort, alloc: Global, node: Node) -> NodeDesk {
     let scheme = worked_scheme(rt, alloc);
     let core = Core::new(alloc, &scheme, node).expect(rt, "memory");
+    drop(scheme);
     Desk::new(State::new(alloc, core), RoomBell::new())
 }
 
@@ -112,6 +114,12 @@ where
         desk: desk_of(rt, alloc, node),
         listen: FailingPort::open(rt, failing),
     }
+}
+
+/// The node's connections are accepted at its station's port.
+pub fn add_port<R: Net>(rt: &impl Abort, ports: &mut Ports<'_, R>, station: &Station) {
+    let added = ports.add(station.node, &station.listen.port);
+    added.expect(rt, "memory");
 }
 
 pub fn message(rt: &impl Abort, alloc: Global, text: &str) -> Message {
@@ -148,6 +156,19 @@ pub fn parts_of<'a, D, G>(
     }
 }
 
+/// A node that sends to none, with an empty store.
+fn node_to_run<'a, D, G>(
+    alloc: Global,
+    station: &'a Station,
+    dial: &'a D,
+    gate: &'a G,
+) -> NodeToRun<'a, Core, RoomBell, FailingPort, D, StillClock, G, MemoryStore> {
+    NodeToRun {
+        parts: parts_of(station, dial, gate),
+        store: MemoryStore::new(alloc, station.node),
+    }
+}
+
 /// Runs two nodes that send to none.
 pub fn run_both<D, G, R>(
     rt: &R,
@@ -162,20 +183,17 @@ where
     G: Gate + Sync,
     R: Threads + Wait + Sync,
 {
-    let mut nodes = Vec::new(alloc);
-    for station in [one, other] {
-        nodes.push(NodeToRun {
-            parts: parts_of(station, dial, gate),
-            store: MemoryStore::new(alloc, station.node),
-        })?;
-    }
-    run_all(rt, alloc, nodes)
+    let nodes = [
+        node_to_run(alloc, one, dial, gate),
+        node_to_run(alloc, other, dial, gate),
+    ];
+    run_all(rt, alloc, Vec::from_array(alloc, nodes)?)
 }
 
 /// The seats of a node that ended without a fault, and that other one.
 fn seats_of(rt: &impl Abort, end: Ended, other: Option<Seat>) -> Vec<Seat> {
     let end = end.expect(rt, "memory");
-    assert_eq!(rt; end.fault, None);
+    assert_same(rt, end.fault, None);
     let mut seats = end.seats;
     if let Some(seat) = other {
         seats.push(seat).expect(rt, "memory");
@@ -187,11 +205,15 @@ fn seats_of(rt: &impl Abort, end: Ended, other: Option<Seat>) -> Vec<Seat> {
 /// seat.
 pub fn records_of(
     rt: &impl Abort,
-    desk: NodeDesk,
+    station: Station,
     end: Ended,
     other: Option<Seat>,
 ) -> (usize, usize) {
     let seats = seats_of(rt, end, other);
-    let life = settle(&desk.end(), seats.as_slice()).expect(rt, "a life");
+    drop(station.listen);
+    let state = station.desk.end();
+    let life = settle(&state, seats.as_slice()).expect(rt, "a life");
+    drop(state);
+    drop(seats);
     (life.records, life.committed)
 }

@@ -1,4 +1,5 @@
 use crate::nodes::{new_stores, played};
+use crate::same::assert_same;
 
 /// One transfer from NZ to JP.
 const SCRIPT: &str = "\
@@ -28,7 +29,7 @@ fn hundred_transfers(rt: HostRuntime) {
     for _ in 0..RUNS {
         let stores = new_stores(&rt, rt.alloc());
         let (done, written) = played(&rt, rt.alloc(), stores, SCRIPT);
-        assert_eq!(rt; done, Ok(()));
+        assert_same(&rt, done, Ok(()));
         assert!(rt; written.as_slice() == REPORT.as_bytes());
     }
 }

@@ -1,5 +1,6 @@
 use crate::journals::{ASKED, PROPOSED};
 use crate::registries::{registry, worked_scheme};
+use crate::same::assert_same;
 use status::{Status, TransactionId};
 use std::alloc::Global;
 use std::process::Abort;
@@ -62,13 +63,14 @@ fn woven<'a>(
         Err(WeaveFault::NoMemory) => weave(alloc, &scheme, &journals),
         done => done,
     };
+    drop(scheme);
     done.ok().expect(rt, "a run")
 }
 
 /// Asserts where the transaction stands at that node in the end.
 fn assert_status(rt: &impl Abort, woven: &Woven, node: Node, id: &str, wanted: Status) {
     let id = TransactionId::read(id).expect(rt, "an identifier");
-    assert_eq!(rt; woven.world.status(node, id), Some(wanted));
+    assert_same(rt, woven.world.status(node, id), Some(wanted));
 }
 
 /// A cancelled transfer whose proposal comes to JP after the transfer that took its place.
@@ -80,8 +82,12 @@ fn stale_proposal(rt: HostRuntime) {
     let nz = records(&rt, alloc, &NZ);
     let woven = woven(&rt, alloc, &log, &jp, &nz);
     let registry = registry(&rt, "JP");
-    assert_eq!(rt; woven.events.len(), 35);
+    assert_same(&rt, woven.events.len(), 35);
     assert_status(&rt, &woven, registry, "NZ1", Status::Rejected);
     assert_status(&rt, &woven, registry, "NZ2", Status::Completed);
     assert_status(&rt, &woven, Node::Itl, "NZ1", Status::Cancelled);
+    drop(woven);
+    drop(nz);
+    drop(jp);
+    drop(log);
 }

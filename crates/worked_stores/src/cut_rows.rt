@@ -21,7 +21,9 @@ fn stops_at(rt: &impl Abort, alloc: Global, cut: Cut) -> u64 {
     let mut link = Link::open(rt, alloc, cut);
     transfer(rt, alloc, &mut link);
     assert!(rt; link.table(rt).as_slice() == TABLE.as_bytes());
-    link.stops
+    let stops = link.stops;
+    drop(link);
+    stops
 }
 
 /// The calls of one file fail, first from the first call on, then from the second on, until a transfer meets no

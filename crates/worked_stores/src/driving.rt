@@ -80,21 +80,18 @@ fn next_message(rt: &impl Abort, link: &Link, from: usize, to: usize) -> Option<
     Some((key, message.copy().expect(rt, "memory")))
 }
 
-/// Has the node at that place take the acknowledgement of the key, which it commits with its next records.
-fn acknowledge(rt: &impl Abort, link: &mut Link, place: usize, key: usize) {
-    let number = Number::new(key as u64).expect(rt, "a key");
-    let _told = link.take(rt, place, Input::Ack(number));
-}
-
-/// Sends what is due between these places, a message again where it wasn't received. Returns how many were sent.
+/// Sends what is due between these places, a message again where it wasn't received. The sender takes an
+/// acknowledgement, which it commits with its next records. Returns how many were sent.
 fn send_between(rt: &impl Abort, alloc: Global, link: &mut Link, from: usize, to: usize) -> usize {
     for sent in 0..MOST {
         let Some((key, message)) = next_message(rt, link, from, to) else {
             return sent;
         };
         if is_received(rt, alloc, link, to, &message) {
-            acknowledge(rt, link, from, key);
+            let number = Number::new(key as u64).expect(rt, "a key");
+            link.take(rt, from, Input::Ack(number));
         }
+        drop(message);
     }
     assert!(rt; false, "an end of the messages");
     MOST
@@ -115,30 +112,28 @@ fn send_round(rt: &impl Abort, alloc: Global, link: &mut Link) -> usize {
 fn propose(rt: &impl Abort, alloc: Global, link: &mut Link) {
     let id = TransactionId::read("NZ1").expect(rt, "an identifier");
     for _ in 0..MOST {
-        if link.state(rt, NZ).query(id).told() != Told::Status(None) {
+        let taken = link.state(rt, NZ).query(id);
+        let told = taken.told();
+        drop(taken);
+        if told != Told::Status(None) {
             return;
         }
         let order = decode_input(alloc, PROPOSE.as_bytes()).expect(rt, "an order");
-        let _told = link.take(rt, NZ, order);
+        link.take(rt, NZ, order);
         link.commit(rt, NZ);
     }
     assert!(rt; false, "a proposal");
 }
 
-/// Has all nodes commit what isn't committed.
-fn commit_all(rt: &impl Abort, link: &mut Link) {
-    for place in 0..3 {
-        link.commit(rt, place);
-    }
-}
-
-/// Has the nodes make the transfer to its end.
+/// Has the nodes make the transfer to its end. All commit what isn't committed after each round.
 pub fn transfer(rt: &impl Abort, alloc: Global, link: &mut Link) {
     propose(rt, alloc, link);
     for _ in 0..MOST {
         let stops = link.stops;
         let sent = send_round(rt, alloc, link);
-        commit_all(rt, link);
+        for place in 0..3 {
+            link.commit(rt, place);
+        }
         if sent == 0 && link.stops == stops {
             return;
         }

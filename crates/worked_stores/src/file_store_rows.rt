@@ -1,6 +1,6 @@
 use durable::SqlStore;
 use sqlite::types::ValueRef;
-use sqlite::{Connection, Files, Options};
+use sqlite::{Alter, Connection, FileStore, Files, Options};
 use sqlite_disk::{Crash, Disk, Fuse, Memory};
 use std::alloc::Global;
 use std::fs;
@@ -87,43 +87,99 @@ fn refused(
     files
 }
 
+/// Asserts the same, and lets the files go.
+fn assert_refused(rt: &impl Abort, alloc: Global, files: Stored, code: &str, wanted: StoreFault) {
+    drop(refused(rt, alloc, files, code, wanted));
+}
+
+/// How many records the store has.
+fn count<S: NodeStore>(rt: &impl Abort, store: &mut S) -> usize {
+    let records = store.load().expect(rt, "no fault of the store");
+    let count = records.len();
+    drop(records);
+    count
+}
+
 /// Asserts that the store has the two records.
-fn assert_two(rt: &impl Abort, alloc: Global, store: &mut MemoryFiles) {
+fn assert_two<S: NodeStore>(rt: &impl Abort, alloc: Global, store: &mut S) {
     let records = store.load().expect(rt, "no fault of the store");
     assert!(rt; are_two(alloc, &records));
+    drop(records);
 }
 
 /// Appends the two records.
-fn append_two(rt: &impl Abort, alloc: Global, store: &mut MemoryFiles) {
-    assert!(rt; store.append(&two(rt, alloc)).is_ok());
+fn append_two<S: NodeStore>(rt: &impl Abort, alloc: Global, store: &mut S) {
+    let batch = two(rt, alloc);
+    assert!(rt; store.append(&batch).is_ok());
+    drop(batch);
 }
 
-/// The files after statements that no store makes.
-fn changed(rt: &impl Abort, alloc: Global, files: Stored, statements: &[&str]) -> Stored {
+fn open_database<D: Disk + Drop>(
+    rt: &impl Abort,
+    alloc: Global,
+    files: Files<D>,
+) -> Connection<FileStore<D>> {
     assert!(rt; files.may_be_used());
     let opened = Connection::open_files(alloc, files, options());
-    let mut conn = opened.ok().expect(rt, "a database");
+    opened.ok().expect(rt, "a database")
+}
+
+fn execute_all<S: Alter>(rt: &impl Abort, conn: &mut Connection<S>, statements: &[&str]) {
     for statement in statements {
         assert!(rt; conn.execute(statement, &[]).is_ok());
     }
-    conn.into_store().close()
+}
+
+fn store_of<S: Alter + Drop>(conn: Connection<S>) -> S {
+    conn.into_store()
+}
+
+/// The files after statements that no store makes.
+fn changed<D: Disk + Drop>(
+    rt: &impl Abort,
+    alloc: Global,
+    files: Files<D>,
+    statements: &[&str],
+) -> Files<D> {
+    let mut conn = open_database(rt, alloc, files);
+    execute_all(rt, &mut conn, statements);
+    store_of(conn).close()
+}
+
+/// The files of NZ's store, with two records more.
+fn with_two(rt: &impl Abort, alloc: Global, files: Stored) -> Stored {
+    let mut store = open_as(rt, alloc, files, "NZ");
+    append_two(rt, alloc, &mut store);
+    store.close_files()
 }
 
 /// The files of NZ's store of two records.
 fn files_of_two(rt: &impl Abort, alloc: Global) -> Stored {
-    let mut store = open_as(rt, alloc, new_files(alloc, FOREVER, FOREVER), "NZ");
-    append_two(rt, alloc, &mut store);
-    store.close_files()
+    with_two(rt, alloc, new_files(alloc, FOREVER, FOREVER))
+}
+
+/// Asserts that the files are NZ's store of two records.
+fn assert_two_in(rt: &impl Abort, alloc: Global, files: Stored) {
+    let mut store = open_as(rt, alloc, files, "NZ");
+    assert_two(rt, alloc, &mut store);
+    drop(store);
+}
+
+/// Asserts that the store has the two records, that it still has them once it was opened again, and that it met no
+/// fault.
+fn assert_kept<S: NodeStore>(rt: &impl Abort, alloc: Global, store: &mut S) {
+    assert_two(rt, alloc, store);
+    assert!(rt; store.reopen().is_ok());
+    assert_two(rt, alloc, store);
+    assert!(rt; store.fault_count() == 0);
 }
 
 #[test]
 fn records_are_kept_in_files(rt: HostRuntime) {
     let alloc = rt.alloc();
     let mut store = open_as(&rt, alloc, files_of_two(&rt, alloc), "NZ");
-    assert_two(&rt, alloc, &mut store);
-    assert!(rt; store.reopen().is_ok());
-    assert_two(&rt, alloc, &mut store);
-    assert!(rt; store.fault_count() == 0);
+    assert_kept(&rt, alloc, &mut store);
+    drop(store);
 }
 
 /// Asserts that the store has that one record, or none, at the places from `from` on.
@@ -141,6 +197,7 @@ fn assert_page(
         _ => false,
     };
     assert!(rt; is_so);
+    drop(page);
 }
 
 #[test]
@@ -150,6 +207,7 @@ fn pages_of_a_store_in_files(rt: HostRuntime) {
     for (from, wanted) in [(0, Some(PROPOSE)), (1, Some(ACCEPTED)), (2, None)] {
         assert_page(&rt, alloc, &mut store, from, wanted);
     }
+    drop(store);
 }
 
 #[test]
@@ -157,8 +215,7 @@ fn files_of_another_node_are_refused(rt: HostRuntime) {
     let alloc = rt.alloc();
     let files = files_of_two(&rt, alloc);
     let files = refused(&rt, alloc, files, "JP", StoreFault::WrongNode);
-    let mut store = open_as(&rt, alloc, files, "NZ");
-    assert_two(&rt, alloc, &mut store);
+    assert_two_in(&rt, alloc, files);
 }
 
 #[test]
@@ -167,7 +224,7 @@ fn another_format_is_refused_before_another_node(rt: HostRuntime) {
     let statement = "UPDATE about SET format = 9";
     let files = changed(&rt, alloc, files_of_two(&rt, alloc), &[statement]);
     let files = refused(&rt, alloc, files, "NZ", StoreFault::WrongVersion);
-    let _files = refused(&rt, alloc, files, "JP", StoreFault::WrongVersion);
+    assert_refused(&rt, alloc, files, "JP", StoreFault::WrongVersion);
 }
 
 #[test]
@@ -181,7 +238,7 @@ fn what_is_no_store_is_refused(rt: HostRuntime) {
         "DROP TABLE about",
     ] {
         let files = changed(&rt, alloc, files_of_two(&rt, alloc), &[statement]);
-        let _files = refused(&rt, alloc, files, "NZ", StoreFault::Damaged(0));
+        assert_refused(&rt, alloc, files, "NZ", StoreFault::Damaged(0));
     }
 }
 
@@ -193,10 +250,7 @@ fn tables_made_in_the_other_order_are_a_store(rt: HostRuntime) {
         "CREATE TABLE about (id INTEGER PRIMARY KEY CHECK (id = 1), format INTEGER NOT NULL, node TEXT NOT NULL) STRICT",
     ];
     let files = changed(&rt, alloc, new_files(alloc, FOREVER, FOREVER), &tables);
-    let mut store = open_as(&rt, alloc, files, "NZ");
-    append_two(&rt, alloc, &mut store);
-    let mut again = open_as(&rt, alloc, store.close_files(), "NZ");
-    assert_two(&rt, alloc, &mut again);
+    assert_two_in(&rt, alloc, with_two(&rt, alloc, files));
 }
 
 #[test]
@@ -205,7 +259,7 @@ fn a_file_that_is_no_database_is_refused(rt: HostRuntime) {
     let mut files = new_files(alloc, FOREVER, FOREVER);
     assert!(rt; files.db.may_be_used());
     assert!(rt; files.db.write_at(0, &[b'x'; 4096]).is_ok());
-    let _files = refused(&rt, alloc, files, "NZ", StoreFault::Damaged(0));
+    assert_refused(&rt, alloc, files, "NZ", StoreFault::Damaged(0));
 }
 
 /// Asserts that after the statement the whole store has that damage. Gives the store.
@@ -229,6 +283,7 @@ fn a_record_that_is_none_is_named(rt: HostRuntime) {
     let mut store = damaged(&rt, alloc, statement, 1);
     assert_page(&rt, alloc, &mut store, 0, Some(PROPOSE));
     assert_damaged_page(&rt, &mut store, 1);
+    drop(store);
 }
 
 #[test]
@@ -236,15 +291,15 @@ fn a_place_that_is_missing_is_named(rt: HostRuntime) {
     let alloc = rt.alloc();
     let moved = "UPDATE entries SET place = 2 WHERE place = 1";
     let removed = "DELETE FROM entries WHERE place = 0";
-    let _store = damaged(&rt, alloc, moved, 1);
+    drop(damaged(&rt, alloc, moved, 1));
     let mut store = damaged(&rt, alloc, removed, 0);
     assert_damaged_page(&rt, &mut store, 0);
+    drop(store);
 }
 
 /// How far a run came before a call of its files failed.
 #[derive(Drop)]
 struct Run {
-    files: Stored,
     /// How many records were appended without a fault.
     appended: usize,
     /// How many faults were counted.
@@ -254,7 +309,7 @@ struct Run {
 }
 
 /// Appends two records, opens the store again, and so once more, up to the first fault.
-fn drive(rt: &impl Abort, alloc: Global, mut store: MemoryFiles) -> Run {
+fn drive<S: NodeStore>(rt: &impl Abort, alloc: Global, store: &mut S) -> Run {
     let batch = two(rt, alloc);
     let mut appended = 0;
     for round in 1..3 {
@@ -266,37 +321,51 @@ fn drive(rt: &impl Abort, alloc: Global, mut store: MemoryFiles) -> Run {
             break;
         }
     }
+    drop(batch);
     let faults = store.fault_count();
-    let waited = matches!(store.load(), Err(StoreFault::Reopen));
-    let files = store.close_files();
+    let waited = store.load().err() == Some(StoreFault::Reopen);
     Run {
-        files,
         appended,
         faults,
         waited,
     }
 }
 
-/// Whether a run stopped at that call of its files, and left what it should: nothing of a batch, or all of it.
-fn stops_well(rt: &impl Abort, alloc: Global, log_calls: u64, db_calls: u64) -> bool {
+/// A run over files of which that many calls may be made, and what it left of them.
+fn run_over(rt: &impl Abort, alloc: Global, log_calls: u64, db_calls: u64) -> (Run, Stored) {
     let files = new_files(alloc, log_calls, db_calls);
     let node = registry(rt, "NZ");
-    let run = match SqlStore::open_files(alloc, files, options(), node) {
-        Ok(store) => drive(rt, alloc, store),
+    match SqlStore::open_files(alloc, files, options(), node) {
+        Ok(mut store) => {
+            let run = drive(rt, alloc, &mut store);
+            (run, store.close_files())
+        }
         Err((fault, files)) => {
             assert!(rt; fault == StoreFault::Device);
-            Run {
-                files,
+            let run = Run {
                 appended: 0,
                 faults: 1,
                 waited: true,
-            }
+            };
+            (run, files)
         }
-    };
+    }
+}
+
+/// How many records the files have after a crash.
+fn count_after_a_crash(rt: &impl Abort, alloc: Global, files: Stored) -> usize {
+    let mut store = open_as(rt, alloc, after_a_crash(files), "NZ");
+    let count = count(rt, &mut store);
+    drop(store);
+    count
+}
+
+/// Whether a run stopped at that call of its files, and left what it should: nothing of a batch, or all of it.
+fn stops_well(rt: &impl Abort, alloc: Global, log_calls: u64, db_calls: u64) -> bool {
+    let (run, files) = run_over(rt, alloc, log_calls, db_calls);
     let stopped = run.faults != 0;
     assert!(rt; run.waited == stopped);
-    let mut store = open_as(rt, alloc, after_a_crash(run.files), "NZ");
-    let found = store.load().expect(rt, "no fault of the store").len();
+    let found = count_after_a_crash(rt, alloc, files);
     let more = found.checked_sub(run.appended);
     assert!(rt; more == Some(0) || stopped && more == Some(2));
     stopped
@@ -336,12 +405,11 @@ fn assert_refused_at(
 
 /// Appends two records to the store where it has none, and asserts that it has these two.
 fn keep_two<S: NodeStore>(rt: &impl Abort, alloc: Global, store: &mut S) {
-    if store.load().expect(rt, "no fault of the store").is_empty() {
-        assert!(rt; store.append(&two(rt, alloc)).is_ok());
+    if count(rt, store) == 0 {
+        append_two(rt, alloc, store);
         assert!(rt; store.reopen().is_ok());
     }
-    let records = store.load().expect(rt, "no fault of the store");
-    assert!(rt; are_two(alloc, &records));
+    assert_two(rt, alloc, store);
 }
 
 /// Opens NZ's store at the path in these files, keeps two records in it, and asserts that it is refused to others
@@ -351,6 +419,7 @@ fn keep_at(rt: &impl Abort, files: &HostRuntime, path: &str) {
     let mut store = opened.expect(rt, "no fault of the store");
     keep_two(rt, files.alloc(), &mut store);
     assert_refused_at(rt, files, path, "NZ", StoreFault::Device);
+    drop(store);
 }
 
 #[test]

@@ -11,3 +11,5 @@ mod file_store_rows;
 mod links;
 #[cfg(test)]
 mod memory_store_rows;
+#[cfg(test)]
+mod same;

@@ -4,6 +4,7 @@ ghost use Rattle.node.specs.Cores.{journal_of};
 ghost use Rattle.world.specs.Kept.{nodes};
 
 use crate::file_store_rows::{Stored, after_a_crash};
+use crate::same::assert_same;
 use audit::audit;
 use desk::{State, Told};
 use durable::SqlStore;
@@ -12,6 +13,7 @@ use scheme::Scheme;
 use sqlite::{Files, Options};
 use sqlite_disk::{Fuse, Memory};
 use std::alloc::Global;
+use std::mem;
 use std::process::Abort;
 use stores::StoreFault;
 use units::{Code, Node};
@@ -90,7 +92,10 @@ fn worked_scheme(rt: &impl Abort, alloc: Global) -> Scheme
 fn new_core(rt: &impl Abort, alloc: Global, node: Node) -> Core
     ensures { journal_of result ≡ [] }
 {
-    Core::new(alloc, &worked_scheme(rt, alloc), node).expect(rt, "memory")
+    let scheme = worked_scheme(rt, alloc);
+    let core = Core::new(alloc, &scheme, node).expect(rt, "memory");
+    drop(scheme);
+    core
 }
 
 /// The state that the store's records lead to.
@@ -139,15 +144,20 @@ impl Link {
     /// Has the node at that place take an input.
     pub fn take(&mut self, rt: &impl Abort, place: usize, input: Input) -> Told {
         let state = self.states.get_mut(place).expect(rt, "a state");
-        state.take(input).told()
+        let taken = state.take(input);
+        let told = taken.told();
+        drop(taken);
+        told
     }
 
     /// How many records the node at that place has committed, and how many it has.
     fn counts(&self, rt: &impl Abort, place: usize) -> (usize, usize) {
         let state = self.state(rt, place);
         let batch = state.batch(BATCH).expect(rt, "memory");
+        let length = batch.len();
+        drop(batch);
         let committed = state.committed().len();
-        (committed, committed.saturating_add(batch.len()))
+        (committed, committed.saturating_add(length))
     }
 
     /// Has the node at that place commit what isn't committed. Where its store fails, the node is opened again: its
@@ -176,7 +186,7 @@ impl Link {
         let records = state.committed().len();
         assert!(rt; records == counts.0 || records == counts.1);
         let slot = self.states.get_mut(place).expect(rt, "a state");
-        *slot = state;
+        drop(mem::replace(slot, state));
         assert!(rt; place <= self.stores.len());
         self.stores.insert(place, store).expect(rt, "memory");
     }
@@ -192,7 +202,8 @@ impl Link {
             self.stores.as_mut_slice(),
             &mut written,
         );
-        assert_eq!(rt; done, Ok(()));
+        assert_same(rt, done, Ok(()));
+        drop(scheme);
         written
     }
 }

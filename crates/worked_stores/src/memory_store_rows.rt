@@ -1,3 +1,4 @@
+use crate::same::assert_same;
 use std::alloc::Global;
 use std::process::Abort;
 use stores::{Kept, MemoryStore, NodeStore, StoreFault};
@@ -47,54 +48,97 @@ fn append_and_load<S: NodeStore>(store: &mut S, batch: &[Input]) -> Result<Vec<I
     store.load()
 }
 
+/// Asserts that the store has the two records.
+fn assert_two(rt: &impl Abort, store: &mut MemoryStore) {
+    let records = store.load().expect(rt, "memory");
+    assert!(rt; are_two(&records));
+    drop(records);
+}
+
+/// Asserts that the store has that many records.
+fn assert_count(rt: &impl Abort, store: &mut MemoryStore, count: usize) {
+    let records = store.load().expect(rt, "memory");
+    assert_same(rt, records.len(), count);
+    drop(records);
+}
+
+/// A page of the store.
+fn page(rt: &impl Abort, store: &mut MemoryStore, from: u64, most: u64) -> Vec<Input> {
+    store.load_page(from, most).expect(rt, "memory")
+}
+
+/// Asserts what comes of appending these records.
+fn append(
+    rt: &impl Abort,
+    store: &mut MemoryStore,
+    batch: Vec<Input>,
+    expected: Result<(), StoreFault>,
+) {
+    assert_same(rt, store.append(&batch), expected);
+    drop(batch);
+}
+
 #[test]
 fn records_are_kept_in_their_order(rt: HostRuntime) {
     let alloc = rt.alloc();
     let mut store = MemoryStore::new(alloc, nz(&rt));
-    assert_eq!(rt; store.node(), nz(&rt));
-    assert_eq!(rt; store.append(&two(&rt, alloc)), Ok(()));
-    assert!(rt; are_two(&store.load().expect(&rt, "memory")));
-    assert_eq!(rt; store.reopen(), Ok(()));
-    assert!(rt; are_two(&store.load().expect(&rt, "memory")));
-    let first = store.load_page(0, 1).expect(&rt, "memory");
+    assert_same(&rt, store.node(), nz(&rt));
+    append(&rt, &mut store, two(&rt, alloc), Ok(()));
+    assert_two(&rt, &mut store);
+    assert_same(&rt, store.reopen(), Ok(()));
+    assert_two(&rt, &mut store);
+    let first = page(&rt, &mut store, 0, 1);
     assert!(rt; first.len() == 1 && is_open(&first[0], 8));
-    let second = store.load_page(1, 256).expect(&rt, "memory");
+    drop(first);
+    let second = page(&rt, &mut store, 1, 256);
     assert!(rt; second.len() == 1 && is_close(&second[0], 8));
-    assert!(rt; store.load_page(2, 256).expect(&rt, "memory").is_empty());
-    assert_eq!(rt; store.fault_count(), 0);
+    drop(second);
+    let third = page(&rt, &mut store, 2, 256);
+    assert!(rt; third.is_empty());
+    drop(third);
+    assert_same(&rt, store.fault_count(), 0);
 }
 
 #[test]
 fn a_store_through_its_bound(rt: HostRuntime) {
     let alloc = rt.alloc();
     let mut store = MemoryStore::new(alloc, nz(&rt));
-    assert!(rt; are_two(&append_and_load(&mut store, &two(&rt, alloc)).expect(&rt, "memory")));
+    let batch = two(&rt, alloc);
+    let records = append_and_load(&mut store, &batch).expect(&rt, "memory");
+    assert!(rt; are_two(&records));
+    drop(records);
+    drop(batch);
 }
 
 #[test]
 fn the_fuse_keeps_the_whole_batch(rt: HostRuntime) {
     let alloc = rt.alloc();
     let mut store = MemoryStore::fused(alloc, nz(&rt), 0, Kept::All);
-    assert_eq!(rt; store.append(&[]), Ok(()));
-    assert_eq!(rt; store.append(&two(&rt, alloc)), Err(StoreFault::Device));
-    assert!(rt; matches!(store.load(), Err(StoreFault::Reopen)));
-    assert_eq!(rt; store.append(&[]), Err(StoreFault::Reopen));
-    assert_eq!(rt; store.fault_count(), 1);
-    assert_eq!(rt; store.reopen(), Ok(()));
-    assert!(rt; are_two(&store.load().expect(&rt, "memory")));
-    assert_eq!(rt; store.append(&two(&rt, alloc)), Ok(()));
-    assert_eq!(rt; store.load().expect(&rt, "memory").len(), 4);
+    append(&rt, &mut store, Vec::new(alloc), Ok(()));
+    append(&rt, &mut store, two(&rt, alloc), Err(StoreFault::Device));
+    assert_same(&rt, store.load().err(), Some(StoreFault::Reopen));
+    append(&rt, &mut store, Vec::new(alloc), Err(StoreFault::Reopen));
+    assert_same(&rt, store.fault_count(), 1);
+    assert_same(&rt, store.reopen(), Ok(()));
+    assert_two(&rt, &mut store);
+    append(&rt, &mut store, two(&rt, alloc), Ok(()));
+    assert_count(&rt, &mut store, 4);
+}
+
+/// An acknowledgement.
+fn one(rt: &impl Abort, alloc: Global) -> Vec<Input> {
+    Vec::from_array(alloc, [Input::Ack(number(rt, 7))]).expect(rt, "memory")
 }
 
 #[test]
 fn the_fuse_keeps_nothing(rt: HostRuntime) {
     let alloc = rt.alloc();
     let mut store = MemoryStore::fused(alloc, nz(&rt), 1, Kept::None);
-    assert_eq!(rt; store.append(&[]), Ok(()));
-    assert_eq!(rt; store.append(&[Input::Ack(number(&rt, 7))]), Ok(()));
-    assert_eq!(rt; store.append(&two(&rt, alloc)), Err(StoreFault::Device));
-    assert_eq!(rt; store.reopen(), Ok(()));
-    assert_eq!(rt; store.load().expect(&rt, "memory").len(), 1);
-    assert_eq!(rt; store.append(&two(&rt, alloc)), Ok(()));
-    assert_eq!(rt; store.load().expect(&rt, "memory").len(), 3);
+    append(&rt, &mut store, Vec::new(alloc), Ok(()));
+    append(&rt, &mut store, one(&rt, alloc), Ok(()));
+    append(&rt, &mut store, two(&rt, alloc), Err(StoreFault::Device));
+    assert_same(&rt, store.reopen(), Ok(()));
+    assert_count(&rt, &mut store, 1);
+    append(&rt, &mut store, two(&rt, alloc), Ok(()));
+    assert_count(&rt, &mut store, 3);
 }

@@ -13,6 +13,8 @@ mod rehearsal_rows;
 #[cfg(test)]
 mod reply_rows;
 #[cfg(test)]
+mod same;
+#[cfg(test)]
 mod script_rows;
 #[cfg(test)]
 mod show_rows;

@@ -1,7 +1,9 @@
 use crate::message_rows::{NOTIFICATION, PROPOSAL, REQUEST, assert_written};
+use crate::same::assert_same;
 use std::alloc::{AllocError, Global};
 use std::process::Abort;
 use stream_lines::{Line, LineFault, Splitter, Truncated};
+use units::Items;
 
 const LIMIT: usize = 8192;
 
@@ -29,10 +31,22 @@ enum Fed {
     NoMemory,
 }
 
+/// What the splitter returns for the piece.
+fn lines_of(rt: &impl Abort, splitter: &mut Splitter, piece: &[u8]) -> Items<Line> {
+    splitter.feed(piece).expect(rt, "lines")
+}
+
+/// How many lines those are.
+fn count(lines: Items<Line>) -> usize {
+    let count = lines.as_slice().len();
+    drop(lines);
+    count
+}
+
 fn feed(splitter: &mut Splitter, piece: &[u8]) -> Fed {
     match splitter.feed(piece) {
-        Ok(lines) => Fed::Lines(lines.as_slice().len()),
-        Err(LineFault::TooLong(lines)) => Fed::TooLong(lines.as_slice().len()),
+        Ok(lines) => Fed::Lines(count(lines)),
+        Err(LineFault::TooLong(lines)) => Fed::TooLong(count(lines)),
         Err(LineFault::Closed) => Fed::Closed,
         Err(LineFault::NoMemory) => Fed::NoMemory,
     }
@@ -43,15 +57,15 @@ fn a_line_over_the_limit(rt: HostRuntime) {
     let alloc = rt.alloc();
     let bytes = vec![in alloc; b'a'; LIMIT + 1].expect(&rt, "memory");
     let mut splitter = Splitter::new(alloc, LIMIT);
-    assert_eq!(rt; feed(&mut splitter, &bytes), Fed::TooLong(0));
-    assert_eq!(rt; feed(&mut splitter, b"\n"), Fed::Closed);
-    assert_eq!(rt; splitter.finish(), Err(Truncated));
+    assert_same(&rt, feed(&mut splitter, &bytes), Fed::TooLong(0));
+    assert_same(&rt, feed(&mut splitter, b"\n"), Fed::Closed);
+    assert_same(&rt, splitter.finish(), Err(Truncated));
 }
 
 /// The line has these bytes.
 fn assert_line(rt: &impl Abort, line: Line, bytes: &[u8]) {
-    assert_eq!(rt; line.as_slice(), bytes);
-    assert_eq!(rt; line.into_vec().as_slice(), bytes);
+    assert_same(rt, line.as_slice(), bytes);
+    assert_same(rt, line.into_vec().as_slice(), bytes);
 }
 
 #[test]
@@ -61,30 +75,37 @@ fn a_line_of_the_limit(rt: HostRuntime) {
     let mut stream = Vec::from_slice(alloc, &bytes).expect(&rt, "memory");
     stream.push(b'\n').expect(&rt, "memory");
     let mut splitter = Splitter::new(alloc, LIMIT);
-    let lines = splitter.feed(&stream).expect(&rt, "one line");
-    assert_eq!(rt; lines.as_slice().len(), 1);
+    let lines = lines_of(&rt, &mut splitter, &stream);
+    assert_same(&rt, lines.as_slice().len(), 1);
     for line in lines.into_vec() {
         assert_line(&rt, line, &bytes);
     }
-    assert_eq!(rt; splitter.finish(), Ok(()));
+    assert_same(&rt, splitter.finish(), Ok(()));
 }
 
 #[test]
 fn a_stream_that_ends_within_a_line(rt: HostRuntime) {
     let mut splitter = Splitter::new(rt.alloc(), LIMIT);
-    assert_eq!(rt; feed(&mut splitter, b"ab"), Fed::Lines(0));
-    assert_eq!(rt; splitter.finish(), Err(Truncated));
+    assert_same(&rt, feed(&mut splitter, b"ab"), Fed::Lines(0));
+    assert_same(&rt, splitter.finish(), Err(Truncated));
+}
+
+/// The lines of both are `Proposed NZ7` and `Accepted`.
+fn assert_texts(rt: &impl Abort, alloc: Global, first: &[Line], second: &[Line]) {
+    let texts = texts(alloc, first, second).expect(rt, "memory");
+    let wanted = [b"Proposed NZ7".as_slice(), b"Accepted".as_slice()];
+    assert!(rt; texts.as_slice() == wanted.as_slice());
 }
 
 /// A stream of these two pieces has the two lines.
 fn assert_two_lines(rt: &impl Abort, alloc: Global, before: &[u8], after: &[u8]) {
     let mut splitter = Splitter::new(alloc, LIMIT);
-    let first = splitter.feed(before).expect(rt, "lines");
-    let second = splitter.feed(after).expect(rt, "lines");
-    let texts = texts(alloc, first.as_slice(), second.as_slice()).expect(rt, "memory");
-    let wanted = [b"Proposed NZ7".as_slice(), b"Accepted".as_slice()];
-    assert!(rt; texts.as_slice() == wanted.as_slice());
-    assert_eq!(rt; splitter.finish(), Ok(()));
+    let first = lines_of(rt, &mut splitter, before);
+    let second = lines_of(rt, &mut splitter, after);
+    assert_texts(rt, alloc, first.as_slice(), second.as_slice());
+    drop(first);
+    drop(second);
+    assert_same(rt, splitter.finish(), Ok(()));
 }
 
 #[test]
@@ -105,14 +126,16 @@ fn assert_each_written(rt: &impl Abort, alloc: Global, lines: &[Line], text: &st
 /// A stream of the text's one line in two pieces has it where the line ends.
 fn assert_one_line(rt: &impl Abort, alloc: Global, before: &[u8], after: &[u8], text: &str) {
     let mut splitter = Splitter::new(alloc, LIMIT);
-    let first = splitter.feed(before).expect(rt, "lines");
-    let second = splitter.feed(after).expect(rt, "lines");
+    let first = lines_of(rt, &mut splitter, before);
+    let second = lines_of(rt, &mut splitter, after);
     let ended = (first.as_slice().len(), second.as_slice().len());
     let wanted = if after.is_empty() { (1, 0) } else { (0, 1) };
-    assert_eq!(rt; ended, wanted);
+    assert_same(rt, ended, wanted);
     assert_each_written(rt, alloc, first.as_slice(), text);
     assert_each_written(rt, alloc, second.as_slice(), text);
-    assert_eq!(rt; splitter.finish(), Ok(()));
+    drop(first);
+    drop(second);
+    assert_same(rt, splitter.finish(), Ok(()));
 }
 
 #[test]

@@ -1,3 +1,4 @@
+use crate::same::assert_same;
 use status::{Content, TransactionId};
 use std::alloc::Global;
 use std::process::Abort;
@@ -90,19 +91,24 @@ fn checked_proposal(rt: &impl Abort, alloc: Global, acquirer: Code) -> Message {
 /// The message is written as that text.
 fn assert_encoded(rt: &impl Abort, alloc: Global, message: &Message, text: &str) {
     let line = encode(alloc, message).expect(rt, "memory");
-    assert_eq!(rt; line.as_slice(), text.as_bytes());
+    assert_same(rt, line.as_slice(), text.as_bytes());
+}
+
+/// The message is written as that text, and is dropped then.
+fn assert_built(rt: &impl Abort, alloc: Global, message: Message, text: &str) {
+    assert_encoded(rt, alloc, &message, text);
+    drop(message);
 }
 
 /// The line is a message, which is written as that text.
 pub fn assert_written(rt: &impl Abort, alloc: Global, line: &[u8], text: &str) {
-    let message = decode(alloc, line).expect(rt, text);
-    assert_encoded(rt, alloc, &message, text);
+    assert_built(rt, alloc, decode(alloc, line).expect(rt, text), text);
 }
 
 /// The line is no message.
 fn assert_refused(rt: &impl Abort, alloc: Global, line: &[u8]) {
     let fault = decode(alloc, line).err();
-    assert_eq!(rt; fault, Some(Refusal { code: 41 }));
+    assert_same(rt, fault, Some(Refusal { code: 41 }));
 }
 
 /// The copy of the text's message is the same, and is written as it was read.
@@ -110,13 +116,14 @@ fn assert_copied(rt: &impl Abort, alloc: Global, text: &str) {
     let message = decode(alloc, text.as_bytes()).expect(rt, "a message");
     let copy = message.copy().expect(rt, "memory");
     assert!(rt; copy.same(&message));
-    assert_encoded(rt, alloc, &copy, text);
+    drop(message);
+    assert_built(rt, alloc, copy, text);
 }
 
 #[test]
 fn texts_are_written_and_read_back(rt: HostRuntime) {
     for (text, length) in [(PROPOSAL, 161), (NOTIFICATION, 103), (REQUEST, 73)] {
-        assert_eq!(rt; text.len(), length);
+        assert_same(&rt, text.len(), length);
         assert_written(&rt, rt.alloc(), text.as_bytes(), text);
         assert_copied(&rt, rt.alloc(), text);
     }
@@ -136,18 +143,13 @@ fn messages_built_from_parts(rt: HostRuntime) {
     let alloc = rt.alloc();
     let (jp, nz) = (code(&rt, "JP"), Node::Registry(code(&rt, "NZ")));
     let rejected = rejected(&rt, alloc, &[301, 303]);
+    let rejected = notification(&rt, Node::Registry(jp), Node::Itl, rejected);
+    assert_built(&rt, alloc, rejected, REJECTED);
     let terminated = terminated(&rt, alloc, &[207]);
-    for (message, text) in [
-        (
-            notification(&rt, Node::Registry(jp), Node::Itl, rejected),
-            REJECTED,
-        ),
-        (notification(&rt, Node::Itl, nz, terminated), TERMINATED),
-        (request(&rt, nz), REQUEST),
-        (checked_proposal(&rt, alloc, jp), CHECKED),
-    ] {
-        assert_encoded(&rt, alloc, &message, text);
-    }
+    let terminated = notification(&rt, Node::Itl, nz, terminated);
+    assert_built(&rt, alloc, terminated, TERMINATED);
+    assert_built(&rt, alloc, request(&rt, nz), REQUEST);
+    assert_built(&rt, alloc, checked_proposal(&rt, alloc, jp), CHECKED);
 }
 
 /// Each change makes the text no message.
@@ -159,7 +161,7 @@ fn assert_wrong(rt: &impl Abort, alloc: Global, text: &str, changes: &[(&str, &s
 }
 
 /// What stands in a proposal, and what makes it no message in its place.
-const WRONG_IN_PROPOSAL: [(&str, &str); 58] = [
+const WRONG_IN_PROPOSAL: &[(&str, &str)] = &[
     (r#""account":1,"#, ""),
     (r#""account":1,"#, r#""account":0,"#),
     (r#""account":1,"#, r#""account":1000000000,"#),
@@ -221,7 +223,7 @@ const WRONG_IN_PROPOSAL: [(&str, &str); 58] = [
 ];
 
 /// What stands in a notification, and what makes it no message in its place.
-const WRONG_IN_NOTIFICATION: [(&str, &str); 29] = [
+const WRONG_IN_NOTIFICATION: &[(&str, &str)] = &[
     (r#""call":"AcceptNotification","#, ""),
     (r#""AcceptNotification""#, r#""AcceptProposal""#),
     (r#""AcceptNotification""#, r#""Acceptnotification""#),
@@ -255,16 +257,16 @@ const WRONG_IN_NOTIFICATION: [(&str, &str); 29] = [
 
 #[test]
 fn a_proposal_with_something_wrong_in_it(rt: HostRuntime) {
-    assert_wrong(&rt, rt.alloc(), PROPOSAL, &WRONG_IN_PROPOSAL);
+    assert_wrong(&rt, rt.alloc(), PROPOSAL, WRONG_IN_PROPOSAL);
 }
 
 #[test]
 fn a_notification_with_something_wrong_in_it(rt: HostRuntime) {
-    assert_wrong(&rt, rt.alloc(), NOTIFICATION, &WRONG_IN_NOTIFICATION);
+    assert_wrong(&rt, rt.alloc(), NOTIFICATION, WRONG_IN_NOTIFICATION);
 }
 
 /// What stands in a request, and what makes it no message in its place.
-const WRONG_IN_REQUEST: [(&str, &str); 7] = [
+const WRONG_IN_REQUEST: &[(&str, &str)] = &[
     (r#""to":"ITL","#, ""),
     (r#""to":"ITL","#, r#""to":"ITL","x":1,"#),
     (r#""from":"NZ""#, r#""codes":[],"from":"NZ""#),
@@ -276,11 +278,11 @@ const WRONG_IN_REQUEST: [(&str, &str); 7] = [
 
 #[test]
 fn a_request_with_something_wrong_in_it(rt: HostRuntime) {
-    assert_wrong(&rt, rt.alloc(), REQUEST, &WRONG_IN_REQUEST);
+    assert_wrong(&rt, rt.alloc(), REQUEST, WRONG_IN_REQUEST);
 }
 
 /// Statuses, their codes, and whether a notification of both is one.
-const CODES: [(&str, &str, bool); 30] = [
+const CODES: &[(&str, &str, bool)] = &[
     ("Accepted", "[]", true),
     ("Cancelled", "[]", true),
     ("Completed", "[]", true),
@@ -318,11 +320,11 @@ fn assert_read(rt: &impl Abort, alloc: Global, line: &str, is_message: bool) {
     match decode(alloc, line.as_bytes()) {
         Ok(message) => {
             assert!(rt; is_message, "{line}");
-            assert_encoded(rt, alloc, &message, line);
+            assert_built(rt, alloc, message, line);
         }
         Err(refusal) => {
             assert!(rt; !is_message, "{line}");
-            assert_eq!(rt; refusal, Refusal { code: 41 });
+            assert_same(rt, refusal, Refusal { code: 41 });
         }
     }
 }
@@ -339,12 +341,12 @@ fn notification_text(rt: &impl Abort, alloc: Global, status: &str, codes: &str) 
 fn each_status_with_its_codes(rt: HostRuntime) {
     for (status, codes, is_message) in CODES {
         let line = notification_text(&rt, rt.alloc(), status, codes);
-        assert_read(&rt, rt.alloc(), line.as_str(), is_message);
+        assert_read(&rt, rt.alloc(), line.as_str(), *is_message);
     }
 }
 
 /// Lines that are no message.
-const NO_MESSAGES: [&[u8]; 8] = [
+const NO_MESSAGES: &[&[u8]] = &[
     b"",
     b"[",
     b"null",
@@ -374,7 +376,7 @@ fn bytes_that_are_no_text(rt: HostRuntime) {
 }
 
 /// What stands in a proposal, and what may stand in its place.
-const RIGHT_IN_PROPOSAL: [(&str, &str); 8] = [
+const RIGHT_IN_PROPOSAL: &[(&str, &str)] = &[
     (r#""account":1,"#, r#""account":999999999,"#),
     (r#""to_account":7"#, r#""to_account":999999999"#),
     (r#""from":"NZ""#, r#""from":"ITL""#),

@@ -1,23 +1,39 @@
+use crate::same::assert_same;
 use status::{Moment, Order, TransactionId};
 use std::alloc::Global;
 use std::process::Abort;
 use units::{Code, Items, RawBlock};
 use wire::{Input, Number, ReadFault, decode_input, encode_input};
 
+const PROPOSE: &str =
+    r#"{"account":1,"input":"propose","to_account":7,"to_registry":"JP","units":["NZ:1:1-100:AAU"]}"#;
+
+const CLOSE: &str = r#"{"account":8,"input":"close"}"#;
+
+const OPEN: &str = r#"{"account":8,"input":"open"}"#;
+
+const ACK: &str = r#"{"input":"ack","key":0}"#;
+
+const CLEAN_UP: &str = r#"{"input":"clean_up","moment":1335916800}"#;
+
+const ELIGIBLE: &str = r#"{"input":"eligible","may":false,"registry":"NZ"}"#;
+
+const REQUEST: &str = r#"{"input":"request","transaction":"NZ1"}"#;
+
 const RECORDS: [&str; 9] = [
-    r#"{"account":1,"input":"propose","to_account":7,"to_registry":"JP","units":["NZ:1:1-100:AAU"]}"#,
+    PROPOSE,
     r#"{"input":"received","message":{"call":"AcceptNotification","codes":[],"from":"ITL","status":"Accepted","to":"NZ","transaction":"NZ1"},"moment":1335830400}"#,
-    r#"{"account":8,"input":"close"}"#,
-    r#"{"account":8,"input":"open"}"#,
-    r#"{"input":"ack","key":0}"#,
-    r#"{"input":"clean_up","moment":1335916800}"#,
-    r#"{"input":"eligible","may":false,"registry":"NZ"}"#,
-    r#"{"input":"request","transaction":"NZ1"}"#,
+    CLOSE,
+    OPEN,
+    ACK,
+    CLEAN_UP,
+    ELIGIBLE,
+    REQUEST,
     r#"{"input":"received","message":{"call":"RequestCancellation","from":"NZ","to":"ITL","transaction":"NZ1"},"moment":1335830400}"#,
 ];
 
 /// Records of orders that no node acts on, and the last numbers of the others.
-const KEPT: [&str; 9] = [
+const KEPT: &[&str] = &[
     r#"{"account":1,"input":"propose","to_account":7,"to_registry":"JP","units":[]}"#,
     r#"{"account":1,"input":"propose","to_account":7,"to_registry":"JP","units":["NZ:1:1-1:AAU","NZ:1:1-1:AAU","NZ:1:1-1:AAU","NZ:1:1-1:AAU","NZ:1:1-1:AAU","NZ:1:1-1:AAU","NZ:1:1-1:AAU","NZ:1:1-1:AAU","NZ:1:1-1:AAU","NZ:1:1-1:AAU","NZ:1:1-1:AAU","NZ:1:1-1:AAU","NZ:1:1-1:AAU","NZ:1:1-1:AAU","NZ:1:1-1:AAU","NZ:1:1-1:AAU","NZ:1:1-1:AAU"]}"#,
     r#"{"account":0,"input":"propose","to_account":7,"to_registry":"JP","units":["NZ:1:6-5:AAU"]}"#,
@@ -32,7 +48,13 @@ const KEPT: [&str; 9] = [
 /// The record is written as that text.
 fn assert_encoded(rt: &impl Abort, alloc: Global, input: &Input, text: &str) {
     let line = encode_input(alloc, input).expect(rt, "memory");
-    assert_eq!(rt; line.as_slice(), text.as_bytes());
+    assert_same(rt, line.as_slice(), text.as_bytes());
+}
+
+/// The record is written as that text, and is dropped then.
+fn assert_built(rt: &impl Abort, alloc: Global, input: Input, text: &str) {
+    assert_encoded(rt, alloc, &input, text);
+    drop(input);
 }
 
 /// The text is a record. Its copy is the same, and is written as it was read.
@@ -40,7 +62,8 @@ fn assert_copied(rt: &impl Abort, alloc: Global, text: &str) {
     let input = decode_input(alloc, text.as_bytes()).expect(rt, text);
     let copy = input.copy().expect(rt, "memory");
     assert!(rt; copy.same(&input));
-    assert_encoded(rt, alloc, &copy, text);
+    drop(input);
+    assert_built(rt, alloc, copy, text);
 }
 
 #[test]
@@ -66,17 +89,14 @@ fn inputs_built_from_parts(rt: HostRuntime) {
     let registry = Code::read("NZ").expect(&rt, "a code");
     let id = TransactionId::read("NZ1").expect(&rt, "a transaction");
     let may = false;
-    for (input, text) in [
-        (order(&rt, rt.alloc()), RECORDS[0]),
-        (Input::CloseAccount(eight), RECORDS[2]),
-        (Input::OpenAccount(eight), RECORDS[3]),
-        (Input::Ack(key), RECORDS[4]),
-        (Input::CleanUp(moment), RECORDS[5]),
-        (Input::Eligible { registry, may }, RECORDS[6]),
-        (Input::Request(id), RECORDS[7]),
-    ] {
-        assert_encoded(&rt, rt.alloc(), &input, text);
-    }
+    let alloc = rt.alloc();
+    assert_built(&rt, alloc, order(&rt, alloc), PROPOSE);
+    assert_built(&rt, alloc, Input::CloseAccount(eight), CLOSE);
+    assert_built(&rt, alloc, Input::OpenAccount(eight), OPEN);
+    assert_built(&rt, alloc, Input::Ack(key), ACK);
+    assert_built(&rt, alloc, Input::CleanUp(moment), CLEAN_UP);
+    assert_built(&rt, alloc, Input::Eligible { registry, may }, ELIGIBLE);
+    assert_built(&rt, alloc, Input::Request(id), REQUEST);
 }
 
 #[test]
@@ -91,6 +111,8 @@ fn assert_differ(rt: &impl Abort, alloc: Global, one: &str, other: &str) {
     let input = decode_input(alloc, one.as_bytes()).expect(rt, one);
     let other = decode_input(alloc, other.as_bytes()).expect(rt, other);
     assert!(rt; !input.same(&other));
+    drop(other);
+    drop(input);
 }
 
 #[test]
@@ -100,7 +122,7 @@ fn records_that_differ(rt: HostRuntime) {
     }
 }
 
-const NO_RECORDS: [&str; 32] = [
+const NO_RECORDS: &[&str] = &[
     "",
     "[]",
     "{}",
@@ -139,6 +161,6 @@ const NO_RECORDS: [&str; 32] = [
 fn what_is_no_record(rt: HostRuntime) {
     for text in NO_RECORDS {
         let fault = decode_input(rt.alloc(), text.as_bytes()).err();
-        assert_eq!(rt; fault, Some(ReadFault::Shape));
+        assert_same(&rt, fault, Some(ReadFault::Shape));
     }
 }

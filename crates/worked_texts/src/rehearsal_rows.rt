@@ -1,3 +1,4 @@
+use crate::same::assert_same;
 use crate::streams::Full;
 use inputs::{Cause, OpFault};
 use operator::{Action, UsageFault, parse_words};
@@ -29,7 +30,7 @@ fn rehearsed(alloc: Global, input: &str) -> (Result<(), OpFault>, Vec<u8>) {
 #[test]
 fn writes_a_report(rt: HostRuntime) {
     let (ended, written) = rehearsed(rt.alloc(), INPUT);
-    assert_eq!(rt; ended, Ok(()));
+    assert_same(&rt, ended, Ok(()));
     assert!(rt; written.as_slice() == REPORT.as_bytes());
 }
 
@@ -66,7 +67,7 @@ fn assert_interrupted(rt: &impl Abort, alloc: Global, kind: ErrorKind, fault: Op
     };
     let mut writer = Vec::new(alloc);
     let ended = rehearse(alloc, &mut reader, &mut writer);
-    assert_eq!(rt; ended, Err(fault));
+    assert_same(rt, ended, Err(fault));
     assert!(rt; writer.is_empty());
 }
 
@@ -86,9 +87,10 @@ fn reads_on_after_an_interruption_alone(rt: HostRuntime) {
 fn tells_how_much_was_written(rt: HostRuntime) {
     let mut reader = INPUT.as_bytes();
     let mut writer = Full { room: 15 };
-    assert_eq!(rt;
+    assert_same(
+        &rt,
         rehearse(rt.alloc(), &mut reader, &mut writer),
-        Err(OpFault::Write(15))
+        Err(OpFault::Write(15)),
     );
 }
 
@@ -123,8 +125,8 @@ fn writes_on_after_interruptions(rt: HostRuntime) {
         interrupted: 0,
         taken: 0,
     };
-    assert_eq!(rt; rehearse(rt.alloc(), &mut reader, &mut writer), Ok(()));
-    assert_eq!(rt; writer.taken, REPORT.len());
+    assert_same(&rt, rehearse(rt.alloc(), &mut reader, &mut writer), Ok(()));
+    assert_same(&rt, writer.taken, REPORT.len());
 }
 
 /// What the words of a command line ask for, or why they ask for nothing.
@@ -141,7 +143,8 @@ enum Outcome {
 }
 
 fn outcome_of(alloc: Global, words: &[&str]) -> Outcome {
-    match parse_words(alloc, words) {
+    let parsed = parse_words(alloc, words);
+    let outcome = match &parsed {
         Ok(Action::Rehearse) => Outcome::Rehearse,
         Ok(Action::Chart) => Outcome::Chart,
         Ok(Action::Show { .. }) => Outcome::Show,
@@ -150,43 +153,46 @@ fn outcome_of(alloc: Global, words: &[&str]) -> Outcome {
         Err(UsageFault::Help(_)) => Outcome::Help,
         Err(UsageFault::Usage(_)) => Outcome::Usage,
         Err(UsageFault::NoMemory) => Outcome::NoMemory,
-    }
+    };
+    drop(parsed);
+    outcome
 }
+
+const COMMANDS: &[(&[&str], Outcome)] = &[
+    (&["kyoto-link", "rehearse"], Outcome::Rehearse),
+    (&["kyoto-link", "chart"], Outcome::Chart),
+    (&["kyoto-link", "--help"], Outcome::Help),
+    (&["kyoto-link", "-h"], Outcome::Help),
+    (&["kyoto-link", "help"], Outcome::Help),
+    (&["kyoto-link", "run"], Outcome::Usage),
+    (&["kyoto-link", "run", "s.json", "d"], Outcome::Usage),
+    (&["kyoto-link", "run", "s.json", "d", "l"], Outcome::Run),
+    (&["kyoto-link", "audit"], Outcome::Usage),
+    (&["kyoto-link", "audit", "s.json"], Outcome::Usage),
+    (&["kyoto-link", "audit", "s.json", "d"], Outcome::Audit),
+    (&["kyoto-link", "show"], Outcome::Usage),
+    (&["kyoto-link", "REHEARSE"], Outcome::Usage),
+    (&["kyoto-link", "--all"], Outcome::Usage),
+    (&["kyoto-link", ""], Outcome::Usage),
+    (&["kyoto-link"], Outcome::Usage),
+    (&["kyoto-link", "rehearse", "input"], Outcome::Usage),
+    (&["kyoto-link", "chart", "input"], Outcome::Usage),
+    (&["kyoto-link", "show", "s.json", "d"], Outcome::Usage),
+    (
+        &["kyoto-link", "show", "s.json", "d", "NZ", "JP"],
+        Outcome::Usage,
+    ),
+];
 
 #[test]
 fn command_words(rt: HostRuntime) {
-    let cases: [(&[&str], Outcome); 20] = [
-        (&["kyoto-link", "rehearse"], Outcome::Rehearse),
-        (&["kyoto-link", "chart"], Outcome::Chart),
-        (&["kyoto-link", "--help"], Outcome::Help),
-        (&["kyoto-link", "-h"], Outcome::Help),
-        (&["kyoto-link", "help"], Outcome::Help),
-        (&["kyoto-link", "run"], Outcome::Usage),
-        (&["kyoto-link", "run", "s.json", "d"], Outcome::Usage),
-        (&["kyoto-link", "run", "s.json", "d", "l"], Outcome::Run),
-        (&["kyoto-link", "audit"], Outcome::Usage),
-        (&["kyoto-link", "audit", "s.json"], Outcome::Usage),
-        (&["kyoto-link", "audit", "s.json", "d"], Outcome::Audit),
-        (&["kyoto-link", "show"], Outcome::Usage),
-        (&["kyoto-link", "REHEARSE"], Outcome::Usage),
-        (&["kyoto-link", "--all"], Outcome::Usage),
-        (&["kyoto-link", ""], Outcome::Usage),
-        (&["kyoto-link"], Outcome::Usage),
-        (&["kyoto-link", "rehearse", "input"], Outcome::Usage),
-        (&["kyoto-link", "chart", "input"], Outcome::Usage),
-        (&["kyoto-link", "show", "s.json", "d"], Outcome::Usage),
-        (
-            &["kyoto-link", "show", "s.json", "d", "NZ", "JP"],
-            Outcome::Usage,
-        ),
-    ];
-    for (words, wanted) in cases {
-        assert_eq!(rt; outcome_of(rt.alloc(), words), wanted);
+    for (words, wanted) in COMMANDS {
+        assert_same(&rt, outcome_of(rt.alloc(), words), *wanted);
     }
 }
 
 /// Asserts that the action of `run` has these words.
-fn assert_run(rt: &impl Abort, action: Action, words: [&str; 3]) {
+fn assert_run(rt: &impl Abort, action: &Action, words: [&str; 3]) {
     match action {
         Action::Run {
             scheme,
@@ -201,7 +207,7 @@ fn assert_run(rt: &impl Abort, action: Action, words: [&str; 3]) {
 }
 
 /// Asserts that the action of `show` has these words.
-fn assert_show(rt: &impl Abort, action: Action, words: [&str; 3]) {
+fn assert_show(rt: &impl Abort, action: &Action, words: [&str; 3]) {
     match action {
         Action::Show {
             scheme,
@@ -215,11 +221,26 @@ fn assert_show(rt: &impl Abort, action: Action, words: [&str; 3]) {
     }
 }
 
+/// What the words of a command line ask for.
+fn action(rt: &impl Abort, alloc: Global, words: &[&str]) -> Action {
+    parse_words(alloc, words).ok().expect(rt, "an action")
+}
+
 #[test]
 fn words_of_actions(rt: HostRuntime) {
     let words = ["s.json", "d", "lines"];
-    let run = parse_words(rt.alloc(), &["kyoto-link", "run", "s.json", "d", "lines"]);
-    assert_run(&rt, run.ok().expect(&rt, "an action"), words);
-    let show = parse_words(rt.alloc(), &["kyoto-link", "show", "s.json", "d", "lines"]);
-    assert_show(&rt, show.ok().expect(&rt, "an action"), words);
+    let run = action(
+        &rt,
+        rt.alloc(),
+        &["kyoto-link", "run", "s.json", "d", "lines"],
+    );
+    assert_run(&rt, &run, words);
+    drop(run);
+    let show = action(
+        &rt,
+        rt.alloc(),
+        &["kyoto-link", "show", "s.json", "d", "lines"],
+    );
+    assert_show(&rt, &show, words);
+    drop(show);
 }

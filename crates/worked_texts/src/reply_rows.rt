@@ -1,6 +1,7 @@
+use crate::same::assert_same;
 use wire::{Reply, ReplyCode, ReplyFault};
 
-const TEXTS: [(u16, &str); 11] = [
+const TEXTS: &[(u16, &str)] = &[
     (0, r#"{"code":0,"result":"received"}"#),
     (41, r#"{"code":41,"result":"refused"}"#),
     (42, r#"{"code":42,"result":"refused"}"#),
@@ -26,9 +27,9 @@ fn reply(number: u16) -> Option<Reply> {
 fn a_reply_is_written_and_read_back(rt: HostRuntime) {
     let alloc = rt.alloc();
     for (number, text) in TEXTS {
-        let reply = reply(number).expect(&rt, "a reply's number");
-        assert_eq!(rt; reply.write().as_slice(), text.as_bytes());
-        assert_eq!(rt; Reply::read(alloc, text.as_bytes()), Ok(reply));
+        let reply = reply(*number).expect(&rt, "a reply's number");
+        assert_same(&rt, reply.write().as_slice(), text.as_bytes());
+        assert_same(&rt, Reply::read(alloc, text.as_bytes()), Ok(reply));
     }
 }
 
@@ -36,30 +37,32 @@ fn a_reply_is_written_and_read_back(rt: HostRuntime) {
 fn blanks_and_another_order_are_read(rt: HostRuntime) {
     let alloc = rt.alloc();
     let line = " { \"result\" : \"refused\",\t\"code\":46 } ";
-    assert_eq!(rt; Reply::read(alloc, line.as_bytes()).ok(), reply(46));
+    assert_same(&rt, Reply::read(alloc, line.as_bytes()).ok(), reply(46));
 }
+
+const NO_REPLIES: &[&str] = &[
+    "",
+    "{}",
+    "[]",
+    r#"{"code":0}"#,
+    r#"{"code":0,"result":"refused"}"#,
+    r#"{"code":46,"result":"received"}"#,
+    r#"{"code":40,"result":"refused"}"#,
+    r#"{"code":51,"result":"refused"}"#,
+    r#"{"code":65582,"result":"refused"}"#,
+    r#"{"code":0.0,"result":"received"}"#,
+    r#"{"code":"46","result":"refused"}"#,
+    r#"{"code":0,"id":1,"result":"received"}"#,
+    r#"{"code":0,"result":"received""#,
+    r#"{"code":0,"result":"received"}}"#,
+];
 
 #[test]
 fn what_is_no_reply_is_told(rt: HostRuntime) {
     let alloc = rt.alloc();
-    for line in [
-        "",
-        "{}",
-        "[]",
-        r#"{"code":0}"#,
-        r#"{"code":0,"result":"refused"}"#,
-        r#"{"code":46,"result":"received"}"#,
-        r#"{"code":40,"result":"refused"}"#,
-        r#"{"code":51,"result":"refused"}"#,
-        r#"{"code":65582,"result":"refused"}"#,
-        r#"{"code":0.0,"result":"received"}"#,
-        r#"{"code":"46","result":"refused"}"#,
-        r#"{"code":0,"id":1,"result":"received"}"#,
-        r#"{"code":0,"result":"received""#,
-        r#"{"code":0,"result":"received"}}"#,
-    ] {
+    for line in NO_REPLIES {
         let read = Reply::read(alloc, line.as_bytes());
-        assert_eq!(rt; read, Err(ReplyFault::NotReply));
+        assert_same(&rt, read, Err(ReplyFault::NotReply));
     }
     assert!(rt; ReplyCode::new(40).is_none() && ReplyCode::new(51).is_none());
 }

@@ -1,6 +1,8 @@
+use crate::same::assert_same;
 use inputs::{Cause, OpFault};
 use scripts::{ScriptLine, read_script};
 use std::alloc::Global;
+use std::process::Abort;
 use std::test::Fail;
 use wire::Input;
 
@@ -37,8 +39,8 @@ fn kind_of(line: &ScriptLine) -> Kind {
 /// The first line with a fault, and the fault.
 fn fault_in(alloc: Global, text: &str) -> Result<(u64, Cause), Fail> {
     let mut reader = text.as_bytes();
-    match read_script(alloc, &mut reader) {
-        Err(OpFault::Input { line, cause }) => Ok((line, cause)),
+    match read_script(alloc, &mut reader).err() {
+        Some(OpFault::Input { line, cause }) => Ok((line, cause)),
         _ => Err("no fault".into()),
     }
 }
@@ -54,7 +56,7 @@ until JP NZ1 Completed 1
 until JP NZ1 Completed 1000000
 ";
 
-const KINDS: [Kind; 9] = [
+const KINDS: &[Kind] = &[
     Kind::Propose,
     Kind::Request,
     Kind::Open,
@@ -66,18 +68,24 @@ const KINDS: [Kind; 9] = [
     Kind::Until(1_000_000),
 ];
 
+/// Asserts that the lines are of these kinds.
+fn assert_kinds(rt: &impl Abort, lines: &[ScriptLine], kinds: &[Kind]) {
+    assert_same(rt, lines.len(), kinds.len());
+    for (line, kind) in lines.iter().zip(kinds) {
+        assert_same(rt, kind_of(line), *kind);
+    }
+}
+
 #[test]
 fn reads_each_line(rt: HostRuntime) -> Result<(), Fail> {
     let mut reader = LINES.as_bytes();
     let lines = read_script(rt.alloc(), &mut reader).map_err(|_| "no script")?;
-    assert_eq!(rt; lines.len(), KINDS.len());
-    for (line, kind) in lines.as_slice().iter().zip(&KINDS) {
-        assert_eq!(rt; kind_of(line), *kind);
-    }
+    assert_kinds(&rt, lines.as_slice(), KINDS);
+    drop(lines);
     Ok(())
 }
 
-const FAULTS: [(&str, u64, Cause); 10] = [
+const FAULTS: &[(&str, u64, Cause)] = &[
     ("", 1, Cause::Truncated),
     ("status NZ NZ1", 1, Cause::Truncated),
     ("\n", 1, Cause::Order),
@@ -92,8 +100,8 @@ const FAULTS: [(&str, u64, Cause); 10] = [
 
 #[test]
 fn finds_each_fault(rt: HostRuntime) -> Result<(), Fail> {
-    for (text, line, cause) in &FAULTS {
-        assert_eq!(rt; fault_in(rt.alloc(), text)?, (*line, *cause));
+    for (text, line, cause) in FAULTS {
+        assert_same(&rt, fault_in(rt.alloc(), text)?, (*line, *cause));
     }
     Ok(())
 }

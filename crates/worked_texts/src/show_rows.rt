@@ -1,3 +1,4 @@
+use crate::same::assert_same;
 use crate::streams::Full;
 use inputs::{Cause, OpFault, node_of, read_scheme};
 use operator::show;
@@ -40,13 +41,14 @@ fn append_two(
     wanted: Result<(), StoreFault>,
 ) {
     let records = [record(rt, alloc, ORDER), record(rt, alloc, ACCEPTED)];
-    assert_eq!(rt; store.append(&records), wanted);
+    assert_same(rt, store.append(&records), wanted);
+    drop(records);
 }
 
 /// Asserts that the node's store is shown as that text.
 fn assert_shown(rt: &impl Abort, alloc: Global, node: Node, store: &mut MemoryStore, text: &str) {
     let mut writer = Vec::new(alloc);
-    assert_eq!(rt; show(alloc, node, store, &mut writer), Ok(()));
+    assert_same(rt, show(alloc, node, store, &mut writer), Ok(()));
     assert!(rt; writer.as_slice() == text.as_bytes());
 }
 
@@ -67,7 +69,7 @@ fn tells_how_much_was_shown(rt: HostRuntime) {
     append_two(&rt, alloc, &mut store, Ok(()));
     let mut writer = Full { room: 97 };
     let shown = show(alloc, nz(&rt), &mut store, &mut writer);
-    assert_eq!(rt; shown, Err(OpFault::Write(97)));
+    assert_same(&rt, shown, Err(OpFault::Write(97)));
 }
 
 #[test]
@@ -78,7 +80,7 @@ fn shows_no_store_that_waits(rt: HostRuntime) {
     let mut writer = Vec::new(alloc);
     let fault = StoreFault::Reopen;
     let shown = show(alloc, node, &mut store, &mut writer);
-    assert_eq!(rt; shown, Err(OpFault::Store { node, fault }));
+    assert_same(&rt, shown, Err(OpFault::Store { node, fault }));
     assert!(rt; writer.is_empty());
 }
 
@@ -102,38 +104,51 @@ impl Read for Broken {
 #[test]
 fn reads_no_broken_file(rt: HostRuntime) {
     let mut reader = Broken { room: 3 };
-    assert!(rt; matches!(read_scheme(rt.alloc(), &mut reader), Err(OpFault::Read)));
+    let fault = read_scheme(rt.alloc(), &mut reader).err();
+    assert_same(&rt, fault, Some(OpFault::Read));
+}
+
+/// How many records the scheme allows.
+fn records(scheme: Scheme) -> u64 {
+    let records = scheme.records();
+    drop(scheme);
+    records
 }
 
 /// Asserts what a file with that text comes to: how many records the scheme allows, or the cause of its fault.
 fn assert_file(rt: &impl Abort, alloc: Global, text: &str, wanted: Result<u64, Cause>) {
     let mut reader = text.as_bytes();
     let read = match read_scheme(alloc, &mut reader) {
-        Ok(scheme) => Ok(scheme.records()),
+        Ok(scheme) => Ok(records(scheme)),
         Err(OpFault::Input { line: 1, cause }) => Err(cause),
         Err(_) => Err(Cause::Order),
     };
-    assert_eq!(rt; read, wanted);
+    assert_same(rt, read, wanted);
 }
+
+/// What stands after a scheme, and what a file with both comes to.
+const ENDS: &[(&str, Result<u64, Cause>)] = &[
+    ("", Ok(9)),
+    ("\n", Ok(9)),
+    ("\n\n", Ok(9)),
+    ("\n{}", Err(Cause::NotJson)),
+];
+
+const NO_SCHEMES: &[(&str, Cause)] = &[
+    ("", Cause::NotJson),
+    ("\n", Cause::NotJson),
+    ("{}\n", Cause::Shape),
+];
 
 #[test]
 fn reads_a_file(rt: HostRuntime) {
     let alloc = rt.alloc();
-    for (end, wanted) in [
-        ("", Ok(9)),
-        ("\n", Ok(9)),
-        ("\n\n", Ok(9)),
-        ("\n{}", Err(Cause::NotJson)),
-    ] {
+    for (end, wanted) in ENDS {
         let text = format!(in alloc; "{SCHEME}{end}").expect(&rt, "memory");
-        assert_file(&rt, alloc, text.as_str(), wanted);
+        assert_file(&rt, alloc, text.as_str(), *wanted);
     }
-    for (text, cause) in [
-        ("", Cause::NotJson),
-        ("\n", Cause::NotJson),
-        ("{}\n", Cause::Shape),
-    ] {
-        assert_file(&rt, alloc, text, Err(cause));
+    for (text, cause) in NO_SCHEMES {
+        assert_file(&rt, alloc, text, Err(*cause));
     }
 }
 
@@ -175,6 +190,7 @@ fn nodes_of_a_scheme(rt: HostRuntime) {
         ("NZ ", Err(fault)),
         ("", Err(fault)),
     ] {
-        assert_eq!(rt; node_of(&scheme, word), wanted);
+        assert_same(&rt, node_of(&scheme, word), wanted);
     }
+    drop(scheme);
 }

@@ -19,8 +19,7 @@ use scheme::Scheme;
 use std::alloc::Global;
 use std::io::Write;
 use stores::NodeStore;
-use tables::push_table;
-use totals::tonnes_add_up;
+use tables::{push_table, tonnes_add_up};
 use weave::{Nobody, Watch, WeaveFault, Woven, weave, weave_cores};
 
 /// What a fault of weaving is to the command.

@@ -14,8 +14,7 @@ use report_lines::push_outcome;
 use scheme::Scheme;
 use std::alloc::Global;
 use std::io::{Read, Write};
-use tables::push_table;
-use totals::tonnes_add_up;
+use tables::{push_table, tonnes_add_up};
 use units::NoMemory;
 use world::World;
 

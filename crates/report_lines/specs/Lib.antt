@@ -1,1 +1,2 @@
+pub mod NumberOfUnits
 pub mod ReportLines

@@ -13,7 +13,7 @@ use Rattle.accounts.specs.declared.unit_holding.HeldBlock.{HeldBlock}
 use Rattle.wire.specs.declared.message.Proposal.{Proposal}
 use Rattle.protocol.specs.declared.event.Outcome.{Outcome}
 use Rattle.protocol.specs.declared.event.Outcome.TheVariants.{Recorded, Repeat, Late, Refused, Done, NotPossible}
-use Rattle.totals.specs.NumberOfUnits.{due_units, held_units}
+use Rattle.report_lines.specs.NumberOfUnits.{due_units, held_units}
 use Rattle.report_lines.specs.declared.transactions.TransactionRow.{TransactionRow}
 
 -- ---- outcomes

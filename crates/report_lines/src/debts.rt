@@ -2,7 +2,7 @@
 ghost use Rattle.std.specs.Prelude.{◌≡◌, ◌+◌, ◌++◌, OnOk, map, string_bytes, sum_by};
 ghost use Rattle.std.specs.List.{flat_map};
 ghost use Rattle.status.specs.Content.{raws};
-ghost use Rattle.totals.specs.NumberOfUnits.{units_of};
+ghost use Rattle.report_lines.specs.NumberOfUnits.{units_of};
 ghost use Rattle.report_lines.specs.ReportLines.{due_line, due_lines, owed_line, owed_lines, owed_shown, shown};
 
 use status::TransactionId;

@@ -7,8 +7,8 @@ use Rattle.scheme.specs.declared.registries.Scheme.{Scheme}
 use Rattle.protocol.specs.Table.{due}
 use Rattle.protocol.specs.World.{opening, run}
 use Rattle.protocol.specs.declared.event.WorldEvent.{WorldEvent}
-use Rattle.totals.specs.NumberOfUnits.{allotted_units, due_units, held_units}
-use Rattle.totals.specs.RegistryLines.{AreLines}
+use Rattle.report_lines.specs.NumberOfUnits.{allotted_units, due_units, held_units}
+use Rattle.world.specs.RegistryLines.{AreLines}
 use Rattle.world.specs.Stocks.{AreStocks}
 use Rattle.world.specs.declared.views.Stock.{Stock}
 use Rattle.report_lines.specs.ReportLines.{greatest_shown, held_shown, shown}

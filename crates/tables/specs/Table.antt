@@ -7,7 +7,7 @@ use Rattle.protocol.specs.Claims.{live_of}
 use Rattle.protocol.specs.History.{stands, transitions_of}
 use Rattle.protocol.specs.Table.{due, transactions}
 use Rattle.protocol.specs.World.{World}
-use Rattle.totals.specs.NumberOfUnits.{allotted_units}
+use Rattle.report_lines.specs.NumberOfUnits.{allotted_units}
 use Rattle.world.specs.Stocks.{AreStocks}
 use Rattle.world.specs.declared.views.Stock.{Stock}
 use Rattle.report_lines.specs.ReportLines.{held_shown, owed_lines, owed_shown, registry_lines, transaction_line}

@@ -1,6 +1,8 @@
-//! The table of a world, as the program writes it.
+//! The table of a world, as the program writes it, and the law of its numbers.
 #![tactic(auto)]
 
 mod table;
+mod totals;
 
 pub use table::push_table;
+pub use totals::tonnes_add_up;

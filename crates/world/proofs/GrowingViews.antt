@@ -8,7 +8,7 @@ use Rattle.accounts.specs.declared.unit_holding.HeldBlock.{HeldBlock}
 use Rattle.scheme.specs.declared.members.SchemeRegistry.{SchemeRegistry}
 use Rattle.protocol.specs.World.{World}
 use Rattle.registry_core.specs.Reported.{AreHoldings}
-use Rattle.totals.specs.RegistryLines.{AreLines, registry_at}
+use Rattle.world.specs.RegistryLines.{AreLines, registry_at}
 use Rattle.world.specs.Stocks.{AreStocks}
 use Rattle.world.specs.declared.views.Stock.{Stock}
 

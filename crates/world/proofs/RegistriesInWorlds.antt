@@ -22,7 +22,7 @@ use Rattle.protocol.specs.Verdict.{history}
 use Rattle.protocol.specs.World as worlds
 use Rattle.protocol.specs.World.{World, station}
 use Rattle.registry_core.specs.Registry.{Registry as RecordedStatus}
-use Rattle.totals.specs.RegistryLines.{registry_at}
+use Rattle.world.specs.RegistryLines.{registry_at}
 
 -- a node without a station has no history
 pub live_none : (w : World) (n : Node) → station w n ≡ None → live_of w n ≡ []

@@ -1,4 +1,4 @@
-pub mod Outcomes
 pub mod Stations
 pub mod Kept
+pub mod RegistryLines
 pub mod Stocks

@@ -5,7 +5,7 @@ use Rattle.scheme.specs.declared.members.SchemeRegistry.{SchemeRegistry}
 use Rattle.protocol.specs.World.{World}
 use Rattle.registry_core.specs.Registry.{Registry}
 use Rattle.registry_core.specs.Reported.{AreHoldings}
-use Rattle.totals.specs.RegistryLines.{AreLines}
+use Rattle.world.specs.RegistryLines.{AreLines}
 use Rattle.world.specs.declared.views.Stock.{Stock}
 
 -- the holdings of a registry that the scheme has, and none of another

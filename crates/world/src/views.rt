@@ -11,7 +11,7 @@ ghost use Rattle.protocol.specs.Registries.{has_member, is_node};
 ghost use Rattle.protocol.specs.Table.{due, is_due, proposal_in, proposed, transactions};
 ghost use Rattle.protocol.specs.World.{journal, station};
 ghost use Rattle.registry_core.specs.Registry.{past};
-ghost use Rattle.totals.specs.RegistryLines.{registry_at};
+ghost use Rattle.world.specs.RegistryLines.{registry_at};
 ghost use Rattle.world.specs.Stations.{station_of};
 ghost use Rattle.world.specs.Stocks.{AreStocks, HoldsIf};
 

@@ -1,6 +1,6 @@
 use Rattle.std.proofs.Common.{◌≡◌, ◌+◌, take, sum_by}
 use Rattle.status.specs.Content.{raws}
-use Rattle.totals.specs.NumberOfUnits.{units_of}
+use Rattle.report_lines.specs.NumberOfUnits.{units_of}
 use Rattle.report_lines.specs.ReportLines.{shown}
 use Rattle.report_lines.proofs.debts.units_in.Given as goal
 

@@ -5,7 +5,7 @@ use Rattle.scheme.specs.declared.members.SchemeRegistry.{SchemeRegistry}
 use Rattle.protocol.specs.World.{World}
 use Rattle.registry_core.specs.Registry.{Registry}
 use Rattle.registry_core.specs.Reported.{AreHoldings}
-use Rattle.totals.specs.RegistryLines.{registry_at}
+use Rattle.world.specs.RegistryLines.{registry_at}
 use Rattle.world.specs.Stocks.{AreStocks}
 use Rattle.world.specs.declared.views.Stock.{Stock}
 use Rattle.world.proofs.GrowingViews.{stocks_more}

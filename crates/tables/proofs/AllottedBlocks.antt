@@ -21,7 +21,7 @@ use Rattle.protocol.proofs.CountsInLists.{count_yes, count_no, number_none}
 use Rattle.lemmas.proofs.Membership.{In}
 use Rattle.lemmas.proofs.SomePass.{list_any_not}
 use Rattle.registry_core.proofs.UnitHoldingsOfUnits.{any_found}
-use Rattle.totals.specs.NumberOfUnits.{units_of, allotted_units}
+use Rattle.report_lines.specs.NumberOfUnits.{units_of, allotted_units}
 
 -- ---- which units they have
 

@@ -6,8 +6,8 @@ ghost use Rattle.protocol.specs.Table.{due};
 ghost use Rattle.protocol.specs.World.{opening, run};
 ghost use Rattle.protocol.specs.declared.event.WorldEvent.{WorldEvent};
 ghost use Rattle.scheme.specs.declared.registries.Scheme.{Scheme};
-ghost use Rattle.totals.specs.NumberOfUnits.{allotted_units, due_units, held_units};
-ghost use Rattle.totals.specs.RegistryLines.{AreLines};
+ghost use Rattle.report_lines.specs.NumberOfUnits.{allotted_units, due_units, held_units};
+ghost use Rattle.world.specs.RegistryLines.{AreLines};
 
 /// Over every list of events, the units that the registries hold, by whatever lines write their holdings, and the
 /// units that completed transfers owe are together as many as the scheme allots, which are fewer than 2^64.

@@ -22,13 +22,13 @@ use Rattle.protocol.specs.World.{World, opening, run}
 use Rattle.protocol.specs.declared.event.WorldEvent.{WorldEvent}
 use Rattle.safety.proofs.OwnersOfUnits.UnitsInOnePlace.{causal_one_place}
 use Rattle.safety.proofs.WorldLemmas.ReachedWorlds.{reached, reached_live, reached_scheme}
-use Rattle.totals.proofs.AllottedBlocks.{allotted_once}
-use Rattle.totals.proofs.DueTransfers.{due_apart}
-use Rattle.totals.proofs.LinesOfHoldings.{lines_hold}
-use Rattle.totals.proofs.SumsOfLists.{sum_flat, sum_map, sum_same}
-use Rattle.totals.proofs.UnitsOneByOne.{same_units, units_once}
-use Rattle.totals.specs.NumberOfUnits.{allotted_units, due_units, held_units, units_of}
-use Rattle.totals.specs.RegistryLines.{AreLines, registry_at}
+use Rattle.tables.proofs.AllottedBlocks.{allotted_once}
+use Rattle.tables.proofs.DueTransfers.{due_apart}
+use Rattle.tables.proofs.LinesOfHoldings.{lines_hold}
+use Rattle.tables.proofs.SumsOfLists.{sum_flat, sum_map, sum_same}
+use Rattle.tables.proofs.UnitsOneByOne.{same_units, units_once}
+use Rattle.report_lines.specs.NumberOfUnits.{allotted_units, due_units, held_units, units_of}
+use Rattle.world.specs.RegistryLines.{AreLines, registry_at}
 
 -- ---- the blocks of lines and of transfers
 

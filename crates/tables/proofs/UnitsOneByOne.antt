@@ -15,7 +15,7 @@ use Rattle.protocol.proofs.UnitsOfBlocks.{unit_of_same, same_unit_refl, In_up, b
 use Rattle.lemmas.proofs.Membership.{In, In_map}
 use Rattle.lemmas.proofs.OneValue.{clash}
 use Rattle.lemmas.proofs.SomePass.{list_any_none, list_any_not, list_any_some}
-use Rattle.totals.specs.NumberOfUnits.{units_of}
+use Rattle.report_lines.specs.NumberOfUnits.{units_of}
 
 -- how often a unit is there
 abbrev is_at : Serial → Piece → Bool

@@ -27,26 +27,64 @@ pub(crate) enum Numbered {
     Crash,
 }
 
+/// All first words.
+const VERBS: &[Verb] = &[
+    Verb::Propose,
+    Verb::Request,
+    Verb::Numbered(Numbered::Open),
+    Verb::Numbered(Numbered::Close),
+    Verb::Numbered(Numbered::Ack),
+    Verb::CleanUp,
+    Verb::Eligible,
+    Verb::Numbered(Numbered::Commit),
+    Verb::Numbered(Numbered::Post),
+    Verb::Deliver,
+    Verb::Numbered(Numbered::Crash),
+    Verb::Restart,
+];
+
 impl Verb {
     /// The verb that a word writes.
     pub(crate) fn read(word: &str) -> Option<Verb>
         ensures some { IfSome result (λ v. word.now ≡ verb_text v) }
         ensures none { IfNone result ((v : Verb) → word.now ≡ verb_text v → ⊥) }
     {
-        match word.as_bytes() {
-            b"propose" => Some(Verb::Propose),
-            b"request" => Some(Verb::Request),
-            b"open" => Some(Verb::Numbered(Numbered::Open)),
-            b"close" => Some(Verb::Numbered(Numbered::Close)),
-            b"ack" => Some(Verb::Numbered(Numbered::Ack)),
-            b"clean-up" => Some(Verb::CleanUp),
-            b"eligible" => Some(Verb::Eligible),
-            b"commit" => Some(Verb::Numbered(Numbered::Commit)),
-            b"post" => Some(Verb::Numbered(Numbered::Post)),
-            b"deliver" => Some(Verb::Deliver),
-            b"crash" => Some(Verb::Numbered(Numbered::Crash)),
-            b"restart" => Some(Verb::Restart),
-            _ => None,
+        for verb in VERBS {
+            if word == verb.name() {
+                return Some(*verb);
+            }
+        }
+        None
+    }
+
+    fn name(self) -> &'static str
+        ensures { result.now ≡ verb_text self }
+    {
+        match self {
+            Verb::Propose => "propose",
+            Verb::Request => "request",
+            Verb::Numbered(verb) => verb.name(),
+            Verb::CleanUp => "clean-up",
+            Verb::Eligible => "eligible",
+            Verb::Deliver => "deliver",
+            Verb::Restart => "restart",
+        }
+    }
+}
+
+impl Numbered {
+    ghost use Rattle.event_lines.specs.Verbs.{numbered_text};
+
+    fn name(self) -> &'static str
+        ensures { result.now ≡ numbered_text self }
+    {
+        match self {
+            Numbered::Open => "open",
+            Numbered::Close => "close",
+            Numbered::Ack => "ack",
+            Numbered::Commit => "commit",
+            Numbered::Post => "post",
+            Numbered::Crash => "crash",
         }
     }
 }

@@ -18,6 +18,17 @@ pub enum Status {
     Completed,
 }
 
+/// All statuses.
+const STATUSES: &[Status] = &[
+    Status::Proposed,
+    Status::Checked,
+    Status::Accepted,
+    Status::Rejected,
+    Status::Terminated,
+    Status::Cancelled,
+    Status::Completed,
+];
+
 impl Status {
     ghost use Rattle.std.specs.Prelude.{IfSome, IfNone};
     ghost use Rattle.status.specs.Status.{status_text};
@@ -28,16 +39,12 @@ impl Status {
         ensures some { IfSome result (λ s. text.now ≡ status_text s) }
         ensures none { IfNone result ((s : Status) → text.now ≡ status_text s → ⊥) }
     {
-        match text.as_bytes() {
-            b"Proposed" => Some(Status::Proposed),
-            b"Checked" => Some(Status::Checked),
-            b"Accepted" => Some(Status::Accepted),
-            b"Rejected" => Some(Status::Rejected),
-            b"Terminated" => Some(Status::Terminated),
-            b"Cancelled" => Some(Status::Cancelled),
-            b"Completed" => Some(Status::Completed),
-            _ => None,
+        for status in STATUSES {
+            if text == status.name() {
+                return Some(*status);
+            }
         }
+        None
     }
 
     /// Its name, as in messages and tables.

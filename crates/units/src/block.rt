@@ -31,6 +31,16 @@ pub enum Kind {
     Lcer,
 }
 
+/// All kinds.
+const KINDS: &[Kind] = &[
+    Kind::Aau,
+    Kind::Rmu,
+    Kind::Eru,
+    Kind::Cer,
+    Kind::Tcer,
+    Kind::Lcer,
+];
+
 /// One unit, a tonne: its origin, its commitment period and its number.
 #[derive(Clone, Copy, Debug, PartialEq, Eq, PartialOrd, Ord)]
 pub struct Unit {
@@ -112,14 +122,24 @@ impl Kind {
         ensures some { IfSome result (λ k. text.now ≡ kind_text k) }
         ensures none { IfNone result ((k : Kind) → text.now ≡ kind_text k → ⊥) }
     {
-        match text.as_bytes() {
-            b"AAU" => Some(Kind::Aau),
-            b"RMU" => Some(Kind::Rmu),
-            b"ERU" => Some(Kind::Eru),
-            b"CER" => Some(Kind::Cer),
-            b"tCER" => Some(Kind::Tcer),
-            b"lCER" => Some(Kind::Lcer),
-            _ => None,
+        for kind in KINDS {
+            if text == kind.name() {
+                return Some(*kind);
+            }
+        }
+        None
+    }
+
+    fn name(self) -> &'static str
+        ensures { result.now ≡ kind_text self }
+    {
+        match self {
+            Kind::Aau => "AAU",
+            Kind::Rmu => "RMU",
+            Kind::Eru => "ERU",
+            Kind::Cer => "CER",
+            Kind::Tcer => "tCER",
+            Kind::Lcer => "lCER",
         }
     }
 }
@@ -131,14 +151,8 @@ impl fmt::Display for Kind {
     ghost output = { λ k. Some (kind_text k) };
 
     fn fmt<W: fmt::Write>(&self, f: &mut fmt::Formatter<W>) -> fmt::Result {
-        match self {
-            Kind::Aau => write!(f, "AAU"),
-            Kind::Rmu => write!(f, "RMU"),
-            Kind::Eru => write!(f, "ERU"),
-            Kind::Cer => write!(f, "CER"),
-            Kind::Tcer => write!(f, "tCER"),
-            Kind::Lcer => write!(f, "lCER"),
-        }
+        let name = self.name();
+        write!(f, "{name}")
     }
 }
 

@@ -124,7 +124,7 @@ fn drive_log(
     inputs: &[Input],
     count: u32,
 ) -> Result<Taken, Fault> {
-    if kind != Inputs::Log {
+    if !matches!(kind, Inputs::Log) {
         propose(clock, alloc, log, codes)?;
     }
     drive(clock, log, inputs, count)

@@ -15,7 +15,7 @@ const RECORD: &str =
     r#"{"account":1,"input":"propose","to_account":7,"to_registry":"JP","units":["NZ:1:1-100:AAU"]}"#;
 
 /// How many records are appended, how many at once, and how often they are loaded.
-#[derive(Clone, Copy, Debug)]
+#[derive(Clone, Copy)]
 pub struct Batches {
     pub records: u32,
     pub size: u32,

@@ -44,7 +44,7 @@ pub fn scheme_text(alloc: Global, codes: &[Code]) -> Result<String, Fault> {
 }
 
 /// The messages that the log sends in a round, in their order.
-#[derive(Clone, Copy, Debug)]
+#[derive(Clone, Copy)]
 enum Sent {
     Checked,
     Accepted,
@@ -52,7 +52,7 @@ enum Sent {
 }
 
 /// One input of a round.
-#[derive(Clone, Copy, Debug)]
+#[derive(Clone, Copy)]
 enum Step {
     Proposal,
     Accepted,
@@ -73,7 +73,7 @@ const ROUND: [Step; 8] = [
 ];
 
 /// One round, by how many are before it: a transfer from a registry to the next one.
-#[derive(Clone, Copy, Debug)]
+#[derive(Clone, Copy)]
 struct Round {
     initiator: Code,
     acquirer: Code,

@@ -27,7 +27,7 @@ const MESSAGES_OF_A_ROUND: u64 = 3;
 pub const MOMENT: u64 = 1_335_830_400;
 
 /// The messages that a round sends, in their order.
-#[derive(Clone, Copy, Debug)]
+#[derive(Clone, Copy)]
 enum Sent {
     Proposal,
     Completed,
@@ -35,7 +35,7 @@ enum Sent {
 }
 
 /// One input of a round.
-#[derive(Clone, Copy, Debug)]
+#[derive(Clone, Copy)]
 enum Step {
     Order,
     Accepted,
@@ -58,7 +58,7 @@ const ROUND: [Step; 9] = [
 ];
 
 /// The registry that is given inputs, and the other one.
-#[derive(Clone, Copy, Debug)]
+#[derive(Clone, Copy)]
 pub struct Nodes {
     pub own: Code,
     pub other: Code,
@@ -75,7 +75,7 @@ impl Nodes {
 }
 
 /// One round, by how many are before it.
-#[derive(Clone, Copy, Debug)]
+#[derive(Clone, Copy)]
 struct Round {
     nodes: Nodes,
     place: u32,

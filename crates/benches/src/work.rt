@@ -23,7 +23,7 @@ const MOST_KEYS: u32 = 1_000_000;
 const MOST_EXCHANGES: u32 = 1_000_000;
 
 /// What inputs or calls are of, at a core or one of its parts.
-#[derive(Clone, Copy, Debug, PartialEq, Eq)]
+#[derive(Clone, Copy)]
 pub enum Inputs {
     /// Whole transfers, at a registry in both roles.
     Transfers,
@@ -43,20 +43,27 @@ pub enum Inputs {
     Scheme,
 }
 
+/// The word for each kind of inputs.
+const INPUT_WORDS: &[(&str, Inputs)] = &[
+    ("transfers", Inputs::Transfers),
+    ("accounts", Inputs::Accounts),
+    ("log", Inputs::Log),
+    ("clean-ups", Inputs::CleanUps),
+    ("eligibility", Inputs::Eligibility),
+    ("map", Inputs::Map),
+    ("outbox", Inputs::Outbox),
+    ("scheme", Inputs::Scheme),
+];
+
 impl Inputs {
     /// The inputs that the word names.
     fn read(word: &str) -> Option<Inputs> {
-        match word {
-            "transfers" => Some(Inputs::Transfers),
-            "accounts" => Some(Inputs::Accounts),
-            "log" => Some(Inputs::Log),
-            "clean-ups" => Some(Inputs::CleanUps),
-            "eligibility" => Some(Inputs::Eligibility),
-            "map" => Some(Inputs::Map),
-            "outbox" => Some(Inputs::Outbox),
-            "scheme" => Some(Inputs::Scheme),
-            _ => None,
+        for (name, inputs) in INPUT_WORDS {
+            if word == *name {
+                return Some(*inputs);
+            }
         }
+        None
     }
 }
 
@@ -105,16 +112,20 @@ fn batches(records: &str, size: &str, loads: &str) -> Option<Batches> {
 
 /// A work that is asked for by one number.
 fn counted(work: &str, count: &str) -> Option<Work<'static>> {
-    match work {
-        "memory" => Some(Work::Memory(number(count, 0, MOST_RECORDS)?)),
-        "alone" => Some(Work::Alone(number(count, 0, MOST_RECORDS)?)),
-        "sends" => Some(Work::Sends(number(count, 0, MOST_KEYS)?)),
-        "exchanges" => Some(Work::Exchanges(number(count, 0, MOST_EXCHANGES)?)),
-        _ => {
-            let inputs = Inputs::read(work)?;
-            Some(Work::Inputs(inputs, number(count, LEAST_INPUTS, MOST_INPUTS)?))
-        }
+    if work == "memory" {
+        return Some(Work::Memory(number(count, 0, MOST_RECORDS)?));
     }
+    if work == "alone" {
+        return Some(Work::Alone(number(count, 0, MOST_RECORDS)?));
+    }
+    if work == "sends" {
+        return Some(Work::Sends(number(count, 0, MOST_KEYS)?));
+    }
+    if work == "exchanges" {
+        return Some(Work::Exchanges(number(count, 0, MOST_EXCHANGES)?));
+    }
+    let inputs = Inputs::read(work)?;
+    Some(Work::Inputs(inputs, number(count, LEAST_INPUTS, MOST_INPUTS)?))
 }
 
 impl Work<'_> {
@@ -147,7 +158,7 @@ impl Work<'_> {
 }
 
 /// How long some inputs or calls took, and how many of them were recorded, or found something.
-#[derive(Clone, Copy, Debug)]
+#[derive(Clone, Copy)]
 pub struct Taken {
     pub time: Duration,
     pub count: u32,

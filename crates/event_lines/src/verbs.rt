@@ -4,7 +4,7 @@ ghost use Rattle.event_lines.specs.Verbs.{verb_text};
 ghost use Rattle.event_lines.specs.declared.verbs.Verb.{Verb};
 
 /// The first word of a line.
-#[derive(Clone, Copy, Debug, PartialEq, Eq)]
+#[derive(Clone, Copy)]
 pub(crate) enum Verb {
     Propose,
     Request,
@@ -17,7 +17,7 @@ pub(crate) enum Verb {
 }
 
 /// A first word that a node and a number come after.
-#[derive(Clone, Copy, Debug, PartialEq, Eq)]
+#[derive(Clone, Copy)]
 pub(crate) enum Numbered {
     Open,
     Close,

@@ -9,7 +9,7 @@ use std::io::{Error, ErrorKind, Read, Write};
 use std::marker::Model;
 
 /// Why a call moved nothing.
-#[derive(Clone, Copy, Debug, PartialEq, Eq)]
+#[derive(Clone, Copy)]
 pub(crate) enum CallFault {
     /// It was interrupted, and may be made again.
     Interrupted,

@@ -15,7 +15,7 @@ use stream_lines::{LineFault, Splitter};
 pub(crate) const PIECE: usize = 4_096;
 
 /// What a piece came to.
-#[derive(Clone, Copy, Debug, PartialEq, Eq)]
+#[derive(Clone, Copy)]
 pub(crate) enum PieceEnd {
     /// Each line that it ended was replied to. The number says how many there were.
     Replied(usize),

@@ -9,7 +9,7 @@ use std::io::Read;
 use units::limits::LONGEST_LINE;
 
 /// Why the reading of a line ended.
-#[derive(Clone, Copy, Debug, PartialEq, Eq)]
+#[derive(Clone, Copy)]
 pub(crate) enum LineEnd {
     /// Its newline was read.
     Newline,

@@ -15,7 +15,7 @@ use units::refusal_code::NODE_STOPPED;
 use wire::Reply;
 
 /// How the replies to some lines ended.
-#[derive(Clone, Copy, Debug, PartialEq, Eq)]
+#[derive(Clone, Copy)]
 pub(crate) enum LinesEnd {
     /// Each line was replied to.
     AllReplied,

@@ -3,7 +3,6 @@ ghost use Rattle.std.specs.Prelude.{◌≡◌, ◌↔◌, ℕ, List, [], ◌++�
 ghost use Rattle.stream_lines.specs.Lines.{IsWithin, Splits, IsOver};
 ghost use Rattle.stream_lines.specs.Splitting.{IsCut, Feeds};
 
-use bytes::BytesMut;
 use std::alloc::{AllocError, Global};
 use std::marker::Model;
 use std::mem;
@@ -87,7 +86,7 @@ fn cut_lines(alloc: Global, limit: usize, held: &[u8], piece: &[u8]) -> Result<C
 #[derive(Debug, Drop)]
 pub struct Splitter {
     limit: usize,
-    rest: BytesMut,
+    rest: Vec<u8>,
     closed: bool,
 }
 
@@ -110,7 +109,7 @@ impl Splitter {
     {
         Splitter {
             limit,
-            rest: BytesMut::new(alloc),
+            rest: Vec::new(alloc),
             closed: false,
         }
     }
@@ -131,7 +130,7 @@ impl Splitter {
         let alloc: Global = *self.rest.allocator();
         match cut_lines(alloc, self.limit, self.rest.as_slice(), piece) {
             Ok(Cut::Whole(lines, rest)) => {
-                self.rest = BytesMut::from_vec(rest);
+                self.rest = rest;
                 Ok(lines)
             }
             Ok(Cut::Over(lines)) => {

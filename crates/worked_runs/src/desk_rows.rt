@@ -1,65 +1,241 @@
-use crate::registries::registry;
-use crate::same::assert_same;
-use crate::stations::{COMPLETED, NodeDesk, StillClock, UNKNOWN, desk_of, refused};
-use answers::{Answer, DeskAnswerer};
-use desk::Seat;
-use exchanges::{Counted, SessionEnd, serve_session};
+use crate::nz_desk::{
+    NzDesk, NzState, TEN, TEN_MORE, assert_taken, commit, confirm, next_key, nz, nz_desk, nz_state,
+    query, recorded, take_all, take_at, turn,
+};
+use crate::same::{assert_same, assert_same_in};
+use desk::{Life, Seat, Taken, Told, Unsettled, settle};
+use protocol::Stepped;
+use status::Status;
 use std::alloc::Global;
 use std::process::Abort;
 use std::sync::Wait;
-use units::refusal_code::{NODE_STOPPED, NOT_A_MESSAGE};
+use stores::{MemoryStore, NodeStore};
+use units::Refusal;
+use units::refusal_code::NODE_STOPPED;
 
-/// Asserts that these answers refuse by these codes, one after the other.
-fn assert_refused(rt: &impl Abort, answers: &[Answer], codes: &[u16]) {
-    assert_same(rt, answers.len(), codes.len());
-    for (answer, code) in answers.iter().zip(codes) {
-        assert_same(rt, answer.reply(), refused(rt, *code));
+const CANCELLED: &str =
+    r#"{"input":"received","message":{"call":"AcceptNotification","codes":[],"from":"ITL","status":"Cancelled","to":"NZ","transaction":"JP1"},"moment":1335830400}"#;
+
+const CHECKED: &str =
+    r#"{"input":"received","message":{"account":7,"call":"AcceptProposal","from":"ITL","status":"Checked","to":"NZ","to_account":1,"to_registry":"NZ","transaction":"JP1","units":["JP:1:1-1:AAU"]},"moment":1335830400}"#;
+
+/// Asserts the keys of the messages that are next for the log, from each of the keys 0 to 2 on.
+fn assert_next(rt: &(impl Wait + Abort), desk: &NzDesk, expected: [Option<usize>; 3]) {
+    for from in 0..3 {
+        assert_same_in(rt, next_key(rt, desk, from), expected[from], from);
     }
 }
 
-/// How a session at the desk over these bytes ends, whose answers have to refuse by these codes.
-fn served(
-    rt: &(impl Wait + Abort),
+/// A desk that has taken a proposal from each of two seats.
+fn desk_of_two(rt: &(impl Wait + Abort), alloc: Global, a: &mut Seat, b: &mut Seat) -> NzDesk {
+    let desk = nz_desk(rt, alloc);
+    take_all(rt, alloc, &desk, a, &[(TEN, recorded(0))]);
+    take_all(rt, alloc, &desk, b, &[(TEN_MORE, recorded(1))]);
+    desk
+}
+
+#[test]
+fn messages_leave_after_their_commit(rt: HostRuntime) {
+    let alloc = rt.alloc();
+    let (mut a, mut b) = (Seat::new(alloc), Seat::new(alloc));
+    let desk = desk_of_two(&rt, alloc, &mut a, &mut b);
+    assert_next(&rt, &desk, [None, None, None]);
+    assert_same(&rt, commit(&rt, alloc, &desk), 2);
+    assert_next(&rt, &desk, [Some(0), Some(1), None]);
+    drop((desk, a, b));
+}
+
+/// Asserts that NZ1 stands proposed at the desk, of two records, and confirms that.
+fn assert_proposed(rt: &(impl Wait + Abort), desk: &NzDesk, seat: &mut Seat) {
+    let taken = query(rt, desk, seat);
+    let proposed = Told::Status(Some(Status::Proposed));
+    assert_same(rt, (taken.told(), taken.length()), (proposed, 2));
+    assert!(rt; confirm(rt, desk, seat, taken));
+}
+
+#[test]
+fn a_query_is_confirmed(rt: HostRuntime) {
+    let alloc = rt.alloc();
+    let (mut a, mut b) = (Seat::new(alloc), Seat::new(alloc));
+    let desk = desk_of_two(&rt, alloc, &mut a, &mut b);
+    assert_same(&rt, commit(&rt, alloc, &desk), 2);
+    assert_proposed(&rt, &desk, &mut a);
+    assert_same(&rt, a.confirmed(), 2);
+    drop((desk, a, b));
+}
+
+/// What the first seat is told after that, up to the stop.
+const TOLD: &[(&str, Told)] = &[
+    (CANCELLED, Told::Step(Stepped::Recorded(2))),
+    (CANCELLED, Told::Step(Stepped::Repeat)),
+    (CHECKED, Told::Step(Stepped::Late)),
+];
+
+/// Stops the desk, and asserts that it takes nothing and sends nothing then.
+fn assert_stops(rt: &(impl Wait + Abort), alloc: Global, desk: &NzDesk, seat: &mut Seat) {
+    assert!(rt; desk.is_running(rt));
+    desk.stop(rt);
+    assert!(rt; !desk.is_running(rt));
+    let stopped = Told::Refused(Refusal { code: NODE_STOPPED });
+    take_all(rt, alloc, desk, seat, &[(TEN, stopped)]);
+    assert_next(rt, desk, [None, None, None]);
+}
+
+/// Asserts that the state settles with all seats, and not without the second one, which was told of record 1.
+fn assert_settles(rt: &impl Abort, state: &NzState, seats: &[Seat; 2]) {
+    let life = Life {
+        opening: 0,
+        records: 3,
+        committed: 2,
+    };
+    assert_same(rt, settle(state, seats), Ok(life));
+    assert_same(rt, settle(state, &seats[..1]), Err(Unsettled::Missing(1)));
+}
+
+#[test]
+fn a_stopped_desk_settles(rt: HostRuntime) {
+    let alloc = rt.alloc();
+    let (mut a, mut b) = (Seat::new(alloc), Seat::new(alloc));
+    let desk = desk_of_two(&rt, alloc, &mut a, &mut b);
+    assert_same(&rt, commit(&rt, alloc, &desk), 2);
+    take_all(&rt, alloc, &desk, &mut a, TOLD);
+    assert_stops(&rt, alloc, &desk, &mut a);
+    let (state, seats) = (desk.end(), [a, b]);
+    assert_settles(&rt, &state, &seats);
+    drop((state, seats));
+}
+
+/// Has the desk record that many inputs, by which an account is closed and opened in turn.
+fn record_many(rt: &(impl Wait + Abort), alloc: Global, desk: &NzDesk, records: usize) {
+    let mut seat = Seat::new(alloc);
+    for place in 0..records {
+        drop(desk.take(rt, &mut seat, turn(rt, alloc, place)));
+    }
+    drop(seat);
+}
+
+#[test]
+fn a_desk_commits_64_at_most(rt: HostRuntime) {
+    let alloc = rt.alloc();
+    let desk = nz_desk(&rt, alloc);
+    record_many(&rt, alloc, &desk, 65);
+    let mut store = MemoryStore::new(alloc, nz(&rt));
+    for records in [64, 1, 0] {
+        assert_same(&rt, desk.commit_next(&rt, &mut store), Ok(records));
+    }
+    drop(desk);
+}
+
+/// A state with two records.
+fn state_of_two(rt: &impl Abort, alloc: Global) -> NzState {
+    let mut state = nz_state(rt, alloc);
+    assert_taken(rt, alloc, &mut state, TEN, recorded(0));
+    assert_taken(rt, alloc, &mut state, TEN_MORE, recorded(1));
+    state
+}
+
+/// How many records the state would commit next, where a batch has at most `max`.
+fn next_batch(rt: &impl Abort, state: &NzState, max: usize) -> usize {
+    let batch = state.batch(max).expect(rt, "memory");
+    let records = batch.len();
+    drop(batch);
+    records
+}
+
+/// Has the state commit its next batch, and gives how many records it had.
+fn commit_batch(
+    rt: &impl Abort,
+    state: &mut NzState,
+    store: &mut MemoryStore,
+    max: usize,
+) -> usize {
+    let batch = next_batch(rt, state, max);
+    let committed = state.commit(store, max).expect(rt, "no fault of the store");
+    assert_same(rt, committed, batch);
+    committed
+}
+
+/// How many records the store has.
+fn stored(rt: &impl Abort, store: &mut MemoryStore) -> usize {
+    let loaded = store.load().expect(rt, "memory");
+    let records = loaded.len();
+    drop(loaded);
+    records
+}
+
+/// Asserts how many records the state has committed, and how many it would next.
+fn assert_committed(rt: &impl Abort, state: &NzState, committed: usize, next: usize) {
+    assert_same(rt, state.committed().len(), committed);
+    assert_same(rt, next_batch(rt, state, 64), next);
+}
+
+/// Has the state commit at most `max` records, and asserts how many the store has then.
+fn commit_up_to(
+    rt: &impl Abort,
+    state: &mut NzState,
+    store: &mut MemoryStore,
+    max: usize,
+    records: usize,
+) {
+    let before = stored(rt, store);
+    let committed = commit_batch(rt, state, store, max);
+    assert_same(rt, before.checked_add(committed), Some(records));
+    assert_same(rt, stored(rt, store), records);
+}
+
+#[test]
+fn a_state_commits_in_batches(rt: HostRuntime) {
+    let alloc = rt.alloc();
+    let mut state = state_of_two(&rt, alloc);
+    let mut store = MemoryStore::new(alloc, nz(&rt));
+    assert_committed(&rt, &state, 0, 2);
+    for (max, records) in [(1, 1), (64, 2), (64, 2)] {
+        commit_up_to(&rt, &mut state, &mut store, max, records);
+        assert_committed(&rt, &state, records, 2_usize.saturating_sub(records));
+    }
+    drop(state);
+}
+
+/// How many records the journal had when that was taken of which there is a receipt.
+fn received(rt: &impl Abort, state: &NzState, taken: Taken) -> usize {
+    let receipt = state.receipt(taken).ok().expect(rt, "a receipt");
+    let length = receipt.taken().length();
+    drop(receipt);
+    length
+}
+
+/// What is given back, of which there is no receipt yet.
+fn not_received(rt: &impl Abort, state: &NzState, taken: Taken) -> Taken {
+    state.receipt(taken).err().expect(rt, "what was taken")
+}
+
+/// Has the state commit one record.
+fn commit_one(rt: &impl Abort, alloc: Global, state: &mut NzState) {
+    let mut store = MemoryStore::new(alloc, nz(rt));
+    assert_same(rt, commit_batch(rt, state, &mut store, 1), 1);
+}
+
+/// Asserts that of the first there is a receipt once one record is committed, and of the second only after another.
+fn assert_receipts(
+    rt: &impl Abort,
     alloc: Global,
-    desk: &NodeDesk,
-    bytes: &[u8],
-    codes: &[u16],
-) -> SessionEnd {
-    let seat = Seat::new(alloc);
-    let mut answerer = DeskAnswerer::new(rt, alloc, desk, seat, &StillClock);
-    let mut reader = Counted::new(bytes);
-    let mut writer = Counted::new(Vec::new(alloc));
-    let end = serve_session(alloc, &mut reader, &mut writer, &mut answerer);
-    assert_refused(rt, answerer.answers(), codes);
-    drop(answerer);
-    end
+    state: &mut NzState,
+    first: Taken,
+    second: Taken,
+) {
+    commit_one(rt, alloc, state);
+    assert_same(rt, received(rt, state, first), 1);
+    let second = not_received(rt, state, second);
+    commit_one(rt, alloc, state);
+    assert_same(rt, received(rt, state, second), 2);
 }
 
-/// An empty line, a message about a transfer that the node doesn't know, and a line that is cut.
 #[test]
-fn node_session(rt: HostRuntime) {
+fn what_is_committed_has_a_receipt(rt: HostRuntime) {
     let alloc = rt.alloc();
-    let desk = desk_of(&rt, alloc, registry(&rt, "NZ"));
-    let bytes = format!(in alloc; "\n{COMPLETED}\n{{\"ca").expect(&rt, "memory");
-    let end = served(
-        &rt,
-        alloc,
-        &desk,
-        bytes.as_bytes(),
-        &[NOT_A_MESSAGE, UNKNOWN],
-    );
-    assert_same(&rt, end, SessionEnd::Truncated);
-    drop(desk);
-}
-
-/// Of two lines that write a message the first one is refused, and ends the session.
-#[test]
-fn session_of_a_stopped_node(rt: HostRuntime) {
-    let alloc = rt.alloc();
-    let desk = desk_of(&rt, alloc, registry(&rt, "NZ"));
-    desk.stop(&rt);
-    let bytes = format!(in alloc; "{COMPLETED}\n{COMPLETED}\n").expect(&rt, "memory");
-    let end = served(&rt, alloc, &desk, bytes.as_bytes(), &[NODE_STOPPED]);
-    assert_same(&rt, end, SessionEnd::Stopped);
-    drop(desk);
+    let mut state = nz_state(&rt, alloc);
+    let first = take_at(&rt, alloc, &mut state, TEN);
+    let second = take_at(&rt, alloc, &mut state, TEN_MORE);
+    assert_receipts(&rt, alloc, &mut state, first, second);
+    drop(state);
 }

@@ -1,11 +1,15 @@
-//! Worked rows of what nodes do together: exchanges and a node's sessions, over bytes in memory that end, fail or are
-//! interrupted anywhere, at a desk alone, and with the threads of nodes over sockets of this machine; `audit` and
-//! `weave`, over stores whose records one run leads to, forged ones and stores with a fault; and `runs`, scripts over
-//! nodes with threads, sockets of this machine and stores in memory.
+//! Worked rows of what nodes do: a node's desk, with several threads at it and with stores that fail; exchanges and a
+//! node's sessions, over bytes in memory that end, fail or are interrupted anywhere, at a desk alone, and with the threads
+//! of nodes over sockets of this machine; `audit` and `weave`, over stores whose records one run leads to, forged ones and
+//! stores with a fault; and `runs`, scripts over nodes with threads, sockets of this machine and stores in memory.
 #![tactic(auto)]
 
 #[cfg(test)]
+mod answerer_rows;
+#[cfg(test)]
 mod audit_rows;
+#[cfg(test)]
+mod counted_pages;
 #[cfg(test)]
 mod desk_rows;
 #[cfg(test)]
@@ -14,6 +18,8 @@ mod exchange_rows;
 mod failed_store;
 #[cfg(test)]
 mod failing_accepts;
+#[cfg(test)]
+mod fault_rows;
 #[cfg(test)]
 mod forged_rows;
 #[cfg(test)]
@@ -25,6 +31,8 @@ mod nodes;
 #[cfg(test)]
 mod not_possible;
 #[cfg(test)]
+mod nz_desk;
+#[cfg(test)]
 mod one_node;
 #[cfg(test)]
 mod registries;
@@ -33,9 +41,13 @@ mod same;
 #[cfg(test)]
 mod session_rows;
 #[cfg(test)]
+mod settle_rows;
+#[cfg(test)]
 mod stations;
 #[cfg(test)]
 mod streams;
+#[cfg(test)]
+mod thread_rows;
 #[cfg(test)]
 mod threaded_run;
 #[cfg(test)]

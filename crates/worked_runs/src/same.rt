@@ -7,3 +7,13 @@ use std::process::Abort;
 pub fn assert_same<T: PartialEq + Debug + Drop>(rt: &impl Abort, left: T, right: T) {
     assert_eq!(rt; left, right);
 }
+
+/// The same, of one row among others. Prints the row too.
+pub fn assert_same_in<T: PartialEq + Debug + Drop>(
+    rt: &impl Abort,
+    left: T,
+    right: T,
+    row: impl Debug + Drop,
+) {
+    assert_eq!(rt; left, right, "{row:?}");
+}

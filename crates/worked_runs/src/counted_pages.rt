@@ -1,4 +1,4 @@
-use crate::nodes::{NzState, nz, nz_core, nz_state, turn};
+use crate::nz_desk::{NzState, nz, nz_core, nz_state, turn};
 use crate::same::{assert_same, assert_same_in};
 use desk::State;
 use std::alloc::Global;

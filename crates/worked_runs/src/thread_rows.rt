@@ -1,4 +1,4 @@
-use crate::nodes::{NzState, TEN, TEN_MORE, input, nz, nz_state, settled};
+use crate::nz_desk::{NzState, TEN, TEN_MORE, input, nz, nz_state, settled};
 use crate::same::assert_same;
 use desk::{Bell, Desk, Life, RoomBell, Seat, Taken, Told};
 use protocol::Stepped;

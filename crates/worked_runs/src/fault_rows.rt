@@ -1,4 +1,4 @@
-use crate::nodes::{
+use crate::nz_desk::{
     CLOSE, NzDesk, NzState, OPEN, TEN, TEN_MORE, assert_found, assert_taken, confirm, input,
     next_key, nz, nz_core, nz_desk, recorded, take, take_all,
 };

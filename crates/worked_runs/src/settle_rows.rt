@@ -1,4 +1,4 @@
-use crate::nodes::{
+use crate::nz_desk::{
     CLOSE, NzDesk, TEN, TEN_MORE, assert_found, assert_taken, commit, confirm, nz_desk, nz_state,
     query, recorded, settled, take, take_all,
 };

@@ -1,3 +1,4 @@
+pub mod Outcomes
 pub mod Stations
 pub mod Kept
 pub mod RegistryLines

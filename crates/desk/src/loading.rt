@@ -15,7 +15,7 @@ use wire::Input;
 const PAGE: u64 = 256;
 
 /// A page that was read.
-#[derive(Clone, Copy, Debug, PartialEq, Eq)]
+#[derive(Clone, Copy, PartialEq)]
 pub(crate) enum Page {
     /// It has `PAGE` records, so that more may come after it.
     Full,
@@ -63,11 +63,16 @@ fn read_on<C: NodeCore, S: NodeStore>(core: &mut C, store: &mut S) -> Result<Pag
     match resume(core, inputs) {
         Ok(()) => {
             if inputs.len() < PAGE as usize {
+                drop(page);
                 return Ok(Page::Last);
             }
+            drop(page);
             Ok(Page::Full)
         }
-        Err(fault) => Err(damage_of(fault)),
+        Err(fault) => {
+            drop(page);
+            Err(damage_of(fault))
+        }
     }
 }
 

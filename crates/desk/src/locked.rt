@@ -68,6 +68,7 @@ impl<C: NodeCore> State<C> {
                 if self.is_running() {
                     Progress::Awaited(back)
                 } else {
+                    drop(back);
                     Progress::Stopped
                 }
             }

@@ -3,7 +3,7 @@
 use crate::state::{Receipt, Taken};
 
 /// How far the records are committed that the journal had when something was taken.
-#[derive(Debug, Drop)]
+#[derive(Drop)]
 pub(crate) enum Progress {
     /// All are.
     Committed(Receipt),

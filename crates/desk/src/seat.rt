@@ -10,6 +10,7 @@ use protocol::Stepped;
 use status::TransactionId;
 use std::alloc::Global;
 use std::marker::Model;
+use std::mem;
 use units::NoMemory;
 use units::refusal_code::{NODE_STOPPED, OUT_OF_MEMORY};
 use wire::Input;
@@ -75,9 +76,11 @@ impl Seat {
         ensures ok { OnOk result (self.new ≡ record self.old { prepared = Some asked }) }
         ensures err { OnErr result (self.new ≡ self.old) }
     {
-        self.tickets.reserve(1)?;
-        self.notes.reserve(1)?;
-        self.prepared = Some(asked);
+        if self.tickets.reserve(1).is_err() || self.notes.reserve(1).is_err() {
+            drop(asked);
+            return Err(NoMemory);
+        }
+        drop(mem::replace(&mut self.prepared, Some(asked)));
         Ok(())
     }
 
@@ -90,13 +93,16 @@ impl Seat {
         let length = taken.length();
         if let Some(asked) = self.prepared.take() {
             match taken.told() {
-                Told::Step(Stepped::Recorded(place)) => {
-                    if let Asked::Take(input) = asked {
+                Told::Step(Stepped::Recorded(place)) => match asked {
+                    Asked::Take(input) => {
                         self.tickets.push_reserved(Ticket { place, input });
                     }
-                }
+                    Asked::Query(_) => {}
+                },
                 Told::Refused(refusal)
-                    if refusal.code == NODE_STOPPED || refusal.code == OUT_OF_MEMORY => {}
+                    if refusal.code == NODE_STOPPED || refusal.code == OUT_OF_MEMORY => {
+                    drop(asked)
+                }
                 told => {
                     self.notes.push_reserved(Note {
                         asked,
@@ -115,7 +121,7 @@ impl Seat {
         requires { taken.now.told ≡ Told.Refused (record { code = out_of_memory }) }
         ensures { self.new ≡ kept self.old taken.now }
     {
-        self.prepared = None;
+        drop(self.prepared.take());
         self.see(taken.length());
     }
 

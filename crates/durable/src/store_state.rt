@@ -130,11 +130,12 @@ pub(crate) fn store_over<D: Disk + Drop>(
     ensures fault { IfErr result (λ e. AreClean D.Disk e.1.log e.1.db → IsOpeningFault name.now (file_state conn).committed e.0) }
     ensures unharmed { IfErr result (λ e. IsTrue (is_judgement e.0) → Hold D.Disk e.1 (λ next. next ≡ (file_state conn).committed.trees)) }
 {
-    match open_as_store(&mut conn, name) {
-        Ok(count) if count <= 1 << 63 => Ok(OpenStore::new(alloc, conn, count)),
-        Ok(_) => Err((StoreFault::Device, files_of(conn))),
-        Err(fault) => Err((fault, files_of(conn))),
-    }
+    let fault = match open_as_store(&mut conn, name) {
+        Ok(count) if count <= 1 << 63 => return Ok(OpenStore::new(alloc, conn, count)),
+        Ok(_) => StoreFault::Device,
+        Err(fault) => fault,
+    };
+    Err((fault, files_of(conn)))
 }
 
 /// Opens the files as a store of the node. An error gives them back, and files that were found to be no store of the

@@ -20,16 +20,16 @@ returns-then-inputs-clause-read g c first read =
     (page_last _ _ _ _ _ _ first c.args.store.now c.next_page.new.store 256 _ c.in_ok-page.page few read
     (page_after _ _ _ _ c.args.store.now c.next_page.new.store _ 256 (g.C.NodeCore.journal_of c.args.core.now) _ c.records.ensures c.in_ok-page.ensures.loads))
 
-pub returns-in-Ok-clause-read : goal.returns-in-Ok-clause-read
-returns-in-Ok-clause-read g c first read =
+pub returns-else-inputs-clause-read : goal.returns-else-inputs-clause-read
+returns-else-inputs-clause-read g c first read =
     let journal : g.C.NodeCore.journal_of c.resume.new.core ≡ g.C.NodeCore.journal_of c.args.core.now ++ c.in_ok-page.page.items =
     c.in-Ok.ensures.ok ∙ ap (λ (l : List Input). g.C.NodeCore.journal_of c.args.core.now ++ l) c.as_slice-inputs.ensures.value in
     rw journal
     (page_read _ _ _ _ first c.args.store.now c.next_page.new.store 256 _ c.in_ok-page.page read
     (page_after _ _ _ _ c.args.store.now c.next_page.new.store _ 256 (g.C.NodeCore.journal_of c.args.core.now) _ c.records.ensures c.in_ok-page.ensures.loads))
 
-pub returns-clause-read : goal.returns-clause-read
-returns-clause-read g c first read =
+pub returns-in-Err-clause-read : goal.returns-in-Err-clause-read
+returns-in-Err-clause-read g c first read =
     let scheme = g.C.NodeCore.scheme_of c.args.core.now in
     let n = g.C.NodeCore.node_of c.args.core.now in
     let journal = g.C.NodeCore.journal_of c.args.core.now in

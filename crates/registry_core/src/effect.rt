@@ -11,7 +11,7 @@ use status::{Content, Status, TransactionId};
 use units::Refusal;
 
 /// What a transition does to a registry's tables.
-#[derive(Debug, Drop)]
+#[derive(Drop)]
 pub(crate) enum Effect {
     /// The new transfer is Proposed, and its units are reserved.
     Open(NewTransfer),

@@ -1,5 +1,5 @@
 //! A registry's journal and tables.
-ghost use Rattle.std.specs.Prelude.{◌≡◌, ◌⊎◌, true, false, nat_le, length, [], ◌∷◌, IfOk, IfErr, OnOk};
+ghost use Rattle.std.specs.Prelude.{◌≡◌, ◌⊎◌, true, false, nat_le, length, [], ◌∷◌, ◌<◌, IfOk, IfErr, OnOk, vec_capacity, vec_len};
 ghost use Rattle.units.specs.RefusalCodes.{journal_full, out_of_memory};
 ghost use Rattle.protocol.specs.Deciding.{recorded_if_room};
 ghost use Rattle.protocol.specs.History.{Transition};
@@ -19,7 +19,7 @@ use protocol::Stepped;
 use scheme::Scheme;
 use std::alloc::Global;
 use units::refusal_code::{JOURNAL_FULL, NO_ROW};
-use units::{Code, Items, Refusal};
+use units::{Code, Items, NoMemory, Refusal};
 use wire::{Input, Message, Number};
 
 /// A registry's journal, and what is read off its history: how its units are held and its accounts stand, its
@@ -33,20 +33,29 @@ pub(crate) struct Tables {
     pub outbox: Outbox,
 }
 
-impl Tables {
-    /// A copy of the input, for which the journal has room. Refused with `JOURNAL_FULL` where it has as many records
-    /// as the scheme allows, and with `OUT_OF_MEMORY`.
-    fn fitting(&self, scheme: &Scheme, input: &Input) -> Result<Input, Refusal>
-        ensures copy { IfOk result (λ i. i ≡ input.now) }
-        ensures ok { OnOk result (nat_le scheme.now.records (length self.now.journal.items) ≡ false) }
-        ensures err { IfErr result (λ r. (r.code ≡ out_of_memory) ⊎ ((r.code ≡ journal_full) × (nat_le scheme.now.records (length self.now.journal.items) ≡ true))) }
-    {
-        if scheme.records() <= self.journal.len() as u64 {
-            return Err(Refusal { code: JOURNAL_FULL });
-        }
-        Ok(input.copy()?)
+/// A copy of the input, for which the journal has room afterwards. Refused with `JOURNAL_FULL` where it has as many
+/// records as the scheme allows, and with `OUT_OF_MEMORY`. The journal keeps its records.
+fn fitting(
+    journal: &mut Vec<Input>,
+    scheme: &Scheme,
+    input: &Input,
+) -> Result<Input, Refusal>
+    ensures items { journal.new.items ≡ journal.old.items }
+    ensures room { OnOk result (vec_len journal.new < vec_capacity journal.new) }
+    ensures copy { IfOk result (λ i. i ≡ input.now) }
+    ensures ok { OnOk result (nat_le scheme.now.records (length journal.old.items) ≡ false) }
+    ensures err { IfErr result (λ r. (r.code ≡ out_of_memory) ⊎ ((r.code ≡ journal_full) × (nat_le scheme.now.records (length journal.old.items) ≡ true))) }
+{
+    if scheme.records() <= journal.len() as u64 {
+        return Err(Refusal { code: JOURNAL_FULL });
     }
+    if journal.reserve(1).is_err() {
+        return Err(Refusal::NO_MEMORY);
+    }
+    Ok(input.copy()?)
+}
 
+impl Tables {
     /// Records the input, whose transition has that effect and sends these messages.
     pub(crate) fn record(
         &mut self,
@@ -61,11 +70,19 @@ impl Tables {
         requires reservable { IsReservable effect self.old.holdings }
         ensures { Takes scheme.now code self.old self.new input.now result }
     {
-        let record = self.fitting(scheme, input)?;
-        if self.journal.reserve(1).is_err() {
+        let record = match fitting(&mut self.journal, scheme, input) {
+            Ok(record) => record,
+            Err(refused) => {
+                drop(effect);
+                drop(messages);
+                return Err(refused);
+            }
+        };
+        if let Err(NoMemory) = self.outbox.record(messages.into_vec()) {
+            drop(record);
+            drop(effect);
             return Err(Refusal::NO_MEMORY);
         }
-        self.outbox.record(messages.into_vec())?;
         let done = carry_out(
             &mut self.initiator,
             &mut self.acquirer,
@@ -73,6 +90,7 @@ impl Tables {
             effect,
         );
         if let Err(refused) = done {
+            drop(record);
             self.outbox.take_back();
             return Err(refused);
         }
@@ -100,11 +118,11 @@ impl Tables {
         if self.outbox.is_acknowledged(key) {
             return Ok(Stepped::Repeat);
         }
-        let record = self.fitting(scheme, input)?;
-        if self.journal.reserve(1).is_err() {
+        let record = fitting(&mut self.journal, scheme, input)?;
+        if let Err(NoMemory) = self.outbox.acknowledge(key) {
+            drop(record);
             return Err(Refusal::NO_MEMORY);
         }
-        self.outbox.acknowledge(key)?;
         let place = self.journal.len();
         self.journal.push_reserved(record);
         Ok(Stepped::Recorded(place))
@@ -124,12 +142,13 @@ impl Tables {
         ensures { Takes scheme.now code self.old self.new input.now result }
     {
         self.holdings.may_open(account.value)?;
-        let record = self.fitting(scheme, input)?;
-        if self.journal.reserve(1).is_err() {
+        let record = fitting(&mut self.journal, scheme, input)?;
+        if let Err(NoMemory) = self.outbox.record(Vec::new(alloc)) {
+            drop(record);
             return Err(Refusal::NO_MEMORY);
         }
-        self.outbox.record(Vec::new(alloc))?;
         if let Err(refused) = self.holdings.open_account(account.value) {
+            drop(record);
             self.outbox.take_back();
             return Err(refused);
         }
@@ -153,12 +172,13 @@ impl Tables {
     {
         self.holdings.may_close(account.value)?;
         self.acquirer.may_close(account.value)?;
-        let record = self.fitting(scheme, input)?;
-        if self.journal.reserve(1).is_err() {
+        let record = fitting(&mut self.journal, scheme, input)?;
+        if let Err(NoMemory) = self.outbox.record(Vec::new(alloc)) {
+            drop(record);
             return Err(Refusal::NO_MEMORY);
         }
-        self.outbox.record(Vec::new(alloc))?;
         if let Err(refused) = self.holdings.close_account(account.value) {
+            drop(record);
             self.outbox.take_back();
             return Err(refused);
         }

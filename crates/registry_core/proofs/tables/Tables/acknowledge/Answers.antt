@@ -31,16 +31,13 @@ returns-in_err-record c =
     let kept = c.requires.kept in
     let above = subst (λ n. c.args.key.value < n) c.sends.ensures c.if-sends-key.false in
     let enters = ap (verdict_due s c.args.code was) c.requires.input ∙ ack_enters s c.args.code was kept c.args.key above (sym c.is_acknowledged.ensures ∙ c.if-is_acknowledged.false) in
-    takes_err s c.args.code was was i c.from_residual.result _ kept (are_same was) c.from_residual.ensures.1
+    takes_err s c.args.code was _ i c.from_residual.result _ kept (record { journal = c.fitting.ensures.items; holdings = refl; initiator = refl; acquirer = refl; outbox = refl }) c.from_residual.ensures.1
     (λ r e. subst (λ q. GivenUp s c.args.code was i q.code) (sym e) (unfitting s c.args.code was i [] c.in_err-record.field-0.0.code enters c.in_err-record.ensures.err))
 
-pub returns-then-is_err : goal.returns-then-is_err
-returns-then-is_err c = takes_refused c.args.scheme.now c.args.code c.args.self.now _ c.args.input.now (record { code = 50 }) c.requires.kept (record { journal = c.reserve.ensures.items; holdings = refl; initiator = refl; acquirer = refl; outbox = refl }) (inl refl)
-
-pub returns-in_err-acknowledge : goal.returns-in_err-acknowledge
-returns-in_err-acknowledge c =
-    takes_err c.args.scheme.now c.args.code c.args.self.now _ c.args.input.now c.from_residual-in_err-acknowledge.result _ c.requires.kept
-    (record { journal = c.reserve.ensures.items; holdings = refl; initiator = refl; acquirer = refl; outbox = c.in_err-acknowledge.ensures.err }) c.from_residual-in_err-acknowledge.ensures.1 (λ r e. inl e)
+pub returns-in-Err : goal.returns-in-Err
+returns-in-Err c =
+    takes_refused c.args.scheme.now c.args.code c.args.self.now _ c.args.input.now (record { code = 50 }) c.requires.kept
+    (record { journal = c.fitting.ensures.items; holdings = refl; initiator = refl; acquirer = refl; outbox = c.in-Err.ensures.err }) (inl refl)
 
 pub returns : goal.returns
 returns c =
@@ -51,8 +48,8 @@ returns c =
     let above = subst (λ n. c.args.key.value < n) c.sends.ensures c.if-sends-key.false in
     let enters = ap (verdict_due s c.args.code was) c.requires.input ∙ ack_enters s c.args.code was kept c.args.key above (sym c.is_acknowledged.ensures ∙ c.if-is_acknowledged.false) in
     let entered = room_enters s c.args.code was i [] enters c.in_ok-record.ensures.ok in
-    let more = c.push_reserved.ensures.items ∙ ap (λ js. js ++ c.in_ok-record.record ∷ []) c.reserve.ensures.items ∙ ap (λ j. was.journal.items ++ j ∷ []) c.in_ok-record.ensures.copy in
-    let place = c.len-place.ensures ∙ c.reserve.new.self.ok.0 ∙ ap length c.reserve.ensures.items in
+    let more = c.push_reserved.ensures.items ∙ ap (λ js. js ++ c.in_ok-record.record ∷ []) c.fitting.ensures.items ∙ ap (λ j. was.journal.items ++ j ∷ []) c.in_ok-record.ensures.copy in
+    let place = c.len-place.ensures ∙ c.fitting.new.journal.ok.0 ∙ ap length c.fitting.ensures.items in
     takes_recorded s c.args.code was _ i [] c.len-place.result entered place more
     (kept_acknowledged s c.args.code was _ c.args.key kept (sym (ap (verdict_due s c.args.code was) c.requires.input) ∙ entered) refl refl refl
-    (more ∙ ap (λ j. was.journal.items ++ j ∷ []) c.requires.input) c.in_ok-acknowledge.ensures.ok)
+    (more ∙ ap (λ j. was.journal.items ++ j ∷ []) c.requires.input) c.in_default.ensures.ok)

@@ -28,16 +28,23 @@ returns-in_err-record c =
     let kept = c.requires.kept in
     let es = history s (Registry c.args.code) was.journal.items in
     let enters = ap (verdict_due s c.args.code was) c.requires.input ∙ due_so s c.args.code was _ ∙ opening_enters s c.args.code es was.holdings kept.kept.accounts c.args.account c.in_ok-may_open.ensures.ok in
-    takes_err s c.args.code was was i c.from_residual-in_err-record.result _ kept (are_same was) c.from_residual-in_err-record.ensures.1
+    takes_err s c.args.code was _ i c.from_residual-in_err-record.result _ kept (record { journal = c.fitting.ensures.items; holdings = refl; initiator = refl; acquirer = refl; outbox = refl }) c.from_residual-in_err-record.ensures.1
     (λ r e. subst (λ q. GivenUp s c.args.code was i q.code) (sym e) (unfitting s c.args.code was i [] c.in_err-record.field-0.0.code enters c.in_err-record.ensures.err))
 
-pub returns-then-is_err : goal.returns-then-is_err
-returns-then-is_err c = takes_refused c.args.scheme.now c.args.code c.args.self.now _ c.args.input.now (record { code = 50 }) c.requires.kept (record { journal = c.reserve.ensures.items; holdings = refl; initiator = refl; acquirer = refl; outbox = refl }) (inl refl)
+pub returns-in-Err : goal.returns-in-Err
+returns-in-Err c =
+    takes_refused c.args.scheme.now c.args.code c.args.self.now _ c.args.input.now (record { code = 50 }) c.requires.kept
+    (record { journal = c.fitting.ensures.items; holdings = refl; initiator = refl; acquirer = refl; outbox = c.in-Err.ensures.err }) (inl refl)
 
-pub returns-in_err-record-2 : goal.returns-in_err-record-2
-returns-in_err-record-2 c =
-    takes_err c.args.scheme.now c.args.code c.args.self.now _ c.args.input.now c.from_residual-in_err-record-2.result _ c.requires.kept
-    (record { journal = c.reserve.ensures.items; holdings = refl; initiator = refl; acquirer = refl; outbox = c.in_err-record-2.ensures.err }) c.from_residual-in_err-record-2.ensures.1 (λ r e. inl e)
+pub returns-in-Err-open_account : goal.returns-in-Err-open_account
+returns-in-Err-open_account c =
+    let s = c.args.scheme.now in
+    let was = c.args.self.now in
+    let i = c.args.input.now in
+    let es = history s (Registry c.args.code) was.journal.items in
+    takes_refused s c.args.code was _ i c.in-Err-open_account.refused c.requires.kept
+    (record { journal = c.fitting.ensures.items; holdings = c.in-Err-open_account.ensures.err; initiator = refl; acquirer = refl; outbox = c.take_back.ensures was.outbox _ c.in_default.ensures.ok })
+    (inr (ap (verdict_due s c.args.code was) c.requires.input ∙ due_so s c.args.code was _ ∙ opening_refused s c.args.code es was.holdings c.requires.kept.kept.accounts c.args.account c.in-Err-open_account.refused.code c.in-Err-open_account.ensures.refused))
 
 pub returns : goal.returns
 returns c =
@@ -48,9 +55,9 @@ returns c =
     let es = history s (Registry c.args.code) was.journal.items in
     let enters = ap (verdict_due s c.args.code was) c.requires.input ∙ due_so s c.args.code was _ ∙ opening_enters s c.args.code es was.holdings kept.kept.accounts c.args.account c.in_ok-may_open.ensures.ok in
     let entered = room_enters s c.args.code was i [] enters c.in_ok-record.ensures.ok in
-    let more = c.push_reserved.ensures.items ∙ ap (λ js. js ++ c.in_ok-record.record ∷ []) c.reserve.ensures.items ∙ ap (λ j. was.journal.items ++ j ∷ []) c.in_ok-record.ensures.copy in
-    let place = c.len-place.ensures ∙ c.reserve.new.self.ok.0 ∙ ap length c.reserve.ensures.items in
-    let sent = c.in_ok-record-2.ensures.ok ∙ ap (λ ms. was.outbox ++ Sends ms ∷ []) c.new.ensures.items in
+    let more = c.push_reserved.ensures.items ∙ ap (λ js. js ++ c.in_ok-record.record ∷ []) c.fitting.ensures.items ∙ ap (λ j. was.journal.items ++ j ∷ []) c.in_ok-record.ensures.copy in
+    let place = c.len-place.ensures ∙ c.fitting.new.journal.ok.0 ∙ ap length c.fitting.ensures.items in
+    let sent = c.in_default.ensures.ok ∙ ap (λ ms. was.outbox ++ Sends ms ∷ []) c.new.ensures.items in
     takes_recorded s c.args.code was _ i [] c.len-place.result entered place more
-    (kept_opened s c.args.code was _ c.args.account kept (sym (ap (verdict_due s c.args.code was) c.requires.input) ∙ entered) refl refl c.in_default.ensures.ok.1 c.in_default.ensures.ok.2
+    (kept_opened s c.args.code was _ c.args.account kept (sym (ap (verdict_due s c.args.code was) c.requires.input) ∙ entered) refl refl c.in_default-open_account.ensures.ok.1 c.in_default-open_account.ensures.ok.2
     (more ∙ ap (λ j. was.journal.items ++ j ∷ []) c.requires.input) sent)

@@ -1,4 +1,5 @@
 pub mod Words
+pub mod Subcommands
 pub mod Chart
 pub mod Show
 pub mod Pages

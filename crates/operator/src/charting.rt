@@ -7,8 +7,10 @@ ghost use Rattle.std.specs.List.{list_any};
 ghost use Rattle.std.specs.Ordering.{nat_cmp};
 ghost use Rattle.units.specs.Code.{same_node};
 ghost use Rattle.units.specs.declared.code.Node.{Node};
+ghost use Rattle.scheme.specs.declared.registries.Scheme.{Scheme};
+ghost use Rattle.protocol.specs.declared.event.WorldEvent.{WorldEvent};
 ghost use Rattle.chart_lines.specs.ChartLines.{lost_line, participant_line, wide_note_line};
-ghost use Rattle.operator.specs.Chart.{Happening, IsChart, IsDrawn, arrives, delivers, event_nodes, first_ones, is_delivered, lost, message_of, parties};
+ghost use Rattle.operator.specs.Chart.{HasDrawn, Happening, IsChart, IsDrawn, arrives, delivers, event_nodes, first_ones, is_delivered, lost, message_of, parties};
 ghost use Rattle.rehearsals.specs.Rehearsal.{Reports, FailsSo};
 ghost use Rattle.tables.specs.Table.{IsTable};
 
@@ -226,6 +228,33 @@ fn push_table_note(
     Ok(())
 }
 
+impl Drawing {
+    /// The chart: what is drawn, the messages that never arrived, and the table of the world that the events lead to.
+    fn text(self, alloc: Global, world: &World) -> Result<String, NoMemory>
+        ensures { IfOk result (λ text. (scheme : Scheme) (events : List WorldEvent)
+            → HasDrawn scheme events world.now self.nodes.items (contains nat_cmp self.delivered) (string_bytes self.lines)
+            → IsChart scheme events (string_bytes text)) }
+    {
+        let Drawing {
+            mut nodes,
+            delivered,
+            lines,
+        } = self;
+        let never = lost(alloc, &delivered, world.bag())?;
+        add_all_parties(&mut nodes, never.as_slice())?;
+        add_node(&mut nodes, Node::Itl)?;
+        let mut text = String::new(alloc);
+        push_lines(
+            &mut text,
+            nodes.as_slice(),
+            lines.as_str(),
+            never.as_slice(),
+        )?;
+        push_table_note(alloc, &mut text, nodes.as_slice(), world)?;
+        Ok(text)
+    }
+}
+
 impl Reporter for Sketch {
     ghost use Rattle.std.specs.Prelude.{string_bytes};
     ghost use Rattle.std.specs.BTreeSet.{contains};
@@ -262,23 +291,9 @@ impl Reporter for Sketch {
             world,
             drawing,
         } = self;
-        let Drawing {
-            mut nodes,
-            delivered,
-            lines,
-        } = drawing;
-        let never = lost(alloc, &delivered, world.bag())?;
-        add_all_parties(&mut nodes, never.as_slice())?;
-        add_node(&mut nodes, Node::Itl)?;
-        let mut text = String::new(alloc);
-        push_lines(
-            &mut text,
-            nodes.as_slice(),
-            lines.as_str(),
-            never.as_slice(),
-        )?;
-        push_table_note(alloc, &mut text, nodes.as_slice(), &world)?;
-        Ok(text)
+        let text = drawing.text(alloc, &world);
+        drop(world);
+        text
     }
 }
 

@@ -1,12 +1,12 @@
 //! The command line.
 ghost use Rattle.std.specs.Prelude.{◌≡◌, [], true, false, Some, IfOk, IfErr, IfSome, codes, map, string_bytes};
-ghost use Rattle.clap.specs.Simple.{new_shape};
 ghost use Rattle.clap.specs.Takes.{takes};
 ghost use Rattle.clap.specs.Values.{kind_of};
-ghost use Rattle.clap.specs.Words.{HasMatchesOf, first_value, found_of, rule_of};
+ghost use Rattle.clap.specs.Words.{App, HasMatchesOf, first_value, found_of, rule_of, with_subcommand};
 ghost use Rattle.clap.specs.declared.error.kind.ErrorKind.TheVariants.{OutOfMemory};
 ghost use Rattle.clap.specs.declared.parser.matches.ArgMatches.{ArgMatches};
-ghost use Rattle.operator.specs.Words.{NamesAction, IsCommand, IsFaultOf, IsOf, IsSubcommand, IsUsageFault, audit_shape, faults_in, kyoto_link, positional, run_shape, show_shape, with_events};
+ghost use Rattle.operator.specs.Words.{NamesAction, IsCommand, IsFaultOf, IsOf, IsSubcommand, IsUsageFault, faults_in, kyoto_link, positional, program};
+ghost use Rattle.operator.specs.Subcommands.{described};
 
 use clap::error::ErrorKind;
 use clap::{Arg, ArgMatches, Command, Error};
@@ -159,25 +159,73 @@ pub enum UsageFault {
     NoMemory,
 }
 
-fn rehearse_command<'a>(alloc: Global) -> Command<'a>
-    ensures { IsSubcommand (new_shape (codes "rehearse")) result }
-{
-    Command::new(alloc, "rehearse")
-        .about(
-            "Run a scheme and its events, read from standard input, and write what each event came to and the table that they lead to",
-        )
-        .after_help(REHEARSE_NOTES)
+/// An argument of a subcommand, which must be given.
+struct Argument {
+    name: &'static str,
+    help: &'static str,
 }
 
-fn chart_command<'a>(alloc: Global) -> Command<'a>
-    ensures { IsSubcommand (new_shape (codes "chart")) result }
-{
-    Command::new(alloc, "chart")
-        .about(
-            "Run a scheme and its events, read from standard input, and draw them as a Mermaid sequence diagram",
-        )
-        .after_help(CHART_NOTES)
+/// A subcommand, with the end of its help.
+struct Subcommand {
+    name: &'static str,
+    about: &'static str,
+    notes: &'static str,
+    arguments: &'static [Argument],
 }
+
+const SCHEME: Argument = Argument {
+    name: "SCHEME",
+    help: "The file with the scheme",
+};
+
+const DIR: Argument = Argument {
+    name: "DIR",
+    help: "The folder with the nodes' stores",
+};
+
+const NODE: Argument = Argument {
+    name: "NODE",
+    help: "The node: ITL, or the code of a registry of the scheme",
+};
+
+const SCRIPT: Argument = Argument {
+    name: "SCRIPT",
+    help: "The file with a line for each order and each question",
+};
+
+/// The subcommands, in the order of the program's help.
+const SUBCOMMANDS: &[Subcommand] = &[
+    Subcommand {
+        name: "rehearse",
+        about: "Run a scheme and its events, read from standard input, and write what each event came to and the table that they lead to",
+        notes: REHEARSE_NOTES,
+        arguments: &[],
+    },
+    Subcommand {
+        name: "chart",
+        about: "Run a scheme and its events, read from standard input, and draw them as a Mermaid sequence diagram",
+        notes: CHART_NOTES,
+        arguments: &[],
+    },
+    Subcommand {
+        name: "show",
+        about: "Write the records of a node's store, each with its place",
+        notes: SHOW_NOTES,
+        arguments: &[SCHEME, DIR, NODE],
+    },
+    Subcommand {
+        name: "audit",
+        about: "Find a run that leads to the records of all stores, and write the table that it leads to",
+        notes: AUDIT_NOTES,
+        arguments: &[SCHEME, DIR],
+    },
+    Subcommand {
+        name: "run",
+        about: "Run all nodes with threads, sockets and stores, do what a script says, and write what each line came to and the table that the records lead to",
+        notes: RUN_NOTES,
+        arguments: &[SCHEME, DIR, SCRIPT],
+    },
+];
 
 fn positional<'a>(alloc: Global, name: &'a str, help: &'a str) -> Arg<'a>
     ensures rule { rule_of result ≡ positional name.now }
@@ -186,61 +234,31 @@ fn positional<'a>(alloc: Global, name: &'a str, help: &'a str) -> Arg<'a>
     Arg::new(alloc, name).required(true).help(help)
 }
 
-fn show_command<'a>(alloc: Global) -> Result<Command<'a>, AllocError>
-    ensures { IfOk result (IsSubcommand show_shape) }
-{
-    let scheme = positional(alloc, "SCHEME", "The file with the scheme");
-    let folder = positional(alloc, "DIR", "The folder with the nodes' stores");
-    let node = positional(
-        alloc,
-        "NODE",
-        "The node: ITL, or the code of a registry of the scheme",
-    );
-    Command::new(alloc, "show")
-        .about("Write the records of a node's store, each with its place")
-        .after_help(SHOW_NOTES)
-        .arg(scheme)?
-        .arg(folder)?
-        .arg(node)
+impl Subcommand {
+    fn command<'a>(&self, alloc: Global) -> Result<Command<'a>, AllocError>
+        ensures { IfOk result (IsSubcommand (described self.now)) }
+    {
+        let mut command = Command::new(alloc, self.name)
+            .about(self.about)
+            .after_help(self.notes);
+        for argument in self.arguments {
+            command = command.arg(positional(alloc, argument.name, argument.help))?;
+        }
+        Ok(command)
+    }
+
+    /// The program with this subcommand too.
+    fn added_to<'a>(&self, alloc: Global, program: Command<'a>) -> Result<Command<'a>, AllocError>
+        ensures { (a : App) → IsCommand a program.entry → IfOk result (IsCommand (with_subcommand a (described self.now))) }
+    {
+        let command = self.command(alloc)?;
+        program.subcommand(command)
+    }
 }
 
-fn audit_command<'a>(alloc: Global) -> Result<Command<'a>, AllocError>
-    ensures { IfOk result (IsSubcommand audit_shape) }
-{
-    let scheme = positional(alloc, "SCHEME", "The file with the scheme");
-    let folder = positional(alloc, "DIR", "The folder with the nodes' stores");
-    Command::new(alloc, "audit")
-        .about(
-            "Find a run that leads to the records of all stores, and write the table that it leads to",
-        )
-        .after_help(AUDIT_NOTES)
-        .arg(scheme)?
-        .arg(folder)
-}
-
-fn run_command<'a>(alloc: Global) -> Result<Command<'a>, AllocError>
-    ensures { IfOk result (IsSubcommand run_shape) }
-{
-    let scheme = positional(alloc, "SCHEME", "The file with the scheme");
-    let folder = positional(alloc, "DIR", "The folder with the nodes' stores");
-    let script = positional(
-        alloc,
-        "SCRIPT",
-        "The file with a line for each order and each question",
-    );
-    Command::new(alloc, "run")
-        .about(
-            "Run all nodes with threads, sockets and stores, do what a script says, and write what each line came to and the table that the records lead to",
-        )
-        .after_help(RUN_NOTES)
-        .arg(scheme)?
-        .arg(folder)?
-        .arg(script)
-}
-
-/// The program, with the subcommands that read events.
-fn event_commands<'a>(alloc: Global) -> Result<Command<'a>, AllocError>
-    ensures { IfOk result (IsCommand with_events) }
+/// The program without its subcommands.
+fn bare_command<'a>(alloc: Global) -> Command<'a>
+    ensures { IsCommand program result }
 {
     Command::new(alloc, "kyoto-link")
         .about(
@@ -249,17 +267,17 @@ fn event_commands<'a>(alloc: Global) -> Result<Command<'a>, AllocError>
         .version(VERSION)
         .after_help(NOTES)
         .subcommand_required(true)
-        .subcommand(rehearse_command(alloc))?
-        .subcommand(chart_command(alloc))
 }
 
 /// The program, with all its subcommands.
 fn command<'a>(alloc: Global) -> Result<Command<'a>, AllocError>
     ensures { IfOk result (IsCommand kyoto_link) }
 {
-    let program = event_commands(alloc)?.subcommand(show_command(alloc)?)?;
-    let program = program.subcommand(audit_command(alloc)?)?;
-    program.subcommand(run_command(alloc)?)
+    let mut program = bare_command(alloc);
+    for subcommand in SUBCOMMANDS {
+        program = subcommand.added_to(alloc, program)?;
+    }
+    Ok(program)
 }
 
 /// The value of an argument, or `None`, where there is none or memory was refused.

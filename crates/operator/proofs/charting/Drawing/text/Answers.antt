@@ -3,7 +3,7 @@ use Rattle.std.specs.Prelude.{flat_map}
 use Rattle.protocol.specs.World.{opening}
 use Rattle.operator.specs.Chart.{happening_nodes, happenings, lost}
 use Rattle.operator.proofs.Charts.{charted, with_log}
-use Rattle.operator.proofs.charting.SketchReporter.text.Goals as goal
+use Rattle.operator.proofs.charting.Drawing.text.Goals as goal
 
 pub returns : goal.returns
 returns c = λ scheme events drawn.

@@ -1,0 +1,19 @@
+-- The shape of each subcommand of a table, and the program with all of them. No public contract cites it.
+use Rattle.std.specs.Prelude.{List, [], ◌∷◌, map}
+use Rattle.clap.specs.Words.{App, Rule, Shape, with_subcommand}
+use Rattle.clap.specs.Simple.{new_shape}
+use Rattle.operator.specs.Words.{positional}
+use Rattle.operator.specs.declared.command_line.Argument.{Argument}
+use Rattle.operator.specs.declared.command_line.Subcommand.{Subcommand}
+
+-- the arguments in their order, each of which must be given
+abbrev pub rules_of : List Argument → List Rule
+rules_of arguments = map (λ a. positional a.name.now) arguments
+
+abbrev pub described : Subcommand → Shape
+described s = record (new_shape s.name.now) { rules = rules_of s.arguments.now }
+
+-- a program with more subcommands, one after another
+abbrev pub with_all : App → List Subcommand → App
+with_all a [] = a
+with_all a (s ∷ rest) = with_all (with_subcommand a (described s)) rest

@@ -66,12 +66,27 @@ impl Tables {
         requires known { IsOfKnown (transfer_state_in self.old) effect }
         ensures { Takes scheme.now self.old self.new input.now result }
     {
-        let record = self.fitting(scheme, input)?;
+        let record = match self.fitting(scheme, input) {
+            Ok(record) => record,
+            Err(refused) => {
+                drop(messages);
+                drop(effect);
+                return Err(refused);
+            }
+        };
         if self.journal.reserve(1).is_err() {
+            drop(record);
+            drop(messages);
+            drop(effect);
             return Err(Refusal::NO_MEMORY);
         }
-        self.outbox.record(messages.into_vec())?;
+        if let Err(NoMemory) = self.outbox.record(messages.into_vec()) {
+            drop(record);
+            drop(effect);
+            return Err(Refusal::NO_MEMORY);
+        }
         if let Err(refused) = self.carry_out(effect, moment) {
+            drop(record);
             self.outbox.take_back();
             return Err(refused);
         }
@@ -100,9 +115,13 @@ impl Tables {
         }
         let record = self.fitting(scheme, input)?;
         if self.journal.reserve(1).is_err() {
+            drop(record);
             return Err(Refusal::NO_MEMORY);
         }
-        self.outbox.acknowledge(key)?;
+        if let Err(NoMemory) = self.outbox.acknowledge(key) {
+            drop(record);
+            return Err(Refusal::NO_MEMORY);
+        }
         let place = self.journal.len();
         self.journal.push_reserved(record);
         Ok(Stepped::Recorded(place))
@@ -131,10 +150,15 @@ impl Tables {
         }
         let record = self.fitting(scheme, input)?;
         if self.journal.reserve(1).is_err() {
+            drop(record);
             return Err(Refusal::NO_MEMORY);
         }
-        self.outbox.record(Vec::new(alloc))?;
+        if let Err(NoMemory) = self.outbox.record(Vec::new(alloc)) {
+            drop(record);
+            return Err(Refusal::NO_MEMORY);
+        }
         if let Err(NoMemory) = order(&mut self.register.orders, registry, may) {
+            drop(record);
             self.outbox.take_back();
             return Err(Refusal::NO_MEMORY);
         }

@@ -1,6 +1,6 @@
 -- Writing the elements of a list one after the other, as a loop does.
-use Rattle.std.proofs.Common.{◌≡◌, ℕ, ◌≤◌, List, [], ◌∷◌, length, take, map, refl, ap, ◌∙◌}
-use Rattle.std.proofs.lemmas.List.{take_all}
+use Rattle.std.proofs.Common.{◌≡◌, ℕ, ◌+◌, ◌≤◌, ◌<◌, List, [], ◌∷◌, ◌++◌, length, get_or, take, map, refl, sym, ap, ◌∙◌}
+use Rattle.std.proofs.lemmas.List.{map-append, map_more, take_all}
 use Rattle.serde_json.specs.Data.{Data, string, item}
 use Rattle.serde_json.specs.View.{view, items_of, items_view}
 use Rattle.serde_json.specs.declared.value.Value.{Value}
@@ -20,6 +20,12 @@ raw_value b = string (raw_text b)
 module _ {X : Type 0} (f : X → Data) where
   pub listed_all : (vs : List Value) (xs : List X) (i : ℕ) → length xs ≤ i → map view vs ≡ map f (take i xs) → items_view vs ≡ items_of (map f xs)
   listed_all vs xs i le e = ap items_of (e ∙ ap (map f) (take_all i xs le))
+
+  -- one value more, which writes the next element
+  pub listed_more : (vs : List Value) (v : Value) (xs : List X) (i : ℕ) (x : X) → i < length xs → x ≡ get_or xs i x → view v ≡ f x → map view vs ≡ map f (take i xs)
+      → map view (vs ++ v ∷ []) ≡ map f (take (i + 1) xs)
+  listed_more vs v xs i x lt is writes so_far =
+      map-append view vs (v ∷ []) ∙ ap (λ ds. ds ++ view v ∷ []) so_far ∙ ap (λ d. map f (take i xs) ++ d ∷ []) (writes ∙ ap f is) ∙ sym (map_more f xs i x lt)
 
 pub items_of_blocks : (bs : List Block) → items_of (map block_value bs) ≡ block_items (raws bs)
 items_of_blocks [] = refl

@@ -13,7 +13,7 @@ use Rattle.status.specs.declared.id.TransactionId.{TransactionId}
 use Rattle.status.specs.declared.moment.Moment.{Moment}
 use Rattle.wire.specs.Messages.{IsMessage}
 use Rattle.wire.specs.Objects.{HasExactly, whole}
-use Rattle.wire.specs.Reading.{IsReceived}
+use Rattle.wire.specs.Reading.{IsAccountOrder, IsReceived}
 use Rattle.wire.specs.Records.{order_fields, IsRecord, IsRecordText}
 use Rattle.wire.specs.declared.input.Input.{Input}
 use Rattle.wire.specs.declared.input.Input.TheVariants.{Propose, Request, OpenAccount, CloseAccount, Ack, CleanUp, Eligible, Received}
@@ -67,6 +67,12 @@ pub received_word : (d : Data) → HasAt d (codes "input") (string (codes "recei
 unfolding input_word
 received_word d at (Received m t) is = ((m, t), is)
 received_word d at i is = clash (word_is d (codes "received") i at is) refl refl
+
+-- an input of the word of an order to open an account is one
+pub open_word : (d : Data) → HasAt d (codes "input") (string (codes "open")) → (i : Input) → IsRecord d i → (n : Number) × IsAccountOrder d (codes "open") n
+unfolding input_word
+open_word d at (OpenAccount n) is = (n, is)
+open_word d at i is = clash (word_is d (codes "open") i at is) refl refl
 
 -- ---- one input
 

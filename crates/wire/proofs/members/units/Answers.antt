@@ -1,6 +1,17 @@
-use Rattle.std.proofs.Common.{◌∙◌}
-use Rattle.wire.proofs.Listed.{block_value, listed_all, items_of_blocks}
+use Rattle.std.proofs.Common.{◌≡◌, ap, rules, ◌∙◌}
+use Rattle.std.specs.String.{string_bytes}
+use Rattle.serde_json.specs.View.{view}
+use Rattle.serde_json.specs.declared.value.Value.TheFolds.{the_lemmas}
+use Rattle.serde_json.specs.Data.{string}
+use Rattle.serde_json.specs.declared.value.Value.TheVariants.{String as Text}
+use Rattle.wire.proofs.Listed.{block_value, listed_all, listed_more, items_of_blocks}
 use Rattle.wire.proofs.members.units.Goals as goal
 
 pub returns : goal.returns
 returns c = listed_all block_value c.loop-block.values.items c.args.blocks.now c.loop-block.block-index c.loop-block-test.false c.loop-block.invariant ∙ items_of_blocks c.args.blocks.now
+
+pub loop-block-preserved : goal.loop-block-preserved
+loop-block-preserved c =
+    let as_text : view (Text c.in_ok-text.text) ≡ string (string_bytes c.in_ok-text.text) = search (rules, the_lemmas) in
+    rw c.in_ok-push.ensures.items
+    (listed_more block_value c.loop-block.values.items (Text c.in_ok-text.text) c.args.blocks.now c.loop-block.block-index c.block-item.result c.loop-block-test.true c.block-item.is (as_text ∙ ap string c.in_ok-text.ensures) c.loop-block.invariant)

@@ -37,10 +37,8 @@ returns-in_err-record c =
 pub returns-then-is_err : goal.returns-then-is_err
 returns-then-is_err c = takes_refused c.args.scheme.now c.args.self.now _ c.args.input.now (record { code = 50 }) c.requires.kept (record { journal = c.reserve.ensures.items; allotments = refl; book = refl; under_way = refl; orders = λ d. refl; transfers = λ t. refl; checked = λ w. refl; outbox = refl }) (inl refl)
 
-pub returns-in_err-acknowledge : goal.returns-in_err-acknowledge
-returns-in_err-acknowledge c =
-    takes_err c.args.scheme.now c.args.self.now _ c.args.input.now c.from_residual-in_err-acknowledge.result _ c.requires.kept
-    (record { journal = c.reserve.ensures.items; allotments = refl; book = refl; under_way = refl; orders = λ d. refl; transfers = λ t. refl; checked = λ w. refl; outbox = c.in_err-acknowledge.ensures.err }) c.from_residual-in_err-acknowledge.ensures.1 (λ r e. inl e)
+pub returns-in-Err : goal.returns-in-Err
+returns-in-Err c = takes_refused c.args.scheme.now c.args.self.now _ c.args.input.now (record { code = 50 }) c.requires.kept (record { journal = c.reserve.ensures.items; allotments = refl; book = refl; under_way = refl; orders = λ d. refl; transfers = λ t. refl; checked = λ w. refl; outbox = c.in-Err.ensures.err }) (inl refl)
 
 pub returns : goal.returns
 returns c =
@@ -55,4 +53,4 @@ returns c =
     let place = c.len-place.ensures ∙ c.reserve.new.self.ok.0 ∙ ap length c.reserve.ensures.items in
     takes_recorded s was _ i [] c.len-place.result entered place more
     (kept_acknowledged s was _ c.args.key kept (sym (ap (verdict_due s was) c.requires.input) ∙ entered) refl (record { transfers = λ t. refl; checked = λ w. refl })
-    (more ∙ ap (λ j. was.journal.items ++ j ∷ []) c.requires.input) c.in_ok-acknowledge.ensures.ok)
+    (more ∙ ap (λ j. was.journal.items ++ j ∷ []) c.requires.input) c.in_default.ensures.ok)

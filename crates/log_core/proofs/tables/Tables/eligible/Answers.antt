@@ -41,7 +41,7 @@ returns c =
     let entered = room_enters s was i [] enters c.in_ok-record.ensures.ok in
     let more = c.push_reserved.ensures.items ∙ ap (λ js. js ++ c.in_ok-record.record ∷ []) c.reserve.ensures.items ∙ ap (λ j. was.journal.items ++ j ∷ []) c.in_ok-record.ensures.copy in
     let place = c.len-place.ensures ∙ c.reserve.new.self.ok.0 ∙ ap length c.reserve.ensures.items in
-    let sent = c.in_ok-record-2.ensures.ok ∙ ap (λ ms. was.outbox ++ Sends ms ∷ []) c.new.ensures.items in
+    let sent = c.in_default.ensures.ok ∙ ap (λ ms. was.outbox ++ Sends ms ∷ []) c.new.ensures.items in
     takes_recorded s was _ i [] c.len-place.result entered place more
-    (kept_eligible s was _ c.args.registry c.args.may c.requires.kept (sym (ap (verdict_due s was) c.requires.input) ∙ entered) refl refl refl c.in_default.ensures.ok (record { transfers = λ t. refl; checked = λ w. refl })
+    (kept_eligible s was _ c.args.registry c.args.may c.requires.kept (sym (ap (verdict_due s was) c.requires.input) ∙ entered) refl refl refl c.in_default-order.ensures.ok (record { transfers = λ t. refl; checked = λ w. refl })
     (more ∙ ap (λ j. was.journal.items ++ j ∷ []) c.requires.input) sent)

@@ -35,11 +35,7 @@ pub(crate) struct Tables {
 
 /// A copy of the input, for which the journal has room afterwards. Refused with `JOURNAL_FULL` where it has as many
 /// records as the scheme allows, and with `OUT_OF_MEMORY`. The journal keeps its records.
-fn fitting(
-    journal: &mut Vec<Input>,
-    scheme: &Scheme,
-    input: &Input,
-) -> Result<Input, Refusal>
+fn fitting(journal: &mut Vec<Input>, scheme: &Scheme, input: &Input) -> Result<Input, Refusal>
     ensures items { journal.new.items ≡ journal.old.items }
     ensures room { OnOk result (vec_len journal.new < vec_capacity journal.new) }
     ensures copy { IfOk result (λ i. i ≡ input.now) }

@@ -3,6 +3,7 @@ use Rattle.std.proofs.Common.{◌≡◌, ◌≢◌, ℕ, zero, suc, ◌+◌, ◌
 use Rattle.std.specs.Prelude.{slice_get, get_or, Contains, IfNone, ◌⊎◌}
 use Rattle.std.specs.List.{position_from}
 use Rattle.std.proofs.Math.ListN.{set}
+use Rattle.std.proofs.lemmas.List.{map-append, take_more}
 use Rattle.std.specs.Option.{option_copied, option_map_or}
 use Rattle.lemmas.proofs.Membership.{In_left, In_right}
 use Rattle.lemmas.proofs.Positions.{In_contains, contains_in}
@@ -15,6 +16,14 @@ front_get (x ∷ xs) ys (suc k) below = front_get xs ys k (omega arith)
 pub take_front : {X : Type 0} (xs ys : List X) → take (length xs) (xs ++ ys) ≡ xs
 take_front [] ys = refl
 take_front {X = X} (x ∷ xs) ys = ap (λ (l : List X). x ∷ l) (take_front xs ys)
+
+-- the images of a front of a list, with one element more
+pub images_more : {X Y : Type 0} (f : X → Y) (ys : List Y) (xs : List X) (i : ℕ) (x : X) → i < length xs → x ≡ get_or xs i x → ys ≡ map f (take i xs) → ys ++ f x ∷ [] ≡ map f (take (i + 1) xs)
+images_more {Y = Y} f ys xs i x h is was =
+    ap (λ (l : List Y). l ++ f x ∷ []) was
+    ∙ ap (λ y. map f (take i xs) ++ f y ∷ []) is
+    ∙ sym (map-append f (take i xs) (get_or xs i x ∷ []))
+    ∙ sym (ap (map f) (take_more xs i x h))
 
 pub past_end : {X : Type 0} (xs : List X) (k : ℕ) → slice_get xs k ≡ None → length xs ≤ k
 past_end [] k e = omega arith

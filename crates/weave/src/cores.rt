@@ -1,5 +1,5 @@
 //! Cores that record journals, as far as they do.
-ghost use Rattle.std.specs.Prelude.{◌≡◌, All, IfOk, length, map};
+ghost use Rattle.std.specs.Prelude.{◌≡◌, [], All, IfOk, OnOk, length, map};
 ghost use Rattle.node.specs.Cores as node_cores;
 ghost use Rattle.weave.specs.Ahead.{AreAhead, IsAhead};
 ghost use Rattle.world.specs.Kept.{nodes};
@@ -49,8 +49,33 @@ fn replayed_one(
     match resume(&mut core, journal) {
         Ok(()) => Ok(core),
         Err(ReplayFault::NotRecorded(_)) => Ok(core),
-        Err(ReplayFault::NoMemory) => Err(NoMemory),
+        Err(ReplayFault::NoMemory) => {
+            drop(core);
+            Err(NoMemory)
+        }
     }
+}
+
+/// Adds a core for each of these nodes, which are all nodes, where there are none.
+fn add_replayed(
+    cores: &mut Vec<Core>,
+    alloc: Global,
+    scheme: &Scheme,
+    names: &[Node],
+    journals: &[&[Input]],
+) -> Result<(), NoMemory>
+    requires empty { cores.old.items ≡ [] }
+    requires all { names.now ≡ nodes scheme.now }
+    requires as_many { length journals.now ≡ length (nodes scheme.now) }
+    ensures nodes { OnOk result (map node_cores.node_of cores.new.items ≡ nodes scheme.now) }
+    ensures schemes { OnOk result (All (λ core. node_cores.scheme_of core ≡ scheme.now) cores.new.items) }
+    ensures ahead { OnOk result (AreAhead scheme.now (map (λ j. j.now) journals.now) (map node_cores.journal_of cores.new.items)) }
+{
+    for at in 0..names.len() {
+        cores.reserve(1)?;
+        cores.push_reserved(replayed_one(alloc, scheme, names[at], journals[at])?);
+    }
+    Ok(())
 }
 
 /// A core for each journal, with the first records of it: all, or those before the first one that isn't recorded.
@@ -66,8 +91,11 @@ pub(crate) fn replayed(
 {
     let names = nodes_of(alloc, scheme)?;
     let mut cores = Vec::new(alloc);
-    for at in 0..names.len() {
-        cores.push(replayed_one(alloc, scheme, names[at], journals[at])?)?;
+    match add_replayed(&mut cores, alloc, scheme, names.as_slice(), journals) {
+        Ok(()) => Ok(cores),
+        Err(NoMemory) => {
+            drop(cores);
+            Err(NoMemory)
+        }
     }
-    Ok(cores)
 }

@@ -1,9 +1,11 @@
 //! Journals followed into one world, as far as posted messages allow.
-ghost use Rattle.std.specs.Prelude.{◌≡◌, ◌<◌, ◌++◌, ◌∷◌, [], All, IfOk, OnOk, Some, length, map, slice_index};
+ghost use Rattle.std.specs.Prelude.{◌≡◌, ◌<◌, ◌≤◌, ◌+◌, ◌++◌, ◌∷◌, [], All, IfOk, OnOk, Some, length, map, slice_index, vec_capacity, vec_len};
 ghost use Rattle.units.specs.declared.code.Node.{Node};
 ghost use Rattle.scheme.specs.declared.registries.Scheme.{Scheme};
 ghost use Rattle.node.specs.Cores as node_cores;
 ghost use Rattle.protocol.specs.Weave.{IsQuiet};
+ghost use Rattle.protocol.specs.World.{step};
+ghost use Rattle.protocol.specs.declared.event.WorldEvent.TheVariants.{Commit, Post};
 ghost use Rattle.weave.specs.Following.{journal_of, place_of};
 ghost use Rattle.weave.specs.Kept.{HasPosted, IsFewer, IsFewerOrDone, IsFollowing, IsFollowingWith, IsPosting, Takes, HasWholeSame};
 ghost use Rattle.weave.specs.Steps.{whole_at, without_tails};
@@ -48,16 +50,52 @@ pub(crate) struct Following {
     pub due: Vec<Node>,
 }
 
+/// Posts the node's message with that key, if there is one.
+fn apply_post(world: &mut World, node: Node, key: u64) -> Result<Outcome, NoMemory>
+    ensures { IfOk result (λ o. record { world = world.new; outcome = o } ≡ step world.old (Post node key)) }
+{
+    let event = WorldEvent::Post { node, key };
+    let outcome = world.apply(&event);
+    drop(event);
+    outcome
+}
+
 impl Following {
+    /// The node commits its next record. Returns the event by which it does, where there is room for two events and for
+    /// a node that is due.
+    fn commit_next(&mut self, node: Node) -> Result<WorldEvent, NoMemory>
+        ensures event { IfOk result (λ e. e ≡ Commit node 1) }
+        ensures world { OnOk result (self.new.world ≡ (step self.old.world (Commit node 1)).world) }
+        ensures same { OnOk result ((self.new.events.items ≡ self.old.events.items) × (self.new.due.items ≡ self.old.due.items) × (self.new.places ≡ self.old.places) × (self.new.posted ≡ self.old.posted)) }
+        ensures events { OnOk result (vec_len self.new.events + 2 ≤ vec_capacity self.new.events) }
+        ensures due { OnOk result (vec_len self.new.due < vec_capacity self.new.due) }
+    {
+        self.events.reserve(2)?;
+        self.due.reserve(1)?;
+        let commit = WorldEvent::Commit { node, count: 1 };
+        match self.world.apply(&commit) {
+            Ok(_) => Ok(commit),
+            Err(NoMemory) => {
+                drop(commit);
+                Err(NoMemory)
+            }
+        }
+    }
+
     /// The node commits its next record, which the event gives it. Then the node is due again.
     fn take(&mut self, node: Node, event: WorldEvent) -> Result<(), NoMemory>
         ensures { OnOk result (Takes self.old self.new node event) }
     {
-        let commit = WorldEvent::Commit { node, count: 1 };
-        self.world.apply(&commit)?;
-        self.events.push(event)?;
-        self.events.push(commit)?;
-        self.due.push(node)?;
+        let commit = match self.commit_next(node) {
+            Ok(commit) => commit,
+            Err(NoMemory) => {
+                drop(event);
+                return Err(NoMemory);
+            }
+        };
+        self.events.push_reserved(event);
+        self.events.push_reserved(commit);
+        self.due.push_reserved(node);
         Ok(())
     }
 
@@ -66,8 +104,7 @@ impl Following {
         ensures { IfOk result (HasPosted self.old self.new node key) }
     {
         let place = self.world.bag().len() as u64;
-        let event = WorldEvent::Post { node, key };
-        match self.world.apply(&event)? {
+        match apply_post(&mut self.world, node, key)? {
             Outcome::Done => {}
             _ => return Ok(Progress::Rests),
         }
@@ -77,7 +114,8 @@ impl Following {
         let id = posted.message.transaction();
         let receiver = posted.message.receiver();
         add_place(self.alloc, &mut self.places, id, place)?;
-        self.events.push(event)?;
+        self.events.reserve(1)?;
+        self.events.push_reserved(WorldEvent::Post { node, key });
         self.due.push(receiver)?;
         Ok(Progress::Advanced)
     }

@@ -3,7 +3,7 @@ use Rattle.std.specs.Prelude.{All}
 use Rattle.node.specs.Cores as node_cores
 use Rattle.world.specs.Kept.{nodes}
 use Rattle.weave.proofs.Replayed.{AreAheadSoFar}
-use Rattle.weave.proofs.cores.replayed.Given as goal
+use Rattle.weave.proofs.cores.add_replayed.Given as goal
 
 abbrev pub invariant-loop-at : goal.invariant-loop-at
 invariant-loop-at l = record {

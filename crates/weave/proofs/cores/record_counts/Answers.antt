@@ -1,0 +1,11 @@
+use Rattle.std.proofs.Common.{◌++◌, ◌∷◌, [], ℕ, length, ap, ◌∙◌}
+use Rattle.node.specs.Cores as node_cores
+use Rattle.node.specs.declared.any_core.Core.{Core}
+use Rattle.weave.proofs.Lists.{images_more}
+use Rattle.weave.proofs.cores.record_counts.Goals as goal
+
+pub loop-core-preserved : goal.loop-core-preserved
+loop-core-preserved c =
+    c.in_ok-push.ensures.items
+    ∙ ap (λ (n : ℕ). c.loop-core.counts.items ++ n ∷ []) c.records.ensures
+    ∙ images_more (λ (core : Core). length (node_cores.journal_of core)) c.loop-core.counts.items c.args.cores.now c.loop-core.core-index c.core-item.result c.loop-core-test.true c.core-item.is c.loop-core.invariant

@@ -1,5 +1,5 @@
 //! The nodes of a run, each with its desk, its store and its connections.
-ghost use Rattle.std.specs.Prelude.{◌≡◌, ◌<◌, ◌+◌, ◌++◌, ◌∷◌, [], length, map, slice_get, vec_len, IfOk, OnOk};
+ghost use Rattle.std.specs.Prelude.{◌≡◌, ◌<◌, ◌+◌, length, map, slice_get, vec_len, IfOk, OnOk};
 ghost use Rattle.playing.specs.Wiring.{peers_of};
 
 use desk::{Desk, RoomBell, State};

@@ -1,4 +1,4 @@
-use Rattle.std.proofs.Common.{List, map, sym, subst}
+use Rattle.std.proofs.Common.{map, sym, subst}
 use Rattle.std.proofs.lemmas.List.Elements.{All-append}
 use Rattle.desk.specs.declared.notes.Note.{Note}
 use Rattle.desk.specs.Rooms.{IsNoRecord, TellNoRecord}

@@ -1,7 +1,9 @@
 -- What is so of all notes, or of one of them, in any order, is so of those of all seats, or of those of one seat.
-use Rattle.std.proofs.Common.{◌≡◌, ℕ, zero, suc, ◌<◌, List, [], ◌∷◌, ◌++◌, length, map, subst, refl, arith, Option, Some, None, Result, Ok, Err, IfOk, MatchOption}
+use Rattle.std.proofs.Common.{◌≡◌, ℕ, zero, suc, ◌+◌, ◌<◌, List, [], ◌∷◌, ◌++◌, length, get_or, take, map, sym, ap, subst, refl, ◌∙◌, arith, Option, Some, None, Result, Ok, Err, IfOk, MatchOption}
 use Rattle.std.specs.Prelude.{Contains, IsPermutation}
 use Rattle.std.specs.List.{All, AllByRecursion, Any, flat_map, slice_index_or}
+use Rattle.std.proofs.lemmas.Grind.{flat_map-append}
+use Rattle.std.proofs.lemmas.List.{append_assoc, append-nil, map_push, take_more}
 use Rattle.std.proofs.lemmas.List.Elements.{All-from_recursion, recursion_from_All}
 use Rattle.std.proofs.lemmas.List.Sorted.{All-permutation, IsPermutation-sym}
 use Rattle.lemmas.proofs.Membership.{In, In_flat_map, map_In}
@@ -96,3 +98,20 @@ module _ {X : Type 0} (seen : X → Note) (scheme : Scheme) (n : Node) (seats : 
   pub found_in_seats : (lent journal : List Input) → lent ≡ journal → IsPermutation (flat_map (λ (s : Heard). s.notes) seats) (map seen notes)
       → (result : Result (Option ℕ) NoMemory) → IfOk result (Found lent) → IfOk result (FoundInSeats journal)
   found_in_seats lent journal journals moved result h = found_among journal moved result (subst (λ (j : List Input). IfOk result (Found j)) journals h)
+
+-- ---- one after another
+
+-- one note more
+pub one_noted : {X Y : Type 0} (g : X → Y) (now old : List X) (x : X) (ys : List Y) (i : ℕ) (y : Y) → i < length ys → y ≡ get_or ys i y → g x ≡ y
+    → map g now ≡ map g old ++ take i ys → map g (now ++ x ∷ []) ≡ map g old ++ take (i + 1) ys
+one_noted g now old x ys i y lt is same so_far =
+    map_push g now x ∙ ap (λ l. l ++ g x ∷ []) so_far ∙ append_assoc (map g old) (take i ys) (g x ∷ [])
+    ∙ ap (λ l. map g old ++ l) (ap (λ z. take i ys ++ z ∷ []) (same ∙ is) ∙ sym (take_more ys i y lt))
+
+-- the notes of one seat more
+pub seat_noted : {X Y A : Type 0} (g : X → A) (f : Y → List A) (now old : List X) (ys : List Y) (i : ℕ) (y : Y) (more : List A) → i < length ys → y ≡ get_or ys i y → more ≡ f y
+    → map g now ≡ map g old ++ more → map g old ≡ flat_map f (take i ys) → map g now ≡ flat_map f (take (i + 1) ys)
+seat_noted g f now old ys i y more lt is same added so_far =
+    let d = get_or ys i y in
+    added ∙ ap (λ l. l ++ more) so_far ∙ ap (λ l. flat_map f (take i ys) ++ l) (same ∙ ap f is ∙ sym (append-nil (f d)))
+    ∙ sym (ap (flat_map f) (take_more ys i y lt) ∙ flat_map-append f (take i ys) (d ∷ []))

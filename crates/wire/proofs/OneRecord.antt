@@ -8,6 +8,7 @@ use Rattle.units.specs.Code.{code_text}
 use Rattle.units.specs.declared.code.Code.{Code}
 use Rattle.units.proofs.OneText.{code_text_same}
 use Rattle.units.specs.Limits.{last_moment}
+use Rattle.status.specs.Id.{id_text}
 use Rattle.status.specs.Order.{Order, IsOrder}
 use Rattle.status.specs.declared.id.TransactionId.{TransactionId}
 use Rattle.status.specs.declared.moment.Moment.{Moment}
@@ -73,6 +74,36 @@ pub open_word : (d : Data) → HasAt d (codes "input") (string (codes "open")) �
 unfolding input_word
 open_word d at (OpenAccount n) is = (n, is)
 open_word d at i is = clash (word_is d (codes "open") i at is) refl refl
+
+abbrev pub IsAck : Data → Number → Type 0
+IsAck d n = HasExactly d ((codes "input", string (codes "ack")) ∷ (codes "key", whole n.value) ∷ [])
+
+abbrev pub IsCleanUp : Data → Moment → Type 0
+IsCleanUp d t = HasExactly d ((codes "input", string (codes "clean_up")) ∷ (codes "moment", whole t.seconds) ∷ [])
+
+abbrev pub IsRequestOrder : Data → TransactionId → Type 0
+IsRequestOrder d t = HasExactly d ((codes "input", string (codes "request")) ∷ (codes "transaction", string (id_text t)) ∷ [])
+
+-- and so are those of the other words
+pub close_word : (d : Data) → HasAt d (codes "input") (string (codes "close")) → (i : Input) → IsRecord d i → (n : Number) × IsAccountOrder d (codes "close") n
+unfolding input_word
+close_word d at (CloseAccount n) is = (n, is)
+close_word d at i is = clash (word_is d (codes "close") i at is) refl refl
+
+pub ack_word : (d : Data) → HasAt d (codes "input") (string (codes "ack")) → (i : Input) → IsRecord d i → (n : Number) × IsAck d n
+unfolding input_word
+ack_word d at (Ack n) is = (n, is)
+ack_word d at i is = clash (word_is d (codes "ack") i at is) refl refl
+
+pub clean_up_word : (d : Data) → HasAt d (codes "input") (string (codes "clean_up")) → (i : Input) → IsRecord d i → (t : Moment) × IsCleanUp d t
+unfolding input_word
+clean_up_word d at (CleanUp t) is = (t, is)
+clean_up_word d at i is = clash (word_is d (codes "clean_up") i at is) refl refl
+
+pub request_word : (d : Data) → HasAt d (codes "input") (string (codes "request")) → (i : Input) → IsRecord d i → (t : TransactionId) × IsRequestOrder d t
+unfolding input_word
+request_word d at (Request t) is = (t, is)
+request_word d at i is = clash (word_is d (codes "request") i at is) refl refl
 
 -- ---- one input
 

@@ -35,10 +35,6 @@ left_short n j records core node journal fits =
       short = subst (λ (l : List Input). length l ≤ records) (sym journal) (omega (arith, size));
     }
 
-pub left_whole : (n : Node) (j : List Input) (records : ℕ) (core : Core) → node_of core ≡ n → journal_of core ≡ j → length j ≤ records → IsLeft n j records core
-left_whole n j records core node journal fits =
-    record { node = node; front = ap (take records) journal; short = subst (λ (l : List Input). length l ≤ records) (sym journal) fits }
-
 -- the journal that is left begins as the old one does and has no tail
 pub crashed : (n : Node) (c kept : ℕ) (j left : List Input) → c ≤ length j → kept ≤ length j - c → take (c + kept) left ≡ take (c + kept) j → length left ≤ c + kept
     → turn (record { node = n; committed = take (c + kept) left; tail = drop (c + kept) left; runs = false }) Done ≡ crash kept (at n c j)

@@ -1,9 +1,11 @@
 -- What a world shows, gathered one element at a time.
-use Rattle.std.proofs.Common.{◌≡◌, ℕ, zero, suc, ◌+◌, ◌<◌, List, [], ◌∷◌, ◌++◌, map, take, length, get_or, Option, Some, None, refl, sym, ap, ◌∙◌, subst, arith}
+use Rattle.std.proofs.Common.{◌≡◌, Bool, true, false, ℕ, zero, suc, ◌+◌, ◌<◌, List, [], ◌∷◌, ◌++◌, map, take, length, get_or, Option, Some, None, refl, sym, ap, ◌∙◌, subst, arith}
 use Rattle.std.specs.Prelude.{option_and_then, slice_get}
-use Rattle.std.specs.List.{filter_map, cons_option}
+use Rattle.std.specs.List.{filter, filter_map, flat_map, cons_option}
 use Rattle.std.specs.Option.{option_to_list}
-use Rattle.std.proofs.lemmas.List.{map-append, take_more}
+use Rattle.std.proofs.lemmas.List.{append-nil, map-append, take_more}
+use Rattle.std.proofs.lemmas.List.Concat.{flat_map-append}
+use Rattle.std.proofs.lemmas.List.Elements.{filter-append}
 use Rattle.accounts.specs.declared.unit_holding.HeldBlock.{HeldBlock}
 use Rattle.scheme.specs.declared.members.SchemeRegistry.{SchemeRegistry}
 use Rattle.protocol.specs.World.{World}
@@ -15,6 +17,26 @@ use Rattle.world.specs.declared.views.Stock.{Stock}
 -- the front of a list, with one element more
 pub front_more : {X : Type 0} (xs : List X) (i : ℕ) (x : X) → i < length xs → x ≡ get_or xs i x → take (i + 1) xs ≡ take i xs ++ x ∷ []
 front_more xs i x h is = take_more xs i x h ∙ ap (λ y. take i xs ++ y ∷ []) (sym is)
+
+-- ---- what is gathered of all elements, and of those that pass a test
+
+pub flat_map_next : {X Y : Type 0} (f : X → List Y) (xs : List X) (i : ℕ) (x : X) → i < length xs → x ≡ get_or xs i x → flat_map f (take (i + 1) xs) ≡ flat_map f (take i xs) ++ f x
+flat_map_next f xs i x h is = ap (flat_map f) (front_more xs i x h is) ∙ flat_map-append f (take i xs) (x ∷ []) ∙ ap (λ l. flat_map f (take i xs) ++ l) (append-nil (f x))
+
+seen_next : {X Y : Type 0} (keeps : Y → Bool) (f : X → Y) (xs : List X) (i : ℕ) (x : X) → i < length xs → x ≡ get_or xs i x → filter keeps (map f (take (i + 1) xs)) ≡ filter keeps (map f (take i xs)) ++ filter keeps (f x ∷ [])
+seen_next keeps f xs i x h is = ap (λ l. filter keeps (map f l)) (front_more xs i x h is) ∙ ap (filter keeps) (map-append f (take i xs) (x ∷ [])) ∙ filter-append keeps (map f (take i xs)) (f x ∷ [])
+
+passes : {Y : Type 0} (keeps : Y → Bool) (y : Y) → keeps y ≡ true → filter keeps (y ∷ []) ≡ y ∷ []
+passes keeps y e = rw e refl
+
+fails : {Y : Type 0} (keeps : Y → Bool) (y : Y) → keeps y ≡ false → filter keeps (y ∷ []) ≡ []
+fails keeps y e = rw e refl
+
+pub filter_next : {X Y : Type 0} (keeps : Y → Bool) (f : X → Y) (xs : List X) (i : ℕ) (x : X) → i < length xs → x ≡ get_or xs i x → keeps (f x) ≡ true → filter keeps (map f (take (i + 1) xs)) ≡ filter keeps (map f (take i xs)) ++ f x ∷ []
+filter_next keeps f xs i x h is e = seen_next keeps f xs i x h is ∙ ap (λ l. filter keeps (map f (take i xs)) ++ l) (passes keeps (f x) e)
+
+pub filter_past : {X Y : Type 0} (keeps : Y → Bool) (f : X → Y) (xs : List X) (i : ℕ) (x : X) → i < length xs → x ≡ get_or xs i x → keeps (f x) ≡ false → filter keeps (map f (take (i + 1) xs)) ≡ filter keeps (map f (take i xs))
+filter_past keeps f xs i x h is e = seen_next keeps f xs i x h is ∙ ap (λ l. filter keeps (map f (take i xs)) ++ l) (fails keeps (f x) e) ∙ append-nil (filter keeps (map f (take i xs)))
 
 -- ---- what is gathered of the elements of which there is something
 

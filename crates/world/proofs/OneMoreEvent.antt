@@ -38,5 +38,5 @@ module _ (scheme : Scheme) (events : List WorldEvent) (event : WorldEvent) (w v 
   next_way_out = subst WayOut led (laws.way_out scheme (events ++ event ∷ []))
 
 -- a loop over all events has ended: none is left out
-pub all_led : (scheme : Scheme) (events : List WorldEvent) (i : ℕ) (w : World) → length events ≤ i → run w (drop i events) ≡ run (opening scheme) events → run (opening scheme) events ≡ w
-all_led scheme events i w l e = sym e ∙ ap (run w) (drop_of_length-le events l)
+pub all_led : (start : World) (events : List WorldEvent) (i : ℕ) (w : World) → length events ≤ i → run w (drop i events) ≡ run start events → w ≡ run start events
+all_led start events i w l e = sym (ap (run w) (drop_of_length-le events l)) ∙ e

@@ -10,6 +10,7 @@ use node::Core;
 use protocol::{NodeCore, Outcome, ReplayFault, Stepped, replay};
 use std::alloc::Global;
 use std::collections::BTreeSet;
+use std::mem;
 use units::{NoMemory, Node, Refusal};
 use wire::{Input, Message};
 
@@ -48,6 +49,24 @@ fn core_before(core: &Core, records: usize) -> Result<Core, NoMemory>
         // A journal's first records are recorded again.
         Err(ReplayFault::NotRecorded(_)) => unreachable!(),
     }
+}
+
+/// Lets the core have the first `records` records of its journal alone. Only where records are lost is the journal that
+/// is left replayed. After `NoMemory` the core is as it was.
+fn cut_core(core: &mut Core, records: usize) -> Result<(), NoMemory>
+    requires { records ≤ length (journal_of core.old) }
+    ensures front { OnOk result (take records (journal_of core.new) ≡ take records (journal_of core.old)) }
+    ensures short { OnOk result (length (journal_of core.new) ≤ records) }
+    ensures err { OnErr result (core.new ≡ core.old) }
+    ensures scheme { scheme_of core.new ≡ scheme_of core.old }
+    ensures node { node_of core.new ≡ node_of core.old }
+{
+    if core.records() <= records {
+        return Ok(());
+    }
+    let restarted = core_before(core, records)?;
+    drop(mem::replace(core, restarted));
+    Ok(())
 }
 
 impl Station {
@@ -102,7 +121,7 @@ impl Station {
     }
 
     /// Stops the node, where it runs and its tail has `kept` records: these are committed, and the others are lost.
-    /// Only where records are lost is the journal that is left replayed. After `NoMemory` the node is as it was.
+    /// After `NoMemory` the node is as it was.
     pub(crate) fn crash(&mut self, kept: u64) -> Result<Outcome, NoMemory>
         ensures ok { IfOk result (λ o. record { station = station_of self.new; outcome = o } ≡ worlds.crash kept (station_of self.old)) }
         ensures err { OnErr result (station_of self.new ≡ station_of self.old) }
@@ -110,15 +129,12 @@ impl Station {
         ensures node { node_of self.new.core ≡ node_of self.old.core }
         ensures posted { self.new.posted ≡ self.old.posted }
     {
-        let records = self.core.records();
-        let tail = records - self.committed;
+        let tail = self.core.records() - self.committed;
         if !self.runs || kept > tail as u64 {
             return Ok(Outcome::NotPossible);
         }
         let left = self.committed + kept as usize;
-        if left < records {
-            self.core = core_before(&self.core, left)?;
-        }
+        cut_core(&mut self.core, left)?;
         self.committed = left;
         self.runs = false;
         Ok(Outcome::Done)

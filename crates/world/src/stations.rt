@@ -2,7 +2,7 @@
 ghost use Rattle.std.specs.BTreeSet.{contains};
 ghost use Rattle.std.specs.List.{position_from};
 ghost use Rattle.std.specs.Ordering.{nat_cmp};
-ghost use Rattle.std.specs.Prelude.{◌≡◌, ◌∷◌, ℕ, false, map, All, IfOk};
+ghost use Rattle.std.specs.Prelude.{◌≡◌, ◌++◌, ◌∷◌, [], ℕ, false, map, All, IfOk, OnOk};
 ghost use Rattle.std.specs.declared.cmp.Ordering.TheVariants.{Less};
 ghost use Rattle.units.specs.Apart.{Pairwise};
 ghost use Rattle.units.specs.Code.{same_code, same_node};
@@ -50,6 +50,38 @@ fn opening_station(alloc: Global, scheme: &Scheme, node: Node) -> Result<Station
     Ok(Station::new(alloc, core))
 }
 
+/// Adds a station of that node, which has recorded nothing.
+fn add_opening_station(
+    stations: &mut Vec<Station>,
+    alloc: Global,
+    scheme: &Scheme,
+    node: Node,
+) -> Result<(), NoMemory>
+    ensures opens { OnOk result (map station_of stations.new.items ≡ map station_of stations.old.items ++ opening_station node ∷ []) }
+    ensures fresh { OnOk result (All (IsFresh scheme.now) stations.old.items → All (IsFresh scheme.now) stations.new.items) }
+{
+    stations.reserve(1)?;
+    stations.push_reserved(opening_station(alloc, scheme, node)?);
+    Ok(())
+}
+
+/// Adds the stations of the opening world where there are none: the log, then the registries in the scheme's order.
+fn add_opening_stations(
+    stations: &mut Vec<Station>,
+    alloc: Global,
+    scheme: &Scheme,
+) -> Result<(), NoMemory>
+    requires empty { stations.old.items ≡ [] }
+    ensures opens { OnOk result (map station_of stations.new.items ≡ opening_station Node.Itl ∷ map (λ m. opening_station (Node.Registry m.code)) scheme.now.members) }
+    ensures fresh { OnOk result (All (IsFresh scheme.now) stations.new.items) }
+{
+    add_opening_station(stations, alloc, scheme, Node::Itl)?;
+    for member in scheme.registries() {
+        add_opening_station(stations, alloc, scheme, Node::Registry(member.code))?;
+    }
+    Ok(())
+}
+
 /// The stations of the opening world: the log, then the registries in the scheme's order.
 pub(crate) fn opening_stations(alloc: Global, scheme: &Scheme) -> Result<Vec<Station>, NoMemory>
     ensures opens { IfOk result (λ v. map station_of v.items ≡ opening_station Node.Itl ∷ map (λ m. opening_station (Node.Registry m.code)) scheme.now.members) }
@@ -57,11 +89,13 @@ pub(crate) fn opening_stations(alloc: Global, scheme: &Scheme) -> Result<Vec<Sta
     ensures fresh { IfOk result (λ v. All (IsFresh scheme.now) v.items) }
 {
     let mut stations = Vec::new(alloc);
-    stations.push(opening_station(alloc, scheme, Node::Itl)?)?;
-    for member in scheme.registries() {
-        stations.push(opening_station(alloc, scheme, Node::Registry(member.code))?)?;
+    match add_opening_stations(&mut stations, alloc, scheme) {
+        Ok(()) => Ok(stations),
+        Err(NoMemory) => {
+            drop(stations);
+            Err(NoMemory)
+        }
     }
-    Ok(stations)
 }
 
 /// The stations of these cores, each of which has committed and posted nothing.

@@ -193,8 +193,14 @@ impl World {
         let Some(message) = copied(self.stations[at].sent(key))? else {
             return Ok(Outcome::NotPossible);
         };
-        self.bag.reserve(1)?;
-        self.stations[at].mark_posted(key)?;
+        if self.bag.reserve(1).is_err() {
+            drop(message);
+            return Err(NoMemory);
+        }
+        if let Err(NoMemory) = self.stations[at].mark_posted(key) {
+            drop(message);
+            return Err(NoMemory);
+        }
         self.bag.push_reserved(Posted { node, key, message });
         Ok(Outcome::Done)
     }
@@ -206,7 +212,10 @@ impl World {
         match copied(message_at(self.bag.as_slice(), index))? {
             Some(message) => {
                 let node = message.receiver();
-                self.take(node, &Input::Received { message, moment })
+                let input = Input::Received { message, moment };
+                let taken = self.take(node, &input);
+                drop(input);
+                taken
             }
             None => Ok(Outcome::NotPossible),
         }
@@ -244,6 +253,16 @@ impl World {
         self.move_by(event)
     }
 
+    /// Moves the world by all these events, one after another, none left out.
+    fn apply_all(&mut self, events: &[WorldEvent]) -> Result<(), NoMemory>
+        ensures { OnOk result (self.new ≡ run self.old events.now) }
+    {
+        for event in events {
+            self.apply(event)?;
+        }
+        Ok(())
+    }
+
     /// The world that all these events lead to from the opening one, one after another, none left out. Or `NoMemory`.
     ///
     /// By journals with their tails and by committed journals, no tonne is in two places and none is lost: an
@@ -260,9 +279,12 @@ impl World {
         ensures way_out { IfOk result WayOut }
     {
         let mut world = World::new(alloc, scheme)?;
-        for event in events {
-            world.apply(event)?;
+        match world.apply_all(events) {
+            Ok(()) => Ok(world),
+            Err(NoMemory) => {
+                drop(world);
+                Err(NoMemory)
+            }
         }
-        Ok(world)
     }
 }

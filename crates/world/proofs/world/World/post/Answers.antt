@@ -1,5 +1,4 @@
-use Rattle.std.proofs.Common.{arith, Result, Ok, Err, ◌++◌, ◌∷◌, [], List, sym, ap, ◌∙◌, subst}
-use Rattle.std.specs.Prelude.{OnErr}
+use Rattle.std.proofs.Common.{arith, ◌++◌, ◌∷◌, [], List, sym, ap, ◌∙◌, subst}
 use Rattle.std.proofs.Math.ListN.{set}
 use Rattle.protocol.specs.World.{step}
 use Rattle.protocol.specs.declared.event.Outcome.TheVariants.{Done}
@@ -10,10 +9,6 @@ use Rattle.world.proofs.KeptWorlds.{found, kept_post, kept_turn, posts, posts_no
 use Rattle.world.proofs.Places.{place_within}
 use Rattle.world.proofs.Worlds.{after, still}
 use Rattle.world.proofs.world.World.post.Goals as goal
-
-on_err : {T E P : Type 0} (r : Result T E) → P → OnErr r P
-on_err (Ok x) p = tt
-on_err (Err x) p = p
 
 pub returns-in_default-clause-ok : goal.returns-in_default-clause-ok
 unfolding step
@@ -31,31 +26,30 @@ returns-in_default-2-clause-ok c =
 pub index_mut-requires : goal.index_mut-requires
 index_mut-requires c = omega (arith, place_within _ _ _ (found c.self.inside.scheme c.self.inside.stations.items c.self.inside.bag.items c.args.node c.in-Some.at c.self.invariant c.in-Some.ensures), c.self.inside.stations.ok.0)
 
-pub invariant_of-self-in_err-mark_posted : goal.invariant_of-self-in_err-mark_posted
-invariant_of-self-in_err-mark_posted c =
-    subst (λ (bag : List Posted). AreKept c.self.inside.scheme (set c.self.inside.stations.items c.in-Some.at c.mark_posted.new.self) bag) (sym c.in_ok-reserve.ensures.items)
+pub invariant_of-self-in-Err : goal.invariant_of-self-in-Err
+invariant_of-self-in-Err c =
+    subst (λ (bag : List Posted). AreKept c.self.inside.scheme (set c.self.inside.stations.items c.in-Some.at c.mark_posted.new.self) bag) (sym c.reserve.ensures.items)
     (kept_turn c.self.inside.scheme c.self.inside.stations.items c.self.inside.bag.items c.args.node c.in-Some.at c.index_mut.result.now c.mark_posted.new.self c.self.invariant c.in-Some.ensures c.index_mut.ensures.value
-    (record { scheme = ap scheme_of c.mark_posted.ensures.core; node = ap node_of c.mark_posted.ensures.core; posted = c.in_err-mark_posted.ensures.err }))
+    (record { scheme = ap scheme_of c.mark_posted.ensures.core; node = ap node_of c.mark_posted.ensures.core; posted = c.in-Err.ensures.err }))
 
-pub returns-in_err-mark_posted-clause-err : goal.returns-in_err-mark_posted-clause-err
-returns-in_err-mark_posted-clause-err c =
+pub returns-in-Err-clause-err : goal.returns-in-Err-clause-err
+returns-in-Err-clause-err c =
     rw (← c.self.view_is)
-    (on_err c.from_residual-in_err-mark_posted.result
-    (ap (world_of c.self.inside.scheme (set c.self.inside.stations.items c.in-Some.at c.mark_posted.new.self)) c.in_ok-reserve.ensures.items
-    ∙ still c.self.inside.scheme c.self.inside.stations.items c.self.inside.bag.items c.in-Some.at c.index_mut.result.now c.mark_posted.new.self c.index_mut.ensures.value c.mark_posted.ensures.seen))
+    (ap (world_of c.self.inside.scheme (set c.self.inside.stations.items c.in-Some.at c.mark_posted.new.self)) c.reserve.ensures.items
+    ∙ still c.self.inside.scheme c.self.inside.stations.items c.self.inside.bag.items c.in-Some.at c.index_mut.result.now c.mark_posted.new.self c.index_mut.ensures.value c.mark_posted.ensures.seen)
 
 pub invariant_of-self-2 : goal.invariant_of-self-2
 invariant_of-self-2 c =
     let p : Posted = record { node = c.args.node; key = c.args.key; message = c.in-Some-2.message } in
     subst (λ (bag : List Posted). AreKept c.self.inside.scheme (set c.self.inside.stations.items c.in-Some.at c.mark_posted.new.self) bag)
-    (sym (c.push_reserved.ensures.items ∙ ap (λ (l : List Posted). l ++ p ∷ []) c.in_ok-reserve.ensures.items))
-    (kept_post c.self.inside.scheme c.self.inside.stations.items c.self.inside.bag.items c.in-Some.at p c.index_mut.result.now c.mark_posted.new.self c.self.invariant c.in-Some.ensures c.index_mut.ensures.value c.mark_posted.ensures.core c.in_ok-mark_posted.ensures.ok)
+    (sym (c.push_reserved.ensures.items ∙ ap (λ (l : List Posted). l ++ p ∷ []) c.reserve.ensures.items))
+    (kept_post c.self.inside.scheme c.self.inside.stations.items c.self.inside.bag.items c.in-Some.at p c.index_mut.result.now c.mark_posted.new.self c.self.invariant c.in-Some.ensures c.index_mut.ensures.value c.mark_posted.ensures.core c.in_default-mark_posted.ensures.ok)
 
 pub returns-clause-ok : goal.returns-clause-ok
 unfolding step
 returns-clause-ok c =
     let p : Posted = record { node = c.args.node; key = c.args.key; message = c.in-Some-2.message } in
     rw (← c.self.view_is)
-    (ap (λ (bag : List Posted). after (world_of c.self.inside.scheme (set c.self.inside.stations.items c.in-Some.at c.mark_posted.new.self) bag) Done) (c.push_reserved.ensures.items ∙ ap (λ (l : List Posted). l ++ p ∷ []) c.in_ok-reserve.ensures.items)
+    (ap (λ (bag : List Posted). after (world_of c.self.inside.scheme (set c.self.inside.stations.items c.in-Some.at c.mark_posted.new.self) bag) Done) (c.push_reserved.ensures.items ∙ ap (λ (l : List Posted). l ++ p ∷ []) c.reserve.ensures.items)
     ∙ posts c.self.inside.scheme c.self.inside.stations.items c.self.inside.bag.items c.args.node c.in-Some.at c.args.key c.in-Some-2.message c.index.result.now c.index_mut.result.now c.mark_posted.new.self c.self.invariant c.in-Some.ensures c.index.ensures (sym c.in-Some-2.is ∙ c.in_ok-message.ensures ∙ c.sent.ensures)
     c.index_mut.ensures.value c.mark_posted.ensures.seen)

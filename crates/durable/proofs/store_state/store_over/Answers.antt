@@ -9,9 +9,9 @@ use Rattle.durable.proofs.store_state.store_over.Goals.{in-Ok-2, in-Err}
 
 pub returns-clause-places : goal.returns-clause-places
 returns-clause-places g c = elim c.match-open_as_store.branch [
-    | in-Ok-2 w ↦ λ p same. cc (w.fault-is, same)
-    | in-Err w ↦ λ p same. w.in-Err.ensures.places p (sym w.fault-is ∙ same)
-  ]
+  | in-Ok-2 w ↦ λ p same. cc (w.fault-is, same)
+  | in-Err w ↦ λ p same. w.in-Err.ensures.places p (sym w.fault-is ∙ same)
+]
 
 pub returns-clause-unharmed : goal.returns-clause-unharmed
 returns-clause-unharmed g c =

@@ -63,7 +63,11 @@ fn ask<R: Wait>(
     let handed = errands.send(rt, Errand { job, back });
     let is_handed = handed.is_ok();
     drop(handed);
-    let answer = if is_handed { answers.recv(rt).ok() } else { None };
+    let answer = if is_handed {
+        answers.recv(rt).ok()
+    } else {
+        None
+    };
     drop(answers);
     Ok(answer)
 }

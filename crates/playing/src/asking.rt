@@ -41,10 +41,14 @@ fn confirmed<C: NodeCore, B: Bell, R: Wait>(
 {
     let told = taken.told();
     if is_unjudged(told) {
+        drop(taken);
         return told;
     }
     match desk.confirm(rt, seat, taken) {
-        Ok(_) => told,
+        Ok(receipt) => {
+            drop(receipt);
+            told
+        }
         Err(refusal) => Told::Refused(refusal),
     }
 }

@@ -56,11 +56,20 @@ fn ask<R: Wait>(
     errands: &Sender<Errand>,
     job: Job,
 ) -> Result<Option<Answer>, NoMemory> {
-    let (back, answers) = crossbeam_channel::bounded(alloc, 1)?;
-    if errands.send(rt, Errand { job, back }).is_err() {
-        return Ok(None);
-    }
-    Ok(answers.recv(rt).ok())
+    let Ok((back, answers)) = crossbeam_channel::bounded(alloc, 1) else {
+        drop(job);
+        return Err(NoMemory);
+    };
+    let handed = errands.send(rt, Errand { job, back });
+    let is_handed = handed.is_ok();
+    drop(handed);
+    let answer = if is_handed {
+        answers.recv(rt).ok()
+    } else {
+        None
+    };
+    drop(answers);
+    Ok(answer)
 }
 
 /// The answer to a line, by a worker where the line writes a message. Where the workers are gone, the node has
@@ -80,12 +89,18 @@ fn answer_line<R: Wait>(
         Ok(job) => job,
         Err(refusal) => return Answer::unread(alloc, line, refusal),
     };
-    let copy = Vec::from_slice(alloc, line)?;
-    match ask(rt, alloc, errands, job)? {
+    let Ok(copy) = Vec::from_slice(alloc, line) else {
+        drop(job);
+        return Err(NoMemory);
+    };
+    if let Some(answer) = ask(rt, alloc, errands, job)? {
         // A worker's answer is to the job that it was handed.
-        Some(answer) if answer.line() == line => Ok(answer),
-        _ => Ok(Answer::stopped(copy)),
+        if answer.line() == line {
+            return Ok(answer);
+        }
+        drop(answer);
     }
+    Ok(Answer::stopped(copy))
 }
 
 impl<'a, R: Wait> Answerer for WorkersAnswerer<'a, R> {
@@ -117,6 +132,7 @@ pub(crate) fn work<C: NodeCore, B: Bell, K: Clock, G: Gate, R: Wait>(
         };
         let Errand { job, back } = errand;
         let answer = answer_job(rt, desk, seat, clock, gate, job);
-        let _ = back.send(rt, answer);
+        drop(back.send(rt, answer));
+        drop(back);
     }
 }

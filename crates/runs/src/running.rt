@@ -42,11 +42,7 @@ fn check_stores(names: &[Node], faults: &[Option<StoreFault>]) -> Result<(), OpF
 }
 
 /// Fails with the fault of the first node's store that failed, where there is one.
-fn check_nodes(
-    alloc: Global,
-    scheme: &Scheme,
-    faults: &[Option<StoreFault>],
-) -> Result<(), OpFault>
+fn check_nodes(alloc: Global, scheme: &Scheme, faults: &[Option<StoreFault>]) -> Result<(), OpFault>
     ensures { IfErr result IsLateFault }
 {
     let names = nodes_of(alloc, scheme)?;
@@ -137,7 +133,13 @@ fn whole_of<S: Drop>(
         drop(gathered);
         return Err(OpFault::NoMemory);
     };
-    let whole = with_table(alloc, scheme, states.as_slice(), gathered.seats.as_slice(), answers);
+    let whole = with_table(
+        alloc,
+        scheme,
+        states.as_slice(),
+        gathered.seats.as_slice(),
+        answers,
+    );
     drop(states);
     drop(gathered);
     whole

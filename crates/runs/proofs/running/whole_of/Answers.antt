@@ -1,4 +1,4 @@
-use Rattle.std.proofs.Common.{◌≡◌, List, length, map, subst, sym, arith}
+use Rattle.std.proofs.Common.{◌≡◌, length, map, subst, sym, arith}
 use Rattle.world.specs.Kept.{nodes}
 use Rattle.runs.specs.Gathered.{AreGathered}
 use Rattle.runs.proofs.Written.{if_ok}

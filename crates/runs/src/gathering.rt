@@ -1,5 +1,7 @@
 //! What a run leaves: of each node the state, and the seats of all that were told something by its desk.
-ghost use Rattle.std.specs.Prelude.{◌≡◌, ◌+◌, ◌++◌, ◌∷◌, [], List, Contains, length, map, vec_len, IfOk, OnOk};
+ghost use Rattle.std.specs.Prelude.{◌≡◌, ◌+◌, ◌<◌, ◌++◌, ◌∷◌, [], Contains, Vec, length, map, vec_capacity, vec_len, IfOk, OnOk};
+ghost use Rattle.std.specs.Global.{Global};
+ghost use Rattle.desk.specs.Views.{Heard};
 ghost use Rattle.runs.specs.Gathered.{AreGathered};
 
 use desk::{Bell, Desk, Seat, State};
@@ -17,20 +19,45 @@ pub(crate) struct Gathered {
     pub(crate) faults: Vec<Option<StoreFault>>,
 }
 
-/// The seats of a node's threads, and one more.
-fn with_seat(mut seats: Vec<Seat>, seat: Seat) -> Result<Vec<Seat>, NoMemory>
-    ensures { IfOk result (λ v. Contains v.items seat) }
-{
-    seats.push(seat)?;
-    Ok(seats)
-}
-
 impl Gathered {
-    fn add(&mut self, seats: Vec<Seat>, fault: Option<StoreFault>) -> Result<(), NoMemory>
-        ensures { OnOk result (self.new.seats.items ≡ self.old.seats.items ++ seats ∷ []) }
+    /// Makes room for one node more, and for one seat more among its seats.
+    fn make_room(&mut self, seats: &mut Vec<Seat>) -> Result<(), NoMemory>
+        ensures gathered { self.new.seats.items ≡ self.old.seats.items }
+        ensures seats { OnOk result ((vec_len self.new.seats < vec_capacity self.new.seats) × (vec_len self.new.faults < vec_capacity self.new.faults)) }
+        ensures seat { OnOk result (vec_len seats.new < vec_capacity seats.new) }
     {
-        self.seats.push(seats)?;
-        self.faults.push(fault)?;
+        seats.reserve(1)?;
+        self.seats.reserve(1)?;
+        self.faults.reserve(1)?;
+        Ok(())
+    }
+
+    /// Adds the seats of a node's threads, and one more.
+    fn add<S: Drop>(
+        &mut self,
+        end: Option<Result<NodeEnd<S>, NoMemory>>,
+        seat: Seat,
+    ) -> Result<(), NoMemory>
+        ensures { OnOk result ((v : Vec Heard Global) × (self.new.seats.items ≡ self.old.seats.items ++ v ∷ []) × Contains v.items seat) }
+    {
+        let Some(Ok(end)) = end else {
+            drop(seat);
+            return Err(NoMemory);
+        };
+        let NodeEnd {
+            seats: mut others,
+            store,
+            fault,
+        } = end;
+        drop(store);
+        if let Err(NoMemory) = self.make_room(&mut others) {
+            drop(others);
+            drop(seat);
+            return Err(NoMemory);
+        }
+        others.push_reserved(seat);
+        self.seats.push_reserved(others);
+        self.faults.push_reserved(fault);
         Ok(())
     }
 }
@@ -50,15 +77,11 @@ pub(crate) fn gather<S: Drop>(
     };
     let mut ends = ends.into_iter();
     for seat in seats {
-        let Some(end) = ends.next() else {
+        if let Err(NoMemory) = gathered.add(ends.next(), seat) {
+            drop(ends);
+            drop(gathered);
             return Err(NoMemory);
-        };
-        let NodeEnd {
-            seats: others,
-            store: _,
-            fault,
-        } = end?;
-        gathered.add(with_seat(others, seat)?, fault)?;
+        }
     }
     Ok(gathered)
 }

@@ -6,13 +6,14 @@ ghost use Rattle.world.specs.Kept.{nodes};
 ghost use Rattle.scripts.specs.declared.line.ScriptLine.{ScriptLine as ALine};
 ghost use Rattle.playing.specs.Answers.{answer_lines};
 ghost use Rattle.playing.specs.Heard.{AreHeard};
+ghost use Rattle.runs.specs.Gathered.{AreGathered};
 ghost use Rattle.runs.specs.Runs.{FailsToRun, IsLateFault, IsRunReport};
 ghost use Rattle.playing.specs.declared.answer.Answer.{Answer as AnAnswer};
 
-use crate::gathering::{gather, states_of};
+use crate::gathering::{Gathered, gather, states_of};
 use crate::reporting::report_of;
 use answers::Clock;
-use desk::{Desk, Gate, RoomBell, Seat};
+use desk::{Desk, Gate, RoomBell, Seat, State};
 use inputs::{OpFault, store_fault, write_out};
 use node::Core;
 use playing::{Ends, Loaded, Network, Played, Run, lines_of, run_and_play};
@@ -40,12 +41,69 @@ fn check_stores(names: &[Node], faults: &[Option<StoreFault>]) -> Result<(), OpF
     Ok(())
 }
 
+/// Fails with the fault of the first node's store that failed, where there is one.
+fn check_nodes(alloc: Global, scheme: &Scheme, faults: &[Option<StoreFault>]) -> Result<(), OpFault>
+    ensures { IfErr result IsLateFault }
+{
+    let names = nodes_of(alloc, scheme)?;
+    check_stores(names.as_slice(), faults)
+}
+
 fn joined(alloc: Global, first: &str, second: &str) -> Result<String, NoMemory>
     ensures { IfOk result (λ s. string_bytes s ≡ first.now ++ second.now) }
 {
     let mut text = String::from_str(alloc, first)?;
     text.push_str(second)?;
     Ok(text)
+}
+
+/// What a run leaves, where no store failed.
+fn gather_checked<S: Drop>(
+    alloc: Global,
+    scheme: &Scheme,
+    ends: Ends<S>,
+    seats: Vec<Seat>,
+) -> Result<Gathered, OpFault>
+    ensures ok { IfOk result (λ g. AreGathered seats.items (map (λ v. v.items) g.seats.items)) }
+    ensures err { IfErr result IsLateFault }
+{
+    let ends = match ends {
+        Ok(ends) => ends,
+        Err(NoMemory) => {
+            drop(seats);
+            return Err(OpFault::NoMemory);
+        }
+    };
+    let gathered = gather(alloc, ends, seats)?;
+    match check_nodes(alloc, scheme, gathered.faults.as_slice()) {
+        Ok(()) => Ok(gathered),
+        Err(fault) => {
+            drop(gathered);
+            Err(fault)
+        }
+    }
+}
+
+/// The answers, and then the table of these states.
+fn with_table(
+    alloc: Global,
+    scheme: &Scheme,
+    states: &[State<Core>],
+    seats: &[Vec<Seat>],
+    answers: &str,
+) -> Result<String, OpFault>
+    requires states { length states.now ≡ length (nodes scheme.now) }
+    requires seats { length seats.now ≡ length (nodes scheme.now) }
+    ensures ok { IfOk result
+        (λ s. (own : List Heard) → length own ≡ length (nodes scheme.now) → AreGathered own (map (λ v. v.items) seats.now)
+        → (lines : List ALine) (told : List AnAnswer) → AreHeard scheme.now own lines told
+        → answers.now ≡ answer_lines 1 told → IsRunReport scheme.now lines (string_bytes s)) }
+    ensures err { IfErr result IsLateFault }
+{
+    match report_of(alloc, scheme, states, seats) {
+        Ok(table) => Ok(joined(alloc, answers, table.as_str())?),
+        Err(fault) => Err(fault),
+    }
 }
 
 /// The answers, and then the table of what the nodes have committed.
@@ -64,14 +122,27 @@ fn whole_of<S: Drop>(
         → answers.now ≡ answer_lines 1 told → IsRunReport scheme.now lines (string_bytes s)) }
     ensures err { IfErr result IsLateFault }
 {
-    let names = nodes_of(alloc, scheme)?;
-    let gathered = gather(alloc, ends?, seats)?;
-    check_stores(names.as_slice(), gathered.faults.as_slice())?;
-    let states = states_of(alloc, desks)?;
-    match report_of(alloc, scheme, states.as_slice(), gathered.seats.as_slice()) {
-        Ok(table) => Ok(joined(alloc, answers, table.as_str())?),
-        Err(fault) => Err(fault),
-    }
+    let gathered = match gather_checked(alloc, scheme, ends, seats) {
+        Ok(gathered) => gathered,
+        Err(fault) => {
+            drop(desks);
+            return Err(fault);
+        }
+    };
+    let Ok(states) = states_of(alloc, desks) else {
+        drop(gathered);
+        return Err(OpFault::NoMemory);
+    };
+    let whole = with_table(
+        alloc,
+        scheme,
+        states.as_slice(),
+        gathered.seats.as_slice(),
+        answers,
+    );
+    drop(states);
+    drop(gathered);
+    whole
 }
 
 /// Writes what a run came to: the answers in any case, and then the table or the fault.
@@ -148,5 +219,13 @@ where
         ends,
         played,
     } = run_and_play(rt, alloc, scheme, lines, loaded, network)?;
-    write_run(alloc, scheme, desks, ends, played?, lines, writer)
+    let played = match played {
+        Ok(played) => played,
+        Err(NoMemory) => {
+            drop(desks);
+            drop(ends);
+            return Err(OpFault::NoMemory);
+        }
+    };
+    write_run(alloc, scheme, desks, ends, played, lines, writer)
 }

@@ -7,11 +7,12 @@ pub loop-seat-preserved : goal.loop-seat-preserved
 loop-seat-preserved g c =
     let step = c.in-Some.ensures.steps in
     let all = c.loop-seat.gathered.seats.items in
-    let longer = ap (λ (l : _). length l) c.in_ok-add.ensures in
+    let more = c.in_default.ensures in
+    let longer = ap (λ (l : _). length l) more.1 in
     record {
-      rest = rest_more (λ v. v.items) c.args.seats.items all c.in_ok-with_seat.field-0 c.in-Some.seat c.loop-seat.seat-iterator.rest.items c.next.new.self.rest.items c.loop-seat.invariant.rest step.0 c.add.new.self.seats.items c.in_ok-add.ensures;
-      each = gathered_more (λ v. v.items) c.args.seats.items all c.in_ok-with_seat.field-0 c.in-Some.seat c.loop-seat.seat-iterator.rest.items c.next.new.self.rest.items c.loop-seat.invariant.rest step.0 c.add.new.self.seats.items c.in_ok-add.ensures c.in_ok-with_seat.ensures c.loop-seat.invariant.each;
-      count = omega (arith, longer, length-append all (c.in_ok-with_seat.field-0 ∷ []), ap (λ (l : _). length l) step.0, c.loop-seat.invariant.count);
+      rest = rest_more (λ v. v.items) c.args.seats.items all more.0 c.in-Some.seat c.loop-seat.seat-iterator.rest.items c.next.new.self.rest.items c.loop-seat.invariant.rest step.0 c.add.new.self.seats.items more.1;
+      each = gathered_more (λ v. v.items) c.args.seats.items all more.0 c.in-Some.seat c.loop-seat.seat-iterator.rest.items c.next.new.self.rest.items c.loop-seat.invariant.rest step.0 c.add.new.self.seats.items more.1 more.2 c.loop-seat.invariant.each;
+      count = omega (arith, longer, length-append all (more.0 ∷ []), ap (λ (l : _). length l) step.0, c.loop-seat.invariant.count);
     }
 
 pub returns : goal.returns

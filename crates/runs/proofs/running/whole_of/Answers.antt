@@ -1,17 +1,12 @@
-use Rattle.std.proofs.Common.{◌≡◌, ◌∙◌, ◌++◌, ℕ, List, length, map, string_bytes, ap, subst, sym, arith}
+use Rattle.std.proofs.Common.{◌≡◌, length, map, subst, sym, arith}
 use Rattle.world.specs.Kept.{nodes}
 use Rattle.runs.specs.Gathered.{AreGathered}
-use Rattle.runs.proofs.Reported.{run_report}
+use Rattle.runs.proofs.Written.{if_ok}
 use Rattle.runs.proofs.running.whole_of.Goals as goal
 
-pub returns-in-Ok-clause-ok : goal.returns-in-Ok-clause-ok
-returns-in-Ok-clause-ok g c =
-    let scheme = c.args.scheme.now in
-    let states = c.as_slice-3.result.now in
-    let seats = c.as_slice-4.result.now in
+pub returns-clause-ok : goal.returns-clause-ok
+returns-clause-ok g c =
     let own = c.args.seats.items in
-    let all : length states ≡ length (nodes scheme) = omega (arith, c.as_slice-3.ensures.len, c.in_ok-states.ensures, c.requires.desks) in
-    let each : length own ≡ length (nodes scheme) = omega (arith, c.args.seats.ok, c.requires.seats) in
-    let gathered = subst (λ vs. AreGathered own (map (λ v. v.items) vs)) (sym c.as_slice-4.ensures.value) c.in_ok-gathered.ensures in
-    λ lines told heard answers. run_report scheme states own (map (λ v. v.items) seats) (string_bytes c.in-Ok.table) all gathered each c.in-Ok.ensures.ok lines told c.args.answers.now (string_bytes c.in_ok-joined-in-Ok.field-0)
-    heard answers (c.in_ok-joined-in-Ok.ensures ∙ ap (λ (t : List ℕ). c.args.answers.now ++ t) c.as_str.ensures.value)
+    let each : length own ≡ length (nodes c.args.scheme.now) = omega (arith, c.args.seats.ok, c.requires.seats) in
+    let gathered = subst (λ vs. AreGathered own (map (λ v. v.items) vs)) (sym c.as_slice-2.ensures.value) c.in-Ok.ensures.ok in
+    if_ok c.with_table-whole.result (λ s reports. reports own each gathered) c.with_table-whole.ensures.ok

@@ -17,6 +17,7 @@ pub mod SpanHalves
 pub mod SpanJoins
 pub mod SpanWalks
 pub mod SpanFills
+pub mod SettingBlocks
 pub mod SpanReads
 pub mod SpanBlocks
 pub mod LabelTests

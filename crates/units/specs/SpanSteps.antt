@@ -1,5 +1,5 @@
 -- What the code that sets and changes labels follows, step by step; no public contract cites it.
-use Rattle.std.specs.Prelude.{◌≡◌, ◌⊎◌, List, true, false, Option, Some, None, IsSome, find, if◌then◌else◌}
+use Rattle.std.specs.Prelude.{◌≡◌, ◌⊎◌, List, [], ◌∷◌, true, false, Option, Some, None, IsSome, find, if◌then◌else◌}
 use Rattle.std.specs.Option.{option_and_then, option_map_or}
 use Rattle.std.specs.List.{AllByRecursion}
 use Rattle.std.specs.BTreeMap.{BTreeMap, IsOrdered, get, is_at}
@@ -11,6 +11,7 @@ use Rattle.units.specs.declared.block.RawBlock.{RawBlock}
 use Rattle.units.specs.declared.block.Unit.{Unit as Serial}
 use Rattle.units.specs.declared.unit_map.Span.{Span}
 use Rattle.units.specs.declared.unit_map.cutting.Step.{Step}
+use Rattle.units.specs.declared.unit_map.setting.Prepared.{Prepared}
 use Rattle.units.specs.declared.unit_map.cutting.Step.TheVariants.{Nothing, Put, Cut}
 
 -- how the spans before the step are had from those after it
@@ -39,6 +40,18 @@ pub record IsPrepared {M : Type 0} (b : RawBlock) (given : Option M) (old new : 
   pub key : IsSome given → IsSome (new (first_unit b))
   pub keys : (q : Serial) → IsSome (old q) → IsSome (new q)
   pub seams : (q : Serial) → IsSeam new q → IsSeam old q ⊎ (reaches b q ≡ true)
+
+-- the block's ends were prepared, and both steps can be taken back
+pub record Prepares {M : Type 0} (p : Prepared M) (old new : Serial → Option (Span M)) : Type 0 where
+  pub prepared : IsPrepared p.block.raw p.label old new
+  pub middle : Serial → Option (Span M)
+  pub first : Restores p.first old middle
+  pub end : Restores p.end middle new
+
+-- the blocks were prepared one after another, the first of the list last
+abbrev pub ArePrepared : {M : Type 0} → List (Prepared M) → (Serial → Option (Span M)) → (Serial → Option (Span M)) → Type 0
+ArePrepared [] old new = old ≡ new
+ArePrepared (p ∷ ps) old new = (before : _) × (ArePrepared ps old before × Prepares p before new)
 
 -- one span for each block that was given a label, in the place of those of its units; spans may go on where others end
 -- only at the blocks

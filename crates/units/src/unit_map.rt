@@ -193,7 +193,7 @@ impl<M: Label> UnitMap<M> {
         ensures ok { (labels : Block → Option M) → ((b : Block) (r : Option M) → F.post label b r → r ≡ labels b) → OnOk result ((u : Serial) → map.get self.new u ≡ option_map_or labels (find (λ b. has_unit b.raw u) blocks.now) (map.get self.old u)) }
         ensures err { OnErr result (self.new ≡ self.old) }
     {
-        set_each(&mut self.spans, blocks, &label)?;
+        set_each(self.alloc, &mut self.spans, blocks, &label)?;
         join_along(&mut self.spans, blocks);
         Ok(())
     }

@@ -1,10 +1,11 @@
 //! Labels given to the units of blocks, of all of them or of none.
-ghost use Rattle.std.specs.Prelude.{◌≡◌, Option, IsSome, IfOk, OnOk, OnErr, Some};
+ghost use Rattle.std.specs.Prelude.{◌≡◌, Option, IsSome, IfOk, OnOk, OnErr, Some, map, reverse};
 ghost use Rattle.std.specs.BTreeMap as tree;
 ghost use Rattle.std.specs.BTreeMap.{IsOrdered, IsUnchanged};
+ghost use Rattle.std.specs.List.{AllByRecursion};
 ghost use Rattle.units.specs.Apart.{AllApart};
 ghost use Rattle.units.specs.Keys.{unit_cmp, first_unit};
-ghost use Rattle.units.specs.SpanSteps.{Restores, IsPrepared, AreSetIn, set_to};
+ghost use Rattle.units.specs.SpanSteps.{ArePrepared, Prepares, AreSetIn, set_to};
 ghost use Rattle.units.specs.Spans.{AreParted, Mean, filled};
 ghost use Rattle.units.specs.declared.block.Unit.{Unit as Serial};
 
@@ -12,8 +13,17 @@ use super::Span;
 use super::cutting::{Step, begin, overwrite, undo};
 use super::walking::change_between;
 use crate::block::{Block, Unit};
-use std::alloc::AllocError;
-use std::collections::BTreeMap;
+use std::alloc::{AllocError, Global};
+use std::collections::{BTreeMap, VecDeque};
+
+/// A block whose ends were prepared for the label that its units are to have, and how each is undone.
+#[derive(Clone, Copy)]
+pub(super) struct Prepared<M> {
+    block: Block,
+    label: Option<M>,
+    first: Step<M>,
+    end: Step<M>,
+}
 
 /// Makes an interval begin at the block's first unit, where it is to have a label or is there, and another after its
 /// last. After an error nothing has changed.
@@ -21,17 +31,23 @@ fn prepare<M: Copy>(
     spans: &mut BTreeMap<Unit, Span<M>>,
     block: &Block,
     label: Option<M>,
-) -> Result<(Step<M>, Step<M>), AllocError>
+) -> Result<Prepared<M>, AllocError>
     requires parted { AreParted (tree.get unit_cmp spans.old) }
     requires ordered { IsOrdered unit_cmp spans.old }
-    ensures prepared { OnOk result (IsPrepared block.now.raw label (tree.get unit_cmp spans.old) (tree.get unit_cmp spans.new)) }
-    ensures undo { IfOk result (λ steps. (middle : Serial → Option (Span M)) × Restores steps.0 (tree.get unit_cmp spans.old) middle × Restores steps.1 middle (tree.get unit_cmp spans.new)) }
+    ensures prepared { IfOk result (λ p. Prepares p (tree.get unit_cmp spans.old) (tree.get unit_cmp spans.new)) }
+    ensures block { IfOk result (λ p. p.block ≡ block.now) }
+    ensures label { IfOk result (λ p. p.label ≡ label) }
     ensures ordered { IsOrdered unit_cmp spans.new }
     ensures err { OnErr result (IsUnchanged spans.old spans.new) }
 {
     let first = begin(spans, block.unit(block.raw.first), label)?;
     match begin(spans, block.unit(block.raw.last + 1), None) {
-        Ok(end) => Ok((first, end)),
+        Ok(end) => Ok(Prepared {
+            block: *block,
+            label,
+            first,
+            end,
+        }),
         Err(refused) => {
             undo(spans, first);
             Err(refused)
@@ -62,9 +78,52 @@ fn fill<M: Copy>(spans: &mut BTreeMap<Unit, Span<M>>, block: &Block, label: Opti
     }
 }
 
+/// Takes back what was prepared, the newest first. Takes no memory.
+fn undo_all<M: Copy>(spans: &mut BTreeMap<Unit, Span<M>>, mut prepared: VecDeque<Prepared<M>>)
+    requires { IsOrdered unit_cmp spans.old }
+    ensures restored { (before : Serial → Option (Span M)) → ArePrepared prepared.items before (tree.get unit_cmp spans.old) → (q : Serial) → tree.get unit_cmp spans.new q ≡ before q }
+    ensures ordered { IsOrdered unit_cmp spans.new }
+{
+    while let Some(newest) = prepared.pop_front() {
+        undo(spans, newest.end);
+        undo(spans, newest.first);
+    }
+}
+
+/// Prepares the blocks in turn, and returns them with the newest first. After an error nothing has changed.
+fn prepare_all<M: Copy, F: Fn(Block) -> Option<M>>(
+    alloc: Global,
+    spans: &mut BTreeMap<Unit, Span<M>>,
+    blocks: &[Block],
+    label: &F,
+) -> Result<VecDeque<Prepared<M>>, AllocError>
+    requires callable { F.IsAlwaysCallable label.now }
+    requires parted { AreParted (tree.get unit_cmp spans.old) }
+    requires ordered { IsOrdered unit_cmp spans.old }
+    ensures prepared { IfOk result (λ ps. ArePrepared ps.items (tree.get unit_cmp spans.old) (tree.get unit_cmp spans.new)) }
+    ensures same_blocks { IfOk result (λ ps. reverse (map (λ p. p.block) ps.items) ≡ blocks.now) }
+    ensures labels { IfOk result (λ ps. AllByRecursion (λ p. F.post label.now p.block p.label) ps.items) }
+    ensures parted { AreParted (tree.get unit_cmp spans.new) }
+    ensures ordered { IsOrdered unit_cmp spans.new }
+    ensures err { OnErr result (IsUnchanged spans.old spans.new) }
+{
+    let mut prepared = VecDeque::with_capacity(alloc, blocks.len())?;
+    for block in blocks {
+        match prepare(spans, block, label(*block)) {
+            Ok(newest) => prepared.push_front_reserved(newest),
+            Err(refused) => {
+                undo_all(spans, prepared);
+                return Err(refused);
+            }
+        }
+    }
+    Ok(prepared)
+}
+
 /// Gives the units of each block their label. Each block is prepared before the first one is filled, so that only
 /// preparing takes memory; after an error what was prepared is undone.
 pub(super) fn set_each<M: Copy, F: Fn(Block) -> Option<M>>(
+    alloc: Global,
     spans: &mut BTreeMap<Unit, Span<M>>,
     blocks: &[Block],
     label: &F,
@@ -78,20 +137,9 @@ pub(super) fn set_each<M: Copy, F: Fn(Block) -> Option<M>>(
     ensures ordered { IsOrdered unit_cmp spans.new }
     ensures err { OnErr result (IsUnchanged spans.old spans.new) }
 {
-    let Some((block, rest)) = blocks.split_first() else {
-        return Ok(());
-    };
-    let given = label(*block);
-    let (first, end) = prepare(spans, block, given)?;
-    match set_each(spans, rest, label) {
-        Ok(()) => {
-            fill(spans, block, given);
-            Ok(())
-        }
-        Err(refused) => {
-            undo(spans, end);
-            undo(spans, first);
-            Err(refused)
-        }
+    let mut prepared = prepare_all(alloc, spans, blocks, label)?;
+    while let Some(newest) = prepared.pop_front() {
+        fill(spans, &newest.block, newest.label);
     }
+    Ok(())
 }

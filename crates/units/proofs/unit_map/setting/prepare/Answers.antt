@@ -14,9 +14,14 @@ returns-in-Ok-clause-prepared g c =
     let old = tree.get unit_cmp c.args.spans.now in
     let middle = tree.get unit_cmp c.begin.new.spans in
     let new = tree.get unit_cmp c.begin-2.new.spans in
-    prepared c.args.block.now.raw c.args.label old middle new c.args.block.now.in_range
-    (subst (λ u. IsBegun u c.args.label old middle) c.unit.ensures c.in_ok-first.ensures.begun)
-    (subst (λ u. IsBegun u None middle new) c.unit-2.ensures c.in-Ok.ensures.begun)
+    record {
+      prepared = prepared c.args.block.now.raw c.args.label old middle new c.args.block.now.in_range
+          (subst (λ u. IsBegun u c.args.label old middle) c.unit.ensures c.in_ok-first.ensures.begun)
+          (subst (λ u. IsBegun u None middle new) c.unit-2.ensures c.in-Ok.ensures.begun);
+      middle = middle;
+      first = c.in_ok-first.ensures.undo;
+      end = c.in-Ok.ensures.undo;
+    }
 
 pub returns-in-Err-clause-err : goal.returns-in-Err-clause-err
 returns-in-Err-clause-err g c =

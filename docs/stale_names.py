@@ -1,0 +1,46 @@
+#!/usr/bin/env python3
+"""Prints each name in backticks of a document that no source has: a function, a clause, a lemma, a file, a crate or a program.
+
+A name is a word with `_`, `::`, `/` or a capital within or after it, or one that stands alone in its backticks. Of the tables of
+PLANTED.md the middle column is left out, which has bugs. The exit status is 1 where there is such a name.
+"""
+
+import pathlib
+import re
+import sys
+
+TOP = pathlib.Path(__file__).resolve().parent.parent
+SOURCES = ("crates/*/src/**/*.rt", "crates/*/specs/**/*.antt", "crates/*/proofs/**/*.antt", "crates/*/must-fail/*.edit",
+           "crates/worked_examples/data/**/*", "bench/*.py", "bench/*.c", "docs/*.py")
+OTHERS = ("crates.txt", "kyoto-link", ".ci/run", "HANDLES")
+NAME = re.compile(r"[A-Za-z_][\w.-]*(?:(?:::|/)[\w.*-]+)*/?")
+
+
+def words_of(text):
+    return set(re.findall(r"[A-Za-z_][\w-]*", text))
+
+
+def known_words():
+    files = [path for pattern in SOURCES for path in TOP.glob(pattern) if path.is_file()]
+    known = {word for path in [*files, *map(TOP.joinpath, OTHERS)] for word in words_of(path.read_text(encoding="utf-8"))}
+    places = [path for path in TOP.rglob("*") if "out" not in path.parts and ".git" not in path.parts]
+    return known | {word for path in places for part in (path.name, path.stem) for word in words_of(part)}
+
+
+def main():
+    known, stale = known_words(), []
+    for path in sorted([TOP / "README.md", *TOP.glob("docs/*.md"), *TOP.glob("bench/*.md"), TOP / "crates/worked_examples/data/README.md"]):
+        fenced = False
+        for number, line in enumerate(path.read_text(encoding="utf-8").splitlines(), 1):
+            fenced ^= line.startswith("```")
+            cells = line.split("|")
+            text = "".join(cells[:2] + cells[3:]) if path.name == "PLANTED.md" and len(cells) > 4 else line
+            for name in [] if fenced else re.findall(r"`([^`]+)`", text):
+                if NAME.fullmatch(name) and not words_of(name) <= known:
+                    stale.append(f"{path.relative_to(TOP)}:{number}: {name}")
+    print("\n".join(stale), end="\n" if stale else "")
+    sys.exit(1 if stale else 0)
+
+
+if __name__ == "__main__":
+    main()

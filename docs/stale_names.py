@@ -13,18 +13,21 @@ TOP = pathlib.Path(__file__).resolve().parent.parent
 SOURCES = ("crates/*/src/**/*.rt", "crates/*/specs/**/*.antt", "crates/*/proofs/**/*.antt", "crates/*/must-fail/*.edit",
            "crates/worked_examples/data/**/*", "bench/*.py", "bench/*.c", "docs/*.py")
 OTHERS = ("crates.txt", "kyoto-link", ".ci/run", "HANDLES")
+# Names of other programs, and of the language and its prover.
+FOREIGN = {"auto_vacuum", "call_once", "db-journal", "jq", "libsqlite3-dev", "retain", "retain_mut", "x-iterator"}
 NAME = re.compile(r"[A-Za-z_][\w.-]*(?:(?:::|/)[\w.*-]+)*/?")
 
 
 def words_of(text):
-    return set(re.findall(r"[A-Za-z_][\w-]*", text))
+    """The words of a text but those in capitals, which stand for a name."""
+    return {word for word in re.findall(r"[A-Za-z_][\w-]*", text) if not word.isupper()}
 
 
 def known_words():
     files = [path for pattern in SOURCES for path in TOP.glob(pattern) if path.is_file()]
     known = {word for path in [*files, *map(TOP.joinpath, OTHERS)] for word in words_of(path.read_text(encoding="utf-8"))}
     places = [path for path in TOP.rglob("*") if "out" not in path.parts and ".git" not in path.parts]
-    return known | {word for path in places for part in (path.name, path.stem) for word in words_of(part)}
+    return known | FOREIGN | {word for path in places for part in (path.name, path.stem) for word in words_of(part)}
 
 
 def main():

@@ -1,5 +1,5 @@
 -- One span for a block in the place of those within it, and blocks set in turn.
-use Rattle.std.proofs.Common.{◌≡◌, ◌⊎◌, inl, inr, ◌+◌, ◌<◌, ◌≤◌, List, [], ◌∷◌, length, Bool, true, false, true≢false, cond, find, Option, Some, None, IsSome, refl, sym, ap, ◌∙◌, subst, arith}
+use Rattle.std.proofs.Common.{◌≡◌, ◌⊎◌, inl, inr, ◌+◌, ◌<◌, ◌≤◌, List, [], ◌∷◌, Bool, true, false, true≢false, cond, find, Option, Some, None, IsSome, refl, sym, ap, ◌∙◌, subst, arith}
 use Rattle.std.specs.BTreeMap.{is_at}
 use Rattle.std.specs.List.{AllByRecursion}
 use Rattle.std.specs.Option.{option_map, option_map_or, option_or}
@@ -334,7 +334,3 @@ module _ {M : Type 0} where
   filled_none_at R b old new f l is_first is_last none inside out =
       let same = λ (q : Serial). ap (λ z. is_between z l q) is_first ∙ ap (λ z. is_between (first_unit b) z q) is_last in
       filled_with_none R b old new none (λ q h. inside q (same q ∙ h)) (λ q h. out q (same q ∙ h))
-
-  pub set_to_none : (blocks : List Block) → length blocks ≡ 0 → (given : Block → Option M) (held : Held M) (f : Serial → Option M) → Mean held f → Mean held (set_to given blocks f)
-  set_to_none [] e given held f mean = mean
-  set_to_none (b ∷ blocks) e given held f mean = absurd (omega arith)

@@ -2,15 +2,7 @@
 use Rattle.std.proofs.Common.{◌≡◌, ◌≢◌, ℕ, zero, suc, ◌+◌, ◌≤◌, List, [], ◌∷◌, ◌++◌, length, take, refl, sym, ap, subst, ◌∙◌, arith}
 use Rattle.std.specs.List.{AllByRecursion}
 use Rattle.stream_lines.specs.Lines.{stream_of, HasNoNewline, IsWithin, Splits, IsOver}
-use Rattle.stream_lines.proofs.Streams.{stream_append}
-
-stream_join : (ls ms : List (List ℕ)) (rest : List ℕ) → stream_of (ls ++ ms) rest ≡ stream_of ls (stream_of ms rest)
-stream_join [] ms rest = refl
-stream_join (l ∷ ls) ms rest = ap (λ t. l ++ 10 ∷ t) (stream_join ls ms rest)
-
-lines_join : (limit : ℕ) (ls ms : List (List ℕ)) → AllByRecursion (IsWithin limit) ls → AllByRecursion (IsWithin limit) ms → AllByRecursion (IsWithin limit) (ls ++ ms)
-lines_join limit [] ms a b = b
-lines_join limit (l ∷ ls) ms a b = (a.0, lines_join limit ls ms a.1 b)
+use Rattle.stream_lines.proofs.Streams.{stream_append, stream_join, lines_join}
 
 whole_join : (a b r t : List ℕ) (ls ms : List (List ℕ)) → a ≡ stream_of ls r → r ++ b ≡ stream_of ms t → a ++ b ≡ stream_of (ls ++ ms) t
 whole_join a b r t ls ms x y = ap (λ u. u ++ b) x ∙ sym (stream_append ls r b) ∙ ap (stream_of ls) y ∙ sym (stream_join ls ms t)

@@ -1,5 +1,5 @@
 -- What a splitter keeps, and what it returns.
-use Rattle.std.specs.Prelude.{◌≡◌, ℕ, List, ◌++◌, true, false, Result, Ok, Err}
+use Rattle.std.specs.Prelude.{◌≡◌, ℕ, List, [], ◌∷◌, ◌++◌, true, false, Result, Ok, Err}
 use Rattle.stream_lines.specs.Lines.{Splits, IsOver}
 use Rattle.stream_lines.specs.declared.splitter.Line.{Line}
 use Rattle.stream_lines.specs.declared.splitter.LineFault.{LineFault}
@@ -20,7 +20,12 @@ abbrev pub Feeds : Held → Held → List ℕ → Result (List Line) LineFault �
 Feeds old new piece (Ok lines) = (old.closed ≡ false) × Splits old.limit (old.rest ++ piece) lines new.rest × (new ≡ record old { rest = new.rest })
 Feeds old new piece (Err fault) = Faults old new piece fault
 
--- bytes cut: lines and what follows them, or lines before one that is over the limit
-abbrev pub IsCut : ℕ → List ℕ → Cut → Type 0
-IsCut limit bytes (Whole lines rest) = Splits limit bytes lines rest.items
-IsCut limit bytes (Over lines) = IsOver limit bytes lines
+-- what is held after these lines: what follows the last of them, or more of what was held before
+abbrev pub rest_after : List ℕ → List (List ℕ) → List ℕ → List ℕ
+rest_after held [] tail = held ++ tail
+rest_after held (l ∷ ls) tail = tail
+
+-- a piece cut behind what is held: lines and what follows them, or lines before one that is over the limit
+abbrev pub IsCut : ℕ → List ℕ → List ℕ → Cut → Type 0
+IsCut limit held piece (Whole lines tail) = Splits limit (held ++ piece) lines (rest_after held lines tail.now)
+IsCut limit held piece (Over lines) = IsOver limit (held ++ piece) lines

@@ -1,11 +1,12 @@
 //! A stream's lines, each ended by a newline (byte 10), whatever pieces the stream comes in.
-ghost use Rattle.std.specs.Prelude.{◌≡◌, ◌↔◌, ℕ, List, [], ◌++◌, IsTrue, is_ok, IfOk, true, false};
+ghost use Rattle.std.specs.Prelude.{◌≡◌, ◌↔◌, ℕ, List, [], ◌++◌, IsTrue, is_ok, IfOk, OnOk, OnErr, true, false};
 ghost use Rattle.stream_lines.specs.Lines.{IsWithin, Splits, IsOver};
-ghost use Rattle.stream_lines.specs.Splitting.{IsCut, Feeds};
+ghost use Rattle.stream_lines.specs.Splitting.{IsCut, Feeds, rest_after};
 
+use bytes::BytesMut;
+use memchr::memchr;
 use std::alloc::{AllocError, Global};
 use std::marker::Model;
-use std::mem;
 use thiserror::Error;
 use units::Items;
 
@@ -54,31 +55,64 @@ pub enum LineFault {
     NoMemory,
 }
 
-/// Bytes cut into lines, and what follows the last of them.
+/// A piece cut at its newlines: the lines that end in it and what follows the last of them, or the
+/// lines before one that is over the limit.
 #[derive(Drop)]
-enum Cut {
-    Whole(Items<Line>, Vec<u8>),
+enum Cut<'a> {
+    Whole(Items<Line>, &'a [u8]),
     Over(Items<Line>),
 }
 
-/// The lines of `held` followed by `piece`.
-fn cut_lines(alloc: Global, limit: usize, held: &[u8], piece: &[u8]) -> Result<Cut, AllocError>
+/// The line of `begun` followed by `part`.
+fn join_line(alloc: Global, begun: &[u8], part: &[u8]) -> Result<Line, AllocError>
+    ensures { IfOk result (λ line. line ≡ begun.now ++ part.now) }
+{
+    let mut bytes = Vec::with_capacity(alloc, begun.len() + part.len())?;
+    bytes.extend_from_slice(begun)?;
+    bytes.extend_from_slice(part)?;
+    Ok(Line { bytes })
+}
+
+/// Cuts `piece` behind what is held: its first line begins with `held`.
+fn cut_lines<'a>(
+    alloc: Global,
+    limit: usize,
+    held: &[u8],
+    piece: &'a [u8],
+) -> Result<Cut<'a>, AllocError>
     requires { IsWithin limit held.now }
-    ensures { IfOk result (λ c. IsCut limit (held.now ++ piece.now) c) }
+    ensures { IfOk result (λ c. IsCut limit held.now piece.now c) }
 {
     let mut lines = Vec::new(alloc);
-    let mut line = Vec::from_slice(alloc, held)?;
-    for byte in piece {
-        if *byte == b'\n' {
-            let bytes = mem::replace(&mut line, Vec::new(alloc));
-            lines.push(Line { bytes })?;
-        } else if line.len() < limit {
-            line.push(*byte)?;
-        } else {
+    let mut begun = held;
+    let mut left = piece;
+    while let Some(end) = memchr(b'\n', left) {
+        if end > limit - begun.len() {
             return Ok(Cut::Over(Items::from_vec(lines)));
         }
+        lines.push(join_line(alloc, begun, &left[..end])?)?;
+        begun = &[];
+        left = &left[end + 1..];
     }
-    Ok(Cut::Whole(Items::from_vec(lines), line))
+    if left.len() > limit - begun.len() {
+        return Ok(Cut::Over(Items::from_vec(lines)));
+    }
+    Ok(Cut::Whole(Items::from_vec(lines), left))
+}
+
+/// Holds `tail`: behind what is held, or in its place where lines have ended.
+fn hold(rest: &mut BytesMut, lines: &[Line], tail: &[u8]) -> Result<(), AllocError>
+    ensures ok { OnOk result (rest.new.items ≡ rest_after rest.old.items lines.now tail.now) }
+    ensures err { OnErr result (rest.new.items ≡ rest.old.items) }
+{
+    if lines.is_empty() {
+        return rest.extend_from_slice(tail);
+    }
+    // The room of what is held is free once a line has ended.
+    rest.reserve(tail.len().saturating_sub(rest.len()))?;
+    rest.clear();
+    rest.extend_reserved(tail);
+    Ok(())
 }
 
 /// Cuts a stream into lines of a limited length. The stream may come in any pieces. Lengths are in
@@ -86,7 +120,7 @@ fn cut_lines(alloc: Global, limit: usize, held: &[u8], piece: &[u8]) -> Result<C
 #[derive(Debug, Drop)]
 pub struct Splitter {
     limit: usize,
-    rest: Vec<u8>,
+    rest: BytesMut,
     closed: bool,
 }
 
@@ -109,7 +143,7 @@ impl Splitter {
     {
         Splitter {
             limit,
-            rest: Vec::new(alloc),
+            rest: BytesMut::new(alloc),
             closed: false,
         }
     }
@@ -129,10 +163,10 @@ impl Splitter {
         }
         let alloc: Global = *self.rest.allocator();
         match cut_lines(alloc, self.limit, self.rest.as_slice(), piece) {
-            Ok(Cut::Whole(lines, rest)) => {
-                self.rest = rest;
-                Ok(lines)
-            }
+            Ok(Cut::Whole(lines, tail)) => match hold(&mut self.rest, lines.as_slice(), tail) {
+                Ok(()) => Ok(lines),
+                Err(AllocError) => Err(LineFault::NoMemory),
+            },
             Ok(Cut::Over(lines)) => {
                 self.closed = true;
                 Err(LineFault::TooLong(lines))

@@ -68,6 +68,14 @@ fn assert_line(rt: &impl Abort, line: Line, bytes: &[u8]) {
     assert_same(rt, line.into_vec().as_slice(), bytes);
 }
 
+/// The lines have these bytes.
+fn assert_lines(rt: &impl Abort, lines: Items<Line>, wanted: &[&[u8]]) {
+    assert_same(rt, lines.as_slice().len(), wanted.len());
+    for (line, bytes) in lines.as_slice().iter().zip(wanted) {
+        assert_same(rt, line.as_slice(), *bytes);
+    }
+}
+
 #[test]
 fn a_line_of_the_limit(rt: HostRuntime) {
     let alloc = rt.alloc();
@@ -80,6 +88,61 @@ fn a_line_of_the_limit(rt: HostRuntime) {
     for line in lines.into_vec() {
         assert_line(&rt, line, &bytes);
     }
+    assert_same(&rt, splitter.finish(), Ok(()));
+}
+
+/// A splitter of the limit that was fed as many bytes, each as a piece.
+fn fed_up_to_the_limit(rt: &impl Abort, alloc: Global) -> Splitter {
+    let mut splitter = Splitter::new(alloc, LIMIT);
+    for _ in 0..LIMIT {
+        assert!(rt; feed(&mut splitter, b"a") == Fed::Lines(0));
+    }
+    splitter
+}
+
+#[test]
+fn a_line_of_the_limit_byte_by_byte(rt: HostRuntime) {
+    let alloc = rt.alloc();
+    let bytes = vec![in alloc; b'a'; LIMIT].expect(&rt, "memory");
+    let mut splitter = fed_up_to_the_limit(&rt, alloc);
+    assert_lines(
+        &rt,
+        lines_of(&rt, &mut splitter, b"\n"),
+        &[bytes.as_slice()],
+    );
+    assert_same(&rt, splitter.finish(), Ok(()));
+}
+
+#[test]
+fn a_line_over_the_limit_byte_by_byte(rt: HostRuntime) {
+    let mut splitter = fed_up_to_the_limit(&rt, rt.alloc());
+    assert_same(&rt, feed(&mut splitter, b"a"), Fed::TooLong(0));
+    assert_same(&rt, feed(&mut splitter, b"\n"), Fed::Closed);
+}
+
+/// The lines of the piece, which is fed once more where an allocation was refused.
+fn lines_again(rt: &impl Abort, splitter: &mut Splitter, piece: &[u8]) -> Items<Line> {
+    match splitter.feed(piece) {
+        Err(LineFault::NoMemory) => lines_of(rt, splitter, piece),
+        fed => fed.expect(rt, "lines"),
+    }
+}
+
+#[test]
+fn pieces_fed_again(rt: HostRuntime) {
+    let mut splitter = Splitter::new(rt.alloc(), LIMIT);
+    assert_lines(&rt, lines_again(&rt, &mut splitter, b"ab"), &[]);
+    let wanted = [b"abc".as_slice(), b"".as_slice(), b"d".as_slice()];
+    assert_lines(
+        &rt,
+        lines_again(&rt, &mut splitter, b"c\n\nd\nlonger"),
+        &wanted,
+    );
+    assert_lines(
+        &rt,
+        lines_again(&rt, &mut splitter, b"\n"),
+        &[b"longer".as_slice()],
+    );
     assert_same(&rt, splitter.finish(), Ok(()));
 }
 

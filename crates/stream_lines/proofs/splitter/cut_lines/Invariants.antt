@@ -1,6 +1,9 @@
-use Rattle.std.proofs.Common.{◌++◌, take}
-use Rattle.stream_lines.specs.Lines.{Splits}
+use Rattle.std.proofs.Common.{length}
+use Rattle.stream_lines.proofs.Streams.{Cutting}
 use Rattle.stream_lines.proofs.splitter.cut_lines.Given as goal
 
-abbrev pub invariant-loop-byte : goal.invariant-loop-byte
-invariant-loop-byte l = Splits l.limit (l.held ++ take l.byte-index l.piece) l.lines.items l.line.items
+abbrev pub invariant-loop-end : goal.invariant-loop-end
+invariant-loop-end l = Cutting l.limit l.held l.piece l.lines.items l.begun l.left
+
+abbrev pub decreases-loop-end : goal.decreases-loop-end
+decreases-loop-end l = length l.left

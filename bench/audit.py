@@ -11,12 +11,11 @@ size, the time as a multiple of what SQLite's library takes to find the valid JS
 import argparse
 import pathlib
 import sqlite3
-import subprocess
 import sys
 import tempfile
 import time
 
-from rehearse import LAUNCHER, PROGRAM, codes_of, run, scheme
+from rehearse import PROGRAM, build, codes_of, run, scheme
 
 MOST_RATIO = 2.3
 MOST_TIMES_SQLITE = 10.0
@@ -129,7 +128,7 @@ def main():
     parser.add_argument("--runs", type=int, default=3, help="runs of each; the best one counts")
     parser.add_argument("--records", type=int, default=1_000_000, help="records of all stores in the largest size")
     words = parser.parse_args()
-    subprocess.run([LAUNCHER, "help"], stdout=subprocess.DEVNULL, check=True)
+    build()
     largest = max(4, words.records // RECORDS_EACH)
     kept = True
     with tempfile.TemporaryDirectory() as room:

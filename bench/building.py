@@ -1,9 +1,11 @@
-"""How a bench has `rt` prove and build the program that measures parts of this repository."""
+"""How a bench has `rt` prove and build the program that measures parts of this repository, and `gcc` a program in C."""
 
 import pathlib
 import shutil
 import subprocess
 import sys
+
+from endings import check_end, run_to_end
 
 CRATE = pathlib.Path(__file__).resolve().parent.parent / "crates" / "benches"
 PROGRAM = CRATE / "out" / "benches"
@@ -11,11 +13,21 @@ PROGRAM = CRATE / "out" / "benches"
 NOTHING = ["memory", "0"]
 
 
+def need(program, use):
+    """Ends the bench where that program isn't there to be used."""
+    if shutil.which(program) is None:
+        sys.exit(f"{program}, which {use}, isn't on PATH")
+
+
 def prove_and_build():
     """Proves and builds the program, where that isn't done yet. rt runs what it built, which measures nothing then."""
-    if shutil.which("rt") is None:
-        sys.exit("rt, which builds the program, isn't on PATH")
-    ended = subprocess.run(["rt", "run", "--", *NOTHING], cwd=CRATE, capture_output=True, text=True, check=False)
-    if ended.returncode != 0:
-        said = (ended.stdout + ended.stderr)[-2_000:]
-        sys.exit(f"the build failed; this is the end of what rt said:\n{said}")
+    need("rt", "builds the program")
+    words = ["rt", "run", "--", *NOTHING]
+    ended = subprocess.run(words, cwd=CRATE, capture_output=True, text=True, check=False)
+    check_end(words, ended.returncode, said=ended.stdout + ended.stderr)
+
+
+def build_c(source, program, *options):
+    """Has gcc build the program of that source. What gcc says goes to standard error."""
+    need("gcc", f"builds {source.name}")
+    run_to_end(["gcc", "-O2", "-Wall", "-Wextra", "-o", program, source, *options])

@@ -14,6 +14,7 @@ import subprocess
 import sys
 
 from building import PROGRAM, prove_and_build
+from endings import check_end
 
 SIZES = (100_000, 200_000, 400_000)
 ACCOUNT_ORDERS = 1_000_000
@@ -29,12 +30,12 @@ MOST_DOUBLING = 2.3
 
 def run(work, inputs):
     """What the program prints, and the peak of its memory in bytes."""
-    with subprocess.Popen([PROGRAM, work, str(inputs)], stdout=subprocess.PIPE, text=True) as started:
+    words = [PROGRAM, work, str(inputs)]
+    with subprocess.Popen(words, stdout=subprocess.PIPE, text=True) as started:
         printed = started.stdout.read()
         _, status, used = os.wait4(started.pid, 0)
         started.returncode = os.waitstatus_to_exitcode(status)
-    if started.returncode != 0:
-        sys.exit(f"{PROGRAM.name} ended with status {started.returncode}")
+    check_end(words, started.returncode)
     return printed, used.ru_maxrss * 1024
 
 

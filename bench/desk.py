@@ -15,6 +15,7 @@ import tempfile
 
 import store
 from building import PROGRAM, prove_and_build
+from endings import run_to_end
 
 TOP = pathlib.Path(__file__).resolve().parent.parent
 RECORDS = 100_000
@@ -25,9 +26,7 @@ MOST_LOOKUPS = 100
 
 def run(words):
     """The times that the program prints, in milliseconds."""
-    ended = subprocess.run([PROGRAM, *map(str, words)], stdout=subprocess.PIPE, text=True, check=False)
-    if ended.returncode != 0:
-        sys.exit(f"{PROGRAM.name} ended with status {ended.returncode}")
+    ended = run_to_end([PROGRAM, *map(str, words)], stdout=subprocess.PIPE, text=True)
     return [int(line) / 1_000 for line in ended.stdout.splitlines()]
 
 
@@ -39,7 +38,7 @@ def in_file(room, records):
 def in_c(program, room, records):
     with tempfile.TemporaryDirectory(dir=room) as folder:
         words = [program, pathlib.Path(folder) / "store", str(records), str(store.BATCH), "0"]
-        ended = subprocess.run(words, stdout=subprocess.PIPE, text=True, check=True)
+        ended = run_to_end(words, stdout=subprocess.PIPE, text=True)
     return int(ended.stdout.splitlines()[0]) / 1_000
 
 

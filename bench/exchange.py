@@ -8,30 +8,19 @@ is 1 where the limit is missed.
 
 import argparse
 import pathlib
-import shutil
-import subprocess
 import sys
 import tempfile
 
-from building import PROGRAM, prove_and_build
+from building import PROGRAM, build_c, prove_and_build
+from endings import run_to_end
 
 TOP = pathlib.Path(__file__).resolve().parent.parent
 SOURCE = TOP / "bench" / "exchange.c"
 LEAST_OF_C = 0.7
 
 
-def build_c(program):
-    if shutil.which("gcc") is None:
-        sys.exit("gcc, which builds exchange.c, isn't on PATH")
-    words = ["gcc", "-O2", "-std=gnu11", "-Wall", "-Wextra", "-pthread", "-o", program, SOURCE]
-    if subprocess.run(words, check=False).returncode != 0:
-        sys.exit("exchange.c could not be built")
-
-
 def rate(words, count):
-    ended = subprocess.run([*words, str(count)], capture_output=True, text=True, check=False)
-    if ended.returncode != 0:
-        sys.exit(f"{words[0]} ended with status {ended.returncode}: {ended.stderr.strip()}")
+    ended = run_to_end([*words, str(count)], capture_output=True, text=True)
     return count / (int(ended.stdout) / 1_000_000)
 
 
@@ -43,7 +32,7 @@ def main():
     prove_and_build()
     with tempfile.TemporaryDirectory() as room:
         c_program = pathlib.Path(room) / "exchange"
-        build_c(c_program)
+        build_c(SOURCE, c_program, "-std=gnu11", "-pthread")
         programs = ([PROGRAM, "exchanges"], [c_program])
         rates = [[rate(words, given.exchanges) for words in programs] for _ in range(given.runs)]
     ours, of_c = (max(column) for column in zip(*rates))

@@ -11,14 +11,18 @@ import argparse
 import pathlib
 import random
 import re
+import signal
 import subprocess
 import sys
 import tempfile
 import time
 
-from rehearse import LAUNCHER, PROGRAM, codes_of, scheme
+from endings import check_end, run_to_end
+from rehearse import PROGRAM, build, codes_of, scheme
 
 TURNS = 60_000
+# How a run ends that is killed: it may have come to its end by itself just before.
+KILLED = (-signal.SIGKILL, 0)
 
 
 def transactions(table):
@@ -68,9 +72,7 @@ class Folder:
         self.stores.mkdir()
 
     def audit(self):
-        ended = subprocess.run([PROGRAM, "audit", self.scheme, self.stores], capture_output=True, text=True, check=False)
-        if ended.returncode != 0:
-            sys.exit(f"audit ended with status {ended.returncode}: {ended.stderr.strip()}")
+        ended = run_to_end([PROGRAM, "audit", self.scheme, self.stores], capture_output=True, text=True)
         if tonnes(ended.stdout) != self.goal * len(self.codes):
             sys.exit(f"audit counts {tonnes(ended.stdout)} tonnes:\n{ended.stdout}")
         return ended.stdout
@@ -91,7 +93,7 @@ def main():
     words.add_argument("--seed", type=int, default=None)
     given = words.parse_args()
     chance = random.Random(given.seed)
-    subprocess.run([LAUNCHER, "--version"], stdout=subprocess.DEVNULL, check=True)
+    build()
     codes = codes_of(given.registries)
     with tempfile.TemporaryDirectory() as room:
         folder = Folder(room, codes, given.transfers // given.registries)
@@ -100,14 +102,14 @@ def main():
             run = folder.started(table)
             time.sleep(chance.uniform(0, given.longest))
             run.kill()
-            run.communicate()
+            _, said = run.communicate()
+            check_end(run.args, run.returncode, KILLED, said)
             table = folder.audit()
             print(f"kill {kill + 1}: {sum(map(is_completed, transactions(table)))} of {len(transactions(table))} completed", flush=True)
         begin = time.monotonic()
         run = folder.started(table)
         text, said = run.communicate()
-        if run.returncode != 0:
-            sys.exit(f"the last run ended with status {run.returncode}: {said.strip()}")
+        check_end(run.args, run.returncode, said=said)
         table = folder.audit()
         if not text.endswith(table):
             sys.exit("audit writes another table than the last run")

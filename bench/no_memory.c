@@ -1,5 +1,6 @@
 /* Refuses one allocation of the program that it is loaded into, by LD_PRELOAD: that with the number in REFUSE, from 1 on,
-   of all that the program asks the C library for. Where it comes to that one it makes the file that REFUSED names. */
+   of all that the program asks the C library for. Where it comes to that one it makes the file that REFUSED names, and
+   aborts the program where that can't be made. */
 
 #define _GNU_SOURCE
 #include <dlfcn.h>
@@ -27,8 +28,8 @@ static int is_refused(void) {
         return 0;
     const char *path = getenv("REFUSED");
     int file = path ? open(path, O_CREAT | O_WRONLY, 0600) : -1;
-    if (file >= 0)
-        close(file);
+    if (file < 0 || close(file) != 0)
+        abort();
     errno = ENOMEM;
     return 1;
 }

@@ -18,22 +18,33 @@ import json
 import os
 import pathlib
 import shutil
+import signal
 import sqlite3
 import subprocess
 import sys
 import tempfile
 
 from audit import MOMENT, write_stores
-from rehearse import LAUNCHER, PROGRAM
+from building import build_c
+from endings import check_end, run_to_end
+from rehearse import PROGRAM, build
 
 TOP = pathlib.Path(__file__).resolve().parent.parent
 SOURCE = TOP / "bench" / "no_memory.c"
 OUT_OF_MEMORY = (5, b"", b"kyoto-link: out of memory\n")
 TESTS = TOP / "crates" / "worked_runs"
 TEST = "weave_rows::stale_proposal"
-# What the test says where it has no memory to read its scheme and its journals.
+# How a test ends that fails, and what this one says where it has no memory to read its scheme and its journals.
+FAILED = -signal.SIGABRT
 UNREAD = ("a scheme: NoMemory", "a record: NoMemory", "memory: AllocFailed { .. }")
-EXAMPLES = ("one_transfer", "stale_proposal", "everything_again", "crash_before_commit", "faults/first_fault_of_two")
+# Examples, and the status that each is to come to.
+EXAMPLES = {
+    "one_transfer": 0,
+    "stale_proposal": 0,
+    "everything_again": 0,
+    "crash_before_commit": 0,
+    "faults/first_fault_of_two": 3,
+}
 UNITS = ["NZ:1:1-100:AAU"]
 # A clean-up a day after the moment of all messages.
 CLEANED_UP = {"input": "clean_up", "moment": MOMENT + 86_400}
@@ -109,11 +120,7 @@ class Refusing:
     def __init__(self, room):
         self.room = pathlib.Path(room)
         self.library = self.room / "no_memory.so"
-        if shutil.which("gcc") is None:
-            sys.exit("gcc, which builds no_memory.c, isn't on PATH")
-        words = ["gcc", "-O2", "-std=gnu11", "-Wall", "-Wextra", "-shared", "-fPIC", "-o", self.library, SOURCE, "-ldl"]
-        if subprocess.run(words, check=False).returncode != 0:
-            sys.exit("no_memory.c could not be built")
+        build_c(SOURCE, self.library, "-std=gnu11", "-shared", "-fPIC", "-ldl")
 
     def run(self, words, text, number, program=PROGRAM, thread=0):
         """What a run came to, and whether an allocation was refused. None is where the number is 0."""
@@ -124,9 +131,11 @@ class Refusing:
         return (ended.returncode, ended.stdout, ended.stderr), told.exists()
 
 
-def refuse_each(name, refusing, words, text, folder):
-    """Whether each run came to all or nothing. Several threads take the numbers of allocations in turn."""
+def refuse_each(name, refusing, words, text, folder, status=0):
+    """Whether each run came to all or nothing, and to that status with all its memory. Several threads take the numbers of
+    allocations in turn."""
     whole, _ = refusing.run(words(folder), text, 0)
+    check_end([PROGRAM, *words(folder)], whole[0], (status,), whole[2])
     before = records_in(folder) if folder else None
     numbers = itertools.count(1)
 
@@ -137,12 +146,14 @@ def refuse_each(name, refusing, words, text, folder):
         while True:
             number = next(numbers)
             came, refused = refusing.run(words(own), text, number, thread=thread)
+            wanted = (whole, OUT_OF_MEMORY) if refused else (whole,)
+            if came not in wanted or (own and records_in(own) != before):
+                what = f"allocation {number}" if refused else "none"
+                others.append(f"with {what} refused: status {came[0]}, {len(came[1])} bytes written, {came[2]!r}")
             if not refused:
                 return runs, unwritten, others
             runs += 1
             unwritten += came == OUT_OF_MEMORY
-            if came not in (whole, OUT_OF_MEMORY) or (own and records_in(own) != before):
-                others.append(f"with allocation {number} refused: status {came[0]}, {len(came[1])} bytes written, {came[2]!r}")
 
     count = os.cpu_count() or 1
     with concurrent.futures.ThreadPoolExecutor(count) as threads:
@@ -156,15 +167,16 @@ def refuse_each(name, refusing, words, text, folder):
 
 def refuse_each_of_test(refusing):
     """Whether the test passed, or stopped in reading, each time."""
-    subprocess.run(["rt", "test"], cwd=TESTS, stdout=subprocess.DEVNULL, check=True)
+    run_to_end(["rt", "test"], cwd=TESTS, stdout=subprocess.DEVNULL)
     program = TESTS / "out" / "worked_runs_tests"
     number, passed, unread = 1, 0, 0
     while True:
-        came, refused = refusing.run([TEST], b"", number, program)
+        (status, _, said), refused = refusing.run([TEST], b"", number, program)
+        check_end([program, TEST], status, (0, FAILED) if refused else (0,), said)
         if not refused:
             break
-        passed += came[0] == 0
-        unread += came[0] != 0 and came[2].decode().rstrip().endswith(UNREAD)
+        passed += status == 0
+        unread += status == FAILED and said.decode().rstrip().endswith(UNREAD)
         number += 1
     print(f"test {TEST}: {number - 1} allocations; stopped in reading {unread} times, passed {passed} times", flush=True)
     return passed > 0 and passed + unread == number - 1
@@ -173,13 +185,13 @@ def refuse_each_of_test(refusing):
 def main():
     words = argparse.ArgumentParser(description=__doc__, formatter_class=argparse.RawDescriptionHelpFormatter)
     words.parse_args()
-    subprocess.run([LAUNCHER, "help"], stdout=subprocess.DEVNULL, check=True)
+    build()
     with tempfile.TemporaryDirectory() as room:
         refusing = Refusing(room)
         kept = refuse_each_of_test(refusing)
-        for name in EXAMPLES:
+        for name, status in EXAMPLES.items():
             text = (TOP / "examples" / name / "input").read_bytes()
-            kept = refuse_each(f"rehearse {name}", refusing, lambda _: ["rehearse"], text, None) and kept
+            kept = refuse_each(f"rehearse {name}", refusing, lambda _: ["rehearse"], text, None, status) and kept
         scheme = pathlib.Path(room) / "scheme"
         text = (TOP / "examples" / "stale_proposal" / "input").read_bytes()
         scheme.write_bytes(text.split(b"\n", 1)[0] + b"\n")

@@ -17,6 +17,8 @@ import sys
 import tempfile
 import time
 
+from endings import check_end, run_to_end
+
 TOP = pathlib.Path(__file__).resolve().parent.parent
 LAUNCHER = TOP / "kyoto-link"
 PROGRAM = TOP / "crates" / "kyoto_link" / "out" / "kyoto_link"
@@ -101,6 +103,11 @@ LOADS = [
 ]
 
 
+def build():
+    """Proves and builds kyoto-link, where that isn't done yet."""
+    run_to_end([LAUNCHER, "help"], stdout=subprocess.DEVNULL)
+
+
 def run(words, given, taken):
     """The seconds that the words take, and their greatest peak of memory in bytes."""
     with given.open("rb") as reader, taken.open("wb") as writer:
@@ -109,8 +116,7 @@ def run(words, given, taken):
         _, status, used = os.wait4(process.pid, 0)
         spent = time.perf_counter() - start
     process.returncode = os.waitstatus_to_exitcode(status)
-    if process.returncode != 0:
-        sys.exit(f"{words[0]} ended with status {process.returncode}")
+    check_end(words, process.returncode)
     return spent, used.ru_maxrss * 1024
 
 
@@ -181,7 +187,7 @@ def main():
     parser.add_argument("--runs", type=int, default=5, help="runs of each; the best one counts")
     parser.add_argument("--load", help="only loads whose name has this text")
     words = parser.parse_args()
-    subprocess.run([LAUNCHER, "help"], stdout=subprocess.DEVNULL, check=True)
+    build()
     kept = True
     with tempfile.TemporaryDirectory() as folder:
         for name, lines_of, largest in LOADS:

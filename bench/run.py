@@ -11,17 +11,21 @@ where a limit is passed.
 
 import argparse
 import concurrent.futures
+import contextlib
 import json
 import pathlib
 import re
 import shutil
+import signal
 import sqlite3
 import subprocess
 import sys
 import tempfile
 import time
 
-from rehearse import LAUNCHER, PROGRAM
+from building import need
+from endings import check_end, run_to_end
+from rehearse import PROGRAM, build
 from store import build_c
 
 LEAST_OF_C = 0.5
@@ -54,10 +58,8 @@ def played(room, count, together, before=()):
     (folder / "script").write_text(script(count, together) or "status NZ NZ1\n")
     begin = time.monotonic()
     words = [*before, PROGRAM, "run", folder / "scheme", folder / "stores", folder / "script"]
-    ended = subprocess.run(words, capture_output=True, text=True, check=False)
+    ended = run_to_end(words, capture_output=True, text=True)
     seconds = time.monotonic() - begin
-    if ended.returncode != 0:
-        sys.exit(f"run ended with status {ended.returncode}: {ended.stderr.strip()}")
     if len(re.findall(r"^transaction .* Completed ITL Completed JP Completed$", ended.stdout, re.MULTILINE)) != count:
         sys.exit("a transfer isn't completed")
     return seconds, folder
@@ -84,7 +86,7 @@ def time_of_c(program, room, found, together):
     def append(node):
         times, records = found[node]
         words = [program, folder / node, str(records), str(max(1, round(records / times))), "0"]
-        return int(subprocess.run(words, stdout=subprocess.PIPE, text=True, check=True).stdout) / 1_000_000
+        return int(run_to_end(words, stdout=subprocess.PIPE, text=True).stdout) / 1_000_000
 
     with concurrent.futures.ThreadPoolExecutor(len(NODES) if together else 1) as threads:
         begin = time.monotonic()
@@ -93,21 +95,37 @@ def time_of_c(program, room, found, together):
 
 
 class Session:
-    """A session of psql, which makes one statement after another."""
+    """A session of psql, which makes one statement after another, and ends with status 3 at the first that fails."""
 
     def __init__(self, bin, room, database):
-        words = [bin / "psql", "-h", room, "-U", "postgres", "-qAt", "-d", database]
+        words = [bin / "psql", "-h", room, "-U", "postgres", "-v", "ON_ERROR_STOP=1", "-qAt", "-d", database]
         self.psql = subprocess.Popen(words, stdin=subprocess.PIPE, stdout=subprocess.PIPE, text=True)
 
     def make(self, statements):
-        self.psql.stdin.write(f"{statements}\n\\echo made\n")
-        self.psql.stdin.flush()
+        # Where psql has ended, its status and no more output tells so.
+        with contextlib.suppress(BrokenPipeError):
+            self.psql.stdin.write(f"{statements}\n\\echo made\n")
+            self.psql.stdin.flush()
         if self.psql.stdout.readline() != "made\n":
-            sys.exit("a statement failed in PostgreSQL")
+            self.end()
+            sys.exit(f"psql made something else of {statements}")
 
     def end(self):
-        self.psql.stdin.close()
-        self.psql.wait()
+        with contextlib.suppress(BrokenPipeError):
+            self.psql.stdin.close()
+        check_end(self.psql.args, self.psql.wait())
+
+
+def await_server(bin, data):
+    """Waits until the server takes connections. pg_isready ends with status 1 while it takes none yet, and 2 while there is none."""
+    words = [bin / "pg_isready", "-q", "-h", data]
+    for _ in range(100):
+        status = subprocess.run(words, check=False).returncode
+        check_end(words, status, (0, 1, 2))
+        if status == 0:
+            return
+        time.sleep(0.1)
+    check_end(words, status)
 
 
 def postgres_rate(room, count):
@@ -119,14 +137,11 @@ def postgres_rate(room, count):
     shutil.chown(data, "postgres", "postgres")
     pathlib.Path(room).chmod(0o755)
     quiet = {"stdout": subprocess.DEVNULL, "stderr": subprocess.DEVNULL}
-    subprocess.run([*own, bin / "initdb", "-D", data / "data", "-A", "trust"], check=True, **quiet)
+    run_to_end([*own, bin / "initdb", "-D", data / "data", "-A", "trust"], **quiet)
     words = [*own, bin / "postgres", "-D", data / "data", "-k", data, "-c", "listen_addresses=", "-c", "max_prepared_transactions=10"]
     server = subprocess.Popen(words, **quiet)
     try:
-        for _ in range(100):
-            if subprocess.run([bin / "pg_isready", "-h", data], check=False, **quiet).returncode == 0:
-                break
-            time.sleep(0.1)
+        await_server(bin, data)
         first = Session(bin, data, "postgres")
         first.make("CREATE DATABASE nz; ")
         first.make("CREATE DATABASE jp; ")
@@ -144,8 +159,10 @@ def postgres_rate(room, count):
         nz.end()
         jp.end()
     finally:
-        server.terminate()
-        server.wait()
+        # With this signal it stops without waiting for sessions, which are still there where a statement failed.
+        server.send_signal(signal.SIGINT)
+        status = server.wait()
+    check_end(words, status)
     return count / seconds
 
 
@@ -154,10 +171,9 @@ def main():
     words.add_argument("--counts", type=int, nargs="*", default=[1_000, 4_000], help="how many transfers")
     words.add_argument("--room", default=None, help="a folder on the disk to try; a temporary one if left out")
     given = words.parse_args()
-    for needed in ("strace", "gcc"):
-        if shutil.which(needed) is None:
-            sys.exit(f"{needed} isn't on PATH")
-    subprocess.run([LAUNCHER, "--version"], stdout=subprocess.DEVNULL, check=True)
+    need("strace", "counts commits")
+    need("gcc", "builds store.c")
+    build()
     passed = False
     with tempfile.TemporaryDirectory(dir=given.room) as room:
         program = pathlib.Path(room) / "store"

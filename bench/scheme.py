@@ -15,6 +15,7 @@ import subprocess
 import sys
 
 from building import PROGRAM, prove_and_build
+from endings import run_to_end
 
 # Blocks, and the registries that they are spread over.
 SIZES = ((2_500, 8), (5_000, 16), (10_000, 32))
@@ -58,9 +59,7 @@ def scheme_text(blocks, registries):
 def best_times(text, rounds):
     """The best times in milliseconds, of the text as JSON and as a scheme."""
     words = [PROGRAM, "scheme", str(rounds)]
-    ended = subprocess.run(words, input=text, stdout=subprocess.PIPE, text=True, check=False)
-    if ended.returncode != 0:
-        sys.exit(f"{PROGRAM.name} ended with status {ended.returncode}")
+    ended = run_to_end(words, input=text, stdout=subprocess.PIPE, text=True)
     lines = [[int(word) for word in line.split(" ")] for line in ended.stdout.splitlines()]
     if len(lines) != rounds or any(len(line) != 2 for line in lines):
         sys.exit(f"{PROGRAM.name} printed something other than two times for each of {rounds:,} rounds")

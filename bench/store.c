@@ -171,5 +171,9 @@ int main(int count, char **words)
         load(db, records);
         printf("%lld\n", microseconds() - start);
     }
-    return sqlite3_close(db) == SQLITE_OK ? 0 : 1;
+    if (sqlite3_close(db) != SQLITE_OK)
+        stop(db, "close");
+    if (fflush(stdout) != 0)
+        stop(NULL, "printf");
+    return 0;
 }

@@ -8,13 +8,14 @@ ratio of each doubling of loading. The exit status is 1 where a ratio is over it
 
 import argparse
 import pathlib
-import shutil
 import sqlite3
 import subprocess
 import sys
 import tempfile
 
+import building
 from building import PROGRAM, prove_and_build
+from endings import run_to_end
 
 TOP = pathlib.Path(__file__).resolve().parent.parent
 SOURCE = TOP / "bench" / "store.c"
@@ -28,11 +29,8 @@ MOST_DOUBLING = 2.3
 
 
 def build_c(program):
-    if shutil.which("gcc") is None:
-        sys.exit("gcc, which builds store.c, isn't on PATH")
-    words = ["gcc", "-O2", "-std=c11", "-Wall", "-Wextra", "-o", program, SOURCE, "-lsqlite3"]
-    if subprocess.run(words, check=False).returncode != 0:
-        sys.exit("store.c could not be built; it needs SQLite's C library with its header")
+    """Builds the program in C, which needs SQLite's C library with its header."""
+    building.build_c(SOURCE, program, "-std=c11", "-lsqlite3")
 
 
 def check_store(path, records):
@@ -57,9 +55,7 @@ def times(program, room, records, size, loads):
     with tempfile.TemporaryDirectory(dir=room) as folder:
         path = pathlib.Path(folder) / "store"
         words = [*program, path, str(records), str(size), str(loads)]
-        ended = subprocess.run(words, stdout=subprocess.PIPE, text=True, check=False)
-        if ended.returncode != 0:
-            sys.exit(f"{program[0].name} ended with status {ended.returncode}")
+        ended = run_to_end(words, stdout=subprocess.PIPE, text=True)
         appending, *loading = [int(line) / 1_000 for line in ended.stdout.splitlines()]
         if len(loading) != loads:
             sys.exit(f"{program[0].name} printed {len(loading)} times of {loads} loads")

@@ -11,6 +11,7 @@ import subprocess
 import sys
 
 from building import PROGRAM, prove_and_build
+from endings import run_to_end
 
 # Intervals and messages.
 SIZES = ((100_000, 1_000_000), (200_000, 2_000_000))
@@ -21,9 +22,7 @@ MOST_DOUBLING = 1.3
 
 def time_of(work, size):
     """The time in milliseconds, and how many calls did what they were made for."""
-    ended = subprocess.run([PROGRAM, work, str(size)], stdout=subprocess.PIPE, text=True, check=False)
-    if ended.returncode != 0:
-        sys.exit(f"{PROGRAM.name} ended with status {ended.returncode}")
+    ended = run_to_end([PROGRAM, work, str(size)], stdout=subprocess.PIPE, text=True)
     microseconds, count = (int(word) for word in ended.stdout.split())
     # few look-ups begin after the last message that waits
     if count < CALLS * 9 // 10:

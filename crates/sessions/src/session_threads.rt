@@ -13,7 +13,7 @@ use std::thread;
 use std::thread::Threads;
 use units::Node;
 
-/// How many threads of a node serve sessions.
+/// How many threads of a node serve sessions: any number from 1 on.
 pub const SESSION_THREADS: usize = 4;
 
 /// How many accepts that fail in a row stop a node.
@@ -75,39 +75,10 @@ fn serve_all<C: NodeCore, B: Bell, L: Listen, R: Wait>(
     }
 }
 
-/// Two session threads.
-fn serve_in_two<C: NodeCore + Send, B: Bell + Sync, L: Listen + Sync, R: Threads + Wait + Sync>(
-    rt: &R,
-    alloc: Global,
-    desk: &Desk<C, B>,
-    listen: &L,
-    failures: &Mutex<u32>,
-    errands: &Sender<Errand>,
-) {
-    thread::join(
-        rt,
-        || serve_all(rt, alloc, desk, listen, failures, errands),
-        || serve_all(rt, alloc, desk, listen, failures, errands),
-    );
-}
-
-/// Four session threads.
-fn serve_in_four<C: NodeCore + Send, B: Bell + Sync, L: Listen + Sync, R: Threads + Wait + Sync>(
-    rt: &R,
-    alloc: Global,
-    desk: &Desk<C, B>,
-    listen: &L,
-    failures: &Mutex<u32>,
-    errands: &Sender<Errand>,
-) {
-    thread::join(
-        rt,
-        || serve_in_two(rt, alloc, desk, listen, failures, errands),
-        || serve_in_two(rt, alloc, desk, listen, failures, errands),
-    );
-}
-
 /// Serves sessions in `SESSION_THREADS` threads until the desk stops. When it returns, no more errands come.
+///
+/// Where the system has no thread for some of them, these begin after the others have ended: the desk has stopped then,
+/// so that they serve nothing. Until then fewer sessions are served at a time, but always one.
 pub(crate) fn serve_sessions<
     C: NodeCore + Send,
     B: Bell + Sync,
@@ -115,5 +86,10 @@ pub(crate) fn serve_sessions<
     R: Threads + Wait + Sync,
 >(rt: &R, alloc: Global, desk: &Desk<C, B>, listen: &L, errands: Sender<Errand>) {
     let failures = Mutex::new(0);
-    serve_in_four(rt, alloc, desk, listen, &failures, &errands);
+    thread::for_each_mut(
+        rt,
+        &mut [(); SESSION_THREADS],
+        SESSION_THREADS,
+        &|_place, _thread| { serve_all(rt, alloc, desk, listen, &failures, &errands) },
+    );
 }

@@ -1,8 +1,8 @@
 use crate::registries::registry;
 use crate::same::assert_same;
 use crate::stations::{
-    ACCEPTED, CANCELLED, Ended, PROPOSAL, Station, UNKNOWN, add_port, call, message, open_station,
-    records_of, refused, run_both,
+    ACCEPTED, CANCELLED, Ended, PROPOSAL, Station, UNKNOWN, add_port, call, exchange_over, message,
+    open_station, records_of, refused, run_both,
 };
 use crate::waits::{HeldGate, Signals};
 use desk::{Gate, OpenGate};
@@ -10,7 +10,7 @@ use exchanges::Exchange;
 use sessions::Dial;
 use sockets::Ports;
 use std::alloc::Global;
-use std::io::Write;
+use std::io::{self, ErrorKind, Write};
 use std::process::Abort;
 use std::rt::Clock;
 use std::sync::Wait;
@@ -19,25 +19,56 @@ use std::thread::Threads;
 use units::{NoMemory, Node};
 use wire::{Message, Reply};
 
-/// How many bytes of a line a client sends that never sends the others.
+/// How many bytes of its line a client sends at most before it waits.
 const FEW: usize = 50;
 
-/// What the first of two clients sends.
-#[derive(Drop)]
-enum First {
-    /// A part of a line. Then it waits until the other client has its reply.
-    Part,
-    /// This message, which is to have this reply.
-    Whole(Message, Reply),
+/// How the first of two clients sends its line.
+#[derive(Clone, Copy, Drop)]
+enum Way {
+    /// The first few bytes, and the rest once the other client's exchange has ended.
+    InParts,
+    /// The whole line at once.
+    Whole,
 }
 
-/// What two clients send: the first to one node, and the second, once the first has begun, to that node or another.
+/// What two clients send: the first to one node, for that reply, and the second, once the first has begun, to that node
+/// or another.
 #[derive(Drop)]
 struct Plan {
-    first: First,
+    way: Way,
+    first: Message,
     first_to: Node,
+    first_reply: Reply,
     second: Message,
     second_to: Node,
+}
+
+/// A writer that says when it has taken the first bytes, `FEW` at most, and takes no more until the other client's
+/// exchange has ended. It fails where that takes longer than `TURNS` turns of one millisecond.
+#[derive(Drop)]
+struct Halved<'a, W, R> {
+    writer: W,
+    clock: &'a R,
+    signals: &'a Signals,
+}
+
+impl<'a, W: Write, R: Clock> Write for Halved<'a, W, R> {
+    fn write(&mut self, bytes: &[u8]) -> io::Result<usize> {
+        if self.signals.begun.is_set() {
+            if !self.signals.over.wait(self.clock) {
+                return Err(ErrorKind::TimedOut.into());
+            }
+            return self.writer.write(bytes);
+        }
+        let few = bytes.len().min(FEW);
+        let taken = self.writer.write(&bytes[..few])?;
+        self.signals.begun.set();
+        Ok(taken)
+    }
+
+    fn flush(&mut self) -> io::Result<()> {
+        self.writer.flush()
+    }
 }
 
 /// Two nodes that run.
@@ -47,19 +78,24 @@ struct Pair {
     other: Station,
 }
 
-/// Sends the first `FEW` bytes of a line, and waits until the other client has its reply. Returns whether it has.
-fn send_part<D: Dial, R: Clock>(rt: &R, dial: &D, node: Node, signals: &Signals) -> bool {
-    let Some((_reader, mut writer)) = dial.connect(node) else {
-        return false;
+/// One exchange with that node over a connection of its own, in which the line is sent in two parts.
+fn call_in_parts<D: Dial, R: Clock>(
+    rt: &R,
+    alloc: Global,
+    dial: &D,
+    plan: &Plan,
+    signals: &Signals,
+) -> Option<Exchange> {
+    let (reader, writer) = dial.connect(plan.first_to)?;
+    let halved = Halved {
+        writer,
+        clock: rt,
+        signals,
     };
-    if writer.write_all(&PROPOSAL.as_bytes()[..FEW]).is_err() {
-        return false;
-    }
-    signals.begun.set();
-    signals.over.wait(rt)
+    Some(exchange_over(alloc, reader, halved, &plan.first))
 }
 
-/// What the first client does. Returns whether it went as it should.
+/// What the first client does. Returns whether it has the reply that it should have.
 fn send_first<D: Dial, R: Clock>(
     rt: &R,
     alloc: Global,
@@ -67,13 +103,11 @@ fn send_first<D: Dial, R: Clock>(
     plan: &Plan,
     signals: &Signals,
 ) -> bool {
-    match &plan.first {
-        First::Part => send_part(rt, dial, plan.first_to, signals),
-        First::Whole(message, reply) => {
-            let end = call(alloc, dial, plan.first_to, message);
-            end == Some(Exchange::Answered(*reply))
-        }
-    }
+    let end = match plan.way {
+        Way::InParts => call_in_parts(rt, alloc, dial, plan, signals),
+        Way::Whole => call(alloc, dial, plan.first_to, &plan.first),
+    };
+    end == Some(Exchange::Answered(plan.first_reply))
 }
 
 /// Sends the second message once the first client has begun, and says when it has a reply.
@@ -149,7 +183,9 @@ fn records_of_both(
     (first, second)
 }
 
-/// While one client has sent a part of a line, the log replies to another one.
+/// While one client has sent a part of a line, the log replies to another one, and then to the whole line. So it serves
+/// two sessions at a time: one thread alone would come to the other client once it has given up the first one's
+/// connection, and would reply to at most one of them.
 #[test]
 fn two_sessions_meet(rt: HostRuntime) {
     let alloc = rt.alloc();
@@ -161,8 +197,10 @@ fn two_sessions_meet(rt: HostRuntime) {
     add_port(&rt, &mut ports, &pair.one);
     add_port(&rt, &mut ports, &pair.other);
     let plan = Plan {
-        first: First::Part,
+        way: Way::InParts,
+        first: message(&rt, alloc, PROPOSAL),
         first_to: Node::Itl,
+        first_reply: Reply::Received,
         second: message(&rt, alloc, PROPOSAL),
         second_to: Node::Itl,
     };
@@ -187,8 +225,10 @@ fn nodes_apart(rt: HostRuntime) {
     add_port(&rt, &mut ports, &pair.one);
     add_port(&rt, &mut ports, &pair.other);
     let plan = Plan {
-        first: First::Whole(message(&rt, alloc, ACCEPTED), refused(&rt, UNKNOWN)),
+        way: Way::Whole,
+        first: message(&rt, alloc, ACCEPTED),
         first_to: nz,
+        first_reply: refused(&rt, UNKNOWN),
         second: message(&rt, alloc, CANCELLED),
         second_to: jp,
     };

@@ -10,6 +10,7 @@ use sessions::{Dial, Listen, NodeEnd, NodeParts, NodeToRun, run_all};
 use sockets::{Port, Ports};
 use status::Moment;
 use std::alloc::Global;
+use std::io::{Read, Write};
 use std::net::{Net, TcpListener, TcpStream};
 use std::process::Abort;
 use std::sync::Wait;
@@ -131,12 +132,22 @@ pub fn refused(rt: &impl Abort, code: u16) -> Reply {
     Reply::Refused(ReplyCode::new(code).expect(rt, "a code"))
 }
 
+/// One exchange over that reader and that writer.
+pub fn exchange_over<R: Read + Drop, W: Write + Drop>(
+    alloc: Global,
+    reader: R,
+    writer: W,
+    message: &Message,
+) -> Exchange {
+    let mut reader = Counted::new(reader);
+    let mut writer = Counted::new(writer);
+    exchange(alloc, &mut reader, &mut writer, message)
+}
+
 /// One exchange with that node over a connection of its own.
 pub fn call<D: Dial>(alloc: Global, dial: &D, peer: Node, message: &Message) -> Option<Exchange> {
     let (reader, writer) = dial.connect(peer)?;
-    let mut reader = Counted::new(reader);
-    let mut writer = Counted::new(writer);
-    Some(exchange(alloc, &mut reader, &mut writer, message))
+    Some(exchange_over(alloc, reader, writer, message))
 }
 
 /// What the threads of a node share that sends to none.

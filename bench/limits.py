@@ -19,7 +19,7 @@ import tempfile
 import time
 
 from audit import TABLES
-from rehearse import LAUNCHER, LONGEST_INPUT, PROGRAM, codes_of
+from rehearse import LONGEST_INPUT, PROGRAM, build, codes_of
 
 STACK = 512 * 1024
 SECONDS = 300
@@ -277,7 +277,7 @@ def main():
     parser = argparse.ArgumentParser(description=__doc__, formatter_class=argparse.RawDescriptionHelpFormatter)
     parser.add_argument("--input", help="only inputs whose name has this text")
     words = parser.parse_args()
-    subprocess.run([LAUNCHER, "--version"], stdout=subprocess.DEVNULL, check=True)
+    build()
     kept = [check(case) for group in GROUPS for case in group() if words.input is None or words.input in case.name]
     print(f"{len(kept)} inputs, {kept.count(False)} with a run that ended otherwise")
     sys.exit(0 if kept and all(kept) else 1)

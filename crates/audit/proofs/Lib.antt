@@ -1,3 +1,2 @@
-pub mod NodePlaces
 pub mod Loaded
 pub mod Tables

@@ -4,6 +4,7 @@ use Rattle.std.specs.Io.KnownBytes.{Appends, Keeps}
 use Rattle.units.specs.declared.code.Node.{Node}
 use Rattle.wire.specs.declared.input.Input.{Input}
 use Rattle.scheme.specs.declared.registries.Scheme.{Scheme}
+use Rattle.protocol.specs.Registries.{nodes}
 use Rattle.protocol.specs.Claims.{committed_of, live_of}
 use Rattle.protocol.specs.Headline.{IsSafe}
 use Rattle.protocol.specs.Table.{due}
@@ -11,7 +12,6 @@ use Rattle.protocol.specs.Weave.{Projects}
 use Rattle.protocol.specs.World.{opening, run}
 use Rattle.protocol.specs.declared.event.WorldEvent.{WorldEvent}
 use Rattle.stores.specs.Records.{Places}
-use Rattle.world.specs.Kept.{nodes}
 use Rattle.weave.specs.Following.{IsWeaveFault, journal_of}
 use Rattle.weave.specs.declared.fault.WeaveFault.{WeaveFault}
 use Rattle.weave.specs.declared.fault.WeaveFault.TheVariants as weaving

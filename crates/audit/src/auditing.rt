@@ -1,26 +1,26 @@
 //! The table of one run that leads to the records of all stores.
 ghost use Rattle.std.specs.Prelude.{◌≡◌, ◌≤◌, ℕ, All, List, IfErr, IfOk, OnOk, length, map, string_bytes};
 ghost use Rattle.std.specs.Io.KnownBytes.{Appends};
+ghost use Rattle.world.specs.Cores as node_cores;
 ghost use Rattle.audit.specs.Audits.{Audits, FailsToAudit, FailsToWeave, IsAuditTable, of_weaving};
 ghost use Rattle.audit.specs.Stores.{AreKept, AreLoaded, FailsToLoad};
 ghost use Rattle.desk.specs.Views.{committed_records};
-ghost use Rattle.node.specs.Cores as node_cores;
 ghost use Rattle.scheme.specs.declared.registries.Scheme.{Scheme};
 ghost use Rattle.weave.specs.Following.{IsWeaveFault, IsWoven, journal_of};
 ghost use Rattle.wire.specs.declared.input.Input.{Input};
-ghost use Rattle.world.specs.Kept.{nodes};
+ghost use Rattle.protocol.specs.Registries.{nodes};
 
 use crate::journals::journals_of;
 use crate::loading::load_cores;
 use desk::State;
 use inputs::{OpFault, write_out};
-use node::Core;
 use scheme::Scheme;
 use std::alloc::Global;
 use std::io::Write;
 use stores::NodeStore;
 use tables::{push_table, tonnes_add_up};
 use weave::{Nobody, Watch, WeaveFault, Woven, weave, weave_cores};
+use world::Core;
 
 /// What a fault of weaving is to the command.
 fn fault_of(fault: WeaveFault) -> OpFault

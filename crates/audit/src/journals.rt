@@ -1,25 +1,12 @@
-//! The nodes of a scheme, and the journals of their states.
-ghost use Rattle.std.specs.Prelude.{◌≡◌, ◌<◌, IfOk, Some, length, map, slice_get};
+//! The journals of nodes' states.
+ghost use Rattle.std.specs.Prelude.{◌≡◌, IfOk, map};
 ghost use Rattle.desk.specs.Views.{committed_records};
-ghost use Rattle.world.specs.Kept.{nodes};
 
 use desk::State;
-use node::Core;
-use scheme::Scheme;
 use std::alloc::Global;
-use units::{NoMemory, Node};
+use units::NoMemory;
 use wire::Input;
-
-/// The node at that place: the log, then the registries in the scheme's order.
-pub(crate) fn node_at(scheme: &Scheme, at: usize) -> Node
-    requires { at < length (nodes scheme.now) }
-    ensures { slice_get (nodes scheme.now) at ≡ Some result }
-{
-    if at == 0 {
-        return Node::Itl;
-    }
-    Node::Registry(scheme.registries()[at - 1].code)
-}
+use world::Core;
 
 /// The committed records of each state.
 pub(crate) fn journals_of<'a>(

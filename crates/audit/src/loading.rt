@@ -1,20 +1,19 @@
 //! The cores that the records of all nodes' stores lead to, and states of them.
 ghost use Rattle.std.specs.Prelude.{◌≡◌, ◌≤◌, ◌++◌, ◌∷◌, [], All, IfErr, IfOk, OnOk, length, map, take};
+ghost use Rattle.protocol.specs.Registries.{nodes};
 ghost use Rattle.audit.specs.Stores.{AreKept, AreLoaded, FailsToLoad, FailsToLoadAt, IsKept, IsLoadedAs};
 ghost use Rattle.desk.specs.Views.{committed_records};
-ghost use Rattle.node.specs.Cores.{journal_of, node_of, scheme_of};
-ghost use Rattle.world.specs.Kept.{nodes};
+ghost use Rattle.world.specs.Cores.{journal_of, node_of, scheme_of};
 
-use crate::journals::node_at;
 use desk::State;
 use inputs::{OpFault, store_fault};
-use node::Core;
-use protocol::NodeCore;
+use protocol::{NodeCore, node_at};
 use scheme::Scheme;
 use std::alloc::Global;
 use stores::NodeStore;
 use units::{NoMemory, Node};
 use weave::{Nobody, Watch};
+use world::Core;
 
 /// The core that the records of the node's store lead to.
 fn load_one<S: NodeStore>(

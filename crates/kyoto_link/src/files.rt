@@ -1,7 +1,7 @@
 //! What a command's words name: the files and the folder, opened.
 ghost use Rattle.std.specs.Prelude.{◌≡◌, ◌<◌, ◌+◌, ◌++◌, IfOk, OnOk, codes, length, string_bytes};
 ghost use Rattle.units.specs.Code.{node_text};
-ghost use Rattle.world.specs.Kept.{nodes};
+ghost use Rattle.protocol.specs.Registries.{nodes};
 
 use audit::read_first;
 use durable::SqlStore;

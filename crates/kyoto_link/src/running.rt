@@ -1,6 +1,6 @@
 //! The command `run`.
 ghost use Rattle.std.specs.Prelude.{◌≡◌, IfOk, length, vec_len};
-ghost use Rattle.world.specs.Kept.{nodes};
+ghost use Rattle.protocol.specs.Registries.{nodes};
 
 use crate::files::{find_folder, open_stores, scheme_at, script_at};
 use answers::WallClock;
@@ -8,6 +8,7 @@ use audit::load_all;
 use desk::OpenGate;
 use durable::SqlStore;
 use inputs::OpFault;
+use protocol::nodes_of;
 use runs::{Loaded, Network, run_script};
 use scheme::Scheme;
 use scripts::ScriptLine;
@@ -20,7 +21,6 @@ use std::rt::Clock as SystemClock;
 use std::sync::Wait;
 use std::thread::Threads;
 use units::Node;
-use weave::nodes_of;
 
 /// The stores of all nodes, and the states that their records lead to.
 fn load_nodes(

@@ -8,7 +8,7 @@ use Rattle.lemmas.proofs.OneValue.{one_some}
 use Rattle.desk.specs.Views.{Heard}
 use Rattle.desk.specs.declared.notes.Told.{Told}
 use Rattle.scripts.specs.declared.line.ScriptLine.{ScriptLine}
-use Rattle.weave.proofs.Lists.{get_at}
+use Rattle.std.proofs.lemmas.Option.{slice_get-get_or}
 use Rattle.playing.specs.Answers.{asked_by}
 use Rattle.playing.specs.Heard.{AllGrow, AreHeard, Grows, HasHeard, IsHeard}
 use Rattle.playing.specs.declared.answer.Answer.{Answer}
@@ -34,7 +34,7 @@ grow_at (seat ∷ seats) (suc at) old new is g (suc k) x at_k = grow_at seats at
 -- ---- one line more
 
 pub found_at : {X : Type 0} (xs ys : List X) (k : ℕ) (x : X) → xs ≡ ys → x ≡ get_or xs k x → k < length xs → slice_get ys k ≡ Some x
-found_at xs ys k x same is below = ap (λ (l : List _). slice_get l k) (sym same) ∙ get_at xs k x below ∙ ap (λ (y : _). Some y) (sym is)
+found_at xs ys k x same is below = ap (λ (l : List _). slice_get l k) (sym same) ∙ slice_get-get_or xs k x below ∙ ap (λ (y : _). Some y) (sym is)
 
 pub heard_line : (l m : ScriptLine) (seat : Heard) (told : Told) → l ≡ m → HasHeard seat (asked_by m) told → HasHeard seat (asked_by l) told
 heard_line l m seat told is h = subst (λ (x : ScriptLine). HasHeard seat (asked_by x) told) (sym is) h

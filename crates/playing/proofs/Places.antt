@@ -4,11 +4,9 @@ use Rattle.std.specs.Prelude.{◌&&◌, is_some}
 use Rattle.units.specs.declared.code.Node.{Node}
 use Rattle.wire.specs.declared.input.Input.{Input}
 use Rattle.scheme.specs.declared.registries.Scheme.{Scheme}
-use Rattle.protocol.specs.Registries.{is_node}
+use Rattle.protocol.specs.Registries.{is_node, nodes, place_of}
 use Rattle.protocol.specs.World.{is_order, opening}
-use Rattle.world.specs.Kept.{nodes}
-use Rattle.weave.specs.Following.{place_of}
-use Rattle.weave.proofs.NodePlaces.{node_there, place_within}
+use Rattle.protocol.proofs.NodePlaces.{node_there, place_within}
 use Rattle.scripts.specs.declared.line.ScriptLine.{ScriptLine}
 use Rattle.scripts.specs.declared.line.ScriptLine.TheVariants as line
 use Rattle.playing.specs.Answers.{is_possible, node_of}

@@ -1,6 +1,7 @@
 -- What a script was told at the desks, by its seats.
 use Rattle.std.specs.Prelude.{◌≡◌, ◌⊎◌, ◌<◌, ◌≤◌, ℕ, true, false, List, Contains, slice_get, Some}
 use Rattle.scheme.specs.declared.registries.Scheme.{Scheme}
+use Rattle.protocol.specs.Registries.{place_of}
 use Rattle.protocol.specs.declared.node_core.Stepped.TheVariants.{Recorded, Repeat, Late}
 use Rattle.desk.specs.Due.{stopped}
 use Rattle.desk.specs.Telling.{is_unjudged}
@@ -12,7 +13,6 @@ use Rattle.desk.specs.declared.notes.Ticket.{Ticket}
 use Rattle.desk.specs.declared.notes.Told.{Told}
 use Rattle.desk.specs.declared.notes.Told.TheVariants.{Step, Status, Refused}
 use Rattle.answers.specs.Answers.{confirmed, is_without_journal}
-use Rattle.weave.specs.Following.{place_of}
 use Rattle.scripts.specs.declared.line.ScriptLine.{ScriptLine}
 use Rattle.playing.specs.Answers.{AreAnswers, asked_by, is_possible, node_of}
 use Rattle.playing.specs.declared.answer.Answer.{Answer}

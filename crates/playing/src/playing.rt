@@ -1,23 +1,21 @@
 //! The lines of a script, one after another, at the desks of all nodes.
 ghost use Rattle.std.specs.Prelude.{◌≡◌, ◌<◌, ◌++◌, ◌∷◌, [], true, false, length, IfNone, IfOk, IfSome, OnOk, Some};
 ghost use Rattle.scheme.specs.declared.registries.Scheme.{Scheme as AScheme};
+ghost use Rattle.protocol.specs.Registries.{nodes, place_of};
 ghost use Rattle.protocol.specs.World.{is_order, opening};
-ghost use Rattle.weave.specs.Following.{place_of};
-ghost use Rattle.world.specs.Kept.{nodes};
 ghost use Rattle.playing.specs.Answers.{is_possible, node_of};
 ghost use Rattle.playing.specs.Heard.{AllGrow, AreHeard, IsHeard};
 
 use crate::answer::Answer;
 use crate::asking::ask;
 use desk::{Bell, Desk, Seat};
-use protocol::NodeCore;
+use protocol::{NodeCore, place_of};
 use scheme::Scheme;
 use scripts::ScriptLine;
 use std::alloc::Global;
 use std::rt::Clock as SystemClock;
 use std::sync::Wait;
 use units::{NoMemory, Node};
-use weave::place_of;
 use wire::Input;
 
 /// Whether a node of that kind takes the order.

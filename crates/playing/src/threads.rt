@@ -1,7 +1,7 @@
 //! The threads of all nodes, and the one that plays a script.
 ghost use Rattle.std.specs.Prelude.{◌≡◌, length, vec_len, IfOk};
 ghost use Rattle.std.specs.Thread.{IsSync};
-ghost use Rattle.world.specs.Kept.{nodes};
+ghost use Rattle.protocol.specs.Registries.{nodes};
 ghost use Rattle.playing.specs.Heard.{AreHeard};
 
 use crate::answer::Answer;
@@ -9,7 +9,7 @@ use crate::playing::play_all;
 use crate::wiring::{Network, desks_of, nodes_to_run};
 use answers::Clock;
 use desk::{Bell, Desk, Gate, RoomBell, Seat, State};
-use node::Core;
+use protocol::nodes_of;
 use scheme::Scheme;
 use scripts::ScriptLine;
 use sessions::{Dial, Listen, NodeEnd, NodeToRun, run_all};
@@ -20,7 +20,7 @@ use std::thread;
 use std::thread::Threads;
 use stores::NodeStore;
 use units::{NoMemory, Node};
-use weave::nodes_of;
+use world::Core;
 
 /// The states of all nodes, and the stores that they were loaded from: those of the log, and then those of the
 /// registries in the scheme's order.

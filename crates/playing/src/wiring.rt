@@ -3,11 +3,11 @@ ghost use Rattle.std.specs.Prelude.{◌≡◌, ◌<◌, ◌+◌, length, map, sl
 ghost use Rattle.playing.specs.Wiring.{peers_of};
 
 use desk::{Desk, RoomBell, State};
-use node::Core;
 use sessions::{NodeParts, NodeToRun};
 use std::alloc::Global;
 use stores::NodeStore;
 use units::{NoMemory, Node};
+use world::Core;
 
 /// How the nodes of a run meet: what accepts each node's connections, in the order of the nodes; what makes
 /// connections; the clock of all; and the gate that their job workers pass.

@@ -1,7 +1,8 @@
--- What the scheme says of a registry.
-use Rattle.std.specs.Prelude.{ℕ, Bool, true, false, Option, is_some}
-use Rattle.std.specs.List.{list_any}
+-- What the scheme says of a registry, and the scheme's nodes by their places.
+use Rattle.std.specs.Prelude.{ℕ, Bool, true, false, List, ◌∷◌, map, Option, is_some}
+use Rattle.std.specs.List.{list_any, position_from}
 use Rattle.std.specs.Option.{option_map_or}
+use Rattle.units.specs.Code.{same_node}
 use Rattle.units.specs.Unit.{same_kind}
 use Rattle.units.specs.declared.block.Kind.{Kind}
 use Rattle.units.specs.declared.block.Unit.{Unit as Serial}
@@ -24,6 +25,14 @@ has_member scheme c = is_some (member scheme c)
 abbrev pub is_node : Scheme → Node → Bool
 is_node scheme Itl = true
 is_node scheme (Registry c) = has_member scheme c
+
+-- the nodes of a scheme: the log, then the registries in byte order
+abbrev pub nodes : Scheme → List Node
+nodes scheme = Itl ∷ map (λ m. Registry m.code) scheme.members
+
+-- where the node stands among the nodes of the scheme, counted from 0
+abbrev pub place_of : Scheme → Node → Option ℕ
+place_of scheme node = position_from (λ n. same_node n node) 0 (nodes scheme)
 
 -- who has the unit at the start
 abbrev pub allotted : Scheme → Serial → Option Holder

@@ -5,11 +5,12 @@ use Rattle.wire.specs.declared.input.Input.{Input}
 use Rattle.scheme.specs.declared.registries.Scheme.{Scheme}
 use Rattle.lemmas.proofs.OneValue.{one_some}
 use Rattle.lemmas.proofs.Positions.{some_at}
+use Rattle.protocol.specs.Registries.{nodes}
 use Rattle.desk.specs.Settling.{IsSettled}
 use Rattle.desk.specs.Views.{Held, Heard, committed_records}
-use Rattle.world.specs.Kept.{nodes}
 use Rattle.weave.specs.Following.{journal_of}
-use Rattle.weave.proofs.NodePlaces.{journal_is, node_of_place, place_within}
+use Rattle.protocol.proofs.NodePlaces.{node_of_place, place_within}
+use Rattle.weave.proofs.NodePlaces.{journal_is}
 use Rattle.scripts.specs.declared.line.ScriptLine.{ScriptLine}
 use Rattle.playing.specs.Answers.{IsAnswer, IsBorne, answer_lines, asked_by, node_of}
 use Rattle.runs.specs.Gathered.{AreGathered}

@@ -5,11 +5,11 @@ use Rattle.std.proofs.lemmas.Bool.{cases_lt}
 use Rattle.units.specs.declared.code.Node.{Node}
 use Rattle.scheme.specs.declared.registries.Scheme.{Scheme}
 use Rattle.lemmas.proofs.OneValue.{one_some}
+use Rattle.protocol.specs.Registries.{nodes}
 use Rattle.desk.specs.Settling.{IsSettled}
 use Rattle.desk.specs.Views.{Held, Heard}
 use Rattle.inputs.specs.declared.fault.OpFault.{OpFault}
 use Rattle.inputs.specs.declared.fault.OpFault.TheVariants.{Input, Read, Write, Store, Stuck, Unsettled, NoMemory}
-use Rattle.world.specs.Kept.{nodes}
 use Rattle.weave.proofs.Lists.{image_at}
 use Rattle.audit.specs.Audits.{FailsToWeave}
 use Rattle.runs.specs.Runs.{IsTableFault, committed_by_all}

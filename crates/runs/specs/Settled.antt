@@ -2,13 +2,13 @@
 use Rattle.std.specs.Prelude.{◌≡◌, ◌≢◌, ◌<◌, ℕ, List, length, slice_get, Some}
 use Rattle.units.specs.declared.code.Node.{Node}
 use Rattle.scheme.specs.declared.registries.Scheme.{Scheme}
+use Rattle.protocol.specs.Registries.{nodes}
 use Rattle.desk.specs.Settling.{IsFaultOf, IsSettled}
 use Rattle.desk.specs.Views.{Held, Heard}
 use Rattle.desk.specs.declared.life.Unsettled.TheVariants as settling
 use Rattle.desk.specs.declared.life.Unsettled.{Unsettled as Cause}
 use Rattle.inputs.specs.declared.fault.OpFault.{OpFault}
 use Rattle.inputs.specs.declared.fault.OpFault.TheVariants.{Unsettled, NoMemory}
-use Rattle.world.specs.Kept.{nodes}
 
 -- what the threads of the first nodes were told is what each node alone would have told under the scheme
 abbrev pub AreSettledTo : ℕ → Scheme → List Held → List (List Heard) → Type 0

@@ -5,11 +5,11 @@ ghost use Rattle.desk.specs.Views.{Heard};
 ghost use Rattle.runs.specs.Gathered.{AreGathered};
 
 use desk::{Bell, Desk, Seat, State};
-use node::Core;
 use sessions::NodeEnd;
 use std::alloc::Global;
 use stores::StoreFault;
 use units::NoMemory;
+use world::Core;
 
 /// The seats of all that were told something by the nodes' desks, a list for each node, and the fault of each node's
 /// store.

@@ -1,21 +1,21 @@
 //! The table of a run with threads, from its states and from what its threads were told.
 ghost use Rattle.std.specs.Prelude.{◌≡◌, ◌<◌, ◌++◌, ℕ, List, length, map, IfErr, IfOk, OnOk, string_bytes};
 ghost use Rattle.std.specs.Io.KnownBytes.{Appends};
+ghost use Rattle.protocol.specs.Registries.{nodes};
 ghost use Rattle.desk.specs.Settling.{IsSettled};
 ghost use Rattle.desk.specs.Views.{committed_records};
-ghost use Rattle.world.specs.Kept.{nodes};
 ghost use Rattle.runs.specs.Runs.{FailsToReport, IsReported, IsTableFault};
 ghost use Rattle.runs.specs.Settled.{AreSettled, FailsToSettle, FailsToSettleAt};
 
 use audit::table_of;
 use desk::{Seat, State, Unsettled, settle_with};
 use inputs::{OpFault, write_out};
-use node::Core;
+use protocol::nodes_of;
 use scheme::Scheme;
 use std::alloc::Global;
 use std::io::Write;
 use units::Node;
-use weave::nodes_of;
+use world::Core;
 
 /// Settles a node under the scheme.
 fn settle_node(

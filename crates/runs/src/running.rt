@@ -1,8 +1,8 @@
 //! A script, played while all nodes run in threads of their own.
 ghost use Rattle.std.specs.Prelude.{◌≡◌, ◌<◌, ◌++◌, ℕ, List, length, map, vec_len, IfErr, IfOk, OnOk, string_bytes};
 ghost use Rattle.std.specs.Io.KnownBytes.{Appends};
+ghost use Rattle.protocol.specs.Registries.{nodes};
 ghost use Rattle.desk.specs.Views.{Heard};
-ghost use Rattle.world.specs.Kept.{nodes};
 ghost use Rattle.scripts.specs.declared.line.ScriptLine.{ScriptLine as ALine};
 ghost use Rattle.playing.specs.Answers.{answer_lines};
 ghost use Rattle.playing.specs.Heard.{AreHeard};
@@ -15,8 +15,8 @@ use crate::reporting::report_of;
 use answers::Clock;
 use desk::{Desk, Gate, RoomBell, Seat, State};
 use inputs::{OpFault, store_fault, write_out};
-use node::Core;
 use playing::{Ends, Loaded, Network, Played, Run, lines_of, run_and_play};
+use protocol::nodes_of;
 use scheme::Scheme;
 use scripts::ScriptLine;
 use sessions::{Dial, Listen};
@@ -27,7 +27,7 @@ use std::sync::Wait;
 use std::thread::Threads;
 use stores::{NodeStore, StoreFault};
 use units::{NoMemory, Node};
-use weave::nodes_of;
+use world::Core;
 
 /// Fails with the first fault of a store, where there is one.
 fn check_stores(names: &[Node], faults: &[Option<StoreFault>]) -> Result<(), OpFault>

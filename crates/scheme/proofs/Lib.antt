@@ -11,3 +11,4 @@ pub mod OneAnswer
 pub mod Holders
 pub mod HoldersAlike
 pub mod Searching
+pub mod FirstPlaces

@@ -1,10 +1,11 @@
--- What a binary search among registries in byte order of their codes finds: the registry of a code, or that there is
--- none. All is said in ranks, numbers whose order is that of codes: those of the registries rise, so at most one is
--- the code's.
-use Rattle.std.proofs.Common.{◌≡◌, ◌⊎◌, inl, inr, ℕ, zero, suc, ◌<◌, ◌≤◌, ◌==◌, List, [], ◌∷◌, length, get_or, None, Result, Ok, Err, true, false, refl, ap, subst, arith, eq-eqb}
-use Rattle.std.specs.Prelude.{MatchResult, slice_get}
-use Rattle.std.specs.List.{AllByRecursion}
+-- What a binary search among registries in byte order of their codes finds: the place of the registry of a code, or
+-- that there is none. All is said in ranks, numbers whose order is that of codes: those of the registries rise, so at
+-- most one is the code's.
+use Rattle.std.proofs.Common.{◌≡◌, ◌⊎◌, inl, inr, ℕ, zero, suc, ◌<◌, ◌≤◌, ◌==◌, List, [], ◌∷◌, length, get_or, ◌+◌, Bool, Some, None, Result, Ok, Err, true, false, refl, sym, ap, ◌∙◌, subst, arith, eq-eqb}
+use Rattle.std.specs.Prelude.{MatchResult}
+use Rattle.std.specs.List.{AllByRecursion, position_from}
 use Rattle.std.specs.List.Sorted.{IsNonDecreasingBy, IsBinarySearchResult}
+use Rattle.std.specs.Result.{result_ok}
 use Rattle.std.specs.Ordering.{MatchOrdering, ordering_index}
 use Rattle.std.specs.declared.cmp.Ordering.{Ordering}
 use Rattle.std.specs.declared.cmp.Ordering.TheVariants.{Less, Equal, Greater}
@@ -15,11 +16,13 @@ use Rattle.units.specs.Keys.{code_cmp}
 use Rattle.units.specs.declared.code.Code.{Code}
 use Rattle.units.proofs.Same.{code_of_same}
 use Rattle.units.proofs.UnitOrder.{code_rank, codes_compare, code_below}
-use Rattle.scheme.specs.Order.{member}
 use Rattle.scheme.specs.declared.members.SchemeRegistry.{SchemeRegistry}
 
-abbrev AreOrdered : List SchemeRegistry → Type 0
+abbrev pub AreOrdered : List SchemeRegistry → Type 0
 AreOrdered members = Pairwise (λ a b. code_cmp a.code b.code ≡ Less) members
+
+abbrev pub has_code : Code → SchemeRegistry → Bool
+has_code c m = same_code m.code c
 
 -- ---- a comparison in ranks
 
@@ -77,21 +80,21 @@ rising ms c ordered i j d le lt = rises (get_or ms i d).code (get_or ms j d).cod
 
 -- ---- what is found
 
-found : (ms : List SchemeRegistry) (c : Code) (i : ℕ) → AreOrdered ms → i < length ms → ((d : SchemeRegistry) → code_cmp (get_or ms i d).code c ≡ Equal) → member ms c ≡ slice_get ms i
-found [] c i ordered lt is = absurd (omega arith)
-found (m ∷ ms) c zero ordered lt is = rw (equal_same m.code c (is m)) refl
-found (m ∷ ms) c (suc i) ordered lt is =
+found : (ms : List SchemeRegistry) (c : Code) (k i : ℕ) → AreOrdered ms → i < length ms → ((d : SchemeRegistry) → code_cmp (get_or ms i d).code c ≡ Equal) → position_from (has_code c) k ms ≡ Some (k + i)
+found [] c k i ordered lt is = absurd (omega arith)
+found (m ∷ ms) c k zero ordered lt is = rw (equal_same m.code c (is m)) (ap Some (omega arith))
+found (m ∷ ms) c k (suc i) ordered lt is =
     let rank = ranks_equal (get_or ms i m).code c (is m) in
     let less = below_each m m ms i ordered.0 (omega arith) in
     let other = unequal_other m.code c (λ e. omega arith) in
-    rw other (found ms c i ordered.1 (omega arith) is)
+    rw other (found ms c (k + 1) i ordered.1 (omega arith) is ∙ ap Some (omega arith))
 
-missing : (ms : List SchemeRegistry) (c : Code) → ((k : ℕ) (d : SchemeRegistry) → k < length ms → code_cmp (get_or ms k d).code c ≡ Equal → ⊥) → member ms c ≡ None
-missing [] c none = refl
-missing (m ∷ ms) c none =
+missing : (ms : List SchemeRegistry) (c : Code) (k : ℕ) → ((i : ℕ) (d : SchemeRegistry) → i < length ms → code_cmp (get_or ms i d).code c ≡ Equal → ⊥) → position_from (has_code c) k ms ≡ None
+missing [] c k none = refl
+missing (m ∷ ms) c k none =
     let unlike = none zero m (omega arith) in
     let other = unequal_other m.code c (λ e. unlike (equal m.code c e)) in
-    rw other (missing ms c (λ k d lt. none (suc k) d (omega arith)))
+    rw other (missing ms c (k + 1) (λ i d lt. none (suc i) d (omega arith)))
   where
     equal : (a b : Code) → code_rank a ≡ code_rank b → code_cmp a b ≡ Equal
     equal a b e = elim (code_cmp a b) as (λ r. MatchOrdering r (code_rank a < code_rank b) (code_rank a ≡ code_rank b) (code_rank b < code_rank a) → r ≡ Equal) [
@@ -102,14 +105,15 @@ missing (m ∷ ms) c none =
 
 -- the search tells the registry's place, or that there is none
 pub searched : (ms : List SchemeRegistry) (c : Code) (r : Result ℕ ℕ) → AreOrdered ms → MatchResult r (λ i. i < length ms) (λ i. i ≤ length ms) → IsBinarySearchResult (λ m. code_cmp m.code c) ms r
-    → MatchResult r (λ i. member ms c ≡ slice_get ms i) (λ i. member ms c ≡ None)
-searched ms c (Ok i) ordered lt is = found ms c i ordered lt is
+    → result_ok r ≡ position_from (has_code c) 0 ms
+searched ms c (Ok i) ordered lt is = let same : i ≡ 0 + i = omega arith in ap Some same ∙ sym (found ms c 0 i ordered lt is)
 searched ms c (Err i) ordered le is =
     let parts = is (rising ms c ordered) in
-    missing ms c (λ k d lt e. elim (cases_at k i) [
+    sym
+    (missing ms c 0 (λ k d lt e. elim (cases_at k i) [
       | inl before ↦ let less = parts.0 k d (omega arith) before in absurd (cc (less, e))
       | inr after ↦ let greater = parts.1 k d after lt in absurd (cc (greater, e))
-    ])
+    ]))
   where
     cases_at : (k i : ℕ) → (k < i) ⊎ (i ≤ k)
     cases_at k zero = inr (omega arith)

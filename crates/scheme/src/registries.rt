@@ -1,7 +1,8 @@
 //! The scheme.
-ghost use Rattle.std.specs.Prelude.{◌≡◌, ◌≤◌, None, slice_get, IfOk, IfSome, IfNone};
-ghost use Rattle.std.specs.List.{find};
+ghost use Rattle.std.specs.Prelude.{◌≡◌, ◌≤◌, IfOk};
+ghost use Rattle.std.specs.List.{find, position_from};
 ghost use Rattle.std.specs.Option.{option_copied};
+ghost use Rattle.units.specs.Code.{same_code};
 ghost use Rattle.units.specs.Limits.{most_records};
 ghost use Rattle.units.specs.Unit.{has_unit};
 ghost use Rattle.scheme.specs.Order.{AreMembers, member};
@@ -22,17 +23,6 @@ pub struct Scheme {
     pub members: Items<SchemeRegistry>,
     pub ghost in_range: { (1 ≤ records) × (records ≤ most_records) },
     pub ghost sound: { AreMembers members } by { AreMembers-prop members },
-}
-
-/// Where the registry of that code stands.
-fn place_of(members: &[SchemeRegistry], code: Code) -> Option<usize>
-    requires { AreMembers members.now }
-    ensures some { IfSome result (λ i. member members.now code ≡ slice_get members.now i) }
-    ensures none { IfNone result (member members.now code ≡ None) }
-{
-    members
-        .binary_search_by_key(&code, |member| member.code)
-        .ok()
 }
 
 /// The block of the allotment that has the unit.
@@ -83,13 +73,21 @@ impl Scheme {
         self.members.as_slice()
     }
 
+    /// The place of the registry of that code among the registries.
+    pub fn place(&self, code: Code) -> Option<usize>
+        ensures { result ≡ position_from (λ m. same_code m.code code) 0 self.now.members }
+    {
+        self.registries()
+            .binary_search_by_key(&code, |member| member.code)
+            .ok()
+    }
+
     /// The registry of that code.
     pub fn member(&self, code: Code) -> Option<&SchemeRegistry>
         ensures { option_copied result ≡ member self.now.members code }
     {
-        let members = self.members.as_slice();
-        let place = place_of(members, code)?;
-        members.get(place)
+        let place = self.place(code)?;
+        self.registries().get(place)
     }
 
     /// Who holds the unit at the start.

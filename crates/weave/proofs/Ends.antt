@@ -11,7 +11,7 @@ use Rattle.scheme.specs.declared.registries.Scheme.{Scheme}
 use Rattle.protocol.specs.Claims.{DeliversWelcome, committed_of, committed_part, live_of, whole}
 use Rattle.protocol.specs.Cores.{answer, answer_of}
 use Rattle.protocol.specs.Headline.{IsSafe}
-use Rattle.protocol.specs.Registries.{is_node}
+use Rattle.protocol.specs.Registries.{is_node, nodes, place_of}
 use Rattle.protocol.specs.WayOut.{WayOut}
 use Rattle.protocol.specs.Weave.{Gives, IsQuiet, IsStuck, Projects, uncommitted}
 use Rattle.protocol.specs.World.{World, Station, Stepped, at_node, opening, run, station, step, take_input}
@@ -25,16 +25,16 @@ use Rattle.safety.proofs.JournalWeaves.StuckWorlds.{stuck_is_final}
 use Rattle.safety.proofs.WorldLemmas.NodesWithStation.{some_there}
 use Rattle.safety.proofs.WorldLemmas.SchemesKept.{run_scheme}
 use Rattle.safety.proofs.WorldLemmas.StationsAfterPut.{found_at_node}
-use Rattle.world.specs.Kept.{nodes}
 use Rattle.weave.specs.Ahead.{AreAhead, IsAhead}
-use Rattle.weave.specs.Following.{HasFollowed, HasNoEvents, IsFirstLeft, IsStuckAt, IsWoven, committed_at, journal_of, place_of}
+use Rattle.weave.specs.Following.{HasFollowed, HasNoEvents, IsFirstLeft, IsStuckAt, IsWoven, committed_at, journal_of}
 use Rattle.weave.specs.Kept.{IsFollowing, places_of}
 use Rattle.weave.specs.Left.{AreDoneBelow, IsLeft, count_at}
 use Rattle.weave.specs.Steps.{Follows, HasNodesAlone, Waits, whole_at, without_tails}
 use Rattle.weave.specs.declared.following.Following.{Following}
 use Rattle.weave.proofs.Followed.{all_placed}
 use Rattle.weave.proofs.Lists.{get_at, take_front}
-use Rattle.weave.proofs.NodePlaces.{counted, journal_is, node_at, node_of_place, node_there, nodes_alone, none_there, place_within}
+use Rattle.protocol.proofs.NodePlaces.{node_at, node_of_place, node_there, place_within}
+use Rattle.weave.proofs.NodePlaces.{counted, journal_is, nodes_alone, none_there}
 use Rattle.weave.proofs.OneMore.{take_says}
 use Rattle.weave.proofs.Rounds.{follows_journals, next_is}
 use Rattle.weave.proofs.Tails.{committed_same, settled_is}

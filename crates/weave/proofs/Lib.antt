@@ -9,7 +9,6 @@ pub mod Tried
 pub mod Rounds
 pub mod NodePlaces
 pub mod Ends
-pub mod SchemeNodes
 pub mod NextEvents
 pub mod Opened
 pub mod Replayed

@@ -1,7 +1,6 @@
--- Elements of lists that get longer or have an element set, and the place at which a test first passes.
+-- Elements of lists that get longer or have an element set.
 use Rattle.std.proofs.Common.{◌≡◌, ◌≢◌, ℕ, zero, suc, ◌+◌, ◌<◌, ◌≤◌, List, [], ◌∷◌, ◌++◌, Bool, true, false, cond, Option, Some, None, inl, inr, refl, sym, ap, ◌∙◌, length, map, take, arith, Bor}
 use Rattle.std.specs.Prelude.{slice_get, get_or, Contains, IfNone, ◌⊎◌}
-use Rattle.std.specs.List.{position_from}
 use Rattle.std.proofs.Math.ListN.{set}
 use Rattle.std.proofs.lemmas.List.{map-append, take_more}
 use Rattle.std.specs.Option.{option_copied, option_map_or}
@@ -82,30 +81,6 @@ none_lent {X = X} r o e is = sym e ∙ ap (λ (z : Option (Bor X)). option_copie
 
 pub mapped : {X : Type 0} (o : Option X) (x : X) → Some x ≡ o → (f : X → List ℕ) → option_map_or f o [] ≡ f x
 mapped o x e f = ap (λ z. option_map_or f z []) (sym e)
-
--- ---- where a test first passes
-
-pub place_passes : {X : Type 0} (p : X → Bool) (k : ℕ) (xs : List X) (i : ℕ) → position_from p k xs ≡ Some i → (j : ℕ) × (i ≡ k + j) × ((x : X) × (slice_get xs j ≡ Some x) × (p x ≡ true))
-place_passes p k [] i e = absurd (cc (e))
-place_passes {X = X} p k (x ∷ xs) i e = pick (place_passes p (k + 1) xs i) (p x) refl e
-  where
-    pick : (position_from p (k + 1) xs ≡ Some i → (j : ℕ) × (i ≡ k + 1 + j) × ((y : X) × (slice_get xs j ≡ Some y) × (p y ≡ true))) → (b : Bool) → p x ≡ b → cond b (Some k) (position_from p (k + 1) xs) ≡ Some i
-        → (j : ℕ) × (i ≡ k + j) × ((y : X) × (slice_get (x ∷ xs) j ≡ Some y) × (p y ≡ true))
-    pick rest true is h = let same : k ≡ i = cc (h) in (0, omega (arith, same), (x, refl, is))
-    pick rest false is h = let r = rest h in (suc r.0, omega (arith, r.1), r.2)
-
-pub place_none : {X : Type 0} (p : X → Bool) (k : ℕ) (xs : List X) → position_from p k xs ≡ None → (j : ℕ) (x : X) → slice_get xs j ≡ Some x → p x ≡ true → ⊥
-place_none p k [] e j x is passes = absurd (cc (is))
-place_none p k (y ∷ xs) e j x is passes = pick (place_none p (k + 1) xs) (p y) refl e j is
-  where
-    pick : (position_from p (k + 1) xs ≡ None → (j : ℕ) (x : _) → slice_get xs j ≡ Some x → p x ≡ true → ⊥) → (b : Bool) → p y ≡ b → cond b (Some k) (position_from p (k + 1) xs) ≡ None → (j : ℕ) → slice_get (y ∷ xs) j ≡ Some x → ⊥
-    pick rest true is h j at = absurd (cc (h))
-    pick rest false is h zero at = let same : y ≡ x = cc (at) in let clash : true ≡ false = sym passes ∙ ap p (sym same) ∙ is in cc (clash)
-    pick rest false is h (suc j) at = rest h j x at passes
-
-pub position_map : {X Y : Type 0} (f : X → Y) (p : Y → Bool) (k : ℕ) (xs : List X) → position_from p k (map f xs) ≡ position_from (λ x. p (f x)) k xs
-position_map f p k [] = refl
-position_map f p k (x ∷ xs) = ap (cond (p (f x)) (Some k)) (position_map f p (k + 1) xs)
 
 -- a list with an element set, there and elsewhere
 pub set_here : {X : Type 0} (xs : List X) (at : ℕ) (v : X) → at < length xs → slice_get (set xs at v) at ≡ Some v

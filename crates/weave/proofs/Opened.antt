@@ -17,12 +17,9 @@ use Rattle.wire.specs.declared.input.Input.{Input}
 use Rattle.wire.specs.declared.message.Message.{Message}
 use Rattle.scheme.specs.declared.members.SchemeRegistry.{SchemeRegistry}
 use Rattle.scheme.specs.declared.registries.Scheme.{Scheme}
-use Rattle.node.specs.Cores.{node_of}
-use Rattle.node.specs.Cores as node_cores
-use Rattle.node.specs.declared.any_core.Core.{Core}
 use Rattle.protocol.specs.Claims.{committed_of, whole}
 use Rattle.protocol.specs.History.{sends}
-use Rattle.protocol.specs.Registries.{is_node}
+use Rattle.protocol.specs.Registries.{is_node, nodes}
 use Rattle.protocol.specs.Verdict.{history}
 use Rattle.protocol.specs.Weave.{IsQuiet}
 use Rattle.protocol.specs.World.{World, Station, opening, opening_station, run}
@@ -31,13 +28,16 @@ use Rattle.lemmas.proofs.Positions.{contains_in}
 use Rattle.safety.proofs.WorldLemmas.QuietWorlds.{opening_quiet, there}
 use Rattle.safety.proofs.WorldLemmas.SoundWorlds.{none_committed}
 use Rattle.safety.proofs.WorldLemmas.StationsAfterPut.{at}
-use Rattle.world.specs.Kept.{nodes}
+use Rattle.world.specs.Cores.{node_of}
+use Rattle.world.specs.Cores as node_cores
+use Rattle.world.specs.declared.any_core.Core.{Core}
 use Rattle.world.specs.Stations.{uncommitted, uncommitted_station}
 use Rattle.weave.specs.Following.{committed_at, journal_of}
 use Rattle.weave.specs.Kept.{IsFollowing, places_of}
 use Rattle.weave.specs.Steps.{Waits, idle_station, whole_at, without_tails}
 use Rattle.weave.specs.declared.following.Following.{Following}
-use Rattle.weave.proofs.NodePlaces.{node_at, nodes_alone}
+use Rattle.protocol.proofs.NodePlaces.{node_at}
+use Rattle.weave.proofs.NodePlaces.{nodes_alone}
 
 nothing_sent : (scheme : Scheme) (n : Node) (key : ℕ) (m : Message) → slice_get (sends (committed_of (opening scheme) n)) key ≡ Some m → ⊥
 nothing_sent scheme n key m is =

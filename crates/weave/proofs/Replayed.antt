@@ -6,13 +6,13 @@ use Rattle.std.proofs.lemmas.Option.{get_or_from_slice_get, slice_get_within}
 use Rattle.units.specs.declared.code.Node.{Node}
 use Rattle.wire.specs.declared.input.Input.{Input}
 use Rattle.scheme.specs.declared.registries.Scheme.{Scheme}
-use Rattle.node.specs.Cores.{journal_of, node_of}
-use Rattle.node.specs.declared.any_core.Core.{Core}
+use Rattle.protocol.specs.Registries.{nodes}
 use Rattle.protocol.specs.Cores.{HasFault, IsAt, IsFirstNotRecorded}
 use Rattle.protocol.specs.declared.replay_fault.ReplayFault.{ReplayFault}
 use Rattle.protocol.specs.declared.replay_fault.ReplayFault.TheVariants.{NotRecorded}
 use Rattle.lemmas.proofs.OneValue.{one_some}
-use Rattle.world.specs.Kept.{nodes}
+use Rattle.world.specs.Cores.{journal_of, node_of}
+use Rattle.world.specs.declared.any_core.Core.{Core}
 use Rattle.weave.specs.Ahead.{AreAhead, IsAhead}
 use Rattle.weave.proofs.Lists.{one_more}
 

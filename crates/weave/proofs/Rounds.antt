@@ -15,7 +15,7 @@ use Rattle.protocol.specs.declared.event.Posted.{Posted}
 use Rattle.protocol.specs.Claims.{committed_of, committed_part, whole}
 use Rattle.protocol.specs.Cores.{answer}
 use Rattle.protocol.specs.History.{sends}
-use Rattle.protocol.specs.Registries.{is_node}
+use Rattle.protocol.specs.Registries.{is_node, nodes, place_of}
 use Rattle.protocol.specs.Weave.{IsQuiet}
 use Rattle.protocol.specs.World.{Station, World, opening, run, station, step}
 use Rattle.protocol.specs.declared.event.Outcome.TheVariants.{Recorded}
@@ -26,14 +26,13 @@ use Rattle.lemmas.proofs.Membership.{In, In_cases, In_slice_get}
 use Rattle.lemmas.proofs.OneValue.{one_some}
 use Rattle.lemmas.proofs.Positions.{In_contains, contains_in}
 use Rattle.safety.proofs.WorldLemmas.SchemesKept.{run_scheme}
-use Rattle.world.specs.Kept.{nodes}
-use Rattle.weave.specs.Following.{committed_at, place_of}
+use Rattle.weave.specs.Following.{committed_at}
 use Rattle.weave.specs.Kept.{HasPosted, HasWholeSame, IsFollowing, IsFollowingWith, IsPosting, Posts, Takes, left_in, places_of}
 use Rattle.weave.specs.Steps.{Fits, Follows, IsNextBy, IsNotRecorded, IsPostedTo, Waits, idle_station, next_message, sent_count, whole_at, with_message, without_tails}
 use Rattle.weave.specs.declared.following.Following.{Following}
 use Rattle.weave.specs.declared.following.Progress.{Progress}
 use Rattle.weave.specs.declared.following.Progress.TheVariants.{Advanced, Rests}
-use Rattle.weave.proofs.NodePlaces.{node_of_place, node_there}
+use Rattle.protocol.proofs.NodePlaces.{node_of_place, node_there}
 use Rattle.weave.proofs.Followed.{all_placed, fewer, follows_posted, follows_taken, left_journals, left_stations, taken_advances}
 use Rattle.weave.proofs.Lists.{contains_last, contains_left}
 use Rattle.weave.proofs.OneMore.{Advances, posted_to, sent_more}

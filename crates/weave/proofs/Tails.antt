@@ -11,6 +11,7 @@ use Rattle.units.specs.declared.code.Node.{Node}
 use Rattle.wire.specs.declared.input.Input.{Input}
 use Rattle.wire.specs.declared.input.Input.TheVariants.{Propose, Request, OpenAccount, CloseAccount, Ack, CleanUp, Eligible, Received}
 use Rattle.scheme.specs.declared.registries.Scheme.{Scheme}
+use Rattle.protocol.specs.Registries.{nodes}
 use Rattle.protocol.specs.Claims.{committed_part, whole}
 use Rattle.protocol.specs.Cores.{answer, answer_of}
 use Rattle.protocol.specs.Deciding.{Verdict, IsRecorded, IsRepeat, IsLate, IsRefused}
@@ -25,8 +26,7 @@ use Rattle.lemmas.proofs.Membership.{In, In_find}
 use Rattle.lemmas.proofs.OneValue.{one_some}
 use Rattle.safety.proofs.WorldLemmas.QuietWorlds.{takes}
 use Rattle.safety.proofs.WorldLemmas.StationsAfterPut.{at, at_elsewhere, at_put, found_at_node}
-use Rattle.world.specs.Kept.{nodes}
-use Rattle.world.proofs.Registries.{Differ, nodes_differ}
+use Rattle.protocol.proofs.NodePlaces.{Differ, nodes_differ}
 use Rattle.weave.specs.Following.{committed_at}
 use Rattle.weave.specs.Steps.{Fits, idle_station, next_message, whole_at, without_tails}
 use Rattle.weave.proofs.Turns.{taken, deliver_at}

@@ -3,8 +3,8 @@ use Rattle.std.specs.Prelude.{◌≡◌, ◌⊎◌, ℕ, List, [], ◌++◌, len
 use Rattle.units.specs.declared.code.Node.{Node}
 use Rattle.wire.specs.declared.input.Input.{Input}
 use Rattle.scheme.specs.declared.registries.Scheme.{Scheme}
+use Rattle.protocol.specs.Registries.{nodes}
 use Rattle.protocol.specs.Cores.{IsFirstNotRecorded}
-use Rattle.world.specs.Kept.{nodes}
 
 -- the node records the first records of the journal, and these are all, or the next one isn't recorded after them
 pub record IsAhead (scheme : Scheme) (n : Node) (journal recorded : List Input) : Type 0 where

@@ -1,25 +1,20 @@
 -- Journals of all nodes, followed into one world: how far, and why not further.
-use Rattle.std.specs.Prelude.{◌≡◌, ◌<◌, ℕ, List, [], length, slice_get, slice_index_or, Option, Some}
-use Rattle.std.specs.List.{position_from}
+use Rattle.std.specs.Prelude.{◌≡◌, ◌<◌, ℕ, List, [], length, slice_get, slice_index_or, Some}
 use Rattle.std.specs.Option.{option_map_or}
-use Rattle.units.specs.Code.{same_node}
 use Rattle.units.specs.declared.code.Node.{Node}
 use Rattle.wire.specs.declared.input.Input.{Input}
 use Rattle.scheme.specs.declared.registries.Scheme.{Scheme}
+use Rattle.protocol.specs.Registries.{nodes, place_of}
 use Rattle.protocol.specs.Claims.{DeliversWelcome, committed_of, committed_part, live_of}
 use Rattle.protocol.specs.Headline.{IsSafe}
 use Rattle.protocol.specs.WayOut.{WayOut}
 use Rattle.protocol.specs.Weave.{ArePrefixes, IsQuiet, IsStuck, Projects}
 use Rattle.protocol.specs.World.{World, opening, run, station}
 use Rattle.protocol.specs.declared.event.WorldEvent.{WorldEvent}
-use Rattle.world.specs.Kept.{nodes}
 use Rattle.weave.specs.declared.fault.WeaveFault.{WeaveFault}
 use Rattle.weave.specs.declared.fault.WeaveFault.TheVariants.{Stuck, NoMemory}
 
 -- ---- the journals, one for each node: the log's, then those of the registries in the scheme's order
-
-abbrev pub place_of : Scheme → Node → Option ℕ
-place_of scheme n = position_from (λ m. same_node m n) 0 (nodes scheme)
 
 abbrev pub journal_of : Scheme → List (List Input) → Node → List Input
 journal_of scheme journals n = option_map_or (λ k. slice_index_or journals k []) (place_of scheme n) []

@@ -8,12 +8,11 @@ use Rattle.status.specs.declared.id.TransactionId.{TransactionId}
 use Rattle.wire.specs.Parties.{receiver, transaction}
 use Rattle.wire.specs.declared.message.Message.{Message}
 use Rattle.scheme.specs.declared.registries.Scheme.{Scheme}
-use Rattle.protocol.specs.Registries.{is_node}
+use Rattle.protocol.specs.Registries.{is_node, nodes}
 use Rattle.protocol.specs.Weave.{IsQuiet}
 use Rattle.protocol.specs.World.{World, step}
 use Rattle.protocol.specs.declared.event.WorldEvent.{WorldEvent}
 use Rattle.protocol.specs.declared.event.WorldEvent.TheVariants.{Commit, Post}
-use Rattle.world.specs.Kept.{nodes}
 use Rattle.weave.specs.Steps.{Follows, IsPostedTo, left_of, next_message, sent_count, whole_at, with_message, without_tails}
 use Rattle.weave.specs.declared.following.Following.{Following}
 use Rattle.weave.specs.declared.following.Progress.{Progress}

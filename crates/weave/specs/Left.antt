@@ -3,8 +3,9 @@ use Rattle.std.specs.Option.{option_map_or}
 use Rattle.std.specs.Prelude.{◌≡◌, ◌<◌, ◌≤◌, ℕ, List, length, slice_get, slice_index, Some}
 use Rattle.units.specs.declared.code.Node.{Node}
 use Rattle.scheme.specs.declared.registries.Scheme.{Scheme}
+use Rattle.protocol.specs.Registries.{place_of}
 use Rattle.protocol.specs.World.{World}
-use Rattle.weave.specs.Following.{committed_at, place_of}
+use Rattle.weave.specs.Following.{committed_at}
 
 -- how many records the journal of a node has, by the node's place
 abbrev pub count_at : Scheme → List ℕ → Node → ℕ

@@ -10,7 +10,7 @@ use Rattle.scheme.specs.declared.registries.Scheme.{Scheme}
 use Rattle.protocol.specs.Claims.{committed_of, whole}
 use Rattle.protocol.specs.Cores.{answer}
 use Rattle.protocol.specs.History.{sends}
-use Rattle.protocol.specs.Registries.{is_node}
+use Rattle.protocol.specs.Registries.{is_node, nodes}
 use Rattle.protocol.specs.WayOut.{IsIdle}
 use Rattle.protocol.specs.Weave.{ArePrefixes, Gives}
 use Rattle.protocol.specs.World.{World, Station, is_order, opening, run, sent, station, step}
@@ -19,7 +19,6 @@ use Rattle.protocol.specs.declared.event.Posted.{Posted}
 use Rattle.protocol.specs.declared.event.WorldEvent.{WorldEvent}
 use Rattle.protocol.specs.declared.event.WorldEvent.TheVariants.{Take}
 use Rattle.protocol.specs.declared.node_core.Stepped.TheVariants as stepped
-use Rattle.world.specs.Kept.{nodes}
 use Rattle.weave.specs.Following.{committed_at}
 
 -- ---- the world that has only the committed journals

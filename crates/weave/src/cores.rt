@@ -1,16 +1,15 @@
 //! Cores that record journals, as far as they do.
 ghost use Rattle.std.specs.Prelude.{◌≡◌, [], All, IfOk, OnOk, length, map};
-ghost use Rattle.node.specs.Cores as node_cores;
+ghost use Rattle.protocol.specs.Registries.{nodes};
+ghost use Rattle.world.specs.Cores as node_cores;
 ghost use Rattle.weave.specs.Ahead.{AreAhead, IsAhead};
-ghost use Rattle.world.specs.Kept.{nodes};
 
-use crate::nodes::nodes_of;
-use node::Core;
-use protocol::{NodeCore, ReplayFault, resume};
+use protocol::{NodeCore, ReplayFault, nodes_of, resume};
 use scheme::Scheme;
 use std::alloc::Global;
 use units::{NoMemory, Node};
 use wire::Input;
+use world::Core;
 
 /// How many records each core has.
 pub(crate) fn record_counts(alloc: Global, cores: &[Core]) -> Result<Vec<usize>, NoMemory>

@@ -2,27 +2,25 @@
 ghost use Rattle.std.specs.Prelude.{◌≡◌, ◌<◌, ◌≤◌, ◌+◌, ◌++◌, ◌∷◌, [], All, IfOk, OnOk, Some, length, map, slice_index, vec_capacity, vec_len};
 ghost use Rattle.units.specs.declared.code.Node.{Node};
 ghost use Rattle.scheme.specs.declared.registries.Scheme.{Scheme};
-ghost use Rattle.node.specs.Cores as node_cores;
+ghost use Rattle.protocol.specs.Registries.{nodes, place_of};
 ghost use Rattle.protocol.specs.Weave.{IsQuiet};
 ghost use Rattle.protocol.specs.World.{step};
 ghost use Rattle.protocol.specs.declared.event.WorldEvent.TheVariants.{Commit, Post};
-ghost use Rattle.weave.specs.Following.{journal_of, place_of};
+ghost use Rattle.world.specs.Cores as node_cores;
+ghost use Rattle.weave.specs.Following.{journal_of};
 ghost use Rattle.weave.specs.Kept.{HasPosted, IsFewer, IsFewerOrDone, IsFollowing, IsFollowingWith, IsPosting, Takes, HasWholeSame};
 ghost use Rattle.weave.specs.Steps.{whole_at, without_tails};
-ghost use Rattle.world.specs.Kept.{nodes};
 
 use crate::giving::next_event;
-use crate::nodes::{nodes_of, place_of};
 use crate::places::add_place;
 use crate::watch::Watch;
-use node::Core;
-use protocol::{Outcome, WorldEvent};
+use protocol::{Outcome, WorldEvent, nodes_of, place_of};
 use scheme::Scheme;
 use status::TransactionId;
 use std::alloc::Global;
 use std::collections::BTreeMap;
 use units::{NoMemory, Node};
-use world::World;
+use world::{Core, World};
 
 /// What a look at a node came to.
 #[derive(Clone, Copy)]

@@ -2,7 +2,8 @@
 ghost use Rattle.std.specs.Prelude.{◌≡◌, IfNone, IfSome, length};
 ghost use Rattle.weave.specs.Left.{AreDoneBelow, IsLeft, count_at};
 
-use crate::nodes::{committed_count, place_of};
+use crate::records::committed_count;
+use protocol::place_of;
 use scheme::Scheme;
 use units::Node;
 use world::World;

@@ -6,12 +6,11 @@ mod fault;
 mod following;
 mod giving;
 mod left;
-mod nodes;
 mod places;
+mod records;
 mod watch;
 mod weaving;
 
 pub use fault::WeaveFault;
-pub use nodes::{nodes_of, place_of};
 pub use watch::{Nobody, Watch};
 pub use weaving::{Woven, weave, weave_cores};

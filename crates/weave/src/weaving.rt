@@ -1,23 +1,21 @@
 //! From journals of all nodes back to one run.
 ghost use Rattle.std.specs.Prelude.{◌≡◌, All, IfErr, IfOk, List, length, map};
 ghost use Rattle.wire.specs.declared.input.Input.{Input};
-ghost use Rattle.node.specs.Cores as node_cores;
+ghost use Rattle.protocol.specs.Registries.{nodes};
+ghost use Rattle.world.specs.Cores as node_cores;
 ghost use Rattle.weave.specs.Ahead.{AreAhead};
 ghost use Rattle.weave.specs.Following.{IsWeaveFault, IsWoven, journal_of};
-ghost use Rattle.world.specs.Kept.{nodes};
 
 use crate::cores::{lengths_of, record_counts, replayed};
 use crate::fault::WeaveFault;
 use crate::following::{Following, follow};
 use crate::left::first_left;
-use crate::nodes::nodes_of;
 use crate::watch::{Nobody, Watch};
-use node::Core;
-use protocol::WorldEvent;
+use protocol::{WorldEvent, nodes_of};
 use scheme::Scheme;
 use std::alloc::Global;
 use wire::Input;
-use world::World;
+use world::{Core, World};
 
 /// A list of events, and the world that they lead to from the opening one.
 #[derive(Debug, Drop)]

@@ -1,7 +1,7 @@
 //! The journals of an example's nodes, put into stores and audited.
 
 ghost use Rattle.std.specs.Prelude.{◌≡◌, IfSome, length};
-ghost use Rattle.world.specs.Kept.{nodes};
+ghost use Rattle.protocol.specs.Registries.{nodes};
 
 use audit::audit;
 use event_lines::event_of;

@@ -5,6 +5,7 @@ use answers::WallClock;
 use audit::load_all;
 use desk::OpenGate;
 use inputs::OpFault;
+use protocol::nodes_of;
 use runs::{Loaded, Network, run_script};
 use scripts::{ScriptLine, read_script};
 use sockets::{Ports, open_ports};
@@ -16,7 +17,6 @@ use std::sync::Wait;
 use std::thread::Threads;
 use stores::MemoryStore;
 use units::Node;
-use weave::nodes_of;
 
 /// Empty stores of the log, of JP and of NZ.
 pub fn new_stores(rt: &impl Abort, alloc: Global) -> [MemoryStore; 3] {

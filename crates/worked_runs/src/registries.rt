@@ -1,7 +1,7 @@
 //! The worked scheme, and the nodes of its registries.
 
 ghost use Rattle.std.specs.Prelude.{◌≡◌, length};
-ghost use Rattle.world.specs.Kept.{nodes};
+ghost use Rattle.protocol.specs.Registries.{nodes};
 
 use scheme::Scheme;
 use std::alloc::Global;

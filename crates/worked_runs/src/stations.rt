@@ -5,7 +5,6 @@ use crate::same::assert_same;
 use answers::Clock;
 use desk::{Desk, Gate, RoomBell, Seat, State, settle};
 use exchanges::{Counted, Exchange, exchange};
-use node::Core;
 use sessions::{Dial, Listen, NodeEnd, NodeParts, NodeToRun, run_all};
 use sockets::{Port, Ports};
 use status::Moment;
@@ -19,6 +18,7 @@ use std::thread::Threads;
 use stores::MemoryStore;
 use units::{NoMemory, Node};
 use wire::{Message, Reply, ReplyCode, decode};
+use world::Core;
 
 /// The log tells NZ that a transfer is completed that NZ never proposed.
 pub const COMPLETED: &str =

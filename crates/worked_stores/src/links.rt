@@ -1,14 +1,13 @@
 //! The states of the worked scheme's nodes with their stores, of which one may be cut.
 ghost use Rattle.std.specs.Prelude.{◌≡◌, [], length};
-ghost use Rattle.node.specs.Cores.{journal_of};
-ghost use Rattle.world.specs.Kept.{nodes};
+ghost use Rattle.protocol.specs.Registries.{nodes};
+ghost use Rattle.world.specs.Cores.{journal_of};
 
 use crate::file_store_rows::{Stored, after_a_crash};
 use crate::same::assert_same;
 use audit::audit;
 use desk::{State, Told};
 use durable::SqlStore;
-use node::Core;
 use scheme::Scheme;
 use sqlite::{Files, Options};
 use sqlite_disk::{Fuse, Memory};
@@ -18,6 +17,7 @@ use std::process::Abort;
 use stores::StoreFault;
 use units::{Code, Node};
 use wire::Input;
+use world::Core;
 
 const SCHEME: &str =
     r#"{"records":1000,"registries":[{"accounts":[7,8],"allotted":[],"code":"JP","eligible":true,"kinds":["AAU","CER"]},{"accounts":[1,2],"allotted":[{"account":1,"units":["NZ:1:1-100:AAU"]}],"code":"NZ","eligible":true,"kinds":["AAU","RMU","ERU","CER","tCER","lCER"]}]}"#;

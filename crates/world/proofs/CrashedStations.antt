@@ -9,8 +9,8 @@ use Rattle.wire.specs.declared.input.Input.{Input}
 use Rattle.protocol.specs.World.{Station, Turn, crash}
 use Rattle.protocol.specs.declared.event.Outcome.{Outcome}
 use Rattle.protocol.specs.declared.event.Outcome.TheVariants.{Done}
-use Rattle.node.specs.Cores.{journal_of, node_of}
-use Rattle.node.specs.declared.any_core.Core.{Core}
+use Rattle.world.specs.Cores.{journal_of, node_of}
+use Rattle.world.specs.declared.any_core.Core.{Core}
 use Rattle.world.proofs.TailsOfJournals.{take_more}
 
 -- a running node of which the first records are committed

@@ -10,57 +10,38 @@ use Rattle.std.proofs.lemmas.Bool.{cases_Bool}
 use Rattle.std.proofs.lemmas.List.Elements.{All-nil, All-cons, All-head, All-tail, All-get_or, All-set, All-push, All-weaker}
 use Rattle.std.proofs.lemmas.List.Folds.{list_any-append, list_any_none}
 use Rattle.units.specs.Apart.{Pairwise}
-use Rattle.units.specs.Code.{same_code, same_node}
-use Rattle.units.specs.declared.code.Code.{Code}
+use Rattle.units.specs.Code.{same_node}
 use Rattle.units.specs.declared.code.Node.{Node}
-use Rattle.units.specs.declared.code.Node.TheVariants.{Itl, Registry}
 use Rattle.units.proofs.Same.{node_of_same, same_node-refl}
 use Rattle.wire.specs.declared.message.Message.{Message}
-use Rattle.scheme.specs.Order.{member}
-use Rattle.scheme.specs.declared.members.SchemeRegistry.{SchemeRegistry}
 use Rattle.scheme.specs.declared.registries.Scheme.{Scheme}
-use Rattle.protocol.specs.Registries.{is_node}
+use Rattle.protocol.specs.Registries.{is_node, nodes, place_of}
 use Rattle.protocol.specs.World.{Station, posted, sent, station, was_posted}
 use Rattle.protocol.specs.declared.event.Outcome.TheVariants.{Done, NotPossible}
 use Rattle.protocol.specs.declared.event.Posted.{Posted}
-use Rattle.node.specs.Cores.{node_of, scheme_of}
-use Rattle.world.specs.Kept.{AreKept, IsFresh, IsKept, nodes, world_of}
+use Rattle.protocol.proofs.NodePlaces.{Differ, node_there, nodes_differ}
+use Rattle.world.specs.Cores.{node_of, scheme_of}
+use Rattle.world.specs.Kept.{AreKept, IsFresh, IsKept, world_of}
 use Rattle.world.specs.Stations.{station_of}
 use Rattle.world.specs.declared.station.Station.{Station as Kept}
 use Rattle.world.proofs.Places.{StandsAt, is_of, IsPlace, place_find, place_found, place_node, place_none, place_within, same_seen}
 use Rattle.world.proofs.PlacedStations.{placed, unplaced}
-use Rattle.world.proofs.Registries.{Differ, has_code, later_place, nodes_differ}
 use Rattle.world.proofs.Worlds.{after}
 
 -- ---- where a node stands
 
-abbrev pub place : Scheme → Node → Option ℕ
-place scheme n = position_from (λ x. same_node x n) 0 (nodes scheme)
-
-members_there : (c : Code) (k : ℕ) (ms : List SchemeRegistry) → is_some (position_from (has_code c) k ms) ≡ is_some (member ms c)
-members_there c k [] = refl
-members_there c k (m ∷ ms) = pick (members_there c (k + 1) ms) (same_code m.code c)
-  where
-    pick : is_some (position_from (has_code c) (k + 1) ms) ≡ is_some (member ms c) → (b : Bool) → is_some (cond b (Some k) (position_from (has_code c) (k + 1) ms)) ≡ is_some (cond b (Some m) (member ms c))
-    pick rest true = refl
-    pick rest false = rest
-
-node_there : (scheme : Scheme) (n : Node) → is_some (place scheme n) ≡ is_node scheme n
-node_there scheme Itl = refl
-node_there scheme (Registry c) = ap is_some (later_place 1 c scheme.members) ∙ members_there c 1 scheme.members
-
-pub found : (scheme : Scheme) (ss : List Kept) (bag : List Posted) (n : Node) (at : ℕ) → AreKept scheme ss bag → Some at ≡ place scheme n → IsPlace ss n at
+pub found : (scheme : Scheme) (ss : List Kept) (bag : List Posted) (n : Node) (at : ℕ) → AreKept scheme ss bag → Some at ≡ place_of scheme n → IsPlace ss n at
 found scheme ss bag n at k e = place_found ss n at (placed scheme ss n at k.nodes_are e)
 
-pub missing : (scheme : Scheme) (ss : List Kept) (bag : List Posted) (n : Node) → AreKept scheme ss bag → None ≡ place scheme n → position_from (is_of n) 0 ss ≡ None
+pub missing : (scheme : Scheme) (ss : List Kept) (bag : List Posted) (n : Node) → AreKept scheme ss bag → None ≡ place_of scheme n → position_from (is_of n) 0 ss ≡ None
 missing scheme ss bag n k e = unplaced scheme ss n k.nodes_are e
 
-pub at_place : (scheme : Scheme) (ss : List Kept) (bag : List Posted) (n : Node) (at : ℕ) (s : Kept) → AreKept scheme ss bag → Some at ≡ place scheme n → s ≡ get_or ss at s → IsKept scheme bag s
+pub at_place : (scheme : Scheme) (ss : List Kept) (bag : List Posted) (n : Node) (at : ℕ) (s : Kept) → AreKept scheme ss bag → Some at ≡ place_of scheme n → s ≡ get_or ss at s → IsKept scheme bag s
 at_place scheme ss bag n at s k e is = subst (IsKept scheme bag) (sym is) (All-get_or (IsKept scheme bag) ss at s (place_within ss n at (found scheme ss bag n at k e)) k.kept)
 
 -- ---- whether a message was posted
 
-pub marked_here : (scheme : Scheme) (ss : List Kept) (bag : List Posted) (n : Node) (at key : ℕ) (s : Kept) → AreKept scheme ss bag → Some at ≡ place scheme n → s ≡ get_or ss at s
+pub marked_here : (scheme : Scheme) (ss : List Kept) (bag : List Posted) (n : Node) (at key : ℕ) (s : Kept) → AreKept scheme ss bag → Some at ≡ place_of scheme n → s ≡ get_or ss at s
     → contains nat_cmp s.posted key ≡ was_posted (world_of scheme ss bag) n key
 marked_here scheme ss bag n at key s k e is =
     (at_place scheme ss bag n at s k e is).marked key
@@ -77,7 +58,7 @@ other_node scheme n m b outside inside = pick (same_node m n) refl
     pick false e = refl
 
 -- a node that isn't of the scheme posted nothing
-pub posted_nothing : (scheme : Scheme) (ss : List Kept) (bag : List Posted) (n : Node) (key : ℕ) → AreKept scheme ss bag → None ≡ place scheme n → false ≡ was_posted (world_of scheme ss bag) n key
+pub posted_nothing : (scheme : Scheme) (ss : List Kept) (bag : List Posted) (n : Node) (key : ℕ) → AreKept scheme ss bag → None ≡ place_of scheme n → false ≡ was_posted (world_of scheme ss bag) n key
 posted_nothing scheme ss bag n key k e =
     let outside : is_node scheme n ≡ false = sym (node_there scheme n) ∙ ap is_some (sym e) in
     sym (list_any_none (λ (p : Posted). same_node p.node n && (p.key == key)) bag
@@ -106,7 +87,7 @@ kept_station scheme bag old new same k = record {
 same_nodes : (ss : List Kept) (at : ℕ) (old new : Kept) → old ≡ get_or ss at old → node_of new.core ≡ node_of old.core → map (λ (s : Kept). node_of s.core) (set ss at new) ≡ map (λ (s : Kept). node_of s.core) ss
 same_nodes ss at old new is e = map-set_same (λ (s : Kept). node_of s.core) ss at new old (e ∙ ap (λ (s : Kept). node_of s.core) is)
 
-pub kept_turn : (scheme : Scheme) (ss : List Kept) (bag : List Posted) (n : Node) (at : ℕ) (old new : Kept) → AreKept scheme ss bag → Some at ≡ place scheme n → old ≡ get_or ss at old → Stays old new → AreKept scheme (set ss at new) bag
+pub kept_turn : (scheme : Scheme) (ss : List Kept) (bag : List Posted) (n : Node) (at : ℕ) (old new : Kept) → AreKept scheme ss bag → Some at ≡ place_of scheme n → old ≡ get_or ss at old → Stays old new → AreKept scheme (set ss at new) bag
 kept_turn scheme ss bag n at old new k e is same = record {
   nodes_are = same_nodes ss at old new is same.node ∙ k.nodes_are;
   kept = All-set (IsKept scheme bag) ss at new (kept_station scheme bag old new same (at_place scheme ss bag n at old k e is)) k.kept;
@@ -164,7 +145,7 @@ kept_from scheme bag p (s ∷ ss) (suc at) new stands differ k one =
     (kept_from scheme bag p ss at new stands.1 differ.1 (All-tail (IsKept scheme bag) s ss k) one)
 
 -- the station at that place has the key now
-pub kept_post : (scheme : Scheme) (ss : List Kept) (bag : List Posted) (at : ℕ) (p : Posted) (old new : Kept) → AreKept scheme ss bag → Some at ≡ place scheme p.node → old ≡ get_or ss at old → new.core ≡ old.core
+pub kept_post : (scheme : Scheme) (ss : List Kept) (bag : List Posted) (at : ℕ) (p : Posted) (old new : Kept) → AreKept scheme ss bag → Some at ≡ place_of scheme p.node → old ≡ get_or ss at old → new.core ≡ old.core
     → ((key : ℕ) → contains nat_cmp new.posted key ≡ (contains nat_cmp old.posted key || (p.key == key))) → AreKept scheme (set ss at new) (bag ++ p ∷ [])
 kept_post scheme ss bag at p old new k e is core marks =
     let here = found scheme ss bag p.node at k e in
@@ -187,13 +168,13 @@ kept_post scheme ss bag at p old new k e is core marks =
     }
 
 -- what the node of that place sends
-sends_from : (scheme : Scheme) (ss : List Kept) (bag : List Posted) (n : Node) (at key : ℕ) (s : Kept) (o : Option Message) → AreKept scheme ss bag → Some at ≡ place scheme n → s ≡ get_or ss at s
+sends_from : (scheme : Scheme) (ss : List Kept) (bag : List Posted) (n : Node) (at key : ℕ) (s : Kept) (o : Option Message) → AreKept scheme ss bag → Some at ≡ place_of scheme n → s ≡ get_or ss at s
     → o ≡ sent (scheme_of s.core) key (station_of s) → option_and_then (sent scheme key) (station (world_of scheme ss bag) n) ≡ o
 sends_from scheme ss bag n at key s o k e is so =
     ap (option_and_then (sent scheme key)) (place_find ss n at s (found scheme ss bag n at k e) ∙ ap (λ (s : Kept). Some (station_of s)) (sym is))
     ∙ sym (so ∙ ap (λ z. sent z key (station_of s)) (at_place scheme ss bag n at s k e is).scheme_is)
 
-pub posts : (scheme : Scheme) (ss : List Kept) (bag : List Posted) (n : Node) (at key : ℕ) (message : Message) (s old new : Kept) → AreKept scheme ss bag → Some at ≡ place scheme n → s ≡ get_or ss at s
+pub posts : (scheme : Scheme) (ss : List Kept) (bag : List Posted) (n : Node) (at key : ℕ) (message : Message) (s old new : Kept) → AreKept scheme ss bag → Some at ≡ place_of scheme n → s ≡ get_or ss at s
     → Some message ≡ sent (scheme_of s.core) key (station_of s) → old ≡ get_or ss at old → station_of new ≡ station_of old
     → after (world_of scheme (set ss at new) (bag ++ record { node = n; key = key; message = message } ∷ [])) Done ≡ posted (world_of scheme ss bag) n key (option_and_then (sent scheme key) (station (world_of scheme ss bag) n))
 posts scheme ss bag n at key message s old new k e is some was same =
@@ -201,11 +182,11 @@ posts scheme ss bag n at key message s old new k e is some was same =
     ap (λ (l : List Station). after (record w { stations = l; bag = bag ++ record { node = n; key = key; message = message } ∷ [] }) Done) (same_seen ss at old new was same)
     ∙ sym (ap (posted w n key) (sends_from scheme ss bag n at key s (Some message) k e is some))
 
-pub posts_none : (scheme : Scheme) (ss : List Kept) (bag : List Posted) (n : Node) (at key : ℕ) (s : Kept) → AreKept scheme ss bag → Some at ≡ place scheme n → s ≡ get_or ss at s → None ≡ sent (scheme_of s.core) key (station_of s)
+pub posts_none : (scheme : Scheme) (ss : List Kept) (bag : List Posted) (n : Node) (at key : ℕ) (s : Kept) → AreKept scheme ss bag → Some at ≡ place_of scheme n → s ≡ get_or ss at s → None ≡ sent (scheme_of s.core) key (station_of s)
     → after (world_of scheme ss bag) NotPossible ≡ posted (world_of scheme ss bag) n key (option_and_then (sent scheme key) (station (world_of scheme ss bag) n))
 posts_none scheme ss bag n at key s k e is none = sym (ap (posted (world_of scheme ss bag) n key) (sends_from scheme ss bag n at key s None k e is none))
 
-pub posts_nowhere : (scheme : Scheme) (ss : List Kept) (bag : List Posted) (n : Node) (key : ℕ) → AreKept scheme ss bag → None ≡ place scheme n
+pub posts_nowhere : (scheme : Scheme) (ss : List Kept) (bag : List Posted) (n : Node) (key : ℕ) → AreKept scheme ss bag → None ≡ place_of scheme n
     → after (world_of scheme ss bag) NotPossible ≡ posted (world_of scheme ss bag) n key (option_and_then (sent scheme key) (station (world_of scheme ss bag) n))
 posts_nowhere scheme ss bag n key k e =
     sym (ap (λ o. posted (world_of scheme ss bag) n key (option_and_then (sent scheme key) o)) (place_none ss n (missing scheme ss bag n k e)))

@@ -6,7 +6,7 @@ use Rattle.units.specs.declared.code.Node.{Node}
 use Rattle.scheme.specs.declared.members.SchemeRegistry.{SchemeRegistry}
 use Rattle.world.specs.declared.station.Station.{Station as Kept}
 use Rattle.protocol.specs.World.{Station, opening_station}
-use Rattle.node.specs.Cores.{node_of}
+use Rattle.world.specs.Cores.{node_of}
 use Rattle.world.specs.Stations.{station_of}
 
 abbrev pub opens : List SchemeRegistry → List Station

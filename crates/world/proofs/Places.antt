@@ -7,7 +7,7 @@ use Rattle.units.specs.declared.code.Node.{Node}
 use Rattle.units.proofs.Same.{node_of_same}
 use Rattle.world.specs.declared.station.Station.{Station as Kept}
 use Rattle.protocol.specs.World.{Station, put_station}
-use Rattle.node.specs.Cores.{node_of}
+use Rattle.world.specs.Cores.{node_of}
 use Rattle.world.specs.Stations.{station_of}
 
 -- the first station of that node is the j-th

@@ -7,11 +7,12 @@ use Rattle.std.proofs.lemmas.List.{map-append}
 use Rattle.std.proofs.lemmas.List.Elements.{All-nil, All-cons, All-head, All-tail}
 use Rattle.units.specs.declared.code.Node.{Node}
 use Rattle.scheme.specs.declared.registries.Scheme.{Scheme}
-use Rattle.node.specs.Cores.{node_of, scheme_of}
-use Rattle.node.specs.declared.any_core.Core.{Core}
+use Rattle.protocol.specs.Registries.{nodes}
 use Rattle.protocol.specs.World as worlds
+use Rattle.world.specs.Cores.{node_of, scheme_of}
+use Rattle.world.specs.declared.any_core.Core.{Core}
 use Rattle.world.specs.declared.station.Station.{Station}
-use Rattle.world.specs.Kept.{AreKept, IsFresh, nodes, world_of}
+use Rattle.world.specs.Kept.{AreKept, IsFresh, world_of}
 use Rattle.world.specs.Stations.{station_of, uncommitted, uncommitted_station}
 use Rattle.world.proofs.KeptWorlds.{kept_opening}
 

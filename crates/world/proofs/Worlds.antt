@@ -13,7 +13,7 @@ use Rattle.wire.specs.Parties.{receiver}
 use Rattle.protocol.specs.declared.event.Posted.{Posted}
 use Rattle.world.specs.declared.station.Station.{Station as Kept}
 use Rattle.protocol.specs.World.{Station, World, Turn, Stepped, station, put, at_node, stays, deliver, take_input}
-use Rattle.node.specs.Cores.{node_of}
+use Rattle.world.specs.Cores.{node_of}
 use Rattle.world.specs.Kept.{world_of}
 use Rattle.world.specs.Stations.{station_of}
 use Rattle.world.proofs.Places.{is_of, IsPlace, place_find, place_put, place_node, place_none, same_seen}

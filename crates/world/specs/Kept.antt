@@ -1,21 +1,15 @@
 -- What a world keeps beside what the protocol's words see of it.
 use Rattle.std.specs.BTreeSet.{contains}
 use Rattle.std.specs.Ordering.{nat_cmp}
-use Rattle.std.specs.Prelude.{◌≡◌, ℕ, true, false, List, [], ◌∷◌, map, All}
-use Rattle.units.specs.declared.code.Node.{Node}
-use Rattle.units.specs.declared.code.Node.TheVariants.{Itl, Registry}
+use Rattle.std.specs.Prelude.{◌≡◌, ℕ, true, false, List, [], map, All}
 use Rattle.scheme.specs.declared.registries.Scheme.{Scheme}
-use Rattle.protocol.specs.Registries.{is_node}
+use Rattle.protocol.specs.Registries.{is_node, nodes}
 use Rattle.protocol.specs.World as worlds
 use Rattle.protocol.specs.World.{was_posted}
 use Rattle.protocol.specs.declared.event.Posted.{Posted}
-use Rattle.node.specs.Cores.{node_of, scheme_of}
+use Rattle.world.specs.Cores.{node_of, scheme_of}
 use Rattle.world.specs.Stations.{station_of}
 use Rattle.world.specs.declared.station.Station.{Station}
-
--- the nodes of a scheme: the log, then the registries in byte order
-abbrev pub nodes : Scheme → List Node
-nodes scheme = Itl ∷ map (λ m. Registry m.code) scheme.members
 
 -- a station of the scheme that posted nothing yet
 pub record IsFresh (scheme : Scheme) (s : Station) : Type 0 where

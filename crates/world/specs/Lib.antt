@@ -1,3 +1,4 @@
+pub mod Cores
 pub mod Outcomes
 pub mod Stations
 pub mod Kept

@@ -2,8 +2,8 @@
 use Rattle.std.specs.Prelude.{[], List, map, take, drop, true}
 use Rattle.scheme.specs.declared.registries.Scheme.{Scheme}
 use Rattle.protocol.specs.World as worlds
-use Rattle.node.specs.Cores.{journal_of, node_of}
-use Rattle.node.specs.declared.any_core.Core.{Core}
+use Rattle.world.specs.Cores.{journal_of, node_of}
+use Rattle.world.specs.declared.any_core.Core.{Core}
 use Rattle.world.specs.declared.station.Station.{Station}
 
 -- its node, its journal, of which the first records are committed, and whether it runs

@@ -1,11 +1,13 @@
-//! All nodes of a scheme and the bag of posted messages: one world, which moves by events.
+//! All nodes of a scheme, each with its core, and the bag of posted messages: one world, which moves by events.
 #![tactic(auto)]
 
+mod any_core;
 mod station;
 mod stations;
 mod views;
 mod world;
 
+pub use any_core::Core;
 pub use protocol::{Outcome, Posted, WorldEvent};
 pub use views::Stock;
 pub use world::World;

@@ -2,11 +2,11 @@
 ghost use Rattle.std.specs.BTreeSet.{contains};
 ghost use Rattle.std.specs.Prelude.{◌≡◌, ◌≤◌, ◌==◌, ◌||◌, [], ℕ, false, length, take, slice_get, option_copied, IfOk, OnErr, OnOk};
 ghost use Rattle.std.specs.Ordering.{nat_cmp};
-ghost use Rattle.node.specs.Cores.{journal_of, node_of, scheme_of};
 ghost use Rattle.protocol.specs.World as worlds;
+ghost use Rattle.world.specs.Cores.{journal_of, node_of, scheme_of};
 ghost use Rattle.world.specs.Outcomes.{outcome_of};
 
-use node::Core;
+use crate::any_core::Core;
 use protocol::{NodeCore, Outcome, ReplayFault, Stepped, replay};
 use std::alloc::Global;
 use std::collections::BTreeSet;

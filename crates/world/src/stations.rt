@@ -1,45 +1,18 @@
 //! The nodes of a world, by the node that each is.
 ghost use Rattle.std.specs.BTreeSet.{contains};
-ghost use Rattle.std.specs.List.{position_from};
 ghost use Rattle.std.specs.Ordering.{nat_cmp};
 ghost use Rattle.std.specs.Prelude.{◌≡◌, ◌++◌, ◌∷◌, [], ℕ, false, map, All, IfOk, OnOk};
-ghost use Rattle.std.specs.declared.cmp.Ordering.TheVariants.{Less};
-ghost use Rattle.units.specs.Apart.{Pairwise};
-ghost use Rattle.units.specs.Code.{same_code, same_node};
-ghost use Rattle.units.specs.Keys.{code_cmp};
-ghost use Rattle.node.specs.Cores.{node_of};
+ghost use Rattle.protocol.specs.Registries.{nodes};
 ghost use Rattle.protocol.specs.World.{opening_station};
-ghost use Rattle.world.specs.Kept.{IsFresh, nodes};
+ghost use Rattle.world.specs.Cores.{node_of};
+ghost use Rattle.world.specs.Kept.{IsFresh};
 ghost use Rattle.world.specs.Stations.{station_of, uncommitted_station};
 
+use crate::any_core::Core;
 use crate::station::Station;
-use node::Core;
-use scheme::{Scheme, SchemeRegistry};
+use scheme::Scheme;
 use std::alloc::Global;
-use units::{Code, NoMemory, Node};
-
-/// The place of the registry of that code.
-fn registry_place(members: &[SchemeRegistry], code: Code) -> Option<usize>
-    requires { Pairwise (λ a b. code_cmp a.code b.code ≡ Less) members.now }
-    ensures { result ≡ position_from (λ m. same_code m.code code) 0 members.now }
-{
-    members
-        .binary_search_by_key(&code, |member| member.code)
-        .ok()
-}
-
-/// The place of that node among the nodes of the scheme.
-pub(crate) fn place_of(scheme: &Scheme, node: Node) -> Option<usize>
-    ensures { result ≡ position_from (λ n. same_node n node) 0 (nodes scheme.now) }
-{
-    match node {
-        Node::Itl => Some(0),
-        Node::Registry(code) => {
-            let place = registry_place(scheme.registries(), code)?;
-            Some(place + 1)
-        }
-    }
-}
+use units::{NoMemory, Node};
 
 /// A station of that node, which has recorded nothing.
 fn opening_station(alloc: Global, scheme: &Scheme, node: Node) -> Result<Station, NoMemory>

@@ -1,20 +1,20 @@
 //! The world: all nodes, and the bag of all messages that were ever posted.
 ghost use Rattle.std.specs.Prelude.{◌≡◌, All, List, map, slice_get, option_map, option_and_then, option_copied, IfOk, OnErr, OnOk};
 ghost use Rattle.scheme.specs.declared.registries.Scheme.{Scheme};
-ghost use Rattle.node.specs.Cores.{node_of, scheme_of};
+ghost use Rattle.protocol.specs.Registries.{nodes};
 ghost use Rattle.protocol.specs.Claims.{DeliversWelcome, committed_of, live_of};
 ghost use Rattle.protocol.specs.Headline.{IsSafe};
 ghost use Rattle.protocol.specs.Owner.{OwnersMove};
 ghost use Rattle.protocol.specs.WayOut.{WayOut};
 ghost use Rattle.protocol.specs.World.{at_node, is_order, is_registry, opening, run, sent, station, step, take_input, was_posted};
 ghost use Rattle.protocol.specs.declared.event.WorldEvent.{WorldEvent};
-ghost use Rattle.world.specs.Kept.{nodes};
+ghost use Rattle.world.specs.Cores.{node_of, scheme_of};
 ghost use Rattle.world.specs.Stations.{uncommitted};
 
+use crate::any_core::Core;
 use crate::station::Station;
-use crate::stations::{opening_stations, place_of, uncommitted_stations};
-use node::Core;
-use protocol::{Outcome, Posted, WorldEvent};
+use crate::stations::{opening_stations, uncommitted_stations};
+use protocol::{Outcome, Posted, WorldEvent, place_of};
 use scheme::Scheme;
 use status::Moment;
 use std::alloc::Global;

@@ -1,5 +1,5 @@
 use Rattle.std.proofs.Common.{map}
-use Rattle.node.specs.Cores as node_cores
+use Rattle.world.specs.Cores as node_cores
 use Rattle.audit.proofs.auditing.table_of_cores.Goals as goal
 
 pub returns-clause-err : goal.returns-clause-err

@@ -2,9 +2,9 @@ use Rattle.std.proofs.Common.{◌≡◌, ◌∙◌, ◌∷◌, [], ◌<◌, List
 use Rattle.std.specs.Prelude.{All, slice_get}
 use Rattle.std.proofs.lemmas.List.Elements.{All-push}
 use Rattle.std.proofs.lemmas.List.{length-map, map-append}
-use Rattle.node.specs.Cores.{journal_of, node_of, scheme_of}
-use Rattle.node.specs.declared.any_core.Core.{Core}
-use Rattle.world.specs.Kept.{nodes}
+use Rattle.protocol.specs.Registries.{nodes}
+use Rattle.world.specs.Cores.{journal_of, node_of, scheme_of}
+use Rattle.world.specs.declared.any_core.Core.{Core}
 use Rattle.audit.proofs.Loaded.{fails_first, kept_more, loaded_more}
 use Rattle.weave.proofs.Lists.{get_at}
 use Rattle.weave.proofs.Replayed.{nodes_more}

@@ -1,7 +1,7 @@
 use Rattle.std.proofs.Common.{◌≡◌, ◌≤◌, ℕ, length, map, take}
 use Rattle.std.specs.Prelude.{All, slice_get}
-use Rattle.node.specs.Cores.{journal_of, node_of, scheme_of}
-use Rattle.world.specs.Kept.{nodes}
+use Rattle.protocol.specs.Registries.{nodes}
+use Rattle.world.specs.Cores.{journal_of, node_of, scheme_of}
 use Rattle.audit.specs.Stores.{AreKept, AreLoadedTo}
 use Rattle.audit.proofs.loading.load_cores.Given as goal
 

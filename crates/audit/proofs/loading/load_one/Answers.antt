@@ -1,10 +1,10 @@
 use Rattle.std.proofs.Common.{◌∙◌, Ok, Err, ap, subst}
 use Rattle.units.specs.declared.code.Node.{Node}
 use Rattle.scheme.specs.declared.registries.Scheme.{Scheme}
-use Rattle.node.specs.Cores.{scheme_of}
 use Rattle.protocol.specs.Cores.{Replays}
 use Rattle.desk.specs.Loading.{IsLoaded}
 use Rattle.desk.specs.Views.{Held}
+use Rattle.world.specs.Cores.{scheme_of}
 use Rattle.audit.proofs.Loaded.{fails_at}
 use Rattle.audit.proofs.loading.load_one.Goals as goal
 

@@ -1,6 +1,6 @@
 use Rattle.std.proofs.Common.{◌≡◌, ◌++◌, map}
 use Rattle.desk.specs.Views.{committed_records}
-use Rattle.node.specs.Cores.{journal_of}
+use Rattle.world.specs.Cores.{journal_of}
 use Rattle.audit.proofs.loading.states_of.Given as goal
 
 abbrev pub invariant-loop-core : goal.invariant-loop-core

@@ -1,5 +1,7 @@
-use Rattle.std.proofs.Common.{◌<◌, length, arith}
-use Rattle.weave.proofs.Lists.{get_at, set_here}
+use Rattle.std.proofs.Common.{◌<◌, length, arith, sym}
+use Rattle.std.proofs.Math.ListN.{set}
+use Rattle.std.proofs.lemmas.List.{get_or-set_same, length-set}
+use Rattle.std.proofs.lemmas.Option.{slice_get-get_or, slice_get_read}
 use Rattle.playing.proofs.HeardLines.{grow_at}
 use Rattle.playing.proofs.playing.play.Goals as goal
 
@@ -12,7 +14,9 @@ returns-in-Some-clause-heard g c =
         at = c.in-Some.at;
         seat = c.ask.new.seat;
         place = place.0;
-        is = set_here c.args.seats.now c.in-Some.at c.ask.new.seat low;
+        is =
+            slice_get_read (set c.args.seats.now c.in-Some.at c.ask.new.seat) (length c.args.seats.now) c.in-Some.at c.ask.new.seat (sym (length-set c.args.seats.now c.in-Some.at c.ask.new.seat)) low
+            (sym (get_or-set_same c.args.seats.now c.in-Some.at c.ask.new.seat c.ask.new.seat low));
         heard = c.ask.ensures.heard;
       },
     )
@@ -21,4 +25,4 @@ pub returns-in-Some-clause-grow : goal.returns-in-Some-clause-grow
 returns-in-Some-clause-grow g c =
     let place = c.in-Some.ensures.some in
     let low : c.in-Some.at < length c.args.seats.now = omega (arith, place.1, c.requires.seats) in
-    grow_at c.args.seats.now c.in-Some.at _ c.ask.new.seat (get_at c.args.seats.now c.in-Some.at _ low) c.ask.ensures.grows
+    grow_at c.args.seats.now c.in-Some.at _ c.ask.new.seat (slice_get-get_or c.args.seats.now c.in-Some.at _ low) c.ask.ensures.grows

@@ -1,7 +1,7 @@
 use Rattle.std.proofs.Common.{◌≡◌, ◌<◌, List, length, map, ap, subst, arith, refl}
+use Rattle.protocol.specs.Registries.{nodes}
 use Rattle.desk.specs.Settling.{IsSettled}
 use Rattle.desk.specs.Views.{Heard}
-use Rattle.world.specs.Kept.{nodes}
 use Rattle.runs.specs.Settled.{FailsToSettleAt}
 use Rattle.playing.proofs.HeardLines.{found_at}
 use Rattle.runs.proofs.Settling.{fails_at, image_found, settled_more}

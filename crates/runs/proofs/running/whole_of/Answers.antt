@@ -1,5 +1,5 @@
 use Rattle.std.proofs.Common.{◌≡◌, length, map, subst, sym, arith}
-use Rattle.world.specs.Kept.{nodes}
+use Rattle.protocol.specs.Registries.{nodes}
 use Rattle.runs.specs.Gathered.{AreGathered}
 use Rattle.runs.proofs.Written.{if_ok}
 use Rattle.runs.proofs.running.whole_of.Goals as goal

@@ -4,9 +4,9 @@ use Rattle.std.proofs.lemmas.List.{length-map, map-append}
 use Rattle.std.proofs.lemmas.List.Elements.{All-push}
 use Rattle.units.specs.declared.code.Node.{Node}
 use Rattle.wire.specs.declared.input.Input.{Input}
-use Rattle.node.specs.Cores as node_cores
-use Rattle.node.specs.declared.any_core.Core.{Core}
-use Rattle.world.specs.Kept.{nodes}
+use Rattle.protocol.specs.Registries.{nodes}
+use Rattle.world.specs.Cores as node_cores
+use Rattle.world.specs.declared.any_core.Core.{Core}
 use Rattle.weave.proofs.Lists.{get_at, image_at}
 use Rattle.weave.proofs.Replayed.{AreAheadSoFar, ahead_more, nodes_more}
 use Rattle.weave.proofs.cores.add_replayed.Goals as goal

@@ -1,7 +1,7 @@
 use Rattle.std.proofs.Common.{◌≡◌, length, map, take}
 use Rattle.std.specs.Prelude.{All}
-use Rattle.node.specs.Cores as node_cores
-use Rattle.world.specs.Kept.{nodes}
+use Rattle.protocol.specs.Registries.{nodes}
+use Rattle.world.specs.Cores as node_cores
 use Rattle.weave.proofs.Replayed.{AreAheadSoFar}
 use Rattle.weave.proofs.cores.add_replayed.Given as goal
 

@@ -1,6 +1,6 @@
 use Rattle.std.proofs.Common.{◌++◌, ◌∷◌, [], ℕ, length, ap, ◌∙◌}
-use Rattle.node.specs.Cores as node_cores
-use Rattle.node.specs.declared.any_core.Core.{Core}
+use Rattle.world.specs.Cores as node_cores
+use Rattle.world.specs.declared.any_core.Core.{Core}
 use Rattle.weave.proofs.Lists.{images_more}
 use Rattle.weave.proofs.cores.record_counts.Goals as goal
 

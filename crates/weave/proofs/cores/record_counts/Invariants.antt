@@ -1,5 +1,5 @@
 use Rattle.std.proofs.Common.{◌≡◌, length, map, take}
-use Rattle.node.specs.Cores as node_cores
+use Rattle.world.specs.Cores as node_cores
 use Rattle.weave.proofs.cores.record_counts.Given as goal
 
 abbrev pub invariant-loop-core : goal.invariant-loop-core

@@ -1,4 +1,4 @@
-use Rattle.node.specs.Cores as node_cores
+use Rattle.world.specs.Cores as node_cores
 use Rattle.weave.proofs.Replayed.{resumed_first}
 use Rattle.weave.proofs.cores.replayed_one.Goals as goal
 

@@ -1,7 +1,7 @@
 use Rattle.std.proofs.Common.{◌≡◌, map}
 use Rattle.units.specs.declared.code.Node.{Node}
-use Rattle.node.specs.Cores as node_cores
-use Rattle.world.specs.Kept.{nodes}
+use Rattle.protocol.specs.Registries.{nodes}
+use Rattle.world.specs.Cores as node_cores
 use Rattle.weave.specs.Following.{journal_of}
 use Rattle.weave.specs.Kept.{IsFollowing, left_in}
 use Rattle.weave.specs.Steps.{whole_at}

@@ -1,8 +1,8 @@
 use Rattle.std.proofs.Common.{◌∙◌, List, length, map, sym, ap}
 use Rattle.std.proofs.lemmas.List.{length-map}
 use Rattle.units.specs.declared.code.Node.{Node}
-use Rattle.node.specs.Cores as node_cores
-use Rattle.node.specs.declared.any_core.Core.{Core}
+use Rattle.world.specs.Cores as node_cores
+use Rattle.world.specs.declared.any_core.Core.{Core}
 use Rattle.weave.proofs.Replayed.{ahead_all, counts_twice}
 use Rattle.weave.proofs.weaving.weave_cores.Goals as goal
 

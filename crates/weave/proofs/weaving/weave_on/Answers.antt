@@ -1,6 +1,6 @@
 use Rattle.std.proofs.Common.{◌∙◌}
-use Rattle.node.specs.Cores as node_cores
 use Rattle.std.proofs.Common.{map}
+use Rattle.world.specs.Cores as node_cores
 use Rattle.weave.proofs.Ends.{fault_of, woven_of}
 use Rattle.weave.proofs.weaving.weave_on.Goals as goal
 

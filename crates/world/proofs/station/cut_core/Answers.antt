@@ -1,5 +1,5 @@
 use Rattle.std.proofs.Common.{arith, ℕ, ◌<◌, ◌≤◌, ap, subst, ◌∙◌}
-use Rattle.node.specs.Cores.{journal_of, node_of}
+use Rattle.world.specs.Cores.{journal_of, node_of}
 use Rattle.world.proofs.CrashedStations.{IsLeft, left_short}
 use Rattle.world.proofs.station.cut_core.Goals as goal
 

@@ -3,7 +3,7 @@ use Rattle.std.specs.BTreeSet.{contains}
 use Rattle.std.specs.Ordering.{nat_cmp}
 use Rattle.std.specs.Prelude.{◌≡◌, All}
 use Rattle.std.proofs.lemmas.List.Elements.{All-push}
-use Rattle.node.specs.declared.any_core.Core.{Core}
+use Rattle.world.specs.declared.any_core.Core.{Core}
 use Rattle.world.specs.declared.station.Station.{Station}
 use Rattle.world.specs.Stations.{station_of, uncommitted_station}
 use Rattle.world.proofs.Uncommitted.{moved}

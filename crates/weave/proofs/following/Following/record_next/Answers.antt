@@ -2,7 +2,7 @@ use Rattle.std.proofs.Common.{ℕ, List, length, sym, ap, subst, ◌∙◌, arit
 use Rattle.std.specs.Prelude.{IfNone, IfSome}
 use Rattle.weave.specs.Steps.{IsNextBy, Waits, whole_at, without_tails}
 use Rattle.weave.specs.declared.following.Following.{Following}
-use Rattle.weave.proofs.NodePlaces.{place_within}
+use Rattle.protocol.proofs.NodePlaces.{place_within}
 use Rattle.weave.proofs.Rounds.{rests, rests_nowhere, takes_fewer, takes_posting, takes_whole, whole_stations}
 use Rattle.weave.proofs.following.Following.record_next.Goals as goal
 

@@ -1,7 +1,7 @@
 use Rattle.std.proofs.Common.{◌≡◌, ◌≤◌, ◌-◌, ◌+◌, drop, take, sym, subst}
 use Rattle.protocol.specs.World.{commit}
 use Rattle.protocol.specs.declared.event.Outcome.TheVariants.{Done}
-use Rattle.node.specs.Cores.{journal_of, node_of, scheme_of}
+use Rattle.world.specs.Cores.{journal_of, node_of, scheme_of}
 use Rattle.world.proofs.TailsOfJournals.{commit_more}
 use Rattle.world.proofs.station.Station.commit.Goals as goal
 

@@ -1,5 +1,5 @@
 use Rattle.std.proofs.Common.{◌-◌, ◌≤◌, subst}
-use Rattle.node.specs.Cores.{journal_of, node_of}
+use Rattle.world.specs.Cores.{journal_of, node_of}
 use Rattle.world.proofs.CrashedStations.{crash_leaves}
 use Rattle.world.proofs.station.Station.crash.Goals as goal
 

@@ -3,7 +3,7 @@ use Rattle.std.proofs.Math.ListN.{set}
 use Rattle.protocol.specs.World.{step}
 use Rattle.protocol.specs.declared.event.Outcome.TheVariants.{Done}
 use Rattle.protocol.specs.declared.event.Posted.{Posted}
-use Rattle.node.specs.Cores.{node_of, scheme_of}
+use Rattle.world.specs.Cores.{node_of, scheme_of}
 use Rattle.world.specs.Kept.{AreKept, world_of}
 use Rattle.world.proofs.KeptWorlds.{found, kept_post, kept_turn, posts, posts_none, posts_nowhere}
 use Rattle.world.proofs.Places.{place_within}

@@ -1,6 +1,6 @@
 use Rattle.std.proofs.Common.{arith, ap}
 use Rattle.protocol.specs.World.{restart, step}
-use Rattle.node.specs.Cores.{node_of}
+use Rattle.world.specs.Cores.{node_of}
 use Rattle.world.proofs.KeptWorlds.{found, kept_turn, missing, stays_core}
 use Rattle.world.proofs.Places.{place_within}
 use Rattle.world.proofs.Worlds.{absent, turned}

@@ -1,6 +1,6 @@
 use Rattle.std.proofs.Common.{Some, is_some, arith, sym, ap, ◌∙◌}
 use Rattle.std.proofs.lemmas.List.Elements.{All-get_or}
-use Rattle.node.specs.Cores.{node_of, scheme_of}
+use Rattle.world.specs.Cores.{node_of, scheme_of}
 use Rattle.world.specs.Kept.{IsKept, world_of}
 use Rattle.world.specs.Stations.{station_of}
 use Rattle.world.proofs.PlacedStations.{placed, there, unplaced}

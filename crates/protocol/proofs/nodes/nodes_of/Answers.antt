@@ -1,6 +1,6 @@
 use Rattle.std.proofs.Common.{◌∙◌}
-use Rattle.weave.proofs.SchemeNodes.{nodes_more}
-use Rattle.weave.proofs.nodes.nodes_of.Goals as goal
+use Rattle.protocol.proofs.NodePlaces.{nodes_more}
+use Rattle.protocol.proofs.nodes.nodes_of.Goals as goal
 
 pub loop-member-preserved : goal.loop-member-preserved
 loop-member-preserved c =

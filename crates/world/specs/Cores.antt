@@ -4,8 +4,8 @@ use Rattle.units.specs.declared.code.Node.{Node}
 use Rattle.units.specs.declared.code.Node.TheVariants as nodes
 use Rattle.wire.specs.declared.input.Input.{Input}
 use Rattle.scheme.specs.declared.registries.Scheme.{Scheme}
-use Rattle.node.specs.declared.any_core.Core.{Core}
-use Rattle.node.specs.declared.any_core.Core.TheVariants.{Registry, Log}
+use Rattle.world.specs.declared.any_core.Core.{Core}
+use Rattle.world.specs.declared.any_core.Core.TheVariants.{Registry, Log}
 
 abbrev pub scheme_of : Core → Scheme
 scheme_of (Registry r) = r.scheme

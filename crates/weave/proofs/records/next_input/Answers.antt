@@ -1,5 +1,5 @@
 use Rattle.weave.proofs.NextEvents.{next_recorded}
-use Rattle.weave.proofs.nodes.next_input.Goals as goal
+use Rattle.weave.proofs.records.next_input.Goals as goal
 
 pub returns-clause-recorded : goal.returns-clause-recorded
 returns-clause-recorded c =

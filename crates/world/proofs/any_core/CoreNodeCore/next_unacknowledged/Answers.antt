@@ -3,9 +3,9 @@ use Rattle.units.specs.declared.code.Node.{Node}
 use Rattle.protocol.specs.History.{is_acknowledged, sends}
 use Rattle.protocol.specs.Unacknowledged.{IsLeastFrom, awaits}
 use Rattle.protocol.specs.Verdict.{history}
-use Rattle.node.specs.Cores.{journal_of, node_of, scheme_of}
-use Rattle.node.specs.declared.any_core.Core.{Core}
-use Rattle.node.proofs.any_core.CoreNodeCore.next_unacknowledged.Goals as goal
+use Rattle.world.specs.Cores.{journal_of, node_of, scheme_of}
+use Rattle.world.specs.declared.any_core.Core.{Core}
+use Rattle.world.proofs.any_core.CoreNodeCore.next_unacknowledged.Goals as goal
 
 -- the least key of a core that waits for that peer
 abbrev IsLeast : Core → Node → ℕ → Option ℕ → Type 0

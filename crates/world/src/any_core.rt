@@ -18,7 +18,7 @@ pub enum Core {
 
 impl Core {
     ghost use Rattle.std.specs.Prelude.{◌≡◌, [], IfOk};
-    ghost use Rattle.node.specs.Cores.{journal_of, node_of, scheme_of};
+    ghost use Rattle.world.specs.Cores.{journal_of, node_of, scheme_of};
 
     /// The core of that node under that scheme, which has recorded nothing yet; or `NoMemory`.
     pub fn new(alloc: Global, scheme: &Scheme, node: Node) -> Result<Core, NoMemory>
@@ -32,7 +32,7 @@ impl Core {
 }
 
 impl NodeCore for Core {
-    ghost use Rattle.node.specs.Cores as cores;
+    ghost use Rattle.world.specs.Cores as cores;
 
     ghost scheme_of = { cores.scheme_of };
 

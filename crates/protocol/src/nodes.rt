@@ -1,0 +1,45 @@
+//! The nodes of a scheme and their places: the log, then the registries in the scheme's order.
+ghost use Rattle.std.specs.Prelude.{◌≡◌, ◌<◌, IfOk, Some, length, slice_get};
+ghost use Rattle.protocol.specs.Registries.{nodes, place_of};
+
+use scheme::Scheme;
+use std::alloc::Global;
+use units::{NoMemory, Node};
+
+/// The nodes of the scheme: the log, then the registries in the scheme's order. Fails with `NoMemory` where memory ran
+/// out.
+pub fn nodes_of(alloc: Global, scheme: &Scheme) -> Result<Vec<Node>, NoMemory>
+    ensures { IfOk result (λ v. v.items ≡ nodes scheme.now) }
+{
+    let mut nodes = Vec::new(alloc);
+    nodes.push(Node::Itl)?;
+    for member in scheme.registries() {
+        nodes.push(Node::Registry(member.code))?;
+    }
+    Ok(nodes)
+}
+
+/// The place of that node among the nodes of the scheme, counted from 0: the log's is 0, then come the registries in the
+/// scheme's order.
+pub fn place_of(scheme: &Scheme, node: Node) -> Option<usize>
+    ensures { result ≡ place_of scheme.now node }
+{
+    match node {
+        Node::Itl => Some(0),
+        Node::Registry(code) => {
+            let place = scheme.place(code)?;
+            Some(place + 1)
+        }
+    }
+}
+
+/// The node at that place among the nodes of the scheme, of which there are more than that.
+pub fn node_at(scheme: &Scheme, place: usize) -> Node
+    requires { place < length (nodes scheme.now) }
+    ensures { slice_get (nodes scheme.now) place ≡ Some result }
+{
+    if place == 0 {
+        return Node::Itl;
+    }
+    Node::Registry(scheme.registries()[place - 1].code)
+}

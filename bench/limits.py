@@ -62,7 +62,7 @@ class Case:
     records: dict = dataclasses.field(default_factory=dict)
     rehearsed: tuple = FINE
     stored: tuple = FINE
-    # Where `run` ends otherwise than `show` and `audit`.
+    # Where `run`, and `audit` where there are records, end otherwise than `show`.
     ran: tuple = None
     # A line that `run` writes.
     answer: str = None
@@ -160,11 +160,10 @@ def allotments():
     apart = [single(2 * place + 1) for place in range(MOST_BLOCKS)]
     joined = [single(place + 1) for place in range(MOST_BLOCKS)]
     kinds = [single(place + 1, kind=("AAU", "CER")[place % 2]) for place in range(MOST_BLOCKS)]
-    give = [order(apart[:MOST_BLOCKS_OF_AN_ORDER])]
     for name, units in (("apart", apart), ("apart, in any order", shuffled(apart)), ("side by side", joined), ("of two kinds", kinds)):
         yield Case(f"10,000 blocks in one list, {name}", two(units), [order(units[:1])], [order(units[:1])], answer="1 recorded 0")
     each = [(1 + place % 2, [block]) for place, block in enumerate(shuffled(apart))]
-    yield Case("10,000 allotments of a block", scheme([Registry("JP"), Registry("NZ", allotted=each)]), give[:0])
+    yield Case("10,000 allotments of a block", scheme([Registry("JP"), Registry("NZ", allotted=each)]))
     codes = codes_of(MOST_REGISTRIES)
     spread = [Registry(code, allotted=[(1, shuffled(apart[place::MOST_REGISTRIES]))]) for place, code in enumerate(codes)]
     yield Case("10,000 blocks over 32 registries", scheme(spread), script=[f"status {codes[0]} {codes[1]}1"], answer="1 status none")
@@ -214,10 +213,13 @@ def held_small():
 
 
 def end_of(words, given):
-    """The status of a run with a small stack, and the texts that it wrote."""
+    """The status of a run with a small stack, and the texts that it wrote. The status is None where it didn't end in time."""
     with given.open("rb") as reader:
         words = [PROGRAM, *words]
-        ended = subprocess.run(words, stdin=reader, capture_output=True, text=True, timeout=SECONDS, preexec_fn=held_small, check=False)
+        try:
+            ended = subprocess.run(words, stdin=reader, capture_output=True, text=True, timeout=SECONDS, preexec_fn=held_small, check=False)
+        except subprocess.TimeoutExpired:
+            return None, "", f"no end after {SECONDS} seconds"
     return ended.returncode, ended.stdout, ended.stderr
 
 
@@ -236,7 +238,7 @@ def write_stores(folder, records):
 def is_written(command, case, text):
     """Whether the text on standard output is whole."""
     if command == "chart":
-        return text.startswith("sequenceDiagram\n")
+        return text.startswith("sequenceDiagram\n") and text.endswith("end\n")
     lines_of = text.splitlines()
     return lines_of[-1:] == ["end"] and (command != "run" or case.answer is None or case.answer in lines_of[: len(case.script)])
 

@@ -15,6 +15,7 @@ import sys
 import tempfile
 import time
 
+from records import record, write_store
 from rehearse import PROGRAM, build, codes_of, run, scheme
 
 MOST_RATIO = 2.3
@@ -23,15 +24,11 @@ MOST_TIMES_BYTES = 20.0
 # Records of a whole transfer, at its three nodes.
 RECORDS_EACH = 7
 MOMENT = 1335830400
-TABLES = (
-    "CREATE TABLE about (id INTEGER PRIMARY KEY CHECK (id = 1), format INTEGER NOT NULL, node TEXT NOT NULL) STRICT",
-    "CREATE TABLE entries (place INTEGER PRIMARY KEY, body TEXT NOT NULL) STRICT",
-)
 VALID = "SELECT count(*) FROM entries WHERE json_valid(body)"
 
 
 def received(message):
-    return f'{{"input":"received","message":{{{message}}},"moment":{MOMENT}}}'
+    return record(f'"input":"received","message":{{{message}}},"moment":{MOMENT}')
 
 
 def notification(source, status, to, name):
@@ -52,7 +49,7 @@ def journals(codes, count):
         initiator, acquirer = codes[number % len(codes)], codes[(number + 1) % len(codes)]
         turn = number // len(codes) + 1
         name, units = f"{initiator}{turn}", f"{initiator}:1:{turn}-{turn}:AAU"
-        records[initiator].append(f'{{"account":1,"input":"propose","to_account":1,"to_registry":"{acquirer}","units":["{units}"]}}')
+        records[initiator].append(record(f'"account":1,"input":"propose","to_account":1,"to_registry":"{acquirer}","units":["{units}"]'))
         records["ITL"].append(proposal(initiator, "Proposed", "ITL", acquirer, name, units))
         records[acquirer].append(proposal("ITL", "Checked", acquirer, acquirer, name, units))
         records["ITL"].append(notification(acquirer, "Accepted", "ITL", name))
@@ -66,13 +63,7 @@ def write_stores(folder, texts_of):
     """Makes a store for each node with the texts of its records, and returns the bytes of all records."""
     length = 0
     for node, texts in texts_of.items():
-        store = sqlite3.connect(folder / f"{node}.db")
-        for table in TABLES:
-            store.execute(table)
-        store.execute("INSERT INTO about VALUES (1, 1, ?1)", (node,))
-        store.executemany("INSERT INTO entries VALUES (?1, ?2)", enumerate(texts))
-        store.commit()
-        store.close()
+        write_store(folder, node, texts)
         length += sum(len(text) for text in texts)
     return length
 

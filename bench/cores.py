@@ -15,6 +15,7 @@ import sys
 
 from building import PROGRAM, prove_and_build
 from endings import check_end
+from records import record
 
 SIZES = (100_000, 200_000, 400_000)
 ACCOUNT_ORDERS = 1_000_000
@@ -24,7 +25,7 @@ LEAST = 9
 ROUNDS = {"transfers": (9, 7), "log": (8, 6)}
 CLEAN_UPS = 10_000
 # The texts of the two records that alternate.
-TEXTS = ('{"account":1,"input":"close"}', '{"account":1,"input":"open"}')
+TEXTS = tuple(record(f'"account":1,"input":"{word}"') for word in ("close", "open"))
 MOST_DOUBLING = 2.3
 
 

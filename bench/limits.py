@@ -12,13 +12,12 @@ import json
 import pathlib
 import random
 import resource
-import sqlite3
 import subprocess
 import sys
 import tempfile
 import time
 
-from audit import TABLES
+from records import record, write_store
 from rehearse import LONGEST_INPUT, PROGRAM, build, codes_of
 
 STACK = 512 * 1024
@@ -26,7 +25,7 @@ SECONDS = 300
 LONGEST_LINE = 1_048_576
 MOST_REGISTRIES, MOST_ACCOUNTS, MOST_BLOCKS, MOST_RECORDS = 32, 1_000, 10_000, 1_000_000
 MOST_BLOCKS_OF_AN_ORDER = 16
-LAST_UNIT, LAST_ACCOUNT = 999_999_999_999, 999_999_999
+LAST_UNIT, LAST_ACCOUNT = 999_999_999_999_999, 999_999_999
 # How deep arrays may nest before the JSON reader gives a text up.
 DEEPEST = 127
 REHEARSED = ("rehearse", "chart")
@@ -110,7 +109,7 @@ def eligible(count):
     """Records of the log, each of which turns New Zealand's eligibility round."""
     for number in range(count):
         may = "true" if number % 2 else "false"
-        yield f'{{"input":"eligible","may":{may},"registry":"NZ"}}'
+        yield record(f'"input":"eligible","may":{may},"registry":"NZ"')
 
 
 def whole_inputs():
@@ -170,9 +169,9 @@ def allotments():
     both = fault("line 1: too-many")
     yield Case("10,001 blocks", two([*apart, single(2 * MOST_BLOCKS + 1)]), rehearsed=both, stored=both)
     last = single(LAST_UNIT)
-    yield Case("unit 999,999,999,999", two([last]), [order([last])], [order([last])], answer="1 recorded 0")
+    yield Case(f"unit {LAST_UNIT:,}", two([last]), [order([last])], [order([last])], answer="1 recorded 0")
     both = fault("line 1: shape")
-    yield Case("unit 1,000,000,000,000", two([single(LAST_UNIT + 1)]), rehearsed=both, stored=both)
+    yield Case(f"unit {LAST_UNIT + 1:,}", two([single(LAST_UNIT + 1)]), rehearsed=both, stored=both)
 
 
 def orders():
@@ -226,13 +225,7 @@ def end_of(words, given):
 def write_stores(folder, records):
     folder.mkdir()
     for node, bodies in records.items():
-        store = sqlite3.connect(folder / f"{node}.db")
-        for table in TABLES:
-            store.execute(table)
-        store.execute("INSERT INTO about VALUES (1, 1, ?1)", (node,))
-        store.executemany("INSERT INTO entries VALUES (?1, ?2)", enumerate(bodies))
-        store.commit()
-        store.close()
+        write_store(folder, node, bodies)
 
 
 def is_written(command, case, text):

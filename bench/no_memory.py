@@ -27,6 +27,7 @@ import tempfile
 from audit import MOMENT, write_stores
 from building import build_c
 from endings import check_end, run_to_end
+from records import FORMAT
 from rehearse import PROGRAM, build
 
 TOP = pathlib.Path(__file__).resolve().parent.parent
@@ -36,7 +37,7 @@ TESTS = TOP / "crates" / "worked_runs"
 TEST = "weave_rows::stale_proposal"
 # How a test ends that fails, and what this one says where it has no memory to read its scheme and its journals.
 FAILED = -signal.SIGABRT
-UNREAD = ("a scheme: NoMemory", "a record: NoMemory", "memory: AllocFailed { .. }")
+UNREAD = ("a scheme: NoMemory", "an event: NoMemory", "a message: NoMemory", "memory: AllocFailed { .. }")
 # Examples, and the status that each is to come to.
 EXAMPLES = {
     "one_transfer": 0,
@@ -97,7 +98,7 @@ STALE = {
 
 
 def text_of(record):
-    return json.dumps(record, separators=(",", ":"), sort_keys=True)
+    return json.dumps(record | {"v": FORMAT}, separators=(",", ":"), sort_keys=True)
 
 
 def texts_of(journals):

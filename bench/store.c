@@ -14,7 +14,7 @@
 #include <time.h>
 
 static const char RECORD[] =
-    "{\"account\":1,\"input\":\"propose\",\"to_account\":7,\"to_registry\":\"JP\",\"units\":[\"NZ:1:1-100:AAU\"]}";
+    "{\"account\":1,\"input\":\"propose\",\"to_account\":7,\"to_registry\":\"JP\",\"units\":[\"NZ:1:1-100:AAU\"],\"v\":2}";
 
 /* The text of a row, copied. */
 struct body {
@@ -79,7 +79,7 @@ static sqlite3 *made(const char *path)
     run(db, "CREATE TABLE IF NOT EXISTS about (id INTEGER PRIMARY KEY CHECK (id = 1), format INTEGER NOT NULL, "
             "node TEXT NOT NULL) STRICT");
     run(db, "CREATE TABLE IF NOT EXISTS entries (place INTEGER PRIMARY KEY, body TEXT NOT NULL) STRICT");
-    run(db, "INSERT INTO about (id, format, node) VALUES (1, 1, 'NZ')");
+    run(db, "INSERT INTO about (id, format, node) VALUES (1, 2, 'NZ')");
     run(db, "COMMIT");
     return db;
 }

@@ -16,10 +16,11 @@ import tempfile
 import building
 from building import PROGRAM, prove_and_build
 from endings import run_to_end
+from records import FORMAT, record
 
 TOP = pathlib.Path(__file__).resolve().parent.parent
 SOURCE = TOP / "bench" / "store.c"
-RECORD = '{"account":1,"input":"propose","to_account":7,"to_registry":"JP","units":["NZ:1:1-100:AAU"]}'
+RECORD = record('"account":1,"input":"propose","to_account":7,"to_registry":"JP","units":["NZ:1:1-100:AAU"]')
 BATCH = 64
 RECORDS = 64_000
 MOST_RECORDS = 999_999
@@ -41,7 +42,7 @@ def check_store(path, records):
     found = store.execute(query, (RECORD,)).fetchone()
     if found != wanted:
         sys.exit(f"{path.name}: records, first and last place, and right bodies are {found}, and not {wanted}")
-    if store.execute("SELECT id, format, node FROM about").fetchall() != [(1, 1, "NZ")]:
+    if store.execute("SELECT id, format, node FROM about").fetchall() != [(1, FORMAT, "NZ")]:
         sys.exit(f"{path.name} is not a store of NZ")
     if store.execute("PRAGMA integrity_check").fetchall() != [("ok",)]:
         sys.exit(f"{path.name} is damaged")

@@ -7,7 +7,6 @@ use std::io;
 use stores::StoreFault;
 use thiserror::Error;
 use units::{BlockFault, NoMemory, Refusal};
-use wire::ReadFault;
 
 /// Why nothing is measured, or no more.
 #[derive(Debug, Drop, Error)]
@@ -62,15 +61,6 @@ impl<T: Drop> From<AllocFailed<T>> for Fault {
 impl From<NoMemory> for Fault {
     fn from(_: NoMemory) -> Fault {
         Fault::NoMemory
-    }
-}
-
-impl From<ReadFault> for Fault {
-    fn from(fault: ReadFault) -> Fault {
-        match fault {
-            ReadFault::NoMemory => Fault::NoMemory,
-            ReadFault::Shape => Fault::Input,
-        }
     }
 }
 

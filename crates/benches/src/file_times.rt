@@ -3,16 +3,16 @@
 ghost use Rattle.std.specs.Prelude.{◌<◌};
 
 use crate::fault::Fault;
-use crate::nz::file_store;
+use crate::nz::{code, file_store, order_of};
 use std::alloc::Global;
 use std::rt::Clock;
 use std::time::{Duration, Instant};
 use stores::NodeStore;
-use wire::{Input, decode_input};
+use units::RawBlock;
+use wire::Input;
 
-/// Each record: an order to transfer one block.
-const RECORD: &str =
-    r#"{"account":1,"input":"propose","to_account":7,"to_registry":"JP","units":["NZ:1:1-100:AAU"]}"#;
+/// The block of the order that each record is.
+const BLOCK: &str = "NZ:1:1-100:AAU";
 
 /// How many records are appended, how many at once, and how often they are loaded.
 #[derive(Clone, Copy)]
@@ -34,7 +34,8 @@ fn copies_of(alloc: Global, record: &Input, count: u32) -> Result<Vec<Input>, Fa
 
 /// The records to append.
 fn records(alloc: Global, count: u32) -> Result<Vec<Input>, Fault> {
-    let record = decode_input(alloc, RECORD.as_bytes())?;
+    let block = RawBlock::read(BLOCK).ok_or(Fault::Input)?;
+    let record = order_of(alloc, code("JP")?, block)?;
     let records = copies_of(alloc, &record, count);
     drop(record);
     records

@@ -1,12 +1,11 @@
 //! Proposals that threads give a desk.
 
 use crate::fault::Fault;
-use crate::nz::{code, memory_store, nz_state};
+use crate::nz::{code, memory_store, nz_state, order_of};
 use crate::work::one;
 use desk::{BATCH, Bell, Desk, RoomBell, Seat, State, Taken, Told, settle};
 use protocol::Stepped;
 use registry_core::RegistryCore;
-use status::Order;
 use std::alloc::Global;
 use std::rt::Clock;
 use std::sync::Wait;
@@ -14,18 +13,12 @@ use std::thread;
 use std::thread::Threads;
 use std::time::{Duration, Instant};
 use stores::{NodeStore, StoreFault};
-use units::{Code, Items, Kind, Period, RawBlock};
+use units::{Code, Kind, Period, RawBlock};
 use wire::Input;
 
 type NzDesk = Desk<RegistryCore, RoomBell>;
 
 const TAKERS: u32 = 4;
-
-/// NZ's account, which all units are in.
-const ACCOUNT: u64 = 1;
-
-/// JP's account.
-const TO_ACCOUNT: u64 = 7;
 
 /// How far one proposal's unit is from the next one's.
 const STEP: u64 = 2;
@@ -41,9 +34,7 @@ fn proposal(alloc: Global, jp: Code, place: u64) -> Result<Input, Fault> {
         first: number,
         last: number,
     };
-    let units = Items::from_vec(Vec::from_slice(alloc, &[block])?);
-    let order = Order::new(ACCOUNT, jp, TO_ACCOUNT, units);
-    Ok(Input::Propose(order.ok_or(Fault::Input)?))
+    order_of(alloc, jp, block)
 }
 
 /// Waits until what was taken is committed, and returns whether it was.

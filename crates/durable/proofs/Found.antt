@@ -1,5 +1,5 @@
 -- Which rows the tables of a store can hold, whatever wrote them.
-use Rattle.std.proofs.Common.{◌≡◌, arith, ◌⊎◌, inl, inr, ℕ, ℤ, pos, List, [], ◌∷◌, Bool, true, false, ◌&&◌, not, Some, ◌<ℤ◌, IsTrue, refl, sym, ap, subst, subst₂, ◌∙◌}
+use Rattle.std.proofs.Common.{◌≡◌, ◌<◌, arith, ◌⊎◌, inl, inr, ℕ, ℤ, pos, List, [], ◌∷◌, Bool, true, false, ◌&&◌, not, Some, ◌<ℤ◌, IsTrue, refl, sym, ap, subst, subst₂, ◌∙◌}
 use Rattle.std.specs.List.{AllByRecursion}
 use Rattle.std.proofs.lemmas.Bool.{and_parts}
 use Rattle.sqlite.specs.declared.types.Value.{Value}
@@ -145,11 +145,11 @@ rows_of EntriesFirst v listed ordered sound =
       rise = entries.0;
     }
 
--- an open store without a table has no row of a record
-pub none_of : (v : View) → IsListed (v.trees catalog_tree) v.shape v.reals → IsOrdered v.shape v.trees → IsSound no_schema v.trees → v.trees 1 ≡ []
-none_of v listed ordered sound = elim (named_tree listed (objects_rise v listed ordered).0 sound.lists.listed 1 (λ e. omega (arith, e)) (λ e. omega (arith, e))) [
+-- an open store without a table has no row in the trees of the two tables
+pub none_of : (tree : ℕ) → tree < 2 → (v : View) → IsListed (v.trees catalog_tree) v.shape v.reals → IsOrdered v.shape v.trees → IsSound no_schema v.trees → v.trees tree ≡ []
+none_of tree low v listed ordered sound = elim (named_tree listed (objects_rise v listed ordered).0 sound.lists.listed tree (λ e. omega (arith, e, low)) (λ e. omega (arith, e, low))) [
   | inl table ↦ absurd table.1
   | inr (inl index) ↦ absurd index.1
   | inr (inr (inl other)) ↦ absurd other.1
-  | inr (inr (inr none)) ↦ subst (λ s. IsShaped s (v.trees 1)) none (ordered 1)
+  | inr (inr (inr none)) ↦ subst (λ s. IsShaped s (v.trees tree)) none (ordered tree)
 ]

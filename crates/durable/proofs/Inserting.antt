@@ -15,6 +15,7 @@ use Rattle.sqlite.specs.Does.{Tally, Does}
 use Rattle.sqlite.specs.Rows.{Written}
 use Rattle.sqlite.specs.Effect.{Database}
 use Rattle.sqlite.proofs.Callers.{one_step}
+use Rattle.durable.specs.Formats.{newest}
 use Rattle.durable.specs.Tables.{TableOrder, AboutFirst, EntriesFirst, about_tree, entries_tree, entries_table, store_schema, entry, order_in, entry_rows}
 pub use Rattle.durable.specs.Rooms.{enforced, given}
 use Rattle.durable.specs.Held.{slots_in, node_in, IsStore, HasMore}
@@ -91,5 +92,5 @@ inserted limit text body db after tally schema store does =
     let place = length (slots_in db.trees) in
     let put = rows_after order limit text place body db after tally schema does in
     let last = put-last 0 place body (entry_rows db.trees) store.entries (omega arith) in
-    let it = store-of order (node_in db.trees) (entry_rows db.trees ++ entry place body ∷ []) after.trees (put.owner ∙ store.owner) (put.entries ∙ last.put) last.entries in
+    let it = store-of newest order (node_in db.trees) (entry_rows db.trees ++ entry place body ∷ []) after.trees (put.owner ∙ store.owner) (put.entries ∙ last.put) last.entries in
     (put.schema ∙ ap store_schema (sym it.order_is), record { store = it.store; node = it.node; slots = it.slots ∙ last.slots })

@@ -21,6 +21,7 @@ use Rattle.sqlite.specs.Term.{Env}
 use Rattle.sqlite.specs.Program.{overlay}
 use Rattle.sqlite.specs.Effect.{Database, Reads}
 use Rattle.sqlite.proofs.Callers.{one_permutation}
+use Rattle.wire.specs.Records.{number_of}
 use Rattle.durable.specs.declared.owner_row.Owner.{Owner}
 use Rattle.durable.specs.declared.owner_row.Owner.TheVariants.{Nobody, OtherFormat, OtherNode, ThisNode}
 use Rattle.durable.specs.Tables.{TableOrder, about_tree, entries_tree, store_schema}
@@ -69,22 +70,22 @@ told node order db rows Nobody has is (inr it) = absurd (let never : (Int it.0 �
 told node order db rows OtherFormat has is (inl none) = absurd (let never = sym is.1 ∙ ap (λ xs. slice_get xs 0) none.1 in cc)
 told node order db rows OtherFormat has is (inr it) =
     let same = first_is rows is.0 it.0 it.1 is.1 it.3 in
-    (order, has, owned it.0 it.1, it.2, λ e. is.2 (ap (λ (row : Row). column row 0) same ∙ e))
+    (order, has, owned it.0 it.1, it.2, λ format e. is.2 format (ap (λ (row : Row). column row 0) same ∙ e))
 told node order db rows OtherNode has is (inl none) = absurd (let never = sym is.1 ∙ ap (λ xs. slice_get xs 0) none.1 in cc)
 told node order db rows OtherNode has is (inr it) =
     let same = first_is rows is.0 it.0 it.1 is.1 it.3 in
-    let format : Int it.0 ≡ Int (pos 1) = sym (ap (λ (row : Row). column row 0) same) ∙ is.2 in (
+    let format : Int it.0 ≡ Int (pos (number_of is.2.0)) = sym (ap (λ (row : Row). column row 0) same) ∙ is.2.1 in (
       λ other.
           let theirs : db.trees (about_tree order) ≡ other.2 ∷ [] = subst (λ (o : TableOrder). db.trees (about_tree o) ≡ other.2 ∷ []) (same_order db.schema other.0 order other.1 has) other.3 in
-          other.4 (ap (λ (row : Row). column row 2) (only_row (db.trees (about_tree order)) other.2 it.0 it.1 theirs it.2) ∙ format),
+          other.4 is.2.0 (ap (λ (row : Row). column row 2) (only_row (db.trees (about_tree order)) other.2 it.0 it.1 theirs it.2) ∙ format),
       (order, has, owned it.0 it.1, it.2, λ e. is.3 (ap (λ (row : Row). column row 1) same ∙ e)),
     )
-told node order db rows ThisNode has is (inl none) = absurd (let never = sym is.1 ∙ ap (λ xs. slice_get xs 0) none.1 in cc)
-told node order db rows ThisNode has is (inr it) =
+told node order db rows (ThisNode format) has is (inl none) = absurd (let never = sym is.1 ∙ ap (λ xs. slice_get xs 0) none.1 in cc)
+told node order db rows (ThisNode format) has is (inr it) =
     let same = first_is rows is.0 it.0 it.1 is.1 it.3 in
-    let format : Int it.0 ≡ Int (pos 1) = sym (ap (λ (row : Row). column row 0) same) ∙ is.2 in
+    let number : Int it.0 ≡ Int (pos (number_of format)) = sym (ap (λ (row : Row). column row 0) same) ∙ is.2 in
     let name : Words it.1 ≡ Words node = sym (ap (λ (row : Row). column row 1) same) ∙ is.3 in
-    (order, has, it.2 ∙ (rw (format, name) refl))
+    (order, has, it.2 ∙ (rw (number, name) refl))
 
 pub owner_told : (node : List ℕ) (names : List (List ℕ)) (db : Database) (rows : List Row) (owner : Owner) (has : HasRows db) → Reads (shows (owner_query (about_tree has.0)) names) db [] rows
     → IsOwnerIn node rows owner → IsOwner node db owner

@@ -10,6 +10,10 @@ pub mod Judging
 pub mod Making
 pub mod Verdicts
 pub mod Steps
+pub mod MigratingTexts
+pub mod Rewritten
+pub mod Rewriting
+pub mod MigratingSteps
 pub mod PageTexts
 pub mod InOrder
 pub mod Stretches
@@ -19,6 +23,8 @@ pub mod Reopening
 pub mod NoRoom
 pub mod Refusing
 pub mod Sparing
+pub mod OpenedAs
+pub mod Becoming
 pub mod Stores
 pub mod Linked
 pub mod Promises

@@ -1,6 +1,5 @@
 -- What the calls of an opening leave of a connection.
 use Rattle.std.proofs.Common.{◌≡◌, inl, inr, ℕ, ℤ, List, [], ◌∷◌, codes, true, false, Option, None, Ok, sym, ap, subst, ◌∙◌}
-use Rattle.sqlite.specs.declared.types.Value.TheVariants.{Text}
 use Rattle.sqlite.specs.Order.{Row}
 use Rattle.sqlite.specs.Tree.{Trees}
 use Rattle.sqlite.specs.Source.TheVariants.{Values}
@@ -21,7 +20,7 @@ use Rattle.durable.proofs.Judging.{owner_told}
 use Rattle.durable.proofs.Ends.{by_place, ended}
 use Rattle.durable.proofs.Inserting.{enforced}
 use Rattle.durable.proofs.Orders.{own_rows}
-use Rattle.durable.proofs.Making.{about_made, entries_made, owner_made}
+use Rattle.durable.proofs.Making.{about_made, entries_made, owner_given, owner_made}
 
 pub about_ok : (old new : State) (count : ℕ) → IsWithin old IsBare → ExecutesInside 0 about_text [] old new (Ok count) → IsWithin new HasAbout
 about_ok old new count was h =
@@ -37,12 +36,12 @@ entries_ok old new count was h =
     let made = entries_made old.step_limit old.now new.now w.tally was.holds does in
     (record { is_open = h.1.is_open; inside = h.1.mode; holds = made.0 }, made.1)
 
-pub owner_ok : (old new : State) (node : List ℕ) (params : Row) (count : ℕ) → params ≡ Text node ∷ [] → IsWithin old IsEmpty → ExecutesInside 0 own_text params old new (Ok count)
+pub owner_ok : (old new : State) (node : List ℕ) (params : Row) (count : ℕ) → params ≡ owner_given node → IsWithin old IsEmpty → ExecutesInside 0 own_text params old new (Ok count)
     → IsWithin new (HasFresh node) × (new.now.schema ≡ old.now.schema)
 owner_ok old new node params count is was h =
-    let ran : Executes own_text (Text node ∷ []) old new (Ok count) = subst (λ p. Executes own_text p old new (Ok count)) is h.0 in
+    let ran : Executes own_text (owner_given node) old new (Ok count) = subst (λ p. Executes own_text p old new (Ok count)) is h.0 in
     let order = was.holds.0 in
-    let w = runs_as own_text (Text node ∷ []) old new (store_schema order) was.holds.1 (Insert (about_tree order) (Values own_terms 4)) (own_is order) (own_plain order) count ran in
+    let w = runs_as own_text (owner_given node) old new (store_schema order) was.holds.1 (Insert (about_tree order) (Values own_terms 4)) (own_is order) (own_plain order) count ran in
     let made = owner_made old.step_limit (statement_of own_text (understood (store_schema order) own_text)) node old.now new.now w.tally was.holds w.changed in
     (record { is_open = h.1.is_open; inside = h.1.mode; holds = made.0 }, made.1)
 

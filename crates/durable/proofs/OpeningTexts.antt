@@ -32,10 +32,10 @@ unfolding understood everything
 entries_plain = (refl, refl)
 
 abbrev pub own_text : List ℕ
-own_text = codes "INSERT INTO about (id, format, node) VALUES (1, 1, ?1)"
+own_text = codes "INSERT INTO about (id, format, node) VALUES (1, ?1, ?2)"
 
 abbrev pub own_terms : List Term
-own_terms = lit (Int (pos 1)) ∷ lit Null ∷ lit (Int (pos 1)) ∷ col 0 0 ∷ []
+own_terms = lit (Int (pos 1)) ∷ lit Null ∷ col 0 0 ∷ col 0 1 ∷ []
 
 pub own_is : (order : TableOrder) → command_of (understood (store_schema order) own_text) ≡ Insert (about_tree order) (Values own_terms 4)
 unfolding understood everything

@@ -9,7 +9,10 @@ use Rattle.sqlite.specs.State.{State, HasCleanDisk, Survives, IsUnchanged, Shown
 use Rattle.sqlite.proofs.Callers.{reads_as, never_commits}
 use Rattle.durable.specs.Tables.{store_schema, order_in, entries_tree, entry_rows}
 use Rattle.durable.specs.Pages.{rows_within}
+use Rattle.wire.specs.declared.record_format.RecordFormat.{RecordFormat}
 use Rattle.durable.specs.Held.{IsReady}
+use Rattle.durable.specs.Opening.{IsWithin}
+use Rattle.durable.specs.Migrating.{HasStore}
 use Rattle.durable.proofs.Answering.{between, page-shows}
 use Rattle.durable.proofs.Orders.{own_rows}
 use Rattle.durable.proofs.PageTexts.{page_text, page_command, page_is, page_plain}
@@ -33,3 +36,13 @@ query-crash old new first last ready only survives clean db left = elim (survive
   | inl was ↦ only db was
   | inr commits ↦ absurd (never_commits page_text (between first last) old db (is-plain old ready) commits)
 ]
+
+-- the same within a transaction, of what it sees
+pub query-inside : {format : RecordFormat} (old new : State) (first last : ℕ) (rows : List Row) → IsWithin old (HasStore format) → Shown page_text (between first last) old new rows
+    → (rows ≡ rows_within first last (entry_rows old.now.trees)) × IsUnchanged old new
+query-inside old new first last rows within h =
+    let order = order_in old.now.trees in
+    let tree = entries_tree order in
+    let plain = subst (λ s. IsPlain (understood s page_text)) (sym within.holds.0) (page_plain order) in
+    let reads = reads_as page_text (between first last) old new (store_schema order) within.holds.0 (page_command tree) (page_is order).0 (page_plain order) (page_is order).1 rows h in
+    (page-shows first last tree old.now rows (own_rows old.now.trees order) within.holds.1.entries reads, shown_unchanged page_text (between first last) old new rows plain h)

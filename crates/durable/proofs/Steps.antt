@@ -17,8 +17,9 @@ use Rattle.sqlite.specs.declared.error.Error.{Error}
 use Rattle.sqlite.specs.State.{State, HasCleanDisk, Survives, IsUnchanged, IsRolledBack, ShowsRows, FailsToShow, FailsToQuery, Shown, MayCommit, ExecutesIn, Executes, ExecutesInside, KeepsCommit, CommitsBy, IsNotRun, shows_rows}
 use Rattle.sqlite.proofs.Callers.{command_of, statement_of, runs_as}
 use Rattle.std.proofs.lemmas.List.{map-append}
+use Rattle.wire.specs.declared.record_format.RecordFormat.{RecordFormat}
 use Rattle.durable.specs.Tables.{store_schema, order_in, entries_tree}
-use Rattle.durable.specs.Held.{slots_in, IsReady, IsInside, HasMore, HasAllOrNone, IsStore}
+use Rattle.durable.specs.Held.{slots_in, IsReadyIn, IsReady, IsInside, HasMore, HasAllOrNone, IsStoreIn, IsStore}
 use Rattle.durable.proofs.Texts.{insert_text, insert_terms, insert_is, insert_plain}
 use Rattle.durable.proofs.Inserting.{given, inserted}
 
@@ -45,13 +46,13 @@ left sql params old new e (inr h) = elim (cases_Bool (shows_rows false h.0)) [
   ]
 ]
 
-pub still_ready : (old new : State) → IsReady old → IsTrue new.is_open → new.in_transaction ≡ false → new.now ≡ old.committed → new.committed ≡ old.committed → IsReady new
-still_ready old new ready still idle now same = record {
+pub still_ready : {format : RecordFormat} (old new : State) → IsReadyIn format old → IsTrue new.is_open → new.in_transaction ≡ false → new.now ≡ old.committed → new.committed ≡ old.committed → IsReadyIn format new
+still_ready {format} old new ready still idle now same = record {
   is_open = still;
   idle = idle;
   settled = now ∙ sym same;
   schema = subst (λ (d : Database). d.schema ≡ store_schema (order_in d.trees)) (sym same) ready.schema;
-  store = subst (λ (d : Database). IsStore d.trees) (sym same) ready.store;
+  store = subst (λ (d : Database). IsStoreIn format d.trees) (sym same) ready.store;
 }
 
 pub now_schema : (old : State) → IsReady old → old.now.schema ≡ store_schema (order_in old.committed.trees)
@@ -74,6 +75,10 @@ unchanged_keeps old new same = record { was_open = λ _. same.0.was_open; commit
 
 rolled_keeps : (old new : State) → IsRolledBack old new → KeepsCommit old new
 rolled_keeps old new back = record { was_open = back.was_open; committed = λ still. (back.undone still).1 }
+
+pub moved_keeps : (old new : State) → IsUnchanged old new ⊎ IsRolledBack old new → KeepsCommit old new
+moved_keeps old new (inl same) = unchanged_keeps old new same
+moved_keeps old new (inr back) = rolled_keeps old new back
 
 pub inside_keeps : (sql : List ℕ) (params : Row) (old new : State) (r : Result ℕ Error) → ExecutesInside 0 sql params old new r → KeepsCommit old new
 inside_keeps sql params old new (Ok count) h = record { was_open = λ _. h.1.was_open; committed = λ _. h.1.committed_is }

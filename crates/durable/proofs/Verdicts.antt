@@ -7,9 +7,11 @@ use Rattle.sqlite.specs.Order.{Row, column}
 use Rattle.sqlite.specs.Effect.{Database}
 use Rattle.sqlite_rules.specs.Edit.{id_in}
 use Rattle.stores.specs.declared.fault.StoreFault.TheVariants.{Damaged, WrongNode, WrongVersion}
+use Rattle.wire.specs.Records.{number_of}
+use Rattle.wire.specs.declared.record_format.RecordFormat.{RecordFormat}
 use Rattle.durable.specs.declared.opening.Contents.TheVariants.{NoRow, OwnStore}
 use Rattle.durable.specs.declared.owner_row.Owner.TheVariants.{Nobody, OtherFormat, OtherNode, ThisNode}
-use Rattle.durable.specs.Held.{IsStore}
+use Rattle.durable.specs.Held.{IsStoreIn}
 use Rattle.durable.specs.Slots.{place_of, slots_from, AreEntries}
 use Rattle.durable.specs.Opening.{HasRows, IsLeastOrGreatest, HasLeastOrGreatest, places_in, IsOwner, IsVerdict, IsNegative}
 use Rattle.durable.specs.Tables.{TableOrder, about_tree, entries_tree, store_schema, about, entry_rows}
@@ -23,12 +25,12 @@ least_in db least order has end = subst (λ (o : TableOrder). IsLeastOrGreatest 
 
 pub below_zero : (node : List ℕ) (db : Database) (least : Option ℤ) → HasRows db → HasLeastOrGreatest false db least → IsNegative least → IsVerdict node db (Err (Damaged 0))
 below_zero node db None has end low = absurd low
-below_zero node db (Some place) has end low = (refl, inr (inr (negative db place has (least_in db (Some place) has.0 has.1 end) low)))
+below_zero node db (Some place) has end low = inl (refl, inr (inr (negative db place has (least_in db (Some place) has.0 has.1 end) low)))
 
 pub nobody : (node : List ℕ) (db : Database) (place : ℤ) → HasRows db → IsOwner node db Nobody → HasLeastOrGreatest false db (Some place) → IsVerdict node db (Err (Damaged 0))
 nobody node db place has owner end =
     let least = least_in db (Some place) owner.0 owner.1 end in
-    (refl, inr (inl (owner.0, owner.1, owner.2, λ none. let never = subst (λ rows. least.0.0 < length (places_in rows)) none least.0.1 in omega (arith, never))))
+    inl (refl, inr (inl (owner.0, owner.1, owner.2, λ none. let never = subst (λ rows. least.0.0 < length (places_in rows)) none least.0.1 in omega (arith, never))))
 
 pub no_row : (node : List ℕ) (db : Database) → HasRows db → IsOwner node db Nobody → HasLeastOrGreatest false db None → IsVerdict node db (Ok NoRow)
 no_row node db has owner end = let none = no_trees owner.0 db.trees owner.2 (least_in db None owner.0 owner.1 end) in (owner.0, owner.1, none.0, none.1)
@@ -41,14 +43,14 @@ other_node node db least has owner end high =
     let it = owner.1 in
     (some_store it.0 db it.2 least it.1 it.3 high (least_in db least it.0 it.1 end), owner.0, it)
 
-pub a_store : (node : List ℕ) (db : Database) (least : Option ℤ) → HasRows db → IsOwner node db ThisNode → HasLeastOrGreatest false db least → (IsNegative least → ⊥) → IsVerdict node db (Ok OwnStore)
-a_store node db least has owner end high =
+pub a_store : (format : RecordFormat) (node : List ℕ) (db : Database) (least : Option ℤ) → HasRows db → IsOwner node db (ThisNode format) → HasLeastOrGreatest false db least → (IsNegative least → ⊥) → IsVerdict node db (Ok (OwnStore format))
+a_store format node db least has owner end high =
     let order = has.0 in
     let rows = db.trees (entries_tree order) in
     let entries = entries_from 0 rows has.2.entries has.2.rise (not_low rows least high (least_in db least order has.1 end)) in
-    let its : db.trees (about_tree order) ≡ about 1 node ∷ [] = subst (λ (o : TableOrder). db.trees (about_tree o) ≡ about 1 node ∷ []) (same_order db.schema owner.0 order owner.1 has.1) owner.2 in
-    let it = store-of order node rows db.trees its refl entries in
-    (has.1 ∙ ap store_schema (sym it.order_is), it.store, it.node)
+    let its : db.trees (about_tree order) ≡ about (number_of format) node ∷ [] = subst (λ (o : TableOrder). db.trees (about_tree o) ≡ about (number_of format) node ∷ []) (same_order db.schema owner.0 order owner.1 has.1) owner.2 in
+    let it = store-of format order node rows db.trees its refl entries in
+    ((has.1 ∙ ap store_schema (sym it.order_is), it.store), it.node)
 
 place_is : (row : Row) (from : ℕ) (rows : List Row) → AreEntries from (row ∷ rows) → id_in (column row 0) ≡ pos (place_of row)
 place_is row from rows are = ap (λ (r : Row). id_in (column r 0)) are.1
@@ -82,8 +84,8 @@ places_counted (row ∷ rows) (Some place) are end =
     (it.0, it.1, omega (arith, it.2))
 
 -- the greatest place of a store's own records
-pub end_of_store : (db : Database) (greatest : Option ℤ) → HasRows db → IsStore db.trees → HasLeastOrGreatest true db greatest → IsLeastOrGreatest true (entry_rows db.trees) greatest
-end_of_store db greatest has store end =
-    let order = found_order has.0 db.trees has.2 store in
+pub end_of_store : (format : RecordFormat) (db : Database) (greatest : Option ℤ) → HasRows db → IsStoreIn format db.trees → HasLeastOrGreatest true db greatest → IsLeastOrGreatest true (entry_rows db.trees) greatest
+end_of_store format db greatest has store end =
+    let order = found_order format has.0 db.trees has.2 store in
     let same = same_order db.schema end.0 has.0 end.1 has.1 ∙ sym order in
     subst (λ (o : TableOrder). IsLeastOrGreatest true (db.trees (entries_tree o)) greatest) same end.2

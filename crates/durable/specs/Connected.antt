@@ -6,6 +6,7 @@ use Rattle.sqlite.specs.Tree.{Trees}
 use Rattle.sqlite.specs.State.{HasCleanDisk}
 use Rattle.sqlite.specs.Held.{Held, held_code, state}
 use Rattle.durable.specs.Held.{IsReady, slots_in, node_in}
+use Rattle.durable.specs.Migrating.{IsOpenedAs}
 use Rattle.stores.specs.Records.{Places}
 
 pub record Connected (S : Type 0) : Type 0 where
@@ -35,9 +36,9 @@ module _ {S : Type 0} (g : Ghosts S) where
   abbrev pub disk_faults : Connected S → ℕ
   disk_faults k = (state g k.conn).faults
 
-  -- what a crash may leave
+  -- what an opening may make of it after a crash
   abbrev pub MayHold : Connected S → Places → Type 0
-  MayHold k next = (db : Trees) × (state g k.conn).may_leave db × (slots_in db ≡ next)
+  MayHold k next = (db : Trees) × (state g k.conn).may_leave db × IsOpenedAs db next
 
   -- its last commit is a store, whose places were counted
   pub record IsCounted (k : Connected S) : Type 0 where

@@ -3,6 +3,9 @@ use Rattle.std.specs.Prelude.{◌≡◌, ◌⊎◌, false, [], ◌∷◌, ◌++�
 use Rattle.sqlite.specs.Order.{column, bytes}
 use Rattle.sqlite.specs.Tree.{Trees}
 use Rattle.sqlite.specs.State.{State}
+use Rattle.wire.specs.declared.record_format.RecordFormat.{RecordFormat}
+use Rattle.wire.specs.Records.{number_of}
+use Rattle.durable.specs.Formats.{newest}
 use Rattle.durable.specs.Tables.{store_schema, order_in, about_rows, entry_rows, about}
 use Rattle.durable.specs.Slots.{slots_from, AreEntries}
 
@@ -14,18 +17,26 @@ slots_in db = slots_from 0 (entry_rows db)
 abbrev pub node_in : Trees → List ℕ
 node_in db = bytes (column (slice_index_or (about_rows db) 0 []) 3)
 
--- one row of about, of format 1, and entries
-pub record IsStore (db : Trees) : Type 0 where
-  pub owner : about_rows db ≡ about 1 (node_in db) ∷ []
+-- one row of about, of that format, and entries
+pub record IsStoreIn (format : RecordFormat) (db : Trees) : Type 0 where
+  pub owner : about_rows db ≡ about (number_of format) (node_in db) ∷ []
   pub entries : AreEntries 0 (entry_rows db)
 
--- the connection is open, in no transaction, and its last commit is a store
-pub record IsReady (s : State) : Type 0 where
+-- a store of the format in which stores are made
+abbrev pub IsStore : Trees → Type 0
+IsStore db = IsStoreIn newest db
+
+-- the connection is open, in no transaction, and its last commit is a store of that format
+pub record IsReadyIn (format : RecordFormat) (s : State) : Type 0 where
   pub is_open : IsTrue s.is_open
   pub idle : s.in_transaction ≡ false
   pub settled : s.now ≡ s.committed
   pub schema : s.committed.schema ≡ store_schema (order_in s.committed.trees)
-  pub store : IsStore s.committed.trees
+  pub store : IsStoreIn format s.committed.trees
+
+-- it is a store of the format in which stores are made
+abbrev pub IsReady : State → Type 0
+IsReady s = IsReadyIn newest s
 
 -- a transaction is open that sees a store
 pub record IsInside (s : State) : Type 0 where

@@ -7,7 +7,7 @@ use Rattle.sqlite_disk.specs.declared.Files.{Files}
 use Rattle.sqlite_wal.specs.Reads.{AreClean}
 use Rattle.durable.specs.Backing.{MayFind, Hold}
 use Rattle.durable.specs.Connected as connected
-use Rattle.durable.specs.Held.{slots_in}
+use Rattle.durable.specs.Migrating.{IsOpenedAs}
 use Rattle.stores.specs.Records.{Places}
 use Rattle.durable.specs.declared.store_state.StoreState.{StoreState}
 use Rattle.durable.specs.declared.store_state.StoreState.TheVariants.{Open, Shut, Absent}
@@ -22,10 +22,10 @@ module _ {D : Type 0} (g : Ghosts D) where
   content (Open k) = connected.content over_files k
   content _ = []
 
-  -- what a crash may leave, or an opening may find
+  -- what an opening may make of it, also after a crash
   abbrev pub MayHold : StoreState D g → Places → Type 0
   MayHold (Open k) next = connected.MayHold over_files k next
-  MayHold (Shut files) next = (db : Trees) × MayFind g files db × (slots_in db ≡ next)
+  MayHold (Shut files) next = (db : Trees) × MayFind g files db × IsOpenedAs db next
   MayHold Absent next = ⊥
 
   abbrev pub must_reopen : StoreState D g → Bool

@@ -1,5 +1,6 @@
 pub mod Tables
 pub mod Slots
+pub mod Formats
 pub mod Held
 pub mod SqlFaults
 pub mod Rooms
@@ -12,3 +13,4 @@ pub mod Stores
 pub mod Layout
 pub mod OwnerRow
 pub mod Opening
+pub mod Migrating

@@ -17,6 +17,12 @@ use Rattle.durable.specs.declared.opening.Contents.{Contents}
 use Rattle.durable.specs.declared.opening.Contents.TheVariants.{NoRow, OwnStore}
 use Rattle.durable.specs.Tables.{TableOrder, AboutFirst, about_tree, entries_tree, about, about_table, store_schema, no_schema, IsStoreSchema, order_in}
 use Rattle.durable.specs.Held.{slots_in, node_in, IsStore, IsReady}
+use Rattle.durable.specs.Migrating.{HasStore, IsMigrated}
+use Rattle.stores.specs.Faults.{is_judgement}
+use Rattle.stores.specs.Records.{IsDamagedIn}
+use Rattle.wire.specs.Records.{number_of}
+use Rattle.wire.specs.declared.record_format.RecordFormat.{RecordFormat}
+use Rattle.wire.specs.declared.record_format.RecordFormat.TheVariants.{One}
 
 -- open, in no transaction, and nothing is uncommitted
 pub record IsOpened (s : State) : Type 0 where
@@ -115,9 +121,10 @@ HasNegativePlace db = (order : TableOrder) × (db.schema ≡ store_schema order)
 abbrev pub IsNoStore : Database → Type 0
 IsNoStore db = HasOtherTables db ⊎ (HasNoOwner db ⊎ HasNegativePlace db)
 
--- the owner's row has another format
+-- the owner's row has no format of a store
 abbrev pub HasOtherFormat : Database → Type 0
-HasOtherFormat db = (order : TableOrder) × (db.schema ≡ store_schema order) × (row : Row) × (db.trees (about_tree order) ≡ row ∷ []) × (column row 2 ≡ Int (pos 1) → ⊥)
+HasOtherFormat db =
+    (order : TableOrder) × (db.schema ≡ store_schema order) × (row : Row) × (db.trees (about_tree order) ≡ row ∷ []) × ((format : RecordFormat) → column row 2 ≡ Int (pos (number_of format)) → ⊥)
 
 -- the owner's row has another node
 abbrev pub HasOtherNode : List ℕ → Database → Type 0
@@ -128,11 +135,15 @@ abbrev pub IsOwner : List ℕ → Database → Owner → Type 0
 IsOwner node db Nobody = (order : TableOrder) × (db.schema ≡ store_schema order) × (db.trees (about_tree order) ≡ [])
 IsOwner node db OtherFormat = HasOtherFormat db
 IsOwner node db OtherNode = (HasOtherFormat db → ⊥) × HasOtherNode node db
-IsOwner node db ThisNode = (order : TableOrder) × (db.schema ≡ store_schema order) × (db.trees (about_tree order) ≡ about 1 node ∷ [])
+IsOwner node db (ThisNode format) = (order : TableOrder) × (db.schema ≡ store_schema order) × (db.trees (about_tree order) ≡ about (number_of format) node ∷ [])
+
+-- it is a store of that node and of format One, and that place is the first without a record
+abbrev pub HasDamagedRecord : List ℕ → Database → ℕ → Type 0
+HasDamagedRecord node db place = HasStore One db × (node_in db.trees ≡ node) × IsDamagedIn One place (slots_in db.trees)
 
 -- the fault of an opening for that node, by the first of these causes
 abbrev pub IsOpeningFault : List ℕ → Database → StoreFault → Type 0
-IsOpeningFault node db (Damaged place) = (place ≡ 0) × IsNoStore db
+IsOpeningFault node db (Damaged place) = ((place ≡ 0) × IsNoStore db) ⊎ HasDamagedRecord node db place
 IsOpeningFault node db WrongVersion = (IsNoStore db → ⊥) × HasOtherFormat db
 IsOpeningFault node db WrongNode = (IsNoStore db → ⊥) × (HasOtherFormat db → ⊥) × HasOtherNode node db
 IsOpeningFault node db Device = Unit {0}
@@ -148,7 +159,7 @@ IsNegative (Some place) = place <ℤ pos 0
 -- what is told of both tables: no row, or a store of that node, or else why not
 abbrev pub IsVerdict : List ℕ → Database → Result Contents StoreFault → Type 0
 IsVerdict node db (Ok NoRow) = IsEmpty db
-IsVerdict node db (Ok OwnStore) = (db.schema ≡ store_schema (order_in db.trees)) × IsStore db.trees × (node_in db.trees ≡ node)
+IsVerdict node db (Ok (OwnStore format)) = HasStore format db × (node_in db.trees ≡ node)
 IsVerdict node db (Err fault) = IsOpeningFault node db fault
 
 -- the tables after an opening: as they were, or both of a store, `about` first, in a file that had none
@@ -156,11 +167,13 @@ abbrev pub HasItsTables : Schema → Schema → Type 0
 HasItsTables before after = ((before ≡ no_schema) × (after ≡ store_schema AboutFirst)) ⊎ (IsStoreSchema before × (after ≡ before))
 
 -- What an opening for that node leaves of a connection to a file that held this: a store of the node or the fault,
--- and over a crash what was there or, of a new file, a store without a record.
+-- and over a crash what was there or, of a new file, a store without a record or, of a store of format One, what it is
+-- migrated to. A file that is no store of the node, or has a damaged record, stays as it was.
 pub record BecomesStore (name : List ℕ) (before : Database) (s : State) (result : Result ℕ StoreFault) : Type 0 where
   pub ready : OnOk result (IsReady s × (node_in s.committed.trees ≡ name))
   pub count : IfOk result (λ count. count ≡ length (slots_in s.committed.trees))
-  pub found : OnOk result ((IsNew before × (slots_in s.committed.trees ≡ [])) ⊎ (s.committed ≡ before))
+  pub found : OnOk result ((IsNew before × (slots_in s.committed.trees ≡ [])) ⊎ ((s.committed ≡ before) ⊎ IsMigrated before.trees s.committed.trees))
   pub tables : OnOk result (HasItsTables before.schema s.committed.schema)
   pub fault : IfErr result (IsOpeningFault name before)
-  pub crash : (db : Trees) → s.may_leave db → (db ≡ before.trees) ⊎ (IsNew before × IsFresh name db)
+  pub crash : (db : Trees) → s.may_leave db → (db ≡ before.trees) ⊎ ((IsNew before × IsFresh name db) ⊎ IsMigrated before.trees db)
+  pub unharmed : IfErr result (λ e. IsTrue (is_judgement e) → (db : Trees) → s.may_leave db → db ≡ before.trees)

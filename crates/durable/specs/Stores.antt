@@ -6,7 +6,7 @@ use Rattle.sqlite_disk.specs.declared.Files.{Files}
 use Rattle.units.specs.Code.{node_text}
 use Rattle.units.specs.declared.code.Node.{Node}
 use Rattle.durable.specs.Backing.{MayFind}
-use Rattle.durable.specs.Held.{slots_in}
+use Rattle.durable.specs.Migrating.{IsOpenedAs}
 use Rattle.durable.specs.Kept as kept
 use Rattle.stores.specs.Records.{Places}
 use Rattle.durable.specs.Refusals.{IsRefusal}
@@ -21,7 +21,7 @@ module _ {D : Type 0} (g : Ghosts D) where
   abbrev pub content : SqlStore D g → Places
   content s = kept.content g s.store_state
 
-  -- what a crash may leave, or an opening may find
+  -- what an opening may make of it, also after a crash
   abbrev pub MayHold : SqlStore D g → Places → Type 0
   MayHold s next = kept.MayHold g s.store_state next
 
@@ -44,9 +44,9 @@ module _ {D : Type 0} (g : Ghosts D) where
   abbrev pub faults : SqlStore D g → ℕ
   faults s = s.faults
 
-  -- these files are the store's, and what an opening of them finds, the store may have held
+  -- these files are the store's, and what an opening makes of them, the store may have held
   abbrev pub HadFiles : SqlStore D g → Files D → Type 0
-  HadFiles s files = kept.AreFilesOf g s.store_state files × ((db : Trees) → MayFind g files db → ∥ MayHold s (slots_in db) ∥₁)
+  HadFiles s files = kept.AreFilesOf g s.store_state files × ((db : Trees) → MayFind g files db → (next : Places) → IsOpenedAs db next → ∥ MayHold s next ∥₁)
 
   -- why an opening of its files for its node was refused
   abbrev pub IsReopeningFault : SqlStore D g → StoreFault → Type 0

@@ -3,7 +3,8 @@ ghost use Rattle.std.specs.Prelude.{◌≡◌};
 ghost use Rattle.sqlite.specs.Tree.{Trees};
 ghost use Rattle.sqlite_disk.specs.declared.Files.{Files};
 ghost use Rattle.durable.specs.Backing.{IsFound, Hold};
-ghost use Rattle.durable.specs.Held.{slots_in, node_in};
+ghost use Rattle.durable.specs.Held.{slots_in, node_in, IsStore};
+ghost use Rattle.durable.specs.Migrating.{IsOpenedAs};
 ghost use Rattle.durable.specs.Stores.{content, owner};
 ghost use Rattle.durable.specs.declared.sql_store.SqlStore.{SqlStore};
 
@@ -13,7 +14,7 @@ use sqlite_disk::Disk;
 /// what was written: what `close_files` says of the files, and what `open_files` finds in them.
 pub fn closed_files_open_as_they_were<D: Disk + Drop>()
     ensures { (closed opened : SqlStore D D.Disk) (files : Files D)
-        → Hold D.Disk files (λ db. (slots_in db ≡ content D.Disk closed) × (node_in db ≡ owner D.Disk closed))
-        → (found : (db : Trees) × IsFound D.Disk files db × (content D.Disk opened ≡ slots_in db))
+        → Hold D.Disk files (λ db. IsStore db × (slots_in db ≡ content D.Disk closed) × (node_in db ≡ owner D.Disk closed))
+        → (found : (db : Trees) × IsFound D.Disk files db × IsOpenedAs db (content D.Disk opened))
         → ∥ (content D.Disk opened ≡ content D.Disk closed) × (node_in found.0 ≡ owner D.Disk closed) ∥₁ }
 {}

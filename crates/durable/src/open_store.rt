@@ -3,7 +3,7 @@ ghost use Rattle.std.specs.Prelude.{◌≡◌, ◌⊎◌, ◌+◌, ◌-◌, ◌<
 ghost use Rattle.durable.specs.Connected.{IsHonest, content, MayHold, owner, disk_faults};
 ghost use Rattle.stores.specs.Calls.{Appends, Loads};
 ghost use Rattle.stores.specs.Bodies.{items};
-ghost use Rattle.durable.specs.Held.{followed_by, slots_in, IsReady};
+ghost use Rattle.durable.specs.Held.{followed_by, slots_in, IsReady, IsStore};
 ghost use Rattle.sqlite.specs.State.{HasCleanDisk};
 ghost use Rattle.sqlite.specs.Tree.{Trees};
 ghost use Rattle.sqlite.specs.Held.{state};
@@ -85,6 +85,7 @@ impl<S: Alter> OpenStore<S> {
     pub(crate) fn into_connection(self) -> Connection<S>
         ensures connection { result ≡ self.conn }
         ensures settled { IsHonest S.Store self → self.must_reopen ≡ false → (db : Trees) → (state S.Store self.conn).may_leave db → db ≡ (state S.Store self.conn).committed.trees }
+        ensures store { IsHonest S.Store self → self.must_reopen ≡ false → IsStore (state S.Store self.conn).committed.trees }
         ensures durable { IsHonest S.Store self → self.must_reopen ≡ false → (next : Places) → MayHold S.Store self next → next ≡ content S.Store self }
     {
         let OpenStore {

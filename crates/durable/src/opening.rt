@@ -1,23 +1,30 @@
 //! Opening: a file that has no row yet is made a store, and of any other it is found whether it is one.
-ghost use Rattle.std.specs.Prelude.{◌≡◌, ◌≢◌, ◌⊎◌, ℕ, ◌+◌, pos, List, [], length, IsTrue, OnOk, IfOk, IfErr, true, false};
+ghost use Rattle.std.specs.Prelude.{◌≡◌, ◌≢◌, ◌⊎◌, ◌≤◌, ◌^◌, ℕ, ◌+◌, pos, List, [], length, IsTrue, OnOk, IfOk, IfErr, true, false};
 ghost use Rattle.sqlite.specs.Effect.{Database};
 ghost use Rattle.sqlite.specs.Given.{IsPlain};
 ghost use Rattle.sqlite.specs.Listing.{understood};
 ghost use Rattle.sqlite.specs.State.{HasCleanDisk, IsUnchanged, Shown, Survives};
 ghost use Rattle.stores.specs.Faults.{is_device_fault};
-ghost use Rattle.durable.specs.Held.{slots_in, node_in, IsStore, IsReady};
+ghost use Rattle.wire.specs.declared.record_format.RecordFormat.{RecordFormat};
+ghost use Rattle.wire.specs.declared.record_format.RecordFormat.TheVariants.{One};
+ghost use Rattle.durable.specs.Held.{slots_in, node_in, IsStoreIn};
+ghost use Rattle.durable.specs.Migrating.{HasStore, IsOpenedAs};
 ghost use Rattle.sqlite.specs.Held.{state};
 ghost use Rattle.sqlite.specs.Tree.{Trees};
 ghost use Rattle.durable.specs.Tables.{TableOrder, AboutFirst, store_schema, IsStoreSchema};
 ghost use Rattle.durable.specs.Layout.{AreTables};
-ghost use Rattle.durable.specs.Opening.{IsOpened, IsWithin, IsBare, HasAbout, IsEmpty, HasFresh, IsMade, HasRows, IsOwner, HasLeastOrGreatest, IsVerdict, IsNegative, IsNew, IsFresh, IsOpeningFault, HasItsTables, BecomesStore};
+ghost use Rattle.durable.specs.Opening.{IsOpened, IsWithin, IsBare, HasAbout, IsEmpty, HasFresh, IsMade, HasRows, IsOwner, HasLeastOrGreatest, IsVerdict, IsNegative, IsFresh, BecomesStore};
 
 use crate::fault::fault_of;
 use crate::layout::{Tables, tables_of};
+use crate::migrating::migrate;
 use crate::owner_row::{Owner, owner_in, place_in};
+use crate::watch::Watch;
 use sqlite::types::ValueRef;
 use sqlite::{Alter, Connection, Error as SqlError, Row, Transaction};
+use std::alloc::Global;
 use stores::StoreFault;
+use wire::RecordFormat;
 
 /// An open connection's store is whole: no statement left a part of itself.
 fn is_whole<S: Alter>(conn: &Connection<S>)
@@ -28,7 +35,7 @@ fn is_whole<S: Alter>(conn: &Connection<S>)
 fn tables_in<S: Alter>(conn: &Connection<S>) -> Tables
     ensures tables { AreTables (state S.Store conn.now).now.schema result }
     ensures rows { IsTrue (state S.Store conn.now).is_open → IsStoreSchema (state S.Store conn.now).now.schema → HasRows (state S.Store conn.now).now }
-    ensures bare { IsTrue (state S.Store conn.now).is_open → IsBare (state S.Store conn.now).now → (state S.Store conn.now).now.trees 1 ≡ [] }
+    ensures bare { IsTrue (state S.Store conn.now).is_open → IsBare (state S.Store conn.now).now → ((state S.Store conn.now).now.trees 0 ≡ []) × ((state S.Store conn.now).now.trees 1 ≡ []) }
 {
     is_whole(conn);
     tables_of(conn.schema())
@@ -72,8 +79,11 @@ fn put_owner<S: Alter>(tx: &mut Transaction<'_, S>, node: &str) -> Result<(), Sq
     ensures survives { Survives (state S.Store tx.old.conn.now) (state S.Store tx.new.conn.now) (λ _. ⊥) }
 {
     tx.execute(
-        "INSERT INTO about (id, format, node) VALUES (1, 1, ?1)",
-        &[ValueRef::Text(node.as_bytes())],
+        "INSERT INTO about (id, format, node) VALUES (1, ?1, ?2)",
+        &[
+            ValueRef::Int(i64::from(RecordFormat::Two.number())),
+            ValueRef::Text(node.as_bytes()),
+        ],
     )?;
     Ok(())
 }
@@ -189,8 +199,8 @@ fn is_negative(place: Option<i64>) -> bool
 #[derive(Clone, Copy)]
 enum Contents {
     NoRow,
-    /// They are a store of the node that asks.
-    OwnStore,
+    /// They are a store of the node that asks, in that format.
+    OwnStore(RecordFormat),
 }
 
 /// What both tables have, or why they are no store of the node that asks.
@@ -208,7 +218,7 @@ fn verdict(owner: Owner, least: Option<i64>) -> Result<Contents, StoreFault>
         (Owner::Nobody, None) => Ok(Contents::NoRow),
         (Owner::OtherFormat, _) => Err(StoreFault::WrongVersion),
         (Owner::OtherNode, _) => Err(StoreFault::WrongNode),
-        (Owner::ThisNode, _) => Ok(Contents::OwnStore),
+        (Owner::ThisNode(format), _) => Ok(Contents::OwnStore(format)),
     }
 }
 
@@ -235,19 +245,29 @@ fn next_place(place: i64) -> u64
     place.unsigned_abs() + 1
 }
 
-/// How many places the content of a store has.
+/// The most places that a store can have: those from 0 to the greatest number of SQLite.
+const MOST_PLACES: u64 = 1 << 63;
+
+/// How many places the content of a store has, of either format.
 fn count<S: Alter>(conn: &mut Connection<S>) -> Result<u64, StoreFault>
     requires opened { HasCleanDisk (state S.Store conn.old) → IsOpened (state S.Store conn.old) × HasRows (state S.Store conn.old).committed }
-    requires store { HasCleanDisk (state S.Store conn.old) → IsStore (state S.Store conn.old).committed.trees }
+    requires store { HasCleanDisk (state S.Store conn.old) → (format : RecordFormat) × IsStoreIn format (state S.Store conn.old).committed.trees }
     ensures idle { conn.old.in_transaction ≡ false → conn.new.in_transaction ≡ false }
     ensures clean { HasCleanDisk (state S.Store conn.new) → HasCleanDisk (state S.Store conn.old) }
     ensures same { HasCleanDisk (state S.Store conn.new) → OnOk result (IsUnchanged (state S.Store conn.old) (state S.Store conn.new)) }
+    ensures small { IfOk result (λ count. count ≤ 2 ^ 63) }
     ensures count { HasCleanDisk (state S.Store conn.new) → IfOk result (λ count. count ≡ length (slots_in (state S.Store conn.old).committed.trees)) }
     ensures crash { HasCleanDisk (state S.Store conn.new) → (db : Trees) → (state S.Store conn.new).may_leave db → db ≡ (state S.Store conn.old).committed.trees }
     ensures named { IfErr result (λ e. (e ≡ StoreFault.NoMemory) ⊎ IsTrue (is_device_fault e)) }
 {
     match greatest_place(conn)? {
-        Some(place) => Ok(next_place(place)),
+        Some(place) => {
+            let count = next_place(place);
+            if count > MOST_PLACES {
+                return Err(StoreFault::Device);
+            }
+            Ok(count)
+        }
         None => Ok(0),
     }
 }
@@ -259,7 +279,7 @@ fn start<S: Alter>(conn: &mut Connection<S>, node: &str) -> Result<u64, StoreFau
     ensures idle { conn.new.in_transaction ≡ false }
     ensures clean { HasCleanDisk (state S.Store conn.new) → HasCleanDisk (state S.Store conn.old) }
     ensures never { IfErr result (λ e. e ≢ StoreFault.Reopen) }
-    ensures places { IfErr result (λ e. (p : ℕ) → e ≡ StoreFault.Damaged p → p ≡ 0) }
+    ensures small { IfOk result (λ count. count ≤ 2 ^ 63) }
     ensures settled { HasCleanDisk (state S.Store conn.new) → BecomesStore node.now (state S.Store conn.old).committed (state S.Store conn.new) result }
 {
     match make(conn, node) {
@@ -275,7 +295,7 @@ fn start_in_empty_tables<S: Alter>(conn: &mut Connection<S>, node: &str) -> Resu
     ensures idle { conn.new.in_transaction ≡ false }
     ensures clean { HasCleanDisk (state S.Store conn.new) → HasCleanDisk (state S.Store conn.old) }
     ensures never { IfErr result (λ e. e ≢ StoreFault.Reopen) }
-    ensures places { IfErr result (λ e. (p : ℕ) → e ≡ StoreFault.Damaged p → p ≡ 0) }
+    ensures small { IfOk result (λ count. count ≤ 2 ^ 63) }
     ensures settled { HasCleanDisk (state S.Store conn.new) → BecomesStore node.now (state S.Store conn.old).committed (state S.Store conn.new) result }
 {
     match write_owner(conn, node) {
@@ -284,51 +304,75 @@ fn start_in_empty_tables<S: Alter>(conn: &mut Connection<S>, node: &str) -> Resu
     }
 }
 
+/// A store of format One becomes one of format Two. Returns how many places it has.
+fn resume_format_one<S: Alter, W: Watch>(
+    conn: &mut Connection<S>,
+    alloc: Global,
+    watch: &mut W,
+) -> Result<u64, StoreFault>
+    requires idle { conn.old.in_transaction ≡ false }
+    requires opened { HasCleanDisk (state S.Store conn.old) → IsOpened (state S.Store conn.old) × HasRows (state S.Store conn.old).committed }
+    requires store { HasCleanDisk (state S.Store conn.old) → HasStore One (state S.Store conn.old).committed }
+    ensures idle { conn.new.in_transaction ≡ false }
+    ensures clean { HasCleanDisk (state S.Store conn.new) → HasCleanDisk (state S.Store conn.old) }
+    ensures never { IfErr result (λ e. e ≢ StoreFault.Reopen) }
+    ensures small { IfOk result (λ count. count ≤ 2 ^ 63) }
+    ensures settled { HasCleanDisk (state S.Store conn.new) → BecomesStore (node_in (state S.Store conn.old).committed.trees) (state S.Store conn.old).committed (state S.Store conn.new) result }
+{
+    let count = count(conn)?;
+    match migrate(conn, alloc, count, watch) {
+        Ok(()) => Ok(count),
+        Err(fault) => Err(fault),
+    }
+}
+
 /// A file with both tables is a store of the node, or becomes one where it has no row, or is refused.
-fn resume<S: Alter>(conn: &mut Connection<S>, node: &str) -> Result<u64, StoreFault>
+fn resume<S: Alter, W: Watch>(
+    conn: &mut Connection<S>,
+    alloc: Global,
+    node: &str,
+    watch: &mut W,
+) -> Result<u64, StoreFault>
     requires idle { conn.old.in_transaction ≡ false }
     requires opened { HasCleanDisk (state S.Store conn.old) → IsOpened (state S.Store conn.old) × HasRows (state S.Store conn.old).committed }
     ensures idle { conn.new.in_transaction ≡ false }
     ensures clean { HasCleanDisk (state S.Store conn.new) → HasCleanDisk (state S.Store conn.old) }
     ensures never { IfErr result (λ e. e ≢ StoreFault.Reopen) }
-    ensures places { IfErr result (λ e. (p : ℕ) → e ≡ StoreFault.Damaged p → p ≡ 0) }
+    ensures small { IfOk result (λ count. count ≤ 2 ^ 63) }
     ensures settled { HasCleanDisk (state S.Store conn.new) → BecomesStore node.now (state S.Store conn.old).committed (state S.Store conn.new) result }
 {
     match examine(conn, node)? {
         Contents::NoRow => start_in_empty_tables(conn, node),
-        Contents::OwnStore => count(conn),
+        Contents::OwnStore(RecordFormat::One) => resume_format_one(conn, alloc, watch),
+        Contents::OwnStore(RecordFormat::Two) => count(conn),
     }
 }
 
-/// Makes the file a store of the node where it has no row yet, or finds that it is one, and returns how many places
-/// its content has.
+/// Makes the file a store of the node where it has no row yet, or finds that it is one, which it migrates where it has
+/// format One, and returns how many places its content has.
 ///
 /// Faults in this order: `Damaged(0)` where the file has other tables, records without an owner, or a place below 0;
-/// `WrongVersion`; `WrongNode`. `Device`, `Full` and `NoMemory` may come at any call of the database. A refused file
-/// is as it was, but that one that was new may have been made whole.
-pub(crate) fn open_as_store<S: Alter>(
+/// `WrongVersion`; `WrongNode`; `Damaged(p)` for the first place of a store of format One that has no record. `Device`,
+/// `Full` and `NoMemory` may come at any call of the database. A refused file is as it was, but that one that was new
+/// may have been made whole, and after `Device` or `Full` one of format One may have been migrated.
+pub(crate) fn open_as_store<S: Alter, W: Watch>(
     conn: &mut Connection<S>,
+    alloc: Global,
     node: &str,
+    watch: &mut W,
 ) -> Result<u64, StoreFault>
     requires idle { conn.old.in_transaction ≡ false }
     requires opened { HasCleanDisk (state S.Store conn.old) → IsOpened (state S.Store conn.old) }
     ensures idle { conn.new.in_transaction ≡ false }
     ensures clean { HasCleanDisk (state S.Store conn.new) → HasCleanDisk (state S.Store conn.old) }
     ensures never { IfErr result (λ e. e ≢ StoreFault.Reopen) }
-    ensures places { IfErr result (λ e. (p : ℕ) → e ≡ StoreFault.Damaged p → p ≡ 0) }
-    ensures ready { HasCleanDisk (state S.Store conn.new) → OnOk result (IsReady (state S.Store conn.new) × (node_in (state S.Store conn.new).committed.trees ≡ node.now)) }
-    ensures count { HasCleanDisk (state S.Store conn.new) → IfOk result (λ count. count ≡ length (slots_in (state S.Store conn.new).committed.trees)) }
-    ensures found { HasCleanDisk (state S.Store conn.new) → OnOk result ((IsNew (state S.Store conn.old).committed × (slots_in (state S.Store conn.new).committed.trees ≡ []))
-        ⊎ ((state S.Store conn.new).committed ≡ (state S.Store conn.old).committed)) }
-    ensures tables { HasCleanDisk (state S.Store conn.new) → OnOk result (HasItsTables (state S.Store conn.old).committed.schema (state S.Store conn.new).committed.schema) }
-    ensures same { HasCleanDisk (state S.Store conn.new) → OnOk result (slots_in (state S.Store conn.new).committed.trees ≡ slots_in (state S.Store conn.old).committed.trees) }
-    ensures fault { HasCleanDisk (state S.Store conn.new) → IfErr result (IsOpeningFault node.now (state S.Store conn.old).committed) }
-    ensures crash { HasCleanDisk (state S.Store conn.new) → (db : Trees) → (state S.Store conn.new).may_leave db
-        → (db ≡ (state S.Store conn.old).committed.trees) ⊎ (IsNew (state S.Store conn.old).committed × IsFresh node.now db) }
+    ensures small { IfOk result (λ count. count ≤ 2 ^ 63) }
+    ensures settled { HasCleanDisk (state S.Store conn.new) → BecomesStore node.now (state S.Store conn.old).committed (state S.Store conn.new) result }
+    ensures opened { HasCleanDisk (state S.Store conn.new) → OnOk result (IsOpenedAs (state S.Store conn.old).committed.trees (slots_in (state S.Store conn.new).committed.trees)) }
 {
     match tables_in(conn) {
         Tables::None => start(conn, node),
-        Tables::Store => resume(conn, node),
+        Tables::Store => resume(conn, alloc, node, watch),
         Tables::Foreign => Err(StoreFault::Damaged(0)),
     }
 }

@@ -1,31 +1,52 @@
 //! What the rows that a query returns say.
-ghost use Rattle.std.specs.Prelude.{◌≡◌, ◌⊎◌, ◌↔◌, pos, IfOk, IfErr, IsTrue};
+ghost use Rattle.std.specs.Prelude.{◌≡◌, ◌⊎◌, ◌↔◌, IfOk, IfErr, IfSome, IfNone, IsTrue};
 ghost use Rattle.sqlite.specs.Order.{column};
-ghost use Rattle.sqlite.specs.declared.types.Value.TheVariants.{Int, Text as Words};
+ghost use Rattle.sqlite.specs.declared.types.Value.TheVariants.{Text as Words};
+ghost use Rattle.wire.specs.declared.record_format.RecordFormat.{RecordFormat};
 ghost use Rattle.stores.specs.Faults.{is_device_fault};
-ghost use Rattle.durable.specs.OwnerRow.{IsOwnerIn, IsPlaceIn};
+ghost use Rattle.durable.specs.OwnerRow.{HasFormat, IsOwnerIn, IsPlaceIn};
 
 use crate::fault::fault_of;
 use sqlite::Row;
 use sqlite::types::ValueRef;
 use stores::StoreFault;
+use wire::RecordFormat;
 
 /// Whose the file is, where one node asks.
 #[derive(Clone, Copy)]
 pub(crate) enum Owner {
     /// There is no owner's row.
     Nobody,
+    /// The format is none of a store.
     OtherFormat,
-    /// The format is right, and the node another.
+    /// The format is one of a store, and the node another.
     OtherNode,
-    ThisNode,
+    /// It is a store of this node in that format.
+    ThisNode(RecordFormat),
 }
 
-/// Whether the format is 1.
-fn has_format(row: &Row) -> bool
-    ensures { IsTrue result ↔ (column row.now 0 ≡ Int (pos 1)) }
+/// Whether the row has that format.
+fn has_format(row: &Row, format: RecordFormat) -> bool
+    ensures { IsTrue result ↔ HasFormat format row.now }
 {
-    matches!(row.get_ref(0), Ok(ValueRef::Int(1)))
+    match row.get_ref(0) {
+        Ok(ValueRef::Int(found)) => found == i64::from(format.number()),
+        _ => false,
+    }
+}
+
+/// The format of the row, if it is one of a store.
+fn format_of(row: &Row) -> Option<RecordFormat>
+    ensures some { IfSome result (λ format. HasFormat format row.now) }
+    ensures none { IfNone result ((format : RecordFormat) → HasFormat format row.now → ⊥) }
+{
+    if has_format(row, RecordFormat::Two) {
+        Some(RecordFormat::Two)
+    } else if has_format(row, RecordFormat::One) {
+        Some(RecordFormat::One)
+    } else {
+        None
+    }
 }
 
 /// Whether the node is this one.
@@ -45,12 +66,13 @@ pub(crate) fn owner_in(rows: &[Row], node: &str) -> Owner
     let Some(row) = rows.first() else {
         return Owner::Nobody;
     };
-    if !has_format(row) {
-        Owner::OtherFormat
-    } else if !has_node(row, node) {
-        Owner::OtherNode
+    let Some(format) = format_of(row) else {
+        return Owner::OtherFormat;
+    };
+    if has_node(row, node) {
+        Owner::ThisNode(format)
     } else {
-        Owner::ThisNode
+        Owner::OtherNode
     }
 }
 

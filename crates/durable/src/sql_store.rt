@@ -6,7 +6,8 @@ ghost use Rattle.units.specs.Code.{node_text};
 ghost use Rattle.durable.specs.Backing.{IsFound, MayFind, Hold};
 ghost use Rattle.stores.specs.Faults.{is_device_fault};
 ghost use Rattle.durable.specs.SqlFaults.{store_fault_of};
-ghost use Rattle.durable.specs.Held.{slots_in, node_in};
+ghost use Rattle.durable.specs.Held.{slots_in, node_in, IsStore};
+ghost use Rattle.durable.specs.Migrating.{IsOpenedAs};
 ghost use Rattle.durable.specs.Kept.{is_there};
 ghost use Rattle.stores.specs.Records.{Places};
 ghost use Rattle.durable.specs.Refusals.{IsRefusal, IsUnharmed};
@@ -14,6 +15,7 @@ ghost use Rattle.durable.specs.Refusals.{IsRefusal, IsUnharmed};
 use crate::backing::opening_fault;
 use crate::fault::fault_of;
 use crate::store_state::{StoreState, count_fault, store_from_files, store_over};
+use crate::watch::{Nobody, Watch};
 use sqlite::{Connection, Error as SqlError, ErrorCode, File, Leftover, Options, Unknown};
 use sqlite_disk::{Disk, Files, Tally};
 use std::alloc::Global;
@@ -43,12 +45,14 @@ pub struct SqlStore<D: Disk + Drop> {
 impl<D: Disk + Drop> SqlStore<D> {
     ghost use Rattle.durable.specs.Stores.{IsHonest, MayHold, content, must_reopen, owner, node_of, faults, HadFiles};
 
-    /// Opens the database file and its log, and makes them a store of the node where they are new. An error gives the
-    /// files back.
+    /// Opens the database file and its log, makes them a store of the node where they are new, and migrates a store of
+    /// format One to format Two. An error gives the files back.
     ///
-    /// Fails with the first that is so of `Damaged(0)`, where the files hold no store, `WrongVersion` and
-    /// `WrongNode`; the database that they hold stays as it was. Fails with `Device`, `Full` or `NoMemory` at any
-    /// call of the database, and with `Device` where the files can't be used since a sync failed.
+    /// Fails with the first that is so of `Damaged(0)`, where the files hold no store, `WrongVersion`, `WrongNode`, and
+    /// `Damaged(p)`, where `p` is the first place without a record in a store of format One; the database that they
+    /// hold stays as it was. Fails with `Device`, `Full` or `NoMemory` at any call of the database, and with `Device`
+    /// where the files can't be used since a sync failed; then a store of format One has its records in that format or,
+    /// migrated, in format Two.
     pub fn open_files(
         alloc: Global,
         files: Files<D>,
@@ -59,9 +63,8 @@ impl<D: Disk + Drop> SqlStore<D> {
         ensures node { IfOk result (λ s. node_of D.Disk s ≡ node) }
         ensures faults { IfOk result (λ s. faults D.Disk s ≡ 0) }
         ensures owner { IfOk result (λ s. IsHonest D.Disk s → owner D.Disk s ≡ node_text node) }
-        ensures found { IfOk result (λ s. IsHonest D.Disk s → (db : Trees) × IsFound D.Disk files db × (content D.Disk s ≡ slots_in db)) }
+        ensures found { IfOk result (λ s. IsHonest D.Disk s → (db : Trees) × IsFound D.Disk files db × IsOpenedAs db (content D.Disk s)) }
         ensures durable { IfOk result (λ s. IsHonest D.Disk s → (next : Places) → MayHold D.Disk s next → next ≡ content D.Disk s) }
-        ensures places { IfErr result (λ e. (p : ℕ) → e.0 ≡ StoreFault.Damaged p → p ≡ 0) }
         ensures fault { IfErr result (λ e. AreClean D.Disk e.1.log e.1.db → IsRefusal D.Disk files (node_text node) e.0) }
         ensures unharmed { IfErr result (λ e. AreClean D.Disk e.1.log e.1.db → IsUnharmed D.Disk files e.0 e.1) }
     {
@@ -87,9 +90,9 @@ impl<D: Disk + Drop> SqlStore<D> {
     /// these files decides the content.
     pub fn close_files(self) -> Files<D>
         ensures honest { AreClean D.Disk result.log result.db → IsHonest D.Disk self }
-        ensures left { (db : Trees) → MayFind D.Disk result db → ∥ MayHold D.Disk self (slots_in db) ∥₁ }
+        ensures left { (db : Trees) → MayFind D.Disk result db → (next : Places) → IsOpenedAs db next → ∥ MayHold D.Disk self next ∥₁ }
         ensures kept { must_reopen D.Disk self ≡ false → (db : Trees) → MayFind D.Disk result db → ∥ slots_in db ≡ content D.Disk self ∥₁ }
-        ensures holds { must_reopen D.Disk self ≡ false → Hold D.Disk result (λ db. (slots_in db ≡ content D.Disk self) × (node_in db ≡ owner D.Disk self)) }
+        ensures holds { must_reopen D.Disk self ≡ false → Hold D.Disk result (λ db. IsStore db × (slots_in db ≡ content D.Disk self) × (node_in db ≡ owner D.Disk self)) }
         ensures files { HadFiles D.Disk self result }
     {
         let SqlStore {
@@ -119,7 +122,8 @@ fn path_fault(error: SqlError, left: Option<Leftover<File>>) -> StoreFault
 impl SqlStore<File> {
     ghost use Rattle.durable.specs.Stores.{IsHonest, MayHold, content, must_reopen, owner, node_of, faults};
 
-    /// Opens the file at the path, with its log beside it, and makes it a store of the node where there is none.
+    /// Opens the file at the path, with its log beside it, makes it a store of the node where there is none, and migrates
+    /// a store of format One to format Two.
     ///
     /// Fails as `open_files` does, and with `Device` where the file can't be opened or another handle has it open. No
     /// clause ties the result to what stands at the path.
@@ -130,7 +134,25 @@ impl SqlStore<File> {
         ensures owner { IfOk result (λ s. IsHonest _ s → owner _ s ≡ node_text node) }
         ensures durable { IfOk result (λ s. IsHonest _ s → (next : Places) → MayHold _ s next → next ≡ content _ s) }
         ensures named { IfErr result (λ e. e ≢ StoreFault.Reopen) }
-        ensures places { IfErr result (λ e. (p : ℕ) → e ≡ StoreFault.Damaged p → p ≡ 0) }
+    {
+        SqlStore::open_path_watched(rt, path, node, &mut Nobody)
+    }
+
+    /// As `open_path`, and tells how far a migration of the store has come.
+    ///
+    /// Fails as `open_path` does.
+    pub fn open_path_watched<W: Watch>(
+        rt: &HostRuntime,
+        path: &str,
+        node: Node,
+        watch: &mut W,
+    ) -> Result<SqlStore<File>, StoreFault>
+        ensures runs { IfOk result (λ s. must_reopen _ s ≡ false) }
+        ensures node { IfOk result (λ s. node_of _ s ≡ node) }
+        ensures faults { IfOk result (λ s. faults _ s ≡ 0) }
+        ensures owner { IfOk result (λ s. IsHonest _ s → owner _ s ≡ node_text node) }
+        ensures durable { IfOk result (λ s. IsHonest _ s → (next : Places) → MayHold _ s next → next ≡ content _ s) }
+        ensures named { IfErr result (λ e. e ≢ StoreFault.Reopen) }
     {
         let alloc = rt.alloc();
         let Ok(name) = format!(in alloc; "{node}") else {
@@ -144,7 +166,7 @@ impl SqlStore<File> {
             Ok(conn) => conn,
             Err((error, left)) => return Err(path_fault(error, left)),
         };
-        match store_over(alloc, conn, &name) {
+        match store_over(alloc, conn, &name, watch) {
             Ok(store) => Ok(SqlStore {
                 store_state: StoreState::Open(store),
                 node,
@@ -219,12 +241,11 @@ impl<D: Disk + Drop> NodeStore for SqlStore<D> {
         }
     }
 
-    /// Fails with `Damaged(0)`, `WrongVersion` and `WrongNode` as `open_files` does. After a sync that failed the
+    /// Fails with `Damaged(p)`, `WrongVersion` and `WrongNode` as `open_files` does. After a sync that failed the
     /// same files can't be used again, and every reopening fails with `Device`.
     fn reopen(&mut self) -> Result<(), StoreFault>
         ensures reopens { Reopens (IsHonest D.Disk) (content D.Disk) (MayHold D.Disk) (must_reopen D.Disk) self.old self.new result }
         ensures count { faults D.Disk self.new ≡ faults_after (faults D.Disk self.old) result }
-        ensures places { IfErr result (λ e. (p : ℕ) → e ≡ Damaged p → p ≡ 0) }
         ensures node { node_of D.Disk self.new ≡ node_of D.Disk self.old }
         ensures owner { IsHonest D.Disk self.new → OnOk result (owner D.Disk self.new ≡ node_text (node_of D.Disk self.new)) }
         ensures fault { IsHonest D.Disk self.new → IfErr result (IsReopeningFault D.Disk self.old) }

@@ -9,17 +9,19 @@ ghost use Rattle.stores.specs.Calls.{Appends, Loads};
 ghost use Rattle.durable.specs.Backing.{IsFound, MayFind, Hold};
 ghost use Rattle.durable.specs.Connected as connected;
 ghost use Rattle.stores.specs.Faults.{is_judgement, count_after};
-ghost use Rattle.durable.specs.Held.{slots_in, node_in};
+ghost use Rattle.durable.specs.Held.{slots_in, node_in, IsStore};
+ghost use Rattle.durable.specs.Migrating.{IsOpenedAs};
 ghost use Rattle.durable.specs.Kept.{IsHonest, MayHold, content, owner, disk_faults, must_reopen, is_there, AreFilesOf};
 ghost use Rattle.durable.specs.Opening.{IsOpeningFault};
 ghost use Rattle.stores.specs.Records.{Places, written};
 ghost use Rattle.durable.specs.Refusals.{IsRefusal, IsUnharmed};
-ghost use Rattle.stores.specs.declared.fault.StoreFault.TheVariants.{Reopen, NoMemory, Damaged, Full};
+ghost use Rattle.stores.specs.declared.fault.StoreFault.TheVariants.{Reopen, NoMemory, Full};
 ghost use Rattle.durable.specs.Rooms.{LacksRoom};
 
 use crate::backing::{files_of, open_again};
 use crate::open_store::OpenStore;
 use crate::opening::open_as_store;
+use crate::watch::{Nobody, Watch};
 use sqlite::{Connection, FileStore, Options};
 use sqlite_disk::{Disk, Files};
 use std::alloc::Global;
@@ -61,10 +63,10 @@ impl<D: Disk + Drop> StoreState<D> {
     pub(crate) fn into_files(self) -> Files<D>
         requires there { IsTrue (is_there D.Disk self) }
         ensures honest { AreClean D.Disk result.log result.db → IsHonest D.Disk self }
-        ensures left { (db : Trees) → MayFind D.Disk result db → ∥ MayHold D.Disk self (slots_in db) ∥₁ }
+        ensures left { (db : Trees) → MayFind D.Disk result db → (next : Places) → IsOpenedAs db next → ∥ MayHold D.Disk self next ∥₁ }
         ensures kept { must_reopen D.Disk self ≡ false → (db : Trees) → MayFind D.Disk result db → ∥ slots_in db ≡ content D.Disk self ∥₁ }
         ensures files { AreFilesOf D.Disk self result }
-        ensures holds { must_reopen D.Disk self ≡ false → Hold D.Disk result (λ db. (slots_in db ≡ content D.Disk self) × (node_in db ≡ owner D.Disk self)) }
+        ensures holds { must_reopen D.Disk self ≡ false → Hold D.Disk result (λ db. IsStore db × (slots_in db ≡ content D.Disk self) × (node_in db ≡ owner D.Disk self)) }
     {
         match self {
             StoreState::Open(store) => files_of(store.into_connection()),
@@ -112,34 +114,32 @@ impl<D: Disk + Drop> StoreState<D> {
 }
 
 /// A store over an open connection whose file is one of the node, or becomes one. After a fault it gives the files up.
-pub(crate) fn store_over<D: Disk + Drop>(
+pub(crate) fn store_over<D: Disk + Drop, W: Watch>(
     alloc: Global,
     mut conn: Connection<FileStore<D>>,
     name: &str,
+    watch: &mut W,
 ) -> Result<OpenStore<FileStore<D>>, (StoreFault, Files<D>)>
     requires idle { conn.in_transaction ≡ false }
     requires opened { HasCleanDisk (file_state conn) → Opens (file_state conn) }
     ensures runs { IfOk result (λ k. k.must_reopen ≡ false) }
     ensures honest { IfOk result (λ k. connected.IsHonest over_files k → HasCleanDisk (file_state conn)) }
     ensures owner { IfOk result (λ k. connected.IsHonest over_files k → node_in (file_state k.conn).committed.trees ≡ name.now) }
-    ensures same { IfOk result (λ k. connected.IsHonest over_files k → connected.content over_files k ≡ slots_in (file_state conn).committed.trees) }
+    ensures opened { IfOk result (λ k. connected.IsHonest over_files k → IsOpenedAs (file_state conn).committed.trees (connected.content over_files k)) }
     ensures durable { IfOk result (λ k. connected.IsHonest over_files k → (next : Places) → connected.MayHold over_files k next → next ≡ connected.content over_files k) }
     ensures named { IfErr result (λ e. e.0 ≢ Reopen) }
-    ensures places { IfErr result (λ e. (p : ℕ) → e.0 ≡ Damaged p → p ≡ 0) }
     ensures refused { IfErr result (λ e. AreClean D.Disk e.1.log e.1.db → HasCleanDisk (file_state conn)) }
     ensures fault { IfErr result (λ e. AreClean D.Disk e.1.log e.1.db → IsOpeningFault name.now (file_state conn).committed e.0) }
     ensures unharmed { IfErr result (λ e. IsTrue (is_judgement e.0) → Hold D.Disk e.1 (λ next. next ≡ (file_state conn).committed.trees)) }
 {
-    let fault = match open_as_store(&mut conn, name) {
-        Ok(count) if count <= 1 << 63 => return Ok(OpenStore::new(alloc, conn, count)),
-        Ok(_) => StoreFault::Device,
-        Err(fault) => fault,
-    };
-    Err((fault, files_of(conn)))
+    match open_as_store(&mut conn, alloc, name, watch) {
+        Ok(count) => Ok(OpenStore::new(alloc, conn, count)),
+        Err(fault) => Err((fault, files_of(conn))),
+    }
 }
 
 /// Opens the files as a store of the node. An error gives them back, and files that were found to be no store of the
-/// node hold what they held.
+/// node, or to have a damaged record, hold what they held.
 pub(crate) fn store_from_files<D: Disk + Drop>(
     alloc: Global,
     files: Files<D>,
@@ -148,10 +148,9 @@ pub(crate) fn store_from_files<D: Disk + Drop>(
 ) -> Result<OpenStore<FileStore<D>>, (StoreFault, Files<D>)>
     ensures runs { IfOk result (λ k. k.must_reopen ≡ false) }
     ensures owner { IfOk result (λ k. connected.IsHonest over_files k → node_in (file_state k.conn).committed.trees ≡ node_text node) }
-    ensures found { IfOk result (λ k. connected.IsHonest over_files k → (db : Trees) × IsFound D.Disk files db × (connected.content over_files k ≡ slots_in db)) }
+    ensures found { IfOk result (λ k. connected.IsHonest over_files k → (db : Trees) × IsFound D.Disk files db × IsOpenedAs db (connected.content over_files k)) }
     ensures durable { IfOk result (λ k. connected.IsHonest over_files k → (next : Places) → connected.MayHold over_files k next → next ≡ connected.content over_files k) }
     ensures named { IfErr result (λ e. e.0 ≢ Reopen) }
-    ensures places { IfErr result (λ e. (p : ℕ) → e.0 ≡ Damaged p → p ≡ 0) }
     ensures fault { IfErr result (λ e. AreClean D.Disk e.1.log e.1.db → IsRefusal D.Disk files (node_text node) e.0) }
     ensures unharmed { IfErr result (λ e. AreClean D.Disk e.1.log e.1.db → IsUnharmed D.Disk files e.0 e.1) }
 {
@@ -159,5 +158,5 @@ pub(crate) fn store_from_files<D: Disk + Drop>(
         return Err((StoreFault::NoMemory, files));
     };
     let conn = open_again(alloc, files, options)?;
-    store_over(alloc, conn, &name)
+    store_over(alloc, conn, &name, &mut Nobody)
 }

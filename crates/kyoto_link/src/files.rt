@@ -3,6 +3,7 @@ ghost use Rattle.std.specs.Prelude.{◌≡◌, ◌<◌, ◌+◌, ◌++◌, IfOk,
 ghost use Rattle.units.specs.Code.{node_text};
 ghost use Rattle.protocol.specs.Registries.{nodes};
 
+use crate::watching::MigrationLine;
 use audit::read_first;
 use durable::SqlStore;
 use inputs::{OpFault, read_scheme, store_fault};
@@ -44,7 +45,7 @@ fn store_path(alloc: Global, folder: &str, node: Node) -> Result<String, AllocEr
     format!(in alloc; "{folder}/{node}.db")
 }
 
-/// Opens the store of the node.
+/// Opens the store of the node, which is migrated where it has format 1.
 pub(crate) fn open_store(
     rt: &HostRuntime,
     folder: &str,
@@ -53,7 +54,10 @@ pub(crate) fn open_store(
     let Ok(path) = store_path(rt.alloc(), folder, node) else {
         return Err(OpFault::NoMemory);
     };
-    match SqlStore::open_path(rt, path.as_str(), node) {
+    let mut line = MigrationLine::new(rt, node);
+    let opened = SqlStore::open_path_watched(rt, path.as_str(), node, &mut line);
+    line.finished();
+    match opened {
         Ok(store) => Ok(store),
         Err(fault) => Err(store_fault(node, fault)),
     }

@@ -1,58 +1,84 @@
-//! How far an audit has come, for who waits at a terminal.
+//! How far long work has come, for who waits at a terminal.
 
 use std::io::IsTerminal;
 use std::time::Instant;
-use weave::Watch;
+use units::Node;
 
-/// Tells on standard error how many records were read and woven, once a second, where that is a terminal.
+/// When a line of progress is due: once a second, where standard error is a terminal.
 #[derive(Drop)]
-pub(crate) struct ProgressLine<'a> {
+struct Pace<'a> {
     rt: &'a HostRuntime,
-    /// When it was told last, or the work began. `None` where nothing is told.
+    /// When the last line was written, or the work began. `None` where no line is written.
     last: Option<Instant>,
-    read: usize,
-    woven: usize,
-    /// How often it was told since the line began.
-    told: usize,
+    /// How many lines were written, each over the one before it.
+    lines: usize,
 }
 
-impl<'a> ProgressLine<'a> {
-    /// The line of work that begins now.
-    pub(crate) fn new(rt: &'a HostRuntime) -> ProgressLine<'a> {
+impl<'a> Pace<'a> {
+    /// That of work that begins now.
+    fn new(rt: &'a HostRuntime) -> Pace<'a> {
         let last = if rt.stderr().is_terminal() {
             Instant::now(rt).ok()
         } else {
             None
         };
-        ProgressLine {
-            rt,
-            last,
-            read: 0,
-            woven: 0,
-            told: 0,
-        }
+        Pace { rt, last, lines: 0 }
     }
 
-    /// Tells how far the work has come, where that wasn't told for a second.
-    fn tell(&mut self) {
+    /// Whether a line is due, which then is to be written.
+    fn is_due(&mut self) -> bool {
         let Some(last) = self.last else {
-            return;
+            return false;
         };
         match last.elapsed(self.rt) {
             Ok(passed) if passed.as_secs() >= 1 => {
                 self.last = Instant::now(self.rt).ok();
-                self.told = self.told.saturating_add(1);
-                let _ = eprint!(self.rt;
-                    "\rkyoto-link: {} records read, {} woven",
-                    self.read, self.woven
-                );
+                self.lines = self.lines.saturating_add(1);
+                true
             }
-            _ => {}
+            _ => false,
+        }
+    }
+
+    /// Ends the line, if one was written.
+    fn finished(&mut self) {
+        if self.lines > 0 {
+            self.lines = 0;
+            let _ = eprintln!(self.rt; "");
         }
     }
 }
 
-impl<'a> Watch for ProgressLine<'a> {
+/// Writes how many records an audit has read and woven.
+#[derive(Drop)]
+pub(crate) struct ProgressLine<'a> {
+    pace: Pace<'a>,
+    read: usize,
+    woven: usize,
+}
+
+impl<'a> ProgressLine<'a> {
+    /// The line of an audit that begins now.
+    pub(crate) fn new(rt: &'a HostRuntime) -> ProgressLine<'a> {
+        ProgressLine {
+            pace: Pace::new(rt),
+            read: 0,
+            woven: 0,
+        }
+    }
+
+    /// Writes the line, where it is due.
+    fn tell(&mut self) {
+        if self.pace.is_due() {
+            let _ = eprint!(self.pace.rt;
+                "\rkyoto-link: {} records read, {} woven",
+                self.read, self.woven
+            );
+        }
+    }
+}
+
+impl<'a> weave::Watch for ProgressLine<'a> {
     fn read(&mut self, records: usize) {
         self.read = self.read.saturating_add(records);
         self.tell();
@@ -65,9 +91,39 @@ impl<'a> Watch for ProgressLine<'a> {
 
     /// Ends the line, if there is one.
     fn finished(&mut self) {
-        if self.told > 0 {
-            self.told = 0;
-            let _ = eprintln!(self.rt; "");
+        self.pace.finished();
+    }
+}
+
+/// Writes how many records of a node's store were migrated.
+#[derive(Drop)]
+pub(crate) struct MigrationLine<'a> {
+    pace: Pace<'a>,
+    node: Node,
+}
+
+impl<'a> MigrationLine<'a> {
+    /// The line of a store of the node that is opened now.
+    pub(crate) fn new(rt: &'a HostRuntime, node: Node) -> MigrationLine<'a> {
+        MigrationLine {
+            pace: Pace::new(rt),
+            node,
+        }
+    }
+
+    /// Ends the line, if there is one.
+    pub(crate) fn finished(&mut self) {
+        self.pace.finished();
+    }
+}
+
+impl<'a> durable::Watch for MigrationLine<'a> {
+    fn migrated(&mut self, records: u64, count: u64) {
+        if self.pace.is_due() {
+            let _ = eprint!(self.pace.rt;
+                "\rkyoto-link: store {}: {} of {} records migrated to format 2",
+                self.node, records, count
+            );
         }
     }
 }

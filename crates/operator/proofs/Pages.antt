@@ -56,7 +56,7 @@ not-damaged (suc p) (Some t ∷ places) (i ∷ inputs) are h = not-damaged p pla
 
 -- no page of records has a damaged place
 pub page-sound : (k n p : ℕ) (places : Places) (all : List Input) → AreRecords places all → IsDamagedAt p (take n (drop k places)) → ⊥
-page-sound k n p places all are h = not-damaged p (take n (drop k places)) (take n (drop k all)) (records-take n (drop k places) (drop k all) (records-drop k places all are)) h
+page-sound k n p places all are h = not-damaged p (take n (drop k places)) (take n (drop k all)) (records-take _ n (drop k places) (drop k all) (records-drop _ k places all are)) h
 
 -- how many records a page has
 pub page-length : (k n : ℕ) (places : Places) (page : List Input) → AreRecords (take n (drop k places)) page → length page ≡ min n (length places - k)
@@ -90,7 +90,7 @@ module _ {S : Type 0} (is_honest : S → Type 0) (content : S → Places) (must_
             let here : AreRecords (take n (drop from (content mid))) page = q.are h in
             let at : AreRecords (take n (drop k (content mid))) page = subst (λ m. AreRecords (take n (drop m (content mid))) page) (sym many) here in
             let next : AreRecords (take n (drop k places)) page = subst (λ ps. AreRecords (take n (drop k ps)) page) (p.kept (q.honest h)) at in
-            subst (λ ps. AreRecords ps (inputs ++ page)) joined (records-append (take k places) inputs (take n (drop k places)) page (p.are (q.honest h)) next);
+            subst (λ ps. AreRecords ps (inputs ++ page)) joined (records-append _ (take k places) inputs (take n (drop k places)) page (p.are (q.honest h)) next);
         honest = λ h. p.honest (q.honest h);
         kept = λ h. q.kept h ∙ p.kept (q.honest h);
         counted = q.counted ∙ p.counted;
@@ -126,7 +126,7 @@ module _ {S : Type 0} (is_honest : S → Type 0) (content : S → Places) (must_
       let size : length (take n page.items) ≡ n = length-take-le n page.items within in
       record {
         are = λ h.
-            let front : AreRecords (take n (take 256 part)) (take n page.items) = records-take n (take 256 part) page.items (loads.ok h) in
+            let front : AreRecords (take n (take 256 part)) (take n page.items) = records-take _ n (take 256 part) page.items (loads.ok h) in
             let here : AreRecords (take n part) (take n page.items) = subst (λ ps. AreRecords ps (take n page.items)) (take-take n 256 part few) front in
             subst (λ m. AreRecords (take m part) (take n page.items)) (sym size) here;
         honest = loads.honest;

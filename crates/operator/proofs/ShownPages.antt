@@ -30,7 +30,7 @@ page-after xs page k text many is =
 whole : (places : Places) (some all : List Input) → AreRecords (take (length some) places) some → AreRecords places all → AreRecords places (some ++ drop (length some) all)
 whole places some all front are =
     subst (λ ps. AreRecords ps (some ++ drop (length some) all)) (take-append-drop (length some) places)
-    (records-append (take (length some) places) some (drop (length some) places) (drop (length some) all) front (records-drop (length some) places all are))
+    (records-append _ (take (length some) places) some (drop (length some) places) (drop (length some) all) front (records-drop _ (length some) places all are))
 
 -- the lines come before more of what is shown
 shown-after : (some more : List Input) → (rest : List ℕ) × (shown (some ++ more) ≡ record_lines 0 some ++ rest) × (0 < length rest)

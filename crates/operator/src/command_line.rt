@@ -63,7 +63,8 @@ docs/FORMATS.md describes schemes, events and charts.";
 
 /// The end of the help of `show`.
 const SHOW_NOTES: &str =
-    "The store of a node is the file DIR/NODE.db. A missing store is made, and is empty.
+    "The store of a node is the file DIR/NODE.db. A missing store is made, and is empty. A store of format 1 is migrated
+to format 2, which needs room for twice its size beside it.
 
 Example:
   kyoto-link show scheme.json stores NZ
@@ -79,7 +80,8 @@ docs/FORMATS.md describes schemes, records and stores.";
 /// The end of the help of `audit`.
 const AUDIT_NOTES: &str =
     "The store of a node is the file DIR/NODE.db: one for the log, and one for each registry of the scheme. A missing
-store is made, and is empty. The table is that of a run which leads to the records of all stores, and to no others.
+store is made, and is empty. A store of format 1 is migrated to format 2, which needs room for twice its size beside it.
+The table is that of a run which leads to the records of all stores, and to no others.
 
 Example:
   kyoto-link audit scheme.json stores
@@ -97,7 +99,8 @@ docs/FORMATS.md describes schemes, records, stores and the table.";
 const RUN_NOTES: &str =
     "Each node runs in threads of its own, and nodes exchange messages over sockets at free ports of 127.0.0.1. The
 store of a node is the file DIR/NODE.db: one for the log, and one for each registry of the scheme. A missing store is
-made, and is empty; a run goes on from the records that a store has. SCRIPT has a line for each order and each question:
+made, and is empty; a store of format 1 is migrated to format 2, which needs room for twice its size beside it. A run
+goes on from the records that a store has. SCRIPT has a line for each order and each question:
 
   propose NZ 1 JP 7 NZ:1:1-100:AAU
   until JP NZ1 Completed 10000

@@ -143,7 +143,7 @@ pub canonical_blocks : (canonical (block 51 100 ∷ block 1 50 ∷ []) ≡ block
 canonical_blocks = (refl, refl, refl, refl)
 
 pub ranges_and_accounts : outcomes (opening scheme_s) (propose nz 1 jp 7 (block 6 5 ∷ []) ∷ propose nz 1 jp 7 (block 0 5 ∷ []) ∷ propose nz 3 jp 7 (block 1 1 ∷ []) ∷ propose nz 2 jp 7 (block 1 1 ∷ []) ∷ propose nz 1 jp 1_000_000_000 (block 1 1 ∷ [])
-    ∷ propose nz 1 jp 7 (block 1_000_000_000_000 1_000_000_000_000 ∷ []) ∷ propose nz 1 jp 7 (block 1 101 ∷ []) ∷ [])
+    ∷ propose nz 1 jp 7 (block 1_000_000_000_000_000 1_000_000_000_000_000 ∷ []) ∷ propose nz 1 jp 7 (block 1 101 ∷ []) ∷ [])
     ≡ Refused 102 ∷ Refused 102 ∷ Refused 104 ∷ Refused 105 ∷ Refused 108 ∷ Refused 102 ∷ Refused 105 ∷ []
 unfolding step verdict
 ranges_and_accounts = refl

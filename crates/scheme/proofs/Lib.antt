@@ -11,4 +11,3 @@ pub mod OneAnswer
 pub mod Holders
 pub mod HoldersAlike
 pub mod Searching
-pub mod FirstPlaces

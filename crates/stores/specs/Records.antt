@@ -2,27 +2,39 @@
 use Rattle.std.specs.Prelude.{◌≡◌, ◌⊎◌, ◌++◌, ℕ, zero, suc, List, [], ◌∷◌, map, Option, Some, None}
 use Rattle.wire.specs.Records.{IsRecordText, record_text}
 use Rattle.wire.specs.declared.input.Input.{Input}
+use Rattle.wire.specs.declared.record_format.RecordFormat.{RecordFormat}
+use Rattle.wire.specs.declared.record_format.RecordFormat.TheVariants.{Two}
 
 -- a list of places: the text at each, or None where it is missing
 abbrev pub Places : Type 0
 Places = List (Option (List ℕ))
 
--- each place has the text of its record, and no place is left over
-abbrev pub AreRecords : Places → List Input → Type 0
-AreRecords [] [] = Unit {0}
-AreRecords (Some text ∷ places) (input ∷ inputs) = IsRecordText text input × AreRecords places inputs
-AreRecords _ _ = ⊥
+-- each place has the text of its record in that format, and no place is left over
+abbrev pub AreRecordsIn : RecordFormat → Places → List Input → Type 0
+AreRecordsIn format [] [] = Unit {0}
+AreRecordsIn format (Some text ∷ places) (input ∷ inputs) = IsRecordText format text input × AreRecordsIn format places inputs
+AreRecordsIn format _ _ = ⊥
 
 -- the text, if there is one, is no record's
-abbrev pub HasNoRecord : Option (List ℕ) → Type 0
-HasNoRecord None = Unit {0}
-HasNoRecord (Some text) = (input : Input) → IsRecordText text input → ⊥
+abbrev pub HasNoRecordIn : RecordFormat → Option (List ℕ) → Type 0
+HasNoRecordIn format None = Unit {0}
+HasNoRecordIn format (Some text) = (input : Input) → IsRecordText format text input → ⊥
 
 -- that many places have records, and the next one has none
+abbrev pub IsDamagedIn : RecordFormat → ℕ → Places → Type 0
+IsDamagedIn format zero (place ∷ places) = HasNoRecordIn format place
+IsDamagedIn format (suc p) (Some text ∷ places) = ((input : Input) × IsRecordText format text input) × IsDamagedIn format p places
+IsDamagedIn format _ _ = ⊥
+
+-- the same of a running store, whose records are of format Two
+abbrev pub AreRecords : Places → List Input → Type 0
+AreRecords places inputs = AreRecordsIn Two places inputs
+
+abbrev pub HasNoRecord : Option (List ℕ) → Type 0
+HasNoRecord place = HasNoRecordIn Two place
+
 abbrev pub IsDamagedAt : ℕ → Places → Type 0
-IsDamagedAt zero (place ∷ places) = HasNoRecord place
-IsDamagedAt (suc p) (Some text ∷ places) = ((input : Input) × IsRecordText text input) × IsDamagedAt p places
-IsDamagedAt _ _ = ⊥
+IsDamagedAt p places = IsDamagedIn Two p places
 
 -- the places of the texts of records
 abbrev pub written : List Input → Places

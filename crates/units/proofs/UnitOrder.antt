@@ -22,7 +22,7 @@ use Rattle.units.specs.declared.code.Code.{Code}
 
 -- the two letters as one number, whose order is that of codes
 abbrev pub code_rank : Code → ℕ
-code_rank c = 256 * c.first + c.second
+code_rank c = 26 * c.first + c.second
 
 abbrev CodesSay : Code → Code → Ordering → Type 0
 CodesSay a b r = MatchOrdering r (code_rank a < code_rank b) (code_rank a ≡ code_rank b) (code_rank b < code_rank a)
@@ -62,7 +62,7 @@ periods Second = (omega arith, omega arith)
 
 -- a number for the origin and the period, in their order
 abbrev pub rank : Serial → ℕ
-rank s = 4 * code_rank s.origin + period_index s.period
+rank s = 2 * code_rank s.origin + period_index s.period
 
 -- a comes before b
 pub record IsBelow (a b : Serial) : Type 0 where
@@ -154,7 +154,7 @@ same_line a b e =
 
 -- a number for the unit, in the order of units
 abbrev pub index : Serial → ℕ
-index s = rank s * 1_000_000_000_000 + s.number
+index s = rank s * 1_000_000_000_000_000 + s.number
 
 pub index_from_below : (a b : Serial) → a.number ≤ last_unit → b.number ≤ last_unit → IsBelow a b → index a < index b
 index_from_below a b m n h = elim (cases_lt (rank a) (rank b)) [

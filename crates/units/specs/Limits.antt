@@ -3,7 +3,11 @@ use Rattle.std.specs.Prelude.{ℕ, ◌^◌}
 
 -- the greatest number of a unit
 abbrev pub last_unit : ℕ
-last_unit = 999_999_999_999
+last_unit = 999_999_999_999_999
+
+-- the greatest number of a unit in the first format of a journal's records
+abbrev pub last_unit_of_format_one : ℕ
+last_unit_of_format_one = 999_999_999_999
 
 -- the greatest number of an account
 abbrev pub last_account : ℕ

@@ -77,7 +77,8 @@ pub enum BlockFault {
     /// It is not `CODE:PERIOD:FIRST-LAST:KIND`.
     #[error("no block")]
     Shape,
-    /// Its first number is 0 or above its last one, or its last one is above 999,999,999,999.
+    /// Its first number is 0 or above its last one, or its last one is above
+    /// 999,999,999,999,999.
     #[error("numbers out of range")]
     Range,
 }

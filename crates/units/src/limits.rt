@@ -2,7 +2,10 @@
 //! contracts.
 
 /// The greatest number of a unit. The first is 1.
-pub const LAST_UNIT: u64 = 999_999_999_999;
+pub const LAST_UNIT: u64 = 999_999_999_999_999;
+
+/// The greatest number of a unit in the first format of a journal's records.
+pub const LAST_UNIT_OF_FORMAT_ONE: u64 = 999_999_999_999;
 
 /// The greatest number of an account. The first is 1.
 pub const LAST_ACCOUNT: u64 = 999_999_999;

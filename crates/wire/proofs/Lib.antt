@@ -4,5 +4,6 @@ pub mod OneMessage
 pub mod OneRecord
 pub mod Listed
 pub mod Printed
+pub mod Within
 pub mod PrintedRecords
 pub mod ReplyTexts

@@ -10,9 +10,13 @@ use Rattle.units.specs.declared.block.RawBlock.{RawBlock}
 abbrev pub Field : Type 0
 Field = List ℕ × Data
 
+-- the object has these fields, and may have others
+abbrev pub HasFields : Data → List Field → Type 0
+HasFields d fields = AllByRecursion (λ f. HasAt d f.0 f.1) fields
+
 -- the object has these fields and no other, in whatever order
 abbrev pub HasExactly : Data → List Field → Type 0
-HasExactly d fields = HasKeys d (length fields) × AllByRecursion (λ f. HasAt d f.0 f.1) fields
+HasExactly d fields = HasKeys d (length fields) × HasFields d fields
 
 abbrev pub members_of : List Field → Members
 members_of [] = no_members

@@ -1,7 +1,7 @@
 -- What the code that reads messages and records follows; no public contract cites it.
-use Rattle.std.specs.Prelude.{◌≡◌, ℕ, ◌<◌, ◌^◌, List, [], ◌∷◌, codes}
+use Rattle.std.specs.Prelude.{◌≡◌, ℕ, ◌+◌, ◌<◌, ◌^◌, List, ◌∷◌, length, codes}
 use Rattle.serde_json.specs.Data.{Data, string}
-use Rattle.fields.specs.Fields.{HasAt}
+use Rattle.fields.specs.Fields.{HasKeys, HasAt}
 use Rattle.units.specs.Block.{raw_text}
 use Rattle.units.specs.Code.{code_text}
 use Rattle.units.specs.Limits.{too_long}
@@ -9,10 +9,10 @@ use Rattle.units.specs.declared.block.Block.{Block}
 use Rattle.units.specs.declared.block.RawBlock.{RawBlock}
 use Rattle.status.specs.Content.{Content, IsContent}
 use Rattle.status.specs.Status.{status_text}
-use Rattle.status.specs.declared.moment.Moment.{Moment}
 use Rattle.wire.specs.Messages.{proposal_fields, notification_fields, request_fields, IsMessage}
 use Rattle.wire.specs.NotifiedStatuses.{notified_status, notified_codes, IsNotified, proposal_status}
-use Rattle.wire.specs.Objects.{HasExactly, whole, numbers, blocks}
+use Rattle.wire.specs.Objects.{HasExactly, HasFields, whole, numbers, blocks}
+use Rattle.wire.specs.Records.{format_fields, AreUnitsWithin}
 use Rattle.wire.specs.declared.input.Number.{Number}
 use Rattle.wire.specs.declared.message.Message.{Message}
 use Rattle.wire.specs.declared.message.Notification.{Notification}
@@ -20,6 +20,7 @@ use Rattle.wire.specs.declared.message.Proposal.{Proposal}
 use Rattle.wire.specs.declared.message.ProposalStatus.{ProposalStatus}
 use Rattle.wire.specs.declared.message.Request.{Request}
 use Rattle.wire.specs.declared.notified.NotifiedStatus.{NotifiedStatus}
+use Rattle.wire.specs.declared.record_format.RecordFormat.{RecordFormat}
 
 -- an item that is the text of a block
 abbrev pub IsBlockItem : Data → Block → Type 0
@@ -59,14 +60,14 @@ IsRequest d r = HasExactly d (request_fields r)
 abbrev pub HasProposalStatus : Data → ProposalStatus → Type 0
 HasProposalStatus d s = HasAt d (codes "status") (string (status_text (proposal_status s)))
 
--- the object has a message at its key
-abbrev pub HasMessage : Data → Message → Type 0
-HasMessage d m = (inner : Data) × HasAt d (codes "message") inner × IsMessage inner m
+-- the object has a message at its key, whose units are within the format
+abbrev pub HasMessage : RecordFormat → Data → Message → Type 0
+HasMessage format d m = (inner : Data) × HasAt d (codes "message") inner × IsMessage inner m × AreUnitsWithin format m
+
+-- a record of that word, with `own` keys besides those of the format
+abbrev pub HasWord : RecordFormat → Data → List ℕ → ℕ → Type 0
+HasWord format d word own = HasKeys d (own + length (format_fields format)) × HasAt d (codes "input") (string word) × HasFields d (format_fields format)
 
 -- an order of that word about an account
-abbrev pub IsAccountOrder : Data → List ℕ → Number → Type 0
-IsAccountOrder d word n = HasExactly d ((codes "account", whole n.value) ∷ (codes "input", string word) ∷ [])
-
--- a message received at a moment
-abbrev pub IsReceived : Data → Message → Moment → Type 0
-IsReceived d m t = (inner : Data) × HasExactly d ((codes "input", string (codes "received")) ∷ (codes "message", inner) ∷ (codes "moment", whole t.seconds) ∷ []) × IsMessage inner m
+abbrev pub IsAccountOrder : RecordFormat → Data → List ℕ → Number → Type 0
+IsAccountOrder format d word n = HasExactly d ((codes "account", whole n.value) ∷ (codes "input", string word) ∷ format_fields format)

@@ -1,34 +1,44 @@
 //! Reading the records of a journal.
-ghost use Rattle.std.specs.Prelude.{◌≡◌, List, [], ◌∷◌, ℕ, codes};
-ghost use Rattle.serde_json.specs.Data.{string, boolean};
+ghost use Rattle.std.specs.Prelude.{◌≡◌, ◌≤◌, ◌↔◌, List, ℕ, codes, IsTrue};
+ghost use Rattle.std.specs.List.{AllByRecursion};
+ghost use Rattle.serde_json.specs.Data.{string};
 ghost use Rattle.serde_json.specs.View.{view};
-ghost use Rattle.units.specs.Code.{code_text};
-ghost use Rattle.status.specs.Id.{id_text};
-ghost use Rattle.status.specs.Order.{IsOrder};
+ghost use Rattle.status.specs.Content.{raws};
 ghost use Rattle.fields.specs.Fields.{HasAt};
 ghost use Rattle.fields.specs.Found.{Finds, Reads};
-ghost use Rattle.wire.specs.Messages.{IsMessage};
-ghost use Rattle.wire.specs.Objects.{HasExactly, whole};
-ghost use Rattle.wire.specs.Records.{order_fields, IsRecord, IsRecordText};
-ghost use Rattle.wire.specs.Reading.{HasMessage, IsAccountOrder, IsReceived};
+ghost use Rattle.wire.specs.Records.{AreUnitsWithin, IsRecord, IsRecordText};
+ghost use Rattle.wire.specs.Reading.{HasMessage, HasWord, IsAccountOrder};
 ghost use Rattle.wire.specs.declared.input.Input.{Input};
+ghost use Rattle.wire.specs.declared.input.Input.TheVariants.{Propose, Request, Ack, CleanUp, Eligible, Received};
+ghost use Rattle.wire.specs.declared.record_format.RecordFormat.{RecordFormat};
+ghost use Rattle.wire.specs.declared.record_format.RecordFormat.TheVariants.{One, Two};
 
 use crate::input::{Input, Number};
 use crate::lists::raw_blocks;
 use crate::message::Message;
 use crate::reading::message;
+use crate::record_format::RecordFormat;
 use crate::values::{code_at, has_text, id_at, moment_at, short_at, whole_at};
 use fields::{ReadFault, bool_at, has_keys, value_at};
 use serde_json::Value;
 use status::{Moment, Order, TransactionId};
 use std::alloc::Global;
-use units::Code;
+use units::{Block, Code};
+
+/// Whether the object is a record of that word, with `own` keys besides those of the format.
+fn has_word(value: &Value, format: RecordFormat, word: &str, own: u8) -> bool
+    ensures { IsTrue result ↔ HasWord format (view value.now) word.now own }
+{
+    has_keys(value, usize::from(own) + format.keys())
+        && has_text(value, "input", word)
+        && format.is_of(value)
+}
 
 /// An order to transfer units.
-fn order(alloc: Global, value: &Value) -> Result<Order, ReadFault>
-    ensures { Finds (λ o. HasExactly (view value.now) (order_fields o) × IsOrder o) result }
+fn order(alloc: Global, value: &Value, format: RecordFormat) -> Result<Order, ReadFault>
+    ensures { Finds (λ o. IsRecord format (view value.now) (Propose o)) result }
 {
-    if !has_keys(value, 5) || !has_text(value, "input", "propose") {
+    if !has_word(value, format, "propose", 5) {
         return Err(ReadFault::Shape);
     }
     let account = whole_at(value, "account").ok_or(ReadFault::Shape)?;
@@ -39,50 +49,50 @@ fn order(alloc: Global, value: &Value) -> Result<Order, ReadFault>
 }
 
 /// The transaction of an order to ask for cancellation.
-fn request_order(value: &Value) -> Option<TransactionId>
-    ensures { Reads (λ t. HasExactly (view value.now) ((codes "input", string (codes "request")) ∷ (codes "transaction", string (id_text t)) ∷ [])) result }
+fn request_order(value: &Value, format: RecordFormat) -> Option<TransactionId>
+    ensures { Reads (λ t. IsRecord format (view value.now) (Request t)) result }
 {
-    if !has_keys(value, 2) || !has_text(value, "input", "request") {
+    if !has_word(value, format, "request", 2) {
         return None;
     }
     id_at(value, "transaction")
 }
 
 /// The account of an order of that word.
-fn account_order(value: &Value, word: &str) -> Option<Number>
-    ensures { Reads (IsAccountOrder (view value.now) word.now) result }
+fn account_order(value: &Value, format: RecordFormat, word: &str) -> Option<Number>
+    ensures { Reads (IsAccountOrder format (view value.now) word.now) result }
 {
-    if !has_keys(value, 2) || !has_text(value, "input", word) {
+    if !has_word(value, format, word, 2) {
         return None;
     }
     short_at(value, "account")
 }
 
 /// The key of an acknowledgement.
-fn acknowledgement(value: &Value) -> Option<Number>
-    ensures { Reads (λ n. HasExactly (view value.now) ((codes "input", string (codes "ack")) ∷ (codes "key", whole n.value) ∷ [])) result }
+fn acknowledgement(value: &Value, format: RecordFormat) -> Option<Number>
+    ensures { Reads (λ n. IsRecord format (view value.now) (Ack n)) result }
 {
-    if !has_keys(value, 2) || !has_text(value, "input", "ack") {
+    if !has_word(value, format, "ack", 2) {
         return None;
     }
     short_at(value, "key")
 }
 
 /// The moment of a clean-up.
-fn clean_up(value: &Value) -> Option<Moment>
-    ensures { Reads (λ t. HasExactly (view value.now) ((codes "input", string (codes "clean_up")) ∷ (codes "moment", whole t.seconds) ∷ [])) result }
+fn clean_up(value: &Value, format: RecordFormat) -> Option<Moment>
+    ensures { Reads (λ t. IsRecord format (view value.now) (CleanUp t)) result }
 {
-    if !has_keys(value, 2) || !has_text(value, "input", "clean_up") {
+    if !has_word(value, format, "clean_up", 2) {
         return None;
     }
     moment_at(value, "moment")
 }
 
 /// The registry of an eligibility order, and whether it may take part.
-fn eligibility(value: &Value) -> Option<(Code, bool)>
-    ensures { Reads (λ p. HasExactly (view value.now) ((codes "input", string (codes "eligible")) ∷ (codes "may", boolean p.1) ∷ (codes "registry", string (code_text p.0)) ∷ [])) result }
+fn eligibility(value: &Value, format: RecordFormat) -> Option<(Code, bool)>
+    ensures { Reads (λ p. IsRecord format (view value.now) (Eligible p.0 p.1)) result }
 {
-    if !has_keys(value, 3) || !has_text(value, "input", "eligible") {
+    if !has_word(value, format, "eligible", 3) {
         return None;
     }
     let registry = code_at(value, "registry")?;
@@ -90,84 +100,127 @@ fn eligibility(value: &Value) -> Option<(Code, bool)>
     Some((registry, may))
 }
 
+/// Whether no number of the blocks is above the last one.
+fn are_up_to(blocks: &[Block], last: u64) -> bool
+    ensures { IsTrue result ↔ AllByRecursion (λ b. b.last ≤ last) (raws blocks.now) }
+{
+    blocks.iter().all(|block| block.raw.last <= last)
+}
+
+/// Whether the format has all units of the message.
+fn are_units_within(message: &Message, format: RecordFormat) -> bool
+    ensures { IsTrue result ↔ AreUnitsWithin format message.now }
+{
+    match message {
+        Message::Proposal(proposal) => are_up_to(proposal.content.units(), format.last_unit()),
+        _ => true,
+    }
+}
+
 /// The message at the key `message`.
-fn message_at(alloc: Global, value: &Value) -> Result<Message, ReadFault>
-    ensures { Finds (HasMessage (view value.now)) result }
+fn message_at(alloc: Global, value: &Value, format: RecordFormat) -> Result<Message, ReadFault>
+    ensures { Finds (HasMessage format (view value.now)) result }
 {
     let inner = value_at(value, "message").ok_or(ReadFault::Shape)?;
-    message(alloc, inner)
+    let message = message(alloc, inner)?;
+    if are_units_within(&message, format) {
+        Ok(message)
+    } else {
+        Err(ReadFault::Shape)
+    }
 }
 
 /// A message and the moment at which it came.
-fn received(alloc: Global, value: &Value) -> Result<(Message, Moment), ReadFault>
-    ensures { Finds (λ p. IsReceived (view value.now) p.0 p.1) result }
+fn received(
+    alloc: Global,
+    value: &Value,
+    format: RecordFormat,
+) -> Result<(Message, Moment), ReadFault>
+    ensures { Finds (λ p. IsRecord format (view value.now) (Received p.0 p.1)) result }
 {
-    if !has_keys(value, 3) || !has_text(value, "input", "received") {
+    if !has_word(value, format, "received", 3) {
         return Err(ReadFault::Shape);
     }
     let moment = moment_at(value, "moment").ok_or(ReadFault::Shape)?;
-    let message = message_at(alloc, value)?;
+    let message = message_at(alloc, value, format)?;
     Ok((message, moment))
 }
 
 /// An input that is no order to transfer units and no message.
-fn small_input(value: &Value) -> Option<Input>
+fn small_input(value: &Value, format: RecordFormat) -> Option<Input>
     requires propose { HasAt (view value.now) (codes "input") (string (codes "propose")) → ⊥ }
     requires received { HasAt (view value.now) (codes "input") (string (codes "received")) → ⊥ }
-    ensures { Reads (IsRecord (view value.now)) result }
+    ensures { Reads (IsRecord format (view value.now)) result }
 {
     if has_text(value, "input", "open") {
-        return Some(Input::OpenAccount(account_order(value, "open")?));
+        return Some(Input::OpenAccount(account_order(value, format, "open")?));
     }
     if has_text(value, "input", "close") {
-        return Some(Input::CloseAccount(account_order(value, "close")?));
+        return Some(Input::CloseAccount(account_order(value, format, "close")?));
     }
     if has_text(value, "input", "ack") {
-        return Some(Input::Ack(acknowledgement(value)?));
+        return Some(Input::Ack(acknowledgement(value, format)?));
     }
     if has_text(value, "input", "clean_up") {
-        return Some(Input::CleanUp(clean_up(value)?));
+        return Some(Input::CleanUp(clean_up(value, format)?));
     }
     if has_text(value, "input", "eligible") {
-        let (registry, may) = eligibility(value)?;
+        let (registry, may) = eligibility(value, format)?;
         return Some(Input::Eligible { registry, may });
     }
     if has_text(value, "input", "request") {
-        return Some(Input::Request(request_order(value)?));
+        return Some(Input::Request(request_order(value, format)?));
     }
     None
 }
 
 /// The input that the value writes.
-fn input(alloc: Global, value: &Value) -> Result<Input, ReadFault>
-    ensures { Finds (IsRecord (view value.now)) result }
+fn input(alloc: Global, value: &Value, format: RecordFormat) -> Result<Input, ReadFault>
+    ensures { Finds (IsRecord format (view value.now)) result }
 {
     if has_text(value, "input", "propose") {
-        let order = order(alloc, value)?;
+        let order = order(alloc, value, format)?;
         return Ok(Input::Propose(order));
     }
     if has_text(value, "input", "received") {
-        let (message, moment) = received(alloc, value)?;
+        let (message, moment) = received(alloc, value, format)?;
         return Ok(Input::Received { message, moment });
     }
-    small_input(value).ok_or(ReadFault::Shape)
+    small_input(value, format).ok_or(ReadFault::Shape)
 }
 
-/// The input that a record's text writes, in JSON (RFC 8259). `Shape`: the text is no JSON in UTF-8,
-/// or has a key or a value outside the grammar of records, or lacks one. `NoMemory`: an allocation
-/// was refused, which says nothing of the text.
-pub fn decode_input(alloc: Global, text: &[u8]) -> Result<Input, ReadFault>
-    ensures { Finds (IsRecordText text.now) result }
+/// The input that a record's text of that format writes.
+fn read_text(alloc: Global, text: &[u8], format: RecordFormat) -> Result<Input, ReadFault>
+    ensures { Finds (IsRecordText format text.now) result }
 {
     match Value::from_slice(alloc, text) {
-        Ok(value) => input(alloc, &value),
+        Ok(value) => input(alloc, &value, format),
         Err(e) if e.is_memory() => Err(ReadFault::NoMemory),
         Err(_) => Err(ReadFault::Shape),
     }
 }
 
-/// A text writes one input at most. So what `encode_input` writes of an input, `decode_input` reads
-/// as that input, unless an allocation is refused.
+/// The input that a record's text of format Two writes, in JSON (RFC 8259). `Shape`: the text is no
+/// JSON in UTF-8, or has a key or a value outside the grammar of records, or lacks one. `NoMemory`:
+/// an allocation was refused, which says nothing of the text.
+pub fn decode_input(alloc: Global, text: &[u8]) -> Result<Input, ReadFault>
+    ensures { Finds (IsRecordText Two text.now) result }
+{
+    read_text(alloc, text, RecordFormat::Two)
+}
+
+/// The input that a record's text of format One writes, in JSON (RFC 8259): without the key `v`, and
+/// with no unit above `LAST_UNIT_OF_FORMAT_ONE` in a message. Fails as `decode_input` does.
+pub fn decode_input_v1(alloc: Global, text: &[u8]) -> Result<Input, ReadFault>
+    ensures { Finds (IsRecordText One text.now) result }
+{
+    read_text(alloc, text, RecordFormat::One)
+}
+
+/// In each format a text writes one input at most. So what `encode_input` writes of an input,
+/// `decode_input` reads as that input, unless an allocation is refused. And no text writes an input
+/// in both formats.
 pub fn one_input()
-    ensures { (text : List ℕ) (i j : Input) → IsRecordText text i → IsRecordText text j → i ≡ j }
+    ensures one { (format : RecordFormat) (text : List ℕ) (i j : Input) → IsRecordText format text i → IsRecordText format text j → i ≡ j }
+    ensures apart { (text : List ℕ) (i j : Input) → IsRecordText One text i → IsRecordText Two text j → ⊥ }
 {}

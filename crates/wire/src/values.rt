@@ -24,6 +24,16 @@ pub fn has_text(value: &Value, key: &str, text: &str) -> bool
     }
 }
 
+/// Whether the object has that whole number at the key.
+pub fn has_number(value: &Value, key: &str, number: u64) -> bool
+    ensures { IsTrue result ↔ HasAt (view value.now) key.now (whole number) }
+{
+    match number_at(value, key) {
+        Some(found) => found == number,
+        None => false,
+    }
+}
+
 /// The node at that key.
 pub fn node_at(value: &Value, key: &str) -> Option<Node>
     ensures { Reads (λ n. HasAt (view value.now) key.now (string (node_text n))) result }

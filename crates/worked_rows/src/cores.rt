@@ -1,5 +1,6 @@
-//! Cores of the worked scheme, and rows of inputs by their texts.
+//! Cores of the worked scheme, and rows of what they are given.
 
+use crate::given::{Given, input_of};
 use crate::same::{assert_same, assert_same_in};
 use protocol::Outcome::{Late, Recorded, Refused, Repeat};
 use protocol::{NodeCore, Outcome, Stepped, replay};
@@ -7,7 +8,7 @@ use scheme::Scheme;
 use std::alloc::Global;
 use std::process::Abort;
 use units::{Node, Refusal};
-use wire::{Input, Message, decode_input, encode};
+use wire::{Input, Message, encode};
 
 /// The room of the worked scheme's journals.
 pub const ROOM: &str = "1000";
@@ -67,19 +68,19 @@ fn step<C: Seen>(rt: &impl Abort, core: &mut C, input: &Input) -> Outcome {
     outcome(core.step(input))
 }
 
-/// What comes of a step by the input of that text.
-fn outcome_of<C: Seen>(rt: &impl Abort, alloc: Global, core: &mut C, text: &str) -> Outcome {
-    let input = decode_input(alloc, text.as_bytes()).expect(rt, "an input");
+/// What comes of a step by what is given.
+fn outcome_of<C: Seen>(rt: &impl Abort, alloc: Global, core: &mut C, given: Given) -> Outcome {
+    let input = input_of(rt, alloc, given);
     let outcome = step(rt, core, &input);
     drop(input);
     outcome
 }
 
-/// Steps the core by each input, and asserts what comes of it.
-pub fn walk<C: Seen>(rt: &impl Abort, alloc: Global, core: &mut C, row: &[(&str, Outcome)]) {
-    for (text, expected) in row {
-        let outcome = outcome_of(rt, alloc, core, text);
-        assert_same_in(rt, outcome, *expected, text);
+/// Gives the core what stands in the row, one after the other, and asserts what comes of each.
+pub fn walk<C: Seen>(rt: &impl Abort, alloc: Global, core: &mut C, row: &[(Given, Outcome)]) {
+    for (given, expected) in row {
+        let outcome = outcome_of(rt, alloc, core, *given);
+        assert_same_in(rt, outcome, *expected, *given);
     }
 }
 

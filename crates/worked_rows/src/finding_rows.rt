@@ -1,26 +1,31 @@
 use crate::cores::{ROOM, assert_sent, walk};
+use crate::given::Given::{self, Event, Message};
 use crate::registries::{assert_none_held, registry};
 use crate::same::assert_same;
 use protocol::Outcome;
 use protocol::Outcome::{Late, Recorded, Refused, Repeat};
 
-const CLOSE_7: &str = r#"{"account":7,"input":"close"}"#;
+const CLOSE_7: Given = Event("close JP 7");
 
-const CLOSE_8: &str = r#"{"account":8,"input":"close"}"#;
+const CLOSE_8: Given = Event("close JP 8");
 
-const PROPOSAL: &str =
-    r#"{"input":"received","message":{"account":1,"call":"AcceptProposal","from":"ITL","status":"Checked","to":"JP","to_account":7,"to_registry":"JP","transaction":"NZ1","units":["NZ:1:1-10:AAU"]},"moment":1335830400}"#;
+const PROPOSAL: Given = Message(
+    r#"{"account":1,"call":"AcceptProposal","from":"ITL","status":"Checked","to":"JP","to_account":7,"to_registry":"JP","transaction":"NZ1","units":["NZ:1:1-10:AAU"]}"#,
+);
 
-const SECOND: &str =
-    r#"{"input":"received","message":{"account":1,"call":"AcceptProposal","from":"ITL","status":"Checked","to":"JP","to_account":7,"to_registry":"JP","transaction":"NZ2","units":["NZ:1:1-10:AAU"]},"moment":1335830400}"#;
+const SECOND: Given = Message(
+    r#"{"account":1,"call":"AcceptProposal","from":"ITL","status":"Checked","to":"JP","to_account":7,"to_registry":"JP","transaction":"NZ2","units":["NZ:1:1-10:AAU"]}"#,
+);
 
-const COMPLETED: &str =
-    r#"{"input":"received","message":{"call":"AcceptNotification","codes":[],"from":"ITL","status":"Completed","to":"JP","transaction":"NZ1"},"moment":1335830400}"#;
+const COMPLETED: Given = Message(
+    r#"{"call":"AcceptNotification","codes":[],"from":"ITL","status":"Completed","to":"JP","transaction":"NZ1"}"#,
+);
 
-const CANCELLED: &str =
-    r#"{"input":"received","message":{"call":"AcceptNotification","codes":[],"from":"ITL","status":"Cancelled","to":"JP","transaction":"NZ1"},"moment":1335830400}"#;
+const CANCELLED: Given = Message(
+    r#"{"call":"AcceptNotification","codes":[],"from":"ITL","status":"Cancelled","to":"JP","transaction":"NZ1"}"#,
+);
 
-const TRANSFER_IN: &[(&str, Outcome)] = &[
+const TRANSFER_IN: &[(Given, Outcome)] = &[
     (CLOSE_8, Recorded(0)),
     (PROPOSAL, Recorded(1)),
     (PROPOSAL, Repeat),
@@ -30,25 +35,35 @@ const TRANSFER_IN: &[(&str, Outcome)] = &[
     (CLOSE_7, Refused(112)),
 ];
 
-const PROPOSALS_WITH_FINDINGS: &[(&str, Outcome)] = &[
+const PROPOSALS_WITH_FINDINGS: &[(Given, Outcome)] = &[
     (
-        r#"{"input":"received","message":{"account":1,"call":"AcceptProposal","from":"ITL","status":"Checked","to":"JP","to_account":9,"to_registry":"JP","transaction":"NZ2","units":["NZ:1:11-11:AAU"]},"moment":1335830400}"#,
+        Message(
+            r#"{"account":1,"call":"AcceptProposal","from":"ITL","status":"Checked","to":"JP","to_account":9,"to_registry":"JP","transaction":"NZ2","units":["NZ:1:11-11:AAU"]}"#,
+        ),
         Recorded(3),
     ),
     (
-        r#"{"input":"received","message":{"account":1,"call":"AcceptProposal","from":"ITL","status":"Checked","to":"JP","to_account":8,"to_registry":"JP","transaction":"NZ3","units":["NZ:1:11-11:AAU"]},"moment":1335830400}"#,
+        Message(
+            r#"{"account":1,"call":"AcceptProposal","from":"ITL","status":"Checked","to":"JP","to_account":8,"to_registry":"JP","transaction":"NZ3","units":["NZ:1:11-11:AAU"]}"#,
+        ),
         Recorded(4),
     ),
     (
-        r#"{"input":"received","message":{"account":1,"call":"AcceptProposal","from":"ITL","status":"Checked","to":"JP","to_account":7,"to_registry":"JP","transaction":"NZ4","units":["NZ:1:10-11:AAU"]},"moment":1335830400}"#,
+        Message(
+            r#"{"account":1,"call":"AcceptProposal","from":"ITL","status":"Checked","to":"JP","to_account":7,"to_registry":"JP","transaction":"NZ4","units":["NZ:1:10-11:AAU"]}"#,
+        ),
         Recorded(5),
     ),
     (
-        r#"{"input":"received","message":{"account":1,"call":"AcceptProposal","from":"ITL","status":"Checked","to":"JP","to_account":7,"to_registry":"JP","transaction":"NZ5","units":["NZ:1:11-11:RMU"]},"moment":1335830400}"#,
+        Message(
+            r#"{"account":1,"call":"AcceptProposal","from":"ITL","status":"Checked","to":"JP","to_account":7,"to_registry":"JP","transaction":"NZ5","units":["NZ:1:11-11:RMU"]}"#,
+        ),
         Recorded(6),
     ),
     (
-        r#"{"input":"received","message":{"account":1,"call":"AcceptProposal","from":"ITL","status":"Checked","to":"JP","to_account":7,"to_registry":"JP","transaction":"NZ6","units":["NZ:1:20-30:AAU","NZ:1:30-40:CER"]},"moment":1335830400}"#,
+        Message(
+            r#"{"account":1,"call":"AcceptProposal","from":"ITL","status":"Checked","to":"JP","to_account":7,"to_registry":"JP","transaction":"NZ6","units":["NZ:1:20-30:AAU","NZ:1:30-40:CER"]}"#,
+        ),
         Refused(44),
     ),
 ];
@@ -71,38 +86,54 @@ fn an_acquirer_finds_each_cause(rt: HostRuntime) {
     drop(jp);
 }
 
-const REFUSED_MESSAGES: &[(&str, Outcome)] = &[
+const REFUSED_MESSAGES: &[(Given, Outcome)] = &[
     (PROPOSAL, Recorded(0)),
     (
-        r#"{"input":"received","message":{"call":"AcceptNotification","codes":[],"from":"NZ","status":"Completed","to":"NZ","transaction":"NZ9"},"moment":1335830400}"#,
+        Message(
+            r#"{"call":"AcceptNotification","codes":[],"from":"NZ","status":"Completed","to":"NZ","transaction":"NZ9"}"#,
+        ),
         Refused(42),
     ),
     (
-        r#"{"input":"received","message":{"call":"AcceptNotification","codes":[],"from":"NZ","status":"Completed","to":"JP","transaction":"NZ9"},"moment":1335830400}"#,
+        Message(
+            r#"{"call":"AcceptNotification","codes":[],"from":"NZ","status":"Completed","to":"JP","transaction":"NZ9"}"#,
+        ),
         Refused(43),
     ),
     (
-        r#"{"input":"received","message":{"call":"AcceptNotification","codes":[],"from":"ITL","status":"Completed","to":"JP","transaction":"NZ9"},"moment":1335830400}"#,
+        Message(
+            r#"{"call":"AcceptNotification","codes":[],"from":"ITL","status":"Completed","to":"JP","transaction":"NZ9"}"#,
+        ),
         Refused(47),
     ),
     (
-        r#"{"input":"received","message":{"account":1,"call":"AcceptProposal","from":"ITL","status":"Checked","to":"JP","to_account":7,"to_registry":"NZ","transaction":"NZ1","units":["NZ:1:1-9:AAU"]},"moment":1335830400}"#,
+        Message(
+            r#"{"account":1,"call":"AcceptProposal","from":"ITL","status":"Checked","to":"JP","to_account":7,"to_registry":"NZ","transaction":"NZ1","units":["NZ:1:1-9:AAU"]}"#,
+        ),
         Refused(44),
     ),
     (
-        r#"{"input":"received","message":{"account":1,"call":"AcceptProposal","from":"ITL","status":"Checked","to":"JP","to_account":7,"to_registry":"JP","transaction":"JP1","units":["JP:1:1-1:AAU"]},"moment":1335830400}"#,
+        Message(
+            r#"{"account":1,"call":"AcceptProposal","from":"ITL","status":"Checked","to":"JP","to_account":7,"to_registry":"JP","transaction":"JP1","units":["JP:1:1-1:AAU"]}"#,
+        ),
         Refused(44),
     ),
     (
-        r#"{"input":"received","message":{"account":1,"call":"AcceptProposal","from":"ITL","status":"Proposed","to":"JP","to_account":7,"to_registry":"JP","transaction":"NZ1","units":["NZ:1:1-9:AAU"]},"moment":1335830400}"#,
+        Message(
+            r#"{"account":1,"call":"AcceptProposal","from":"ITL","status":"Proposed","to":"JP","to_account":7,"to_registry":"JP","transaction":"NZ1","units":["NZ:1:1-9:AAU"]}"#,
+        ),
         Refused(45),
     ),
     (
-        r#"{"input":"received","message":{"account":1,"call":"AcceptProposal","from":"ITL","status":"Proposed","to":"JP","to_account":7,"to_registry":"JP","transaction":"NZ1","units":["NZ:1:1-10:AAU"]},"moment":1335830400}"#,
+        Message(
+            r#"{"account":1,"call":"AcceptProposal","from":"ITL","status":"Proposed","to":"JP","to_account":7,"to_registry":"JP","transaction":"NZ1","units":["NZ:1:1-10:AAU"]}"#,
+        ),
         Refused(46),
     ),
     (
-        r#"{"input":"received","message":{"call":"AcceptNotification","codes":[],"from":"ITL","status":"Accepted","to":"JP","transaction":"NZ1"},"moment":1335830400}"#,
+        Message(
+            r#"{"call":"AcceptNotification","codes":[],"from":"ITL","status":"Accepted","to":"JP","transaction":"NZ1"}"#,
+        ),
         Refused(46),
     ),
 ];
@@ -115,14 +146,16 @@ fn messages_are_refused_by_their_first_cause(rt: HostRuntime) {
     drop(jp);
 }
 
-const CANCELLED_TRANSFERS: &[(&str, Outcome)] = &[
+const CANCELLED_TRANSFERS: &[(Given, Outcome)] = &[
     (CANCELLED, Recorded(0)),
     (CANCELLED, Repeat),
     (PROPOSAL, Late),
     (COMPLETED, Refused(46)),
     (SECOND, Recorded(1)),
     (
-        r#"{"input":"received","message":{"call":"AcceptNotification","codes":[],"from":"ITL","status":"Cancelled","to":"JP","transaction":"NZ2"},"moment":1335830400}"#,
+        Message(
+            r#"{"call":"AcceptNotification","codes":[],"from":"ITL","status":"Cancelled","to":"JP","transaction":"NZ2"}"#,
+        ),
         Recorded(2),
     ),
     (CLOSE_7, Recorded(3)),

@@ -10,6 +10,8 @@ mod cores;
 #[cfg(test)]
 mod finding_rows;
 #[cfg(test)]
+mod given;
+#[cfg(test)]
 mod line_rows;
 #[cfg(test)]
 mod log_rows;

@@ -1,4 +1,6 @@
 use crate::cores::{ROOM, assert_sent, scheme, walk};
+use crate::given::Given::{self, Event, LaterMessage, Message};
+use crate::given::input_of;
 use crate::logs::{assert_owner, log, opening_register};
 use crate::same::assert_same;
 use checks::log_findings;
@@ -9,45 +11,59 @@ use status::Content;
 use std::alloc::Global;
 use std::process::Abort;
 use units::{Block, Code, Items};
-use wire::{LogCodes, decode_input};
+use wire::LogCodes;
 
-const PROPOSAL: &str =
-    r#"{"input":"received","message":{"account":1,"call":"AcceptProposal","from":"NZ","status":"Proposed","to":"ITL","to_account":7,"to_registry":"JP","transaction":"NZ1","units":["NZ:1:1-100:AAU"]},"moment":1335830400}"#;
+const PROPOSAL: Given = Message(
+    r#"{"account":1,"call":"AcceptProposal","from":"NZ","status":"Proposed","to":"ITL","to_account":7,"to_registry":"JP","transaction":"NZ1","units":["NZ:1:1-100:AAU"]}"#,
+);
 
-const ACCEPTED: &str =
-    r#"{"input":"received","message":{"call":"AcceptNotification","codes":[],"from":"JP","status":"Accepted","to":"ITL","transaction":"NZ1"},"moment":1335830400}"#;
+const ACCEPTED: Given = Message(
+    r#"{"call":"AcceptNotification","codes":[],"from":"JP","status":"Accepted","to":"ITL","transaction":"NZ1"}"#,
+);
 
-const COMPLETED: &str =
-    r#"{"input":"received","message":{"call":"AcceptNotification","codes":[],"from":"NZ","status":"Completed","to":"ITL","transaction":"NZ1"},"moment":1335830400}"#;
+const COMPLETED: Given = Message(
+    r#"{"call":"AcceptNotification","codes":[],"from":"NZ","status":"Completed","to":"ITL","transaction":"NZ1"}"#,
+);
 
-const REQUEST: &str =
-    r#"{"input":"received","message":{"call":"RequestCancellation","from":"NZ","to":"ITL","transaction":"NZ1"},"moment":1335830400}"#;
+const REQUEST: Given = Message(
+    r#"{"call":"RequestCancellation","from":"NZ","to":"ITL","transaction":"NZ1"}"#,
+);
 
-const REFUSALS: &[(&str, Outcome)] = &[
+const REFUSALS: &[(Given, Outcome)] = &[
     (ACCEPTED, Refused(47)),
     (
-        r#"{"input":"received","message":{"account":1,"call":"AcceptProposal","from":"JP","status":"Proposed","to":"ITL","to_account":7,"to_registry":"JP","transaction":"NZ1","units":["NZ:1:1-100:AAU"]},"moment":1335830400}"#,
+        Message(
+            r#"{"account":1,"call":"AcceptProposal","from":"JP","status":"Proposed","to":"ITL","to_account":7,"to_registry":"JP","transaction":"NZ1","units":["NZ:1:1-100:AAU"]}"#,
+        ),
         Refused(44),
     ),
     (
-        r#"{"input":"received","message":{"account":1,"call":"AcceptProposal","from":"NZ","status":"Proposed","to":"JP","to_account":7,"to_registry":"JP","transaction":"NZ1","units":["NZ:1:1-100:AAU"]},"moment":1335830400}"#,
+        Message(
+            r#"{"account":1,"call":"AcceptProposal","from":"NZ","status":"Proposed","to":"JP","to_account":7,"to_registry":"JP","transaction":"NZ1","units":["NZ:1:1-100:AAU"]}"#,
+        ),
         Refused(42),
     ),
     (
-        r#"{"input":"received","message":{"account":1,"call":"AcceptProposal","from":"AU","status":"Proposed","to":"ITL","to_account":7,"to_registry":"JP","transaction":"AU1","units":["NZ:1:1-100:AAU"]},"moment":1335830400}"#,
+        Message(
+            r#"{"account":1,"call":"AcceptProposal","from":"AU","status":"Proposed","to":"ITL","to_account":7,"to_registry":"JP","transaction":"AU1","units":["NZ:1:1-100:AAU"]}"#,
+        ),
         Refused(43),
     ),
     (PROPOSAL, Recorded(0)),
     (PROPOSAL, Repeat),
     (
-        r#"{"input":"received","message":{"account":1,"call":"AcceptProposal","from":"NZ","status":"Proposed","to":"ITL","to_account":7,"to_registry":"JP","transaction":"NZ1","units":["NZ:1:1-99:AAU"]},"moment":1335830400}"#,
+        Message(
+            r#"{"account":1,"call":"AcceptProposal","from":"NZ","status":"Proposed","to":"ITL","to_account":7,"to_registry":"JP","transaction":"NZ1","units":["NZ:1:1-99:AAU"]}"#,
+        ),
         Refused(45),
     ),
     (
-        r#"{"input":"received","message":{"call":"AcceptNotification","codes":[204],"from":"JP","status":"Terminated","to":"ITL","transaction":"NZ1"},"moment":1335830400}"#,
+        Message(
+            r#"{"call":"AcceptNotification","codes":[204],"from":"JP","status":"Terminated","to":"ITL","transaction":"NZ1"}"#,
+        ),
         Refused(46),
     ),
-    (r#"{"account":1,"input":"open"}"#, Refused(46)),
+    (Event("open ITL 1"), Refused(46)),
 ];
 
 #[test]
@@ -60,8 +76,9 @@ fn messages_are_refused_in_order(rt: HostRuntime) {
     drop(log);
 }
 
-const FROM_JP: &str =
-    r#"{"input":"received","message":{"account":7,"call":"AcceptProposal","from":"JP","status":"Proposed","to":"ITL","to_account":7,"to_registry":"JP","transaction":"JP1","units":["NZ:1:100-101:CER"]},"moment":1335830400}"#;
+const FROM_JP: Given = Message(
+    r#"{"account":7,"call":"AcceptProposal","from":"JP","status":"Proposed","to":"ITL","to_account":7,"to_registry":"JP","transaction":"JP1","units":["NZ:1:100-101:CER"]}"#,
+);
 
 #[test]
 fn findings_terminate_a_transfer(rt: HostRuntime) {
@@ -113,21 +130,21 @@ fn a_proposal_has_all_its_findings(rt: HostRuntime) {
     drop(codes);
 }
 
-const TRANSFER: &[(&str, Outcome)] = &[
+const TRANSFER: &[(Given, Outcome)] = &[
     (PROPOSAL, Recorded(0)),
     (ACCEPTED, Recorded(1)),
     (REQUEST, Late),
-    (r#"{"input":"clean_up","moment":1335916800}"#, Repeat),
+    (Event("clean-up 2012-05-02T00:00:00Z"), Repeat),
     (COMPLETED, Recorded(2)),
     (COMPLETED, Repeat),
     (ACCEPTED, Repeat),
-    (r#"{"input":"ack","key":0}"#, Recorded(3)),
-    (r#"{"input":"ack","key":3}"#, Refused(46)),
+    (Event("ack ITL 0"), Recorded(3)),
+    (Event("ack ITL 3"), Refused(46)),
 ];
 
 /// Asserts that the log doesn't record that at that place.
-fn assert_no_record(rt: &impl Abort, alloc: Global, log: &mut LogCore, text: &str, place: usize) {
-    let record = [decode_input(alloc, text.as_bytes()).expect(rt, "an input")];
+fn assert_no_record(rt: &impl Abort, alloc: Global, log: &mut LogCore, given: Given, place: usize) {
+    let record = [input_of(rt, alloc, given)];
     assert_same(
         rt,
         resume(log, &record),
@@ -147,12 +164,12 @@ fn a_completed_transfer_moves_the_book(rt: HostRuntime) {
     drop(log);
 }
 
-const CLEANED: &[(&str, Outcome)] = &[
+const CLEANED: &[(Given, Outcome)] = &[
     (PROPOSAL, Recorded(0)),
-    (r#"{"input":"clean_up","moment":1335916799}"#, Repeat),
-    (r#"{"input":"clean_up","moment":1335916800}"#, Recorded(1)),
+    (Event("clean-up 2012-05-01T23:59:59Z"), Repeat),
+    (Event("clean-up 2012-05-02T00:00:00Z"), Recorded(1)),
     (ACCEPTED, Late),
-    (r#"{"input":"clean_up","moment":1335916801}"#, Repeat),
+    (Event("clean-up 2012-05-02T00:00:01Z"), Repeat),
 ];
 
 #[test]
@@ -174,16 +191,20 @@ fn a_clean_up_cancels_after_a_day(rt: HostRuntime) {
     drop(log);
 }
 
-const TWO_CLEANED: &[(&str, Outcome)] = &[
+const TWO_CLEANED: &[(Given, Outcome)] = &[
     (
-        r#"{"input":"received","message":{"account":1,"call":"AcceptProposal","from":"NZ","status":"Proposed","to":"ITL","to_account":7,"to_registry":"JP","transaction":"NZ10","units":["NZ:1:1-10:AAU"]},"moment":1335830400}"#,
+        Message(
+            r#"{"account":1,"call":"AcceptProposal","from":"NZ","status":"Proposed","to":"ITL","to_account":7,"to_registry":"JP","transaction":"NZ10","units":["NZ:1:1-10:AAU"]}"#,
+        ),
         Recorded(0),
     ),
     (
-        r#"{"input":"received","message":{"account":1,"call":"AcceptProposal","from":"NZ","status":"Proposed","to":"ITL","to_account":7,"to_registry":"JP","transaction":"NZ2","units":["NZ:1:11-20:AAU"]},"moment":1335830401}"#,
+        LaterMessage(
+            r#"{"account":1,"call":"AcceptProposal","from":"NZ","status":"Proposed","to":"ITL","to_account":7,"to_registry":"JP","transaction":"NZ2","units":["NZ:1:11-20:AAU"]}"#,
+        ),
         Recorded(1),
     ),
-    (r#"{"input":"clean_up","moment":1335916801}"#, Recorded(2)),
+    (Event("clean-up 2012-05-02T00:00:01Z"), Recorded(2)),
 ];
 
 #[test]
@@ -206,22 +227,13 @@ fn a_clean_up_goes_by_code_and_number(rt: HostRuntime) {
     drop(log);
 }
 
-const REQUESTED: &[(&str, Outcome)] = &[
+const REQUESTED: &[(Given, Outcome)] = &[
     (REQUEST, Recorded(0)),
     (PROPOSAL, Late),
     (REQUEST, Late),
-    (
-        r#"{"input":"eligible","may":false,"registry":"NZ"}"#,
-        Recorded(1),
-    ),
-    (
-        r#"{"input":"eligible","may":false,"registry":"NZ"}"#,
-        Repeat,
-    ),
-    (
-        r#"{"input":"eligible","may":false,"registry":"AU"}"#,
-        Refused(114),
-    ),
+    (Event("eligible NZ no"), Recorded(1)),
+    (Event("eligible NZ no"), Repeat),
+    (Event("eligible AU no"), Refused(114)),
 ];
 
 #[test]

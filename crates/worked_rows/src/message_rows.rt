@@ -70,7 +70,7 @@ fn request(rt: &impl Abort, from: Node) -> Message {
 /// A content for that registry of a hundred units and of all but the first four of another registry.
 fn content(rt: &impl Abort, alloc: Global, acquirer: Code) -> Content {
     let mut blocks = Vec::new(alloc);
-    for text in ["NZ:1:1-100:AAU", "CH:2:5-999999999999:lCER"] {
+    for text in ["NZ:1:1-100:AAU", "CH:2:5-999999999999999:lCER"] {
         let block = Block::read(text).expect(rt, "a block");
         blocks.push(block).expect(rt, "memory");
     }
@@ -136,7 +136,7 @@ const TERMINATED: &str =
     r#"{"call":"AcceptNotification","codes":[207],"from":"ITL","status":"Terminated","to":"NZ","transaction":"NZ1"}"#;
 
 const CHECKED: &str =
-    r#"{"account":999999999,"call":"AcceptProposal","from":"ITL","status":"Checked","to":"JP","to_account":7,"to_registry":"JP","transaction":"NZ999999","units":["NZ:1:1-100:AAU","CH:2:5-999999999999:lCER"]}"#;
+    r#"{"account":999999999,"call":"AcceptProposal","from":"ITL","status":"Checked","to":"JP","to_account":7,"to_registry":"JP","transaction":"NZ999999","units":["NZ:1:1-100:AAU","CH:2:5-999999999999999:lCER"]}"#;
 
 #[test]
 fn messages_built_from_parts(rt: HostRuntime) {
@@ -211,7 +211,7 @@ const WRONG_IN_PROPOSAL: &[(&str, &str)] = &[
     (r#""NZ:1:1-100:AAU""#, r#""NZ:1:1-100:aau""#),
     (r#""NZ:1:1-100:AAU""#, r#""NZ:1:1-100:AAU ""#),
     (r#""NZ:1:1-100:AAU""#, r#""NZ:1:1-100:AAU",1"#),
-    (r#""NZ:1:1-100:AAU""#, r#""NZ:1:1-1000000000000:AAU""#),
+    (r#""NZ:1:1-100:AAU""#, r#""NZ:1:1-1000000000000000:AAU""#),
     (r#""units":["#, r#""codes":["#),
     (r#""units":["#, r#""codes":[],"units":["#),
     (r#""to_account":7"#, r#""to_account":18446744073709551623"#),
@@ -385,7 +385,7 @@ const RIGHT_IN_PROPOSAL: &[(&str, &str)] = &[
     (r#""NZ1""#, r#""ZZ999999""#),
     (
         r#""NZ:1:1-100:AAU""#,
-        r#""NZ:2:999999999999-999999999999:tCER""#,
+        r#""NZ:2:999999999999999-999999999999999:tCER""#,
     ),
     (r#""NZ:1:1-100:AAU""#, SIXTEEN),
 ];

@@ -3,46 +3,59 @@ use status::{Moment, Order, TransactionId};
 use std::alloc::Global;
 use std::process::Abort;
 use units::{Code, Items, RawBlock};
-use wire::{Input, Number, ReadFault, decode_input, encode_input};
+use wire::{Input, Number, ReadFault, decode_input, decode_input_v1, encode_input};
 
 const PROPOSE: &str =
-    r#"{"account":1,"input":"propose","to_account":7,"to_registry":"JP","units":["NZ:1:1-100:AAU"]}"#;
+    r#"{"account":1,"input":"propose","to_account":7,"to_registry":"JP","units":["NZ:1:1-100:AAU"],"v":2}"#;
 
-const CLOSE: &str = r#"{"account":8,"input":"close"}"#;
+const CLOSE: &str = r#"{"account":8,"input":"close","v":2}"#;
 
-const OPEN: &str = r#"{"account":8,"input":"open"}"#;
+const OPEN: &str = r#"{"account":8,"input":"open","v":2}"#;
 
-const ACK: &str = r#"{"input":"ack","key":0}"#;
+const ACK: &str = r#"{"input":"ack","key":0,"v":2}"#;
 
-const CLEAN_UP: &str = r#"{"input":"clean_up","moment":1335916800}"#;
+const CLEAN_UP: &str = r#"{"input":"clean_up","moment":1335916800,"v":2}"#;
 
-const ELIGIBLE: &str = r#"{"input":"eligible","may":false,"registry":"NZ"}"#;
+const ELIGIBLE: &str = r#"{"input":"eligible","may":false,"registry":"NZ","v":2}"#;
 
-const REQUEST: &str = r#"{"input":"request","transaction":"NZ1"}"#;
+const REQUEST: &str = r#"{"input":"request","transaction":"NZ1","v":2}"#;
 
 const RECORDS: [&str; 9] = [
     PROPOSE,
-    r#"{"input":"received","message":{"call":"AcceptNotification","codes":[],"from":"ITL","status":"Accepted","to":"NZ","transaction":"NZ1"},"moment":1335830400}"#,
+    r#"{"input":"received","message":{"call":"AcceptNotification","codes":[],"from":"ITL","status":"Accepted","to":"NZ","transaction":"NZ1"},"moment":1335830400,"v":2}"#,
     CLOSE,
     OPEN,
     ACK,
     CLEAN_UP,
     ELIGIBLE,
     REQUEST,
+    r#"{"input":"received","message":{"call":"RequestCancellation","from":"NZ","to":"ITL","transaction":"NZ1"},"moment":1335830400,"v":2}"#,
+];
+
+/// The same records in the first format, in the order of `RECORDS`.
+const FIRST_FORMAT: [&str; 9] = [
+    r#"{"account":1,"input":"propose","to_account":7,"to_registry":"JP","units":["NZ:1:1-100:AAU"]}"#,
+    r#"{"input":"received","message":{"call":"AcceptNotification","codes":[],"from":"ITL","status":"Accepted","to":"NZ","transaction":"NZ1"},"moment":1335830400}"#,
+    r#"{"account":8,"input":"close"}"#,
+    r#"{"account":8,"input":"open"}"#,
+    r#"{"input":"ack","key":0}"#,
+    r#"{"input":"clean_up","moment":1335916800}"#,
+    r#"{"input":"eligible","may":false,"registry":"NZ"}"#,
+    r#"{"input":"request","transaction":"NZ1"}"#,
     r#"{"input":"received","message":{"call":"RequestCancellation","from":"NZ","to":"ITL","transaction":"NZ1"},"moment":1335830400}"#,
 ];
 
 /// Records of orders that no node acts on, and the last numbers of the others.
 const KEPT: &[&str] = &[
-    r#"{"account":1,"input":"propose","to_account":7,"to_registry":"JP","units":[]}"#,
-    r#"{"account":1,"input":"propose","to_account":7,"to_registry":"JP","units":["NZ:1:1-1:AAU","NZ:1:1-1:AAU","NZ:1:1-1:AAU","NZ:1:1-1:AAU","NZ:1:1-1:AAU","NZ:1:1-1:AAU","NZ:1:1-1:AAU","NZ:1:1-1:AAU","NZ:1:1-1:AAU","NZ:1:1-1:AAU","NZ:1:1-1:AAU","NZ:1:1-1:AAU","NZ:1:1-1:AAU","NZ:1:1-1:AAU","NZ:1:1-1:AAU","NZ:1:1-1:AAU","NZ:1:1-1:AAU"]}"#,
-    r#"{"account":0,"input":"propose","to_account":7,"to_registry":"JP","units":["NZ:1:6-5:AAU"]}"#,
-    r#"{"account":999999999999999999,"input":"propose","to_account":0,"to_registry":"JP","units":["NZ:2:0-999999999999999999:lCER"]}"#,
-    r#"{"account":0,"input":"close"}"#,
-    r#"{"account":999999999999999999,"input":"open"}"#,
-    r#"{"input":"ack","key":999999999999999999}"#,
-    r#"{"input":"clean_up","moment":253370764799}"#,
-    r#"{"input":"eligible","may":true,"registry":"JP"}"#,
+    r#"{"account":1,"input":"propose","to_account":7,"to_registry":"JP","units":[],"v":2}"#,
+    r#"{"account":1,"input":"propose","to_account":7,"to_registry":"JP","units":["NZ:1:1-1:AAU","NZ:1:1-1:AAU","NZ:1:1-1:AAU","NZ:1:1-1:AAU","NZ:1:1-1:AAU","NZ:1:1-1:AAU","NZ:1:1-1:AAU","NZ:1:1-1:AAU","NZ:1:1-1:AAU","NZ:1:1-1:AAU","NZ:1:1-1:AAU","NZ:1:1-1:AAU","NZ:1:1-1:AAU","NZ:1:1-1:AAU","NZ:1:1-1:AAU","NZ:1:1-1:AAU","NZ:1:1-1:AAU"],"v":2}"#,
+    r#"{"account":0,"input":"propose","to_account":7,"to_registry":"JP","units":["NZ:1:6-5:AAU"],"v":2}"#,
+    r#"{"account":999999999999999999,"input":"propose","to_account":0,"to_registry":"JP","units":["NZ:2:0-999999999999999999:lCER"],"v":2}"#,
+    r#"{"account":0,"input":"close","v":2}"#,
+    r#"{"account":999999999999999999,"input":"open","v":2}"#,
+    r#"{"input":"ack","key":999999999999999999,"v":2}"#,
+    r#"{"input":"clean_up","moment":253370764799,"v":2}"#,
+    r#"{"input":"eligible","may":true,"registry":"JP","v":2}"#,
 ];
 
 /// The record is written as that text.
@@ -126,35 +139,44 @@ const NO_RECORDS: &[&str] = &[
     "",
     "[]",
     "{}",
-    r#"{"account":8}"#,
-    r#"{"account":8,"input":"split"}"#,
-    r#"{"account":8,"input":"Open"}"#,
-    r#"{"account":8,"input":1}"#,
-    r#"{"account":8,"input":"open","x":1}"#,
-    r#"{"account":8,"input":"open"},"#,
-    r#"{"account":"8","input":"close"}"#,
-    r#"{"account":1000000000000000000,"input":"close"}"#,
-    r#"{"input":"ack"}"#,
-    r#"{"input":"ack","key":-1}"#,
-    r#"{"input":"ack","key":1.0}"#,
-    r#"{"input":"ack","key":1000000000000000000}"#,
-    r#"{"input":"ack","key":18446744073709551616}"#,
-    r#"{"input":"clean_up","moment":253370764800}"#,
-    r#"{"input":"clean_up","key":0}"#,
-    r#"{"input":"eligible","may":1,"registry":"NZ"}"#,
-    r#"{"input":"eligible","may":"true","registry":"NZ"}"#,
-    r#"{"input":"eligible","may":true,"registry":"ITL"}"#,
-    r#"{"input":"received","message":{"call":"AcceptNotification","codes":[],"from":"ITL","status":"Checked","to":"NZ","transaction":"NZ1"},"moment":1335830400}"#,
-    r#"{"input":"received","message":{"call":"AcceptNotification","codes":[],"from":"ITL","status":"Accepted","to":"NZ","transaction":"NZ1"},"moment":253370764800}"#,
-    r#"{"input":"received","message":{"call":"AcceptNotification","codes":[],"from":"ITL","status":"Accepted","to":"NZ","transaction":"NZ1"}}"#,
-    r#"{"input":"received","moment":1335830400}"#,
-    r#"{"input":"request"}"#,
-    r#"{"input":"request","transaction":"NZ0"}"#,
-    r#"{"input":"request","transaction":"NZ1","x":1}"#,
-    r#"{"account":1,"input":"propose","to_account":7,"to_registry":"JP","units":["NZ:3:1-5:AAU"]}"#,
-    r#"{"account":1,"input":"propose","to_account":7,"to_registry":"JP","units":["NZ:1:1-1000000000000000000:AAU"]}"#,
-    r#"{"account":1000000000000000000,"input":"propose","to_account":7,"to_registry":"JP","units":[]}"#,
-    r#"{"account":1,"input":"propose","to_account":7,"to_registry":"JP"}"#,
+    r#"{"account":8,"v":2}"#,
+    r#"{"account":8,"input":"split","v":2}"#,
+    r#"{"account":8,"input":"Open","v":2}"#,
+    r#"{"account":8,"input":1,"v":2}"#,
+    r#"{"account":8,"input":"open","x":1,"v":2}"#,
+    r#"{"account":8,"input":"open","v":2},"#,
+    r#"{"account":"8","input":"close","v":2}"#,
+    r#"{"account":1000000000000000000,"input":"close","v":2}"#,
+    r#"{"input":"ack","v":2}"#,
+    r#"{"input":"ack","key":-1,"v":2}"#,
+    r#"{"input":"ack","key":1.0,"v":2}"#,
+    r#"{"input":"ack","key":1000000000000000000,"v":2}"#,
+    r#"{"input":"ack","key":18446744073709551616,"v":2}"#,
+    r#"{"input":"clean_up","moment":253370764800,"v":2}"#,
+    r#"{"input":"clean_up","key":0,"v":2}"#,
+    r#"{"input":"eligible","may":1,"registry":"NZ","v":2}"#,
+    r#"{"input":"eligible","may":"true","registry":"NZ","v":2}"#,
+    r#"{"input":"eligible","may":true,"registry":"ITL","v":2}"#,
+    r#"{"input":"received","message":{"call":"AcceptNotification","codes":[],"from":"ITL","status":"Checked","to":"NZ","transaction":"NZ1"},"moment":1335830400,"v":2}"#,
+    r#"{"input":"received","message":{"call":"AcceptNotification","codes":[],"from":"ITL","status":"Accepted","to":"NZ","transaction":"NZ1"},"moment":253370764800,"v":2}"#,
+    r#"{"input":"received","message":{"call":"AcceptNotification","codes":[],"from":"ITL","status":"Accepted","to":"NZ","transaction":"NZ1"},"v":2}"#,
+    r#"{"input":"received","moment":1335830400,"v":2}"#,
+    r#"{"input":"request","v":2}"#,
+    r#"{"input":"request","transaction":"NZ0","v":2}"#,
+    r#"{"input":"request","transaction":"NZ1","x":1,"v":2}"#,
+    r#"{"account":1,"input":"propose","to_account":7,"to_registry":"JP","units":["NZ:3:1-5:AAU"],"v":2}"#,
+    r#"{"account":1,"input":"propose","to_account":7,"to_registry":"JP","units":["NZ:1:1-1000000000000000000:AAU"],"v":2}"#,
+    r#"{"account":1000000000000000000,"input":"propose","to_account":7,"to_registry":"JP","units":[],"v":2}"#,
+    r#"{"account":1,"input":"propose","to_account":7,"to_registry":"JP","v":2}"#,
+    r#"{"input":"ack","key":0}"#,
+    r#"{"input":"ack","key":0,"v":1}"#,
+    r#"{"input":"ack","key":0,"v":3}"#,
+    r#"{"input":"ack","key":0,"v":2.0}"#,
+    r#"{"input":"ack","key":0,"v":"2"}"#,
+    r#"{"input":"ack","key":0,"V":2}"#,
+    r#"{"input":"received","message":{"account":1,"call":"AcceptProposal","from":"ITL","status":"Checked","to":"JP","to_account":7,"to_registry":"JP","transaction":"NZ1","units":["NZ:1:1-1000000000000000:AAU"]},"moment":1335830400,"v":2}"#,
+    r#"{"input":"received","message":{"call":"RequestCancellation","from":"NZ","to":"ITL","transaction":"NZ1","v":2},"moment":1335830400}"#,
+    r#"{"input":"received","message":{"call":"RequestCancellation","from":"NZ","to":"ITL","transaction":"NZ1","v":2},"moment":1335830400,"v":2}"#,
 ];
 
 #[test]
@@ -162,5 +184,65 @@ fn what_is_no_record(rt: HostRuntime) {
     for text in NO_RECORDS {
         let fault = decode_input(rt.alloc(), text.as_bytes()).err();
         assert_same(&rt, fault, Some(ReadFault::Shape));
+    }
+}
+
+/// The texts write one record in the two formats, and neither is read in the other format.
+fn assert_formats(rt: &impl Abort, alloc: Global, first: &str, second: &str) {
+    let old = decode_input_v1(alloc, first.as_bytes()).expect(rt, first);
+    let input = decode_input(alloc, second.as_bytes()).expect(rt, second);
+    assert!(rt; input.same(&old));
+    drop(input);
+    drop(old);
+    let fault = decode_input(alloc, first.as_bytes()).err();
+    assert_same(rt, fault, Some(ReadFault::Shape));
+    let fault = decode_input_v1(alloc, second.as_bytes()).err();
+    assert_same(rt, fault, Some(ReadFault::Shape));
+}
+
+#[test]
+fn records_of_the_first_format(rt: HostRuntime) {
+    for i in 0..RECORDS.len() {
+        assert_formats(&rt, rt.alloc(), FIRST_FORMAT[i], RECORDS[i]);
+    }
+}
+
+/// Records of the last unit of the first format, in a message, and of an order, whose numbers may be greater.
+const LAST_UNITS: &[(&str, &str)] = &[
+    (
+        r#"{"input":"received","message":{"account":1,"call":"AcceptProposal","from":"ITL","status":"Checked","to":"JP","to_account":7,"to_registry":"JP","transaction":"NZ1","units":["NZ:1:1-999999999999:AAU"]},"moment":1335830400}"#,
+        r#"{"input":"received","message":{"account":1,"call":"AcceptProposal","from":"ITL","status":"Checked","to":"JP","to_account":7,"to_registry":"JP","transaction":"NZ1","units":["NZ:1:1-999999999999:AAU"]},"moment":1335830400,"v":2}"#,
+    ),
+    (
+        r#"{"account":1,"input":"propose","to_account":7,"to_registry":"JP","units":["NZ:2:0-999999999999999999:lCER"]}"#,
+        r#"{"account":1,"input":"propose","to_account":7,"to_registry":"JP","units":["NZ:2:0-999999999999999999:lCER"],"v":2}"#,
+    ),
+];
+
+#[test]
+fn the_last_units_of_the_first_format(rt: HostRuntime) {
+    for (first, second) in LAST_UNITS {
+        assert_formats(&rt, rt.alloc(), first, second);
+    }
+}
+
+/// Records of units that the first format doesn't have.
+const GREATER_UNITS: &[(&str, &str)] = &[
+    (
+        r#"{"input":"received","message":{"account":1,"call":"AcceptProposal","from":"ITL","status":"Checked","to":"JP","to_account":7,"to_registry":"JP","transaction":"NZ1","units":["NZ:1:1-100:AAU","NZ:1:1000000000000-1000000000000:AAU"]},"moment":1335830400}"#,
+        r#"{"input":"received","message":{"account":1,"call":"AcceptProposal","from":"ITL","status":"Checked","to":"JP","to_account":7,"to_registry":"JP","transaction":"NZ1","units":["NZ:1:1-100:AAU","NZ:1:1000000000000-1000000000000:AAU"]},"moment":1335830400,"v":2}"#,
+    ),
+    (
+        r#"{"input":"received","message":{"account":1,"call":"AcceptProposal","from":"NZ","status":"Proposed","to":"ITL","to_account":7,"to_registry":"JP","transaction":"NZ1","units":["NZ:1:1-999999999999999:AAU"]},"moment":1335830400}"#,
+        r#"{"input":"received","message":{"account":1,"call":"AcceptProposal","from":"NZ","status":"Proposed","to":"ITL","to_account":7,"to_registry":"JP","transaction":"NZ1","units":["NZ:1:1-999999999999999:AAU"]},"moment":1335830400,"v":2}"#,
+    ),
+];
+
+#[test]
+fn units_beyond_the_first_format(rt: HostRuntime) {
+    for (first, second) in GREATER_UNITS {
+        let fault = decode_input_v1(rt.alloc(), first.as_bytes()).err();
+        assert_same(&rt, fault, Some(ReadFault::Shape));
+        assert_copied(&rt, rt.alloc(), second);
     }
 }

@@ -1,4 +1,6 @@
 use crate::cores::{ROOM, assert_sent, scheme, walk};
+use crate::given::Given::{self, Event, Message};
+use crate::given::input_of;
 use crate::registries::{assert_none_held, registry};
 use crate::same::assert_same;
 use checks::propose_check;
@@ -10,74 +12,56 @@ use std::alloc::Global;
 use std::process::Abort;
 use units::limits::LAST_TRANSACTION;
 use units::{Code, Node, Refusal};
-use wire::{Input, decode_input};
+use wire::Input;
 
-const CLOSE_2: &str = r#"{"account":2,"input":"close"}"#;
+const CLOSE_2: Given = Event("close NZ 2");
 
-const OPEN_2: &str = r#"{"account":2,"input":"open"}"#;
+const OPEN_2: Given = Event("open NZ 2");
 
-const HUNDRED: &str =
-    r#"{"account":1,"input":"propose","to_account":7,"to_registry":"JP","units":["NZ:1:1-100:AAU"]}"#;
+const HUNDRED: Given = Event("propose NZ 1 JP 7 NZ:1:1-100:AAU");
 
-const SIXTY: &str =
-    r#"{"account":1,"input":"propose","to_account":7,"to_registry":"JP","units":["NZ:1:1-60:AAU"]}"#;
+const SIXTY: Given = Event("propose NZ 1 JP 7 NZ:1:1-60:AAU");
 
-const ACCEPTED: &str =
-    r#"{"input":"received","message":{"call":"AcceptNotification","codes":[],"from":"ITL","status":"Accepted","to":"NZ","transaction":"NZ1"},"moment":1335830400}"#;
+const ACCEPTED: Given = Message(
+    r#"{"call":"AcceptNotification","codes":[],"from":"ITL","status":"Accepted","to":"NZ","transaction":"NZ1"}"#,
+);
 
-const ACK_0: &str = r#"{"input":"ack","key":0}"#;
+const ACK_0: Given = Event("ack NZ 0");
 
-const ACK_1: &str = r#"{"input":"ack","key":1}"#;
+const ACK_1: Given = Event("ack NZ 1");
 
-const REQUEST: &str = r#"{"input":"request","transaction":"NZ1"}"#;
+const REQUEST: Given = Event("request NZ NZ1");
 
-const REFUSED_ORDERS: &[(&str, Outcome)] = &[
+const REFUSED_ORDERS: &[(Given, Outcome)] = &[
+    (Event("propose NZ 1 JP 7"), Refused(101)),
     (
-        r#"{"account":1,"input":"propose","to_account":7,"to_registry":"JP","units":[]}"#,
+        Event(
+            "propose NZ 1 JP 7 NZ:1:1-1:AAU NZ:1:2-2:AAU NZ:1:3-3:AAU NZ:1:4-4:AAU NZ:1:5-5:AAU NZ:1:6-6:AAU NZ:1:7-7:AAU NZ:1:8-8:AAU NZ:1:9-9:AAU NZ:1:10-10:AAU NZ:1:11-11:AAU NZ:1:12-12:AAU NZ:1:13-13:AAU NZ:1:14-14:AAU NZ:1:15-15:AAU NZ:1:16-16:AAU NZ:1:17-17:AAU",
+        ),
         Refused(101),
     ),
+    (Event("propose NZ 1 JP 7 NZ:1:6-5:AAU"), Refused(102)),
     (
-        r#"{"account":1,"input":"propose","to_account":7,"to_registry":"JP","units":["NZ:1:1-1:AAU","NZ:1:2-2:AAU","NZ:1:3-3:AAU","NZ:1:4-4:AAU","NZ:1:5-5:AAU","NZ:1:6-6:AAU","NZ:1:7-7:AAU","NZ:1:8-8:AAU","NZ:1:9-9:AAU","NZ:1:10-10:AAU","NZ:1:11-11:AAU","NZ:1:12-12:AAU","NZ:1:13-13:AAU","NZ:1:14-14:AAU","NZ:1:15-15:AAU","NZ:1:16-16:AAU","NZ:1:17-17:AAU"]}"#,
-        Refused(101),
-    ),
-    (
-        r#"{"account":1,"input":"propose","to_account":7,"to_registry":"JP","units":["NZ:1:6-5:AAU"]}"#,
+        Event("propose NZ 1 JP 7 NZ:1:1-1000000000000000:AAU"),
         Refused(102),
     ),
     (
-        r#"{"account":1,"input":"propose","to_account":7,"to_registry":"JP","units":["NZ:1:1-5:AAU","NZ:1:5-6:AAU"]}"#,
+        Event("propose NZ 1 JP 7 NZ:1:1-999999999999999:AAU"),
+        Refused(105),
+    ),
+    (
+        Event("propose NZ 1 JP 7 NZ:1:1-5:AAU NZ:1:5-6:AAU"),
         Refused(103),
     ),
-    (
-        r#"{"account":3,"input":"propose","to_account":7,"to_registry":"JP","units":["NZ:1:1-1:AAU"]}"#,
-        Refused(104),
-    ),
-    (
-        r#"{"account":1,"input":"propose","to_account":7,"to_registry":"JP","units":["NZ:1:1-1:CER"]}"#,
-        Refused(105),
-    ),
-    (
-        r#"{"account":1,"input":"propose","to_account":7,"to_registry":"JP","units":["NZ:1:101-101:AAU"]}"#,
-        Refused(105),
-    ),
-    (
-        r#"{"account":1,"input":"propose","to_account":2,"to_registry":"NZ","units":["NZ:1:1-1:AAU"]}"#,
-        Refused(107),
-    ),
-    (
-        r#"{"account":1,"input":"propose","to_account":0,"to_registry":"JP","units":["NZ:1:1-1:AAU"]}"#,
-        Refused(108),
-    ),
+    (Event("propose NZ 3 JP 7 NZ:1:1-1:AAU"), Refused(104)),
+    (Event("propose NZ 1 JP 7 NZ:1:1-1:CER"), Refused(105)),
+    (Event("propose NZ 1 JP 7 NZ:1:101-101:AAU"), Refused(105)),
+    (Event("propose NZ 1 NZ 2 NZ:1:1-1:AAU"), Refused(107)),
+    (Event("propose NZ 1 JP 0 NZ:1:1-1:AAU"), Refused(108)),
     (CLOSE_2, Recorded(0)),
-    (
-        r#"{"account":2,"input":"propose","to_account":7,"to_registry":"JP","units":["NZ:1:1-1:AAU"]}"#,
-        Refused(104),
-    ),
+    (Event("propose NZ 2 JP 7 NZ:1:1-1:AAU"), Refused(104)),
     (SIXTY, Recorded(1)),
-    (
-        r#"{"account":1,"input":"propose","to_account":7,"to_registry":"JP","units":["NZ:1:60-100:AAU"]}"#,
-        Refused(106),
-    ),
+    (Event("propose NZ 1 JP 7 NZ:1:60-100:AAU"), Refused(106)),
 ];
 
 #[test]
@@ -89,9 +73,9 @@ fn orders_are_refused_by_their_first_cause(rt: HostRuntime) {
     drop(nz);
 }
 
-/// The order of that text, if it is one to transfer units.
-fn order(rt: &impl Abort, alloc: Global, text: &str) -> Option<Order> {
-    match decode_input(alloc, text.as_bytes()).expect(rt, "an input") {
+/// The order that is given, if it is one to transfer units.
+fn order(rt: &impl Abort, alloc: Global, given: Given) -> Option<Order> {
+    match input_of(rt, alloc, given) {
         Input::Propose(order) => Some(order),
         other => {
             drop(other);
@@ -120,12 +104,12 @@ fn transactions_are_used_up(rt: HostRuntime) {
     drop(order);
 }
 
-const ACCOUNT_ORDERS: &[(&str, Outcome)] = &[
-    (r#"{"account":1,"input":"close"}"#, Refused(112)),
+const ACCOUNT_ORDERS: &[(Given, Outcome)] = &[
+    (Event("close NZ 1"), Refused(112)),
     (CLOSE_2, Recorded(0)),
     (CLOSE_2, Refused(111)),
     (OPEN_2, Recorded(1)),
-    (r#"{"account":3,"input":"open"}"#, Refused(110)),
+    (Event("open NZ 3"), Refused(110)),
 ];
 
 #[test]
@@ -136,7 +120,7 @@ fn accounts_are_closed_and_opened(rt: HostRuntime) {
     drop(nz);
 }
 
-const ACKNOWLEDGEMENTS: &[(&str, Outcome)] = &[
+const ACKNOWLEDGEMENTS: &[(Given, Outcome)] = &[
     (ACK_0, Recorded(1)),
     (ACK_0, Repeat),
     (ACK_1, Refused(46)),
@@ -166,11 +150,11 @@ fn acknowledgements_are_recorded_once(rt: HostRuntime) {
 /// The room of a journal that one record fills.
 const ONE_RECORD: &str = "1";
 
-const FULL: &[(&str, Outcome)] = &[
+const FULL: &[(Given, Outcome)] = &[
     (HUNDRED, Recorded(0)),
     (OPEN_2, Refused(111)),
     (CLOSE_2, Refused(49)),
-    (r#"{"input":"clean_up","moment":1335916800}"#, Refused(46)),
+    (Event("clean-up 2012-05-02T00:00:00Z"), Refused(46)),
 ];
 
 #[test]
@@ -181,12 +165,12 @@ fn full_journals_refuse_what_would_be_recorded(rt: HostRuntime) {
     drop(nz);
 }
 
-const TRANSFER_OUT: &[(&str, Outcome)] = &[
+const TRANSFER_OUT: &[(Given, Outcome)] = &[
     (ACCEPTED, Refused(47)),
     (SIXTY, Recorded(0)),
     (REQUEST, Recorded(1)),
     (REQUEST, Repeat),
-    (r#"{"input":"request","transaction":"NZ2"}"#, Refused(115)),
+    (Event("request NZ NZ2"), Refused(115)),
     (ACCEPTED, Recorded(2)),
     (ACCEPTED, Repeat),
     (REQUEST, Refused(116)),
@@ -213,25 +197,24 @@ fn transfers_out_end_once(rt: HostRuntime) {
     drop(nz);
 }
 
-/// The inputs with these texts.
-fn inputs(rt: &impl Abort, alloc: Global, texts: &[&str]) -> Vec<Input> {
+/// The inputs that are given.
+fn inputs(rt: &impl Abort, alloc: Global, all: &[Given]) -> Vec<Input> {
     let mut inputs = Vec::new(alloc);
-    for text in texts {
-        inputs
-            .push(decode_input(alloc, text.as_bytes()).expect(rt, "an input"))
-            .expect(rt, "memory");
+    for given in all {
+        let input = input_of(rt, alloc, *given);
+        inputs.push(input).expect(rt, "memory");
     }
     inputs
 }
 
-/// What is wrong with these texts as a journal.
+/// What is wrong with these inputs as a journal.
 fn fault_of_all(
     rt: &impl Abort,
     alloc: Global,
     nz: &RegistryCore,
-    texts: &[&str],
+    all: &[Given],
 ) -> Option<ReplayFault> {
-    let records = inputs(rt, alloc, texts);
+    let records = inputs(rt, alloc, all);
     let fault = replay(nz, &records).err();
     drop(records);
     fault

@@ -1,3 +1,5 @@
+use crate::given::Given::{self, Event, Message};
+use crate::given::input_of;
 use crate::same::assert_same;
 use crate::streams::Full;
 use inputs::{Cause, OpFault, node_of, read_scheme};
@@ -8,17 +10,16 @@ use std::io::{self, ErrorKind, Read};
 use std::process::Abort;
 use stores::{Kept, MemoryStore, NodeStore, StoreFault};
 use units::{Code, Node};
-use wire::{Input, decode_input};
 
-const ORDER: &str =
-    r#"{"account":1,"input":"propose","to_account":7,"to_registry":"JP","units":["NZ:1:1-100:AAU"]}"#;
+const ORDER: Given = Event("propose NZ 1 JP 7 NZ:1:1-100:AAU");
 
-const ACCEPTED: &str =
-    r#"{"input":"received","message":{"call":"AcceptNotification","codes":[],"from":"ITL","status":"Accepted","to":"NZ","transaction":"NZ1"},"moment":1335830400}"#;
+const ACCEPTED: Given = Message(
+    r#"{"call":"AcceptNotification","codes":[],"from":"ITL","status":"Accepted","to":"NZ","transaction":"NZ1"}"#,
+);
 
 const SHOWN: &str =
-    r#"0 {"account":1,"input":"propose","to_account":7,"to_registry":"JP","units":["NZ:1:1-100:AAU"]}
-1 {"input":"received","message":{"call":"AcceptNotification","codes":[],"from":"ITL","status":"Accepted","to":"NZ","transaction":"NZ1"},"moment":1335830400}
+    r#"0 {"account":1,"input":"propose","to_account":7,"to_registry":"JP","units":["NZ:1:1-100:AAU"],"v":2}
+1 {"input":"received","message":{"call":"AcceptNotification","codes":[],"from":"ITL","status":"Accepted","to":"NZ","transaction":"NZ1"},"moment":1335830400,"v":2}
 end
 "#;
 
@@ -29,10 +30,6 @@ fn nz(rt: &impl Abort) -> Node {
     Node::Registry(Code::read("NZ").expect(rt, "a code"))
 }
 
-fn record(rt: &impl Abort, alloc: Global, text: &str) -> Input {
-    decode_input(alloc, text.as_bytes()).expect(rt, "a record")
-}
-
 /// Has the store append the two records, and asserts what that comes to.
 fn append_two(
     rt: &impl Abort,
@@ -40,7 +37,7 @@ fn append_two(
     store: &mut MemoryStore,
     wanted: Result<(), StoreFault>,
 ) {
-    let records = [record(rt, alloc, ORDER), record(rt, alloc, ACCEPTED)];
+    let records = [input_of(rt, alloc, ORDER), input_of(rt, alloc, ACCEPTED)];
     assert_same(rt, store.append(&records), wanted);
     drop(records);
 }
@@ -67,9 +64,9 @@ fn tells_how_much_was_shown(rt: HostRuntime) {
     let alloc = rt.alloc();
     let mut store = MemoryStore::new(alloc, nz(&rt));
     append_two(&rt, alloc, &mut store, Ok(()));
-    let mut writer = Full { room: 97 };
+    let mut writer = Full { room: 103 };
     let shown = show(alloc, nz(&rt), &mut store, &mut writer);
-    assert_same(&rt, shown, Err(OpFault::Write(97)));
+    assert_same(&rt, shown, Err(OpFault::Write(103)));
 }
 
 #[test]

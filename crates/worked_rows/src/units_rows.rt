@@ -8,7 +8,12 @@ use units::{
 
 #[test]
 fn block_texts(rt: HostRuntime) {
-    assert!(rt; Block::read("NZ:1:999999999999-999999999999:AAU").is_ok());
+    assert!(rt; Block::read("NZ:1:999999999999999-999999999999999:AAU").is_ok());
+    assert_same(
+        &rt,
+        Block::read("NZ:1:1-1000000000000000:AAU").err(),
+        Some(BlockFault::Range),
+    );
     assert_same(
         &rt,
         Block::read("NZ:1:0-5:AAU").err(),

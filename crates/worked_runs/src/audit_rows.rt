@@ -1,3 +1,4 @@
+use crate::given::Given;
 use crate::journals::{
     ACCEPTED, ASKED, CHECKED, COMPLETED, NONE, PROPOSED, TOLD_JP, TOLD_NZ, assert_fault,
     assert_table,
@@ -33,11 +34,11 @@ owed 0
 end
 ";
 
-const LOG: &[&str] = &[ASKED, ACCEPTED, COMPLETED];
+const LOG: &[Given] = &[ASKED, ACCEPTED, COMPLETED];
 
-const JP: &[&str] = &[CHECKED, TOLD_JP];
+const JP: &[Given] = &[CHECKED, TOLD_JP];
 
-const NZ: &[&str] = &[PROPOSED, TOLD_NZ];
+const NZ: &[Given] = &[PROPOSED, TOLD_NZ];
 
 #[test]
 fn one_transfer(rt: HostRuntime) {

@@ -1,3 +1,4 @@
+use crate::given::Given::{self, Message};
 use crate::nz_desk::{
     NzDesk, NzState, TEN, TEN_MORE, assert_taken, commit, confirm, next_key, nz, nz_desk, nz_state,
     query, recorded, take_all, take_at, turn,
@@ -13,11 +14,13 @@ use stores::{MemoryStore, NodeStore};
 use units::Refusal;
 use units::refusal_code::NODE_STOPPED;
 
-const CANCELLED: &str =
-    r#"{"input":"received","message":{"call":"AcceptNotification","codes":[],"from":"ITL","status":"Cancelled","to":"NZ","transaction":"JP1"},"moment":1335830400}"#;
+const CANCELLED: Given = Message(
+    r#"{"call":"AcceptNotification","codes":[],"from":"ITL","status":"Cancelled","to":"NZ","transaction":"JP1"}"#,
+);
 
-const CHECKED: &str =
-    r#"{"input":"received","message":{"account":7,"call":"AcceptProposal","from":"ITL","status":"Checked","to":"NZ","to_account":1,"to_registry":"NZ","transaction":"JP1","units":["JP:1:1-1:AAU"]},"moment":1335830400}"#;
+const CHECKED: Given = Message(
+    r#"{"account":7,"call":"AcceptProposal","from":"ITL","status":"Checked","to":"NZ","to_account":1,"to_registry":"NZ","transaction":"JP1","units":["JP:1:1-1:AAU"]}"#,
+);
 
 /// Asserts the keys of the messages that are next for the log, from each of the keys 0 to 2 on.
 fn assert_next(rt: &(impl Wait + Abort), desk: &NzDesk, expected: [Option<usize>; 3]) {
@@ -65,7 +68,7 @@ fn a_query_is_confirmed(rt: HostRuntime) {
 }
 
 /// What the first seat is told after that, up to the stop.
-const TOLD: &[(&str, Told)] = &[
+const TOLD: &[(Given, Told)] = &[
     (CANCELLED, Told::Step(Stepped::Recorded(2))),
     (CANCELLED, Told::Step(Stepped::Repeat)),
     (CHECKED, Told::Step(Stepped::Late)),

@@ -1,3 +1,5 @@
+use crate::given::Given::{self, Event};
+use crate::given::input_of;
 use crate::registries::registry;
 use crate::same::assert_same;
 use crate::stations::{
@@ -18,10 +20,10 @@ use std::thread;
 use std::thread::Threads;
 use std::time::Duration;
 use units::NoMemory;
-use wire::{Input, Message, decode_input};
+use wire::{Input, Message};
 
 /// An order to close an account of NZ.
-const CLOSE: &str = r#"{"account":2,"input":"close"}"#;
+const CLOSE: Given = Event("close NZ 2");
 
 /// How many accepts that fail in a row stop a node, less one.
 const MOST_FAILING: u64 = 99;
@@ -127,7 +129,7 @@ fn hundred_accepts(rt: HostRuntime) {
     add_port(&rt, &mut ports, &nz);
     add_port(&rt, &mut ports, &jp);
     let completed = message(&rt, alloc, COMPLETED);
-    let order = decode_input(alloc, CLOSE.as_bytes()).expect(&rt, "an order");
+    let order = input_of(&rt, alloc, CLOSE);
     let (ran, after) = run_and_stop(&rt, alloc, &nz, &jp, &ports, &completed, order);
     assert!(rt; after.stopped && after.confirmed);
     assert_same(

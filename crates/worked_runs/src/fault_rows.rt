@@ -1,6 +1,7 @@
+use crate::given::{Given, input_of};
 use crate::nz_desk::{
-    CLOSE, NzDesk, NzState, OPEN, TEN, TEN_MORE, assert_found, assert_taken, confirm, input,
-    next_key, nz, nz_core, nz_desk, recorded, take, take_all,
+    CLOSE, NzDesk, NzState, OPEN, TEN, TEN_MORE, assert_found, assert_taken, confirm, next_key, nz,
+    nz_core, nz_desk, recorded, take, take_all,
 };
 use crate::same::assert_same;
 use desk::{Life, Seat, State, Told};
@@ -76,8 +77,8 @@ fn a_failed_commit_stops_the_node(rt: HostRuntime) {
 }
 
 /// Puts a record after the others.
-fn append(rt: &impl Abort, alloc: Global, store: &mut MemoryStore, text: &str) {
-    let batch = [input(rt, alloc, text)];
+fn append(rt: &impl Abort, alloc: Global, store: &mut MemoryStore, given: Given) {
+    let batch = [input_of(rt, alloc, given)];
     assert_same(rt, store.append(&batch), Ok(()));
     drop(batch);
 }
@@ -86,8 +87,8 @@ fn append(rt: &impl Abort, alloc: Global, store: &mut MemoryStore, text: &str) {
 fn a_record_that_is_not_recorded_is_damage(rt: HostRuntime) {
     let alloc = rt.alloc();
     let mut store = MemoryStore::new(alloc, nz(&rt));
-    for text in [CLOSE, OPEN, OPEN] {
-        append(&rt, alloc, &mut store, text);
+    for given in [CLOSE, OPEN, OPEN] {
+        append(&rt, alloc, &mut store, given);
     }
     let loaded = State::load_from(alloc, nz_core(&rt, alloc), &mut store);
     assert_same(&rt, loaded.err(), Some(StoreFault::Damaged(2)));

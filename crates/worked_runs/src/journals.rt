@@ -1,5 +1,7 @@
 //! The journals of the worked scheme's nodes, and stores that have them.
 
+use crate::given::Given::{self, Event, Message};
+use crate::given::input_of;
 use crate::registries::{registry, worked_scheme};
 use crate::same::assert_same;
 use audit::audit;
@@ -8,41 +10,46 @@ use std::alloc::Global;
 use std::process::Abort;
 use stores::{MemoryStore, NodeStore};
 use units::Node;
-use wire::{Input, decode_input};
+use wire::Input;
 
 /// What NZ proposes.
-pub const PROPOSED: &str =
-    r#"{"account":1,"input":"propose","to_account":7,"to_registry":"JP","units":["NZ:1:1-100:AAU"]}"#;
+pub const PROPOSED: Given = Event("propose NZ 1 JP 7 NZ:1:1-100:AAU");
 
 /// The proposal at the log.
-pub const ASKED: &str =
-    r#"{"input":"received","message":{"account":1,"call":"AcceptProposal","from":"NZ","status":"Proposed","to":"ITL","to_account":7,"to_registry":"JP","transaction":"NZ1","units":["NZ:1:1-100:AAU"]},"moment":1335830400}"#;
+pub const ASKED: Given = Message(
+    r#"{"account":1,"call":"AcceptProposal","from":"NZ","status":"Proposed","to":"ITL","to_account":7,"to_registry":"JP","transaction":"NZ1","units":["NZ:1:1-100:AAU"]}"#,
+);
 
 /// The proposal at JP, which the log has checked.
-pub const CHECKED: &str =
-    r#"{"input":"received","message":{"account":1,"call":"AcceptProposal","from":"ITL","status":"Checked","to":"JP","to_account":7,"to_registry":"JP","transaction":"NZ1","units":["NZ:1:1-100:AAU"]},"moment":1335830400}"#;
+pub const CHECKED: Given = Message(
+    r#"{"account":1,"call":"AcceptProposal","from":"ITL","status":"Checked","to":"JP","to_account":7,"to_registry":"JP","transaction":"NZ1","units":["NZ:1:1-100:AAU"]}"#,
+);
 
 /// That JP accepted, at the log.
-pub const ACCEPTED: &str =
-    r#"{"input":"received","message":{"call":"AcceptNotification","codes":[],"from":"JP","status":"Accepted","to":"ITL","transaction":"NZ1"},"moment":1335830400}"#;
+pub const ACCEPTED: Given = Message(
+    r#"{"call":"AcceptNotification","codes":[],"from":"JP","status":"Accepted","to":"ITL","transaction":"NZ1"}"#,
+);
 
 /// The same at NZ.
-pub const TOLD_NZ: &str =
-    r#"{"input":"received","message":{"call":"AcceptNotification","codes":[],"from":"ITL","status":"Accepted","to":"NZ","transaction":"NZ1"},"moment":1335830400}"#;
+pub const TOLD_NZ: Given = Message(
+    r#"{"call":"AcceptNotification","codes":[],"from":"ITL","status":"Accepted","to":"NZ","transaction":"NZ1"}"#,
+);
 
 /// That NZ completed, at the log.
-pub const COMPLETED: &str =
-    r#"{"input":"received","message":{"call":"AcceptNotification","codes":[],"from":"NZ","status":"Completed","to":"ITL","transaction":"NZ1"},"moment":1335830400}"#;
+pub const COMPLETED: Given = Message(
+    r#"{"call":"AcceptNotification","codes":[],"from":"NZ","status":"Completed","to":"ITL","transaction":"NZ1"}"#,
+);
 
 /// The same at JP.
-pub const TOLD_JP: &str =
-    r#"{"input":"received","message":{"call":"AcceptNotification","codes":[],"from":"ITL","status":"Completed","to":"JP","transaction":"NZ1"},"moment":1335830400}"#;
+pub const TOLD_JP: Given = Message(
+    r#"{"call":"AcceptNotification","codes":[],"from":"ITL","status":"Completed","to":"JP","transaction":"NZ1"}"#,
+);
 
 /// No records.
-pub const NONE: &[&str] = &[];
+pub const NONE: &[Given] = &[];
 
 /// Records of the log, of JP and of NZ.
-pub type Journals<'a> = [&'a [&'a str]; 3];
+pub type Journals<'a> = [&'a [Given]; 3];
 
 /// Appends one record.
 fn append(rt: &impl Abort, store: &mut MemoryStore, record: Input) {
@@ -52,11 +59,10 @@ fn append(rt: &impl Abort, store: &mut MemoryStore, record: Input) {
 }
 
 /// A store with these records.
-fn store_of(rt: &impl Abort, alloc: Global, node: Node, journal: &[&str]) -> MemoryStore {
+fn store_of(rt: &impl Abort, alloc: Global, node: Node, journal: &[Given]) -> MemoryStore {
     let mut store = MemoryStore::new(alloc, node);
-    for text in journal {
-        let record = decode_input(alloc, text.as_bytes()).expect(rt, "a record");
-        append(rt, &mut store, record);
+    for given in journal {
+        append(rt, &mut store, input_of(rt, alloc, *given));
     }
     store
 }

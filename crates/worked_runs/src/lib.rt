@@ -23,6 +23,8 @@ mod fault_rows;
 #[cfg(test)]
 mod forged_rows;
 #[cfg(test)]
+mod given;
+#[cfg(test)]
 mod journals;
 #[cfg(test)]
 mod meetings;

@@ -2,6 +2,8 @@
 
 ghost use Rattle.std.specs.Prelude.{◌≡◌, []};
 
+use crate::given::Given::{self, Event};
+use crate::given::input_of;
 use crate::same::{assert_same, assert_same_in};
 use desk::{Desk, Life, RoomBell, Seat, State, Taken, Told, Unsettled, settle};
 use protocol::Stepped;
@@ -13,22 +15,20 @@ use std::process::Abort;
 use std::sync::Wait;
 use stores::MemoryStore;
 use units::{Code, Node};
-use wire::{Input, decode_input};
+use wire::Input;
 
 const SCHEME: &str =
     r#"{"records":2000,"registries":[{"accounts":[7,8],"allotted":[],"code":"JP","eligible":true,"kinds":["AAU","CER"]},{"accounts":[1,2],"allotted":[{"account":1,"units":["NZ:1:1-100:AAU"]}],"code":"NZ","eligible":true,"kinds":["AAU","RMU","ERU","CER","tCER","lCER"]}]}"#;
 
 /// NZ's first proposal.
-pub const TEN: &str =
-    r#"{"account":1,"input":"propose","to_account":7,"to_registry":"JP","units":["NZ:1:1-10:AAU"]}"#;
+pub const TEN: Given = Event("propose NZ 1 JP 7 NZ:1:1-10:AAU");
 
 /// Its second one.
-pub const TEN_MORE: &str =
-    r#"{"account":1,"input":"propose","to_account":7,"to_registry":"JP","units":["NZ:1:11-20:AAU"]}"#;
+pub const TEN_MORE: Given = Event("propose NZ 1 JP 7 NZ:1:11-20:AAU");
 
-pub const CLOSE: &str = r#"{"account":2,"input":"close"}"#;
+pub const CLOSE: Given = Event("close NZ 2");
 
-pub const OPEN: &str = r#"{"account":2,"input":"open"}"#;
+pub const OPEN: Given = Event("open NZ 2");
 
 pub type NzState = State<RegistryCore>;
 
@@ -49,8 +49,8 @@ pub fn nz_core(rt: &impl Abort, alloc: Global) -> RegistryCore
 }
 
 /// Asserts what the state tells of an input.
-pub fn assert_taken(rt: &impl Abort, alloc: Global, state: &mut NzState, text: &str, told: Told) {
-    let taken = take_at(rt, alloc, state, text);
+pub fn assert_taken(rt: &impl Abort, alloc: Global, state: &mut NzState, given: Given, told: Told) {
+    let taken = take_at(rt, alloc, state, given);
     assert_same(rt, taken.told(), told);
     drop(taken);
 }
@@ -63,19 +63,15 @@ pub fn nz_desk(rt: &impl Abort, alloc: Global) -> NzDesk {
     Desk::new(nz_state(rt, alloc), RoomBell::new())
 }
 
-pub fn input(rt: &impl Abort, alloc: Global, text: &str) -> Input {
-    decode_input(alloc, text.as_bytes()).expect(rt, "an input")
-}
-
 /// The input at that place where an account is closed and opened in turn.
 pub fn turn(rt: &impl Abort, alloc: Global, place: usize) -> Input {
-    let text = if place % 2 == 0 { CLOSE } else { OPEN };
-    input(rt, alloc, text)
+    let given = if place % 2 == 0 { CLOSE } else { OPEN };
+    input_of(rt, alloc, given)
 }
 
 /// Has the state take an input.
-pub fn take_at(rt: &impl Abort, alloc: Global, state: &mut NzState, text: &str) -> Taken {
-    state.take(input(rt, alloc, text))
+pub fn take_at(rt: &impl Abort, alloc: Global, state: &mut NzState, given: Given) -> Taken {
+    state.take(input_of(rt, alloc, given))
 }
 
 /// Has the desk take an input.
@@ -84,9 +80,9 @@ pub fn take(
     alloc: Global,
     desk: &NzDesk,
     seat: &mut Seat,
-    text: &str,
+    given: Given,
 ) -> Taken {
-    desk.take(rt, seat, input(rt, alloc, text))
+    desk.take(rt, seat, input_of(rt, alloc, given))
 }
 
 /// Asks the desk where NZ1 stands.
@@ -120,11 +116,11 @@ pub fn take_all(
     alloc: Global,
     desk: &NzDesk,
     seat: &mut Seat,
-    row: &[(&str, Told)],
+    row: &[(Given, Told)],
 ) {
-    for (text, expected) in row {
-        let taken = take(rt, alloc, desk, seat, text);
-        assert_same_in(rt, taken.told(), *expected, text);
+    for (given, expected) in row {
+        let taken = take(rt, alloc, desk, seat, *given);
+        assert_same_in(rt, taken.told(), *expected, *given);
         drop(taken);
     }
 }

@@ -1,3 +1,4 @@
+use crate::given::Given;
 use crate::nz_desk::{
     CLOSE, NzDesk, TEN, TEN_MORE, assert_found, assert_taken, commit, confirm, nz_desk, nz_state,
     query, recorded, settled, take, take_all,
@@ -82,12 +83,12 @@ fn confirmed_seat(rt: &(impl Wait + Abort), alloc: Global) -> Seat {
 fn assert_unsettled(
     rt: &impl Abort,
     alloc: Global,
-    text: &str,
+    given: Given,
     seats: &[Seat],
     expected: Unsettled,
 ) {
     let mut state = nz_state(rt, alloc);
-    assert_taken(rt, alloc, &mut state, text, recorded(0));
+    assert_taken(rt, alloc, &mut state, given, recorded(0));
     assert_same(rt, settled(state, seats), Err(expected));
 }
 
@@ -105,7 +106,7 @@ fn seats_of_other_desks_are_found(rt: HostRuntime) {
 }
 
 /// Two records that were told.
-const TWO: &[(&str, Told)] = &[
+const TWO: &[(Given, Told)] = &[
     (TEN, Told::Step(Stepped::Recorded(0))),
     (TEN_MORE, Told::Step(Stepped::Recorded(1))),
 ];

@@ -1,4 +1,5 @@
-use crate::nz_desk::{NzState, TEN, TEN_MORE, input, nz, nz_state, settled};
+use crate::given::{Given, input_of};
+use crate::nz_desk::{NzState, TEN, TEN_MORE, nz, nz_state, settled};
 use crate::same::assert_same;
 use desk::{Bell, Desk, Life, RoomBell, Seat, Taken, Told};
 use protocol::Stepped;
@@ -134,9 +135,9 @@ fn take(
     alloc: Global,
     desk: &WatchedDesk,
     seat: &mut Seat,
-    text: &str,
+    given: Given,
 ) -> Taken {
-    desk.take(rt, seat, input(rt, alloc, text))
+    desk.take(rt, seat, input_of(rt, alloc, given))
 }
 
 /// Asks the watched desk where NZ1 stands.

@@ -1,3 +1,5 @@
+use crate::given::Given::{self, Event, Message};
+use crate::given::input_of;
 use crate::journals::{ASKED, PROPOSED};
 use crate::registries::{registry, worked_scheme};
 use crate::same::assert_same;
@@ -6,44 +8,57 @@ use std::alloc::Global;
 use std::process::Abort;
 use units::Node;
 use weave::{WeaveFault, Woven, weave};
-use wire::{Input, decode_input};
+use wire::Input;
 
 /// A clean-up a day after the proposal was checked.
-const CLEANED_UP: &str = r#"{"input":"clean_up","moment":1335916800}"#;
+const CLEANED_UP: Given = Event("clean-up 2012-05-02T00:00:00Z");
 
 /// The second proposal at the log.
-const ASKED_AGAIN: &str =
-    r#"{"input":"received","message":{"account":1,"call":"AcceptProposal","from":"NZ","status":"Proposed","to":"ITL","to_account":7,"to_registry":"JP","transaction":"NZ2","units":["NZ:1:1-100:AAU"]},"moment":1335830400}"#;
+const ASKED_AGAIN: Given = Message(
+    r#"{"account":1,"call":"AcceptProposal","from":"NZ","status":"Proposed","to":"ITL","to_account":7,"to_registry":"JP","transaction":"NZ2","units":["NZ:1:1-100:AAU"]}"#,
+);
 
 /// That JP accepted the second one, at the log.
-const ACCEPTED: &str =
-    r#"{"input":"received","message":{"call":"AcceptNotification","codes":[],"from":"JP","status":"Accepted","to":"ITL","transaction":"NZ2"},"moment":1335830400}"#;
+const ACCEPTED: Given = Message(
+    r#"{"call":"AcceptNotification","codes":[],"from":"JP","status":"Accepted","to":"ITL","transaction":"NZ2"}"#,
+);
 
 /// That NZ completed it, at the log.
-const COMPLETED: &str =
-    r#"{"input":"received","message":{"call":"AcceptNotification","codes":[],"from":"NZ","status":"Completed","to":"ITL","transaction":"NZ2"},"moment":1335830400}"#;
+const COMPLETED: Given = Message(
+    r#"{"call":"AcceptNotification","codes":[],"from":"NZ","status":"Completed","to":"ITL","transaction":"NZ2"}"#,
+);
 
-const LOG: [&str; 5] = [ASKED, CLEANED_UP, ASKED_AGAIN, ACCEPTED, COMPLETED];
+const LOG: [Given; 5] = [ASKED, CLEANED_UP, ASKED_AGAIN, ACCEPTED, COMPLETED];
 
 /// At JP the second proposal, that it is completed, and then the first one.
-const JP: [&str; 3] = [
-    r#"{"input":"received","message":{"account":1,"call":"AcceptProposal","from":"ITL","status":"Checked","to":"JP","to_account":7,"to_registry":"JP","transaction":"NZ2","units":["NZ:1:1-100:AAU"]},"moment":1335830400}"#,
-    r#"{"input":"received","message":{"call":"AcceptNotification","codes":[],"from":"ITL","status":"Completed","to":"JP","transaction":"NZ2"},"moment":1335830400}"#,
-    r#"{"input":"received","message":{"account":1,"call":"AcceptProposal","from":"ITL","status":"Checked","to":"JP","to_account":7,"to_registry":"JP","transaction":"NZ1","units":["NZ:1:1-100:AAU"]},"moment":1335830400}"#,
+const JP: [Given; 3] = [
+    Message(
+        r#"{"account":1,"call":"AcceptProposal","from":"ITL","status":"Checked","to":"JP","to_account":7,"to_registry":"JP","transaction":"NZ2","units":["NZ:1:1-100:AAU"]}"#,
+    ),
+    Message(
+        r#"{"call":"AcceptNotification","codes":[],"from":"ITL","status":"Completed","to":"JP","transaction":"NZ2"}"#,
+    ),
+    Message(
+        r#"{"account":1,"call":"AcceptProposal","from":"ITL","status":"Checked","to":"JP","to_account":7,"to_registry":"JP","transaction":"NZ1","units":["NZ:1:1-100:AAU"]}"#,
+    ),
 ];
 
 /// At NZ the order, that it is cancelled, the order again, and that it is accepted.
-const NZ: [&str; 4] = [
+const NZ: [Given; 4] = [
     PROPOSED,
-    r#"{"input":"received","message":{"call":"AcceptNotification","codes":[],"from":"ITL","status":"Cancelled","to":"NZ","transaction":"NZ1"},"moment":1335830400}"#,
+    Message(
+        r#"{"call":"AcceptNotification","codes":[],"from":"ITL","status":"Cancelled","to":"NZ","transaction":"NZ1"}"#,
+    ),
     PROPOSED,
-    r#"{"input":"received","message":{"call":"AcceptNotification","codes":[],"from":"ITL","status":"Accepted","to":"NZ","transaction":"NZ2"},"moment":1335830400}"#,
+    Message(
+        r#"{"call":"AcceptNotification","codes":[],"from":"ITL","status":"Accepted","to":"NZ","transaction":"NZ2"}"#,
+    ),
 ];
 
-fn records(rt: &impl Abort, alloc: Global, texts: &[&str]) -> Vec<Input> {
+fn records(rt: &impl Abort, alloc: Global, journal: &[Given]) -> Vec<Input> {
     let mut records = Vec::new(alloc);
-    for text in texts {
-        let record = decode_input(alloc, text.as_bytes()).expect(rt, "a record");
+    for given in journal {
+        let record = input_of(rt, alloc, *given);
         records.push(record).expect(rt, "memory");
     }
     records

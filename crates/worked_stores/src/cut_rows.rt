@@ -1,5 +1,6 @@
 use crate::driving::transfer;
-use crate::links::{Cut, File, Link, registry};
+use crate::links::{Cut, File, Link};
+use crate::store_files::registry;
 use std::alloc::Global;
 use std::process::Abort;
 use units::Node;

@@ -1,17 +1,14 @@
 //! Orders and messages, one after the other, until nothing is left to be sent.
 
 use crate::links::Link;
+use crate::records::{PROPOSE, record};
 use desk::Told;
 use exchanges::{Counted, Exchange, exchange};
 use status::{Moment, TransactionId};
 use std::alloc::Global;
 use std::process::Abort;
 use units::refusal_code::NODE_STOPPED;
-use wire::{Input, Message, Number, Reply, ReplyCode, decode_input};
-
-/// What NZ proposes.
-const PROPOSE: &str =
-    r#"{"account":1,"input":"propose","to_account":7,"to_registry":"JP","units":["NZ:1:1-100:AAU"]}"#;
+use wire::{Input, Message, Number, Reply, ReplyCode};
 
 /// The place of NZ among the nodes.
 const NZ: usize = 2;
@@ -118,7 +115,7 @@ fn propose(rt: &impl Abort, alloc: Global, link: &mut Link) {
         if told != Told::Status(None) {
             return;
         }
-        let order = decode_input(alloc, PROPOSE.as_bytes()).expect(rt, "an order");
+        let order = record(rt, alloc, PROPOSE);
         link.take(rt, NZ, order);
         link.commit(rt, NZ);
     }

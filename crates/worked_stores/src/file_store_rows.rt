@@ -1,96 +1,14 @@
+use crate::records::{ACCEPTED, PROPOSE, are_two, has_text, two};
+use crate::store_files::{
+    FOREVER, MemoryFiles, Stored, after_a_crash, assert_refused, changed, new_files, open_as,
+    opened, refused, registry,
+};
 use durable::SqlStore;
-use sqlite::types::ValueRef;
-use sqlite::{Alter, Connection, FileStore, Files, Options};
-use sqlite_disk::{Crash, Disk, Fuse, Memory};
+use sqlite_disk::Disk;
 use std::alloc::Global;
 use std::fs;
 use std::process::Abort;
 use stores::{NodeStore, StoreFault};
-use units::{Code, Node};
-use wire::{Input, Number, decode_input, encode_input};
-
-pub type Stored = Files<Fuse<Memory>>;
-
-const PROPOSE: &str =
-    r#"{"account":1,"input":"propose","to_account":7,"to_registry":"JP","units":["NZ:1:1-100:AAU"]}"#;
-
-const ACCEPTED: &str =
-    r#"{"input":"received","message":{"call":"AcceptNotification","codes":[],"from":"ITL","status":"Accepted","to":"NZ","transaction":"NZ1"},"moment":1335830400}"#;
-
-const FOREVER: u64 = u64::MAX;
-
-fn registry(rt: &impl Abort, code: &str) -> Node {
-    let code = Code::read(code).expect(rt, "a code");
-    Node::Registry(code)
-}
-
-fn options() -> Options {
-    Options::new(7)
-}
-
-/// Files of which that many calls may be made.
-fn new_files(alloc: Global, log_calls: u64, db_calls: u64) -> Stored {
-    Files {
-        log: Fuse::new(Memory::new(alloc), log_calls),
-        db: Fuse::new(Memory::new(alloc), db_calls),
-    }
-}
-
-/// The machine comes back, with fuses that don't blow.
-pub fn after_a_crash(mut files: Stored) -> Stored {
-    files.log.crash();
-    files.db.crash();
-    files
-}
-
-fn record(rt: &impl Abort, alloc: Global, text: &str) -> Input {
-    decode_input(alloc, text.as_bytes()).expect(rt, "a record")
-}
-
-fn two(rt: &impl Abort, alloc: Global) -> Vec<Input> {
-    let batch = [record(rt, alloc, PROPOSE), record(rt, alloc, ACCEPTED)];
-    Vec::from_array(alloc, batch).expect(rt, "memory")
-}
-
-fn has_text(alloc: Global, input: &Input, text: &str) -> bool {
-    match encode_input(alloc, input) {
-        Ok(found) => found.as_slice() == text.as_bytes(),
-        Err(_) => false,
-    }
-}
-
-fn are_two(alloc: Global, inputs: &[Input]) -> bool {
-    match inputs {
-        [first, second] => has_text(alloc, first, PROPOSE) && has_text(alloc, second, ACCEPTED),
-        _ => false,
-    }
-}
-
-type MemoryFiles = SqlStore<Fuse<Memory>>;
-
-fn open_as(rt: &impl Abort, alloc: Global, files: Stored, code: &str) -> MemoryFiles {
-    let opened = SqlStore::open_files(alloc, files, options(), registry(rt, code));
-    opened.ok().expect(rt, "a store")
-}
-
-/// Asserts that the files are refused as the store of that registry, for that cause. Gives them back.
-fn refused(
-    rt: &impl Abort,
-    alloc: Global,
-    files: Stored,
-    code: &str,
-    wanted: StoreFault,
-) -> Stored {
-    let opened = SqlStore::open_files(alloc, files, options(), registry(rt, code));
-    let (fault, files) = opened.err().expect(rt, "a refusal");
-    assert!(rt; fault == wanted);
-    files
-}
-
-/// Asserts the same, and lets the files go.
-fn assert_refused(rt: &impl Abort, alloc: Global, files: Stored, code: &str, wanted: StoreFault) {
-    drop(refused(rt, alloc, files, code, wanted));
-}
 
 /// How many records the store has.
 fn count<S: NodeStore>(rt: &impl Abort, store: &mut S) -> usize {
@@ -112,38 +30,6 @@ fn append_two<S: NodeStore>(rt: &impl Abort, alloc: Global, store: &mut S) {
     let batch = two(rt, alloc);
     assert!(rt; store.append(&batch).is_ok());
     drop(batch);
-}
-
-fn open_database<D: Disk + Drop>(
-    rt: &impl Abort,
-    alloc: Global,
-    files: Files<D>,
-) -> Connection<FileStore<D>> {
-    assert!(rt; files.may_be_used());
-    let opened = Connection::open_files(alloc, files, options());
-    opened.ok().expect(rt, "a database")
-}
-
-fn execute_all<S: Alter>(rt: &impl Abort, conn: &mut Connection<S>, statements: &[&str]) {
-    for statement in statements {
-        assert!(rt; conn.execute(statement, &[]).is_ok());
-    }
-}
-
-fn store_of<S: Alter + Drop>(conn: Connection<S>) -> S {
-    conn.into_store()
-}
-
-/// The files after statements that no store makes.
-fn changed<D: Disk + Drop>(
-    rt: &impl Abort,
-    alloc: Global,
-    files: Files<D>,
-    statements: &[&str],
-) -> Files<D> {
-    let mut conn = open_database(rt, alloc, files);
-    execute_all(rt, &mut conn, statements);
-    store_of(conn).close()
 }
 
 /// The files of NZ's store, with two records more.
@@ -334,8 +220,7 @@ fn drive<S: NodeStore>(rt: &impl Abort, alloc: Global, store: &mut S) -> Run {
 /// A run over files of which that many calls may be made, and what it left of them.
 fn run_over(rt: &impl Abort, alloc: Global, log_calls: u64, db_calls: u64) -> (Run, Stored) {
     let files = new_files(alloc, log_calls, db_calls);
-    let node = registry(rt, "NZ");
-    match SqlStore::open_files(alloc, files, options(), node) {
+    match opened(rt, alloc, files, "NZ") {
         Ok(mut store) => {
             let run = drive(rt, alloc, &mut store);
             (run, store.close_files())

@@ -1,4 +1,5 @@
-//! Worked rows of stores, in memory and in files, and a transfer with each call of their files failing in turn.
+//! Worked rows of stores, in memory and in files, a transfer with each call of their files failing in turn, and the
+//! migration of stores of format 1.
 #![tactic(auto)]
 
 #[cfg(test)]
@@ -12,4 +13,14 @@ mod links;
 #[cfg(test)]
 mod memory_store_rows;
 #[cfg(test)]
+mod migration_cut;
+#[cfg(test)]
+mod migration_rows;
+#[cfg(test)]
+mod old_stores;
+#[cfg(test)]
+mod records;
+#[cfg(test)]
 mod same;
+#[cfg(test)]
+mod store_files;

@@ -3,8 +3,8 @@ ghost use Rattle.std.specs.Prelude.{◌≡◌, [], length};
 ghost use Rattle.protocol.specs.Registries.{nodes};
 ghost use Rattle.world.specs.Cores.{journal_of};
 
-use crate::file_store_rows::{Stored, after_a_crash};
 use crate::same::assert_same;
+use crate::store_files::{Stored, after_a_crash, registry};
 use audit::audit;
 use desk::{State, Told};
 use durable::SqlStore;
@@ -15,7 +15,7 @@ use std::alloc::Global;
 use std::mem;
 use std::process::Abort;
 use stores::StoreFault;
-use units::{Code, Node};
+use units::Node;
 use wire::Input;
 use world::Core;
 
@@ -54,10 +54,6 @@ pub struct Link {
     pub stops: u64,
 }
 
-pub fn registry(rt: &impl Abort, code: &str) -> Node {
-    Node::Registry(Code::read(code).expect(rt, "a code"))
-}
-
 /// Empty files of a node's store, of which the calls fail as the cut says.
 fn files_of(alloc: Global, node: Node, cut: Cut) -> Stored {
     let (database, log) = match cut.file {
@@ -89,7 +85,8 @@ fn worked_scheme(rt: &impl Abort, alloc: Global) -> Scheme
     scheme
 }
 
-fn new_core(rt: &impl Abort, alloc: Global, node: Node) -> Core
+/// The core of the node under the worked scheme, which has recorded nothing.
+pub fn new_core(rt: &impl Abort, alloc: Global, node: Node) -> Core
     ensures { journal_of result ≡ [] }
 {
     let scheme = worked_scheme(rt, alloc);

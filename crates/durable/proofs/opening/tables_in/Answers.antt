@@ -1,4 +1,4 @@
-use Rattle.std.proofs.Common.{subst}
+use Rattle.std.proofs.Common.{◌≡◌, ◌<◌, ℕ, [], subst, arith}
 use Rattle.sqlite_catalog.specs.Listing.{IsSound}
 use Rattle.durable.proofs.Found.{rows_of, none_of}
 use Rattle.durable.proofs.opening.tables_in.Goals as goal
@@ -15,4 +15,6 @@ returns-clause-bare g c still has =
     let store = c.args.conn.now.store in
     let v = g.S.Store.view store in
     let whole = c.is_whole.ensures.whole still in
-    none_of v (g.met.S.Alter.listed store whole) (g.met.S.Store.ordered store whole) (subst (λ s. IsSound s v.trees) has (c.schema.ensures.live still).0)
+    let none : (tree : ℕ) → tree < 2 → v.trees tree ≡ [] =
+    λ tree low. none_of tree low v (g.met.S.Alter.listed store whole) (g.met.S.Store.ordered store whole) (subst (λ s. IsSound s v.trees) has (c.schema.ensures.live still).0) in
+    (none 0 (omega arith), none 1 (omega arith))

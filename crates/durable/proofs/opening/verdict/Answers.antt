@@ -21,6 +21,6 @@ returns-in-OtherNode-default-clause-verdict c node db has owner end =
 
 pub returns-in-ThisNode-default-clause-verdict : goal.returns-in-ThisNode-default-clause-verdict
 returns-in-ThisNode-default-clause-verdict c node db has owner end =
-    let is : c.args.owner ≡ ThisNode = search rules in
+    let is : c.args.owner ≡ ThisNode c.in-ThisNode-default.format = search rules in
     let high : IsNegative c.args.least → ⊥ = search rules in
-    a_store node db c.args.least has (subst (IsOwner node db) is owner) end high
+    a_store c.in-ThisNode-default.format node db c.args.least has (subst (IsOwner node db) is owner) end high

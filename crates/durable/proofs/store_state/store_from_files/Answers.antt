@@ -6,7 +6,8 @@ use Rattle.sqlite_wal.specs.Reads.{AreClean}
 use Rattle.units.specs.Code.{node_text}
 use Rattle.durable.specs.Backing.{IsFound, Hold}
 use Rattle.durable.specs.Connected as connected
-use Rattle.durable.specs.Held.{slots_in, node_in}
+use Rattle.durable.specs.Held.{node_in}
+use Rattle.durable.specs.Migrating.{IsOpenedAs}
 use Rattle.durable.specs.Opening.{IsOpeningFault}
 use Rattle.durable.specs.Refusals.{IsRefusal, IsUnharmed}
 use Rattle.stores.specs.Faults.{is_judgement}
@@ -30,9 +31,9 @@ returns-clause-owner g c =
 
 pub returns-clause-found : goal.returns-clause-found
 returns-clause-found g c =
-    both (λ k. connected.IsHonest over_files k → HasCleanDisk (file_state c.in_ok-conn.conn)) (λ k. connected.IsHonest over_files k → connected.content over_files k ≡ slots_in (file_state c.in_ok-conn.conn).committed.trees)
-    (λ k. connected.IsHonest over_files k → (db : Trees) × IsFound g.D.Disk c.args.files db × (connected.content over_files k ≡ slots_in db)) c.store_over.result
-    (λ k honest same clean. ((file_state c.in_ok-conn.conn).committed.trees, c.in_ok-conn.ensures.found (honest clean), same clean)) c.store_over.ensures.honest c.store_over.ensures.same
+    both (λ k. connected.IsHonest over_files k → HasCleanDisk (file_state c.in_ok-conn.conn)) (λ k. connected.IsHonest over_files k → IsOpenedAs (file_state c.in_ok-conn.conn).committed.trees (connected.content over_files k))
+    (λ k. connected.IsHonest over_files k → (db : Trees) × IsFound g.D.Disk c.args.files db × IsOpenedAs db (connected.content over_files k)) c.store_over.result
+    (λ k honest opened clean. ((file_state c.in_ok-conn.conn).committed.trees, c.in_ok-conn.ensures.found (honest clean), opened clean)) c.store_over.ensures.honest c.store_over.ensures.opened
 
 pub returns-clause-fault : goal.returns-clause-fault
 returns-clause-fault g c =

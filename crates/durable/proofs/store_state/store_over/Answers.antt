@@ -1,27 +1,16 @@
-use Rattle.std.proofs.Common.{◌∙◌, IsTrue, sym, subst}
-use Rattle.sqlite.specs.Files.{file_state}
-use Rattle.stores.specs.Faults.{is_judgement}
-use Rattle.stores.specs.declared.fault.StoreFault.TheVariants.{Device}
-use Rattle.durable.specs.Opening.{IsOpeningFault}
+use Rattle.std.proofs.Common.{sym, subst}
+use Rattle.sqlite.specs.Files.{over_files, file_state}
+use Rattle.durable.specs.Connected as connected
+use Rattle.durable.specs.Migrating.{IsOpenedAs}
 use Rattle.durable.proofs.Sparing.{spared}
 use Rattle.durable.proofs.store_state.store_over.Goals as goal
-use Rattle.durable.proofs.store_state.store_over.Goals.{in-Ok-2, in-Err}
 
-pub returns-clause-places : goal.returns-clause-places
-returns-clause-places g c = elim c.match-open_as_store.branch [
-  | in-Ok-2 w ↦ λ p same. cc (w.fault-is, same)
-  | in-Err w ↦ λ p same. w.in-Err.ensures.places p (sym w.fault-is ∙ same)
-]
+pub returns-in-Ok-clause-opened : goal.returns-in-Ok-clause-opened
+returns-in-Ok-clause-opened g c = λ honest.
+    subst (λ k. IsOpenedAs (file_state c.args.conn).committed.trees (connected.content over_files k)) (sym c.new.ensures.value)
+    (c.in-Ok.ensures.opened (subst (λ k. connected.IsHonest over_files k) c.new.ensures.value honest))
 
-pub returns-clause-unharmed : goal.returns-clause-unharmed
-returns-clause-unharmed g c =
+pub returns-in-Err-clause-unharmed : goal.returns-in-Err-clause-unharmed
+returns-in-Err-clause-unharmed g c = λ judged.
     let gone = c.files_of.ensures in
-    elim c.match-open_as_store.branch [
-      | in-Ok-2 w ↦ λ judged.
-          let never : IsTrue (is_judgement Device) = subst (λ f. IsTrue (is_judgement f)) w.fault-is judged in
-          absurd (cc (never))
-      | in-Err w ↦
-          spared g.D.Disk c.files_of.result c.args.name.now (file_state c.args.conn).committed _ c.match-open_as_store.fault gone.holds
-          (λ honest. subst (λ f. IsOpeningFault c.args.name.now (file_state c.args.conn).committed f) (sym w.fault-is) (w.in-Err.ensures.fault (gone.honest honest)))
-          (λ honest. c.open_as_store.ensures.crash (gone.honest honest))
-    ]
+    spared g.D.Disk c.files_of.result (file_state c.args.conn).committed.trees _ gone.holds (λ honest db left. (c.in-Err.ensures.settled (gone.honest honest)).unharmed judged db left)

@@ -2,6 +2,7 @@ use Rattle.std.proofs.Common.{◌≡◌, ◌≤◌, ◌+◌, ◌-◌, ◌<◌, �
 use Rattle.std.proofs.lemmas.List.{length-map, map-append, map_push, take_more, take_all, take-append-drop, drop_more, length-take-le}
 use Rattle.wire.specs.Records.{IsRecordText}
 use Rattle.wire.specs.declared.input.Input.{Input}
+use Rattle.wire.specs.declared.record_format.RecordFormat.TheVariants.{Two}
 use Rattle.stores.specs.Records.{Places, AreRecords, HasNoRecord, IsDamagedAt}
 use Rattle.stores.specs.Records.{unbroken}
 use Rattle.stores.proofs.Fronts.{records-snoc, whole-front, damaged-body, damaged-gap}
@@ -14,7 +15,7 @@ abbrev texts : Bodies → List (List ℕ)
 texts bodies = map (λ b. b.now) bodies
 
 record-more : (bodies : Bodies) (k : ℕ) (d : Bor (List ℕ)) (inputs : List Input) (input : Input) → k < length bodies → AreRecords (map (λ b. Some b) (texts (take k bodies))) inputs
-    → IsRecordText (get_or bodies k d).now input → AreRecords (map (λ b. Some b) (texts (take (k + 1) bodies))) (inputs ++ input ∷ [])
+    → IsRecordText Two (get_or bodies k d).now input → AreRecords (map (λ b. Some b) (texts (take (k + 1) bodies))) (inputs ++ input ∷ [])
 record-more bodies k d inputs input low are is =
     let body = get_or bodies k d in
     let next : map (λ b. Some b) (texts (take (k + 1) bodies)) ≡ map (λ b. Some b) (texts (take k bodies)) ++ Some body.now ∷ [] =
@@ -51,7 +52,7 @@ returns-then-next-until-clause-damaged c = λ p e.
     let all : take c.loop-at.at bodies ≡ bodies = take_all c.loop-at.at bodies c.loop-at-test.false in
     let counted : length (texts bodies) ≡ p - c.args.first = omega (arith, at, length-map bodies (λ (b : Bor (List ℕ)). b.now)) in
     let are = subst (λ bs. AreRecords (map (λ b. Some b) (texts bs)) c.loop-at.inputs.items) all c.loop-at.invariant in
-    (omega (arith, at), λ places n same. subst (λ k. IsDamagedAt k places) counted (damaged-gap places (texts bodies) c.loop-at.inputs.items are same (omega (arith, n, length-map bodies (λ (b : Bor (List ℕ)). b.now), c.if-next-until.true))))
+    (omega (arith, at), λ places n same. subst (λ k. IsDamagedAt k places) counted (damaged-gap _ places (texts bodies) c.loop-at.inputs.items are same (omega (arith, n, length-map bodies (λ (b : Bor (List ℕ)). b.now), c.if-next-until.true))))
 
 pub returns-clause-ok : goal.returns-clause-ok
 returns-clause-ok c = λ places n same.

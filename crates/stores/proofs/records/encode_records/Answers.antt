@@ -3,6 +3,7 @@ use Rattle.std.specs.declared.alloc.Global.{Global}
 use Rattle.std.proofs.lemmas.List.{take_more, map_push}
 use Rattle.wire.specs.Records.{IsRecordText, record_text}
 use Rattle.wire.specs.declared.input.Input.{Input}
+use Rattle.wire.specs.declared.record_format.RecordFormat.TheVariants.{Two}
 use Rattle.stores.specs.Bodies.{items}
 use Rattle.stores.specs.Records.{AreRecords, written}
 use Rattle.stores.proofs.Fronts.{records-snoc}
@@ -14,9 +15,9 @@ text-more texts text inputs input e is =
     ap (map (λ body. Some body)) (map_push items texts text) ∙ map_push (λ body. Some body) (map items texts) (items text) ∙ ap (λ places. places ++ Some (items text) ∷ []) e
     ∙ ap (λ body. written inputs ++ Some body ∷ []) is ∙ sym (map_push (λ i. Some (record_text i)) inputs input)
 
-record-more : (inputs : List Input) (input : Input) (text : List ℕ) → AreRecords (written inputs) inputs → text ≡ record_text input → IsRecordText text input → AreRecords (written (inputs ++ input ∷ [])) (inputs ++ input ∷ [])
+record-more : (inputs : List Input) (input : Input) (text : List ℕ) → AreRecords (written inputs) inputs → text ≡ record_text input → IsRecordText Two text input → AreRecords (written (inputs ++ input ∷ [])) (inputs ++ input ∷ [])
 record-more inputs input text are e is =
-    let P : List ℕ → Type 0 = λ t. IsRecordText t input in
+    let P : List ℕ → Type 0 = λ t. IsRecordText Two t input in
     subst (λ places. AreRecords places (inputs ++ input ∷ [])) (sym (map_push (λ i. Some (record_text i)) inputs input)) (records-snoc (written inputs) inputs (record_text input) input are (subst P e is))
 
 pub loop-input-preserved : goal.loop-input-preserved

@@ -1,8 +1,9 @@
-use Rattle.std.proofs.Common.{sym, ap, ◌∙◌}
-use Rattle.durable.specs.Held.{slots_in}
+use Rattle.sqlite.specs.Held.{state}
+use Rattle.durable.proofs.OpenedAs.{opened_same}
 use Rattle.durable.proofs.open_store.OpenStore.new.Goals as goal
 
 pub returns-clause-durable : goal.returns-clause-durable
 returns-clause-durable g c honest next held =
-    let same = g.met.S.Store.settled c.args.conn.store held.0 (c.requires.ready honest).is_open held.1 in
-    sym held.2 ∙ ap slots_in same
+    let ready = c.requires.ready honest in
+    let same = g.met.S.Store.settled c.args.conn.store held.0 ready.is_open held.1 in
+    opened_same (state g.S.Store c.args.conn).committed.trees held.0 next ready.store same held.2

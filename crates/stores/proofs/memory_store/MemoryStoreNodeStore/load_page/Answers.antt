@@ -11,4 +11,4 @@ returns-clause-records c =
     let P : Memory → Type 0 = λ v. AreRecords (written v.inputs) v.inputs in
     let are : P m = subst P c.self.view_is c.self.invariant in
     let is : c.in_ok-copies.field-0.items ≡ take c.args.max (drop c.args.from m.inputs) = grind (arith, common_steps) in
-    subst (AreRecords (take c.args.max (drop c.args.from (written m.inputs)))) (sym is) (records-take c.args.max _ _ (records-drop c.args.from _ _ are))
+    subst (AreRecords (take c.args.max (drop c.args.from (written m.inputs)))) (sym is) (records-take _ c.args.max _ _ (records-drop _ c.args.from _ _ are))

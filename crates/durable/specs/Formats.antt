@@ -1,0 +1,7 @@
+-- The format of a store.
+use Rattle.wire.specs.declared.record_format.RecordFormat.{RecordFormat}
+use Rattle.wire.specs.declared.record_format.RecordFormat.TheVariants.{Two}
+
+-- the format in which a store is made, and which it has while it runs
+abbrev pub newest : RecordFormat
+newest = Two

@@ -1,0 +1,66 @@
+//! Stores of format 1, which no program makes any more: made by statements.
+
+use crate::store_files::{FOREVER, Stored, execute_all, new_files, open_database, store_of};
+use sqlite::types::ValueRef;
+use sqlite::{Alter, Connection};
+use std::alloc::Global;
+use std::process::Abort;
+
+/// What NZ proposes, as format 1 has it.
+pub const PROPOSE_ONE: &str =
+    r#"{"account":1,"input":"propose","to_account":7,"to_registry":"JP","units":["NZ:1:1-100:AAU"]}"#;
+
+/// That it is accepted, as format 1 has it.
+pub const ACCEPTED_ONE: &str =
+    r#"{"input":"received","message":{"call":"AcceptNotification","codes":[],"from":"ITL","status":"Accepted","to":"NZ","transaction":"NZ1"},"moment":1335830400}"#;
+
+const ABOUT: &str =
+    "CREATE TABLE about (id INTEGER PRIMARY KEY CHECK (id = 1), format INTEGER NOT NULL, node TEXT NOT NULL) STRICT";
+
+const ENTRIES: &str = "CREATE TABLE entries (place INTEGER PRIMARY KEY, body TEXT NOT NULL) STRICT";
+
+const OWNER: &str = "INSERT INTO about (id, format, node) VALUES (1, 1, 'NZ')";
+
+/// Puts a record.
+fn put<S: Alter>(rt: &impl Abort, conn: &mut Connection<S>, place: usize, text: &str) {
+    let place = i64::try_from(place).expect(rt, "a place");
+    let values = [ValueRef::Int(place), ValueRef::Text(text.as_bytes())];
+    let statement = "INSERT INTO entries (place, body) VALUES (?1, ?2)";
+    assert!(rt; conn.execute(statement, &values).is_ok());
+}
+
+/// The files of a store that these statements make, with these records.
+fn files_made_by(rt: &impl Abort, alloc: Global, statements: &[&str], texts: &[&str]) -> Stored {
+    let mut conn = open_database(rt, alloc, new_files(alloc, FOREVER, FOREVER));
+    execute_all(rt, &mut conn, statements);
+    for (place, text) in texts.iter().enumerate() {
+        put(rt, &mut conn, place, text);
+    }
+    store_of(conn).close()
+}
+
+/// The files of NZ's store of format 1 with these records.
+pub fn old_files(rt: &impl Abort, alloc: Global, texts: &[&str]) -> Stored {
+    files_made_by(rt, alloc, &[ABOUT, ENTRIES, OWNER], texts)
+}
+
+/// The same, where `entries` was made first.
+pub fn old_files_entries_first(rt: &impl Abort, alloc: Global, texts: &[&str]) -> Stored {
+    files_made_by(rt, alloc, &[ENTRIES, ABOUT, OWNER], texts)
+}
+
+/// The format of the store that the connection has open.
+fn format_of<S: Alter>(rt: &impl Abort, conn: &mut Connection<S>) -> i64 {
+    let rows = conn.query_all("SELECT format FROM about", &[]);
+    let rows = rows.ok().expect(rt, "the owner's row");
+    let row = rows.first().expect(rt, "an owner");
+    let format: i64 = row.get(0).ok().expect(rt, "a number");
+    format
+}
+
+/// Asserts that the store in the files has that format. Gives them back.
+pub fn assert_format(rt: &impl Abort, alloc: Global, files: Stored, wanted: i64) -> Stored {
+    let mut conn = open_database(rt, alloc, files);
+    assert!(rt; format_of(rt, &mut conn) == wanted);
+    store_of(conn).close()
+}

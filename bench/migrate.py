@@ -72,6 +72,8 @@ class Store:
                 found = output.readline()
                 if found != wanted:
                     sys.exit(f"show wrote {found!r} in the place of {wanted!r}")
+            if output.readline():
+                sys.exit("show wrote more than its end")
 
     def found(self):
         """The format of the store, whose records all have to be in it."""

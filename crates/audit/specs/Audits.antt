@@ -30,6 +30,11 @@ pub record IsAuditTable (scheme : Scheme) (journals : List (List Input)) (text :
   pub live : IsSafe scheme (live_of (run (opening scheme) events))
   pub committed : IsSafe scheme (committed_of (run (opening scheme) events))
 
+-- some events lead to the world whose committed journals are these
+pub record HasRun (scheme : Scheme) (journals : List (List Input)) : Type 0 where
+  pub events : List WorldEvent
+  pub projects : Projects scheme events (journal_of scheme journals)
+
 -- what a fault of weaving is to the command
 abbrev pub of_weaving : WeaveFault → OpFault
 of_weaving (weaving.Stuck n place) = Stuck n place
@@ -53,6 +58,13 @@ module _ {S : Type 0} (is_honest : S → Type 0) (content : S → Places) (may_h
     pub journals : List (List Input)
     pub loaded : AreLoaded is_honest content may_hold must_reopen scheme (nodes scheme) olds news journals
     pub fault : IsWeaveFault scheme (journal_of scheme journals) (weaving.Stuck n place)
+
+  -- the stores were not read, or no run leads to their records
+  abbrev pub FailsToFindRun : OpFault → Scheme → List S → List S → Type 0
+  FailsToFindRun (Stuck n place) scheme olds news = FindsNoRun scheme olds news n place
+  FailsToFindRun (Store told fault) scheme olds news = FailsToLoad is_honest content may_hold must_reopen scheme (nodes scheme) olds news (Store told fault)
+  FailsToFindRun NoMemory scheme olds news = Unit {0}
+  FailsToFindRun _ scheme olds news = ⊥
 
   -- nothing was written, or the first bytes of the table, fewer than all
   abbrev pub FailsToAudit : OpFault → Scheme → List S → List S → (before after : Option (List ℕ)) → Type 0

@@ -2,7 +2,7 @@
 ghost use Rattle.std.specs.Prelude.{◌≡◌, ◌≤◌, ℕ, All, List, IfErr, IfOk, OnOk, length, map, string_bytes};
 ghost use Rattle.std.specs.Io.KnownBytes.{Appends};
 ghost use Rattle.world.specs.Cores as node_cores;
-ghost use Rattle.audit.specs.Audits.{Audits, FailsToAudit, FailsToWeave, IsAuditTable, of_weaving};
+ghost use Rattle.audit.specs.Audits.{Audits, FailsToAudit, FailsToFindRun, FailsToWeave, HasRun, IsAuditTable, of_weaving};
 ghost use Rattle.audit.specs.Stores.{AreKept, AreLoaded, FailsToLoad};
 ghost use Rattle.desk.specs.Views.{committed_records};
 ghost use Rattle.scheme.specs.declared.registries.Scheme.{Scheme};
@@ -11,7 +11,7 @@ ghost use Rattle.wire.specs.declared.input.Input.{Input};
 ghost use Rattle.protocol.specs.Registries.{nodes};
 
 use crate::journals::journals_of;
-use crate::loading::load_cores;
+use crate::loading::{load_cores, states_of};
 use desk::State;
 use inputs::{OpFault, write_out};
 use scheme::Scheme;
@@ -77,6 +77,53 @@ fn table_of_cores<P: Watch>(
     ensures err { IfErr result (FailsToWeave scheme.now (map node_cores.journal_of cores.items)) }
 {
     table_of_woven(alloc, weave_cores(alloc, scheme, cores, watch))
+}
+
+/// Finds a run that leads to the committed records of the states, one for each node: the log's, then those of the
+/// registries in the scheme's order. Fails with `Stuck` where there is none, and with `NoMemory` where memory ran out.
+fn find_run(alloc: Global, scheme: &Scheme, states: &[State<Core>]) -> Result<(), OpFault>
+    requires { length states.now ≡ length (nodes scheme.now) }
+    ensures ok { OnOk result (HasRun scheme.now (map committed_records states.now)) }
+    ensures err { IfErr result (FailsToWeave scheme.now (map committed_records states.now)) }
+{
+    let journals = journals_of(alloc, states)?;
+    match weave(alloc, scheme, journals.as_slice()) {
+        Ok(woven) => {
+            drop(woven);
+            Ok(())
+        }
+        Err(fault) => Err(fault_of(fault)),
+    }
+}
+
+/// Reads the stores, one for each node: the log's, then those of the registries in the scheme's order, and returns the
+/// states that their records lead to, where a run leads to them all. Tells of the records as they are read.
+///
+/// The stores are read by pages, and nothing is written to them.
+///
+/// # Errors
+///
+/// Fails with `Store` and `Stuck` as `audit` does, and with `NoMemory` where memory ran out.
+pub fn load_run<S: NodeStore, P: Watch>(
+    alloc: Global,
+    scheme: &Scheme,
+    stores: &mut [S],
+    watch: &mut P,
+) -> Result<Vec<State<Core>>, OpFault>
+    requires { length stores.old ≡ length (nodes scheme.now) }
+    ensures ok { IfOk result (λ v. AreLoaded S.is_honest S.content S.may_hold S.must_reopen scheme.now (nodes scheme.now) stores.old stores.new (map committed_records v.items)) }
+    ensures run { IfOk result (λ v. HasRun scheme.now (map committed_records v.items)) }
+    ensures err { IfErr result (λ e. FailsToFindRun S.is_honest S.content S.may_hold S.must_reopen e scheme.now stores.old stores.new) }
+    ensures kept { AreKept S.is_honest S.content S.must_reopen stores.old stores.new }
+{
+    let cores = load_cores(alloc, scheme, stores, watch)?;
+    let states = states_of(alloc, cores)?;
+    if let Err(fault) = find_run(alloc, scheme, states.as_slice()) {
+        drop(states);
+        return Err(fault);
+    }
+    watch.finished();
+    Ok(states)
 }
 
 /// Reads the stores of the first nodes: the log's, then those of the registries in the scheme's order. So a fault of

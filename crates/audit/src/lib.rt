@@ -5,5 +5,4 @@ mod auditing;
 mod journals;
 mod loading;
 
-pub use auditing::{audit, audit_watched, read_first, table_of};
-pub use loading::load_all;
+pub use auditing::{audit, audit_watched, load_run, read_first, table_of};

@@ -77,7 +77,7 @@ pub(crate) fn load_cores<S: NodeStore, P: Watch>(
 }
 
 /// A state of each core, in which its whole journal is committed.
-fn states_of(alloc: Global, cores: Vec<Core>) -> Result<Vec<State<Core>>, NoMemory>
+pub(crate) fn states_of(alloc: Global, cores: Vec<Core>) -> Result<Vec<State<Core>>, NoMemory>
     ensures { IfOk result (λ v. map committed_records v.items ≡ map journal_of cores.items) }
 {
     let mut states = Vec::new(alloc);
@@ -85,25 +85,4 @@ fn states_of(alloc: Global, cores: Vec<Core>) -> Result<Vec<State<Core>>, NoMemo
         states.push(State::new(alloc, core))?;
     }
     Ok(states)
-}
-
-/// The states that the records of the first nodes' stores lead to: the log's, then those of the registries in the
-/// scheme's order.
-///
-/// # Errors
-///
-/// Fails with `Store` for the first of the stores that could not be read, or has a damaged record, as `audit` does, and
-/// with `NoMemory` where memory ran out.
-pub fn load_all<S: NodeStore>(
-    alloc: Global,
-    scheme: &Scheme,
-    stores: &mut [S],
-) -> Result<Vec<State<Core>>, OpFault>
-    requires { length stores.old ≤ length (nodes scheme.now) }
-    ensures ok { IfOk result (λ v. AreLoaded S.is_honest S.content S.may_hold S.must_reopen scheme.now (nodes scheme.now) stores.old stores.new (map committed_records v.items)) }
-    ensures err { IfErr result (FailsToLoad S.is_honest S.content S.may_hold S.must_reopen scheme.now (nodes scheme.now) stores.old stores.new) }
-    ensures kept { AreKept S.is_honest S.content S.must_reopen stores.old stores.new }
-{
-    let cores = load_cores(alloc, scheme, stores, &mut Nobody)?;
-    Ok(states_of(alloc, cores)?)
 }

@@ -12,6 +12,7 @@ use scripts::{ScriptLine, read_script};
 use sqlite::File;
 use std::alloc::{AllocError, Global};
 use std::fs;
+use std::io::IsTerminal;
 use units::Node;
 
 /// The scheme of the file at the path.
@@ -45,7 +46,14 @@ fn store_path(alloc: Global, folder: &str, node: Node) -> Result<String, AllocEr
     format!(in alloc; "{folder}/{node}.db")
 }
 
-/// Opens the store of the node, which is migrated where it has format 1.
+/// Tells, at a terminal, that a store isn't there and is made.
+fn tell_missing(rt: &HostRuntime, path: &str) {
+    if rt.stderr().is_terminal() && fs::metadata(rt, path).is_err() {
+        let _ = eprintln!(rt; "kyoto-link: {path} isn't there, and is made as an empty store");
+    }
+}
+
+/// Opens the store of the node, which is made where there is none, and migrated where it has format 1.
 pub(crate) fn open_store(
     rt: &HostRuntime,
     folder: &str,
@@ -54,6 +62,7 @@ pub(crate) fn open_store(
     let Ok(path) = store_path(rt.alloc(), folder, node) else {
         return Err(OpFault::NoMemory);
     };
+    tell_missing(rt, path.as_str());
     let mut line = MigrationLine::new(rt, node);
     let opened = SqlStore::open_path_watched(rt, path.as_str(), node, &mut line);
     line.finished();

@@ -2,10 +2,12 @@
 #![tactic(auto)]
 
 mod files;
+mod hints;
 mod running;
 mod watching;
 
 use crate::files::{find_folder, open_store, open_stores, scheme_at};
+use crate::hints::explain;
 use crate::running::run_nodes;
 use crate::watching::ProgressLine;
 use audit::audit_watched;
@@ -119,7 +121,14 @@ where
     R: Threads + Wait + SystemClock + Net<Listener = TcpListener, Stream = TcpStream> + Sync,
 {
     match parse_words(rt.alloc(), words) {
-        Ok(action) => ended(rt, act(rt, threads, &action)),
+        Ok(action) => match act(rt, threads, &action) {
+            Ok(()) => ExitCode::SUCCESS,
+            Err(fault) => {
+                let status = report(rt, fault);
+                explain(rt, &action, fault);
+                status
+            }
+        },
         Err(UsageFault::Help(error)) => ended(rt, write_help(rt, &error)),
         Err(UsageFault::Usage(error)) => refuse(rt, &error),
         Err(UsageFault::NoMemory) => report(rt, OpFault::NoMemory),

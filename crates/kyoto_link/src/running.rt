@@ -3,11 +3,12 @@ ghost use Rattle.std.specs.Prelude.{◌≡◌, IfOk, length, vec_len};
 ghost use Rattle.protocol.specs.Registries.{nodes};
 
 use crate::files::{find_folder, open_stores, scheme_at, script_at};
+use crate::watching::ProgressLine;
 use answers::WallClock;
-use audit::load_all;
+use audit::load_run;
 use desk::OpenGate;
 use durable::SqlStore;
-use inputs::OpFault;
+use inputs::{OpFault, store_fault};
 use protocol::nodes_of;
 use runs::{Loaded, Network, run_script};
 use scheme::Scheme;
@@ -21,8 +22,10 @@ use std::rt::Clock as SystemClock;
 use std::sync::Wait;
 use std::thread::Threads;
 use units::Node;
+use weave::Watch;
 
-/// The stores of all nodes, and the states that their records lead to.
+/// The stores of all nodes, and the states that their records lead to. Fails with `Stuck` where no run leads to these
+/// records: a run that went on from them would add to them.
 fn load_nodes(
     rt: &HostRuntime,
     scheme: &Scheme,
@@ -32,8 +35,16 @@ fn load_nodes(
     ensures stores { IfOk result (λ l. vec_len l.stores ≡ length (nodes scheme.now)) }
 {
     let mut stores = open_stores(rt, scheme, folder)?;
-    let states = load_all(rt.alloc(), scheme, stores.as_mut_slice())?;
-    Ok(Loaded { states, stores })
+    let mut progress = ProgressLine::new(rt);
+    let found = load_run(rt.alloc(), scheme, stores.as_mut_slice(), &mut progress);
+    progress.finished();
+    match found {
+        Ok(states) => Ok(Loaded { states, stores }),
+        Err(fault) => {
+            drop(stores);
+            Err(fault)
+        }
+    }
 }
 
 /// A listener for each node.
@@ -49,6 +60,19 @@ fn open_all<R: Net<Listener = TcpListener, Stream = TcpStream>>(
         Err(error) if error.kind() == ErrorKind::OutOfMemory => Err(OpFault::NoMemory),
         Err(_) => Err(OpFault::Read),
     }
+}
+
+/// Copies each store's log into its database file, which has all its records by itself then, and closes it. Fails with
+/// the first fault of a store, after all of them were closed; the records of that one are in its file and its log.
+fn close_stores(stores: Vec<SqlStore<File>>) -> Result<(), OpFault> {
+    let mut first = Ok(());
+    for store in stores {
+        let node = store.node();
+        if let Err(fault) = store.checkpoint() {
+            first = first.and(Err(store_fault(node, fault)));
+        }
+    }
+    first
 }
 
 /// Runs the nodes in threads, over connections of the loopback interface, while the script is played, and reports.
@@ -74,7 +98,7 @@ where
         clock: &WallClock::new(threads),
         gate: &OpenGate,
     };
-    run_script(
+    let stores = run_script(
         threads,
         rt.alloc(),
         scheme,
@@ -82,7 +106,8 @@ where
         loaded,
         &network,
         &mut io::writer(rt),
-    )
+    )?;
+    close_stores(stores)
 }
 
 /// The command `run`. Before anything runs it looks at the scheme, then at the whole script, at the folder, at the

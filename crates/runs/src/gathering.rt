@@ -11,34 +11,35 @@ use stores::StoreFault;
 use units::NoMemory;
 use world::Core;
 
-/// The seats of all that were told something by the nodes' desks, a list for each node, and the fault of each node's
-/// store.
+/// The seats of all that were told something by the nodes' desks, a list for each node, the store of each node, and the
+/// fault of each node's store.
 #[derive(Drop)]
-pub(crate) struct Gathered {
+pub(crate) struct Gathered<S> {
     pub(crate) seats: Vec<Vec<Seat>>,
+    pub(crate) stores: Vec<S>,
     pub(crate) faults: Vec<Option<StoreFault>>,
 }
 
-impl Gathered {
+impl<S: Drop> Gathered<S> {
     /// Makes room for one node more, and for one seat more among its seats.
     fn make_room(&mut self, seats: &mut Vec<Seat>) -> Result<(), NoMemory>
         ensures gathered { self.new.seats.items ≡ self.old.seats.items }
+        ensures stores { self.new.stores.items ≡ self.old.stores.items }
         ensures seats { OnOk result ((vec_len self.new.seats < vec_capacity self.new.seats) × (vec_len self.new.faults < vec_capacity self.new.faults)) }
+        ensures store { OnOk result (vec_len self.new.stores < vec_capacity self.new.stores) }
         ensures seat { OnOk result (vec_len seats.new < vec_capacity seats.new) }
     {
         seats.reserve(1)?;
         self.seats.reserve(1)?;
+        self.stores.reserve(1)?;
         self.faults.reserve(1)?;
         Ok(())
     }
 
-    /// Adds the seats of a node's threads, and one more.
-    fn add<S: Drop>(
-        &mut self,
-        end: Option<Result<NodeEnd<S>, NoMemory>>,
-        seat: Seat,
-    ) -> Result<(), NoMemory>
-        ensures { OnOk result ((v : Vec Heard Global) × (self.new.seats.items ≡ self.old.seats.items ++ v ∷ []) × Contains v.items seat) }
+    /// Adds the store and the seats of a node's threads, and one seat more.
+    fn add(&mut self, end: Option<Result<NodeEnd<S>, NoMemory>>, seat: Seat) -> Result<(), NoMemory>
+        ensures seats { OnOk result ((v : Vec Heard Global) × (self.new.seats.items ≡ self.old.seats.items ++ v ∷ []) × Contains v.items seat) }
+        ensures stores { OnOk result (vec_len self.new.stores ≡ vec_len self.old.stores + 1) }
     {
         let Some(Ok(end)) = end else {
             drop(seat);
@@ -49,30 +50,33 @@ impl Gathered {
             store,
             fault,
         } = end;
-        drop(store);
         if let Err(NoMemory) = self.make_room(&mut others) {
             drop(others);
+            drop(store);
             drop(seat);
             return Err(NoMemory);
         }
         others.push_reserved(seat);
         self.seats.push_reserved(others);
+        self.stores.push_reserved(store);
         self.faults.push_reserved(fault);
         Ok(())
     }
 }
 
-/// The seats of each node's threads with that of the script at its desk, in the order of the nodes. Fails with
-/// `NoMemory` where memory ran out, also for the threads of a node.
+/// The seats of each node's threads with that of the script at its desk, and the nodes' stores, in the order of the
+/// nodes. Fails with `NoMemory` where memory ran out, also for the threads of a node.
 pub(crate) fn gather<S: Drop>(
     alloc: Global,
     ends: Vec<Result<NodeEnd<S>, NoMemory>>,
     seats: Vec<Seat>,
-) -> Result<Gathered, NoMemory>
-    ensures { IfOk result (λ g. AreGathered seats.items (map (λ v. v.items) g.seats.items)) }
+) -> Result<Gathered<S>, NoMemory>
+    ensures seats { IfOk result (λ g. AreGathered seats.items (map (λ v. v.items) g.seats.items)) }
+    ensures stores { IfOk result (λ g. vec_len g.stores ≡ vec_len seats) }
 {
     let mut gathered = Gathered {
         seats: Vec::new(alloc),
+        stores: Vec::new(alloc),
         faults: Vec::new(alloc),
     };
     let mut ends = ends.into_iter();

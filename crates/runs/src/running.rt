@@ -63,8 +63,9 @@ fn gather_checked<S: Drop>(
     scheme: &Scheme,
     ends: Ends<S>,
     seats: Vec<Seat>,
-) -> Result<Gathered, OpFault>
+) -> Result<Gathered<S>, OpFault>
     ensures ok { IfOk result (λ g. AreGathered seats.items (map (λ v. v.items) g.seats.items)) }
+    ensures stores { IfOk result (λ g. vec_len g.stores ≡ vec_len seats) }
     ensures err { IfErr result IsLateFault }
 {
     let ends = match ends {
@@ -106,6 +107,13 @@ fn with_table(
     }
 }
 
+/// What a run that went well leaves: the answers and then the table, and the stores of the nodes.
+#[derive(Drop)]
+struct Whole<S> {
+    text: String,
+    stores: Vec<S>,
+}
+
 /// The answers, and then the table of what the nodes have committed.
 fn whole_of<S: Drop>(
     alloc: Global,
@@ -114,12 +122,13 @@ fn whole_of<S: Drop>(
     ends: Ends<S>,
     seats: Vec<Seat>,
     answers: &str,
-) -> Result<String, OpFault>
+) -> Result<Whole<S>, OpFault>
     requires desks { vec_len desks ≡ length (nodes scheme.now) }
     requires seats { vec_len seats ≡ length (nodes scheme.now) }
     ensures ok { IfOk result
-        (λ s. (lines : List ALine) (told : List AnAnswer) → AreHeard scheme.now seats.items lines told
-        → answers.now ≡ answer_lines 1 told → IsRunReport scheme.now lines (string_bytes s)) }
+        (λ w. (lines : List ALine) (told : List AnAnswer) → AreHeard scheme.now seats.items lines told
+        → answers.now ≡ answer_lines 1 told → IsRunReport scheme.now lines (string_bytes w.text)) }
+    ensures stores { IfOk result (λ w. vec_len w.stores ≡ length (nodes scheme.now)) }
     ensures err { IfErr result IsLateFault }
 {
     let gathered = match gather_checked(alloc, scheme, ends, seats) {
@@ -141,11 +150,22 @@ fn whole_of<S: Drop>(
         answers,
     );
     drop(states);
-    drop(gathered);
-    whole
+    let Gathered {
+        seats,
+        stores,
+        faults: _,
+    } = gathered;
+    drop(seats);
+    match whole {
+        Ok(text) => Ok(Whole { text, stores }),
+        Err(fault) => {
+            drop(stores);
+            Err(fault)
+        }
+    }
 }
 
-/// Writes what a run came to: the answers in any case, and then the table or the fault.
+/// Writes what a run came to: the answers in any case, and then the table or the fault. Returns the stores of the nodes.
 fn write_run<S: Drop, W: Write>(
     alloc: Global,
     scheme: &Scheme,
@@ -154,11 +174,12 @@ fn write_run<S: Drop, W: Write>(
     played: Played,
     lines: &[ScriptLine],
     writer: &mut W,
-) -> Result<(), OpFault>
+) -> Result<Vec<S>, OpFault>
     requires desks { vec_len desks ≡ length (nodes scheme.now) }
     requires seats { vec_len played.seats ≡ length (nodes scheme.now) }
     requires heard { AreHeard scheme.now played.seats.items lines.now played.answers.items }
     ensures ok { OnOk result ((text : List ℕ) × IsRunReport scheme.now lines.now text × Appends (W.contents writer.old) (W.contents writer.new) text) }
+    ensures stores { IfOk result (λ v. vec_len v ≡ length (nodes scheme.now)) }
     ensures err { IfErr result (λ e. FailsToRun e scheme.now lines.now (W.contents writer.old) (W.contents writer.new)) }
 {
     let Played { seats, answers } = played;
@@ -166,7 +187,13 @@ fn write_run<S: Drop, W: Write>(
         return Err(OpFault::NoMemory);
     };
     match whole_of(alloc, scheme, desks, ends, seats, text.as_str()) {
-        Ok(whole) => write_out(writer, whole.as_str()),
+        Ok(Whole { text, stores }) => match write_out(writer, text.as_str()) {
+            Ok(()) => Ok(stores),
+            Err(unwritten) => {
+                drop(stores);
+                Err(unwritten)
+            }
+        },
         Err(fault) => match write_out(writer, text.as_str()) {
             Ok(()) => Err(fault),
             Err(unwritten) => Err(unwritten),
@@ -179,11 +206,11 @@ fn write_run<S: Drop, W: Write>(
 /// then. Writes the answers, a line each, and then the table of a run that leads to what all nodes have committed: of
 /// the world that the protocol's own steps lead to, whatever sockets and threads did.
 ///
-/// The states are those that the stores' records lead to. The stores are closed when it returns.
+/// The states are those that the stores' records lead to. Returns the stores, each as its node left it.
 ///
 /// # Errors
 ///
-/// The answers are written once the script has ended, and then it fails with the first of:
+/// The stores are closed then. The answers are written once the script has ended, and then it fails with the first of:
 ///
 /// - `Store`: the fault of the first node's store that failed, in the order of the log and then the registries. That
 ///   node stopped, and the others went on.
@@ -199,7 +226,7 @@ pub fn run_script<S, L, D, K, G, W, R>(
     loaded: Loaded<S>,
     network: &Network<'_, L, D, K, G>,
     writer: &mut W,
-) -> Result<(), OpFault>
+) -> Result<Vec<S>, OpFault>
 where
     S: NodeStore + Send + Drop,
     L: Listen + Sync,
@@ -212,6 +239,7 @@ where
     requires stores { vec_len loaded.stores ≡ length (nodes scheme.now) }
     requires listeners { length network.now.listeners.now ≡ length (nodes scheme.now) }
     ensures ok { OnOk result ((text : List ℕ) × IsRunReport scheme.now lines.now text × Appends (W.contents writer.old) (W.contents writer.new) text) }
+    ensures stores { IfOk result (λ v. vec_len v ≡ length (nodes scheme.now)) }
     ensures err { IfErr result (λ e. FailsToRun e scheme.now lines.now (W.contents writer.old) (W.contents writer.new)) }
 {
     let Run {

@@ -2,7 +2,7 @@
 
 use crate::registries::{registry, worked_scheme};
 use answers::WallClock;
-use audit::load_all;
+use audit::load_run;
 use desk::OpenGate;
 use inputs::OpFault;
 use protocol::nodes_of;
@@ -17,6 +17,7 @@ use std::sync::Wait;
 use std::thread::Threads;
 use stores::MemoryStore;
 use units::Node;
+use weave::Nobody;
 
 /// Empty stores of the log, of JP and of NZ.
 pub fn new_stores(rt: &impl Abort, alloc: Global) -> [MemoryStore; 3] {
@@ -50,7 +51,7 @@ where
     let scheme = worked_scheme(rt, alloc);
     let lines = lines_of(rt, alloc, script);
     let mut stores = Vec::from_array(alloc, stores).expect(rt, "memory");
-    let states = load_all(alloc, &scheme, stores.as_mut_slice()).expect(rt, "states");
+    let states = load_run(alloc, &scheme, stores.as_mut_slice(), &mut Nobody).expect(rt, "states");
     let nodes = nodes_of(alloc, &scheme).expect(rt, "memory");
     let listeners = open_ports(rt, alloc, nodes.len()).expect(rt, "free ports");
     let dial = Ports::of(rt, alloc, nodes.as_slice(), listeners.as_slice()).expect(rt, "memory");
@@ -75,5 +76,11 @@ where
     drop(nodes);
     drop(lines);
     drop(scheme);
-    (done, written)
+    match done {
+        Ok(stores) => {
+            drop(stores);
+            (Ok(()), written)
+        }
+        Err(fault) => (Err(fault), written),
+    }
 }

@@ -4,8 +4,8 @@ use Rattle.std.proofs.lemmas.List.Elements.{Contains-push}
 use Rattle.desk.specs.Views.{Heard}
 use Rattle.runs.proofs.gathering.Gathered.add.Goals as goal
 
-pub returns : goal.returns
-returns g c =
+pub returns-clause-seats : goal.returns-clause-seats
+returns-clause-seats g c =
     let others = c.push_reserved.new.self in (
       others,
       c.push_reserved-2.ensures.items ∙ ap (λ (l : List (Vec Heard Global)). l ++ others ∷ []) c.make_room.ensures.gathered,

@@ -1,0 +1,122 @@
+//! A second line on a fault, for who waits at a terminal: the path, the word or the line that it is about.
+
+use crate::files::{find_folder, scheme_at};
+use inputs::OpFault;
+use operator::Action;
+use std::fs;
+use std::io::IsTerminal;
+
+/// What the words of a command name.
+#[derive(Clone, Copy)]
+struct Named<'a> {
+    scheme: &'a str,
+    folder: &'a str,
+    node: Option<&'a str>,
+    script: Option<&'a str>,
+}
+
+/// What an action's words name. `None` where it reads standard input alone.
+fn named_by(action: &Action) -> Option<Named<'_>> {
+    match action {
+        Action::Rehearse | Action::Chart => None,
+        Action::Show {
+            scheme,
+            folder,
+            node,
+        } => Some(Named {
+            scheme: scheme.as_str(),
+            folder: folder.as_str(),
+            node: Some(node.as_str()),
+            script: None,
+        }),
+        Action::Audit { scheme, folder } => Some(Named {
+            scheme: scheme.as_str(),
+            folder: folder.as_str(),
+            node: None,
+            script: None,
+        }),
+        Action::Run {
+            scheme,
+            folder,
+            script,
+        } => Some(Named {
+            scheme: scheme.as_str(),
+            folder: folder.as_str(),
+            node: None,
+            script: Some(script.as_str()),
+        }),
+    }
+}
+
+/// Names what could not be read: it is tried once more, in the order in which the commands read.
+fn tell_unread(rt: &HostRuntime, named: &Named<'_>) {
+    if fs::read(rt, named.scheme).is_err() {
+        let _ = eprintln!(rt;
+            "kyoto-link: the scheme's file, {}, can't be read",
+            named.scheme
+        );
+        return;
+    }
+    if let Some(script) = named.script {
+        if fs::read(rt, script).is_err() {
+            let _ = eprintln!(rt; "kyoto-link: the script's file, {script}, can't be read");
+            return;
+        }
+    }
+    if find_folder(rt, named.folder).is_err() {
+        let _ = eprintln!(rt; "kyoto-link: {} is no folder", named.folder);
+        return;
+    }
+    let _ = eprintln!(rt;
+        "kyoto-link: there is no free port of 127.0.0.1, or no file handle is left"
+    );
+}
+
+/// Writes the line of the script, which is counted from 1, after its path.
+fn tell_script_line(rt: &HostRuntime, script: &str, line: u64) {
+    let Ok(text) = fs::read_to_string(rt, script) else {
+        return;
+    };
+    let mut number: u64 = 0;
+    for found in text.as_str().lines() {
+        number = number.saturating_add(1);
+        if number == line {
+            let _ = eprintln!(rt; "kyoto-link: {script}:{line}: {found}");
+        }
+    }
+}
+
+/// Names the file of which a line has a fault, or the node that isn't in the scheme.
+fn tell_line(rt: &HostRuntime, named: &Named<'_>, line: u64) {
+    if scheme_at(rt, named.scheme).is_err() {
+        let _ = eprintln!(rt; "kyoto-link: it is the scheme's file, {}", named.scheme);
+    } else if let Some(node) = named.node {
+        let _ = eprintln!(rt; "kyoto-link: {node} is no node of {}", named.scheme);
+    } else if let Some(script) = named.script {
+        tell_script_line(rt, script, line);
+    }
+}
+
+/// Writes on standard error what the fault of an action is about, where standard error is a terminal.
+pub(crate) fn explain(rt: &HostRuntime, action: &Action, fault: OpFault) {
+    if !rt.stderr().is_terminal() {
+        return;
+    }
+    let Some(named) = named_by(action) else {
+        return;
+    };
+    match fault {
+        OpFault::Read => tell_unread(rt, &named),
+        OpFault::Input { line, cause: _ } => tell_line(rt, &named, line),
+        OpFault::Store { node, fault: _ } => {
+            let _ = eprintln!(rt; "kyoto-link: the store is {}/{node}.db", named.folder);
+        }
+        OpFault::Stuck { node, place } => {
+            let _ = eprintln!(rt;
+                "kyoto-link: 'kyoto-link show {} {} {node}' writes the record at place {place}",
+                named.scheme, named.folder
+            );
+        }
+        OpFault::Unsettled { .. } | OpFault::Write(_) | OpFault::NoMemory => {}
+    }
+}

@@ -11,6 +11,7 @@ use desk::{Bell, Desk, Gate, Receipt, Seat, Taken, Told};
 use protocol::{NodeCore, refusals_have_causes};
 use std::alloc::Global;
 use std::marker::Model;
+use std::rt::Clock as SystemClock;
 use std::sync::Wait;
 use units::refusal_code::{NODE_STOPPED, OUT_OF_MEMORY};
 use units::{NoMemory, Refusal};
@@ -149,7 +150,7 @@ fn reply_to(taken: &Taken) -> Reply
 
 /// Waits for the receipt of a message that was judged by a journal, and returns the answer to its line: with its reply
 /// and the receipt, or with refusal `NODE_STOPPED` where the node stopped before.
-fn answer_confirmed<C: NodeCore, B: Bell, R: Wait>(
+fn answer_confirmed<C: NodeCore, B: Bell, R: Wait + SystemClock>(
     rt: &R,
     desk: &Desk<C, B>,
     seat: &mut Seat,
@@ -170,7 +171,7 @@ fn answer_confirmed<C: NodeCore, B: Bell, R: Wait>(
 }
 
 /// As `answer_job`, for a line and the message that it writes.
-fn answer_message<C: NodeCore, B: Bell, K: Clock, G: Gate, R: Wait>(
+fn answer_message<C: NodeCore, B: Bell, K: Clock, G: Gate, R: Wait + SystemClock>(
     rt: &R,
     desk: &Desk<C, B>,
     seat: &mut Seat,
@@ -194,7 +195,7 @@ fn answer_message<C: NodeCore, B: Bell, K: Clock, G: Gate, R: Wait>(
 /// Has the desk take a job's message once, at the clock's moment, and returns the answer to the job's line: at once
 /// where the node had stopped or memory ran out, and else when all records are committed that the journal had then.
 /// Where the node stops before, the reply is refusal `NODE_STOPPED`. While the desk holds its lock, it passes the gate.
-pub fn answer_job<C: NodeCore, B: Bell, K: Clock, G: Gate, R: Wait>(
+pub fn answer_job<C: NodeCore, B: Bell, K: Clock, G: Gate, R: Wait + SystemClock>(
     rt: &R,
     desk: &Desk<C, B>,
     seat: &mut Seat,

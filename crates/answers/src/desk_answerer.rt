@@ -10,6 +10,7 @@ use exchanges::Answerer;
 use protocol::NodeCore;
 use std::alloc::Global;
 use std::marker::Model;
+use std::rt::Clock as SystemClock;
 use std::sync::Wait;
 use units::NoMemory;
 use wire::Reply;
@@ -35,7 +36,7 @@ impl<'a, C: NodeCore, B: Bell, K: Clock, R: Wait> Model for DeskAnswerer<'a, C, 
 
 /// The answer to a line, by the desk with that seat where the line writes a message. Fails with `NoMemory` where
 /// memory ran out, and the desk has taken nothing.
-fn answer_line<C: NodeCore, B: Bell, K: Clock, R: Wait>(
+fn answer_line<C: NodeCore, B: Bell, K: Clock, R: Wait + SystemClock>(
     rt: &R,
     alloc: Global,
     desk: &Desk<C, B>,
@@ -97,7 +98,8 @@ impl<'a, C: NodeCore, B: Bell, K: Clock, R: Wait> DeskAnswerer<'a, C, B, K, R> {
     }
 }
 
-impl<'a, C: NodeCore, B: Bell, K: Clock, R: Wait> Answerer for DeskAnswerer<'a, C, B, K, R> {
+impl<'a, C: NodeCore, B: Bell, K: Clock, R: Wait + SystemClock> Answerer
+    for DeskAnswerer<'a, C, B, K, R> {
     ghost use Rattle.exchanges.specs.Given.{GivesOne};
     ghost use Rattle.answers.specs.Answers.{RepliesOnce, given_of};
 

@@ -7,7 +7,7 @@ use answers::{DeskAnswerer, WallClock};
 use desk::{Desk, RoomBell, Seat};
 use exchanges::{Counted, Exchange, exchange, serve_session};
 use registry_core::RegistryCore;
-use sessions::{Dial, Listen};
+use sessions::{Accepted, Dial, Listen};
 use sockets::{Port, Ports};
 use std::alloc::Global;
 use std::io::{Read, Write};
@@ -43,11 +43,26 @@ fn serve_one<Rd: Read + Drop, Wr: Write + Drop, R: Wait + Clock>(
     answerer.into_seat()
 }
 
+/// How often an accept is made at most to which nobody comes.
+const MOST_WAITS: u32 = 100;
+
+/// The next connection. `None` where accepting it failed, or nobody came.
+fn accept<L: Listen>(listen: &L) -> Option<(L::Reader, L::Writer)> {
+    for _ in 0..MOST_WAITS {
+        match listen.accept() {
+            Accepted::Connection(reader, writer) => return Some((reader, writer)),
+            Accepted::Nobody => {}
+            Accepted::Failed => return None,
+        }
+    }
+    None
+}
+
 /// Serves that many connections, one after another.
 fn serve<L: Listen, R: Wait + Clock>(rt: &R, alloc: Global, desk: &NzDesk, listen: &L, count: u32) {
     let mut seat = Seat::new(alloc);
     for _ in 0..count {
-        if let Some((reader, writer)) = listen.accept() {
+        if let Some((reader, writer)) = accept(listen) {
             seat = serve_one(rt, alloc, desk, seat, reader, writer);
         }
     }

@@ -38,7 +38,7 @@ fn proposal(alloc: Global, jp: Code, place: u64) -> Result<Input, Fault> {
 }
 
 /// Waits until what was taken is committed, and returns whether it was.
-fn confirm<R: Wait>(rt: &R, desk: &NzDesk, seat: &mut Seat, taken: Taken) -> bool {
+fn confirm<R: Wait + Clock>(rt: &R, desk: &NzDesk, seat: &mut Seat, taken: Taken) -> bool {
     let confirmed = desk.confirm(rt, seat, taken);
     let is_committed = confirmed.is_ok();
     drop(confirmed);
@@ -47,7 +47,13 @@ fn confirm<R: Wait>(rt: &R, desk: &NzDesk, seat: &mut Seat, taken: Taken) -> boo
 
 /// Has the desk take the input, and waits until the last one is committed. Returns whether it was recorded, and the
 /// last one committed.
-fn take_one<R: Wait>(rt: &R, desk: &NzDesk, seat: &mut Seat, input: Input, is_last: bool) -> bool {
+fn take_one<R: Wait + Clock>(
+    rt: &R,
+    desk: &NzDesk,
+    seat: &mut Seat,
+    input: Input,
+    is_last: bool,
+) -> bool {
     let taken = desk.take(rt, seat, input);
     let is_recorded = matches!(taken.told(), Told::Step(Stepped::Recorded(_)));
     if is_recorded && is_last {
@@ -59,7 +65,7 @@ fn take_one<R: Wait>(rt: &R, desk: &NzDesk, seat: &mut Seat, input: Input, is_la
 }
 
 /// Has the desk take the proposals of those places, and waits until the last one is committed.
-fn take_each<R: Wait>(
+fn take_each<R: Wait + Clock>(
     rt: &R,
     alloc: Global,
     desk: &NzDesk,
@@ -80,7 +86,7 @@ fn take_each<R: Wait>(
 }
 
 /// The same, at a seat of its own, which it returns.
-fn take_all<R: Wait>(
+fn take_all<R: Wait + Clock>(
     rt: &R,
     alloc: Global,
     desk: &NzDesk,
@@ -99,7 +105,7 @@ fn take_all<R: Wait>(
 }
 
 /// Commits until the desk has stopped.
-fn commit_all<R: Wait, S: NodeStore>(
+fn commit_all<R: Wait + Clock, S: NodeStore>(
     rt: &R,
     desk: &NzDesk,
     store: &mut S,
@@ -117,7 +123,7 @@ fn commit_all<R: Wait, S: NodeStore>(
 }
 
 /// Has four threads take the proposals, and stops the desk then.
-fn take_in_threads<R: Threads + Wait + Sync>(
+fn take_in_threads<R: Threads + Wait + Clock + Sync>(
     rt: &R,
     alloc: Global,
     desk: &NzDesk,
@@ -149,7 +155,7 @@ fn take_in_threads<R: Threads + Wait + Sync>(
 }
 
 /// Four threads that take, and one that commits.
-fn take_and_commit<S: NodeStore + Send + Drop, R: Threads + Wait + Sync>(
+fn take_and_commit<S: NodeStore + Send + Drop, R: Threads + Wait + Clock + Sync>(
     rt: &R,
     alloc: Global,
     desk: &NzDesk,
@@ -186,7 +192,7 @@ fn end(desk: NzDesk, seats: Vec<Seat>, records: u32) -> Result<(), Fault> {
 }
 
 /// Has threads record and commit that many proposals, and settles.
-fn run_threads<S: NodeStore + Send + Drop, R: Threads + Wait + Sync>(
+fn run_threads<S: NodeStore + Send + Drop, R: Threads + Wait + Clock + Sync>(
     rt: &R,
     alloc: Global,
     desk: NzDesk,

@@ -1,7 +1,12 @@
 //! What wakes the threads that wait for something to happen at a desk.
 ghost use Rattle.std.specs.Prelude.{◌≡◌, ◌+◌, ◌%◌, ◌^◌};
 
-use std::sync::{Condvar, Mutex, Wait};
+use std::rt::Clock as SystemClock;
+use std::sync::{Condvar, CondvarTimeouts, Mutex, Wait};
+use std::time::Duration;
+
+/// How many seconds a thread waits at a bell at most, before it looks again by itself.
+pub const LONGEST_QUIET: u64 = 1;
 
 /// A number that threads can wait for to change.
 pub trait Bell: Drop {
@@ -11,8 +16,9 @@ pub trait Bell: Drop {
     /// Adds one to the number, where 0 follows the greatest, and wakes those that wait.
     fn ring<R: Wait>(&self, rt: &R);
 
-    /// Returns once the number is another than `rings`.
-    fn wait<R: Wait>(&self, rt: &R, rings: u64);
+    /// Returns once the number is another than `rings`, and after `LONGEST_QUIET` seconds at the latest. So whoever
+    /// waits looks again then, also where nothing rang.
+    fn wait<R: Wait + SystemClock>(&self, rt: &R, rings: u64);
 }
 
 /// A bell under a lock of its own.
@@ -50,9 +56,10 @@ impl Bell for RoomBell {
         self.rung.notify_all();
     }
 
-    fn wait<R: Wait>(&self, rt: &R, rings: u64) {
+    fn wait<R: Wait + SystemClock>(&self, rt: &R, rings: u64) {
+        let longest = Duration::from_secs(LONGEST_QUIET);
         let _now = self
             .rung
-            .wait_while(rt, self.rings.lock(rt), |now| *now == rings);
+            .wait_timeout_while(rt, self.rings.lock(rt), longest, |now| *now == rings);
     }
 }

@@ -14,6 +14,7 @@ use crate::seat::Seat;
 use crate::state::{Receipt, State, Taken};
 use protocol::{NodeCore, Stepped};
 use status::TransactionId;
+use std::rt::Clock as SystemClock;
 use std::sync::{Mutex, Wait};
 use stores::{NodeStore, StoreFault};
 use units::refusal_code::NODE_STOPPED;
@@ -153,10 +154,10 @@ impl<C: NodeCore, B: Bell> Desk<C, B> {
     }
 
     /// Waits until all records are committed that the journal had when this was taken, and returns a receipt of it.
-    /// The seat has kept that they are.
+    /// The seat has kept that they are. It looks when the bell rings, and every `LONGEST_QUIET` seconds by itself.
     ///
     /// Fails with `NODE_STOPPED` where the state stopped before that commit. The seat is then as it was.
-    pub fn confirm<R: Wait>(
+    pub fn confirm<R: Wait + SystemClock>(
         &self,
         rt: &R,
         seat: &mut Seat,
@@ -175,7 +176,11 @@ impl<C: NodeCore, B: Bell> Desk<C, B> {
         }
     }
 
-    fn wait_for_receipt<R: Wait>(&self, rt: &R, taken: Taken) -> Result<Receipt, Refusal>
+    fn wait_for_receipt<R: Wait + SystemClock>(
+        &self,
+        rt: &R,
+        taken: Taken,
+    ) -> Result<Receipt, Refusal>
         ensures { MatchResult result (λ receipt. receipt ≡ taken) (λ refusal. refusal ≡ stopped) }
     {
         let mut awaited = taken;
@@ -253,7 +258,8 @@ impl<C: NodeCore, B: Bell> Desk<C, B> {
     }
 
     /// The bell, for threads that wait until there is more to commit or to send: read its number, look at the desk,
-    /// and wait for another number where there is nothing to do.
+    /// and wait for another number where there is nothing to do. Such a wait also ends after `LONGEST_QUIET`
+    /// seconds, so look again after it.
     pub fn bell(&self) -> &B {
         &self.bell
     }

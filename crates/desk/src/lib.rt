@@ -16,7 +16,7 @@ mod seat;
 mod settling;
 mod state;
 
-pub use bell::{Bell, RoomBell};
+pub use bell::{Bell, LONGEST_QUIET, RoomBell};
 pub use desk::Desk;
 pub use gate::{Gate, OpenGate, Spot};
 pub use life::{Life, Unsettled};

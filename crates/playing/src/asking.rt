@@ -31,7 +31,7 @@ fn is_unjudged(told: Told) -> bool
 
 /// What was told, once all records are committed that the journal had then; at once where no journal judged it. Refusal
 /// `NODE_STOPPED` where the node stopped before.
-fn confirmed<C: NodeCore, B: Bell, R: Wait>(
+fn confirmed<C: NodeCore, B: Bell, R: Wait + SystemClock>(
     rt: &R,
     desk: &Desk<C, B>,
     seat: &mut Seat,
@@ -54,7 +54,7 @@ fn confirmed<C: NodeCore, B: Bell, R: Wait>(
 }
 
 /// What the node tells of an order, once its record is committed.
-fn order<C: NodeCore, B: Bell, R: Wait>(
+fn order<C: NodeCore, B: Bell, R: Wait + SystemClock>(
     rt: &R,
     desk: &Desk<C, B>,
     seat: &mut Seat,
@@ -68,7 +68,7 @@ fn order<C: NodeCore, B: Bell, R: Wait>(
 }
 
 /// The same of a copy of the order; refusal `OUT_OF_MEMORY` where there is no memory for one.
-fn order_copy<C: NodeCore, B: Bell, R: Wait>(
+fn order_copy<C: NodeCore, B: Bell, R: Wait + SystemClock>(
     rt: &R,
     desk: &Desk<C, B>,
     seat: &mut Seat,
@@ -84,7 +84,7 @@ fn order_copy<C: NodeCore, B: Bell, R: Wait>(
 }
 
 /// Where the transaction stands at the node, once what says so is committed.
-fn question<C: NodeCore, B: Bell, R: Wait>(
+fn question<C: NodeCore, B: Bell, R: Wait + SystemClock>(
     rt: &R,
     desk: &Desk<C, B>,
     seat: &mut Seat,

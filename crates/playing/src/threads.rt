@@ -12,12 +12,15 @@ use desk::{Bell, Desk, Gate, RoomBell, Seat, State};
 use protocol::nodes_of;
 use scheme::Scheme;
 use scripts::ScriptLine;
-use sessions::{Dial, Listen, NodeEnd, NodeToRun, run_all};
+use sessions::{
+    Dial, LONGEST_MUSTER, Listen, Muster, Mustered, NodeEnd, NodeToRun, run_all, threads_of,
+};
 use std::alloc::Global;
 use std::rt::Clock as SystemClock;
 use std::sync::Wait;
 use std::thread;
 use std::thread::Threads;
+use std::time::Duration;
 use stores::NodeStore;
 use units::{NoMemory, Node};
 use world::Core;
@@ -42,7 +45,7 @@ pub struct Played {
 }
 
 /// What a run left: the desks of all nodes, how their threads ended, and what the script came to, or that memory ran out
-/// for its answers.
+/// for its answers or the system had no thread for a node.
 #[derive(Drop)]
 pub struct Run<S> {
     pub desks: Vec<Desk<Core, RoomBell>>,
@@ -70,7 +73,7 @@ where
     D: Dial + Sync,
     K: Clock + Sync,
     G: Gate + Sync,
-    R: Threads + Wait + Sync,
+    R: Threads + Wait + SystemClock + Sync,
     ensures { IfOk result (λ v. vec_len v ≡ vec_len stations.entry) }
 {
     let ends = run_all(rt, alloc, stations);
@@ -108,31 +111,70 @@ fn play_with_seats<R: Wait + SystemClock>(
     Ok(Played { seats, answers })
 }
 
-/// Plays the script, and then stops all nodes.
+/// How many threads those nodes have.
+fn threads_of_all<S, L, D, K, G>(
+    stations: &[NodeToRun<'_, Core, RoomBell, L, D, K, G, S>],
+) -> usize {
+    let mut threads: usize = 0;
+    for station in stations {
+        threads = threads.saturating_add(threads_of(station.parts.peers.len()));
+    }
+    threads
+}
+
+/// Plays the script with new seats once that many threads of the nodes have reported. Fails with `NoMemory` where one is
+/// missing: then no order was given and nothing asked.
+fn play_mustered<R: Wait + SystemClock>(
+    rt: &R,
+    alloc: Global,
+    scheme: &Scheme,
+    desks: &[Desk<Core, RoomBell>],
+    lines: &[ScriptLine],
+    muster: &Muster,
+    threads: usize,
+) -> Result<Played, NoMemory>
+    requires { length desks.now ≡ length (nodes scheme.now) }
+    ensures heard { IfOk result (λ p. AreHeard scheme.now p.seats.items lines.now p.answers.items) }
+    ensures seats { IfOk result (λ p. vec_len p.seats ≡ length (nodes scheme.now)) }
+{
+    match muster.wait_for(rt, threads, Duration::from_secs(LONGEST_MUSTER)) {
+        Mustered::All => play_with_seats(rt, alloc, scheme, desks, lines),
+        Mustered::Missing => Err(NoMemory),
+    }
+}
+
+/// Plays the script once all threads have reported, and then stops all nodes.
 fn play_and_stop<R: Wait + SystemClock>(
     rt: &R,
     alloc: Global,
     scheme: &Scheme,
     desks: &[Desk<Core, RoomBell>],
     lines: &[ScriptLine],
+    muster: &Muster,
+    threads: usize,
 ) -> Result<Played, NoMemory>
     requires { length desks.now ≡ length (nodes scheme.now) }
     ensures heard { IfOk result (λ p. AreHeard scheme.now p.seats.items lines.now p.answers.items) }
     ensures seats { IfOk result (λ p. vec_len p.seats ≡ length (nodes scheme.now)) }
 {
-    let played = play_with_seats(rt, alloc, scheme, desks, lines);
+    let played = play_mustered(rt, alloc, scheme, desks, lines, muster, threads);
     stop_all(rt, desks);
     played
 }
 
-/// Runs the nodes in threads of their own while the script is played, and then stops all nodes. The first result is
-/// `NoMemory` where memory for the threads ran out, and the second where memory for the answers did.
+/// Runs the nodes in threads of their own, which report at that muster, while the script is played, and then stops all
+/// nodes. The first result is `NoMemory` where memory for the threads ran out, and the second where memory for the
+/// answers did, or a thread didn't report.
+///
+/// Where the system has no thread for the nodes, they begin when the script has ended: it was not played, since no
+/// thread reported, and all desks have stopped, so that they end at once.
 fn run_beside_script<S, L, D, K, G, R>(
     rt: &R,
     alloc: Global,
     scheme: &Scheme,
     desks: &[Desk<Core, RoomBell>],
     lines: &[ScriptLine],
+    muster: &Muster,
     stations: Vec<NodeToRun<'_, Core, RoomBell, L, D, K, G, S>>,
 ) -> (Ends<S>, Result<Played, NoMemory>)
 where
@@ -147,6 +189,7 @@ where
     ensures heard { IfOk result.1 (λ p. AreHeard scheme.now p.seats.items lines.now p.answers.items) }
     ensures seats { IfOk result.1 (λ p. vec_len p.seats ≡ length (nodes scheme.now)) }
 {
+    let threads = threads_of_all(stations.as_slice());
     thread::join(
         rt,
         move || -> Ends<S>
@@ -157,15 +200,17 @@ where
             requires { length desks.now ≡ length (nodes scheme.now) }
             ensures heard { IfOk result (λ p. AreHeard scheme.entry.now p.seats.items lines.entry.now p.answers.items) }
             ensures seats { IfOk result (λ p. vec_len p.seats ≡ length (nodes scheme.entry.now)) }
-        { play_and_stop(rt, alloc, scheme, desks, lines) },
+        { play_and_stop(rt, alloc, scheme, desks, lines, muster, threads) },
     )
 }
 
-/// All nodes, the log and then the registries in the scheme's order, and the desk of each.
+/// All nodes, the log and then the registries in the scheme's order, the desk of each, and where the threads of all
+/// report.
 #[derive(Drop)]
 struct NodesAtDesks {
     nodes: Vec<Node>,
     desks: Vec<Desk<Core, RoomBell>>,
+    muster: Muster,
 }
 
 /// Runs the nodes in threads of their own while the script is played, each with the store at its place, as
@@ -195,18 +240,22 @@ where
     ensures seats { IfOk result (λ r. IfOk r.1 (λ p. vec_len p.seats ≡ length (nodes scheme.now))) }
 {
     let desks = all.desks.as_slice();
-    let nodes = nodes_to_run(alloc, all.nodes.as_slice(), desks, network, stores)?;
-    Ok(run_beside_script(rt, alloc, scheme, desks, lines, nodes))
+    let names = all.nodes.as_slice();
+    let nodes = nodes_to_run(alloc, names, desks, network, &all.muster, stores)?;
+    Ok(run_beside_script(rt, alloc, scheme, desks, lines, &all.muster, nodes))
 }
 
 /// Makes a desk of each node's state, and runs the nodes in threads of their own while the script's lines are ordered
-/// and asked one after another; then stops all nodes, and returns once their threads have ended. Each order and each
-/// question is answered once all records are committed that the node's journal had then.
+/// and asked one after another; then stops all nodes, and returns once their threads have ended. The first line waits
+/// for all threads to begin. Each order and each question is answered once all records are committed that the node's
+/// journal had then.
 ///
 /// # Errors
 ///
 /// Fails with `NoMemory` where memory ran out before a thread was started. In what it returns `ends` is `NoMemory` where
-/// memory for the threads ran out, and `played` where memory for the answers did. All nodes have stopped in any case.
+/// memory for the threads ran out, and `played` where memory for the answers did. `played` is `NoMemory` also where the
+/// threads didn't all begin, each within `LONGEST_MUSTER` seconds of another one, as the system had too few: then no
+/// line was ordered or asked. All nodes have stopped in any case.
 pub fn run_and_play<S, L, D, K, G, R>(
     rt: &R,
     alloc: Global,
@@ -234,6 +283,7 @@ where
     let all = NodesAtDesks {
         nodes: nodes_of(alloc, scheme)?,
         desks: desks_of(alloc, states)?,
+        muster: Muster::new(),
     };
     let (ends, played) = run_wired(rt, alloc, scheme, lines, &all, stores, network)?;
     Ok(Run {

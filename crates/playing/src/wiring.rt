@@ -3,7 +3,7 @@ ghost use Rattle.std.specs.Prelude.{◌≡◌, ◌<◌, ◌+◌, length, map, sl
 ghost use Rattle.playing.specs.Wiring.{peers_of};
 
 use desk::{Desk, RoomBell, State};
-use sessions::{NodeParts, NodeToRun};
+use sessions::{Muster, NodeParts, NodeToRun};
 use std::alloc::Global;
 use stores::NodeStore;
 use units::{NoMemory, Node};
@@ -52,11 +52,13 @@ fn peers_at(names: &[Node], at: usize) -> &[Node]
 }
 
 /// The nodes to run: each with the desk, the listener and the store at its place, and with the nodes that it sends to.
+/// The threads of all report at that muster.
 pub(crate) fn nodes_to_run<'a, S, L, D, K, G>(
     alloc: Global,
     names: &'a [Node],
     desks: &'a [Desk<Core, RoomBell>],
     network: &Network<'a, L, D, K, G>,
+    muster: &'a Muster,
     stores: Vec<S>,
 ) -> Result<Vec<NodeToRun<'a, Core, RoomBell, L, D, K, G, S>>, NoMemory>
 where
@@ -82,6 +84,7 @@ where
             peers: peers_at(names, at),
             clock: network.clock,
             gate: network.gate,
+            muster,
         };
         nodes.push(NodeToRun { parts, store })?;
         at += 1;

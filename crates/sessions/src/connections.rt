@@ -3,6 +3,17 @@
 use std::io::{Read, Write};
 use units::Node;
 
+/// What a wait for a connection came to.
+#[derive(Debug, Drop)]
+pub enum Accepted<R, W> {
+    /// A connection: what the other end sends, and what goes to the other end.
+    Connection(R, W),
+    /// Nobody connected within the time that the listener waits.
+    Nobody,
+    /// Accepting a connection failed.
+    Failed,
+}
+
 /// What accepts the connections that others make with a node.
 pub trait Listen {
     /// The bytes that the other end sends.
@@ -10,8 +21,9 @@ pub trait Listen {
     /// The bytes that go to the other end.
     type Writer: Write + Drop + Send;
 
-    /// Waits for a connection, and returns its two directions. `None` where accepting one failed.
-    fn accept(&self) -> Option<(Self::Reader, Self::Writer)>;
+    /// Waits for a connection, for a limited time, and returns its two directions where there is one. A listener that
+    /// waits without a limit would keep a node's threads from ending.
+    fn accept(&self) -> Accepted<Self::Reader, Self::Writer>;
 }
 
 /// What makes connections with nodes.

@@ -3,13 +3,16 @@
 
 mod connections;
 mod delivery;
+mod mustering;
 mod node_threads;
 mod senders;
 mod sending;
 mod session_threads;
+mod watched_reader;
 mod workers;
 
-pub use connections::{Dial, Listen};
-pub use node_threads::{NodeEnd, NodeParts, NodeToRun, WORKERS, run_all, run_node};
+pub use connections::{Accepted, Dial, Listen};
+pub use mustering::{LONGEST_MUSTER, Muster, Mustered};
+pub use node_threads::{NodeEnd, NodeParts, NodeToRun, WORKERS, run_all, run_node, threads_of};
 pub use sending::{Sent, send_next};
 pub use session_threads::SESSION_THREADS;

@@ -1,17 +1,19 @@
 //! The threads of a node, and those of several nodes.
-ghost use Rattle.std.specs.Prelude.{◌≡◌, ◌+◌, ℕ, length, vec_len, slice_get, IfOk, Ok, Some};
+ghost use Rattle.std.specs.Prelude.{◌≡◌, ◌<◌, ◌+◌, ◌^◌, ℕ, length, vec_len, slice_get, IfOk, Ok, Some};
 ghost use Rattle.std.specs.Thread.{IsSync};
 ghost use Rattle.sessions.specs.Ends.{faults_with};
 
 use crate::connections::{Dial, Listen};
+use crate::mustering::Muster;
 use crate::senders::send_all;
-use crate::session_threads::{serve_sessions, wake_sessions};
+use crate::session_threads::{SESSION_THREADS, serve_sessions};
 use crate::workers::{Errand, work};
 use answers::Clock;
 use crossbeam_channel::{Receiver, Sender};
 use desk::{Bell, Desk, Gate, Seat};
 use protocol::NodeCore;
 use std::alloc::Global;
+use std::rt::Clock as SystemClock;
 use std::sync::Wait;
 use std::thread;
 use std::thread::Threads;
@@ -24,8 +26,19 @@ pub const WORKERS: usize = 2;
 /// How many jobs wait at most.
 const MOST_JOBS: usize = 16;
 
+// A session thread hands over a job at a time, so that none waits to hand over one, also where no worker takes any.
+const _: () = prove!(SESSION_THREADS <= MOST_JOBS);
+
+/// How many threads a node has that sends to that many peers: one that commits, `SESSION_THREADS` that serve sessions,
+/// `WORKERS` that have its desk take jobs, and one for each peer.
+pub fn threads_of(peers: usize) -> usize
+    ensures { peers < 2 ^ 32 → result ≡ 1 + SESSION_THREADS + WORKERS + peers }
+{
+    peers.saturating_add(1 + SESSION_THREADS + WORKERS)
+}
+
 /// What the threads of a node share: its name, its desk, what accepts and makes its connections, the nodes that it
-/// sends to, its clock, and the gate that its workers pass.
+/// sends to, its clock, the gate that its workers pass, and where each reports once when it begins.
 #[derive(Drop)]
 pub struct NodeParts<'a, C: NodeCore, B: Bell, L, D, K, G> {
     pub node: Node,
@@ -35,6 +48,7 @@ pub struct NodeParts<'a, C: NodeCore, B: Bell, L, D, K, G> {
     pub peers: &'a [Node],
     pub clock: &'a K,
     pub gate: &'a G,
+    pub muster: &'a Muster,
 }
 
 /// What a node's threads left: the seats of those that took something at its desk, its store, and the store's fault,
@@ -47,7 +61,7 @@ pub struct NodeEnd<S> {
 }
 
 /// Commits the desk's records to the store until the desk stops, and returns the store's fault, if that stopped it.
-fn commit_all<C: NodeCore, B: Bell, S: NodeStore, R: Wait>(
+fn commit_all<C: NodeCore, B: Bell, S: NodeStore, R: Wait + SystemClock>(
     rt: &R,
     desk: &Desk<C, B>,
     store: &mut S,
@@ -72,24 +86,24 @@ fn commit_all<C: NodeCore, B: Bell, S: NodeStore, R: Wait>(
     unreachable!()
 }
 
-/// Commits the desk's records until the desk stops, and then wakes the session threads.
-fn commit_and_wake<C: NodeCore, B: Bell, D: Dial, S: NodeStore, R: Wait>(
+/// Reports that it has begun. Then it commits the desk's records until the desk stops, and returns the store and its
+/// fault, if that stopped the desk.
+fn report_and_commit<C: NodeCore, B: Bell, S: NodeStore, R: Wait + SystemClock>(
     rt: &R,
     desk: &Desk<C, B>,
-    dial: &D,
-    node: Node,
+    muster: &Muster,
     mut store: S,
 ) -> (S, Option<StoreFault>)
     ensures store { S.whose result.0 ≡ S.whose store }
     ensures faults { S.faults result.0 ≡ faults_with (S.faults store) result.1 }
 {
+    muster.report(rt);
     let fault = commit_all(rt, desk, &mut store);
-    wake_sessions(dial, node);
     (store, fault)
 }
 
-/// Works or sends with one seat, until the desk stops: the first `WORKERS` places are those of the job workers, and
-/// each place after these is that of a peer's sender.
+/// Reports that it has begun. Then it works or sends with one seat, until the desk stops: the first `WORKERS` places are
+/// those of the job workers, and each place after these is that of a peer's sender.
 fn take_part<C, B, L, D, K, G, R>(
     rt: &R,
     alloc: Global,
@@ -104,8 +118,9 @@ where
     D: Dial,
     K: Clock,
     G: Gate,
-    R: Wait,
+    R: Wait + SystemClock,
 {
+    parts.muster.report(rt);
     if place < WORKERS {
         work(rt, parts.desk, parts.clock, parts.gate, errands, seat);
     } else if let Some(peer) = parts.peers.get(place - WORKERS) {
@@ -128,7 +143,7 @@ where
     D: Dial + Sync,
     K: Clock + Sync,
     G: Gate + Sync,
-    R: Threads + Wait + Sync,
+    R: Threads + Wait + SystemClock + Sync,
 {
     let threads = seats.len().max(1);
     thread::for_each_mut(
@@ -155,7 +170,7 @@ where
     D: Dial + Sync,
     K: Clock + Sync,
     G: Gate + Sync,
-    R: Threads + Wait + Sync,
+    R: Threads + Wait + SystemClock + Sync,
 {
     // That `rt` may be shared is said at each closure, since it isn't inferred there.
     thread::join(
@@ -165,7 +180,7 @@ where
         { take_all(rt, alloc, parts, handed, seats) },
         move ||
             requires { IsSync R.row }
-        { serve_sessions(rt, alloc, parts.desk, parts.listen, errands) },
+        { serve_sessions(rt, alloc, parts.desk, parts.listen, parts.muster, errands) },
     );
 }
 
@@ -198,7 +213,7 @@ where
     K: Clock + Sync,
     G: Gate + Sync,
     S: NodeStore + Send + Drop,
-    R: Threads + Wait + Sync,
+    R: Threads + Wait + SystemClock + Sync,
     ensures seats { vec_len result.seats ≡ vec_len seats }
     ensures store { S.whose result.store ≡ S.whose store }
     ensures faults { S.faults result.store ≡ faults_with (S.faults store) result.fault }
@@ -206,7 +221,7 @@ where
     let taking = seats.as_mut_slice();
     let ((store, fault), ()) = thread::join(
         rt,
-        move || commit_and_wake(rt, parts.desk, parts.dial, parts.node, store),
+        move || report_and_commit(rt, parts.desk, parts.muster, store),
         move ||
             requires { IsSync R.row }
         { serve_and_take(rt, alloc, parts, errands, handed, taking) },
@@ -220,11 +235,17 @@ where
 
 /// Runs a node's threads until its desk stops: one commits the desk's records to the store, `SESSION_THREADS` serve
 /// the connections that others make, `WORKERS` have the desk take their jobs, and one for each peer sends it the
-/// messages that are due. `MOST_JOBS` jobs wait at most. The node makes a connection with itself for each session
-/// thread once the desk has stopped, so that none is left waiting for one.
+/// messages that are due, again every `LONGEST_QUIET` seconds while they aren't received. `MOST_JOBS` jobs wait at
+/// most.
 ///
-/// The desk stops when it is told to, where the store has a fault, and where 100 accepts in a row failed. Fails with
-/// `NoMemory` where memory ran out, and no thread was started.
+/// The desk stops when it is told to, where the store has a fault, and where 100 accepts in a row failed. Then each
+/// thread ends by itself: one that waits at the bell, for a worker or for a connection looks at the desk again after a
+/// limited time, and a session ends at its next read. Fails with `NoMemory` where memory ran out, and no thread was
+/// started.
+///
+/// Each of these `threads_of` threads reports once at the muster when it begins. Where the system has no thread for
+/// one, another does its work once it has ended its own, and until then nobody does. So whoever gives orders at the
+/// desk waits for all reports first, and stops the desk where one is missing.
 pub fn run_node<C, B, L, D, K, G, S, R>(
     rt: &R,
     alloc: Global,
@@ -239,7 +260,7 @@ where
     K: Clock + Sync,
     G: Gate + Sync,
     S: NodeStore + Send + Drop,
-    R: Threads + Wait + Sync,
+    R: Threads + Wait + SystemClock + Sync,
     ensures seats { IfOk result (λ end. vec_len end.seats ≡ WORKERS + length parts.now.peers.now) }
     ensures store { IfOk result (λ end. S.whose end.store ≡ S.whose store) }
     ensures faults { IfOk result (λ end. S.faults end.store ≡ faults_with (S.faults store) end.fault) }
@@ -270,7 +291,7 @@ where
     K: Clock + Sync,
     G: Gate + Sync,
     S: NodeStore + Send + Drop,
-    R: Threads + Wait + Sync,
+    R: Threads + Wait + SystemClock + Sync,
     ensures seats { IfOk result (λ end. vec_len end.seats ≡ WORKERS + length node.entry.parts.peers.now) }
     ensures store { IfOk result (λ end. S.whose end.store ≡ S.whose node.entry.store) }
     ensures faults { IfOk result (λ end. S.faults end.store ≡ faults_with (S.faults node.entry.store) end.fault) }
@@ -301,7 +322,7 @@ where
     K: Clock + Sync,
     G: Gate + Sync,
     S: NodeStore + Send + Drop,
-    R: Threads + Wait + Sync,
+    R: Threads + Wait + SystemClock + Sync,
     ensures count { IfOk result (λ ends. vec_len ends ≡ vec_len nodes.entry) }
     ensures seats { IfOk result
         (λ ends. (k : ℕ) (node : _) (end : _) → slice_get nodes.entry.items k ≡ Some node

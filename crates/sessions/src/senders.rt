@@ -5,6 +5,7 @@ use crate::sending::{Sent, send_next};
 use desk::{Bell, Desk, Seat};
 use protocol::NodeCore;
 use std::alloc::Global;
+use std::rt::Clock as SystemClock;
 use std::sync::Wait;
 use units::Node;
 
@@ -29,8 +30,9 @@ fn send_round<C: NodeCore, B: Bell, D: Dial, R: Wait>(
     }
 }
 
-/// Sends what is due to a peer, and again whenever the bell has rung, until the desk stops.
-pub(crate) fn send_all<C: NodeCore, B: Bell, D: Dial, R: Wait>(
+/// Sends what is due to a peer, until the desk stops: again whenever the bell has rung, and every `LONGEST_QUIET`
+/// seconds, so that a message that wasn't received is sent again also where nothing happens at the node.
+pub(crate) fn send_all<C: NodeCore, B: Bell, D: Dial, R: Wait + SystemClock>(
     rt: &R,
     alloc: Global,
     desk: &Desk<C, B>,

@@ -1,6 +1,8 @@
 //! The threads of a node that serve sessions.
 
-use crate::connections::{Dial, Listen};
+use crate::connections::{Accepted, Listen};
+use crate::mustering::Muster;
+use crate::watched_reader::WatchedReader;
 use crate::workers::{Errand, WorkersAnswerer};
 use crossbeam_channel::Sender;
 use desk::{Bell, Desk};
@@ -8,10 +10,11 @@ use exchanges::{Counted, serve_session};
 use protocol::NodeCore;
 use std::alloc::Global;
 use std::io::{Read, Write};
+use std::rt::Clock as SystemClock;
 use std::sync::{Mutex, Wait};
 use std::thread;
 use std::thread::Threads;
-use units::Node;
+use std::time::Duration;
 
 /// How many threads of a node serve sessions: any number from 1 on.
 pub const SESSION_THREADS: usize = 4;
@@ -19,58 +22,80 @@ pub const SESSION_THREADS: usize = 4;
 /// How many accepts that fail in a row stop a node.
 const MOST_FAILED_ACCEPTS: u32 = 100;
 
-/// Makes a connection with the node itself for each of its session threads, so that none is left waiting for one.
-pub(crate) fn wake_sessions<D: Dial>(dial: &D, node: Node) {
-    for _ in 0..SESSION_THREADS {
-        let _ = dial.connect(node);
+/// How many milliseconds longer a session thread pauses for each accept that failed in a row.
+const PAUSE_STEP: u64 = 10;
+
+/// How many milliseconds a session thread pauses at most after an accept that failed.
+const LONGEST_PAUSE: u64 = 100;
+
+/// One more accept has failed. Returns how many have in a row.
+fn count_failure<R: Wait>(rt: &R, failures: &Mutex<u32>) -> u32 {
+    let mut count = failures.lock(rt);
+    *count = count.saturating_add(1);
+    *count
+}
+
+/// How long a session thread pauses once that many accepts in a row have failed.
+fn pause_after(failures: u32) -> Duration {
+    let pause = u64::from(failures).saturating_mul(PAUSE_STEP);
+    Duration::from_millis(pause.min(LONGEST_PAUSE))
+}
+
+/// One more accept has failed. The desk stops where that makes `MOST_FAILED_ACCEPTS` in a row, and else this thread
+/// pauses.
+fn stop_or_pause<C: NodeCore, B: Bell, R: Wait + SystemClock>(
+    rt: &R,
+    desk: &Desk<C, B>,
+    failures: &Mutex<u32>,
+) {
+    let count = count_failure(rt, failures);
+    if count >= MOST_FAILED_ACCEPTS {
+        desk.stop(rt);
+    } else {
+        thread::sleep(rt, pause_after(count));
     }
 }
 
-/// One more accept has failed. Whether that makes `MOST_FAILED_ACCEPTS` in a row.
-fn is_last_failure<R: Wait>(rt: &R, failures: &Mutex<u32>) -> bool {
-    let mut count = failures.lock(rt);
-    *count = count.saturating_add(1);
-    *count >= MOST_FAILED_ACCEPTS
-}
-
-/// Serves one connection to its end.
-fn serve_one<Rd: Read + Drop, Wr: Write + Drop, R: Wait>(
+/// Serves one connection to its end. It ends where the desk has stopped, at the next read, and where a line takes too
+/// long.
+fn serve_one<C: NodeCore, B: Bell, Rd: Read + Drop, Wr: Write + Drop, R: Wait + SystemClock>(
     rt: &R,
     alloc: Global,
+    desk: &Desk<C, B>,
     reader: Rd,
     writer: Wr,
     errands: &Sender<Errand>,
 ) {
-    let mut reader = Counted::new(reader);
+    let mut reader = Counted::new(WatchedReader::new(rt, desk, reader));
     let mut writer = Counted::new(writer);
-    let mut answerer = WorkersAnswerer::new(rt, alloc, errands);
+    let mut answerer = WorkersAnswerer::new(rt, alloc, desk, errands);
     let _end = serve_session(alloc, &mut reader, &mut writer, &mut answerer);
 }
 
-/// Accepts connections and serves each to its end, until the desk stops. It stops the desk where
-/// `MOST_FAILED_ACCEPTS` accepts in a row failed, at all session threads together.
-fn serve_all<C: NodeCore, B: Bell, L: Listen, R: Wait>(
+/// Reports that it has begun. Then it accepts connections and serves each to its end, until the desk stops. It stops
+/// the desk where `MOST_FAILED_ACCEPTS` accepts in a row failed, at all session threads together. One to which nobody
+/// came is none of them, and doesn't end the row.
+fn serve_all<C: NodeCore, B: Bell, L: Listen, R: Wait + SystemClock>(
     rt: &R,
     alloc: Global,
     desk: &Desk<C, B>,
     listen: &L,
+    muster: &Muster,
     failures: &Mutex<u32>,
     errands: &Sender<Errand>,
 ) {
+    muster.report(rt);
     for _ in rt.forever() {
         if !desk.is_running(rt) {
             break;
         }
         match listen.accept() {
-            Some((reader, writer)) => {
+            Accepted::Connection(reader, writer) => {
                 *failures.lock(rt) = 0;
-                serve_one(rt, alloc, reader, writer, errands);
+                serve_one(rt, alloc, desk, reader, writer, errands);
             }
-            None => {
-                if is_last_failure(rt, failures) {
-                    desk.stop(rt);
-                }
-            }
+            Accepted::Nobody => {}
+            Accepted::Failed => stop_or_pause(rt, desk, failures),
         }
     }
 }
@@ -83,13 +108,13 @@ pub(crate) fn serve_sessions<
     C: NodeCore + Send,
     B: Bell + Sync,
     L: Listen + Sync,
-    R: Threads + Wait + Sync,
->(rt: &R, alloc: Global, desk: &Desk<C, B>, listen: &L, errands: Sender<Errand>) {
+    R: Threads + Wait + SystemClock + Sync,
+>(rt: &R, alloc: Global, desk: &Desk<C, B>, listen: &L, muster: &Muster, errands: Sender<Errand>) {
     let failures = Mutex::new(0);
     thread::for_each_mut(
         rt,
         &mut [(); SESSION_THREADS],
         SESSION_THREADS,
-        &|_place, _thread| { serve_all(rt, alloc, desk, listen, &failures, &errands) },
+        &|_place, _thread| { serve_all(rt, alloc, desk, listen, muster, &failures, &errands) },
     );
 }

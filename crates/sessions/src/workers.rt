@@ -5,12 +5,14 @@ ghost use Rattle.answers.specs.Answers.{IsRefusedBy};
 ghost use Rattle.answers.specs.Lines.{IsNoLine};
 
 use answers::{Answer, Clock, Job, answer_job};
-use crossbeam_channel::{Receiver, Sender};
-use desk::{Bell, Desk, Gate, Seat};
+use crossbeam_channel::{Receiver, RecvTimeoutError, Sender};
+use desk::{Bell, Desk, Gate, LONGEST_QUIET, Seat};
 use exchanges::Answerer;
 use protocol::NodeCore;
 use std::alloc::Global;
+use std::rt::Clock as SystemClock;
 use std::sync::Wait;
+use std::time::Duration;
 use units::NoMemory;
 use wire::Reply;
 
@@ -23,36 +25,60 @@ pub(crate) struct Errand {
 
 /// Replies to the lines of one session by the workers, and keeps the answers.
 #[derive(Drop)]
-pub(crate) struct WorkersAnswerer<'a, R: Wait> {
+pub(crate) struct WorkersAnswerer<'a, C: NodeCore, B: Bell, R: Wait> {
     rt: &'a R,
     alloc: Global,
+    desk: &'a Desk<C, B>,
     errands: &'a Sender<Errand>,
     answers: Vec<Answer>,
 }
 
-impl<'a, R: Wait> WorkersAnswerer<'a, R> {
-    /// What replies by the workers that take these errands. It has no answers yet.
+impl<'a, C: NodeCore, B: Bell, R: Wait> WorkersAnswerer<'a, C, B, R> {
+    /// What replies by the workers of that desk, which take these errands. It has no answers yet.
     pub(crate) fn new(
         rt: &'a R,
         alloc: Global,
+        desk: &'a Desk<C, B>,
         errands: &'a Sender<Errand>,
-    ) -> WorkersAnswerer<'a, R>
+    ) -> WorkersAnswerer<'a, C, B, R>
         ensures { result.answers.items ≡ [] }
     {
         WorkersAnswerer {
             rt,
             alloc,
+            desk,
             errands,
             answers: Vec::new(alloc),
         }
     }
 }
 
-/// Hands a job to a worker, and waits for its answer. `None` where the workers are gone. Fails with `NoMemory` where
-/// memory ran out, and the job was handed to none.
-fn ask<R: Wait>(
+/// Waits for the answer of a worker. `None` where the workers are gone, and where the desk has stopped before one came.
+fn wait_for_answer<C: NodeCore, B: Bell, R: Wait + SystemClock>(
+    rt: &R,
+    desk: &Desk<C, B>,
+    answers: &Receiver<Answer>,
+) -> Option<Answer> {
+    for _ in rt.forever() {
+        match answers.recv_timeout(rt, Duration::from_secs(LONGEST_QUIET)) {
+            Ok(answer) => return Some(answer),
+            Err(RecvTimeoutError::Disconnected) => return None,
+            Err(RecvTimeoutError::Timeout) => {
+                if !desk.is_running(rt) {
+                    return None;
+                }
+            }
+        }
+    }
+    unreachable!()
+}
+
+/// Hands a job to a worker, and waits for its answer. `None` where the workers are gone, and where the desk has stopped
+/// before one answered. Fails with `NoMemory` where memory ran out, and the job was handed to none.
+fn ask<C: NodeCore, B: Bell, R: Wait + SystemClock>(
     rt: &R,
     alloc: Global,
+    desk: &Desk<C, B>,
     errands: &Sender<Errand>,
     job: Job,
 ) -> Result<Option<Answer>, NoMemory> {
@@ -64,7 +90,7 @@ fn ask<R: Wait>(
     let is_handed = handed.is_ok();
     drop(handed);
     let answer = if is_handed {
-        answers.recv(rt).ok()
+        wait_for_answer(rt, desk, &answers)
     } else {
         None
     };
@@ -72,11 +98,12 @@ fn ask<R: Wait>(
     Ok(answer)
 }
 
-/// The answer to a line, by a worker where the line writes a message. Where the workers are gone, the node has
-/// stopped. Fails with `NoMemory` where memory ran out, and the line was handed to no worker.
-fn answer_line<R: Wait>(
+/// The answer to a line, by a worker where the line writes a message. Where none answers, the node has stopped. Fails
+/// with `NoMemory` where memory ran out, and the line was handed to no worker.
+fn answer_line<C: NodeCore, B: Bell, R: Wait + SystemClock>(
     rt: &R,
     alloc: Global,
+    desk: &Desk<C, B>,
     errands: &Sender<Errand>,
     line: &[u8],
 ) -> Result<Answer, NoMemory>
@@ -93,7 +120,7 @@ fn answer_line<R: Wait>(
         drop(job);
         return Err(NoMemory);
     };
-    if let Some(answer) = ask(rt, alloc, errands, job)? {
+    if let Some(answer) = ask(rt, alloc, desk, errands, job)? {
         // A worker's answer is to the job that it was handed.
         if answer.line() == line {
             return Ok(answer);
@@ -103,14 +130,14 @@ fn answer_line<R: Wait>(
     Ok(Answer::stopped(copy))
 }
 
-impl<'a, R: Wait> Answerer for WorkersAnswerer<'a, R> {
+impl<'a, C: NodeCore, B: Bell, R: Wait + SystemClock> Answerer for WorkersAnswerer<'a, C, B, R> {
     ghost use Rattle.answers.specs.Answers.{given_of};
 
     ghost given = { λ s. given_of s.answers.items };
 
     fn answer(&mut self, line: &[u8]) -> Result<Reply, NoMemory> {
         self.answers.reserve(1)?;
-        let answer = answer_line(self.rt, self.alloc, self.errands, line)?;
+        let answer = answer_line(self.rt, self.alloc, self.desk, self.errands, line)?;
         let reply = answer.reply();
         self.answers.push_reserved(answer);
         Ok(reply)
@@ -118,7 +145,7 @@ impl<'a, R: Wait> Answerer for WorkersAnswerer<'a, R> {
 }
 
 /// Has the desk take the jobs of errands with this seat, and hands their answers back, until no session is left.
-pub(crate) fn work<C: NodeCore, B: Bell, K: Clock, G: Gate, R: Wait>(
+pub(crate) fn work<C: NodeCore, B: Bell, K: Clock, G: Gate, R: Wait + SystemClock>(
     rt: &R,
     desk: &Desk<C, B>,
     clock: &K,

@@ -14,9 +14,9 @@ pub(crate) fn at_loopback(port: u16) -> SocketAddr
     SocketAddr::V4(SocketAddrV4::new(Ipv4Addr::new(127, 0, 0, 1), port))
 }
 
-/// How many seconds a read or a write waits for the other end. The port of a node that has stopped still takes
-/// connections, and nobody replies to them.
-const LONGEST_WAIT: u64 = 2;
+/// How many seconds a read, a write or a connect waits for the other end. The port of a node that has stopped still
+/// takes connections, as many as its queue has room for, and nobody replies to them.
+pub(crate) const LONGEST_WAIT: u64 = 2;
 
 /// What is read of a connection, and what is written to it; each fails after `LONGEST_WAIT` seconds. `None` where the
 /// system has no second handle for it, or takes no limit for its waits.

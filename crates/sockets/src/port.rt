@@ -3,13 +3,28 @@ ghost use Rattle.std.specs.Prelude.{◌≡◌, IfOk, vec_len};
 ghost use Rattle.sockets.specs.Loopback.{IsOfLoopback};
 
 use crate::loopback::{at_loopback, directions};
-use sessions::Listen;
+use sessions::{Accepted, Listen};
 use std::alloc::Global;
-use std::io;
+use std::io::{self, ErrorKind};
 use std::marker::Model;
 use std::net::{Net, SocketAddr, TcpListener, TcpStream};
+use std::os::fd::OwnedFd;
+use std::time::Duration;
 
-/// A TCP listener at a port of 127.0.0.1.
+/// How many milliseconds an accept waits for somebody to connect.
+const LONGEST_ACCEPT: u64 = 100;
+
+/// That listener, each accept of which waits for `LONGEST_ACCEPT` milliseconds at most, and fails with `WouldBlock`
+/// where nobody connected.
+fn with_limit(listener: TcpListener) -> io::Result<TcpListener> {
+    // A listener has no call for this, but its socket has: what limits the reads of a stream is a time that the system
+    // keeps with the socket, and on Linux an accept waits no longer than that either.
+    let socket = TcpStream::from(OwnedFd::from(listener));
+    socket.set_read_timeout(Some(Duration::from_millis(LONGEST_ACCEPT)))?;
+    Ok(TcpListener::from(OwnedFd::from(socket)))
+}
+
+/// A TCP listener at a port of 127.0.0.1, each accept of which waits for `LONGEST_ACCEPT` milliseconds at most.
 #[derive(Drop)]
 pub struct Port {
     listener: TcpListener,
@@ -32,11 +47,12 @@ impl Port {
     ///
     /// # Errors
     ///
-    /// Fails as the system does: where it has no port or no handle left, or allows the process no listener.
+    /// Fails as the system does: where it has no port or no handle left, allows the process no listener, or takes no
+    /// limit for what an accept waits.
     pub fn open<R: Net<Listener = TcpListener, Stream = TcpStream>>(net: &R) -> io::Result<Port>
         ensures { IfOk result IsOfLoopback }
     {
-        let listener = net.bind(at_loopback(0))?;
+        let listener = with_limit(net.bind(at_loopback(0))?)?;
         let bound = listener.local_addr()?;
         Ok(Port {
             listener,
@@ -58,9 +74,15 @@ impl Listen for Port {
 
     type Writer = TcpStream;
 
-    fn accept(&self) -> Option<(TcpStream, TcpStream)> {
-        let (stream, _) = self.listener.accept().ok()?;
-        directions(stream)
+    fn accept(&self) -> Accepted<TcpStream, TcpStream> {
+        match self.listener.accept() {
+            Ok((stream, _)) => match directions(stream) {
+                Some((reader, writer)) => Accepted::Connection(reader, writer),
+                None => Accepted::Failed,
+            },
+            Err(error) if error.kind() == ErrorKind::WouldBlock => Accepted::Nobody,
+            Err(_) => Accepted::Failed,
+        }
     }
 }
 

@@ -2,13 +2,14 @@
 ghost use Rattle.std.specs.Prelude.{◌≡◌, ◌++◌, ◌∷◌, [], IfOk, zip, OnErr, OnOk};
 ghost use Rattle.sockets.specs.Places.{address_of};
 
-use crate::loopback::directions;
+use crate::loopback::{LONGEST_WAIT, directions};
 use crate::port::Port;
 use sessions::Dial;
 use std::alloc::Global;
 use std::io::BufReader;
 use std::marker::Model;
 use std::net::{Net, SocketAddr, TcpStream};
+use std::time::Duration;
 use units::{NoMemory, Node};
 
 /// How many bytes are read of a connection at once: a reply has fewer.
@@ -93,7 +94,9 @@ impl<'a, R: Net<Stream = TcpStream>> Dial for Ports<'a, R> {
 
     fn connect(&self, peer: Node) -> Option<(BufReader<TcpStream>, TcpStream)> {
         let address = self.address_of(peer)?;
-        let stream = self.net.connect(address).ok()?;
+        // A connect to a listener whose queue is full waits for minutes otherwise.
+        let longest = Duration::from_secs(LONGEST_WAIT);
+        let stream = self.net.connect_timeout(address, longest).ok()?;
         let (reader, writer) = directions(stream)?;
         let reader = BufReader::with_capacity(self.alloc, READ_AT_ONCE, reader).ok()?;
         Some((reader, writer))

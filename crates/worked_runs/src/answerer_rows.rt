@@ -6,6 +6,7 @@ use desk::Seat;
 use exchanges::{Counted, SessionEnd, serve_session};
 use std::alloc::Global;
 use std::process::Abort;
+use std::rt::Clock;
 use std::sync::Wait;
 use units::refusal_code::{NODE_STOPPED, NOT_A_MESSAGE};
 
@@ -19,7 +20,7 @@ fn assert_refused(rt: &impl Abort, answers: &[Answer], codes: &[u16]) {
 
 /// How a session at the desk over these bytes ends, whose answers have to refuse by these codes.
 fn served(
-    rt: &(impl Wait + Abort),
+    rt: &(impl Wait + Clock + Abort),
     alloc: Global,
     desk: &NodeDesk,
     bytes: &[u8],

@@ -9,6 +9,7 @@ use protocol::Stepped;
 use status::Status;
 use std::alloc::Global;
 use std::process::Abort;
+use std::rt::Clock;
 use std::sync::Wait;
 use stores::{MemoryStore, NodeStore};
 use units::Refusal;
@@ -49,7 +50,7 @@ fn messages_leave_after_their_commit(rt: HostRuntime) {
 }
 
 /// Asserts that NZ1 stands proposed at the desk, of two records, and confirms that.
-fn assert_proposed(rt: &(impl Wait + Abort), desk: &NzDesk, seat: &mut Seat) {
+fn assert_proposed(rt: &(impl Wait + Clock + Abort), desk: &NzDesk, seat: &mut Seat) {
     let taken = query(rt, desk, seat);
     let proposed = Told::Status(Some(Status::Proposed));
     assert_same(rt, (taken.told(), taken.length()), (proposed, 2));

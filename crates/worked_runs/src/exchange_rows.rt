@@ -8,7 +8,8 @@ use wire::{Message, Reply, decode};
 const TEXT: &str =
     r#"{"call":"AcceptNotification","codes":[],"from":"JP","status":"Accepted","to":"ITL","transaction":"NZ1"}"#;
 
-const RECEIVED: &[u8] = b"{\"code\":0,\"result\":\"received\"}\n";
+/// The reply to a message that was received.
+pub const RECEIVED: &[u8] = b"{\"code\":0,\"result\":\"received\"}\n";
 
 const NEVER: usize = usize::MAX;
 

@@ -51,7 +51,12 @@ struct After {
 
 /// Has the desk take an order, and waits for its receipt. Returns what was told, whether there is a receipt, and the
 /// seat.
-fn order_at<R: Wait>(rt: &R, alloc: Global, desk: &NodeDesk, order: Input) -> (Told, bool, Seat) {
+fn order_at<R: Wait + Clock>(
+    rt: &R,
+    alloc: Global,
+    desk: &NodeDesk,
+    order: Input,
+) -> (Told, bool, Seat) {
     let mut seat = Seat::new(alloc);
     let taken = desk.take(rt, &mut seat, order);
     let told = taken.told();

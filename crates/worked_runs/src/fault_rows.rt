@@ -7,6 +7,7 @@ use crate::same::assert_same;
 use desk::{Life, Seat, State, Told};
 use std::alloc::Global;
 use std::process::Abort;
+use std::rt::Clock;
 use std::sync::Wait;
 use stores::{Kept, MemoryStore, NodeStore, StoreFault};
 use units::Refusal;
@@ -29,7 +30,7 @@ fn assert_stops(
 }
 
 /// Has a desk fail at its first commit, and settles what its seat was told.
-fn fail(rt: &(impl Wait + Abort), alloc: Global, store: &mut MemoryStore) {
+fn fail(rt: &(impl Wait + Clock + Abort), alloc: Global, store: &mut MemoryStore) {
     let desk = nz_desk(rt, alloc);
     let mut seat = Seat::new(alloc);
     take_all(rt, alloc, &desk, &mut seat, &[(TEN, recorded(0))]);
@@ -45,7 +46,7 @@ fn fail(rt: &(impl Wait + Abort), alloc: Global, store: &mut MemoryStore) {
 }
 
 /// The store after a desk's first commit to it failed, of which it keeps all or nothing, opened again.
-fn failed_store(rt: &(impl Wait + Abort), alloc: Global, keeps: Kept) -> MemoryStore {
+fn failed_store(rt: &(impl Wait + Clock + Abort), alloc: Global, keeps: Kept) -> MemoryStore {
     let mut store = MemoryStore::fused(alloc, nz(rt), 0, keeps);
     fail(rt, alloc, &mut store);
     assert_same(rt, store.reopen(), Ok(()));

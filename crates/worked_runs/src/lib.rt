@@ -13,6 +13,8 @@ mod counted_pages;
 #[cfg(test)]
 mod desk_rows;
 #[cfg(test)]
+mod endless_line;
+#[cfg(test)]
 mod exchange_rows;
 #[cfg(test)]
 mod failed_store;
@@ -29,6 +31,8 @@ mod journals;
 #[cfg(test)]
 mod meetings;
 #[cfg(test)]
+mod muster_rows;
+#[cfg(test)]
 mod nodes;
 #[cfg(test)]
 mod not_possible;
@@ -40,6 +44,8 @@ mod one_node;
 mod registries;
 #[cfg(test)]
 mod same;
+#[cfg(test)]
+mod sent_again;
 #[cfg(test)]
 mod session_rows;
 #[cfg(test)]

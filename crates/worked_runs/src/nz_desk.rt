@@ -12,6 +12,7 @@ use scheme::Scheme;
 use status::TransactionId;
 use std::alloc::Global;
 use std::process::Abort;
+use std::rt::Clock;
 use std::sync::Wait;
 use stores::MemoryStore;
 use units::{Code, Node};
@@ -92,7 +93,12 @@ pub fn query(rt: &(impl Wait + Abort), desk: &NzDesk, seat: &mut Seat) -> Taken 
 }
 
 /// Waits until that is committed, or the desk has stopped. Says whether it is committed.
-pub fn confirm(rt: &(impl Wait + Abort), desk: &NzDesk, seat: &mut Seat, taken: Taken) -> bool {
+pub fn confirm(
+    rt: &(impl Wait + Clock + Abort),
+    desk: &NzDesk,
+    seat: &mut Seat,
+    taken: Taken,
+) -> bool {
     desk.confirm(rt, seat, taken).is_ok()
 }
 

@@ -9,6 +9,7 @@ use exchanges::Exchange;
 use sessions::{Dial, run_node};
 use sockets::Ports;
 use std::alloc::Global;
+use std::rt::Clock;
 use std::sync::Wait;
 use std::thread;
 use std::thread::Threads;
@@ -16,7 +17,7 @@ use stores::MemoryStore;
 use wire::Message;
 
 /// Runs one node that sends to none.
-fn run_alone<D: Dial + Sync, R: Threads + Wait + Sync>(
+pub fn run_alone<D: Dial + Sync, R: Threads + Wait + Clock + Sync>(
     rt: &R,
     alloc: Global,
     station: &Station,
@@ -40,7 +41,7 @@ fn call_and_stop<D: Dial, R: Wait>(
 }
 
 /// A node and its caller.
-fn run_and_call<D: Dial + Sync, R: Threads + Wait + Sync>(
+fn run_and_call<D: Dial + Sync, R: Threads + Wait + Clock + Sync>(
     rt: &R,
     alloc: Global,
     station: &Station,

@@ -8,6 +8,7 @@ use desk::{Lengths, Life, Seat, Told, Unsettled};
 use protocol::Stepped;
 use std::alloc::Global;
 use std::process::Abort;
+use std::rt::Clock;
 use std::sync::Wait;
 
 /// A desk with three records.
@@ -69,7 +70,7 @@ fn told_seat(rt: &(impl Wait + Abort), alloc: Global) -> Seat {
 }
 
 /// The same, and that it is committed.
-fn confirmed_seat(rt: &(impl Wait + Abort), alloc: Global) -> Seat {
+fn confirmed_seat(rt: &(impl Wait + Clock + Abort), alloc: Global) -> Seat {
     let desk = nz_desk(rt, alloc);
     let mut seat = Seat::new(alloc);
     let taken = take(rt, alloc, &desk, &mut seat, TEN);

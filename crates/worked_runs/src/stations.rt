@@ -5,13 +5,14 @@ use crate::same::assert_same;
 use answers::Clock;
 use desk::{Desk, Gate, RoomBell, Seat, State, settle};
 use exchanges::{Counted, Exchange, exchange};
-use sessions::{Dial, Listen, NodeEnd, NodeParts, NodeToRun, run_all};
+use sessions::{Accepted, Dial, Listen, Muster, NodeEnd, NodeParts, NodeToRun, run_all};
 use sockets::{Port, Ports};
 use status::Moment;
 use std::alloc::Global;
 use std::io::{Read, Write};
 use std::net::{Net, TcpListener, TcpStream};
 use std::process::Abort;
+use std::rt::Clock as SystemClock;
 use std::sync::Wait;
 use std::sync::atomic::{AtomicU64, Ordering};
 use std::thread::Threads;
@@ -82,20 +83,21 @@ impl Listen for FailingPort {
 
     type Writer = TcpStream;
 
-    fn accept(&self) -> Option<(TcpStream, TcpStream)> {
+    fn accept(&self) -> Accepted<TcpStream, TcpStream> {
         if self.accepts.fetch_add(1, Ordering::SeqCst) < self.failing {
-            return None;
+            return Accepted::Failed;
         }
         self.port.accept()
     }
 }
 
-/// A node, its desk, and what accepts its connections.
+/// A node, its desk, what accepts its connections, and where its threads report.
 #[derive(Drop)]
 pub struct Station {
     pub node: Node,
     pub desk: NodeDesk,
     pub listen: FailingPort,
+    pub muster: Muster,
 }
 
 pub fn desk_of(rt: &impl Abort, alloc: Global, node: Node) -> NodeDesk {
@@ -114,6 +116,7 @@ where
         node,
         desk: desk_of(rt, alloc, node),
         listen: FailingPort::open(rt, failing),
+        muster: Muster::new(),
     }
 }
 
@@ -164,6 +167,7 @@ pub fn parts_of<'a, D, G>(
         peers: &[],
         clock: &StillClock,
         gate,
+        muster: &station.muster,
     }
 }
 
@@ -192,7 +196,7 @@ pub fn run_both<D, G, R>(
 where
     D: Dial + Sync,
     G: Gate + Sync,
-    R: Threads + Wait + Sync,
+    R: Threads + Wait + SystemClock + Sync,
 {
     let nodes = [
         node_to_run(alloc, one, dial, gate),

@@ -36,7 +36,7 @@ impl Bell for WatchedBell {
         self.bell.ring(rt)
     }
 
-    fn wait<R: Wait>(&self, rt: &R, rings: u64) {
+    fn wait<R: Wait + Clock>(&self, rt: &R, rings: u64) {
         self.waits.fetch_add(1, Ordering::SeqCst);
         self.bell.wait(rt, rings)
     }
@@ -85,7 +85,7 @@ fn commit_awaited<R: Wait + Clock>(
 }
 
 /// Confirms what was taken, and says so to the thread that commits.
-fn confirm<R: Wait>(
+fn confirm<R: Wait + Clock>(
     rt: &R,
     desk: &WatchedDesk,
     seat: &mut Seat,
@@ -166,7 +166,7 @@ const EACH: u32 = 20;
 
 /// Has the desk take proposals of one unit each, from that unit on, and waits for each receipt. Gives the seat, and how
 /// many were recorded and confirmed.
-fn propose_units<R: Wait>(
+fn propose_units<R: Wait + Clock>(
     rt: &R,
     alloc: Global,
     desk: &Desk<RegistryCore, RoomBell>,
@@ -195,7 +195,11 @@ fn proposal(alloc: Global, unit: u32) -> Option<Input> {
 }
 
 /// Commits until the desk has stopped.
-fn commit_all<R: Wait>(rt: &R, desk: &Desk<RegistryCore, RoomBell>, store: &mut MemoryStore) {
+fn commit_all<R: Wait + Clock>(
+    rt: &R,
+    desk: &Desk<RegistryCore, RoomBell>,
+    store: &mut MemoryStore,
+) {
     for _ in rt.forever() {
         let rings = desk.bell().rings(rt);
         match desk.commit_next(rt, store) {
@@ -208,7 +212,7 @@ fn commit_all<R: Wait>(rt: &R, desk: &Desk<RegistryCore, RoomBell>, store: &mut 
 }
 
 /// Two threads that take, until both are done. Then the desk stops.
-fn propose_twice<R: Threads + Wait + Sync>(
+fn propose_twice<R: Threads + Wait + Clock + Sync>(
     rt: &R,
     alloc: Global,
     desk: &Desk<RegistryCore, RoomBell>,
@@ -223,7 +227,7 @@ fn propose_twice<R: Threads + Wait + Sync>(
 }
 
 /// Two threads that take, and one that commits.
-fn three_threads<R: Threads + Wait + Sync>(
+fn three_threads<R: Threads + Wait + Clock + Sync>(
     rt: &R,
     alloc: Global,
     desk: &Desk<RegistryCore, RoomBell>,

@@ -1,0 +1,72 @@
+use crate::one_node::run_alone;
+use crate::registries::registry;
+use crate::same::assert_same;
+use crate::stations::{Ended, Station, add_port, open_station, records_of};
+use sessions::Dial;
+use sockets::Ports;
+use std::alloc::Global;
+use std::io::Write;
+use std::rt::Clock;
+use std::sync::Wait;
+use std::thread;
+use std::thread::Threads;
+use std::time::Duration;
+
+/// How many bytes a client sends before the node stops.
+const BEFORE: u32 = 20;
+
+/// How many it would send after that: fewer than make a line too long.
+const AFTER: u32 = 5_000;
+
+/// Writes that many bytes, one a millisecond, and no newline. Returns whether all were taken.
+fn drip<W: Write, R: Clock>(rt: &R, writer: &mut W, count: u32) -> bool {
+    for _ in 0..count {
+        if writer.write(b"x").is_err() {
+            return false;
+        }
+        thread::sleep(rt, Duration::from_millis(1));
+    }
+    true
+}
+
+/// Sends the node a line that doesn't end, and stops the node meanwhile. Returns whether it took the bytes until then,
+/// and not all of those after.
+fn drip_and_stop<D: Dial, R: Wait + Clock>(rt: &R, station: &Station, dial: &D) -> bool {
+    let connection = dial.connect(station.node);
+    let Some((reader, mut writer)) = connection else {
+        station.desk.stop(rt);
+        return false;
+    };
+    let before = drip(rt, &mut writer, BEFORE);
+    station.desk.stop(rt);
+    let after = drip(rt, &mut writer, AFTER);
+    drop(reader);
+    before && !after
+}
+
+/// A node and its client.
+fn run_and_drip<D: Dial + Sync, R: Threads + Wait + Clock + Sync>(
+    rt: &R,
+    alloc: Global,
+    station: &Station,
+    dial: &D,
+) -> (Ended, bool) {
+    thread::join(
+        rt,
+        move || run_alone(rt, alloc, station, dial),
+        move || drip_and_stop(rt, station, dial),
+    )
+}
+
+/// A session ends with its node, also where its client never lets a read wait for long.
+#[test]
+fn a_line_without_an_end(rt: HostRuntime) {
+    let alloc = rt.alloc();
+    let nz = open_station(&rt, alloc, registry(&rt, "NZ"), 0);
+    let mut ports = Ports::new(&rt, alloc);
+    add_port(&rt, &mut ports, &nz);
+    let (ended, is_cut_off) = run_and_drip(&rt, alloc, &nz, &ports);
+    assert!(rt; is_cut_off);
+    drop(ports);
+    assert_same(&rt, records_of(&rt, nz, ended, None), (0, 0));
+}

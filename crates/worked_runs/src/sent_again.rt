@@ -1,0 +1,134 @@
+use crate::exchange_rows::RECEIVED;
+use crate::given::input_of;
+use crate::nz_desk::{TEN, TEN_MORE};
+use crate::registries::registry;
+use crate::stations::{Ended, NodeDesk, Station, StillClock, open_station, records_of};
+use crate::streams::Full;
+use crate::waits::TURNS;
+use desk::{OpenGate, Seat};
+use sessions::{Dial, NodeParts, run_node};
+use std::alloc::Global;
+use std::net::{Net, TcpListener, TcpStream};
+use std::process::Abort;
+use std::rt::Clock;
+use std::sync::Wait;
+use std::sync::atomic::{AtomicU64, Ordering};
+use std::thread;
+use std::thread::Threads;
+use std::time::Duration;
+use stores::MemoryStore;
+use units::Node;
+
+/// Connections with a node that replies to each message that it was received. The first ones can't be made.
+#[derive(Drop)]
+struct FailingDial {
+    failing: u64,
+    connects: AtomicU64,
+}
+
+impl Dial for FailingDial {
+    type Reader = &'static [u8];
+
+    type Writer = Full;
+
+    fn connect(&self, _peer: Node) -> Option<(&'static [u8], Full)> {
+        if self.connects.fetch_add(1, Ordering::SeqCst) < self.failing {
+            return None;
+        }
+        Some((RECEIVED, Full { room: usize::MAX }))
+    }
+}
+
+/// The node sends to the log.
+const PEERS: &[Node] = &[Node::Itl];
+
+/// Runs a node that sends to the log.
+fn run_sending<R: Threads + Wait + Clock + Sync>(
+    rt: &R,
+    alloc: Global,
+    station: &Station,
+    dial: &FailingDial,
+) -> Ended {
+    let parts = NodeParts {
+        node: station.node,
+        desk: &station.desk,
+        listen: &station.listen,
+        dial,
+        peers: PEERS,
+        clock: &StillClock,
+        gate: &OpenGate,
+        muster: &station.muster,
+    };
+    run_node(rt, alloc, &parts, MemoryStore::new(alloc, station.node))
+}
+
+/// Waits until that many connections were asked for, at most `TURNS` turns of one millisecond, and stops the node.
+/// Returns whether they were.
+fn wait_and_stop<R: Wait + Clock>(
+    rt: &R,
+    station: &Station,
+    dial: &FailingDial,
+    connects: u64,
+) -> bool {
+    let mut are_asked = false;
+    for _ in 0..TURNS {
+        are_asked = dial.connects.load(Ordering::SeqCst) >= connects;
+        if are_asked {
+            break;
+        }
+        thread::sleep(rt, Duration::from_millis(1));
+    }
+    station.desk.stop(rt);
+    are_asked
+}
+
+/// The node, and who waits for its connections.
+fn run_and_wait<R: Threads + Wait + Clock + Sync>(
+    rt: &R,
+    alloc: Global,
+    station: &Station,
+    dial: &FailingDial,
+    connects: u64,
+) -> (Ended, bool) {
+    thread::join(
+        rt,
+        move || run_sending(rt, alloc, station, dial),
+        move || wait_and_stop(rt, station, dial, connects),
+    )
+}
+
+/// A seat that was told that two proposals are recorded at the desk.
+fn seat_of_two(rt: &(impl Wait + Abort), alloc: Global, desk: &NodeDesk) -> Seat {
+    let mut seat = Seat::new(alloc);
+    for given in [TEN, TEN_MORE] {
+        drop(desk.take(rt, &mut seat, input_of(rt, alloc, given)));
+    }
+    seat
+}
+
+/// Whether a node with two messages sends both, where it gets no connection the first times, and whether the first of
+/// them that was received is acknowledged then.
+fn sends_both<R>(rt: &R, alloc: Global, failing: u64) -> bool
+where
+    R: Threads + Wait + Clock + Net<Listener = TcpListener, Stream = TcpStream> + Abort + Sync,
+{
+    let nz = open_station(rt, alloc, registry(rt, "NZ"), 0);
+    let seat = seat_of_two(rt, alloc, &nz.desk);
+    let dial = FailingDial {
+        failing,
+        connects: AtomicU64::new(0),
+    };
+    let (ended, are_sent) = run_and_wait(rt, alloc, &nz, &dial, failing.saturating_add(2));
+    let (records, _) = records_of(rt, nz, ended, Some(seat));
+    are_sent && records >= 3
+}
+
+/// Where only the first message got no connection, it is sent again once the other one is acknowledged. Where none did,
+/// nothing is recorded, and both are sent again by themselves.
+#[test]
+fn what_got_no_connection_is_sent_again(rt: HostRuntime) {
+    let alloc = rt.alloc();
+    for failing in [1, 2] {
+        assert!(rt; sends_both(&rt, alloc, failing));
+    }
+}

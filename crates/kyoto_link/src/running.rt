@@ -3,7 +3,7 @@ ghost use Rattle.std.specs.Prelude.{◌≡◌, IfOk, length, vec_len};
 ghost use Rattle.protocol.specs.Registries.{nodes};
 
 use crate::files::{find_folder, open_stores, scheme_at, script_at};
-use crate::watching::ProgressLine;
+use crate::watching::{ProgressLine, ScriptLines};
 use answers::WallClock;
 use audit::load_run;
 use desk::OpenGate;
@@ -98,7 +98,8 @@ where
         clock: &WallClock::new(threads),
         gate: &OpenGate,
     };
-    let stores = run_script(
+    let mut progress = ScriptLines::new(rt, lines.len());
+    let ended = run_script(
         threads,
         rt.alloc(),
         scheme,
@@ -106,8 +107,9 @@ where
         loaded,
         &network,
         &mut io::writer(rt),
-    )?;
-    close_stores(stores)
+        &mut progress,
+    );
+    close_stores(ended?)
 }
 
 /// The command `run`. Before anything runs it looks at the scheme, then at the whole script, at the folder, at the

@@ -127,3 +127,42 @@ impl<'a> durable::Watch for MigrationLine<'a> {
         }
     }
 }
+
+/// Writes how many lines of a script were answered.
+#[derive(Drop)]
+pub(crate) struct ScriptLines<'a> {
+    pace: Pace<'a>,
+    answered: usize,
+    count: usize,
+}
+
+impl<'a> ScriptLines<'a> {
+    /// The line of a run of that many lines of a script, which begins now.
+    pub(crate) fn new(rt: &'a HostRuntime, count: usize) -> ScriptLines<'a> {
+        ScriptLines {
+            pace: Pace::new(rt),
+            answered: 0,
+            count,
+        }
+    }
+}
+
+impl<'a> runs::Watch for ScriptLines<'a> {
+    fn answered(&mut self) {
+        self.answered = self.answered.saturating_add(1);
+        if self.answered >= self.count {
+            self.pace.finished();
+        } else {
+            self.waiting();
+        }
+    }
+
+    fn waiting(&mut self) {
+        if self.pace.is_due() {
+            let _ = eprint!(self.pace.rt;
+                "\rkyoto-link: {} of {} lines answered",
+                self.answered, self.count
+            );
+        }
+    }
+}

@@ -4,6 +4,7 @@ ghost use Rattle.answers.specs.Answers.{is_without_journal};
 ghost use Rattle.playing.specs.Answers.{asked_by};
 ghost use Rattle.playing.specs.Heard.{Grows, HasHeard, IsConfirmed};
 
+use crate::watch::Watch;
 use desk::{Asked, Bell, Desk, Seat, Taken, Told};
 use protocol::NodeCore;
 use scripts::ScriptLine;
@@ -108,13 +109,14 @@ fn is_over(told: Told, status: Status) -> bool {
 
 /// Asks where the transaction stands until it has that status, at most that many times, and returns what was told
 /// last. A stopped node isn't asked again.
-fn question_until<C: NodeCore, B: Bell, R: Wait + SystemClock>(
+fn question_until<C: NodeCore, B: Bell, P: Watch, R: Wait + SystemClock>(
     rt: &R,
     desk: &Desk<C, B>,
     seat: &mut Seat,
     id: TransactionId,
     status: Status,
     turns: u64,
+    watch: &mut P,
 ) -> Told
     ensures heard { HasHeard seat.new (Asked.Query id) result }
     ensures grows { Grows seat.old seat.new }
@@ -124,6 +126,7 @@ fn question_until<C: NodeCore, B: Bell, R: Wait + SystemClock>(
         if is_over(told, status) {
             break;
         }
+        watch.waiting();
         thread::sleep(rt, Duration::from_millis(TURN));
         told = question(rt, desk, seat, id);
     }
@@ -131,11 +134,12 @@ fn question_until<C: NodeCore, B: Bell, R: Wait + SystemClock>(
 }
 
 /// What the node tells of a line of a script.
-pub(crate) fn ask<C: NodeCore, B: Bell, R: Wait + SystemClock>(
+pub(crate) fn ask<C: NodeCore, B: Bell, P: Watch, R: Wait + SystemClock>(
     rt: &R,
     desk: &Desk<C, B>,
     seat: &mut Seat,
     line: &ScriptLine,
+    watch: &mut P,
 ) -> Told
     ensures heard { HasHeard seat.new (asked_by line.now) result }
     ensures grows { Grows seat.old seat.new }
@@ -148,6 +152,6 @@ pub(crate) fn ask<C: NodeCore, B: Bell, R: Wait + SystemClock>(
             status,
             turns,
             ..
-        } => question_until(rt, desk, seat, *id, *status, *turns),
+        } => question_until(rt, desk, seat, *id, *status, *turns, watch),
     }
 }

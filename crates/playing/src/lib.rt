@@ -5,8 +5,10 @@ mod answer;
 mod asking;
 mod playing;
 mod threads;
+mod watch;
 mod wiring;
 
 pub use answer::{Answer, lines_of};
 pub use threads::{Ends, Loaded, Played, Run, run_and_play};
+pub use watch::{Nobody, Watch};
 pub use wiring::Network;

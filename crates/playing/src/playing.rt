@@ -8,6 +8,7 @@ ghost use Rattle.playing.specs.Heard.{AllGrow, AreHeard, IsHeard};
 
 use crate::answer::Answer;
 use crate::asking::ask;
+use crate::watch::Watch;
 use desk::{Bell, Desk, Seat};
 use protocol::{NodeCore, place_of};
 use scheme::Scheme;
@@ -49,12 +50,13 @@ fn place_for(scheme: &Scheme, line: &ScriptLine) -> Option<usize>
 }
 
 /// What a line comes to.
-fn play<C: NodeCore, B: Bell, R: Wait + SystemClock>(
+fn play<C: NodeCore, B: Bell, P: Watch, R: Wait + SystemClock>(
     rt: &R,
     scheme: &Scheme,
     desks: &[Desk<C, B>],
     seats: &mut [Seat],
     line: &ScriptLine,
+    watch: &mut P,
 ) -> Answer
     requires desks { length desks.now ≡ length (nodes scheme.now) }
     requires seats { length seats.old ≡ length (nodes scheme.now) }
@@ -63,7 +65,7 @@ fn play<C: NodeCore, B: Bell, R: Wait + SystemClock>(
     ensures count { length seats.new ≡ length seats.old }
 {
     match place_for(scheme, line) {
-        Some(at) => Answer::Told(ask(rt, &desks[at], &mut seats[at], line)),
+        Some(at) => Answer::Told(ask(rt, &desks[at], &mut seats[at], line, watch)),
         None => Answer::NotPossible,
     }
 }
@@ -75,15 +77,16 @@ fn push(answers: &mut Vec<Answer>, answer: Answer) -> Result<(), NoMemory>
     Ok(())
 }
 
-/// What the lines come to, one after another. Fails with `NoMemory` where memory ran out for the answers, before the
+/// What the lines come to, one after another. Tells of each that was answered. Fails with `NoMemory` where memory ran out for the answers, before the
 /// first line.
-pub(crate) fn play_all<C: NodeCore, B: Bell, R: Wait + SystemClock>(
+pub(crate) fn play_all<C: NodeCore, B: Bell, P: Watch, R: Wait + SystemClock>(
     rt: &R,
     alloc: Global,
     scheme: &Scheme,
     desks: &[Desk<C, B>],
     seats: &mut [Seat],
     lines: &[ScriptLine],
+    watch: &mut P,
 ) -> Result<Vec<Answer>, NoMemory>
     requires desks { length desks.now ≡ length (nodes scheme.now) }
     requires seats { length seats.old ≡ length (nodes scheme.now) }
@@ -92,8 +95,9 @@ pub(crate) fn play_all<C: NodeCore, B: Bell, R: Wait + SystemClock>(
 {
     let mut answers = Vec::with_capacity(alloc, lines.len())?;
     for line in lines {
-        let answer = play(rt, scheme, desks, seats, line);
+        let answer = play(rt, scheme, desks, seats, line, watch);
         push(&mut answers, answer)?;
+        watch.answered();
     }
     Ok(answers)
 }

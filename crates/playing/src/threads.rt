@@ -6,6 +6,7 @@ ghost use Rattle.playing.specs.Heard.{AreHeard};
 
 use crate::answer::Answer;
 use crate::playing::play_all;
+use crate::watch::Watch;
 use crate::wiring::{Network, desks_of, nodes_to_run};
 use answers::Clock;
 use desk::{Bell, Desk, Gate, RoomBell, Seat, State};
@@ -95,19 +96,20 @@ fn new_seats(alloc: Global, count: usize) -> Result<Vec<Seat>, NoMemory>
 }
 
 /// Plays the script with new seats.
-fn play_with_seats<R: Wait + SystemClock>(
+fn play_with_seats<P: Watch, R: Wait + SystemClock>(
     rt: &R,
     alloc: Global,
     scheme: &Scheme,
     desks: &[Desk<Core, RoomBell>],
     lines: &[ScriptLine],
+    watch: &mut P,
 ) -> Result<Played, NoMemory>
     requires { length desks.now ≡ length (nodes scheme.now) }
     ensures heard { IfOk result (λ p. AreHeard scheme.now p.seats.items lines.now p.answers.items) }
     ensures seats { IfOk result (λ p. vec_len p.seats ≡ length (nodes scheme.now)) }
 {
     let mut seats = new_seats(alloc, desks.len())?;
-    let answers = play_all(rt, alloc, scheme, desks, seats.as_mut_slice(), lines)?;
+    let answers = play_all(rt, alloc, scheme, desks, seats.as_mut_slice(), lines, watch)?;
     Ok(Played { seats, answers })
 }
 
@@ -124,7 +126,7 @@ fn threads_of_all<S, L, D, K, G>(
 
 /// Plays the script with new seats once that many threads of the nodes have reported. Fails with `NoMemory` where one is
 /// missing: then no order was given and nothing asked.
-fn play_mustered<R: Wait + SystemClock>(
+fn play_mustered<P: Watch, R: Wait + SystemClock>(
     rt: &R,
     alloc: Global,
     scheme: &Scheme,
@@ -132,19 +134,20 @@ fn play_mustered<R: Wait + SystemClock>(
     lines: &[ScriptLine],
     muster: &Muster,
     threads: usize,
+    watch: &mut P,
 ) -> Result<Played, NoMemory>
     requires { length desks.now ≡ length (nodes scheme.now) }
     ensures heard { IfOk result (λ p. AreHeard scheme.now p.seats.items lines.now p.answers.items) }
     ensures seats { IfOk result (λ p. vec_len p.seats ≡ length (nodes scheme.now)) }
 {
     match muster.wait_for(rt, threads, Duration::from_secs(LONGEST_MUSTER)) {
-        Mustered::All => play_with_seats(rt, alloc, scheme, desks, lines),
+        Mustered::All => play_with_seats(rt, alloc, scheme, desks, lines, watch),
         Mustered::Missing => Err(NoMemory),
     }
 }
 
 /// Plays the script once all threads have reported, and then stops all nodes.
-fn play_and_stop<R: Wait + SystemClock>(
+fn play_and_stop<P: Watch, R: Wait + SystemClock>(
     rt: &R,
     alloc: Global,
     scheme: &Scheme,
@@ -152,12 +155,13 @@ fn play_and_stop<R: Wait + SystemClock>(
     lines: &[ScriptLine],
     muster: &Muster,
     threads: usize,
+    watch: &mut P,
 ) -> Result<Played, NoMemory>
     requires { length desks.now ≡ length (nodes scheme.now) }
     ensures heard { IfOk result (λ p. AreHeard scheme.now p.seats.items lines.now p.answers.items) }
     ensures seats { IfOk result (λ p. vec_len p.seats ≡ length (nodes scheme.now)) }
 {
-    let played = play_mustered(rt, alloc, scheme, desks, lines, muster, threads);
+    let played = play_mustered(rt, alloc, scheme, desks, lines, muster, threads, watch);
     stop_all(rt, desks);
     played
 }
@@ -168,7 +172,7 @@ fn play_and_stop<R: Wait + SystemClock>(
 ///
 /// Where the system has no thread for the nodes, they begin when the script has ended: it was not played, since no
 /// thread reported, and all desks have stopped, so that they end at once.
-fn run_beside_script<S, L, D, K, G, R>(
+fn run_beside_script<S, L, D, K, G, P, R>(
     rt: &R,
     alloc: Global,
     scheme: &Scheme,
@@ -176,6 +180,7 @@ fn run_beside_script<S, L, D, K, G, R>(
     lines: &[ScriptLine],
     muster: &Muster,
     stations: Vec<NodeToRun<'_, Core, RoomBell, L, D, K, G, S>>,
+    watch: &mut P,
 ) -> (Ends<S>, Result<Played, NoMemory>)
 where
     S: NodeStore + Send + Drop,
@@ -183,6 +188,7 @@ where
     D: Dial + Sync,
     K: Clock + Sync,
     G: Gate + Sync,
+    P: Watch,
     R: Threads + Wait + SystemClock + Sync,
     requires { length desks.now ≡ length (nodes scheme.now) }
     ensures ends { IfOk result.0 (λ v. vec_len v ≡ vec_len stations.entry) }
@@ -200,7 +206,7 @@ where
             requires { length desks.now ≡ length (nodes scheme.now) }
             ensures heard { IfOk result (λ p. AreHeard scheme.entry.now p.seats.items lines.entry.now p.answers.items) }
             ensures seats { IfOk result (λ p. vec_len p.seats ≡ length (nodes scheme.entry.now)) }
-        { play_and_stop(rt, alloc, scheme, desks, lines, muster, threads) },
+        { play_and_stop(rt, alloc, scheme, desks, lines, muster, threads, watch) },
     )
 }
 
@@ -215,7 +221,7 @@ struct NodesAtDesks {
 
 /// Runs the nodes in threads of their own while the script is played, each with the store at its place, as
 /// `run_beside_script` does.
-fn run_wired<'a, S, L, D, K, G, R>(
+fn run_wired<'a, S, L, D, K, G, P, R>(
     rt: &R,
     alloc: Global,
     scheme: &Scheme,
@@ -223,6 +229,7 @@ fn run_wired<'a, S, L, D, K, G, R>(
     all: &'a NodesAtDesks,
     stores: Vec<S>,
     network: &Network<'a, L, D, K, G>,
+    watch: &mut P,
 ) -> Result<(Ends<S>, Result<Played, NoMemory>), NoMemory>
 where
     S: NodeStore + Send + Drop,
@@ -230,6 +237,7 @@ where
     D: Dial + Sync,
     K: Clock + Sync,
     G: Gate + Sync,
+    P: Watch,
     R: Threads + Wait + SystemClock + Sync,
     requires names { all.now.nodes.items ≡ nodes scheme.now }
     requires desks { vec_len all.now.desks ≡ length (nodes scheme.now) }
@@ -242,27 +250,28 @@ where
     let desks = all.desks.as_slice();
     let names = all.nodes.as_slice();
     let nodes = nodes_to_run(alloc, names, desks, network, &all.muster, stores)?;
-    Ok(run_beside_script(rt, alloc, scheme, desks, lines, &all.muster, nodes))
+    Ok(run_beside_script(rt, alloc, scheme, desks, lines, &all.muster, nodes, watch))
 }
 
 /// Makes a desk of each node's state, and runs the nodes in threads of their own while the script's lines are ordered
 /// and asked one after another; then stops all nodes, and returns once their threads have ended. The first line waits
-/// for all threads to begin. Each order and each question is answered once all records are committed that the node's
+/// for all threads to begin. The watch is told of each line. Each order and each question is answered once all records are committed that the node's
 /// journal had then.
 ///
 /// # Errors
 ///
 /// Fails with `NoMemory` where memory ran out before a thread was started. In what it returns `ends` is `NoMemory` where
 /// memory for the threads ran out, and `played` where memory for the answers did. `played` is `NoMemory` also where the
-/// threads didn't all begin, each within `LONGEST_MUSTER` seconds of another one, as the system had too few: then no
-/// line was ordered or asked. All nodes have stopped in any case.
-pub fn run_and_play<S, L, D, K, G, R>(
+/// system had too few threads: some were missing, and for `LONGEST_MUSTER` seconds no further one began. Then no line
+/// was ordered or asked. All nodes have stopped in any case.
+pub fn run_and_play<S, L, D, K, G, P, R>(
     rt: &R,
     alloc: Global,
     scheme: &Scheme,
     lines: &[ScriptLine],
     loaded: Loaded<S>,
     network: &Network<'_, L, D, K, G>,
+    watch: &mut P,
 ) -> Result<Run<S>, NoMemory>
 where
     S: NodeStore + Send + Drop,
@@ -270,6 +279,7 @@ where
     D: Dial + Sync,
     K: Clock + Sync,
     G: Gate + Sync,
+    P: Watch,
     R: Threads + Wait + SystemClock + Sync,
     requires states { vec_len loaded.states ≡ length (nodes scheme.now) }
     requires stores { vec_len loaded.stores ≡ length (nodes scheme.now) }
@@ -285,7 +295,7 @@ where
         desks: desks_of(alloc, states)?,
         muster: Muster::new(),
     };
-    let (ends, played) = run_wired(rt, alloc, scheme, lines, &all, stores, network)?;
+    let (ends, played) = run_wired(rt, alloc, scheme, lines, &all, stores, network, watch)?;
     Ok(Run {
         desks: all.desks,
         ends,

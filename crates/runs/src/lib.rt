@@ -5,6 +5,6 @@ mod gathering;
 mod reporting;
 mod running;
 
-pub use playing::{Loaded, Network};
+pub use playing::{Loaded, Network, Nobody, Watch};
 pub use reporting::report_run;
 pub use running::run_script;

@@ -15,7 +15,7 @@ use crate::reporting::report_of;
 use answers::Clock;
 use desk::{Desk, Gate, RoomBell, Seat, State};
 use inputs::{OpFault, store_fault, write_out};
-use playing::{Ends, Loaded, Network, Played, Run, lines_of, run_and_play};
+use playing::{Ends, Loaded, Network, Played, Run, Watch, lines_of, run_and_play};
 use protocol::nodes_of;
 use scheme::Scheme;
 use scripts::ScriptLine;
@@ -206,7 +206,7 @@ fn write_run<S: Drop, W: Write>(
 /// then. Writes the answers, a line each, and then the table of a run that leads to what all nodes have committed: of
 /// the world that the protocol's own steps lead to, whatever sockets and threads did.
 ///
-/// The states are those that the stores' records lead to. Returns the stores, each as its node left it.
+/// The states are those that the stores' records lead to. The watch is told of the script's lines. Returns the stores, each as its node left it.
 ///
 /// # Errors
 ///
@@ -218,7 +218,7 @@ fn write_run<S: Drop, W: Write>(
 /// - `Stuck`: no run leads to the committed records, as for `audit`.
 ///
 /// And with `Write`, after the number of bytes that the fault tells, or `NoMemory`, where memory ran out.
-pub fn run_script<S, L, D, K, G, W, R>(
+pub fn run_script<S, L, D, K, G, W, P, R>(
     rt: &R,
     alloc: Global,
     scheme: &Scheme,
@@ -226,6 +226,7 @@ pub fn run_script<S, L, D, K, G, W, R>(
     loaded: Loaded<S>,
     network: &Network<'_, L, D, K, G>,
     writer: &mut W,
+    watch: &mut P,
 ) -> Result<Vec<S>, OpFault>
 where
     S: NodeStore + Send + Drop,
@@ -234,6 +235,7 @@ where
     K: Clock + Sync,
     G: Gate + Sync,
     W: Write,
+    P: Watch,
     R: Threads + Wait + SystemClock + Sync,
     requires states { vec_len loaded.states ≡ length (nodes scheme.now) }
     requires stores { vec_len loaded.stores ≡ length (nodes scheme.now) }
@@ -246,7 +248,7 @@ where
         desks,
         ends,
         played,
-    } = run_and_play(rt, alloc, scheme, lines, loaded, network)?;
+    } = run_and_play(rt, alloc, scheme, lines, loaded, network, watch)?;
     let played = match played {
         Ok(played) => played,
         Err(NoMemory) => {

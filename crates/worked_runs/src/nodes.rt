@@ -70,6 +70,7 @@ where
         Loaded { states, stores },
         &network,
         &mut written,
+        &mut runs::Nobody,
     );
     drop(dial);
     drop(listeners);

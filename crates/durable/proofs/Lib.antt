@@ -20,6 +20,7 @@ pub mod Stretches
 pub mod Answering
 pub mod Queries
 pub mod Reopening
+pub mod Closed
 pub mod NoRoom
 pub mod Refusing
 pub mod Sparing

@@ -1,6 +1,7 @@
 -- What an opening of a database file and its log may find.
 use Rattle.std.specs.Prelude.{◌≡◌, ◌⊎◌}
 use Rattle.sqlite.specs.Tree.{Trees}
+use Rattle.sqlite.specs.Closing.{HoldsAlone}
 use Rattle.sqlite.specs.Files.{AreFoundIn, HoldsDatabase, IsNothing, image_of}
 use Rattle.sqlite_disk.specs.declared.Disk.{Ghosts}
 use Rattle.sqlite_disk.specs.declared.Files.{Files}
@@ -32,3 +33,7 @@ IsNoDatabase g files = (((db : Trees) × HoldsDatabase (image_of g files) db) �
 -- whatever the files show now, or after a crash, it is a database with such trees
 abbrev pub Hold : {D : Type 0} → Ghosts D → Files D → (Trees → Type 0) → Type 0
 Hold g files Wanted = AreClean g files.log files.db → (image : Image) → outcomes g files.log files.db image → ∥ ((db : Trees) × Wanted db × HoldsDatabase image db) ∥₁
+
+-- the same, and the database file holds it with no log too
+abbrev pub HoldAlone : {D : Type 0} → Ghosts D → Files D → (Trees → Type 0) → Type 0
+HoldAlone g files Wanted = AreClean g files.log files.db → (image : Image) → outcomes g files.log files.db image → (db : Trees) × Wanted db × HoldsAlone image db

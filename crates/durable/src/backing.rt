@@ -4,15 +4,17 @@ ghost use Rattle.sqlite.specs.Effect.{IsDatabase};
 ghost use Rattle.sqlite.specs.Tree.{Trees};
 ghost use Rattle.sqlite.specs.State.{HasCleanDisk, Opens};
 ghost use Rattle.sqlite.specs.Files.{file_state};
+ghost use Rattle.sqlite.specs.Closing.{IsCopied};
 ghost use Rattle.sqlite_wal.specs.Reads.{AreClean};
 ghost use Rattle.durable.specs.Backing.{IsFound, MayFind, Hold};
 ghost use Rattle.stores.specs.Faults.{is_device_fault};
 ghost use Rattle.durable.specs.SqlFaults.{store_fault_of};
 ghost use Rattle.durable.specs.Refusals.{IsFileFault};
 
-use crate::fault::fault_of;
+use crate::fault::{fault_of, fault_of_copying};
 use sqlite::{Connection, Error as SqlError, ErrorCode, FileStore, Options};
 use sqlite_disk::{Disk, Files, Tally};
+use sqlite_trees::store::Store;
 use std::alloc::Global;
 use stores::StoreFault;
 
@@ -23,6 +25,32 @@ pub(crate) fn files_of<D: Disk + Drop>(conn: Connection<FileStore<D>>) -> Files<
     ensures holds { Hold D.Disk result (file_state conn).may_leave }
 {
     conn.into_store().close()
+}
+
+/// Copies what the log holds into the database file, and gives both files back, on a fault too. What isn't committed is
+/// lost.
+///
+/// Fails with `Device`, `Full` or `NoMemory` as a call of the database does, and with `Device` where a failed call of
+/// the device shut it.
+pub(crate) fn copied_files<D: Disk + Drop>(
+    conn: Connection<FileStore<D>>,
+) -> Result<Files<D>, (StoreFault, Files<D>)>
+    ensures copied { IfOk result (λ files. AreClean D.Disk files.log files.db → IsCopied conn files) }
+    ensures named { IfErr result (λ e. (e.0 ≡ StoreFault.NoMemory) ⊎ IsTrue (is_device_fault e.0)) }
+    ensures honest { IfErr result (λ e. AreClean D.Disk e.1.log e.1.db → HasCleanDisk (file_state conn)) }
+    ensures left { IfErr result (λ e. e.0 ≢ StoreFault.Device → (db : Trees) → MayFind D.Disk e.1 db → ∥ (file_state conn).may_leave db ∥₁) }
+    ensures holds { IfErr result (λ e. e.0 ≢ StoreFault.Device → Hold D.Disk e.1 (file_state conn).may_leave) }
+{
+    let mut database = conn.into_store();
+    // Again, for what only this store's rollback says of the log.
+    database.rollback();
+    match database.checkpoint() {
+        Ok(()) => Ok(database.close()),
+        Err(error) => {
+            let fault = fault_of_copying(&database, error);
+            Err((fault, database.close()))
+        }
+    }
 }
 
 /// What an error of an opening tells, by what the failed calls of the files had met before it and since. SQLite calls

@@ -1,9 +1,15 @@
 //! What SQLite's errors mean for a store.
-ghost use Rattle.std.specs.Prelude.{◌≡◌, ◌⊎◌, IsTrue};
+ghost use Rattle.std.specs.Prelude.{◌≡◌, ◌≢◌, ◌⊎◌, IsTrue};
+ghost use Rattle.sqlite.specs.State.{store_error};
+ghost use Rattle.sqlite_trees.specs.View.{IsClean};
+ghost use Rattle.sqlite_store.specs.FileStore.{view};
 ghost use Rattle.stores.specs.Faults.{is_device_fault};
 ghost use Rattle.durable.specs.SqlFaults.{store_fault_of};
 
-use sqlite::{Error as SqlError, ErrorCode};
+use sqlite::{Error as SqlError, ErrorCode, FileStore};
+use sqlite_disk::Disk;
+use sqlite_trees::error::StoreError;
+use sqlite_trees::store::Store;
 use stores::StoreFault;
 
 /// What an error of a statement tells: out of memory, no room, or a fault of the device.
@@ -16,4 +22,27 @@ pub(crate) fn fault_of(error: SqlError) -> StoreFault
         SqlError::SqliteFailure(ErrorCode::DiskFull | ErrorCode::TooBig) => StoreFault::Full,
         _ => StoreFault::Device,
     }
+}
+
+/// What an error of the database below the statements tells.
+fn fault_below(error: StoreError) -> StoreFault
+    ensures told { result ≡ store_fault_of (store_error error) }
+{
+    match error {
+        StoreError::OutOfMemory => StoreFault::NoMemory,
+        StoreError::Full | StoreError::Unstorable => StoreFault::Full,
+        StoreError::Io | StoreError::Corrupt | StoreError::Broken => StoreFault::Device,
+    }
+}
+
+/// What an error of a call that copies the log tells. It is `Device` where a failed call of the device shut the database.
+pub(crate) fn fault_of_copying<D: Disk>(database: &FileStore<D>, error: StoreError) -> StoreFault
+    ensures open { result ≢ StoreFault.Device → IsClean (view database.now) → IsTrue (view database.now).is_open }
+    ensures told { (result ≡ StoreFault.Device) ⊎ (result ≡ store_fault_of (store_error error)) }
+    ensures named { (result ≡ StoreFault.NoMemory) ⊎ IsTrue (is_device_fault result) }
+{
+    if database.is_broken() {
+        return StoreFault::Device;
+    }
+    fault_below(error)
 }

@@ -81,6 +81,13 @@ impl<S: Alter> OpenStore<S> {
         }
     }
 
+    /// Whether a fault stopped it.
+    pub(crate) fn must_reopen(&self) -> bool
+        ensures { result ≡ self.now.must_reopen }
+    {
+        self.readiness == Readiness::MustReopen
+    }
+
     /// The connection.
     pub(crate) fn into_connection(self) -> Connection<S>
         ensures connection { result ≡ self.conn }

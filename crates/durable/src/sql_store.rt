@@ -1,9 +1,9 @@
 //! A store in a file of SQLite and its log.
-ghost use Rattle.std.specs.Prelude.{◌≡◌, ◌≢◌, ◌⊎◌, ℕ, false, None, IfOk, IfErr, IsTrue};
+ghost use Rattle.std.specs.Prelude.{◌≡◌, ◌≢◌, ◌⊎◌, ◌↔◌, ℕ, false, None, OnOk, IfOk, IfErr, IsTrue};
 ghost use Rattle.sqlite.specs.Tree.{Trees};
 ghost use Rattle.sqlite_wal.specs.Reads.{AreClean};
 ghost use Rattle.units.specs.Code.{node_text};
-ghost use Rattle.durable.specs.Backing.{IsFound, MayFind, Hold};
+ghost use Rattle.durable.specs.Backing.{IsFound, MayFind, Hold, HoldAlone};
 ghost use Rattle.stores.specs.Faults.{is_device_fault};
 ghost use Rattle.durable.specs.SqlFaults.{store_fault_of};
 ghost use Rattle.durable.specs.Held.{slots_in, node_in, IsStore};
@@ -104,6 +104,38 @@ impl<D: Disk + Drop> SqlStore<D> {
         } = self;
         store_state.into_files()
     }
+
+    /// Copies what the log holds into the database file, closes the store, and gives both files back. After Ok the
+    /// database file holds the content and the owner by itself, whatever becomes of its log, now and after a crash.
+    /// An error gives the files back.
+    ///
+    /// Fails with `Reopen` exactly when the store must be reopened first; then no call of the device is made, and the
+    /// files are those of `close_files`. Fails with `Full` where there is no room for the database file, and with
+    /// `NoMemory`; then the files hold the content and the owner as they were, now and after a crash. Fails with
+    /// `Device` at any call of the files. What SQLite says of a close that failed doesn't tell what the files hold
+    /// after a sync that failed, so that no clause says it of `Device`.
+    pub fn checkpoint_files(self) -> Result<Files<D>, (StoreFault, Files<D>)>
+        ensures runs { OnOk result (must_reopen D.Disk self ≡ false) }
+        ensures honest { IfOk result (λ files. AreClean D.Disk files.log files.db → IsHonest D.Disk self) }
+        ensures alone { IfOk result (λ files. HoldAlone D.Disk files (λ db. IsStore db × (slots_in db ≡ content D.Disk self) × (node_in db ≡ owner D.Disk self))) }
+        ensures named { IfErr result (λ e. (e.0 ≡ StoreFault.Reopen) ⊎ ((e.0 ≡ StoreFault.NoMemory) ⊎ IsTrue (is_device_fault e.0))) }
+        ensures reopen { IfErr result (λ e. (e.0 ≡ StoreFault.Reopen) ↔ IsTrue (must_reopen D.Disk self)) }
+        ensures untouched { IfErr result (λ e. e.0 ≡ StoreFault.Reopen → HadFiles D.Disk self e.1) }
+        ensures honest_before { IfErr result (λ e. AreClean D.Disk e.1.log e.1.db → IsHonest D.Disk self) }
+        ensures left { IfErr result (λ e. e.0 ≢ StoreFault.Device → (db : Trees) → MayFind D.Disk e.1 db → (next : Places) → IsOpenedAs db next → ∥ MayHold D.Disk self next ∥₁) }
+        ensures kept { IfErr result (λ e. e.0 ≢ StoreFault.Device → must_reopen D.Disk self ≡ false → (db : Trees) → MayFind D.Disk e.1 db → ∥ slots_in db ≡ content D.Disk self ∥₁) }
+        ensures holds { IfErr result (λ e. e.0 ≢ StoreFault.Device → must_reopen D.Disk self ≡ false
+            → Hold D.Disk e.1 (λ db. IsStore db × (slots_in db ≡ content D.Disk self) × (node_in db ≡ owner D.Disk self))) }
+    {
+        let SqlStore {
+            store_state,
+            node: _,
+            faults: _,
+            options: _,
+            alloc: _,
+        } = self;
+        store_state.into_copied_files()
+    }
 }
 
 /// Why a connection to the files at a path could not be made, by what is left of them, where they were opened at all.
@@ -174,6 +206,24 @@ impl SqlStore<File> {
                 options,
                 alloc,
             }),
+            Err((fault, _)) => Err(fault),
+        }
+    }
+}
+
+impl SqlStore<File> {
+    ghost use Rattle.durable.specs.Stores.{must_reopen};
+
+    /// As `checkpoint_files`, and the files are closed.
+    ///
+    /// Fails with `Reopen` exactly when the store must be reopened first, and else with `Device`, `Full` or `NoMemory`.
+    pub fn checkpoint(self) -> Result<(), StoreFault>
+        ensures runs { OnOk result (must_reopen _ self ≡ false) }
+        ensures named { IfErr result (λ e. (e ≡ StoreFault.Reopen) ⊎ ((e ≡ StoreFault.NoMemory) ⊎ IsTrue (is_device_fault e))) }
+        ensures reopen { IfErr result (λ e. (e ≡ StoreFault.Reopen) ↔ IsTrue (must_reopen _ self)) }
+    {
+        match self.checkpoint_files() {
+            Ok(_) => Ok(()),
             Err((fault, _)) => Err(fault),
         }
     }

@@ -1,24 +1,24 @@
 //! A store in files: by its connection while it is open, and by its files while it is shut.
-ghost use Rattle.std.specs.Prelude.{◌≡◌, ◌≢◌, ◌-◌, ℕ, take, drop, false, Ok, Err, IfOk, IfErr, IsTrue};
+ghost use Rattle.std.specs.Prelude.{◌≡◌, ◌≢◌, ◌⊎◌, ◌↔◌, ◌-◌, ℕ, take, drop, false, Ok, Err, OnOk, IfOk, IfErr, IsTrue};
 ghost use Rattle.sqlite.specs.Files.{over_files, file_state};
 ghost use Rattle.sqlite.specs.State.{HasCleanDisk, Opens};
 ghost use Rattle.sqlite.specs.Tree.{Trees};
 ghost use Rattle.sqlite_wal.specs.Reads.{AreClean};
 ghost use Rattle.units.specs.Code.{node_text};
 ghost use Rattle.stores.specs.Calls.{Appends, Loads};
-ghost use Rattle.durable.specs.Backing.{IsFound, MayFind, Hold};
+ghost use Rattle.durable.specs.Backing.{IsFound, MayFind, Hold, HoldAlone};
 ghost use Rattle.durable.specs.Connected as connected;
-ghost use Rattle.stores.specs.Faults.{is_judgement, count_after};
+ghost use Rattle.stores.specs.Faults.{is_device_fault, is_judgement, count_after};
 ghost use Rattle.durable.specs.Held.{slots_in, node_in, IsStore};
 ghost use Rattle.durable.specs.Migrating.{IsOpenedAs};
 ghost use Rattle.durable.specs.Kept.{IsHonest, MayHold, content, owner, disk_faults, must_reopen, is_there, AreFilesOf};
 ghost use Rattle.durable.specs.Opening.{IsOpeningFault};
 ghost use Rattle.stores.specs.Records.{Places, written};
 ghost use Rattle.durable.specs.Refusals.{IsRefusal, IsUnharmed};
-ghost use Rattle.stores.specs.declared.fault.StoreFault.TheVariants.{Reopen, NoMemory, Full};
+ghost use Rattle.stores.specs.declared.fault.StoreFault.TheVariants.{Device, Reopen, NoMemory, Full};
 ghost use Rattle.durable.specs.Rooms.{LacksRoom};
 
-use crate::backing::{files_of, open_again};
+use crate::backing::{copied_files, files_of, open_again};
 use crate::open_store::OpenStore;
 use crate::opening::open_as_store;
 use crate::watch::{Nobody, Watch};
@@ -72,6 +72,44 @@ impl<D: Disk + Drop> StoreState<D> {
             StoreState::Open(store) => files_of(store.into_connection()),
             StoreState::Shut(files) => files,
             StoreState::Absent => unreachable!(),
+        }
+    }
+
+    /// Whether a fault stopped it.
+    pub(crate) fn must_reopen(&self) -> bool
+        ensures { result ≡ must_reopen D.Disk self.now }
+    {
+        match self {
+            StoreState::Open(store) => store.must_reopen(),
+            StoreState::Shut(_) | StoreState::Absent => true,
+        }
+    }
+
+    /// The files, where the database file holds the whole store with no log too. A fault gives them back: `Reopen`
+    /// with no call of the device.
+    pub(crate) fn into_copied_files(self) -> Result<Files<D>, (StoreFault, Files<D>)>
+        requires there { IsTrue (is_there D.Disk self) }
+        ensures runs { OnOk result (must_reopen D.Disk self ≡ false) }
+        ensures honest { IfOk result (λ files. AreClean D.Disk files.log files.db → IsHonest D.Disk self) }
+        ensures alone { IfOk result (λ files. HoldAlone D.Disk files (λ db. IsStore db × (slots_in db ≡ content D.Disk self) × (node_in db ≡ owner D.Disk self))) }
+        ensures named { IfErr result (λ e. (e.0 ≡ Reopen) ⊎ ((e.0 ≡ NoMemory) ⊎ IsTrue (is_device_fault e.0))) }
+        ensures reopen { IfErr result (λ e. (e.0 ≡ Reopen) ↔ IsTrue (must_reopen D.Disk self)) }
+        ensures untouched { IfErr result (λ e. e.0 ≡ Reopen → AreFilesOf D.Disk self e.1) }
+        ensures honest_before { IfErr result (λ e. AreClean D.Disk e.1.log e.1.db → IsHonest D.Disk self) }
+        ensures left { IfErr result (λ e. e.0 ≢ Device → (db : Trees) → MayFind D.Disk e.1 db → (next : Places) → IsOpenedAs db next → ∥ MayHold D.Disk self next ∥₁) }
+        ensures kept { IfErr result (λ e. e.0 ≢ Device → must_reopen D.Disk self ≡ false → (db : Trees) → MayFind D.Disk e.1 db → ∥ slots_in db ≡ content D.Disk self ∥₁) }
+        ensures holds { IfErr result (λ e. e.0 ≢ Device → must_reopen D.Disk self ≡ false
+            → Hold D.Disk e.1 (λ db. IsStore db × (slots_in db ≡ content D.Disk self) × (node_in db ≡ owner D.Disk self))) }
+    {
+        if self.must_reopen() {
+            return Err((StoreFault::Reopen, self.into_files()));
+        }
+        match self {
+            StoreState::Open(store) => match copied_files(store.into_connection()) {
+                Ok(files) => Ok(files),
+                Err((fault, files)) => Err((fault, files)),
+            },
+            StoreState::Shut(_) | StoreState::Absent => unreachable!(),
         }
     }
 

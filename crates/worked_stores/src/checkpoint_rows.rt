@@ -182,28 +182,28 @@ fn a_store_that_waits_is_not_copied(rt: HostRuntime) {
     assert!(rt; false, "a store that waits");
 }
 
-/// Has NZ's store at the path append two records, and copies its log.
-fn copy_at(rt: &HostRuntime, path: &str) {
-    let opened = SqlStore::open_path(rt, path, registry(rt, "NZ"));
+/// Has NZ's store at the path in these files append two records, and copies its log.
+fn copy_at(rt: &impl Abort, files: &HostRuntime, path: &str) {
+    let opened = SqlStore::open_path(files, path, registry(rt, "NZ"));
     let mut store = opened.expect(rt, "no fault of the store");
-    append_two(rt, rt.alloc(), &mut store);
+    append_two(rt, files.alloc(), &mut store);
     assert!(rt; store.checkpoint().is_ok());
 }
 
-/// Asserts that NZ's store at the path has the two records.
-fn assert_two_at(rt: &HostRuntime, path: &str) {
-    let opened = SqlStore::open_path(rt, path, registry(rt, "NZ"));
+/// Asserts that NZ's store at the path in these files has the two records.
+fn assert_two_at(rt: &impl Abort, files: &HostRuntime, path: &str) {
+    let opened = SqlStore::open_path(files, path, registry(rt, "NZ"));
     let mut store = opened.expect(rt, "no fault of the store");
-    assert_two(rt, rt.alloc(), &mut store);
+    assert_two(rt, files.alloc(), &mut store);
     drop(store);
 }
 
 #[test]
 fn a_copied_database_at_a_path(rt: HostRuntime) {
     fs::create_dir(&rt, "checkpoint_test").expect(&rt, "a new folder");
-    copy_at(&rt, "checkpoint_test/NZ.db");
+    copy_at(&rt, &rt, "checkpoint_test/NZ.db");
     let bytes = fs::read(&rt, "checkpoint_test/NZ.db").expect(&rt, "a file");
     fs::write(&rt, "checkpoint_test/copy.db", bytes).expect(&rt, "a new file");
-    assert_two_at(&rt, "checkpoint_test/copy.db");
+    assert_two_at(&rt, &rt, "checkpoint_test/copy.db");
     fs::remove_dir_all(&rt, "checkpoint_test").expect(&rt, "a folder");
 }

@@ -47,9 +47,9 @@ fn files_made_by(rt: &impl Abort, alloc: Global, statements: &[&str], texts: &[&
     store_of(conn).close()
 }
 
-/// Makes NZ's store of format 1 with these records at the path.
-pub fn make_old_store_at(rt: &HostRuntime, path: &str, texts: &[&str]) {
-    let opened = Connection::open(rt, path);
+/// Makes NZ's store of format 1 with these records at the path in these files.
+pub fn make_old_store_at(rt: &impl Abort, files: &HostRuntime, path: &str, texts: &[&str]) {
+    let opened = Connection::open(files, path);
     let mut conn = opened.ok().expect(rt, "a database");
     execute_all(rt, &mut conn, &[ABOUT, ENTRIES, OWNER]);
     put_all(rt, &mut conn, texts);

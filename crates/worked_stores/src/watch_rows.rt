@@ -38,14 +38,14 @@ fn old_texts(rt: &impl Abort, alloc: Global) -> Vec<&'static str> {
     texts
 }
 
-/// What a watch is told while NZ's store at the path is opened.
-fn told_at(rt: &HostRuntime, path: &str) -> Told {
+/// What a watch is told while NZ's store at the path in these files is opened.
+fn told_at(rt: &impl Abort, files: &HostRuntime, path: &str) -> Told {
     let mut watch = Told {
         calls: 0,
         records: [0; MOST_CALLS],
         counts: [0; MOST_CALLS],
     };
-    let opened = SqlStore::open_path_watched(rt, path, registry(rt, "NZ"), &mut watch);
+    let opened = SqlStore::open_path_watched(files, path, registry(rt, "NZ"), &mut watch);
     drop(opened.expect(rt, "no fault of the store"));
     watch
 }
@@ -54,11 +54,11 @@ fn told_at(rt: &HostRuntime, path: &str) -> Told {
 fn a_watch_is_told_of_each_page(rt: HostRuntime) {
     fs::create_dir(&rt, "watch_test").expect(&rt, "a new folder");
     let texts = old_texts(&rt, rt.alloc());
-    make_old_store_at(&rt, "watch_test/NZ.db", &texts);
-    let first = told_at(&rt, "watch_test/NZ.db");
+    make_old_store_at(&rt, &rt, "watch_test/NZ.db", &texts);
+    let first = told_at(&rt, &rt, "watch_test/NZ.db");
     assert!(rt; first.records == [256, 512, 600, 0]);
     assert!(rt; first.counts == [600, 600, 600, 0]);
-    let second = told_at(&rt, "watch_test/NZ.db");
+    let second = told_at(&rt, &rt, "watch_test/NZ.db");
     assert!(rt; second.calls == 0);
     fs::remove_dir_all(&rt, "watch_test").expect(&rt, "a folder");
 }

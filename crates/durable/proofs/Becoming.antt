@@ -1,94 +1,18 @@
 -- What an opening makes of a file, from what its last call leaves.
-use Rattle.std.proofs.Common.{◌≡◌, ◌⊎◌, inl, inr, ℕ, List, Ok, Err, IsTrue, length, refl, sym, ap, subst, ◌∙◌}
+use Rattle.std.proofs.Common.{◌≡◌, ◌⊎◌, inl, inr, ℕ, Ok, Err, IsTrue, length, refl, sym, ap, subst, ◌∙◌}
 use Rattle.sqlite.specs.Tree.{Trees}
 use Rattle.sqlite.specs.Effect.{Database}
 use Rattle.sqlite.specs.State.{State}
 use Rattle.wire.specs.declared.record_format.RecordFormat.TheVariants.{One, Two}
-use Rattle.stores.specs.Faults.{is_device_fault, is_judgement, IsReadFault}
+use Rattle.stores.specs.Faults.{is_judgement, IsReadFault}
 use Rattle.stores.specs.Records.{IsDamagedIn}
 use Rattle.stores.specs.declared.fault.StoreFault.{StoreFault}
 use Rattle.stores.specs.declared.fault.StoreFault.TheVariants.{Device, Full, Damaged, WrongNode, WrongVersion, Reopen, NoMemory}
 use Rattle.stores.proofs.Fronts.{records-length}
-use Rattle.durable.specs.Tables.{IsStoreSchema, order_in}
-use Rattle.durable.specs.Held.{slots_in, node_in, IsReady, IsReadyIn}
-use Rattle.durable.specs.Opening.{IsNew, IsFresh, IsMade, IsOpeningFault, HasItsTables, BecomesStore}
+use Rattle.durable.specs.Tables.{order_in}
+use Rattle.durable.specs.Held.{slots_in, node_in, IsReadyIn}
+use Rattle.durable.specs.Opening.{IsOpeningFault, BecomesStore}
 use Rattle.durable.specs.Migrating.{HasStore, IsMigrated}
-
--- a fault of a statement judges no file, and needs no cause
-fault_of_statement : (name : List ℕ) (db : Database) (e : StoreFault) → (e ≡ NoMemory) ⊎ IsTrue (is_device_fault e) → IsOpeningFault name db e
-fault_of_statement name db e (inl memory) = subst (IsOpeningFault name db) (sym memory) tt
-fault_of_statement name db Device (inr device) = tt
-fault_of_statement name db Full (inr device) = tt
-fault_of_statement name db (Damaged p) (inr device) = absurd (cc (device))
-fault_of_statement name db WrongNode (inr device) = absurd (cc (device))
-fault_of_statement name db WrongVersion (inr device) = absurd (cc (device))
-fault_of_statement name db Reopen (inr device) = absurd (cc (device))
-fault_of_statement name db NoMemory (inr device) = tt
-
-judges_nothing : (e : StoreFault) → (e ≡ NoMemory) ⊎ IsTrue (is_device_fault e) → IsTrue (is_judgement e) → ⊥
-judges_nothing e (inl memory) judged = let never = subst (λ f. IsTrue (is_judgement f)) memory judged in cc (never)
-judges_nothing Device (inr device) judged = cc (judged)
-judges_nothing Full (inr device) judged = cc (judged)
-judges_nothing (Damaged p) (inr device) judged = cc (device)
-judges_nothing WrongNode (inr device) judged = cc (device)
-judges_nothing WrongVersion (inr device) judged = cc (device)
-judges_nothing Reopen (inr device) judged = cc (judged)
-judges_nothing NoMemory (inr device) judged = cc (judged)
-
-module _ (name : List ℕ) (was : Database) (new : State) (file : IsNew was) (crash : (db : Trees) → new.may_leave db → (db ≡ was.trees) ⊎ IsFresh name db) where
-  fresh_leaves : (db : Trees) → new.may_leave db → (db ≡ was.trees) ⊎ ((IsNew was × IsFresh name db) ⊎ IsMigrated was.trees db)
-  fresh_leaves db left = elim (crash db left) [
-    | inl before ↦ inl before
-    | inr fresh ↦ inr (inl (file, fresh))
-  ]
-
-  -- a new file became a store without a record
-  pub made_settles : IsMade name new → HasItsTables was.schema new.committed.schema → BecomesStore name was new (Ok 0)
-  made_settles made tables = record {
-    ready = (made.0, made.1.node);
-    count = sym (ap length made.1.slots);
-    found = inl (file, made.1.slots);
-    tables = tables;
-    fault = tt;
-    crash = fresh_leaves;
-    unharmed = tt;
-  }
-
-  -- or it did not
-  pub not_made_settles : (e : StoreFault) → (e ≡ NoMemory) ⊎ IsTrue (is_device_fault e) → BecomesStore name was new (Err e)
-  not_made_settles e named = record {
-    ready = tt;
-    count = tt;
-    found = tt;
-    tables = tt;
-    fault = fault_of_statement name was e named;
-    crash = fresh_leaves;
-    unharmed = λ judged. absurd (judges_nothing e named judged);
-  }
-
--- nothing was changed: it is a store of the node, or is refused
-module _ (name : List ℕ) (was : Database) (new : State) (only : (db : Trees) → new.may_leave db → db ≡ was.trees) where
-  pub same_settles : (count : ℕ) → IsReady new × (node_in new.committed.trees ≡ name) → count ≡ length (slots_in was.trees) → IsStoreSchema was.schema → new.committed ≡ was → BecomesStore name was new (Ok count)
-  same_settles count ready counted schema same = record {
-    ready = ready;
-    count = counted ∙ sym (ap (λ (db : Database). length (slots_in db.trees)) same);
-    found = inr (inl same);
-    tables = inr (schema, ap (λ (db : Database). db.schema) same);
-    fault = tt;
-    crash = λ db left. inl (only db left);
-    unharmed = tt;
-  }
-
-  pub not_opened_settles : (e : StoreFault) → IsOpeningFault name was e → BecomesStore name was new (Err e)
-  not_opened_settles e fault = record {
-    ready = tt;
-    count = tt;
-    found = tt;
-    tables = tt;
-    fault = fault;
-    crash = λ db left. inl (only db left);
-    unharmed = λ judged. only;
-  }
 
 -- as many places as before
 pub as_long : (old new : Trees) → IsMigrated old new → length (slots_in new) ≡ length (slots_in old)

@@ -1,12 +1,12 @@
 -- What a statement of a migration leaves of a connection to a store.
-use Rattle.std.proofs.Common.{◌≡◌, ℕ, zero, suc, ◌+◌, ◌-◌, ◌<◌, ◌≤◌, pos, List, [], ◌∷◌, ◌++◌, Bor, length, map, take, drop, get_or, Option, Some, None, Ok, refl, sym, ap, subst, ◌∙◌, arith, append_assoc}
+use Rattle.std.proofs.Common.{◌≡◌, ℕ, zero, suc, ◌+◌, ◌-◌, ◌<◌, ◌≤◌, pos, List, [], ◌∷◌, ◌++◌, Bor, length, map, take, drop, get_or, Option, Some, None, Ok, IsTrue, refl, sym, ap, subst, ◌∙◌, arith, append_assoc}
 use Rattle.std.proofs.lemmas.List.{drop-drop, length-drop, length-take-le, length-map, get_or-map}
 use Rattle.std.proofs.lemmas.Slice.{drop-append-drop}
 use Rattle.sqlite.specs.Tree.{Trees}
 use Rattle.sqlite.specs.Order.{Row}
 use Rattle.sqlite.specs.declared.types.Value.TheVariants.{Int}
 use Rattle.sqlite.specs.Listing.{understood}
-use Rattle.sqlite.specs.State.{State, Executes, ExecutesInside}
+use Rattle.sqlite.specs.State.{State, Executes, ExecutesInside, HasCleanDisk, KeepsCommit, Survives}
 use Rattle.sqlite.proofs.Callers.{statement_of, runs_as}
 use Rattle.wire.specs.declared.input.Input.{Input}
 use Rattle.wire.specs.declared.record_format.RecordFormat.{RecordFormat}
@@ -22,10 +22,25 @@ use Rattle.durable.proofs.Inserting.{given}
 use Rattle.durable.proofs.MigratingTexts.{body_text, body_command, body_is, body_plain, format_text, format_command, format_is, format_plain}
 use Rattle.durable.proofs.PlacesRead.{body-at, gap-at}
 use Rattle.durable.proofs.Rewriting.{body_put, format_put}
+use Rattle.durable.proofs.Steps.{was_clean, inside_keeps}
+
+-- the transaction sees a store of that format and of the same node, with such places, in the same tables
+abbrev pub Rewrites : RecordFormat → Places → State → State → Type 0
+Rewrites format places old new = IsWithin new (HasStore format) × HasPlaces format old.now.trees places new.now.trees × (new.now.schema ≡ old.now.schema)
+
+-- a statement that rewrites what the transaction sees leaves the last commit
+pub rewritten_inside : (before after : RecordFormat) (places : Places) (text : List ℕ) (params : Row) (old new : State) (count : ℕ) (Commits : Trees → Type 0) → Survives old new Commits
+    → (HasCleanDisk old → IsWithin old (HasStore before)) → (HasCleanDisk new → IsTrue old.in_transaction → ExecutesInside 0 text params old new (Ok count))
+    → (IsWithin old (HasStore before) → ExecutesInside 0 text params old new (Ok count) → Rewrites after places old new) → HasCleanDisk new
+    → Rewrites after places old new × KeepsCommit old new
+rewritten_inside before after places text params old new count Commits survives ready runs rewrites clean =
+    let inside = ready (was_clean old new Commits survives clean) in
+    let ran = runs clean inside.inside in
+    (rewrites inside ran, inside_keeps text params old new (Ok count) ran)
 
 pub body_ok : (format : RecordFormat) (old new : State) (params : Row) (place : ℕ) (body : List ℕ) (count : ℕ) → params ≡ given place body → IsWithin old (HasStore format)
     → ExecutesInside 0 body_text params old new (Ok count)
-    → IsWithin new (HasStore format) × HasPlaces format old.now.trees (with_body place body (slots_in old.now.trees)) new.now.trees × (new.now.schema ≡ old.now.schema)
+    → Rewrites format (with_body place body (slots_in old.now.trees)) old new
 body_ok format old new params place body count is within h =
     let order = order_in old.now.trees in
     let ran : Executes body_text (given place body) old new (Ok count) = subst (λ p. Executes body_text p old new (Ok count)) is h.0 in
@@ -35,7 +50,7 @@ body_ok format old new params place body count is within h =
 
 pub format_ok : (before after : RecordFormat) (old new : State) (params : Row) (count : ℕ) → params ≡ Int (pos (number_of after)) ∷ [] → IsWithin old (HasStore before)
     → ExecutesInside 0 format_text params old new (Ok count)
-    → IsWithin new (HasStore after) × HasPlaces after old.now.trees (slots_in old.now.trees) new.now.trees × (new.now.schema ≡ old.now.schema)
+    → Rewrites after (slots_in old.now.trees) old new
 format_ok before after old new params count is within h =
     let order = order_in old.now.trees in
     let ran : Executes format_text (Int (pos (number_of after)) ∷ []) old new (Ok count) = subst (λ p. Executes format_text p old new (Ok count)) is h.0 in

@@ -1,5 +1,5 @@
 -- What an opening makes of a store.
-use Rattle.std.proofs.Common.{◌≡◌, ◌⊎◌, inl, inr, ℕ, List, [], Result, Ok, Err, OnOk, pos, length, arith, IsTrue, sym, ap, subst, ◌∙◌}
+use Rattle.std.proofs.Common.{◌≡◌, inl, inr, ℕ, List, [], Result, Ok, Err, OnOk, pos, length, arith, IsTrue, sym, ap, subst, ◌∙◌}
 use Rattle.sqlite.specs.declared.types.Value.TheVariants.{Int}
 use Rattle.sqlite.specs.Order.{Row, column}
 use Rattle.sqlite.specs.Tree.{Trees}
@@ -11,7 +11,7 @@ use Rattle.stores.specs.Records.{Places}
 use Rattle.stores.specs.declared.fault.StoreFault.{StoreFault}
 use Rattle.durable.specs.Tables.{TableOrder, AboutFirst, order_of, about_tree, entries_tree, about_rows}
 use Rattle.durable.specs.Slots.{slots_from}
-use Rattle.durable.specs.Held.{slots_in, followed_by, IsStore, IsStoreIn, HasAllOrNone}
+use Rattle.durable.specs.Held.{slots_in, IsStore, IsStoreIn}
 use Rattle.durable.specs.Opening.{IsOpened, IsBare, IsNew, BecomesStore}
 use Rattle.durable.specs.Migrating.{IsOpenedAs}
 
@@ -26,16 +26,7 @@ pub opened_newest : (db : Trees) (places : Places) → IsStore db → IsOpenedAs
 opened_newest db places store (inl it) = it.1
 opened_newest db places store (inr old) = absurd (two_formats db store old.0)
 
--- the same of what an append may leave
-pub all_or_none : (old : Trees) (batch : List (List ℕ)) (db : Trees) (next : Places) → HasAllOrNone old batch db → IsOpenedAs db next → (next ≡ slots_in old) ⊎ (next ≡ followed_by (slots_in old) batch)
-all_or_none old batch db next has opened =
-    let same = opened_newest db next has.store opened in
-    elim (has.slots) [
-      | inl was ↦ inl (same ∙ was)
-      | inr more ↦ inr (same ∙ more)
-    ]
-
--- and of a store that is as it was
+-- the same of a store that is as it was
 pub opened_same : (old db : Trees) (next : Places) → IsStore old → db ≡ old → IsOpenedAs db next → next ≡ slots_in old
 opened_same old db next store same opened = opened_newest db next (subst IsStore (sym same) store) opened ∙ ap slots_in same
 

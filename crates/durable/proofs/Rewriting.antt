@@ -1,6 +1,6 @@
 -- What the UPDATE of a record's body, and that of the owner's format, do to a store.
 use Rattle.std.proofs.Common.{◌≡◌, inl, inr, ℕ, ◌+◌, pos, List, [], ◌∷◌, ◌++◌, map, flat_map, filter, Bool, true, false, cond, None, Some, Option, Ok, refl, sym, ap, subst, ◌∙◌, arith}
-use Rattle.std.specs.Prelude.{◌==◌, ◌&&◌}
+use Rattle.std.specs.Prelude.{◌==◌, ◌&&◌, slice_get}
 use Rattle.std.specs.List.Sorted.{IsPermutation}
 use Rattle.std.proofs.lemmas.List.Sorted.{length_permutation}
 use Rattle.std.specs.Ordering.{is_eq}
@@ -15,8 +15,13 @@ use Rattle.sqlite.specs.Tree.{Trees, put_row}
 use Rattle.sqlite_trees.specs.Tree.{without_rowid, has_rowid}
 use Rattle.sqlite.specs.Edit.{edit_of, edited}
 use Rattle.sqlite.specs.Rowids.TheVariants.{Given}
-use Rattle.sqlite.specs.Does.{Tally, Does}
+use Rattle.sqlite.specs.Command.TheVariants.{Update}
+use Rattle.sqlite.specs.Does.{Tally, Does, AtPlace, OnRows}
 use Rattle.sqlite.specs.Rows.{Written}
+use Rattle.sqlite.specs.Table.{Table}
+use Rattle.sqlite_schema.specs.declared.schema.Keys.TheVariants.{Enforced}
+use Rattle.sqlite_rules.specs.Action.{works}
+use Rattle.sqlite_rules.specs.Edit.{Edit, taken_by}
 use Rattle.sqlite.specs.Effect.{Database, Answers}
 use Rattle.sqlite_rules.specs.Calls.{ids_of}
 use Rattle.sqlite.proofs.Callers.{one_step, one_permutation}
@@ -31,44 +36,53 @@ use Rattle.durable.proofs.MigratingTexts.{body_query, body_command, format_query
 use Rattle.durable.proofs.Orders.{own_rows, own_row, store-of}
 use Rattle.durable.proofs.Rewritten.{rewritten, cmp_is, is_at, row_id, found_in, rewritten_entries, rewritten_slots}
 
--- the statement found some rows, and edited the tree of entries by them
-record HasEdited (order : TableOrder) (params : Row) (db after : Database) : Type 0 where
+-- an UPDATE found some rows, and edited the tree of its table by them
+record HasEdited (order : TableOrder) (table : Table) (query : Query) (params : Row) (db after : Database) : Type 0 where
   schema : after.schema ≡ store_schema order
   found : List Row
-  answers : Answers (record db { schema = store_schema order }) (record { lets = []; body = body_query (entries_tree order) }) params found
-  entries : after.trees (entries_tree order) ≡ edited db.trees (edit_of db.trees (entries_table (entries_tree order)) (ids_of found) Given 1 found)
-  owner : after.trees (about_tree order) ≡ db.trees (about_tree order)
+  answers : Answers (record db { schema = store_schema order }) (record { lets = []; body = query }) params found
+  rows : after.trees table.tree ≡ edited db.trees (edit_of db.trees table (ids_of found) Given 1 found)
+  others : (tree : ℕ) → (tree ≡ table.tree → ⊥) → after.trees tree ≡ db.trees tree
 
-edits : (order : TableOrder) (limit : Option ℕ) (text : List ℕ) (params : Row) (db after : Database) (tally : Tally) → db.schema ≡ store_schema order
-    → Does limit enforced params db text None (body_command (entries_tree order)) (Ok (tally, after)) → HasEdited order params db after
-edits AboutFirst limit text params db after tally schema does =
-    let done = went (subst (λ s. Does limit enforced params (record db { schema = s }) text None (body_command 1) (Ok (tally, after))) schema does) in
+-- no table of a store refers to another one
+no-works : (order : TableOrder) (db : Trees) (edit : Edit) → works (store_schema order) Enforced 0 edit.table.tree (taken_by db edit) edit.news ≡ []
+no-works AboutFirst db edit = refl
+no-works EntriesFirst db edit = refl
+
+edits : (order : TableOrder) (table : Table) (query : Query) (limit : Option ℕ) (text : List ℕ) (params : Row) (db after : Database) (tally : Tally)
+    → slice_get (store_schema order).tables table.tree ≡ Some table → db.schema ≡ store_schema order
+    → Does limit enforced params db text None (Update table.tree (record { lets = []; body = query })) (Ok (tally, after)) → HasEdited order table query params db after
+edits order table query limit text params db after tally here schema does =
+    let command = Update table.tree (record { lets = []; body = query }) in
+    let known = subst (λ s. Does limit enforced params (record db { schema = s }) text None command (Ok (tally, after))) schema does in
+    let done = went (subst (λ (t : Option Table).
+    AtPlace (λ own. OnRows (record { limit = limit; keys = Enforced; schema = store_schema order; table = own; params = params }) enforced None command db.trees) t (Ok (tally, after))) here known) in
     let now = ap (λ (p : Tally × Database). p.1) (same_value (went (went done.2).2).2) in
     let rows = went done.1 in
     let written = went rows.2 in
     let trees : done.0.trees ≡ written.0 = ap (λ (it : Written). it.trees) (same_value written.2) in
-    let applied = one_step (store_schema AboutFirst) _ db.trees written.0 (edit_of db.trees (entries_table 1) (ids_of rows.0) Given 1 rows.0) refl written.1 in
+    let edit = edit_of db.trees table (ids_of rows.0) Given 1 rows.0 in
+    let applied = one_step (store_schema order) _ db.trees written.0 edit (no-works order db.trees edit) written.1 in
     record {
       schema = ap (λ (d : Database). d.schema) now;
       found = rows.0;
       answers = rows.1;
-      entries = ap (λ (d : Database). d.trees 1) now ∙ ap (λ (t : Trees). t 1) trees ∙ applied.rows;
-      owner = ap (λ (d : Database). d.trees 0) now ∙ ap (λ (t : Trees). t 0) trees ∙ applied.others 0 (λ e. omega (arith, e)) tt;
+      rows = ap (λ (d : Database). d.trees table.tree) now ∙ ap (λ (t : Trees). t table.tree) trees ∙ applied.rows;
+      others = λ tree other. ap (λ (d : Database). d.trees tree) now ∙ ap (λ (t : Trees). t tree) trees ∙ applied.others tree other tt;
     }
-edits EntriesFirst limit text params db after tally schema does =
-    let done = went (subst (λ s. Does limit enforced params (record db { schema = s }) text None (body_command 0) (Ok (tally, after))) schema does) in
-    let now = ap (λ (p : Tally × Database). p.1) (same_value (went (went done.2).2).2) in
-    let rows = went done.1 in
-    let written = went rows.2 in
-    let trees : done.0.trees ≡ written.0 = ap (λ (it : Written). it.trees) (same_value written.2) in
-    let applied = one_step (store_schema EntriesFirst) _ db.trees written.0 (edit_of db.trees (entries_table 0) (ids_of rows.0) Given 1 rows.0) refl written.1 in
-    record {
-      schema = ap (λ (d : Database). d.schema) now;
-      found = rows.0;
-      answers = rows.1;
-      entries = ap (λ (d : Database). d.trees 0) now ∙ ap (λ (t : Trees). t 0) trees ∙ applied.rows;
-      owner = ap (λ (d : Database). d.trees 1) now ∙ ap (λ (t : Trees). t 1) trees ∙ applied.others 1 (λ e. omega (arith, e)) tt;
-    }
+
+-- each table stands at its tree, and they are two
+entries-here : (order : TableOrder) → slice_get (store_schema order).tables (entries_tree order) ≡ Some (entries_table (entries_tree order))
+entries-here AboutFirst = refl
+entries-here EntriesFirst = refl
+
+about-here : (order : TableOrder) → slice_get (store_schema order).tables (about_tree order) ≡ Some (about_table (about_tree order))
+about-here AboutFirst = refl
+about-here EntriesFirst = refl
+
+two-trees : (order : TableOrder) → about_tree order ≡ entries_tree order → ⊥
+two-trees AboutFirst e = omega (arith, e)
+two-trees EntriesFirst e = omega (arith, e)
 
 -- ---- what the query finds
 
@@ -158,17 +172,17 @@ rows_after : (order : TableOrder) (limit : Option ℕ) (text : List ℕ) (place 
     → Does limit enforced (given place body) db text None (body_command (entries_tree order)) (Ok (tally, after))
     → (after.schema ≡ store_schema order) × (after.trees (entries_tree order) ≡ rewritten place body (db.trees (entries_tree order))) × (after.trees (about_tree order) ≡ db.trees (about_tree order))
 rows_after order limit text place body db after tally schema are does =
-    let e = edits order limit text (given place body) db after tally schema does in
     let tree = entries_tree order in
+    let e = edits order (entries_table tree) (body_query tree) limit text (given place body) db after tally (entries-here order) schema does in
     let known = record db { schema = store_schema order } in
     let own = own_rows db.trees order in
     let edit : List Row → List Row = λ found. edited db.trees (edit_of db.trees (entries_table tree) (ids_of found) Given 1 found) in
     let entries : after.trees tree ≡ rewritten place body (db.trees tree) = elim (found_in place 0 body (db.trees tree) are) [
-      | inl none ↦ e.entries ∙ ap edit (finds_none tree place body known e.found own are e.answers none.0) ∙ sym none.1
+      | inl none ↦ e.rows ∙ ap edit (finds_none tree place body known e.found own are e.answers none.0) ∙ sym none.1
       | inr it ↦
-          e.entries ∙ ap edit (finds_one tree place body known e.found own are e.answers it.row it.one)
+          e.rows ∙ ap edit (finds_one tree place body known e.found own are e.answers it.row it.one)
           ∙ edited_one tree place body db.trees it.row (row_id it.row it.is_entry ∙ ap (λ n. Int (pos n)) it.at) ∙ it.put
-    ] in (e.schema, entries, e.owner)
+    ] in (e.schema, entries, e.others (about_tree order) (two-trees order))
 
 -- a store of the same format and node, of which one place has the other body, if it had one
 pub body_put : (format : RecordFormat) (limit : Option ℕ) (text : List ℕ) (place : ℕ) (body : List ℕ) (db after : Database) (tally : Tally) → HasStore format db
@@ -185,44 +199,6 @@ body_put format limit text place body db after tally has does =
     )
 
 -- ---- the owner's format
-
-record HasOwnerEdited (order : TableOrder) (params : Row) (db after : Database) : Type 0 where
-  schema : after.schema ≡ store_schema order
-  found : List Row
-  answers : Answers (record db { schema = store_schema order }) (record { lets = []; body = format_query (about_tree order) }) params found
-  owner : after.trees (about_tree order) ≡ edited db.trees (edit_of db.trees (about_table (about_tree order)) (ids_of found) Given 1 found)
-  entries : after.trees (entries_tree order) ≡ db.trees (entries_tree order)
-
-owner_edits : (order : TableOrder) (limit : Option ℕ) (text : List ℕ) (params : Row) (db after : Database) (tally : Tally) → db.schema ≡ store_schema order
-    → Does limit enforced params db text None (format_command (about_tree order)) (Ok (tally, after)) → HasOwnerEdited order params db after
-owner_edits AboutFirst limit text params db after tally schema does =
-    let done = went (subst (λ s. Does limit enforced params (record db { schema = s }) text None (format_command 0) (Ok (tally, after))) schema does) in
-    let now = ap (λ (p : Tally × Database). p.1) (same_value (went (went done.2).2).2) in
-    let rows = went done.1 in
-    let written = went rows.2 in
-    let trees : done.0.trees ≡ written.0 = ap (λ (it : Written). it.trees) (same_value written.2) in
-    let applied = one_step (store_schema AboutFirst) _ db.trees written.0 (edit_of db.trees (about_table 0) (ids_of rows.0) Given 1 rows.0) refl written.1 in
-    record {
-      schema = ap (λ (d : Database). d.schema) now;
-      found = rows.0;
-      answers = rows.1;
-      owner = ap (λ (d : Database). d.trees 0) now ∙ ap (λ (t : Trees). t 0) trees ∙ applied.rows;
-      entries = ap (λ (d : Database). d.trees 1) now ∙ ap (λ (t : Trees). t 1) trees ∙ applied.others 1 (λ e. omega (arith, e)) tt;
-    }
-owner_edits EntriesFirst limit text params db after tally schema does =
-    let done = went (subst (λ s. Does limit enforced params (record db { schema = s }) text None (format_command 1) (Ok (tally, after))) schema does) in
-    let now = ap (λ (p : Tally × Database). p.1) (same_value (went (went done.2).2).2) in
-    let rows = went done.1 in
-    let written = went rows.2 in
-    let trees : done.0.trees ≡ written.0 = ap (λ (it : Written). it.trees) (same_value written.2) in
-    let applied = one_step (store_schema EntriesFirst) _ db.trees written.0 (edit_of db.trees (about_table 1) (ids_of rows.0) Given 1 rows.0) refl written.1 in
-    record {
-      schema = ap (λ (d : Database). d.schema) now;
-      found = rows.0;
-      answers = rows.1;
-      owner = ap (λ (d : Database). d.trees 1) now ∙ ap (λ (t : Trees). t 1) trees ∙ applied.rows;
-      entries = ap (λ (d : Database). d.trees 0) now ∙ ap (λ (t : Trees). t 0) trees ∙ applied.others 0 (λ e. omega (arith, e)) tt;
-    }
 
 abbrev owner_seen : ℕ → Row → Row
 owner_seen format row = column row 0 ∷ column row 0 ∷ Null ∷ Int (pos format) ∷ column row 3 ∷ []
@@ -253,10 +229,10 @@ format_put old new limit text db after tally has does =
     let order = order_in db.trees in
     let node = node_in db.trees in
     let row = about (number_of old) node in
-    let e = owner_edits order limit text (Int (pos (number_of new)) ∷ []) db after tally has.0 does in
     let tree = about_tree order in
+    let e = edits order (about_table tree) (format_query tree) limit text (Int (pos (number_of new)) ∷ []) db after tally (about-here order) has.0 does in
     let edit : List Row → List Row = λ found. edited db.trees (edit_of db.trees (about_table tree) (ids_of found) Given 1 found) in
     let found = finds_owner tree (number_of new) (record db { schema = store_schema order }) e.found row (own_row db.trees order ∙ has.1.owner) e.answers in
-    let owner : after.trees tree ≡ about (number_of new) node ∷ [] = e.owner ∙ ap edit found ∙ owner_edited tree (number_of old) (number_of new) node db.trees has.1.owner in
-    let it = store-of new order node (entry_rows db.trees) after.trees owner e.entries has.1.entries in
+    let owner : after.trees tree ≡ about (number_of new) node ∷ [] = e.rows ∙ ap edit found ∙ owner_edited tree (number_of old) (number_of new) node db.trees has.1.owner in
+    let it = store-of new order node (entry_rows db.trees) after.trees owner (e.others (entries_tree order) (λ same. two-trees order (sym same))) has.1.entries in
     ((e.schema ∙ ap store_schema (sym it.order_is), it.store), record { store = it.store; node = it.node; slots = it.slots }, e.schema ∙ sym has.0)

@@ -1,11 +1,9 @@
 -- What a statement leaves of a connection to a store.
-use Rattle.std.proofs.Common.{◌≡◌, ◌⊎◌, inl, inr, ℕ, List, [], ◌∷◌, ◌++◌, length, false, None, Some, Option, Ok, Err, IsTrue, refl, sym, ap, subst, subst₂, ◌∙◌, append-nil, append_assoc, map, Result, arith}
+use Rattle.std.proofs.Common.{◌≡◌, ◌⊎◌, inl, inr, ℕ, List, [], ◌∷◌, ◌++◌, length, false, None, Some, Option, Ok, Err, IsTrue, refl, sym, ap, subst, ◌∙◌, append_assoc, map, Result, arith}
 use Rattle.std.proofs.lemmas.Bool.{cases_Bool}
 use Rattle.sqlite.specs.Order.{Row}
 use Rattle.sqlite.specs.Tree.{Trees}
-use Rattle.sqlite.specs.Schema.{Schema}
 use Rattle.sqlite.specs.Source.TheVariants.{Values}
-use Rattle.sqlite.specs.Command.{Command}
 use Rattle.sqlite.specs.Command.TheVariants.{Insert}
 use Rattle.sqlite.specs.Effect.{Database}
 use Rattle.sqlite.specs.Clock.{timed}
@@ -14,24 +12,14 @@ use Rattle.sqlite_schema.specs.declared.command.Returning.{Returning}
 use Rattle.sqlite.specs.Given.{IsPlain}
 use Rattle.sqlite.specs.Listing.{understood}
 use Rattle.sqlite.specs.declared.error.Error.{Error}
-use Rattle.sqlite.specs.State.{State, HasCleanDisk, Survives, IsUnchanged, IsRolledBack, ShowsRows, FailsToShow, FailsToQuery, Shown, MayCommit, ExecutesIn, Executes, ExecutesInside, KeepsCommit, CommitsBy, IsNotRun, shows_rows}
-use Rattle.sqlite.proofs.Callers.{command_of, statement_of, runs_as}
+use Rattle.sqlite.specs.State.{State, HasCleanDisk, Survives, IsUnchanged, IsRolledBack, ShowsRows, FailsToShow, FailsToQuery, Shown, ExecutesIn, Executes, ExecutesInside, KeepsCommit, IsNotRun, shows_rows}
+use Rattle.sqlite.proofs.Callers.{statement_of, runs_as}
 use Rattle.std.proofs.lemmas.List.{map-append}
 use Rattle.wire.specs.declared.record_format.RecordFormat.{RecordFormat}
 use Rattle.durable.specs.Tables.{store_schema, order_in, entries_tree}
-use Rattle.durable.specs.Held.{slots_in, IsReadyIn, IsReady, IsInside, HasMore, HasAllOrNone, IsStoreIn, IsStore}
+use Rattle.durable.specs.Held.{slots_in, IsReadyIn, IsReady, IsInside, HasMore, HasAllOrNone, IsStoreIn}
 use Rattle.durable.proofs.Texts.{insert_text, insert_terms, insert_is, insert_plain}
 use Rattle.durable.proofs.Inserting.{given, inserted}
-
--- what a statement may commit, by what its text says
-pub commits_as : (sql : List ℕ) (params : Row) (s : State) (schema : Schema) → s.now.schema ≡ schema → (command : Command) → command_of (understood schema sql) ≡ command → IsPlain (understood schema sql)
-    → (db : Trees) → CommitsBy sql params s db → MayCommit s None command (statement_of sql (understood schema sql)) params db
-unfolding CommitsBy
-commits_as sql params s schema has command is plain db h =
-    let known = sym h.1.is ∙ ap (λ x. understood x sql) has in
-    let bare = subst IsPlain (sym known) plain in
-    let it = rw (bare.0, bare.1, append-nil params) at h.2 in
-    subst₂ (λ k t. MayCommit s None k t params db) (ap command_of known ∙ is) (ap (statement_of sql) known) it
 
 -- a statement that gave an error left the connection as it was, or rolled it back
 pub left : (sql : List ℕ) (params : Row) (old new : State) (e : Error) → Executes sql params old new (Err e) → IsUnchanged old new ⊎ IsRolledBack old new
@@ -87,12 +75,6 @@ inside_keeps sql params old new (Err e) (inl h) = elim (h.1) [
   | inr back ↦ rolled_keeps old new back
 ]
 inside_keeps sql params old new (Err e) (inr h) = unchanged_keeps old new h.2
-
-pub keeps_refl : (s : State) → KeepsCommit s s
-keeps_refl s = record { was_open = λ h. h; committed = λ _. refl }
-
-pub more_none : (db : Trees) → IsStore db → HasMore db [] db
-more_none db store = record { store = store; node = refl; slots = sym (append-nil (slots_in db)) }
 
 pub more_then : (a b c : Trees) (xs ys : List (List ℕ)) → HasMore a xs b → HasMore b ys c → HasMore a (xs ++ ys) c
 more_then a b c xs ys p q =

@@ -15,7 +15,7 @@ ghost use Rattle.durable.specs.Opening.{IsWithin};
 ghost use Rattle.durable.specs.Migrating.{HasStore, HasPlaces, IsMigrating, IsMigrated, with_body};
 
 use crate::fault::fault_of;
-use crate::reading::bodies;
+use crate::reading::{PAGE_QUERY, bodies};
 use crate::watch::Watch;
 use sqlite::types::ValueRef;
 use sqlite::{Alter, Connection, Error as SqlError, Row, Transaction};
@@ -81,7 +81,7 @@ fn rows_inside<S: Alter>(
     ensures survives { Survives (state S.Store tx.old.conn.now) (state S.Store tx.new.conn.now) (λ _. ⊥) }
 {
     tx.query_all(
-        "SELECT place, body FROM entries WHERE place >= ?1 AND place <= ?2 ORDER BY place",
+        PAGE_QUERY,
         &[ValueRef::Int(first as i64), ValueRef::Int(last as i64)],
     )
 }
@@ -231,8 +231,8 @@ fn migrate_inside<S: Alter, W: Watch>(
 /// Makes a store of format One, which has `count` places, one of format Two with the same inputs, in one transaction.
 ///
 /// Fails with `Damaged(p)` for the first place that has no record in format One, and with `Device`, `Full` or
-/// `NoMemory` at any call of the database. The store then has format One with its records as they were, but that after
-/// `Device` or `Full` of the commit it may be migrated.
+/// `NoMemory` at any call of the database. After `Damaged` the store has format One with its records as they were; after
+/// the others it has, or is migrated.
 pub(crate) fn migrate<S: Alter, W: Watch>(
     conn: &mut Connection<S>,
     alloc: Global,

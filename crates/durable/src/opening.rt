@@ -353,8 +353,8 @@ fn resume<S: Alter, W: Watch>(
 ///
 /// Faults in this order: `Damaged(0)` where the file has other tables, records without an owner, or a place below 0;
 /// `WrongVersion`; `WrongNode`; `Damaged(p)` for the first place of a store of format One that has no record. `Device`,
-/// `Full` and `NoMemory` may come at any call of the database. A refused file is as it was, but that one that was new
-/// may have been made whole, and after `Device` or `Full` one of format One may have been migrated.
+/// `Full` and `NoMemory` may come at any call of the database. A refused file is as it was, except that after
+/// one of these three faults one that was new may have been made whole, and one of format One may have been migrated.
 pub(crate) fn open_as_store<S: Alter, W: Watch>(
     conn: &mut Connection<S>,
     alloc: Global,

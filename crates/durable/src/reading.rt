@@ -18,6 +18,10 @@ use sqlite::{Alter, Connection, Error as SqlError, Row};
 use std::alloc::Global;
 use stores::StoreFault;
 
+/// The query for the entries from one place to another, each with its place and its body, in their order.
+pub(crate) const PAGE_QUERY: &str =
+    "SELECT place, body FROM entries WHERE place >= ?1 AND place <= ?2 ORDER BY place";
+
 /// The entries from the first place to the last one, each with its place and its body, in their order.
 fn query_rows<S: Alter>(
     conn: &mut Connection<S>,
@@ -36,7 +40,7 @@ fn query_rows<S: Alter>(
     ensures crash { HasCleanDisk (state S.Store conn.new) → (db : Trees) → (state S.Store conn.new).may_leave db → db ≡ (state S.Store conn.old).committed.trees }
 {
     conn.query_all(
-        "SELECT place, body FROM entries WHERE place >= ?1 AND place <= ?2 ORDER BY place",
+        PAGE_QUERY,
         &[ValueRef::Int(first as i64), ValueRef::Int(last as i64)],
     )
 }

@@ -112,8 +112,8 @@ impl<D: Disk + Drop> SqlStore<D> {
     /// Fails with `Reopen` exactly when the store must be reopened first; then no call of the device is made, and the
     /// files are those of `close_files`. Fails with `Full` where there is no room for the database file, and with
     /// `NoMemory`; then the files hold the content and the owner as they were, now and after a crash. Fails with
-    /// `Device` at any call of the files. What SQLite says of a close that failed doesn't tell what the files hold
-    /// after a sync that failed, so that no clause says it of `Device`.
+    /// `Device` at any call of the files. What an opening finds of them then is not proved, as the database has no
+    /// clause on it once a call of the device has shut it.
     pub fn checkpoint_files(self) -> Result<Files<D>, (StoreFault, Files<D>)>
         ensures runs { OnOk result (must_reopen D.Disk self ≡ false) }
         ensures honest { IfOk result (λ files. AreClean D.Disk files.log files.db → IsHonest D.Disk self) }

@@ -11,7 +11,7 @@ use std::process::Abort;
 use stores::{NodeStore, StoreFault};
 
 /// How many records the store has.
-fn count<S: NodeStore>(rt: &impl Abort, store: &mut S) -> usize {
+pub fn count<S: NodeStore>(rt: &impl Abort, store: &mut S) -> usize {
     let records = store.load().expect(rt, "no fault of the store");
     let count = records.len();
     drop(records);
@@ -19,14 +19,14 @@ fn count<S: NodeStore>(rt: &impl Abort, store: &mut S) -> usize {
 }
 
 /// Asserts that the store has the two records.
-fn assert_two<S: NodeStore>(rt: &impl Abort, alloc: Global, store: &mut S) {
+pub fn assert_two<S: NodeStore>(rt: &impl Abort, alloc: Global, store: &mut S) {
     let records = store.load().expect(rt, "no fault of the store");
     assert!(rt; are_two(alloc, &records));
     drop(records);
 }
 
 /// Appends the two records.
-fn append_two<S: NodeStore>(rt: &impl Abort, alloc: Global, store: &mut S) {
+pub fn append_two<S: NodeStore>(rt: &impl Abort, alloc: Global, store: &mut S) {
     let batch = two(rt, alloc);
     assert!(rt; store.append(&batch).is_ok());
     drop(batch);
@@ -45,7 +45,7 @@ fn files_of_two(rt: &impl Abort, alloc: Global) -> Stored {
 }
 
 /// Asserts that the files are NZ's store of two records.
-fn assert_two_in(rt: &impl Abort, alloc: Global, files: Stored) {
+pub fn assert_two_in(rt: &impl Abort, alloc: Global, files: Stored) {
     let mut store = open_as(rt, alloc, files, "NZ");
     assert_two(rt, alloc, &mut store);
     drop(store);

@@ -1,7 +1,9 @@
-//! Worked rows of stores, in memory and in files, a transfer with each call of their files failing in turn, and the
-//! migration of stores of format 1.
+//! Worked rows of stores, in memory and in files, a transfer and the copying of a log with each call of their files
+//! failing in turn, and the migration of stores of format 1.
 #![tactic(auto)]
 
+#[cfg(test)]
+mod checkpoint_rows;
 #[cfg(test)]
 mod cut_rows;
 #[cfg(test)]
@@ -24,3 +26,5 @@ mod records;
 mod same;
 #[cfg(test)]
 mod store_files;
+#[cfg(test)]
+mod watch_rows;

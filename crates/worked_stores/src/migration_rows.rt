@@ -107,8 +107,8 @@ fn a_damaged_store_of_format_one_is_left_as_it_is(rt: HostRuntime) {
     }
 }
 
-/// Asserts that the store of format 1, once it is changed by the statements, is refused for that cause, and that a
-/// registry of that code is told of it.
+/// Asserts that NZ's store of format 1, once the statements have changed it, is refused for that cause where the
+/// registry of that code opens it.
 fn assert_cause(
     rt: &impl Abort,
     alloc: Global,

@@ -2,7 +2,7 @@
 
 use crate::store_files::{FOREVER, Stored, execute_all, new_files, open_database, store_of};
 use sqlite::types::ValueRef;
-use sqlite::{Alter, Connection};
+use sqlite::{Alter, Connection, Transaction};
 use std::alloc::Global;
 use std::process::Abort;
 
@@ -21,22 +21,39 @@ const ENTRIES: &str = "CREATE TABLE entries (place INTEGER PRIMARY KEY, body TEX
 
 const OWNER: &str = "INSERT INTO about (id, format, node) VALUES (1, 1, 'NZ')";
 
-/// Puts a record.
-fn put<S: Alter>(rt: &impl Abort, conn: &mut Connection<S>, place: usize, text: &str) {
+/// Puts a record, within the transaction.
+fn put<S: Alter>(rt: &impl Abort, tx: &mut Transaction<'_, S>, place: usize, text: &str) {
     let place = i64::try_from(place).expect(rt, "a place");
     let values = [ValueRef::Int(place), ValueRef::Text(text.as_bytes())];
     let statement = "INSERT INTO entries (place, body) VALUES (?1, ?2)";
-    assert!(rt; conn.execute(statement, &values).is_ok());
+    assert!(rt; tx.execute(statement, &values).is_ok());
+}
+
+/// Puts the records, in one transaction.
+fn put_all<S: Alter>(rt: &impl Abort, conn: &mut Connection<S>, texts: &[&str]) {
+    assert!(rt; conn.is_autocommit());
+    let mut tx = conn.transaction();
+    for (place, text) in texts.iter().enumerate() {
+        put(rt, &mut tx, place, text);
+    }
+    assert!(rt; tx.commit().is_ok());
 }
 
 /// The files of a store that these statements make, with these records.
 fn files_made_by(rt: &impl Abort, alloc: Global, statements: &[&str], texts: &[&str]) -> Stored {
     let mut conn = open_database(rt, alloc, new_files(alloc, FOREVER, FOREVER));
     execute_all(rt, &mut conn, statements);
-    for (place, text) in texts.iter().enumerate() {
-        put(rt, &mut conn, place, text);
-    }
+    put_all(rt, &mut conn, texts);
     store_of(conn).close()
+}
+
+/// Makes NZ's store of format 1 with these records at the path in these files.
+pub fn make_old_store_at(rt: &impl Abort, files: &HostRuntime, path: &str, texts: &[&str]) {
+    let opened = Connection::open(files, path);
+    let mut conn = opened.ok().expect(rt, "a database");
+    execute_all(rt, &mut conn, &[ABOUT, ENTRIES, OWNER]);
+    put_all(rt, &mut conn, texts);
+    drop(store_of(conn));
 }
 
 /// The files of NZ's store of format 1 with these records.

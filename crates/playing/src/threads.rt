@@ -254,8 +254,8 @@ where
 ///
 /// Fails with `NoMemory` where memory ran out before a thread was started. In what it returns `ends` is `NoMemory` where
 /// memory for the threads ran out, and `played` where memory for the answers did. `played` is `NoMemory` also where the
-/// threads didn't all begin, each within `LONGEST_MUSTER` seconds of another one, as the system had too few: then no
-/// line was ordered or asked. All nodes have stopped in any case.
+/// system had too few threads: some were missing, and for `LONGEST_MUSTER` seconds no further one began. Then no line
+/// was ordered or asked. All nodes have stopped in any case.
 pub fn run_and_play<S, L, D, K, G, R>(
     rt: &R,
     alloc: Global,

@@ -150,7 +150,9 @@ where
         rt,
         seats,
         threads,
-        &|place, seat| { take_part(rt, alloc, parts, errands, place, seat) },
+        &|place: usize, seat: &mut Seat|
+            requires { IsSync R.row }
+        { take_part(rt, alloc, parts, errands, place, seat) },
     );
 }
 

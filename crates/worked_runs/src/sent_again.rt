@@ -39,22 +39,20 @@ impl Dial for FailingDial {
     }
 }
 
-/// The node sends to the log.
-const PEERS: &[Node] = &[Node::Itl];
-
-/// Runs a node that sends to the log.
+/// Runs a node that sends to those nodes.
 fn run_sending<R: Threads + Wait + Clock + Sync>(
     rt: &R,
     alloc: Global,
     station: &Station,
     dial: &FailingDial,
+    peers: &[Node],
 ) -> Ended {
     let parts = NodeParts {
         node: station.node,
         desk: &station.desk,
         listen: &station.listen,
         dial,
-        peers: PEERS,
+        peers,
         clock: &StillClock,
         gate: &OpenGate,
         muster: &station.muster,
@@ -88,11 +86,12 @@ fn run_and_wait<R: Threads + Wait + Clock + Sync>(
     alloc: Global,
     station: &Station,
     dial: &FailingDial,
+    peers: &[Node],
     connects: u64,
 ) -> (Ended, bool) {
     thread::join(
         rt,
-        move || run_sending(rt, alloc, station, dial),
+        move || run_sending(rt, alloc, station, dial, peers),
         move || wait_and_stop(rt, station, dial, connects),
     )
 }
@@ -118,7 +117,8 @@ where
         failing,
         connects: AtomicU64::new(0),
     };
-    let (ended, are_sent) = run_and_wait(rt, alloc, &nz, &dial, failing.saturating_add(2));
+    let connects = failing.saturating_add(2);
+    let (ended, are_sent) = run_and_wait(rt, alloc, &nz, &dial, &[Node::Itl], connects);
     let (records, _) = records_of(rt, nz, ended, Some(seat));
     are_sent && records >= 3
 }

@@ -16,7 +16,7 @@ import tempfile
 import time
 
 from records import record, write_store
-from rehearse import PROGRAM, build, codes_of, run, scheme
+from rehearse import codes_of, program, run, scheme
 
 MOST_RATIO = 2.3
 MOST_TIMES_SQLITE = 10.0
@@ -94,7 +94,7 @@ def measure(name, codes, largest, runs, room):
             folder.mkdir()
             given.write_text(scheme(codes, size // len(codes) + 1) + "\n", encoding="utf-8")
             length = write_stores(folder, journals(codes, size))
-            words = [PROGRAM, "audit", given, folder]
+            words = [program(), "audit", given, folder]
             run(words, given, taken)
             check_table(taken, name, size)
             measured = [run(words, given, taken) for _ in range(runs)]
@@ -119,7 +119,7 @@ def main():
     parser.add_argument("--runs", type=int, default=3, help="runs of each; the best one counts")
     parser.add_argument("--records", type=int, default=1_000_000, help="records of all stores in the largest size")
     words = parser.parse_args()
-    build()
+    program()
     largest = max(4, words.records // RECORDS_EACH)
     kept = True
     with tempfile.TemporaryDirectory() as room:

@@ -18,7 +18,7 @@ import tempfile
 import time
 
 from endings import check_end, run_to_end
-from rehearse import PROGRAM, build, codes_of, scheme
+from rehearse import codes_of, program, scheme
 
 TURNS = 60_000
 # How a run ends that is killed: it may have come to its end by itself just before.
@@ -72,7 +72,7 @@ class Folder:
         self.stores.mkdir()
 
     def audit(self):
-        ended = run_to_end([PROGRAM, "audit", self.scheme, self.stores], capture_output=True, text=True)
+        ended = run_to_end([program(), "audit", self.scheme, self.stores], capture_output=True, text=True)
         if tonnes(ended.stdout) != self.goal * len(self.codes):
             sys.exit(f"audit counts {tonnes(ended.stdout)} tonnes:\n{ended.stdout}")
         return ended.stdout
@@ -80,7 +80,7 @@ class Folder:
     def started(self, table):
         """A run of what the table lacks."""
         self.script.write_text(script(self.codes, self.goal, table))
-        words = [PROGRAM, "run", self.scheme, self.stores, self.script]
+        words = [program(), "run", self.scheme, self.stores, self.script]
         return subprocess.Popen(words, stdout=subprocess.PIPE, stderr=subprocess.PIPE, text=True)
 
 
@@ -93,7 +93,7 @@ def main():
     words.add_argument("--seed", type=int, default=None)
     given = words.parse_args()
     chance = random.Random(given.seed)
-    build()
+    program()
     codes = codes_of(given.registries)
     with tempfile.TemporaryDirectory() as room:
         folder = Folder(room, codes, given.transfers // given.registries)

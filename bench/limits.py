@@ -18,7 +18,7 @@ import tempfile
 import time
 
 from records import record, write_store
-from rehearse import LONGEST_INPUT, PROGRAM, build, codes_of
+from rehearse import LONGEST_INPUT, codes_of, program
 
 STACK = 512 * 1024
 SECONDS = 300
@@ -214,7 +214,7 @@ def held_small():
 def end_of(words, given):
     """The status of a run with a small stack, and the texts that it wrote. The status is None where it didn't end in time."""
     with given.open("rb") as reader:
-        words = [PROGRAM, *words]
+        words = [program(), *words]
         try:
             ended = subprocess.run(words, stdin=reader, capture_output=True, text=True, timeout=SECONDS, preexec_fn=held_small, check=False)
         except subprocess.TimeoutExpired:
@@ -272,7 +272,7 @@ def main():
     parser = argparse.ArgumentParser(description=__doc__, formatter_class=argparse.RawDescriptionHelpFormatter)
     parser.add_argument("--input", help="only inputs whose name has this text")
     words = parser.parse_args()
-    build()
+    program()
     kept = [check(case) for group in GROUPS for case in group() if words.input is None or words.input in case.name]
     print(f"{len(kept)} inputs, {kept.count(False)} with a run that ended otherwise")
     sys.exit(0 if kept and all(kept) else 1)

@@ -25,7 +25,7 @@ import time
 
 from endings import check_end, run_to_end
 from records import write_store
-from rehearse import PROGRAM, build, run, scheme
+from rehearse import program, run, scheme
 
 MOST_RATIO = 2.3
 MOST_TIMES_OPENING = 1.5
@@ -58,7 +58,7 @@ class Store:
         self.folder.mkdir()
         self.scheme.write_text(scheme([NODE, "AB"], 1) + "\n", encoding="utf-8")
         write_store(self.folder, NODE, texts(count), form=1)
-        self.words = [PROGRAM, "show", self.scheme, self.folder, NODE]
+        self.words = [program(), "show", self.scheme, self.folder, NODE]
 
     def show(self):
         """The seconds and the peak of memory of a `show`, whose output is looked at."""
@@ -171,7 +171,7 @@ def fill(count, room):
         try:
             shutil.copy(source.folder / f"{NODE}.db", disk)
             source.folder = disk
-            words = [PROGRAM, "show", source.scheme, disk, NODE]
+            words = [program(), "show", source.scheme, disk, NODE]
             ended = subprocess.run(words, check=False, capture_output=True, text=True)
             check_end(words, ended.returncode, wanted=(4,), said=ended.stderr)
             if ended.stderr != f"kyoto-link: store {NODE}: full\n" or ended.stdout:
@@ -191,7 +191,7 @@ def main():
     parser.add_argument("--records", type=int, default=1_000_000, help="the most records of a store")
     parser.add_argument("--kills", type=int, default=50, help="how many migrations are killed")
     words = parser.parse_args()
-    build()
+    program()
     with tempfile.TemporaryDirectory() as folder:
         room = pathlib.Path(folder)
         kept = measure_pairs(words.records, room)

@@ -28,7 +28,7 @@ from audit import MOMENT, write_stores
 from building import build_c
 from endings import check_end, run_to_end
 from records import FORMAT
-from rehearse import PROGRAM, build
+from rehearse import program
 
 TOP = pathlib.Path(__file__).resolve().parent.parent
 SOURCE = TOP / "bench" / "no_memory.c"
@@ -123,12 +123,12 @@ class Refusing:
         self.library = self.room / "no_memory.so"
         build_c(SOURCE, self.library, "-std=gnu11", "-shared", "-fPIC", "-ldl")
 
-    def run(self, words, text, number, program=PROGRAM, thread=0):
-        """What a run came to, and whether an allocation was refused. None is where the number is 0."""
+    def run(self, words, text, number, test=None, thread=0):
+        """What a run of the program, or of a test's, came to, and whether an allocation was refused. None is where the number is 0."""
         told = self.room / f"refused-{thread}"
         told.unlink(missing_ok=True)
         given = os.environ | {"LD_PRELOAD": str(self.library), "REFUSE": str(number), "REFUSED": str(told)}
-        ended = subprocess.run([program, *words], input=text, capture_output=True, env=given, check=False)
+        ended = subprocess.run([test or program(), *words], input=text, capture_output=True, env=given, check=False)
         return (ended.returncode, ended.stdout, ended.stderr), told.exists()
 
 
@@ -136,7 +136,7 @@ def refuse_each(name, refusing, words, text, folder, status=0):
     """Whether each run came to all or nothing, and to that status with all its memory. Several threads take the numbers of
     allocations in turn."""
     whole, _ = refusing.run(words(folder), text, 0)
-    check_end([PROGRAM, *words(folder)], whole[0], (status,), whole[2])
+    check_end([program(), *words(folder)], whole[0], (status,), whole[2])
     before = records_in(folder) if folder else None
     numbers = itertools.count(1)
 
@@ -169,11 +169,11 @@ def refuse_each(name, refusing, words, text, folder, status=0):
 def refuse_each_of_test(refusing):
     """Whether the test passed, or stopped in reading, each time."""
     run_to_end(["rt", "test"], cwd=TESTS, stdout=subprocess.DEVNULL)
-    program = TESTS / "out" / "worked_runs_tests"
+    test = TESTS / "out" / "worked_runs_tests"
     number, passed, unread = 1, 0, 0
     while True:
-        (status, _, said), refused = refusing.run([TEST], b"", number, program)
-        check_end([program, TEST], status, (0, FAILED) if refused else (0,), said)
+        (status, _, said), refused = refusing.run([TEST], b"", number, test)
+        check_end([test, TEST], status, (0, FAILED) if refused else (0,), said)
         if not refused:
             break
         passed += status == 0
@@ -186,7 +186,7 @@ def refuse_each_of_test(refusing):
 def main():
     words = argparse.ArgumentParser(description=__doc__, formatter_class=argparse.RawDescriptionHelpFormatter)
     words.parse_args()
-    build()
+    program()
     with tempfile.TemporaryDirectory() as room:
         refusing = Refusing(room)
         kept = refuse_each_of_test(refusing)

@@ -9,6 +9,7 @@ in a dictionary. The exit status is 1 where a limit is passed.
 """
 
 import argparse
+import functools
 import json
 import os
 import pathlib
@@ -21,7 +22,6 @@ from endings import check_end, run_to_end
 
 TOP = pathlib.Path(__file__).resolve().parent.parent
 LAUNCHER = TOP / "kyoto-link"
-PROGRAM = TOP / "crates" / "kyoto_link" / "out" / "kyoto_link"
 LONGEST_INPUT = 16_777_216
 MOST_RATIO = 2.3
 MOST_TIMES_PYTHON = 12.0
@@ -103,9 +103,10 @@ LOADS = [
 ]
 
 
-def build():
-    """Proves and builds kyoto-link, where that isn't done yet."""
-    run_to_end([LAUNCHER, "help"], stdout=subprocess.DEVNULL)
+@functools.cache
+def program():
+    """The path of the program that the launcher runs. It is proved and built first, where that must be."""
+    return run_to_end([LAUNCHER, "path"], stdout=subprocess.PIPE, text=True).stdout.strip()
 
 
 def run(words, given, taken):
@@ -151,7 +152,7 @@ def inputs_of(name, lines_of, largest, room):
         length = given.stat().st_size
         if length > LONGEST_INPUT:
             sys.exit(f"{name}: an input of {length:,} bytes is too long")
-        run([PROGRAM, "rehearse"], given, taken)
+        run([program(), "rehearse"], given, taken)
         check_output(taken, name, count - 1)
         inputs.append((size, given))
     return inputs
@@ -162,7 +163,7 @@ def measure(name, lines_of, largest, runs, room):
     of the machine doesn't fall on one of them alone."""
     kept, before, taken = True, None, room / "output"
     inputs = inputs_of(name, lines_of, largest, room)
-    measured = [[run([PROGRAM, "rehearse"], given, taken) for _, given in inputs] for _ in range(runs)]
+    measured = [[run([program(), "rehearse"], given, taken) for _, given in inputs] for _ in range(runs)]
     for (size, given), of_size in zip(inputs, zip(*measured)):
         length = given.stat().st_size
         best = min(spent for spent, _ in of_size)
@@ -187,7 +188,7 @@ def main():
     parser.add_argument("--runs", type=int, default=5, help="runs of each; the best one counts")
     parser.add_argument("--load", help="only loads whose name has this text")
     words = parser.parse_args()
-    build()
+    program()
     kept = True
     with tempfile.TemporaryDirectory() as folder:
         for name, lines_of, largest in LOADS:

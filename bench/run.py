@@ -25,7 +25,7 @@ import time
 
 from building import need
 from endings import check_end, run_to_end
-from rehearse import PROGRAM, build
+from rehearse import program
 from store import build_c
 
 LEAST_OF_C = 0.5
@@ -57,7 +57,7 @@ def played(room, count, together, before=()):
     (folder / "scheme").write_text(scheme(max(count, 1)))
     (folder / "script").write_text(script(count, together) or "status NZ NZ1\n")
     begin = time.monotonic()
-    words = [*before, PROGRAM, "run", folder / "scheme", folder / "stores", folder / "script"]
+    words = [*before, program(), "run", folder / "scheme", folder / "stores", folder / "script"]
     ended = run_to_end(words, capture_output=True, text=True)
     seconds = time.monotonic() - begin
     if len(re.findall(r"^transaction .* Completed ITL Completed JP Completed$", ended.stdout, re.MULTILINE)) != count:
@@ -173,7 +173,7 @@ def main():
     given = words.parse_args()
     need("strace", "counts commits")
     need("gcc", "builds store.c")
-    build()
+    program()
     passed = False
     with tempfile.TemporaryDirectory(dir=given.room) as room:
         program = pathlib.Path(room) / "store"

@@ -3,8 +3,6 @@
 #![tactic(auto)]
 
 #[cfg(test)]
-mod checkpoint_rows;
-#[cfg(test)]
 mod cut_rows;
 #[cfg(test)]
 mod driving;

@@ -25,7 +25,9 @@ def words_of(text):
 
 def known_words():
     files = [path for pattern in SOURCES for path in TOP.glob(pattern) if path.is_file()]
-    known = {word for path in [*files, *map(TOP.joinpath, OTHERS)] for word in words_of(path.read_text(encoding="utf-8"))}
+    # A store among the data of an example is no text.
+    texts = [path.read_text(encoding="utf-8", errors="replace") for path in [*files, *map(TOP.joinpath, OTHERS)]]
+    known = {word for text in texts for word in words_of(text)}
     places = [path for path in TOP.rglob("*") if "out" not in path.parts and ".git" not in path.parts]
     return known | FOREIGN | {word for path in places for part in (path.name, path.stem) for word in words_of(part)}
 

@@ -10,7 +10,6 @@ ghost use Rattle.weave.specs.Following.{IsWeaveFault, IsWoven, journal_of};
 ghost use Rattle.wire.specs.declared.input.Input.{Input};
 ghost use Rattle.protocol.specs.Registries.{nodes};
 
-use crate::journals::journals_of;
 use crate::loading::{load_cores, states_of};
 use desk::State;
 use inputs::{OpFault, write_out};
@@ -19,7 +18,7 @@ use std::alloc::Global;
 use std::io::Write;
 use stores::NodeStore;
 use tables::{push_table, tonnes_add_up};
-use weave::{Nobody, Watch, WeaveFault, Woven, weave, weave_cores};
+use weave::{Nobody, Watch, WeaveFault, Woven, weave_cores};
 use world::Core;
 
 /// What a fault of weaving is to the command.
@@ -48,24 +47,13 @@ fn table_of_woven(alloc: Global, woven: Result<Woven, WeaveFault>) -> Result<Str
     }
 }
 
-/// The table of a run that leads to the committed records of the states, one for each node: the log's, then those of
-/// the registries in the scheme's order.
+/// The table of a run that leads to the records of these cores, one for each node: the log's, then those of the
+/// registries in the scheme's order. Tells of each record that is woven.
 ///
 /// # Errors
 ///
 /// Fails with `Stuck` where no run leads to these records, as `audit` does, and with `NoMemory` where memory ran out.
-pub fn table_of(alloc: Global, scheme: &Scheme, states: &[State<Core>]) -> Result<String, OpFault>
-    requires { length states.now ≡ length (nodes scheme.now) }
-    ensures ok { IfOk result (λ s. IsAuditTable scheme.now (map committed_records states.now) (string_bytes s)) }
-    ensures err { IfErr result (FailsToWeave scheme.now (map committed_records states.now)) }
-{
-    let journals = journals_of(alloc, states)?;
-    table_of_woven(alloc, weave(alloc, scheme, journals.as_slice()))
-}
-
-/// The table of a run that leads to the records of these cores, one for each node: the log's, then those of the
-/// registries in the scheme's order. Tells of each record that is woven.
-fn table_of_cores<P: Watch>(
+pub fn table_of_cores<P: Watch>(
     alloc: Global,
     scheme: &Scheme,
     cores: Vec<Core>,
@@ -79,27 +67,43 @@ fn table_of_cores<P: Watch>(
     table_of_woven(alloc, weave_cores(alloc, scheme, cores, watch))
 }
 
-/// Finds a run that leads to the committed records of the states, one for each node: the log's, then those of the
-/// registries in the scheme's order. Fails with `Stuck` where there is none, and with `NoMemory` where memory ran out.
-fn find_run(alloc: Global, scheme: &Scheme, states: &[State<Core>]) -> Result<(), OpFault>
-    requires { length states.now ≡ length (nodes scheme.now) }
-    ensures ok { OnOk result (HasRun scheme.now (map committed_records states.now)) }
-    ensures err { IfErr result (FailsToWeave scheme.now (map committed_records states.now)) }
+/// The cores of the world that was woven of these journals, each with its journal, or what the fault is to the command.
+fn cores_of_woven(woven: Result<Woven, WeaveFault>) -> Result<Vec<Core>, OpFault>
+    ensures run { (scheme : Scheme) (journals : List (List Input)) → length journals ≡ length (nodes scheme) → IfOk woven (λ w. IsWoven scheme (journal_of scheme journals) w.events.items w.world) → OnOk result (HasRun scheme journals) }
+    ensures journals { (scheme : Scheme) (journals : List (List Input)) → length journals ≡ length (nodes scheme) → IfOk woven (λ w. IsWoven scheme (journal_of scheme journals) w.events.items w.world) → IfOk result (λ v. map node_cores.journal_of v.items ≡ journals) }
+    ensures err { (scheme : Scheme) (journals : List (List Input)) → IfErr woven (IsWeaveFault scheme (journal_of scheme journals)) → IfErr result (FailsToWeave scheme journals) }
 {
-    let journals = journals_of(alloc, states)?;
-    match weave(alloc, scheme, journals.as_slice()) {
+    match woven {
         Ok(woven) => {
-            drop(woven);
-            Ok(())
+            drop(woven.events);
+            Ok(woven.world.into_cores()?)
         }
         Err(fault) => Err(fault_of(fault)),
     }
 }
 
+/// Finds a run that leads to the records of these cores, one for each node: the log's, then those of the registries in
+/// the scheme's order, and returns cores with these records. Tells of each record that is woven. Fails with `Stuck`
+/// where there is no such run, and with `NoMemory` where memory ran out.
+fn find_run<P: Watch>(
+    alloc: Global,
+    scheme: &Scheme,
+    cores: Vec<Core>,
+    watch: &mut P,
+) -> Result<Vec<Core>, OpFault>
+    requires nodes { map node_cores.node_of cores.items ≡ nodes scheme.now }
+    requires schemes { All (λ core. node_cores.scheme_of core ≡ scheme.now) cores.items }
+    ensures run { OnOk result (HasRun scheme.now (map node_cores.journal_of cores.items)) }
+    ensures journals { IfOk result (λ v. map node_cores.journal_of v.items ≡ map node_cores.journal_of cores.items) }
+    ensures err { IfErr result (FailsToWeave scheme.now (map node_cores.journal_of cores.items)) }
+{
+    cores_of_woven(weave_cores(alloc, scheme, cores, watch))
+}
+
 /// Reads the stores, one for each node: the log's, then those of the registries in the scheme's order, and returns the
-/// states that their records lead to, where a run leads to them all. Tells of the records as they are read.
+/// states that their records lead to, where a run leads to them all. Tells of the records as they are read and woven.
 ///
-/// The stores are read by pages, and nothing is written to them.
+/// The stores are read by pages, and nothing is written to them. Each record is taken once.
 ///
 /// # Errors
 ///
@@ -117,13 +121,9 @@ pub fn load_run<S: NodeStore, P: Watch>(
     ensures kept { AreKept S.is_honest S.content S.must_reopen stores.old stores.new }
 {
     let cores = load_cores(alloc, scheme, stores, watch)?;
-    let states = states_of(alloc, cores)?;
-    if let Err(fault) = find_run(alloc, scheme, states.as_slice()) {
-        drop(states);
-        return Err(fault);
-    }
+    let cores = find_run(alloc, scheme, cores, watch)?;
     watch.finished();
-    Ok(states)
+    Ok(states_of(alloc, cores)?)
 }
 
 /// Reads the stores of the first nodes: the log's, then those of the registries in the scheme's order. So a fault of

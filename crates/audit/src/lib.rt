@@ -2,7 +2,6 @@
 #![tactic(auto)]
 
 mod auditing;
-mod journals;
 mod loading;
 
-pub use auditing::{audit, audit_watched, load_run, read_first, table_of};
+pub use auditing::{audit, audit_watched, load_run, read_first, table_of_cores};

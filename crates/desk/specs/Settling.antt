@@ -4,6 +4,7 @@ use Rattle.units.specs.declared.code.Node.{Node}
 use Rattle.wire.specs.declared.input.Input.{Input}
 use Rattle.scheme.specs.declared.registries.Scheme.{Scheme}
 use Rattle.desk.specs.declared.life.Life.{Life}
+use Rattle.desk.specs.declared.life.Settled.{Settled}
 use Rattle.desk.specs.declared.life.Unsettled.{Unsettled}
 use Rattle.desk.specs.declared.life.Unsettled.TheVariants.{Missing, Twice, Differs, NotCommitted, Fell, Untrue, NoMemory}
 use Rattle.desk.specs.declared.notes.Lengths.TheVariants as lengths
@@ -58,3 +59,8 @@ IsFaultOf scheme n held seats fault = IsUncovered held seats fault
 abbrev pub Settles : Scheme → Node → Held → List Heard → Result Life Unsettled → Type 0
 Settles scheme n held seats (Ok life) = IsSettled scheme n held seats × (life ≡ record { opening = held.opening; records = length held.journal; committed = held.committed })
 Settles scheme n held seats (Err fault) = IsFaultOf scheme n held seats fault
+
+-- of settling, without the core that it returns
+abbrev pub life_of : {C : Type 0} → Result (Settled C) Unsettled → Result Life Unsettled
+life_of (Ok settled) = Ok settled.life
+life_of (Err fault) = Err fault

@@ -257,6 +257,11 @@ impl<C: NodeCore, B: Bell> Desk<C, B> {
         self.state.lock(rt).is_running()
     }
 
+    /// How many records are committed. There may be more once this returns.
+    pub fn committed_count<R: Wait>(&self, rt: &R) -> usize {
+        self.state.lock(rt).committed_count()
+    }
+
     /// The bell, for threads that wait until there is more to commit or to send: read its number, look at the desk,
     /// and wait for another number where there is nothing to do. Such a wait also ends after `LONGEST_QUIET`
     /// seconds, so look again after it.

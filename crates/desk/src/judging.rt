@@ -1,9 +1,10 @@
 //! Whether the journal bears what the seats noted.
-ghost use Rattle.std.specs.Prelude.{◌≡◌, ◌↔◌, ◌++◌, ◌⊎◌, ◌≤◌, [], length, take, map, flat_map, All, Any, IfOk, OnOk, MatchOption, IsTrue, IsPermutation};
+ghost use Rattle.std.specs.Prelude.{◌≡◌, ◌↔◌, ◌++◌, ◌⊎◌, ◌≤◌, [], None, length, take, map, flat_map, All, Any, IfOk, OnOk, MatchOption, IsTrue, IsPermutation};
 ghost use Rattle.units.specs.RefusalCodes.{out_of_memory};
 ghost use Rattle.desk.specs.Due.{due, told_of};
 ghost use Rattle.desk.specs.Rooms.{IsNoRecord, TellNoRecord};
 ghost use Rattle.desk.specs.Settling.{AllBorne, Bears, SomeUnborne};
+ghost use Rattle.desk.specs.Views.{committed_records};
 
 use crate::notes::{Asked, Note, Told};
 use crate::seat::Seat;
@@ -101,20 +102,24 @@ fn is_borne<C: NodeCore>(core: &mut C, journal: &[Input], note: &Note) -> Result
     is_due(core, note)
 }
 
-/// The length of the first note that the journal doesn't bear, or `None` where it bears all. The core has no record.
+/// The length of the first note that the journal doesn't bear, or `None` where it bears all. The core has no record
+/// before, and the first records of the journal where it bears all.
 fn unborne_of<C: NodeCore>(
-    mut core: C,
+    core: &mut C,
     journal: &[Input],
     notes: &[&Note],
 ) -> Result<Option<usize>, NoMemory>
-    requires empty { C.journal_of core ≡ [] }
+    requires empty { C.journal_of core.old ≡ [] }
     requires no_record { All (λ note. IsNoRecord note.now.told) notes.now }
-    ensures { IfOk result (λ found. MatchOption found
-        (All (λ note. Bears (C.scheme_of core) (C.node_of core) journal.now note.now) notes.now)
-        (λ len. Any (λ note. (note.now.length ≡ len) × (Bears (C.scheme_of core) (C.node_of core) journal.now note.now → ⊥)) notes.now)) }
+    ensures found { IfOk result (λ found. MatchOption found
+        (All (λ note. Bears (C.scheme_of core.old) (C.node_of core.old) journal.now note.now) notes.now)
+        (λ len. Any (λ note. (note.now.length ≡ len) × (Bears (C.scheme_of core.old) (C.node_of core.old) journal.now note.now → ⊥)) notes.now)) }
+    ensures scheme { C.scheme_of core.new ≡ C.scheme_of core.old }
+    ensures node { C.node_of core.new ≡ C.node_of core.old }
+    ensures front { IfOk result (λ found. found ≡ None → C.journal_of core.new ≡ take (length (C.journal_of core.new)) journal.now) }
 {
     for note in notes {
-        if !is_borne(&mut core, journal, note)? {
+        if !is_borne(core, journal, note)? {
             return Ok(Some(note.length));
         }
     }
@@ -153,17 +158,43 @@ fn notes_by_length(alloc: Global, seats: &[Seat]) -> Result<Vec<&Note>, NoMemory
 }
 
 /// The length of a note that the journal of the state doesn't bear, at the core's node under its scheme, or `None`
-/// where it bears all notes of the seats. Goes through the journal once. Or `NoMemory`.
-pub(crate) fn find_unborne<C: NodeCore>(
-    core: C,
+/// where it bears all notes of the seats; then the core has the first records of the journal. Goes through the journal
+/// once. Or `NoMemory`.
+fn judge<C: NodeCore>(
+    core: &mut C,
     state: &State<C>,
     seats: &[Seat],
 ) -> Result<Option<usize>, NoMemory>
-    requires { C.journal_of core ≡ [] }
-    ensures { IfOk result (λ found. MatchOption found
-        (All (AllBorne (C.scheme_of core) (C.node_of core) state.now.journal) seats.now)
-        (λ len. Any (SomeUnborne (C.scheme_of core) (C.node_of core) state.now.journal len) seats.now)) }
+    requires { C.journal_of core.old ≡ [] }
+    ensures found { IfOk result (λ found. MatchOption found
+        (All (AllBorne (C.scheme_of core.old) (C.node_of core.old) state.now.journal) seats.now)
+        (λ len. Any (SomeUnborne (C.scheme_of core.old) (C.node_of core.old) state.now.journal len) seats.now)) }
+    ensures scheme { C.scheme_of core.new ≡ C.scheme_of core.old }
+    ensures node { C.node_of core.new ≡ C.node_of core.old }
+    ensures front { IfOk result (λ found. found ≡ None → C.journal_of core.new ≡ take (length (C.journal_of core.new)) state.now.journal) }
 {
     let notes = notes_by_length(state.alloc(), seats)?;
     unborne_of(core, state.journal(), notes.as_slice())
+}
+
+/// As `judge`, and where the journal bears all notes the core has the committed records afterwards. They are recorded
+/// once, but where a part of the journal isn't committed.
+pub(crate) fn find_unborne<C: NodeCore>(
+    core: &mut C,
+    state: &State<C>,
+    seats: &[Seat],
+) -> Result<Option<usize>, NoMemory>
+    requires { C.journal_of core.old ≡ [] }
+    ensures found { IfOk result (λ found. MatchOption found
+        (All (AllBorne (C.scheme_of core.old) (C.node_of core.old) state.now.journal) seats.now)
+        (λ len. Any (SomeUnborne (C.scheme_of core.old) (C.node_of core.old) state.now.journal len) seats.now)) }
+    ensures scheme { C.scheme_of core.new ≡ C.scheme_of core.old }
+    ensures node { C.node_of core.new ≡ C.node_of core.old }
+    ensures committed { IfOk result (λ found. found ≡ None → C.journal_of core.new ≡ committed_records state.now) }
+{
+    let found = judge(core, state, seats)?;
+    if found.is_none() {
+        bring(core, state.journal(), state.committed_count())?;
+    }
+    Ok(found)
 }

@@ -19,7 +19,7 @@ mod state;
 pub use bell::{Bell, LONGEST_QUIET, RoomBell};
 pub use desk::Desk;
 pub use gate::{Gate, OpenGate, Spot};
-pub use life::{Life, Unsettled};
+pub use life::{Life, Settled, Unsettled};
 pub use locked::BATCH;
 pub use notes::{Asked, Lengths, Note, Ticket, Told};
 pub use seat::Seat;

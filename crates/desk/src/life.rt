@@ -12,6 +12,13 @@ pub struct Life {
     pub committed: usize,
 }
 
+/// A node that was settled: how long its journal is, and a core that has recorded the committed records again.
+#[derive(Drop)]
+pub struct Settled<C> {
+    pub life: Life,
+    pub core: C,
+}
+
 /// Why what the seats were told isn't what one thread alone would have been told.
 #[derive(Clone, Copy, Debug, PartialEq, Eq, Error)]
 pub enum Unsettled {

@@ -1,11 +1,12 @@
 //! Settling: whether what the seats were told is what one thread alone would have been told.
-ghost use Rattle.std.specs.Prelude.{◌≡◌, ◌↔◌, ◌<◌, ◌≤◌, [], length, All, Any, IsTrue, MatchBool, MatchResult};
+ghost use Rattle.std.specs.Prelude.{◌≡◌, ◌↔◌, ◌<◌, ◌≤◌, [], length, All, Any, IfOk, IsTrue, MatchBool, MatchResult};
 ghost use Rattle.desk.specs.Covering.{AllFit, Covers, Fits, NoneMissing, NoneTwice, SomeDiffers};
-ghost use Rattle.desk.specs.Settling.{IsBeyond, IsUncovered, IsWithin, Settles, Stood};
+ghost use Rattle.desk.specs.Settling.{IsBeyond, IsUncovered, IsWithin, Settles, Stood, life_of};
+ghost use Rattle.desk.specs.Views.{committed_records};
 
 use crate::counting::{check_missing, check_twice, counts_of};
 use crate::judging::find_unborne;
-use crate::life::{Life, Unsettled};
+use crate::life::{Life, Settled, Unsettled};
 use crate::notes::{Lengths, Ticket};
 use crate::seat::Seat;
 use crate::state::State;
@@ -92,14 +93,16 @@ fn has_fallen(seats: &[Seat]) -> bool
 }
 
 /// As `settle`, where what is due is that of the core, at its node under its scheme, in place of the state's own: so a
-/// caller that can't name the state's knows under which scheme it has settled. The core has no record.
+/// caller that can't name the state's knows under which scheme it has settled. The core has no record, and is returned
+/// with the committed ones.
 pub fn settle_with<C: NodeCore>(
-    core: C,
+    mut core: C,
     state: &State<C>,
     seats: &[Seat],
-) -> Result<Life, Unsettled>
+) -> Result<Settled<C>, Unsettled>
     requires { C.journal_of core ≡ [] }
-    ensures { Settles (C.scheme_of core) (C.node_of core) state.now seats.now result }
+    ensures settles { Settles (C.scheme_of core) (C.node_of core) state.now seats.now (life_of result) }
+    ensures core { IfOk result (λ s. (C.scheme_of s.core ≡ C.scheme_of core) × (C.node_of s.core ≡ C.node_of core) × (C.journal_of s.core ≡ committed_records state.now)) }
 {
     check_cover(state, seats)?;
     let committed = state.committed_count();
@@ -109,11 +112,14 @@ pub fn settle_with<C: NodeCore>(
     if has_fallen(seats) {
         return Err(Unsettled::Fell);
     }
-    match find_unborne(core, state, seats) {
-        Ok(None) => Ok(Life {
-            opening: state.opening(),
-            records: state.journal().len(),
-            committed,
+    match find_unborne(&mut core, state, seats) {
+        Ok(None) => Ok(Settled {
+            life: Life {
+                opening: state.opening(),
+                records: state.journal().len(),
+                committed,
+            },
+            core,
         }),
         Ok(Some(length)) => Err(Unsettled::Untrue(length)),
         Err(_) => Err(Unsettled::NoMemory),
@@ -130,5 +136,8 @@ pub fn settle<C: NodeCore>(state: &State<C>, seats: &[Seat]) -> Result<Life, Uns
     ensures { Settles state.now.scheme state.now.node state.now seats.now result }
 {
     let core = state.fresh()?;
-    settle_with(core, state, seats)
+    match settle_with(core, state, seats) {
+        Ok(settled) => Ok(settled.life),
+        Err(fault) => Err(fault),
+    }
 }

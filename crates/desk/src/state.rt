@@ -344,7 +344,8 @@ impl<C: NodeCore> State<C> {
 
     /// How many records are committed.
     pub(crate) fn committed_count(&self) -> usize
-        ensures { result ≡ self.now.committed }
+        ensures value { result ≡ self.now.committed }
+        ensures within { result ≤ length self.now.journal }
     {
         self.committed
     }

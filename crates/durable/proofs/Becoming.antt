@@ -9,10 +9,10 @@ use Rattle.stores.specs.Records.{IsDamagedIn}
 use Rattle.stores.specs.declared.fault.StoreFault.{StoreFault}
 use Rattle.stores.specs.declared.fault.StoreFault.TheVariants.{Device, Full, Damaged, WrongNode, WrongVersion, Reopen, NoMemory}
 use Rattle.stores.proofs.Fronts.{records-length}
-use Rattle.durable.specs.Tables.{order_in}
-use Rattle.durable.specs.Held.{slots_in, node_in, IsReadyIn}
+use Rattle.store_tables.specs.Tables.{order_in}
+use Rattle.store_tables.specs.Held.{slots_in, node_in, IsReadyIn}
 use Rattle.durable.specs.Opening.{IsOpeningFault, BecomesStore}
-use Rattle.durable.specs.Migrating.{HasStore, IsMigrated}
+use Rattle.store_tables.specs.Migrating.{HasStore, IsMigrated}
 
 -- as many places as before
 pub as_long : (old new : Trees) → IsMigrated old new → length (slots_in new) ≡ length (slots_in old)

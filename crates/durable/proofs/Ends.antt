@@ -19,8 +19,9 @@ use Rattle.sqlite.specs.Term.{Env}
 use Rattle.sqlite.specs.Program.{overlay}
 use Rattle.sqlite.specs.Effect.{Database, Reads}
 use Rattle.sqlite_rules.specs.Edit.{id_in}
-use Rattle.durable.specs.Opening.{IsEntry, places_in, comes_before, IsLeastOrGreatest}
-use Rattle.durable.specs.OwnerRow.{IsPlaceIn}
+use Rattle.durable.specs.Opening.{places_in, comes_before, IsLeastOrGreatest}
+use Rattle.store_tables.specs.Rows.{IsEntry}
+use Rattle.store_tables.specs.OwnerRow.{IsPlaceIn}
 use Rattle.durable.proofs.OpeningTexts.{first_row, shows}
 
 pub envs : (rows : List Row) → flat_map (λ (r : Row). ([] ∷ r ∷ []) ∷ []) rows ≡ map (λ (r : Row). [] ∷ r ∷ []) rows

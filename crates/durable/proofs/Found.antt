@@ -21,8 +21,8 @@ use Rattle.sqlite_schema.specs.Rules.{is_of, passes}
 use Rattle.sqlite_schema.specs.declared.schema.Constraint.TheVariants.{Datatype, NotNull, Check}
 use Rattle.sqlite_catalog.specs.Listing.{IsSound}
 use Rattle.sqlite_catalog.proofs.LayoutLemmas.{laid_out, objects_rise, named_tree}
-use Rattle.durable.specs.Tables.{TableOrder, AboutFirst, EntriesFirst, store_schema, no_schema, about_table, entries_table}
-use Rattle.durable.specs.Opening.{owned, IsEntry, HoldsRows}
+use Rattle.store_tables.specs.Tables.{TableOrder, AboutFirst, EntriesFirst, store_schema, no_schema, about_table, entries_table}
+use Rattle.store_tables.specs.Rows.{owned, IsEntry, HoldsRows}
 
 null_of : (v : Value) → is_null v ≡ true → v ≡ Null
 null_of Null e = refl

@@ -22,14 +22,15 @@ use Rattle.sqlite.specs.Program.{overlay}
 use Rattle.sqlite.specs.Effect.{Database, Reads}
 use Rattle.sqlite.proofs.Callers.{one_permutation}
 use Rattle.wire.specs.Records.{number_of}
-use Rattle.durable.specs.declared.owner_row.Owner.{Owner}
-use Rattle.durable.specs.declared.owner_row.Owner.TheVariants.{Nobody, OtherFormat, OtherNode, ThisNode}
-use Rattle.durable.specs.Tables.{TableOrder, about_tree, entries_tree, store_schema}
-use Rattle.durable.specs.Slots.{place_of, body_of, AreEntries}
-use Rattle.durable.specs.OwnerRow.{IsOwnerIn}
-use Rattle.durable.specs.Opening.{owned, IsEntry, HasRows, IsLeastOrGreatest, places_in, IsNoStore, HasNegativePlace, IsOwner, IsNegative}
+use Rattle.store_tables.specs.declared.owner_row.Owner.{Owner}
+use Rattle.store_tables.specs.declared.owner_row.Owner.TheVariants.{Nobody, OtherFormat, OtherNode, ThisNode}
+use Rattle.store_tables.specs.Tables.{TableOrder, about_tree, entries_tree, store_schema}
+use Rattle.store_tables.specs.Slots.{place_of, body_of, AreEntries}
+use Rattle.store_tables.specs.OwnerRow.{IsOwnerIn}
+use Rattle.durable.specs.Opening.{HasRows, IsLeastOrGreatest, places_in, IsNoStore, HasNegativePlace, IsOwner, IsNegative}
+use Rattle.store_tables.specs.Rows.{owned, IsEntry}
 use Rattle.durable.proofs.Ends.{envs}
-use Rattle.durable.proofs.Orders.{same_order, own_row}
+use Rattle.store_tables.proofs.Orders.{same_order, own_row}
 use Rattle.durable.proofs.OpeningTexts.{shows, owner_query}
 
 abbrev shown : Row → Row

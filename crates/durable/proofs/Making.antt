@@ -16,13 +16,13 @@ use Rattle.sqlite.specs.Rows.{Written}
 use Rattle.sqlite.specs.Effect.{Database}
 use Rattle.sqlite.proofs.Callers.{one_step}
 use Rattle.wire.specs.Records.{number_of}
-use Rattle.durable.specs.Formats.{newest}
-use Rattle.durable.specs.Tables.{TableOrder, AboutFirst, EntriesFirst, about_tree, entries_tree, about_table, entries_table, store_schema, no_schema, about}
+use Rattle.store_tables.specs.Formats.{newest}
+use Rattle.store_tables.specs.Tables.{TableOrder, AboutFirst, EntriesFirst, about_tree, entries_tree, about_table, entries_table, store_schema, no_schema, about}
 use Rattle.durable.specs.Opening.{about_schema, IsBare, HasAbout, IsEmpty, HasFresh}
-use Rattle.durable.proofs.Texts.{about_text, entries_text, about_is, entries_is}
+use Rattle.store_tables.proofs.Texts.{about_text, entries_text, about_is, entries_is}
 use Rattle.durable.proofs.OpeningTexts.{own_terms}
-use Rattle.durable.proofs.Inserting.{enforced, went, same_value, cast_null, cast_int}
-use Rattle.durable.proofs.Orders.{no_rows, store-of}
+use Rattle.store_tables.proofs.Inserting.{enforced, went, same_value, cast_null, cast_int}
+use Rattle.store_tables.proofs.Orders.{no_rows, store-of}
 
 -- CREATE TABLE appends the table that its text defines, and keeps the rows of the others
 made : (limit : Option ℕ) (text : List ℕ) (schema : Schema) (table : Table) (db after : Database) (tally : Tally) → db.schema ≡ schema → table_defined_by text ≡ Ok table

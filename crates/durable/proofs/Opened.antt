@@ -9,17 +9,18 @@ use Rattle.sqlite.specs.Effect.{Database, Reads}
 use Rattle.sqlite.specs.Listing.{understood}
 use Rattle.sqlite.specs.State.{State, HasCleanDisk, Survives, Executes, ExecutesInside, IsUnchanged, Shown, CommitsShowing}
 use Rattle.sqlite.proofs.Callers.{IsPlain, runs_as, reads_as, statement_of, never_commits}
-use Rattle.durable.specs.Tables.{TableOrder, AboutFirst, about_tree, entries_tree, store_schema, no_schema, IsStoreSchema}
-use Rattle.durable.specs.Opening.{about_schema, IsOpened, IsWithin, IsBare, HasAbout, IsEmpty, HasFresh, HasRows, IsOwner, HasLeastOrGreatest}
-use Rattle.durable.specs.OwnerRow.{IsOwnerIn, IsPlaceIn}
-use Rattle.durable.specs.declared.owner_row.Owner.{Owner}
-use Rattle.durable.proofs.Texts.{about_text, entries_text}
+use Rattle.store_tables.specs.Tables.{TableOrder, AboutFirst, about_tree, entries_tree, store_schema, no_schema, IsStoreSchema}
+use Rattle.durable.specs.Opening.{about_schema, IsOpened, IsBare, HasAbout, IsEmpty, HasFresh, HasRows, IsOwner, HasLeastOrGreatest}
+use Rattle.store_tables.specs.Within.{IsWithin}
+use Rattle.store_tables.specs.OwnerRow.{IsOwnerIn, IsPlaceIn}
+use Rattle.store_tables.specs.declared.owner_row.Owner.{Owner}
+use Rattle.store_tables.proofs.Texts.{about_text, entries_text}
 use Rattle.durable.proofs.OpeningTexts.{about_command, about_plain, entries_command, entries_plain, own_text, own_terms, own_is, own_plain, shows, owner_query, first_row, owner_text, owner_is, owner_plain, least_text, least_is, least_plain, greatest_text, greatest_is, greatest_plain}
-use Rattle.durable.proofs.Steps.{shown_unchanged}
+use Rattle.store_tables.proofs.Steps.{shown_unchanged}
 use Rattle.durable.proofs.Judging.{owner_told}
 use Rattle.durable.proofs.Ends.{by_place, ended}
-use Rattle.durable.proofs.Inserting.{enforced}
-use Rattle.durable.proofs.Orders.{own_rows}
+use Rattle.store_tables.proofs.Inserting.{enforced}
+use Rattle.store_tables.proofs.Orders.{own_rows}
 use Rattle.durable.proofs.Making.{about_made, entries_made, owner_given, owner_made}
 
 pub about_ok : (old new : State) (count : ℕ) → IsWithin old IsBare → ExecutesInside 0 about_text [] old new (Ok count) → IsWithin new HasAbout

@@ -9,11 +9,11 @@ use Rattle.std.specs.Prelude.{slice_index_or}
 use Rattle.wire.specs.declared.record_format.RecordFormat.TheVariants.{One}
 use Rattle.stores.specs.Records.{Places}
 use Rattle.stores.specs.declared.fault.StoreFault.{StoreFault}
-use Rattle.durable.specs.Tables.{TableOrder, AboutFirst, order_of, about_tree, entries_tree, about_rows}
-use Rattle.durable.specs.Slots.{slots_from}
-use Rattle.durable.specs.Held.{slots_in, IsStore, IsStoreIn}
+use Rattle.store_tables.specs.Tables.{TableOrder, AboutFirst, order_of, about_tree, entries_tree, about_rows}
+use Rattle.store_tables.specs.Slots.{slots_from}
+use Rattle.store_tables.specs.Held.{slots_in, IsStore, IsStoreIn}
 use Rattle.durable.specs.Opening.{IsOpened, IsBare, IsNew, BecomesStore}
-use Rattle.durable.specs.Migrating.{IsOpenedAs}
+use Rattle.store_tables.specs.Migrating.{IsOpenedAs}
 
 -- no store has both formats
 two_formats : (db : Trees) → IsStore db → IsStoreIn One db → ⊥

@@ -11,9 +11,9 @@ use Rattle.sqlite.specs.Command.TheVariants.{Insert, CreateTable, Select}
 use Rattle.sqlite.specs.Listing.{understood, reads_listing}
 use Rattle.sqlite_tied.specs.Compute.{everything}
 use Rattle.sqlite.proofs.Callers.{IsPlain, command_of, statement_of}
-use Rattle.durable.specs.Tables.{TableOrder, AboutFirst, EntriesFirst, about_tree, entries_tree, store_schema, no_schema}
+use Rattle.store_tables.specs.Tables.{TableOrder, AboutFirst, EntriesFirst, about_tree, entries_tree, store_schema, no_schema}
 use Rattle.durable.specs.Opening.{about_schema}
-use Rattle.durable.proofs.Texts.{about_text, entries_text}
+use Rattle.store_tables.proofs.Texts.{about_text, entries_text}
 
 pub about_command : (command_of (understood no_schema about_text) ≡ CreateTable) × (statement_of about_text (understood no_schema about_text) ≡ about_text)
 unfolding understood everything

@@ -7,7 +7,7 @@ use Rattle.sqlite_disk.specs.declared.Disk.{Ghosts}
 use Rattle.sqlite_disk.specs.declared.Files.{Files}
 use Rattle.sqlite.specs.Tree.{Trees}
 use Rattle.durable.specs.Backing.{IsFound, MayFind}
-use Rattle.durable.specs.Migrating.{IsOpenedAs}
+use Rattle.store_tables.specs.Migrating.{IsOpenedAs}
 use Rattle.durable.specs.Kept.{MayHold, is_there}
 use Rattle.stores.specs.Records.{Places}
 use Rattle.durable.specs.declared.store_state.StoreState.{StoreState}

@@ -10,13 +10,13 @@ use Rattle.stores.specs.declared.fault.StoreFault.TheVariants.{Damaged, WrongNod
 use Rattle.wire.specs.Records.{number_of}
 use Rattle.wire.specs.declared.record_format.RecordFormat.{RecordFormat}
 use Rattle.durable.specs.declared.opening.Contents.TheVariants.{NoRow, OwnStore}
-use Rattle.durable.specs.declared.owner_row.Owner.TheVariants.{Nobody, OtherFormat, OtherNode, ThisNode}
-use Rattle.durable.specs.Held.{IsStoreIn}
-use Rattle.durable.specs.Slots.{place_of, slots_from, AreEntries}
+use Rattle.store_tables.specs.declared.owner_row.Owner.TheVariants.{Nobody, OtherFormat, OtherNode, ThisNode}
+use Rattle.store_tables.specs.Held.{IsStoreIn}
+use Rattle.store_tables.specs.Slots.{place_of, slots_from, AreEntries}
 use Rattle.durable.specs.Opening.{HasRows, IsLeastOrGreatest, HasLeastOrGreatest, places_in, IsOwner, IsVerdict, IsNegative}
-use Rattle.durable.specs.Tables.{TableOrder, about_tree, entries_tree, store_schema, about, entry_rows}
-use Rattle.durable.proofs.Places.{length-slots}
-use Rattle.durable.proofs.Orders.{same_order, no_trees, found_order, store-of}
+use Rattle.store_tables.specs.Tables.{TableOrder, about_tree, entries_tree, store_schema, about, entry_rows}
+use Rattle.store_tables.proofs.Places.{length-slots}
+use Rattle.store_tables.proofs.Orders.{same_order, no_trees, found_order, store-of}
 use Rattle.durable.proofs.Judging.{negative, not_low, some_store, entries_from}
 
 -- the least place, by the order that is known

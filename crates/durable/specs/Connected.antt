@@ -5,8 +5,8 @@ use Rattle.sqlite.specs.Store.{Ghosts}
 use Rattle.sqlite.specs.Tree.{Trees}
 use Rattle.sqlite.specs.State.{HasCleanDisk}
 use Rattle.sqlite.specs.Held.{Held, held_code, state}
-use Rattle.durable.specs.Held.{IsReady, slots_in, node_in}
-use Rattle.durable.specs.Migrating.{IsOpenedAs}
+use Rattle.store_tables.specs.Held.{IsReady, slots_in, node_in}
+use Rattle.store_tables.specs.Migrating.{IsOpenedAs}
 use Rattle.stores.specs.Records.{Places}
 
 pub record Connected (S : Type 0) : Type 0 where

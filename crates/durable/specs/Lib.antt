@@ -1,16 +1,6 @@
-pub mod Tables
-pub mod Slots
-pub mod Formats
-pub mod Held
-pub mod SqlFaults
-pub mod Rooms
-pub mod Pages
 pub mod Backing
 pub mod Connected
 pub mod Kept
 pub mod Refusals
 pub mod Stores
-pub mod Layout
-pub mod OwnerRow
 pub mod Opening
-pub mod Migrating

@@ -1,23 +1,23 @@
 -- What an opening finds in a file, and what it makes of a new one.
 use Rattle.std.specs.Prelude.{◌≡◌, ◌⊎◌, ℕ, ℤ, pos, negsuc, Bool, true, false, ◌<ℤ◌, List, [], ◌∷◌, map, Option, Some, None, Result, Ok, Err, OnOk, IfOk, IfErr, length, All, IsTrue, Any}
-use Rattle.std.specs.List.{AllByRecursion, Contains}
-use Rattle.sqlite.specs.declared.types.Value.TheVariants.{Null, Int, Text as Words}
+use Rattle.std.specs.List.{Contains}
+use Rattle.sqlite.specs.declared.types.Value.TheVariants.{Int, Text as Words}
 use Rattle.sqlite.specs.Order.{Row, column}
 use Rattle.sqlite.specs.Tree.{Trees}
-use Rattle.sqlite_trees.specs.Tree.{IsTable}
 use Rattle.sqlite_rules.specs.Edit.{id_in}
 use Rattle.sqlite.specs.Schema.{Schema}
 use Rattle.sqlite.specs.Effect.{Database}
 use Rattle.sqlite.specs.State.{State}
 use Rattle.stores.specs.declared.fault.StoreFault.{StoreFault}
 use Rattle.stores.specs.declared.fault.StoreFault.TheVariants.{Device, Full, Damaged, WrongNode, WrongVersion, Reopen, NoMemory}
-use Rattle.durable.specs.declared.owner_row.Owner.{Owner}
-use Rattle.durable.specs.declared.owner_row.Owner.TheVariants.{Nobody, OtherFormat, OtherNode, ThisNode}
+use Rattle.store_tables.specs.declared.owner_row.Owner.{Owner}
+use Rattle.store_tables.specs.declared.owner_row.Owner.TheVariants.{Nobody, OtherFormat, OtherNode, ThisNode}
 use Rattle.durable.specs.declared.opening.Contents.{Contents}
 use Rattle.durable.specs.declared.opening.Contents.TheVariants.{NoRow, OwnStore}
-use Rattle.durable.specs.Tables.{TableOrder, AboutFirst, about_tree, entries_tree, about, about_table, store_schema, no_schema, IsStoreSchema, order_in}
-use Rattle.durable.specs.Held.{slots_in, node_in, IsStore, IsReady}
-use Rattle.durable.specs.Migrating.{HasStore, IsMigrated}
+use Rattle.store_tables.specs.Tables.{TableOrder, AboutFirst, about_tree, entries_tree, about, about_table, store_schema, no_schema, IsStoreSchema, order_in}
+use Rattle.store_tables.specs.Rows.{HoldsRows}
+use Rattle.store_tables.specs.Held.{slots_in, node_in, IsStore, IsReady}
+use Rattle.store_tables.specs.Migrating.{HasStore, IsMigrated}
 use Rattle.stores.specs.Faults.{is_judgement}
 use Rattle.stores.specs.Records.{IsDamagedIn}
 use Rattle.wire.specs.Records.{number_of}
@@ -29,12 +29,6 @@ pub record IsOpened (s : State) : Type 0 where
   pub is_open : IsTrue s.is_open
   pub idle : s.in_transaction ≡ false
   pub settled : s.now ≡ s.committed
-
--- a transaction is open, and sees this
-pub record IsWithin (s : State) (Holds : Database → Type 0) : Type 0 where
-  pub is_open : IsTrue s.is_open
-  pub inside : IsTrue s.in_transaction
-  pub holds : Holds s.now
 
 -- only the table of the owner is made
 abbrev pub about_schema : Schema
@@ -69,20 +63,6 @@ HasFresh node db = (db.schema ≡ store_schema (order_in db.trees)) × IsFresh n
 -- it is committed
 abbrev pub IsMade : List ℕ → State → Type 0
 IsMade node s = IsReady s × IsFresh node s.committed.trees
-
--- the row of the owner, of any format
-abbrev pub owned : ℤ → List ℕ → Row
-owned format node = Int (pos 1) ∷ Null ∷ Int format ∷ Words node ∷ []
-
--- a record at any place
-abbrev pub IsEntry : Row → Type 0
-IsEntry row = (place : ℤ) × (body : List ℕ) × (row ≡ Int place ∷ Null ∷ Words body ∷ [])
-
--- the rows that the two tables can hold: one of an owner or none, and records whose places rise
-pub record HoldsRows (order : TableOrder) (db : Trees) : Type 0 where
-  pub owner : (db (about_tree order) ≡ []) ⊎ ((format : ℤ) × (node : List ℕ) × (db (about_tree order) ≡ owned format node ∷ []))
-  pub entries : AllByRecursion IsEntry (db (entries_tree order))
-  pub rise : IsTable (db (entries_tree order))
 
 -- both tables are there, with such rows
 abbrev pub HasRows : Database → Type 0

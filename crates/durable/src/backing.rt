@@ -8,14 +8,15 @@ ghost use Rattle.sqlite.specs.Closing.{IsCopied};
 ghost use Rattle.sqlite_wal.specs.Reads.{AreClean};
 ghost use Rattle.durable.specs.Backing.{IsFound, MayFind, Hold};
 ghost use Rattle.stores.specs.Faults.{is_device_fault};
-ghost use Rattle.durable.specs.SqlFaults.{store_fault_of};
+ghost use Rattle.store_tables.specs.SqlFaults.{store_fault_of};
 ghost use Rattle.durable.specs.Refusals.{IsFileFault};
 
-use crate::fault::{fault_of, fault_of_copying};
+use crate::fault::fault_of_copying;
 use sqlite::{Connection, Error as SqlError, ErrorCode, FileStore, Options};
 use sqlite_disk::{Disk, Files, Tally};
 use sqlite_trees::store::Store;
 use std::alloc::Global;
+use store_tables::fault_of;
 use stores::StoreFault;
 
 /// Gives the connection up for its files, with no call of the device. What isn't committed is lost.

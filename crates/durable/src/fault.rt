@@ -1,28 +1,16 @@
-//! What SQLite's errors mean for a store.
+//! What errors of a database mean for a store whose log is copied.
 ghost use Rattle.std.specs.Prelude.{◌≡◌, ◌≢◌, ◌⊎◌, IsTrue};
 ghost use Rattle.sqlite.specs.State.{store_error};
 ghost use Rattle.sqlite_trees.specs.View.{IsClean};
 ghost use Rattle.sqlite_store.specs.FileStore.{view};
 ghost use Rattle.stores.specs.Faults.{is_device_fault};
-ghost use Rattle.durable.specs.SqlFaults.{store_fault_of};
+ghost use Rattle.store_tables.specs.SqlFaults.{store_fault_of};
 
-use sqlite::{Error as SqlError, ErrorCode, FileStore};
+use sqlite::FileStore;
 use sqlite_disk::Disk;
 use sqlite_trees::error::StoreError;
 use sqlite_trees::store::Store;
 use stores::StoreFault;
-
-/// What an error of a statement tells: out of memory, no room, or a fault of the device.
-pub(crate) fn fault_of(error: SqlError) -> StoreFault
-    ensures told { result ≡ store_fault_of error }
-    ensures named { (result ≡ StoreFault.NoMemory) ⊎ IsTrue (is_device_fault result) }
-{
-    match error {
-        SqlError::SqliteFailure(ErrorCode::OutOfMemory) => StoreFault::NoMemory,
-        SqlError::SqliteFailure(ErrorCode::DiskFull | ErrorCode::TooBig) => StoreFault::Full,
-        _ => StoreFault::Device,
-    }
-}
 
 /// What an error of the database below the statements tells.
 fn fault_below(error: StoreError) -> StoreFault

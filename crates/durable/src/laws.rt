@@ -3,8 +3,8 @@ ghost use Rattle.std.specs.Prelude.{◌≡◌};
 ghost use Rattle.sqlite.specs.Tree.{Trees};
 ghost use Rattle.sqlite_disk.specs.declared.Files.{Files};
 ghost use Rattle.durable.specs.Backing.{IsFound, Hold};
-ghost use Rattle.durable.specs.Held.{slots_in, node_in, IsStore};
-ghost use Rattle.durable.specs.Migrating.{IsOpenedAs};
+ghost use Rattle.store_tables.specs.Held.{slots_in, node_in, IsStore};
+ghost use Rattle.store_tables.specs.Migrating.{IsOpenedAs};
 ghost use Rattle.durable.specs.Stores.{content, owner};
 ghost use Rattle.durable.specs.declared.sql_store.SqlStore.{SqlStore};
 

@@ -3,20 +3,19 @@ ghost use Rattle.std.specs.Prelude.{◌≡◌, ◌⊎◌, ◌+◌, ◌-◌, ◌<
 ghost use Rattle.durable.specs.Connected.{IsHonest, content, MayHold, owner, disk_faults};
 ghost use Rattle.stores.specs.Calls.{Appends, Loads};
 ghost use Rattle.stores.specs.Bodies.{items};
-ghost use Rattle.durable.specs.Held.{followed_by, slots_in, IsReady, IsStore};
+ghost use Rattle.store_tables.specs.Held.{followed_by, slots_in, IsReady, IsStore};
 ghost use Rattle.sqlite.specs.State.{HasCleanDisk};
 ghost use Rattle.sqlite.specs.Tree.{Trees};
 ghost use Rattle.sqlite.specs.Held.{state};
 ghost use Rattle.stores.specs.Faults.{is_device_fault, IsReadFault};
 ghost use Rattle.stores.specs.Records.{Places, AreRecords, IsDamagedAt, written};
 ghost use Rattle.stores.specs.declared.fault.StoreFault.TheVariants.{Reopen, NoMemory, Damaged, Full};
-ghost use Rattle.durable.specs.Rooms.{HasNoRoom, LacksRoom};
+ghost use Rattle.store_tables.specs.Rooms.{HasNoRoom, LacksRoom};
 
-use crate::batch;
-use crate::reading::{bodies, rows_of};
 use sqlite::{Alter, Connection};
 use std::alloc::Global;
 use std::marker::Model;
+use store_tables::{append, bodies, rows_of};
 use stores::{Readiness, StoreFault, decode_records, encode_records};
 use wire::Input;
 
@@ -124,7 +123,7 @@ impl<S: Alter> OpenStore<S> {
             self.readiness = Readiness::MustReopen;
             return Err(StoreFault::Full);
         };
-        match batch::append(&mut self.conn, self.count, texts) {
+        match append(&mut self.conn, self.count, texts) {
             Ok(()) => {
                 self.count = total;
                 Ok(())

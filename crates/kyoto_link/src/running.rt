@@ -3,12 +3,12 @@ ghost use Rattle.std.specs.Prelude.{◌≡◌, IfOk, length, vec_len};
 ghost use Rattle.protocol.specs.Registries.{nodes};
 
 use crate::files::{find_folder, open_stores, scheme_at, script_at};
-use crate::watching::{ProgressLine, ScriptLines};
+use crate::watching::{ProgressLine, RunLine};
 use answers::WallClock;
 use audit::load_run;
 use desk::OpenGate;
 use durable::SqlStore;
-use inputs::OpFault;
+use inputs::{OpFault, store_fault};
 use protocol::nodes_of;
 use runs::{Loaded, Network, run_script};
 use scheme::Scheme;
@@ -62,6 +62,19 @@ fn open_all<R: Net<Listener = TcpListener, Stream = TcpStream>>(
     }
 }
 
+/// Copies each store's log into its database file, which has all its records by itself then, and closes it. Fails with
+/// the first fault of a store, after all of them were closed; the records of that one are in its file and its log.
+fn close_stores(stores: Vec<SqlStore<File>>) -> Result<(), OpFault> {
+    let mut first = Ok(());
+    for store in stores {
+        let node = store.node();
+        if let Err(fault) = store.checkpoint() {
+            first = first.and(Err(store_fault(node, fault)));
+        }
+    }
+    first
+}
+
 /// Runs the nodes in threads, over connections of the loopback interface, while the script is played, and reports.
 /// `threads` is the same runtime, as one that may start threads, wait and open sockets.
 fn run_loaded<R>(
@@ -85,7 +98,7 @@ where
         clock: &WallClock::new(threads),
         gate: &OpenGate,
     };
-    let mut progress = ScriptLines::new(rt, lines.len());
+    let mut progress = RunLine::new(rt, lines.len());
     let ended = run_script(
         threads,
         rt.alloc(),
@@ -96,8 +109,8 @@ where
         &mut io::writer(rt),
         &mut progress,
     );
-    drop(ended?);
-    Ok(())
+    progress.finished();
+    close_stores(ended?)
 }
 
 /// The command `run`. Before anything runs it looks at the scheme, then at the whole script, at the folder, at the

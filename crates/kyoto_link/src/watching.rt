@@ -47,6 +47,14 @@ impl<'a> Pace<'a> {
             let _ = eprintln!(self.rt; "");
         }
     }
+
+    /// Ends the line, if one was written. What follows is work that begins now.
+    fn begin_next(&mut self) {
+        self.finished();
+        if self.last.is_some() {
+            self.last = Instant::now(self.rt).ok();
+        }
+    }
 }
 
 /// Writes how many records an audit has read and woven.
@@ -128,41 +136,73 @@ impl<'a> durable::Watch for MigrationLine<'a> {
     }
 }
 
-/// Writes how many lines of a script were answered.
+/// Writes how far a run is: how many lines of its script were answered and how many records committed, and then how
+/// many records were settled and woven.
 #[derive(Drop)]
-pub(crate) struct ScriptLines<'a> {
+pub(crate) struct RunLine<'a> {
     pace: Pace<'a>,
     answered: usize,
     count: usize,
+    settled: usize,
+    woven: usize,
 }
 
-impl<'a> ScriptLines<'a> {
+impl<'a> RunLine<'a> {
     /// The line of a run of that many lines of a script, which begins now.
-    pub(crate) fn new(rt: &'a HostRuntime, count: usize) -> ScriptLines<'a> {
-        ScriptLines {
+    pub(crate) fn new(rt: &'a HostRuntime, count: usize) -> RunLine<'a> {
+        RunLine {
             pace: Pace::new(rt),
             answered: 0,
             count,
+            settled: 0,
+            woven: 0,
+        }
+    }
+
+    /// Writes how many records were settled and woven, where that is due.
+    fn tell(&mut self) {
+        if self.pace.is_due() {
+            let _ = eprint!(self.pace.rt;
+                "\rkyoto-link: {} records settled, {} woven",
+                self.settled, self.woven
+            );
         }
     }
 }
 
-impl<'a> runs::Watch for ScriptLines<'a> {
+impl<'a> runs::Watch for RunLine<'a> {
     fn answered(&mut self) {
         self.answered = self.answered.saturating_add(1);
         if self.answered >= self.count {
-            self.pace.finished();
-        } else {
-            self.waiting();
+            self.pace.begin_next();
         }
     }
 
-    fn waiting(&mut self) {
-        if self.pace.is_due() {
-            let _ = eprint!(self.pace.rt;
-                "\rkyoto-link: {} of {} lines answered",
-                self.answered, self.count
-            );
-        }
+    fn is_due(&mut self) -> bool {
+        self.pace.is_due()
+    }
+
+    fn committed(&mut self, records: usize) {
+        let _ = eprint!(self.pace.rt;
+            "\rkyoto-link: {} of {} lines answered, {} records committed",
+            self.answered, self.count, records
+        );
+    }
+}
+
+impl<'a> weave::Watch for RunLine<'a> {
+    fn read(&mut self, records: usize) {
+        self.settled = self.settled.saturating_add(records);
+        self.tell();
+    }
+
+    fn woven(&mut self) {
+        self.woven = self.woven.saturating_add(1);
+        self.tell();
+    }
+
+    /// Ends the line, if there is one.
+    fn finished(&mut self) {
+        self.pace.finished();
     }
 }

@@ -1,10 +1,10 @@
 //! One line of a script, at the desk of its node.
-ghost use Rattle.std.specs.Prelude.{◌≡◌};
+ghost use Rattle.std.specs.Prelude.{◌≡◌, ◌<◌, length};
 ghost use Rattle.answers.specs.Answers.{is_without_journal};
 ghost use Rattle.playing.specs.Answers.{asked_by};
 ghost use Rattle.playing.specs.Heard.{Grows, HasHeard, IsConfirmed};
 
-use crate::watch::Watch;
+use crate::watch::{Watch, tell_committed};
 use desk::{Asked, Bell, Desk, Seat, Taken, Told};
 use protocol::NodeCore;
 use scripts::ScriptLine;
@@ -107,51 +107,68 @@ fn is_over(told: Told, status: Status) -> bool {
     }
 }
 
+/// What a line waits for: that status of that transaction, and how often it asks at most.
+#[derive(Clone, Copy)]
+struct Awaited {
+    id: TransactionId,
+    status: Status,
+    turns: u64,
+}
+
 /// Asks where the transaction stands until it has that status, at most that many times, and returns what was told
 /// last. A stopped node isn't asked again.
 fn question_until<C: NodeCore, B: Bell, P: Watch, R: Wait + SystemClock>(
     rt: &R,
-    desk: &Desk<C, B>,
+    desks: &[Desk<C, B>],
+    at: usize,
     seat: &mut Seat,
-    id: TransactionId,
-    status: Status,
-    turns: u64,
+    awaited: Awaited,
     watch: &mut P,
 ) -> Told
-    ensures heard { HasHeard seat.new (Asked.Query id) result }
+    requires { at < length desks.now }
+    ensures heard { HasHeard seat.new (Asked.Query awaited.id) result }
     ensures grows { Grows seat.old seat.new }
 {
-    let mut told = question(rt, desk, seat, id);
-    for _ in 1..turns {
-        if is_over(told, status) {
+    let mut told = question(rt, &desks[at], seat, awaited.id);
+    for _ in 1..awaited.turns {
+        if is_over(told, awaited.status) {
             break;
         }
-        watch.waiting();
+        tell_committed(rt, desks, watch);
         thread::sleep(rt, Duration::from_millis(TURN));
-        told = question(rt, desk, seat, id);
+        told = question(rt, &desks[at], seat, awaited.id);
     }
     told
 }
 
-/// What the node tells of a line of a script.
+/// What the node at that place tells of a line of a script.
 pub(crate) fn ask<C: NodeCore, B: Bell, P: Watch, R: Wait + SystemClock>(
     rt: &R,
-    desk: &Desk<C, B>,
+    desks: &[Desk<C, B>],
+    at: usize,
     seat: &mut Seat,
     line: &ScriptLine,
     watch: &mut P,
 ) -> Told
+    requires { at < length desks.now }
     ensures heard { HasHeard seat.new (asked_by line.now) result }
     ensures grows { Grows seat.old seat.new }
 {
     match line {
-        ScriptLine::Order { input, .. } => order_copy(rt, desk, seat, input),
-        ScriptLine::Status { id, .. } => question(rt, desk, seat, *id),
+        ScriptLine::Order { input, .. } => order_copy(rt, &desks[at], seat, input),
+        ScriptLine::Status { id, .. } => question(rt, &desks[at], seat, *id),
         ScriptLine::Until {
             id,
             status,
             turns,
             ..
-        } => question_until(rt, desk, seat, *id, *status, *turns, watch),
+        } => {
+            let awaited = Awaited {
+                id: *id,
+                status: *status,
+                turns: *turns,
+            };
+            question_until(rt, desks, at, seat, awaited, watch)
+        }
     }
 }

@@ -10,5 +10,5 @@ mod wiring;
 
 pub use answer::{Answer, lines_of};
 pub use threads::{Ends, Loaded, Played, Run, run_and_play};
-pub use watch::{Nobody, Watch};
+pub use watch::Watch;
 pub use wiring::Network;

@@ -8,7 +8,7 @@ ghost use Rattle.playing.specs.Heard.{AllGrow, AreHeard, IsHeard};
 
 use crate::answer::Answer;
 use crate::asking::ask;
-use crate::watch::Watch;
+use crate::watch::{Watch, tell_committed};
 use desk::{Bell, Desk, Seat};
 use protocol::{NodeCore, place_of};
 use scheme::Scheme;
@@ -65,7 +65,7 @@ fn play<C: NodeCore, B: Bell, P: Watch, R: Wait + SystemClock>(
     ensures count { length seats.new ≡ length seats.old }
 {
     match place_for(scheme, line) {
-        Some(at) => Answer::Told(ask(rt, &desks[at], &mut seats[at], line, watch)),
+        Some(at) => Answer::Told(ask(rt, desks, at, &mut seats[at], line, watch)),
         None => Answer::NotPossible,
     }
 }
@@ -77,8 +77,8 @@ fn push(answers: &mut Vec<Answer>, answer: Answer) -> Result<(), NoMemory>
     Ok(())
 }
 
-/// What the lines come to, one after another. Tells of each that was answered. Fails with `NoMemory` where memory ran out for the answers, before the
-/// first line.
+/// What the lines come to, one after another. Tells of each that was answered. Fails with `NoMemory` where memory ran
+/// out for the answers, before the first line.
 pub(crate) fn play_all<C: NodeCore, B: Bell, P: Watch, R: Wait + SystemClock>(
     rt: &R,
     alloc: Global,
@@ -97,6 +97,7 @@ pub(crate) fn play_all<C: NodeCore, B: Bell, P: Watch, R: Wait + SystemClock>(
     for line in lines {
         let answer = play(rt, scheme, desks, seats, line, watch);
         push(&mut answers, answer)?;
+        tell_committed(rt, desks, watch);
         watch.answered();
     }
     Ok(answers)

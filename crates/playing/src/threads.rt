@@ -255,8 +255,8 @@ where
 
 /// Makes a desk of each node's state, and runs the nodes in threads of their own while the script's lines are ordered
 /// and asked one after another; then stops all nodes, and returns once their threads have ended. The first line waits
-/// for all threads to begin. The watch is told of each line. Each order and each question is answered once all records are committed that the node's
-/// journal had then.
+/// for all threads to begin. The watch is told of each line. Each order and each question is answered once all records
+/// are committed that the node's journal had then.
 ///
 /// # Errors
 ///

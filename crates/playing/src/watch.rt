@@ -1,20 +1,34 @@
 //! Who is told how far a script has come.
 
+use desk::{Bell, Desk};
+use protocol::NodeCore;
+use std::sync::Wait;
+
 /// What is told while a script is played. It changes nothing of what comes of the script.
 pub trait Watch {
     /// One more line was answered.
     fn answered(&mut self);
 
-    /// A line waits for its answer. It is told again and again.
-    fn waiting(&mut self);
+    /// Whether it wants to be told of committed records now. It is asked at each line, and again and again while one
+    /// waits for its answer.
+    fn is_due(&mut self) -> bool;
+
+    /// All nodes together have committed this many records, those of the opening included.
+    fn committed(&mut self, records: usize);
 }
 
-/// Nobody, who is told nothing.
-#[derive(Clone, Copy, Debug)]
-pub struct Nobody;
-
-impl Watch for Nobody {
-    fn answered(&mut self) {}
-
-    fn waiting(&mut self) {}
+/// Tells how many records the nodes have committed, where that is due.
+pub(crate) fn tell_committed<C: NodeCore, B: Bell, P: Watch, R: Wait>(
+    rt: &R,
+    desks: &[Desk<C, B>],
+    watch: &mut P,
+) {
+    if !watch.is_due() {
+        return;
+    }
+    let mut records: usize = 0;
+    for desk in desks {
+        records = records.saturating_add(desk.committed_count(rt));
+    }
+    watch.committed(records);
 }

@@ -1,13 +1,17 @@
 -- Nodes that are settled, one after another.
-use Rattle.std.proofs.Common.{◌≡◌, ◌∙◌, ◌<◌, ◌+◌, ℕ, List, get_or, length, map, Some, inl, inr, sym, ap, subst, arith}
+use Rattle.std.proofs.Common.{◌≡◌, ◌∙◌, ◌<◌, ◌+◌, ◌++◌, ◌∷◌, [], ℕ, List, get_or, length, map, take, Some, inl, inr, sym, ap, subst, arith}
 use Rattle.std.specs.Prelude.{slice_get}
 use Rattle.std.proofs.lemmas.Bool.{cases_lt}
+use Rattle.std.proofs.lemmas.List.{map-append, take_more}
 use Rattle.units.specs.declared.code.Node.{Node}
 use Rattle.scheme.specs.declared.registries.Scheme.{Scheme}
 use Rattle.lemmas.proofs.OneValue.{one_some}
 use Rattle.protocol.specs.Registries.{nodes}
 use Rattle.desk.specs.Settling.{IsSettled}
-use Rattle.desk.specs.Views.{Held, Heard}
+use Rattle.desk.specs.Views.{Held, Heard, committed_records}
+use Rattle.wire.specs.declared.input.Input.{Input as Record}
+use Rattle.world.specs.Cores.{journal_of}
+use Rattle.world.specs.declared.any_core.Core.{Core}
 use Rattle.inputs.specs.declared.fault.OpFault.{OpFault}
 use Rattle.inputs.specs.declared.fault.OpFault.TheVariants.{Input, Read, Write, Store, Stuck, Unsettled, NoMemory}
 use Rattle.weave.proofs.Lists.{image_at}
@@ -75,3 +79,13 @@ module _ (scheme : Scheme) (helds : List Held) (seats : List (List Heard)) where
   of_weaving Read settled h = absurd h
   of_weaving (Write count) settled h = absurd h
   of_weaving (Store told fault) settled h = absurd h
+
+-- the core of one node more has its committed records
+pub journals_more : (cores : List Core) (core : Core) (helds : List Held) (at : ℕ) (held : Held) → at < length helds → held ≡ get_or helds at held → map journal_of cores ≡ map committed_records (take at helds) → journal_of core ≡ committed_records held
+    → map journal_of (cores ++ core ∷ []) ≡ map committed_records (take (at + 1) helds)
+journals_more cores core helds at held below is first here =
+    map-append journal_of cores (core ∷ [])
+    ∙ ap (λ (l : List (List Record)). l ++ journal_of core ∷ []) first
+    ∙ ap (λ (js : List Record). map committed_records (take at helds) ++ js ∷ []) (here ∙ ap committed_records is)
+    ∙ sym (map-append committed_records (take at helds) (get_or helds at held ∷ []))
+    ∙ ap (map committed_records) (sym (take_more helds at held below))

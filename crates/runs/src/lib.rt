@@ -4,7 +4,9 @@
 mod gathering;
 mod reporting;
 mod running;
+mod watch;
 
-pub use playing::{Loaded, Network, Nobody, Watch};
+pub use playing::{Loaded, Network, Watch};
 pub use reporting::report_run;
 pub use running::run_script;
+pub use watch::Nobody;

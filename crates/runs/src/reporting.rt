@@ -1,77 +1,132 @@
 //! The table of a run with threads, from its states and from what its threads were told.
-ghost use Rattle.std.specs.Prelude.{◌≡◌, ◌<◌, ◌++◌, ℕ, List, length, map, IfErr, IfOk, OnOk, string_bytes};
+ghost use Rattle.std.specs.Prelude.{◌≡◌, ◌<◌, ◌++◌, [], ℕ, All, List, length, map, IfErr, IfOk, OnOk, string_bytes};
 ghost use Rattle.std.specs.Io.KnownBytes.{Appends};
 ghost use Rattle.protocol.specs.Registries.{nodes};
 ghost use Rattle.desk.specs.Settling.{IsSettled};
 ghost use Rattle.desk.specs.Views.{committed_records};
 ghost use Rattle.runs.specs.Runs.{FailsToReport, IsReported, IsTableFault};
 ghost use Rattle.runs.specs.Settled.{AreSettled, FailsToSettle, FailsToSettleAt};
+ghost use Rattle.world.specs.Cores.{journal_of, node_of, scheme_of};
 
-use audit::table_of;
+use audit::table_of_cores;
 use desk::{Seat, State, Unsettled, settle_with};
 use inputs::{OpFault, write_out};
-use protocol::nodes_of;
+use protocol::{NodeCore, nodes_of};
 use scheme::Scheme;
 use std::alloc::Global;
 use std::io::Write;
 use units::Node;
+use weave::{Nobody, Watch};
 use world::Core;
 
-/// Settles a node under the scheme.
+/// Settles a node under the scheme. Returns its core, with the committed records.
 fn settle_node(
     alloc: Global,
     scheme: &Scheme,
     node: Node,
     state: &State<Core>,
     seats: &[Seat],
-) -> Result<(), OpFault>
+) -> Result<Core, OpFault>
     ensures ok { OnOk result (IsSettled scheme.now node state.now seats.now) }
+    ensures scheme { IfOk result (λ core. scheme_of core ≡ scheme.now) }
+    ensures node { IfOk result (λ core. node_of core ≡ node) }
+    ensures journal { IfOk result (λ core. journal_of core ≡ committed_records state.now) }
     ensures err { IfErr result (FailsToSettleAt scheme.now node state.now seats.now) }
 {
     let core = Core::new(alloc, scheme, node)?;
     match settle_with(core, state, seats) {
-        Ok(_) => Ok(()),
+        Ok(settled) => Ok(settled.core),
         Err(Unsettled::NoMemory) => Err(OpFault::NoMemory),
         Err(_) => Err(OpFault::Unsettled { node }),
     }
 }
 
-/// Settles all nodes: the log, then the registries in the scheme's order.
-pub(crate) fn settle_all(
+/// Settles each of these nodes, which are all, and adds its core where there are none. Tells how many records each has.
+fn add_settled<P: Watch>(
+    cores: &mut Vec<Core>,
     alloc: Global,
     scheme: &Scheme,
+    names: &[Node],
     states: &[State<Core>],
     seats: &[Vec<Seat>],
+    watch: &mut P,
 ) -> Result<(), OpFault>
+    requires empty { cores.old.items ≡ [] }
+    requires all { names.now ≡ nodes scheme.now }
     requires states { length states.now ≡ length (nodes scheme.now) }
     requires seats { length seats.now ≡ length (nodes scheme.now) }
     ensures ok { OnOk result (AreSettled scheme.now states.now (map (λ v. v.items) seats.now)) }
+    ensures nodes { OnOk result (map node_of cores.new.items ≡ nodes scheme.now) }
+    ensures schemes { OnOk result (All (λ core. scheme_of core ≡ scheme.now) cores.new.items) }
+    ensures journals { OnOk result (map journal_of cores.new.items ≡ map committed_records states.now) }
     ensures err { IfErr result (FailsToSettle scheme.now states.now (map (λ v. v.items) seats.now)) }
 {
-    let names = nodes_of(alloc, scheme)?;
     for at in 0..states.len() {
+        if cores.reserve(1).is_err() {
+            return Err(OpFault::NoMemory);
+        }
         match settle_node(alloc, scheme, names[at], &states[at], seats[at].as_slice()) {
-            Ok(()) => {}
+            Ok(core) => {
+                watch.read(core.records());
+                cores.push_reserved(core);
+            }
             Err(fault) => return Err(fault),
         }
     }
     Ok(())
 }
 
-/// The table, where all nodes are settled.
-pub(crate) fn report_of(
+/// Settles all nodes: the log, then the registries in the scheme's order. Returns their cores, with the committed
+/// records, of which it tells.
+fn settle_all<P: Watch>(
     alloc: Global,
     scheme: &Scheme,
     states: &[State<Core>],
     seats: &[Vec<Seat>],
+    watch: &mut P,
+) -> Result<Vec<Core>, OpFault>
+    requires states { length states.now ≡ length (nodes scheme.now) }
+    requires seats { length seats.now ≡ length (nodes scheme.now) }
+    ensures ok { OnOk result (AreSettled scheme.now states.now (map (λ v. v.items) seats.now)) }
+    ensures nodes { IfOk result (λ v. map node_of v.items ≡ nodes scheme.now) }
+    ensures schemes { IfOk result (λ v. All (λ core. scheme_of core ≡ scheme.now) v.items) }
+    ensures journals { IfOk result (λ v. map journal_of v.items ≡ map committed_records states.now) }
+    ensures err { IfErr result (FailsToSettle scheme.now states.now (map (λ v. v.items) seats.now)) }
+{
+    let names = nodes_of(alloc, scheme)?;
+    let mut cores = Vec::new(alloc);
+    match add_settled(
+        &mut cores,
+        alloc,
+        scheme,
+        names.as_slice(),
+        states,
+        seats,
+        watch,
+    ) {
+        Ok(()) => Ok(cores),
+        Err(fault) => {
+            drop(cores);
+            Err(fault)
+        }
+    }
+}
+
+/// The table, where all nodes are settled. Tells of the records as they are settled and woven.
+pub(crate) fn report_of<P: Watch>(
+    alloc: Global,
+    scheme: &Scheme,
+    states: &[State<Core>],
+    seats: &[Vec<Seat>],
+    watch: &mut P,
 ) -> Result<String, OpFault>
     requires states { length states.now ≡ length (nodes scheme.now) }
     requires seats { length seats.now ≡ length (nodes scheme.now) }
     ensures ok { IfOk result (λ s. IsReported scheme.now states.now (map (λ v. v.items) seats.now) (string_bytes s)) }
     ensures err { IfErr result (IsTableFault scheme.now states.now (map (λ v. v.items) seats.now)) }
 {
-    match settle_all(alloc, scheme, states, seats) {
-        Ok(()) => table_of(alloc, scheme, states),
+    match settle_all(alloc, scheme, states, seats, watch) {
+        Ok(cores) => table_of_cores(alloc, scheme, cores, watch),
         Err(fault) => Err(fault),
     }
 }
@@ -104,7 +159,7 @@ pub fn report_run<W: Write>(
     ensures ok { OnOk result ((table : List ℕ) × IsReported scheme.now states.now (map (λ v. v.items) seats.now) table × Appends (W.contents writer.old) (W.contents writer.new) table) }
     ensures err { IfErr result (λ e. FailsToReport e scheme.now states.now (map (λ v. v.items) seats.now) (W.contents writer.old) (W.contents writer.new)) }
 {
-    match report_of(alloc, scheme, states, seats) {
+    match report_of(alloc, scheme, states, seats, &mut Nobody) {
         Ok(table) => write_out(writer, table.as_str()),
         Err(fault) => Err(fault),
     }

@@ -86,12 +86,13 @@ fn gather_checked<S: Drop>(
 }
 
 /// The answers, and then the table of these states.
-fn with_table(
+fn with_table<P: weave::Watch>(
     alloc: Global,
     scheme: &Scheme,
     states: &[State<Core>],
     seats: &[Vec<Seat>],
     answers: &str,
+    watch: &mut P,
 ) -> Result<String, OpFault>
     requires states { length states.now ≡ length (nodes scheme.now) }
     requires seats { length seats.now ≡ length (nodes scheme.now) }
@@ -101,7 +102,7 @@ fn with_table(
         → answers.now ≡ answer_lines 1 told → IsRunReport scheme.now lines (string_bytes s)) }
     ensures err { IfErr result IsLateFault }
 {
-    match report_of(alloc, scheme, states, seats) {
+    match report_of(alloc, scheme, states, seats, watch) {
         Ok(table) => Ok(joined(alloc, answers, table.as_str())?),
         Err(fault) => Err(fault),
     }
@@ -115,13 +116,14 @@ struct Whole<S> {
 }
 
 /// The answers, and then the table of what the nodes have committed.
-fn whole_of<S: Drop>(
+fn whole_of<S: Drop, P: weave::Watch>(
     alloc: Global,
     scheme: &Scheme,
     desks: Vec<Desk<Core, RoomBell>>,
     ends: Ends<S>,
     seats: Vec<Seat>,
     answers: &str,
+    watch: &mut P,
 ) -> Result<Whole<S>, OpFault>
     requires desks { vec_len desks ≡ length (nodes scheme.now) }
     requires seats { vec_len seats ≡ length (nodes scheme.now) }
@@ -148,7 +150,9 @@ fn whole_of<S: Drop>(
         states.as_slice(),
         gathered.seats.as_slice(),
         answers,
+        watch,
     );
+    watch.finished();
     drop(states);
     let Gathered {
         seats,
@@ -166,7 +170,7 @@ fn whole_of<S: Drop>(
 }
 
 /// Writes what a run came to: the answers in any case, and then the table or the fault. Returns the stores of the nodes.
-fn write_run<S: Drop, W: Write>(
+fn write_run<S: Drop, W: Write, P: weave::Watch>(
     alloc: Global,
     scheme: &Scheme,
     desks: Vec<Desk<Core, RoomBell>>,
@@ -174,6 +178,7 @@ fn write_run<S: Drop, W: Write>(
     played: Played,
     lines: &[ScriptLine],
     writer: &mut W,
+    watch: &mut P,
 ) -> Result<Vec<S>, OpFault>
     requires desks { vec_len desks ≡ length (nodes scheme.now) }
     requires seats { vec_len played.seats ≡ length (nodes scheme.now) }
@@ -186,7 +191,7 @@ fn write_run<S: Drop, W: Write>(
     let Ok(text) = lines_of(alloc, answers.as_slice()) else {
         return Err(OpFault::NoMemory);
     };
-    match whole_of(alloc, scheme, desks, ends, seats, text.as_str()) {
+    match whole_of(alloc, scheme, desks, ends, seats, text.as_str(), watch) {
         Ok(Whole { text, stores }) => match write_out(writer, text.as_str()) {
             Ok(()) => Ok(stores),
             Err(unwritten) => {
@@ -206,7 +211,8 @@ fn write_run<S: Drop, W: Write>(
 /// then. Writes the answers, a line each, and then the table of a run that leads to what all nodes have committed: of
 /// the world that the protocol's own steps lead to, whatever sockets and threads did.
 ///
-/// The states are those that the stores' records lead to. The watch is told of the script's lines. Returns the stores, each as its node left it.
+/// The states are those that the stores' records lead to. The watch is told of the script's lines, and afterwards of the
+/// records as they are settled and woven. Returns the stores, each as its node left it.
 ///
 /// # Errors
 ///
@@ -235,7 +241,7 @@ where
     K: Clock + Sync,
     G: Gate + Sync,
     W: Write,
-    P: Watch,
+    P: Watch + weave::Watch,
     R: Threads + Wait + SystemClock + Sync,
     requires states { vec_len loaded.states ≡ length (nodes scheme.now) }
     requires stores { vec_len loaded.stores ≡ length (nodes scheme.now) }
@@ -257,5 +263,5 @@ where
             return Err(OpFault::NoMemory);
         }
     };
-    write_run(alloc, scheme, desks, ends, played, lines, writer)
+    write_run(alloc, scheme, desks, ends, played, lines, writer, watch)
 }

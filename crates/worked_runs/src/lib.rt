@@ -61,4 +61,6 @@ mod threaded_run;
 #[cfg(test)]
 mod waits;
 #[cfg(test)]
+mod watched_run;
+#[cfg(test)]
 mod weave_rows;

@@ -48,6 +48,26 @@ where
         + Abort
         + Sync,
 {
+    played_watched(rt, alloc, stores, script, &mut runs::Nobody)
+}
+
+/// The same, where the watch is told how far the run is.
+pub fn played_watched<P, R>(
+    rt: &R,
+    alloc: Global,
+    stores: [MemoryStore; 3],
+    script: &str,
+    watch: &mut P,
+) -> (Result<(), OpFault>, Vec<u8>)
+where
+    P: runs::Watch + weave::Watch,
+    R: Threads
+        + Wait
+        + SystemClock
+        + Net<Listener = TcpListener, Stream = TcpStream>
+        + Abort
+        + Sync,
+{
     let scheme = worked_scheme(rt, alloc);
     let lines = lines_of(rt, alloc, script);
     let mut stores = Vec::from_array(alloc, stores).expect(rt, "memory");
@@ -70,7 +90,7 @@ where
         Loaded { states, stores },
         &network,
         &mut written,
-        &mut runs::Nobody,
+        watch,
     );
     drop(dial);
     drop(listeners);

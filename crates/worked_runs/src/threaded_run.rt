@@ -2,7 +2,7 @@ use crate::nodes::{new_stores, played};
 use crate::same::assert_same;
 
 /// One transfer from NZ to JP.
-const SCRIPT: &str = "\
+pub const SCRIPT: &str = "\
 propose NZ 1 JP 7 NZ:1:1-100:AAU
 until NZ NZ1 Completed 10000
 until ITL NZ1 Completed 10000

@@ -3,6 +3,8 @@
 #![tactic(auto)]
 
 #[cfg(test)]
+mod checkpoint_rows;
+#[cfg(test)]
 mod cut_rows;
 #[cfg(test)]
 mod driving;

@@ -122,7 +122,7 @@ kept_others scheme bag p (s ∷ ss) differ k =
     All-cons (IsKept scheme (bag ++ p ∷ [])) s ss (kept_other scheme bag p s differ.0 (All-head (IsKept scheme bag) s ss k))
     (kept_others scheme bag p ss differ.1 (All-tail (IsKept scheme bag) s ss k))
 
-not_same : (a b : Node) → same_node a b ≡ false → same_node b a ≡ false
+pub not_same : (a b : Node) → same_node a b ≡ false → same_node b a ≡ false
 not_same a b e =
     elim (cases_Bool (same_node b a)) [
       | inl y ↦ absurd (clash (sym e ∙ ap (λ x. same_node a x) (node_of_same b a y) ∙ same_node-refl a))

@@ -9,3 +9,4 @@ pub mod PlacedStations
 pub mod RegistriesInWorlds
 pub mod GrowingViews
 pub mod Uncommitted
+pub mod CoresOfWorlds

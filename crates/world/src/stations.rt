@@ -71,6 +71,17 @@ pub(crate) fn opening_stations(alloc: Global, scheme: &Scheme) -> Result<Vec<Sta
     }
 }
 
+/// The cores of the stations, in their order.
+pub(crate) fn cores_of(alloc: Global, stations: Vec<Station>) -> Result<Vec<Core>, NoMemory>
+    ensures { IfOk result (λ v. v.items ≡ map (λ s. s.core) stations.items) }
+{
+    let mut cores = Vec::new(alloc);
+    for station in stations {
+        cores.push(station.core)?;
+    }
+    Ok(cores)
+}
+
 /// The stations of these cores, each of which has committed and posted nothing.
 pub(crate) fn uncommitted_stations(
     alloc: Global,

@@ -6,14 +6,14 @@ ghost use Rattle.protocol.specs.Claims.{DeliversWelcome, committed_of, live_of};
 ghost use Rattle.protocol.specs.Headline.{IsSafe};
 ghost use Rattle.protocol.specs.Owner.{OwnersMove};
 ghost use Rattle.protocol.specs.WayOut.{WayOut};
-ghost use Rattle.protocol.specs.World.{at_node, is_order, is_registry, opening, run, sent, station, step, take_input, was_posted};
+ghost use Rattle.protocol.specs.World.{at_node, is_order, is_registry, journal, opening, run, sent, station, step, take_input, was_posted};
 ghost use Rattle.protocol.specs.declared.event.WorldEvent.{WorldEvent};
-ghost use Rattle.world.specs.Cores.{node_of, scheme_of};
+ghost use Rattle.world.specs.Cores.{journal_of, node_of, scheme_of};
 ghost use Rattle.world.specs.Stations.{uncommitted};
 
 use crate::any_core::Core;
 use crate::station::Station;
-use crate::stations::{opening_stations, uncommitted_stations};
+use crate::stations::{cores_of, opening_stations, uncommitted_stations};
 use protocol::{Outcome, Posted, WorldEvent, place_of};
 use scheme::Scheme;
 use status::Moment;
@@ -104,6 +104,24 @@ impl World {
             stations,
             bag: Vec::new(alloc),
         })
+    }
+
+    /// The cores of all nodes, each with its journal and the tail: the log's, then those of the registries in the
+    /// scheme's order. Or `NoMemory`; the world is gone then too.
+    pub fn into_cores(self) -> Result<Vec<Core>, NoMemory>
+        ensures stations { map (λ s. s.node) self.stations ≡ nodes self.scheme }
+        ensures nodes { IfOk result (λ v. map node_of v.items ≡ nodes self.scheme) }
+        ensures journals { IfOk result (λ v. map journal_of v.items ≡ map journal self.stations) }
+    {
+        let World {
+            alloc,
+            scheme,
+            stations,
+            bag,
+        } = self;
+        drop(scheme);
+        drop(bag);
+        cores_of(alloc, stations)
     }
 
     /// Whether the node posted the message with that key.

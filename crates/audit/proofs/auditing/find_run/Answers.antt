@@ -1,14 +1,13 @@
-use Rattle.std.proofs.Common.{◌∙◌, Bor, List, map, ap, subst}
-use Rattle.wire.specs.declared.input.Input.{Input}
-use Rattle.desk.specs.Views.{committed_records}
-use Rattle.weave.specs.Following.{IsWeaveFault, journal_of}
-use Rattle.audit.proofs.Tables.{fails_to_weave}
+use Rattle.std.proofs.Common.{◌∙◌, List, length, map, sym, ap}
+use Rattle.std.proofs.lemmas.List.{length-map}
+use Rattle.units.specs.declared.code.Node.{Node}
+use Rattle.world.specs.Cores as node_cores
 use Rattle.audit.proofs.auditing.find_run.Goals as goal
 
+pub returns-clause-journals : goal.returns-clause-journals
+returns-clause-journals g c =
+    let count = length-map c.args.cores.items node_cores.journal_of ∙ sym (length-map c.args.cores.items node_cores.node_of) ∙ ap (λ (l : List Node). length l) c.requires.nodes in
+    c.cores_of_woven.ensures.journals c.args.scheme.now (map node_cores.journal_of c.args.cores.items) count c.weave_cores.ensures.ok
+
 pub returns-clause-err : goal.returns-clause-err
-returns-clause-err c =
-    let scheme = c.args.scheme.now in
-    let same = ap (map (λ (j : Bor (List Input)). j.now)) c.as_slice.ensures.value ∙ c.in_ok-journals.ensures in
-    rw c.fault_of.ensures
-    (fails_to_weave scheme (map committed_records c.args.states.now) c.in-Err.fault
-    (subst (λ (js : List (List Input)). IsWeaveFault scheme (journal_of scheme js) c.in-Err.fault) same c.in-Err.ensures.err))
+returns-clause-err g c = c.cores_of_woven.ensures.err c.args.scheme.now (map node_cores.journal_of c.args.cores.items) c.weave_cores.ensures.err

@@ -5,8 +5,8 @@ use Rattle.scheme.specs.declared.registries.Scheme.{Scheme}
 use Rattle.desk.specs.Settling.{Bears}
 use Rattle.desk.proofs.judging.unborne_of.Goals as goal
 
-pub returns-then-not-branch : goal.returns-then-not-branch
-returns-then-not-branch g c =
+pub returns-then-not-branch-clause-found : goal.returns-then-not-branch-clause-found
+returns-then-not-branch-clause-found g c =
     let note = c.note-item.result.now in
     let journal = c.args.journal.now in
     let now = c.loop-note.core in (
@@ -17,7 +17,7 @@ returns-then-not-branch g c =
       (
         refl,
         λ bears.
-            let first = subst (λ (s : Scheme). Bears s (g.C.NodeCore.node_of c.args.core) journal note) (sym c.loop-note.invariant.scheme) bears in
+            let first = subst (λ (s : Scheme). Bears s (g.C.NodeCore.node_of c.args.core.now) journal note) (sym c.loop-note.invariant.scheme) bears in
             let both = subst (λ (n : Node). Bears (g.C.NodeCore.scheme_of now) n journal note) (sym c.loop-note.invariant.node) first in
             true≢false (sym (c.in_ok-is_borne.ensures.borne.1 both) ∙ c.if-not-branch.true),
       ),

@@ -5,8 +5,8 @@ use Rattle.desk.proofs.judging.unborne_of.Given as goal
 
 abbrev pub invariant-loop-note : goal.invariant-loop-note
 invariant-loop-note g l = record {
-  scheme : g.C.NodeCore.scheme_of l.core ≡ g.C.NodeCore.scheme_of l.fn.core;
-  node : g.C.NodeCore.node_of l.core ≡ g.C.NodeCore.node_of l.fn.core;
+  scheme : g.C.NodeCore.scheme_of l.core ≡ g.C.NodeCore.scheme_of l.initial.core;
+  node : g.C.NodeCore.node_of l.core ≡ g.C.NodeCore.node_of l.initial.core;
   front : g.C.NodeCore.journal_of l.core ≡ take (length (g.C.NodeCore.journal_of l.core)) l.journal;
-  borne : AllWithin (λ note. Bears (g.C.NodeCore.scheme_of l.fn.core) (g.C.NodeCore.node_of l.fn.core) l.journal note.now) l.notes 0 l.note-index;
+  borne : AllWithin (λ note. Bears (g.C.NodeCore.scheme_of l.initial.core) (g.C.NodeCore.node_of l.initial.core) l.journal note.now) l.notes 0 l.note-index;
 }

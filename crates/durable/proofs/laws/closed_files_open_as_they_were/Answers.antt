@@ -1,6 +1,6 @@
 use Rattle.std.proofs.Common.{◌≡◌, ◌∙◌}
 use Rattle.std.proofs.Math.Logic.{∥∥₁_map}
-use Rattle.durable.specs.Held.{slots_in, node_in, IsStore}
+use Rattle.store_tables.specs.Held.{slots_in, node_in, IsStore}
 use Rattle.durable.specs.Stores.{content, owner}
 use Rattle.durable.proofs.OpenedAs.{opened_newest}
 use Rattle.durable.proofs.Promises.{found_held}

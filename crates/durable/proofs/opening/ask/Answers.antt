@@ -1,5 +1,5 @@
 use Rattle.sqlite.specs.Held.{state}
-use Rattle.durable.proofs.Steps.{was_clean}
+use Rattle.store_tables.proofs.Steps.{was_clean}
 use Rattle.durable.proofs.Opened.{asked_same, asked_crash}
 use Rattle.durable.proofs.opening.ask.Goals as goal
 

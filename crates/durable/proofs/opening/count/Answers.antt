@@ -1,7 +1,7 @@
 use Rattle.std.proofs.Common.{◌≡◌, subst, sym, ◌∙◌, length, to_z, of_z, w64, rules}
 use Rattle.sqlite.specs.Held.{state}
-use Rattle.durable.specs.Tables.{entry_rows}
-use Rattle.durable.specs.Slots.{slots_from}
+use Rattle.store_tables.specs.Tables.{entry_rows}
+use Rattle.store_tables.specs.Slots.{slots_from}
 use Rattle.durable.proofs.Verdicts.{IsCount, places_counted, end_of_store}
 use Rattle.durable.proofs.opening.count.Goals as goal
 

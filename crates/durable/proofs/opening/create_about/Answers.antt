@@ -1,5 +1,5 @@
 use Rattle.sqlite.specs.Held.{state}
-use Rattle.durable.proofs.Steps.{was_clean}
+use Rattle.store_tables.proofs.Steps.{was_clean}
 use Rattle.durable.proofs.Opened.{about_ok}
 use Rattle.durable.proofs.opening.create_about.Goals as goal
 

@@ -1,9 +1,10 @@
 use Rattle.std.proofs.Common.{◌≡◌}
 use Rattle.sqlite.specs.Held.{state}
 use Rattle.sqlite.specs.State.{HasCleanDisk, State}
-use Rattle.durable.specs.Opening.{IsWithin, IsEmpty}
-use Rattle.durable.specs.Tables.{AboutFirst, store_schema}
-use Rattle.durable.proofs.Steps.{was_clean}
+use Rattle.durable.specs.Opening.{IsEmpty}
+use Rattle.store_tables.specs.Within.{IsWithin}
+use Rattle.store_tables.specs.Tables.{AboutFirst, store_schema}
+use Rattle.store_tables.proofs.Steps.{was_clean}
 use Rattle.durable.proofs.Opened.{entries_ok}
 use Rattle.durable.proofs.opening.create_entries.Goals as goal
 

@@ -1,6 +1,6 @@
 use Rattle.std.proofs.Common.{subst}
 use Rattle.sqlite.specs.Held.{state}
-use Rattle.durable.specs.OwnerRow.{IsOwnerIn}
+use Rattle.store_tables.specs.OwnerRow.{IsOwnerIn}
 use Rattle.durable.proofs.OpeningTexts.{owner_plain}
 use Rattle.durable.proofs.Opened.{owner_found}
 use Rattle.durable.proofs.opening.find_owner.Goals as goal

@@ -1,7 +1,7 @@
 use Rattle.std.proofs.Common.{IfOk, true, subst}
 use Rattle.std.proofs.lemmas.Result.{IfOk-weaker}
 use Rattle.sqlite.specs.Held.{state}
-use Rattle.durable.specs.OwnerRow.{IsPlaceIn}
+use Rattle.store_tables.specs.OwnerRow.{IsPlaceIn}
 use Rattle.durable.specs.Opening.{HasLeastOrGreatest}
 use Rattle.durable.proofs.OpeningTexts.{greatest_plain}
 use Rattle.durable.proofs.Opened.{greatest_found}

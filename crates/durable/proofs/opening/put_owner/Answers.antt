@@ -3,9 +3,10 @@ use Rattle.sqlite.specs.declared.types.Value.TheVariants.{Int, Text}
 use Rattle.sqlite.specs.Held.{state}
 use Rattle.sqlite.specs.State.{HasCleanDisk, State}
 use Rattle.wire.specs.Records.{number_of}
-use Rattle.durable.specs.Formats.{newest}
-use Rattle.durable.specs.Opening.{IsWithin, HasFresh}
-use Rattle.durable.proofs.Steps.{was_clean}
+use Rattle.store_tables.specs.Formats.{newest}
+use Rattle.durable.specs.Opening.{HasFresh}
+use Rattle.store_tables.specs.Within.{IsWithin}
+use Rattle.store_tables.proofs.Steps.{was_clean}
 use Rattle.durable.proofs.Opened.{owner_ok}
 use Rattle.durable.proofs.opening.put_owner.Goals as goal
 

@@ -6,8 +6,8 @@ use Rattle.sqlite_wal.specs.Reads.{AreClean}
 use Rattle.units.specs.Code.{node_text}
 use Rattle.durable.specs.Backing.{IsFound, Hold}
 use Rattle.durable.specs.Connected as connected
-use Rattle.durable.specs.Held.{node_in}
-use Rattle.durable.specs.Migrating.{IsOpenedAs}
+use Rattle.store_tables.specs.Held.{node_in}
+use Rattle.store_tables.specs.Migrating.{IsOpenedAs}
 use Rattle.durable.specs.Opening.{IsOpeningFault}
 use Rattle.durable.specs.Refusals.{IsRefusal, IsUnharmed}
 use Rattle.stores.specs.Faults.{is_judgement}

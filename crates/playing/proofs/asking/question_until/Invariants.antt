@@ -4,6 +4,6 @@ use Rattle.playing.proofs.asking.question_until.Given as goal
 
 abbrev pub invariant-loop : goal.invariant-loop
 invariant-loop g l = record {
-  heard : HasHeard l.seat (Query l.id) l.told;
+  heard : HasHeard l.seat (Query l.awaited.id) l.told;
   grows : Grows l.initial.seat l.seat;
 }

@@ -1,14 +1,23 @@
-use Rattle.std.proofs.Common.{map}
+use Rattle.std.proofs.Common.{List, map, string_bytes, subst}
+use Rattle.wire.specs.declared.input.Input.{Input}
+use Rattle.audit.specs.Audits.{FailsToWeave, IsAuditTable}
 use Rattle.runs.proofs.Settling.{of_settling, of_weaving}
 use Rattle.runs.proofs.Written.{if_err, if_ok}
 use Rattle.runs.proofs.reporting.report_of.Goals as goal
 
 pub returns-in-Ok-clause-ok : goal.returns-in-Ok-clause-ok
-returns-in-Ok-clause-ok c = if_ok c.table_of.result (λ s is. record { settled = c.in-Ok.ensures.ok; is_table = is }) c.table_of.ensures.ok
+returns-in-Ok-clause-ok g c =
+    let committed = c.in-Ok.ensures.journals in
+    if_ok c.table_of_cores.result
+    (λ s is. record { settled = c.in-Ok.ensures.ok; is_table = subst (λ (js : List (List Input)). IsAuditTable c.args.scheme.now js (string_bytes s)) committed is })
+    c.table_of_cores.ensures.ok
 
 pub returns-in-Ok-clause-err : goal.returns-in-Ok-clause-err
-returns-in-Ok-clause-err c =
-    if_err c.table_of.result (λ e h. of_weaving c.args.scheme.now c.args.states.now (map (λ v. v.items) c.args.seats.now) e c.in-Ok.ensures.ok h) c.table_of.ensures.err
+returns-in-Ok-clause-err g c =
+    let committed = c.in-Ok.ensures.journals in
+    if_err c.table_of_cores.result
+    (λ e h. of_weaving c.args.scheme.now c.args.states.now (map (λ v. v.items) c.args.seats.now) e c.in-Ok.ensures.ok (subst (λ (js : List (List Input)). FailsToWeave c.args.scheme.now js e) committed h))
+    c.table_of_cores.ensures.err
 
 pub returns-in-Err-clause-err : goal.returns-in-Err-clause-err
-returns-in-Err-clause-err c = of_settling c.args.scheme.now c.args.states.now (map (λ v. v.items) c.args.seats.now) c.in-Err.fault c.in-Err.ensures.err
+returns-in-Err-clause-err g c = of_settling c.args.scheme.now c.args.states.now (map (λ v. v.items) c.args.seats.now) c.in-Err.fault c.in-Err.ensures.err

@@ -6,10 +6,10 @@ use Rattle.wire.specs.Records.{record_text}
 use Rattle.wire.specs.declared.input.Input.{Input}
 use Rattle.stores.specs.Bodies.{items}
 use Rattle.durable.specs.Connected.{content}
-use Rattle.durable.specs.Held.{followed_by}
+use Rattle.store_tables.specs.Held.{followed_by}
 use Rattle.stores.specs.Records.{Places, written}
-use Rattle.durable.specs.Rooms.{HasNoRoom}
-use Rattle.durable.proofs.NoRoom.{bodies_of}
+use Rattle.store_tables.specs.Rooms.{HasNoRoom}
+use Rattle.store_tables.proofs.NoRoom.{bodies_of}
 use Rattle.durable.proofs.open_store.OpenStore.append.Goals as goal
 
 pub returns-clause-appends : goal.returns-clause-appends

@@ -4,12 +4,12 @@ use Rattle.sqlite.specs.Held.{state}
 use Rattle.wire.specs.declared.input.Input.{Input}
 use Rattle.durable.specs.Connected.{content, IsCounted}
 use Rattle.stores.specs.Records.{Places, AreRecords, IsDamagedAt}
-use Rattle.durable.specs.Pages.{rows_within}
+use Rattle.store_tables.specs.Pages.{rows_within}
 use Rattle.stores.specs.Records.{unbroken}
-use Rattle.durable.specs.Tables.{entry_rows}
+use Rattle.store_tables.specs.Tables.{entry_rows}
 use Rattle.stores.specs.declared.fault.StoreFault.{StoreFault}
 use Rattle.stores.specs.declared.fault.StoreFault.TheVariants.{Damaged}
-use Rattle.durable.proofs.PlacesRead.{front, as-many}
+use Rattle.store_tables.proofs.PlacesRead.{front, as-many}
 use Rattle.durable.proofs.open_store.OpenStore.records_between.Goals as goal
 
 -- what was found, of every list of places whose front was read, is so of these

@@ -1,7 +1,7 @@
 use Rattle.std.proofs.Common.{◌≡◌, List, ℕ, subst, rules}
 use Rattle.sqlite.specs.Files.{file_state}
 use Rattle.units.specs.Code.{node_text}
-use Rattle.durable.specs.Held.{node_in}
+use Rattle.store_tables.specs.Held.{node_in}
 use Rattle.durable.proofs.sql_store.SqlStore+File.open_path_watched.Goals as goal
 
 pub store_over-requires-clause-opened : goal.store_over-requires-clause-opened

@@ -2,7 +2,7 @@ use Rattle.std.proofs.Common.{sym, subst}
 use Rattle.sqlite.specs.Files.{over_files}
 use Rattle.durable.specs.Connected as connected
 use Rattle.durable.specs.Kept.{content, disk_faults}
-use Rattle.durable.specs.Rooms.{LacksRoom}
+use Rattle.store_tables.specs.Rooms.{LacksRoom}
 use Rattle.durable.proofs.Linked.{linked_appends}
 use Rattle.durable.proofs.store_state.StoreState.append.Goals as goal
 

@@ -1,7 +1,7 @@
 use Rattle.std.proofs.Common.{◌≡◌, false, inr, sym, subst, ◌∙◌}
 use Rattle.std.proofs.lemmas.Bool.{both_ways}
 use Rattle.durable.specs.Backing.{Hold, HoldAlone}
-use Rattle.durable.specs.Held.{slots_in, node_in, IsStore}
+use Rattle.store_tables.specs.Held.{slots_in, node_in, IsStore}
 use Rattle.durable.specs.Kept.{MayHold, content, owner, must_reopen}
 use Rattle.durable.proofs.Closed.{left-closed, kept-closed, holds-closed, alone-closed, is-no-reopen}
 use Rattle.durable.proofs.store_state.StoreState.into_copied_files.Goals as goal

@@ -1,7 +1,7 @@
 use Rattle.std.proofs.Common.{◌≡◌, false, sym, subst}
 use Rattle.sqlite.specs.Files.{file_state}
 use Rattle.durable.specs.Backing.{Hold}
-use Rattle.durable.specs.Held.{slots_in, node_in, IsStore}
+use Rattle.store_tables.specs.Held.{slots_in, node_in, IsStore}
 use Rattle.durable.specs.Kept.{MayHold, content, owner, must_reopen, AreFilesOf}
 use Rattle.durable.proofs.Closed.{left-closed, kept-closed, holds-closed}
 use Rattle.durable.proofs.store_state.StoreState.into_files.Goals as goal

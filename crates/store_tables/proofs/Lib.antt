@@ -1,0 +1,17 @@
+pub mod Texts
+pub mod Checks
+pub mod Orders
+pub mod Places
+pub mod Inserting
+pub mod Steps
+pub mod MigratingTexts
+pub mod Rewritten
+pub mod Rewriting
+pub mod MigratingSteps
+pub mod PageTexts
+pub mod InOrder
+pub mod Stretches
+pub mod Answering
+pub mod Queries
+pub mod NoRoom
+pub mod PlacesRead

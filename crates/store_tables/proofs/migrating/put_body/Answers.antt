@@ -1,0 +1,33 @@
+use Rattle.std.proofs.Common.{ap, [], ◌∷◌, arith}
+use Rattle.std.proofs.lemmas.Int.{ints}
+use Rattle.sqlite.specs.State.{HasCleanDisk, State, KeepsCommit}
+use Rattle.sqlite.specs.Held.{state}
+use Rattle.sqlite.specs.declared.types.Value.TheVariants.{Int, Text}
+use Rattle.wire.specs.declared.record_format.RecordFormat.TheVariants.{One}
+use Rattle.store_tables.specs.Held.{slots_in}
+use Rattle.store_tables.specs.Migrating.{with_body}
+use Rattle.store_tables.proofs.MigratingSteps.{Rewrites, rewritten_inside, body_ok}
+use Rattle.store_tables.proofs.migrating.put_body.Goals as goal
+
+abbrev old : (g : _) → goal.In_ok-execute g → State
+old g c = state g.S.Store c.args.tx.now.conn.now
+
+abbrev new : (g : _) → goal.In_ok-execute g → State
+new g c = state g.S.Store c.execute.new.self.conn.now
+
+it : (g : _) (c : goal.In_ok-execute g) → HasCleanDisk (new g c) → Rewrites One (with_body c.args.place c.args.body.now (slots_in (old g c).now.trees)) (old g c) (new g c) × KeepsCommit (old g c) (new g c)
+it g c =
+    rewritten_inside One One _ _ _ (old g c) (new g c) c.in_ok-execute.field-0 _ c.execute.ensures.survives c.requires.inside c.in_ok-execute.ensures.runs
+    (body_ok One (old g c) (new g c) _ c.args.place c.args.body.now c.in_ok-execute.field-0 (ap (λ z. Int z ∷ Text c.args.body.now ∷ []) (grind (arith, ints, c.requires.small))))
+
+pub returns-clause-inside : goal.returns-clause-inside
+returns-clause-inside g c clean = (it g c clean).0.0
+
+pub returns-clause-put : goal.returns-clause-put
+returns-clause-put g c clean = (it g c clean).0.1
+
+pub returns-clause-schema : goal.returns-clause-schema
+returns-clause-schema g c clean = (it g c clean).0.2
+
+pub returns-clause-kept : goal.returns-clause-kept
+returns-clause-kept g c clean = (it g c clean).1

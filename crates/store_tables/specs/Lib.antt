@@ -1,0 +1,12 @@
+pub mod Tables
+pub mod Slots
+pub mod Formats
+pub mod Held
+pub mod SqlFaults
+pub mod Rooms
+pub mod Pages
+pub mod Layout
+pub mod OwnerRow
+pub mod Rows
+pub mod Within
+pub mod Migrating

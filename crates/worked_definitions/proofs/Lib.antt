@@ -1,0 +1,6 @@
+pub mod ShortNames
+pub mod StatusTables
+pub mod RowsAtLog
+pub mod RowsAtRegistries
+pub mod OrderRefusals
+pub mod AccountOrders

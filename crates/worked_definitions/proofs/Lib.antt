@@ -4,3 +4,5 @@ pub mod RowsAtLog
 pub mod RowsAtRegistries
 pub mod OrderRefusals
 pub mod AccountOrders
+pub mod ThreeRegistries
+pub mod MessageRefusals

@@ -6,3 +6,8 @@ pub mod OrderRefusals
 pub mod AccountOrders
 pub mod ThreeRegistries
 pub mod MessageRefusals
+pub mod Findings
+pub mod ImpossibleEvents
+pub mod Crashes
+pub mod TwoRegistries
+pub mod CanonicalOrders

@@ -1,9 +1,7 @@
 -- Orders about accounts, eligibility, cancellation and acknowledgement: every cause of refusal at once, then one cause
 -- less each time; and what follows closing and opening.
 use Rattle.std.proofs.Common.{◌≡◌, ℕ, true, false, List, [], ◌∷◌, ◌++◌, Some, refl, lit<}
-use Rattle.units.specs.declared.code.Code.{Code}
 use Rattle.units.specs.declared.code.Node.TheVariants.{Itl}
-use Rattle.status.specs.Content.{Content}
 use Rattle.status.specs.declared.id.TransactionId.{TransactionId}
 use Rattle.status.specs.declared.status.Status.{Status}
 use Rattle.status.specs.declared.status.Status.TheVariants.{Accepted, Completed}
@@ -15,7 +13,7 @@ use Rattle.wire.specs.declared.notified.NotifiedStatus.{NotifiedStatus}
 use Rattle.wire.specs.declared.notified.NotifiedStatus.TheVariants as notified
 use Rattle.protocol.specs.Deciding.{IsRefused}
 use Rattle.protocol.specs.History.{Transition, Entry}
-use Rattle.protocol.specs.Verdict.{verdict, history}
+use Rattle.protocol.specs.Verdict.{verdict}
 use Rattle.protocol.proofs.WorkedAnswers.{au}
 use Rattle.protocol.proofs.WorkedScheme.{nz, jp, nz_node, jp_node, block, all_units, nz1, nz2, scheme_s, scheme_of_one, number, notification}
 use Rattle.worked_definitions.proofs.ShortNames.{jp1, scheme_of_two, terms, proposes, comes, orders, recorded, again, refused, answers}

@@ -1,10 +1,10 @@
 -- What a crash keeps of a tail, what the node has afterwards, and what it takes once it runs again.
-use Rattle.std.proofs.Common.{◌≡◌, ℕ, true, false, List, [], ◌∷◌, ◌++◌, Some, None, refl, lit<}
+use Rattle.std.proofs.Common.{◌≡◌, true, false, List, [], ◌∷◌, ◌++◌, Some, None, refl, lit<}
 use Rattle.std.specs.Prelude.{take}
 use Rattle.units.specs.declared.code.Node.TheVariants.{Itl}
-use Rattle.status.specs.declared.status.Status.TheVariants.{Proposed, Accepted, Completed}
+use Rattle.status.specs.declared.status.Status.TheVariants.{Proposed}
 use Rattle.wire.specs.declared.input.Input.{Input}
-use Rattle.wire.specs.declared.input.Input.TheVariants.{OpenAccount, CloseAccount, Eligible}
+use Rattle.wire.specs.declared.input.Input.TheVariants.{OpenAccount, CloseAccount}
 use Rattle.wire.specs.declared.input.Number.{Number}
 use Rattle.protocol.specs.declared.event.Outcome.TheVariants.{Recorded, Repeat, Refused, Done, NotPossible}
 use Rattle.protocol.specs.declared.event.WorldEvent.{WorldEvent}

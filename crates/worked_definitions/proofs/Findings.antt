@@ -1,11 +1,10 @@
 -- Findings of the log and of an acquirer: all at once, then one less each time; each alone, and next to what isn't one.
 use Rattle.std.proofs.Common.{◌≡◌, ℕ, true, false, List, [], ◌∷◌, ◌++◌, Some, refl, lit<}
-use Rattle.units.specs.declared.block.Kind.TheVariants.{Aau, Rmu, Cer}
+use Rattle.units.specs.declared.block.Kind.TheVariants.{Rmu, Cer}
 use Rattle.units.specs.declared.block.RawBlock.{RawBlock}
 use Rattle.units.specs.declared.code.Code.{Code}
-use Rattle.units.specs.declared.code.Node.TheVariants.{Itl, Registry}
+use Rattle.units.specs.declared.code.Node.TheVariants.{Itl}
 use Rattle.status.specs.Content.{Content}
-use Rattle.status.specs.declared.id.TransactionId.{TransactionId}
 use Rattle.status.specs.declared.status.Status.TheVariants.{Rejected}
 use Rattle.wire.specs.declared.input.Input.{Input}
 use Rattle.wire.specs.declared.input.Input.TheVariants.{CloseAccount, OpenAccount, CleanUp, Eligible}
@@ -17,7 +16,7 @@ use Rattle.protocol.specs.Checks.{log_findings, acquirer_findings}
 use Rattle.protocol.specs.Verdict.{verdict, history}
 use Rattle.protocol.proofs.WorkedAnswers.{au}
 use Rattle.protocol.proofs.WorkedScheme.{nz, jp, nz_node, jp_node, block, block_of, nz1, nz2, scheme_s, a_day_after, number, notification}
-use Rattle.worked_definitions.proofs.ShortNames.{jp1, terms, to_jp, proposes, asks, comes, orders, moves}
+use Rattle.worked_definitions.proofs.ShortNames.{jp1, terms, proposes, asks, comes, orders, moves}
 use Rattle.worked_definitions.proofs.ThreeRegistries.{au_node, jp_block, scheme_t}
 
 -- ---- at the log

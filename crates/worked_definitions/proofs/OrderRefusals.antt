@@ -1,5 +1,5 @@
 -- Orders to transfer units: every cause of refusal at once, then one cause less each time; the limits from both sides.
-use Rattle.std.proofs.Common.{◌≡◌, ℕ, ◌+◌, true, false, List, [], ◌∷◌, ◌++◌, Some, None, refl, lit<}
+use Rattle.std.proofs.Common.{◌≡◌, true, false, List, [], ◌∷◌, ◌++◌, Some, None, refl, lit<}
 use Rattle.std.specs.Prelude.{◌==◌, ◌&&◌}
 use Rattle.units.specs.Unit.{same_kind}
 use Rattle.units.specs.declared.block.Kind.TheVariants.{Aau, Rmu}
@@ -18,7 +18,7 @@ use Rattle.protocol.specs.Deciding.{IsRefused}
 use Rattle.protocol.specs.Verdict.{verdict, history}
 use Rattle.protocol.proofs.WorkedAnswers.{au}
 use Rattle.protocol.proofs.WorkedScheme.{nz, jp, nz_node, block, block_of, nz1, nz2, scheme_s, scheme_of_one, first_of_may, number}
-use Rattle.worked_definitions.proofs.ShortNames.{nz3, scheme_of_two, to_jp, proposes, orders, Answer, recorded, refused, answers, moves}
+use Rattle.worked_definitions.proofs.ShortNames.{nz3, to_jp, proposes, orders, Answer, recorded, refused, answers, moves}
 
 -- ---- one cause less each time: units 91 to 100 are reserved, and account 2 is closed
 

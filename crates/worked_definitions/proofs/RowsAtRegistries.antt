@@ -1,6 +1,6 @@
 -- Each row of the initiator's and of the acquirer's table in a journal: what moves and which messages go out, what is a
 -- repeat, late or refused, and what becomes of the units.
-use Rattle.std.proofs.Common.{◌≡◌, ℕ, Bool, true, false, List, [], ◌∷◌, ◌++◌, map, Some, None, refl}
+use Rattle.std.proofs.Common.{◌≡◌, Bool, true, false, List, [], ◌∷◌, ◌++◌, map, Some, None, refl}
 use Rattle.units.specs.declared.code.Code.{Code}
 use Rattle.units.specs.declared.code.Node.TheVariants.{Itl, Registry}
 use Rattle.status.specs.declared.status.Status.TheVariants.{Proposed, Accepted, Rejected, Terminated, Cancelled, Completed}

@@ -1,10 +1,9 @@
 -- A scheme of three registries as a value: AU, which has nothing and may not take part at the start, JP and NZ with units
 -- of their own, NZ's of three kinds.
-use Rattle.std.proofs.Common.{◌≡◌, ℕ, ◌<◌, ◌≤◌, true, false, List, [], ◌∷◌, refl, ap, arith, lit≤, lit<}
+use Rattle.std.proofs.Common.{◌≡◌, ℕ, ◌<◌, true, false, List, [], ◌∷◌, refl, ap, arith, lit≤, lit<}
 use Rattle.units.proofs.SharedUnits.{apart_from}
 use Rattle.units.specs.Facts.{IsRange}
 use Rattle.units.specs.declared.block.Block.{Block}
-use Rattle.units.specs.declared.block.Kind.{Kind}
 use Rattle.units.specs.declared.block.Kind.TheVariants.{Aau, Rmu, Eru, Cer, Tcer, Lcer}
 use Rattle.units.specs.declared.block.Period.TheVariants.{First}
 use Rattle.units.specs.declared.block.RawBlock.{RawBlock}
@@ -81,11 +80,25 @@ codes_differ c d below same = differ c.first d.first below (ap (λ (x : Code). x
 
 pub sound : AreMembers members
 sound = record {
-  free = (few, (lit≤ tt, (
-    ((codes_differ au jp (lit< tt), (codes_differ au nz (lit< tt), tt)), ((codes_differ jp nz (lit< tt), tt), (tt, tt))), (
-    (((differ 1 5 (lit< tt), tt), (tt, tt)), (((differ 1 7 (lit< tt), (differ 1 8 (lit< tt), tt)), ((differ 7 8 (lit< tt), tt), (tt, tt))), (((differ 1 2 (lit< tt), (differ 1 7 (lit< tt), tt)), ((differ 2 7 (lit< tt), tt), (tt, tt))), tt))), (
-    (tt, ((refl, tt), ((refl, (refl, tt)), tt))), (
-    ((apart_from units_of_jp.raw aau.raw refl, (apart_from units_of_jp.raw cer.raw refl, (apart_from units_of_jp.raw rmu.raw refl, tt))), ((apart_from aau.raw cer.raw refl, (apart_from aau.raw rmu.raw refl, tt)), ((apart_from cer.raw rmu.raw refl, tt), (tt, tt)))), tt))))));
+  free = (
+    few,
+    (
+      lit≤ tt,
+      (
+        ((codes_differ au jp (lit< tt), (codes_differ au nz (lit< tt), tt)), ((codes_differ jp nz (lit< tt), tt), (tt, tt))),
+        (
+          (((differ 1 5 (lit< tt), tt), (tt, tt)), (((differ 1 7 (lit< tt), (differ 1 8 (lit< tt), tt)), ((differ 7 8 (lit< tt), tt), (tt, tt))), (((differ 1 2 (lit< tt), (differ 1 7 (lit< tt), tt)), ((differ 2 7 (lit< tt), tt), (tt, tt))), tt))),
+          (
+            (tt, ((refl, tt), ((refl, (refl, tt)), tt))),
+            (
+              ((apart_from units_of_jp.raw aau.raw refl, (apart_from units_of_jp.raw cer.raw refl, (apart_from units_of_jp.raw rmu.raw refl, tt))), ((apart_from aau.raw cer.raw refl, (apart_from aau.raw rmu.raw refl, tt)), ((apart_from cer.raw rmu.raw refl, tt), (tt, tt)))),
+              tt,
+            ),
+          ),
+        ),
+      ),
+    ),
+  );
   ordered = ((refl, (refl, tt)), ((refl, tt), (tt, tt)));
 }
 

@@ -1,6 +1,6 @@
 -- Transactions of two registries in one table and in one clean-up, the transfers that owe their units, and the messages
 -- that are still to be acknowledged.
-use Rattle.std.proofs.Common.{◌≡◌, ℕ, ◌<◌, ◌≤◌, zero, suc, Bool, true, false, List, [], ◌∷◌, ◌++◌, map, Option, Some, None, refl, arith, lit≤, lit<}
+use Rattle.std.proofs.Common.{◌≡◌, ℕ, Bool, true, false, List, [], ◌∷◌, ◌++◌, map, Some, refl, lit≤, lit<}
 use Rattle.std.specs.Ordering.{is_lt}
 use Rattle.units.specs.declared.code.Code.{Code}
 use Rattle.units.specs.declared.code.Node.{Node}
@@ -17,15 +17,15 @@ use Rattle.wire.specs.declared.message.ProposalStatus.TheVariants as proposal
 use Rattle.wire.specs.declared.notified.NotifiedStatus.TheVariants as notified
 use Rattle.protocol.specs.declared.event.Outcome.TheVariants.{Recorded, Done}
 use Rattle.protocol.specs.declared.event.WorldEvent.{WorldEvent}
-use Rattle.protocol.specs.Claims.{at_registry, live_of}
+use Rattle.protocol.specs.Claims.{live_of}
 use Rattle.protocol.specs.History.{sends, is_acknowledged}
-use Rattle.protocol.specs.Table.{transactions, due, is_due, proposed}
+use Rattle.protocol.specs.Table.{transactions, due, is_due}
 use Rattle.protocol.specs.Unacknowledged.{awaits}
 use Rattle.protocol.specs.Verdict.{verdict, history}
 use Rattle.protocol.specs.World.{World, opening, step, run, outcomes}
 use Rattle.protocol.proofs.WorkedAnswers.{au}
 use Rattle.protocol.proofs.WorkedScheme.{nz, jp, nz_node, jp_node, block, all_units, nz1, nz2, scheme_s, at, first_of_may, a_second_before, a_day_after, propose, number, commit, post, deliver, notification}
-use Rattle.worked_definitions.proofs.ShortNames.{jp1, a_second_later, the_first_moment, terms, to_jp, proposes, comes, Answer, recorded, again, answers, moves}
+use Rattle.worked_definitions.proofs.ShortNames.{jp1, a_second_later, the_first_moment, terms, to_jp, proposes, comes, recorded, again, answers, moves}
 use Rattle.worked_definitions.proofs.ThreeRegistries.{jp_block, scheme_t}
 
 abbrev jp2 : TransactionId

@@ -11,3 +11,5 @@ pub mod ImpossibleEvents
 pub mod Crashes
 pub mod TwoRegistries
 pub mod CanonicalOrders
+pub mod HeldUnits
+pub mod RolesAndJournals

@@ -1,7 +1,8 @@
 -- A scheme of three registries as a value: AU, which has nothing and may not take part at the start, JP and NZ with units
 -- of their own, NZ's of three kinds.
-use Rattle.std.proofs.Common.{◌≡◌, ℕ, ◌<◌, true, false, List, [], ◌∷◌, refl, ap, arith, lit≤, lit<}
+use Rattle.std.proofs.Common.{◌≡◌, ℕ, ◌<◌, true, false, List, [], ◌∷◌, map, refl, ap, arith, lit≤, lit<}
 use Rattle.units.proofs.SharedUnits.{apart_from}
+use Rattle.units.specs.Apart.{AllApart}
 use Rattle.units.specs.Facts.{IsRange}
 use Rattle.units.specs.declared.block.Block.{Block}
 use Rattle.units.specs.declared.block.Kind.TheVariants.{Aau, Rmu, Eru, Cer, Tcer, Lcer}
@@ -10,7 +11,8 @@ use Rattle.units.specs.declared.block.RawBlock.{RawBlock}
 use Rattle.units.specs.declared.code.Code.{Code}
 use Rattle.units.specs.declared.code.Node.{Node}
 use Rattle.units.specs.declared.code.Node.TheVariants.{Registry}
-use Rattle.scheme.specs.Order.{AreFew, AreMembers}
+use Rattle.scheme.specs.Grammar.{HasNoTwins}
+use Rattle.scheme.specs.Order.{AreFew, AreMembers, all_blocks}
 use Rattle.scheme.specs.declared.members.SchemeRegistry.{SchemeRegistry}
 use Rattle.scheme.specs.declared.registries.Scheme.{Scheme}
 use Rattle.protocol.proofs.WorkedAnswers.{au}
@@ -78,27 +80,28 @@ differ a b below same = omega arith
 codes_differ : (c d : Code) → c.first < d.first → c ≡ d → ⊥
 codes_differ c d below same = differ c.first d.first below (ap (λ (x : Code). x.first) same)
 
+codes_apart : HasNoTwins (map (λ m. m.code) members)
+codes_apart = ((codes_differ au jp (lit< tt), (codes_differ au nz (lit< tt), tt)), ((codes_differ jp nz (lit< tt), tt), (tt, tt)))
+
+accounts_of_au : HasNoTwins au_member.accounts
+accounts_of_au = ((differ 1 5 (lit< tt), tt), (tt, tt))
+
+accounts_of_jp : HasNoTwins jp_member.accounts
+accounts_of_jp = ((differ 1 7 (lit< tt), (differ 1 8 (lit< tt), tt)), ((differ 7 8 (lit< tt), tt), (tt, tt)))
+
+accounts_of_nz : HasNoTwins nz_member.accounts
+accounts_of_nz = ((differ 1 2 (lit< tt), (differ 1 7 (lit< tt), tt)), ((differ 2 7 (lit< tt), tt), (tt, tt)))
+
+blocks_apart : AllApart (all_blocks members)
+blocks_apart = (
+  (apart_from units_of_jp.raw aau.raw refl, (apart_from units_of_jp.raw cer.raw refl, (apart_from units_of_jp.raw rmu.raw refl, tt))),
+  ((apart_from aau.raw cer.raw refl, (apart_from aau.raw rmu.raw refl, tt)), ((apart_from cer.raw rmu.raw refl, tt), (tt, tt))),
+)
+
+-- the codes differ, no account stands twice, each allotment is to an account, and no unit is allotted twice
 pub sound : AreMembers members
 sound = record {
-  free = (
-    few,
-    (
-      lit≤ tt,
-      (
-        ((codes_differ au jp (lit< tt), (codes_differ au nz (lit< tt), tt)), ((codes_differ jp nz (lit< tt), tt), (tt, tt))),
-        (
-          (((differ 1 5 (lit< tt), tt), (tt, tt)), (((differ 1 7 (lit< tt), (differ 1 8 (lit< tt), tt)), ((differ 7 8 (lit< tt), tt), (tt, tt))), (((differ 1 2 (lit< tt), (differ 1 7 (lit< tt), tt)), ((differ 2 7 (lit< tt), tt), (tt, tt))), tt))),
-          (
-            (tt, ((refl, tt), ((refl, (refl, tt)), tt))),
-            (
-              ((apart_from units_of_jp.raw aau.raw refl, (apart_from units_of_jp.raw cer.raw refl, (apart_from units_of_jp.raw rmu.raw refl, tt))), ((apart_from aau.raw cer.raw refl, (apart_from aau.raw rmu.raw refl, tt)), ((apart_from cer.raw rmu.raw refl, tt), (tt, tt)))),
-              tt,
-            ),
-          ),
-        ),
-      ),
-    ),
-  );
+  free = (few, (lit≤ tt, (codes_apart, ((accounts_of_au, (accounts_of_jp, (accounts_of_nz, tt))), ((tt, ((refl, tt), ((refl, (refl, tt)), tt))), (blocks_apart, tt))))));
   ordered = ((refl, (refl, tt)), ((refl, tt), (tt, tt)));
 }
 

@@ -1,6 +1,6 @@
 -- Transactions of two registries in one table and in one clean-up, the transfers that owe their units, and the messages
 -- that are still to be acknowledged.
-use Rattle.std.proofs.Common.{◌≡◌, ℕ, Bool, true, false, List, [], ◌∷◌, ◌++◌, map, Some, refl, lit≤, lit<}
+use Rattle.std.proofs.Common.{◌≡◌, ℕ, ◌≤◌, ◌<◌, zero, suc, Bool, true, false, List, [], ◌∷◌, ◌++◌, map, Some, None, refl, sym, true≢false, not-suc-le-zero, arith, lit≤, lit<}
 use Rattle.std.specs.Ordering.{is_lt}
 use Rattle.units.specs.declared.code.Code.{Code}
 use Rattle.units.specs.declared.code.Node.{Node}
@@ -10,17 +10,18 @@ use Rattle.status.specs.Id.{id_cmp, number_from}
 use Rattle.status.specs.declared.id.TransactionId.{TransactionId}
 use Rattle.status.specs.declared.status.Status.TheVariants.{Cancelled}
 use Rattle.wire.specs.declared.input.Input.{Input}
-use Rattle.wire.specs.declared.input.Input.TheVariants.{Ack, CleanUp, Received}
+use Rattle.wire.specs.declared.input.Input.TheVariants.{Ack, CleanUp, Received, Request}
 use Rattle.wire.specs.declared.message.Message.{Message}
 use Rattle.wire.specs.declared.message.Proposal.{Proposal}
 use Rattle.wire.specs.declared.message.ProposalStatus.TheVariants as proposal
 use Rattle.wire.specs.declared.notified.NotifiedStatus.TheVariants as notified
 use Rattle.protocol.specs.declared.event.Outcome.TheVariants.{Recorded, Done}
 use Rattle.protocol.specs.declared.event.WorldEvent.{WorldEvent}
+use Rattle.protocol.specs.declared.event.WorldEvent.TheVariants.{Take}
 use Rattle.protocol.specs.Claims.{live_of}
 use Rattle.protocol.specs.History.{sends, is_acknowledged}
 use Rattle.protocol.specs.Table.{transactions, due, is_due}
-use Rattle.protocol.specs.Unacknowledged.{awaits}
+use Rattle.protocol.specs.Unacknowledged.{awaits, IsLeastFrom}
 use Rattle.protocol.specs.Verdict.{verdict, history}
 use Rattle.protocol.specs.World.{World, opening, step, run, outcomes}
 use Rattle.protocol.proofs.WorkedAnswers.{au}
@@ -118,6 +119,11 @@ pub transactions_in_order : (transactions (after four_proposals) ≡ of_jp1 ∷ 
 unfolding step verdict
 transactions_in_order = (refl, refl, refl)
 
+-- requests, and proposals that others made, aren't among them
+pub transactions_alone : transactions (after (four_proposals ++ Take nz_node (Request nz1) ∷ [])) ≡ of_jp1 ∷ of_jp2 ∷ of_nz1 ∷ of_nz2 ∷ []
+unfolding step verdict
+transactions_alone = refl
+
 -- NZ1 is completed at NZ, then JP2 at JP, and then NZ1 at JP too
 abbrev nz1_completed : List WorldEvent
 nz1_completed = four_proposals ++ commit nz_node 2 ∷ post nz_node 0 ∷ deliver 0 ∷ commit Itl 1 ∷ post Itl 0 ∷ deliver 1 ∷ commit jp_node 3 ∷ post jp_node 2 ∷ deliver 2 ∷ commit Itl 1 ∷ post Itl 1 ∷ deliver 3 ∷ []
@@ -181,3 +187,30 @@ pub awaits_no_acknowledged : (awaited (Ack (number 0 (lit< tt)) ∷ []) jp_node 
     × (awaited (Ack (number 2 (lit< tt)) ∷ Ack (number 0 (lit< tt)) ∷ []) jp_node ≡ false ∷ false ∷ false ∷ false ∷ [])
 unfolding verdict
 awaits_no_acknowledged = (refl, refl, refl, refl)
+
+-- ---- the least key from one on
+
+abbrev to_jp_and_nz : List Message
+to_jp_and_nz = notification Itl jp_node nz1 notified.Completed ∷ notification Itl nz_node nz1 notified.Accepted ∷ notification Itl jp_node nz2 notified.Cancelled ∷ []
+
+abbrev waits : ℕ → Bool
+waits = awaits to_jp_and_nz (λ key. false) jp_node
+
+none_between : (key : ℕ) → 1 ≤ key → key < 2 → waits key ≡ false
+none_between zero from to = absurd (omega arith)
+none_between (suc zero) from to = refl
+none_between (suc (suc key)) from to = absurd (omega arith)
+
+none_beyond : (key : ℕ) → 3 ≤ key → waits key ≡ false
+none_beyond zero from = absurd (omega arith)
+none_beyond (suc zero) from = refl
+none_beyond (suc (suc zero)) from = absurd (omega arith)
+none_beyond (suc (suc (suc key))) from = refl
+
+-- from the first key on it is the first, from the second on the third, and then none
+pub least_keys : IsLeastFrom waits 0 (Some 0) × IsLeastFrom waits 1 (Some 2) × IsLeastFrom waits 3 None
+least_keys = ((lit≤ tt, refl, λ key from below. absurd (omega arith)), (lit≤ tt, refl, none_between), none_beyond)
+
+-- and no other
+pub no_other_keys : (IsLeastFrom waits 0 (Some 2) → ⊥) × (IsLeastFrom waits 0 (Some 1) → ⊥) × (IsLeastFrom waits 1 (Some 0) → ⊥) × (IsLeastFrom waits 0 None → ⊥)
+no_other_keys = (λ h. true≢false (h.2 0 (lit≤ tt) (lit< tt)), λ h. true≢false (sym h.1), λ h. not-suc-le-zero h.0, λ h. true≢false (h 0 (lit≤ tt)))

@@ -14,9 +14,8 @@ use Rattle.wire.specs.declared.notified.NotifiedStatus.TheVariants as notified
 use Rattle.protocol.specs.Deciding.{IsRefused}
 use Rattle.protocol.specs.History.{Transition, Entry}
 use Rattle.protocol.specs.Verdict.{verdict}
-use Rattle.protocol.proofs.WorkedAnswers.{au}
 use Rattle.protocol.proofs.WorkedScheme.{nz, jp, nz_node, jp_node, block, all_units, nz1, nz2, scheme_s, scheme_of_one, number, notification}
-use Rattle.worked_definitions.proofs.ShortNames.{jp1, scheme_of_two, terms, proposes, comes, orders, recorded, again, refused, answers}
+use Rattle.worked_definitions.proofs.ShortNames.{au, jp1, scheme_of_two, terms, proposes, comes, orders, recorded, again, refused, answers}
 
 -- ---- accounts by their numbers
 

@@ -15,9 +15,8 @@ use Rattle.protocol.specs.declared.event.Outcome.TheVariants.{Recorded, Done}
 use Rattle.protocol.specs.declared.event.WorldEvent.{WorldEvent}
 use Rattle.protocol.specs.Verdict.{verdict}
 use Rattle.protocol.specs.World.{opening, step, run, outcomes, station}
-use Rattle.protocol.proofs.WorkedAnswers.{au}
 use Rattle.protocol.proofs.WorkedScheme.{nz, jp, nz_node, jp_node, block, block_of, nz1, scheme_s, propose, commit, post, deliver, posted, notification}
-use Rattle.worked_definitions.proofs.ShortNames.{jp1, terms, to_jp, proposes, comes, orders, moves}
+use Rattle.worked_definitions.proofs.ShortNames.{au, jp1, terms, to_jp, proposes, comes, orders, moves}
 use Rattle.worked_definitions.proofs.ThreeRegistries.{jp_block, scheme_t}
 
 -- ---- one origin, two kinds

@@ -14,9 +14,8 @@ use Rattle.protocol.specs.AtLog.{ledger}
 use Rattle.protocol.specs.AtRegistry.{holding}
 use Rattle.protocol.specs.Checks.{log_findings, acquirer_findings}
 use Rattle.protocol.specs.Verdict.{verdict, history}
-use Rattle.protocol.proofs.WorkedAnswers.{au}
 use Rattle.protocol.proofs.WorkedScheme.{nz, jp, nz_node, jp_node, block, block_of, nz1, nz2, scheme_s, a_day_after, number, notification}
-use Rattle.worked_definitions.proofs.ShortNames.{jp1, terms, proposes, asks, comes, orders, moves}
+use Rattle.worked_definitions.proofs.ShortNames.{au, jp1, terms, proposes, asks, comes, orders, moves}
 use Rattle.worked_definitions.proofs.ThreeRegistries.{au_node, jp_block, scheme_t}
 
 -- ---- at the log

@@ -19,9 +19,8 @@ use Rattle.protocol.specs.Registries.{nodes, place_of, is_node}
 use Rattle.protocol.specs.Verdict.{verdict}
 use Rattle.protocol.specs.World.{World, step}
 use Rattle.std.specs.Prelude.{take}
-use Rattle.protocol.proofs.WorkedAnswers.{au}
 use Rattle.protocol.proofs.WorkedScheme.{nz, jp, nz_node, jp_node, block, block_of, unit, nz1, nz2, scheme_s, number, propose, commit, transfer, after, notification}
-use Rattle.worked_definitions.proofs.ShortNames.{jp1, terms, to_jp, proposes, comes, orders, recorded, refused, answers}
+use Rattle.worked_definitions.proofs.ShortNames.{au, jp1, terms, to_jp, proposes, comes, orders, recorded, refused, answers}
 use Rattle.worked_definitions.proofs.ThreeRegistries.{au_node, jp_block, scheme_t}
 
 -- ---- as credited last, else as allotted

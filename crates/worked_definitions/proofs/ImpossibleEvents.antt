@@ -15,9 +15,8 @@ use Rattle.protocol.specs.declared.event.WorldEvent.{WorldEvent}
 use Rattle.protocol.specs.declared.event.WorldEvent.TheVariants.{Take}
 use Rattle.protocol.specs.Verdict.{verdict}
 use Rattle.protocol.specs.World.{Station, opening, step, run, outcomes}
-use Rattle.protocol.proofs.WorkedAnswers.{au}
 use Rattle.protocol.proofs.WorkedScheme.{nz, jp, nz_node, jp_node, block, all_units, nz1, scheme_s, first_of_may, a_day_after, propose, number, open_account, close_account, ack, clean_up, eligible, commit, post, deliver, crash, restart, transfer, after, notification}
-use Rattle.worked_definitions.proofs.ShortNames.{to_jp, proposes, comes, orders}
+use Rattle.worked_definitions.proofs.ShortNames.{au, to_jp, proposes, comes, orders}
 
 abbrev request : Node → TransactionId → WorldEvent
 request n t = Take n (Request t)

@@ -12,9 +12,8 @@ use Rattle.wire.specs.declared.notified.NotifiedStatus.{NotifiedStatus}
 use Rattle.wire.specs.declared.notified.NotifiedStatus.TheVariants as notified
 use Rattle.scheme.specs.declared.registries.Scheme.{Scheme}
 use Rattle.protocol.specs.Verdict.{verdict}
-use Rattle.protocol.proofs.WorkedAnswers.{au}
 use Rattle.protocol.proofs.WorkedScheme.{nz, jp, nz_node, jp_node, block, block_of, nz1, nz2, scheme_s, scheme_of_one, notification}
-use Rattle.worked_definitions.proofs.ShortNames.{jp1, nz9, scheme_of_two, terms, to_jp, proposes, asks, comes, orders, Answer, recorded, again, refused, answers}
+use Rattle.worked_definitions.proofs.ShortNames.{au, jp1, nz9, scheme_of_two, terms, to_jp, proposes, asks, comes, orders, Answer, recorded, again, refused, answers}
 use Rattle.worked_definitions.proofs.ThreeRegistries.{au_node, jp_block, scheme_t}
 
 -- what the node answers to each message after the journal

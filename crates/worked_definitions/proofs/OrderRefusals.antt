@@ -16,9 +16,8 @@ use Rattle.protocol.specs.AtRegistry.{new_transfer_verdict}
 use Rattle.protocol.specs.Checks.{Holding, codes_of, propose_refusals}
 use Rattle.protocol.specs.Deciding.{IsRefused}
 use Rattle.protocol.specs.Verdict.{verdict, history}
-use Rattle.protocol.proofs.WorkedAnswers.{au}
 use Rattle.protocol.proofs.WorkedScheme.{nz, jp, nz_node, block, block_of, nz1, nz2, scheme_s, scheme_of_one, first_of_may, number}
-use Rattle.worked_definitions.proofs.ShortNames.{nz3, to_jp, proposes, orders, Answer, recorded, refused, answers, moves}
+use Rattle.worked_definitions.proofs.ShortNames.{au, nz3, to_jp, proposes, orders, Answer, recorded, refused, answers, moves}
 
 -- ---- one cause less each time: units 91 to 100 are reserved, and account 2 is closed
 

@@ -1,6 +1,7 @@
 -- Short names for messages and inputs, and for what a node answers to inputs after a journal.
 use Rattle.std.proofs.Common.{ℕ, List, map, Option, refl, lit≤}
 use Rattle.std.specs.Prelude.{Result, Ok, Err}
+use Rattle.units.specs.Facts.{IsLetter}
 use Rattle.units.specs.declared.block.RawBlock.{RawBlock}
 use Rattle.units.specs.declared.code.Code.{Code}
 use Rattle.units.specs.declared.code.Node.{Node}
@@ -22,7 +23,14 @@ use Rattle.protocol.specs.Cores.{answer}
 use Rattle.protocol.specs.Verdict.{verdict, history, transitions_made}
 use Rattle.protocol.proofs.WorkedScheme.{nz, jp, scheme_of, first_of_may, at}
 
--- ---- transactions, schemes and moments
+-- ---- a registry that the scheme of NZ and JP doesn't have; transactions, schemes and moments
+
+-- A is 65 and U is 85
+pub au_letters : IsLetter 65 × IsLetter 85
+au_letters = ((lit≤ tt, lit≤ tt), (lit≤ tt, lit≤ tt))
+
+abbrev pub au : Code
+au = record { first = 65; second = 85; letters = au_letters }
 
 abbrev pub jp1 : TransactionId
 jp1 = record { code = jp; number = 1; in_range = number_from 1 refl }

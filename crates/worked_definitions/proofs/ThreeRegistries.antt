@@ -15,8 +15,8 @@ use Rattle.scheme.specs.Grammar.{HasNoTwins}
 use Rattle.scheme.specs.Order.{AreFew, AreMembers, all_blocks}
 use Rattle.scheme.specs.declared.members.SchemeRegistry.{SchemeRegistry}
 use Rattle.scheme.specs.declared.registries.Scheme.{Scheme}
-use Rattle.protocol.proofs.WorkedAnswers.{au}
 use Rattle.protocol.proofs.WorkedScheme.{nz, jp, block, block_of, thousand}
+use Rattle.worked_definitions.proofs.ShortNames.{au}
 
 abbrev pub au_node : Node
 au_node = Registry au

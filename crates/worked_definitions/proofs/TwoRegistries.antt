@@ -24,9 +24,8 @@ use Rattle.protocol.specs.Table.{transactions, due, is_due}
 use Rattle.protocol.specs.Unacknowledged.{awaits, IsLeastFrom}
 use Rattle.protocol.specs.Verdict.{verdict, history}
 use Rattle.protocol.specs.World.{World, opening, step, run, outcomes}
-use Rattle.protocol.proofs.WorkedAnswers.{au}
 use Rattle.protocol.proofs.WorkedScheme.{nz, jp, nz_node, jp_node, block, all_units, nz1, nz2, scheme_s, at, first_of_may, a_second_before, a_day_after, propose, number, commit, post, deliver, notification}
-use Rattle.worked_definitions.proofs.ShortNames.{jp1, a_second_later, the_first_moment, terms, to_jp, proposes, comes, recorded, again, answers, moves}
+use Rattle.worked_definitions.proofs.ShortNames.{au, jp1, a_second_later, the_first_moment, terms, to_jp, proposes, comes, recorded, again, answers, moves}
 use Rattle.worked_definitions.proofs.ThreeRegistries.{jp_block, scheme_t}
 
 abbrev jp2 : TransactionId

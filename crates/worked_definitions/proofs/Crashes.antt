@@ -1,4 +1,4 @@
--- What a crash keeps of a tail, what the node has afterwards, and what it takes once it runs again.
+-- What a commit and a crash keep of a tail, what the node has afterwards, and what it takes once it runs again.
 use Rattle.std.proofs.Common.{◌≡◌, true, false, List, [], ◌∷◌, ◌++◌, Some, None, refl, lit<}
 use Rattle.std.specs.Prelude.{take}
 use Rattle.units.specs.declared.code.Node.TheVariants.{Itl}
@@ -29,6 +29,14 @@ pub before_a_crash : (outcomes (opening scheme_s) tail_of_three ≡ Recorded 0 �
     × (station (after tail_of_three) nz_node ≡ Some (nz_has (CloseAccount two ∷ []) (OpenAccount two ∷ CloseAccount two ∷ OpenAccount two ∷ [])))
 unfolding step verdict
 before_a_crash = (refl, refl)
+
+-- a commit takes the first ones, and the node goes on running
+pub commit_takes_the_first : (station (after (tail_of_three ++ commit nz_node 1 ∷ [])) nz_node ≡ Some (nz_has (CloseAccount two ∷ OpenAccount two ∷ []) (CloseAccount two ∷ OpenAccount two ∷ [])))
+    × (station (after (tail_of_three ++ commit nz_node 2 ∷ [])) nz_node ≡ Some (nz_has (CloseAccount two ∷ OpenAccount two ∷ CloseAccount two ∷ []) (OpenAccount two ∷ [])))
+    × (station (after (tail_of_three ++ commit nz_node 3 ∷ [])) nz_node ≡ Some (nz_has (CloseAccount two ∷ OpenAccount two ∷ CloseAccount two ∷ OpenAccount two ∷ []) []))
+    × (station (after (tail_of_three ++ commit nz_node 4 ∷ [])) nz_node ≡ Some (nz_has (CloseAccount two ∷ []) (OpenAccount two ∷ CloseAccount two ∷ OpenAccount two ∷ [])))
+unfolding step verdict
+commit_takes_the_first = (refl, refl, refl, refl)
 
 -- ---- none, some and all of the tail are kept; more than it has can't be
 

@@ -1,6 +1,6 @@
 -- Where a unit is held, of which kind, and for which transfer it is reserved; units of other origins and periods; and how
 -- all of it is read off a tail.
-use Rattle.std.proofs.Common.{◌≡◌, ℕ, Bool, true, false, List, [], ◌∷◌, ◌++◌, map, Option, Some, None, refl, lit<}
+use Rattle.std.proofs.Common.{◌≡◌, ℕ, true, false, List, [], ◌∷◌, ◌++◌, map, Some, None, refl, lit<}
 use Rattle.units.specs.declared.block.Kind.TheVariants.{Aau, Rmu, Cer}
 use Rattle.units.specs.declared.block.Period.TheVariants.{Second}
 use Rattle.units.specs.declared.block.RawBlock.{RawBlock}
@@ -19,7 +19,7 @@ use Rattle.protocol.specs.Registries.{nodes, place_of, is_node}
 use Rattle.protocol.specs.Verdict.{verdict}
 use Rattle.protocol.specs.World.{World, step}
 use Rattle.std.specs.Prelude.{take}
-use Rattle.protocol.proofs.WorkedScheme.{nz, jp, nz_node, jp_node, block, block_of, unit, nz1, nz2, scheme_s, number, propose, commit, transfer, after, notification}
+use Rattle.protocol.proofs.WorkedScheme.{nz, jp, nz_node, jp_node, block, block_of, unit, nz1, scheme_s, number, transfer, after, notification}
 use Rattle.worked_definitions.proofs.ShortNames.{au, jp1, terms, to_jp, proposes, comes, orders, recorded, refused, answers}
 use Rattle.worked_definitions.proofs.ThreeRegistries.{au_node, jp_block, scheme_t}
 

@@ -1,6 +1,6 @@
 -- What a role decides by its causes and its row, what a journal is after an answer, the codes by which messages are
 -- refused, and journals told by an order of their records.
-use Rattle.std.proofs.Common.{◌≡◌, ℕ, true, false, List, [], ◌∷◌, map, refl}
+use Rattle.std.proofs.Common.{◌≡◌, true, false, List, [], ◌∷◌, map, refl}
 use Rattle.std.specs.Prelude.{Result, Ok, Err}
 use Rattle.units.specs.declared.code.Node.TheVariants.{Itl}
 use Rattle.units.specs.declared.refusal.Refusal.{Refusal}

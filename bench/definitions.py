@@ -150,6 +150,23 @@ CHANGES = {
         Change("cancelled again without content is refused", ROWS, "acquirer_row Bare (Notified Cancelled) = Repeat", "acquirer_row Bare (Notified Cancelled) = Refused", "acquirer_without_content"),
         Change("cancelled again with content is refused", ROWS, "acquirer_row (Stands Cancelled) (Notified Cancelled) = Repeat", "acquirer_row (Stands Cancelled) (Notified Cancelled) = Refused", "acquirer_at_cancelled"),
     ],
+    "histories and what is read off them": [
+        Change("every record counts as a proposal", HISTORY, "count_by (λ e. is_proposal_order e.input) es", "count_by (λ e. true) es", "numbers_in_order"),
+        Change("a request is one for every transaction", HISTORY, "is_request_of t (Request u) = same_id u t", "is_request_of t (Request u) = true", "requests_apart"),
+        Change("an order is for every registry", HISTORY, "cond (same_code d c) (Some may) None", "Some may", "eligible_registries"),
+        Change("the book moves with the acceptance", HISTORY, "cond (same_status x.new Completed && carries x s)", "cond (carries x s)", "owners_by_the_book"),
+        Change("units stay in the account that they were allotted to", HISTORY, "cond (credits c s x) (place_in s x.content) (place scheme c xs s)", "place scheme c xs s", "held_as_credited"),
+        Change("units stay reserved", HISTORY, "(stands_at xs x.id Proposed && carries x s)", "carries x s", "units_of_initiator"),
+        Change("a unit that is held is credited", REGISTRY, "unless_held true (Move Completed) = Refused", "unless_held true (Move Completed) = Move Completed", "held_already"),
+        Change("units that nobody was allotted aren't in an account", REGISTRY, " ++ flat_map (λ x. option_map_or (λ k. pieces k.units) x.content []) xs", "", "held_without_allotment"),
+        Change("a clean-up of all that was ever checked", LOG, "x ∷ filter (λ y. not (same_id y.id x.id)) (newest_of_each xs)", "x ∷ newest_of_each xs", "cleaned_up_by_age"),
+        Change("what nobody was allotted has another owner", CHECKS, "is_some holder && not (is_owner owner c)", "not (is_owner owner c)", "twice_and_not_allotted"),
+        Change("an account that isn't there is closed", CHECKS, "has_account scheme c k.to_account && known.is_closed", "known.is_closed", "closed_accounts"),
+        Change("a registry that isn't there isn't eligible", CHECKS, "has_member scheme k.acquirer && not (known", "not (known", "wrong_acquirer"),
+        Change("a commit takes the whole tail", WORLD, "committed = s.committed ++ take count s.tail; tail = drop count s.tail", "committed = s.committed ++ s.tail; tail = []", "commit_takes_the_first"),
+        Change("what was received is owed", "protocol/specs/Claims.antt", "gives c s x && not (is_received f x.id x.content)", "gives c s x", "one_place"),
+        Change("units of two periods are the same", "protocol/specs/Pieces.antt", "same_period a.period b.period && (a.number == b.number)", "a.number == b.number", "other_units"),
+    ],
 }
 
 

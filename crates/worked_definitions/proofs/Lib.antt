@@ -1,0 +1,15 @@
+pub mod ShortNames
+pub mod StatusTables
+pub mod RowsAtLog
+pub mod RowsAtRegistries
+pub mod OrderRefusals
+pub mod AccountOrders
+pub mod ThreeRegistries
+pub mod MessageRefusals
+pub mod Findings
+pub mod ImpossibleEvents
+pub mod Crashes
+pub mod TwoRegistries
+pub mod CanonicalOrders
+pub mod HeldUnits
+pub mod RolesAndJournals

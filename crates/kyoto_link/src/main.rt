@@ -4,6 +4,7 @@
 mod files;
 mod hints;
 mod running;
+mod scheme_hints;
 mod watching;
 
 use crate::files::{find_folder, open_store, open_stores, scheme_at};

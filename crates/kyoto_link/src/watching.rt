@@ -3,6 +3,7 @@
 use std::io::IsTerminal;
 use std::time::Instant;
 use units::Node;
+use weave::Watch;
 
 /// When a line of progress is due: once a second, where standard error is a terminal.
 #[derive(Drop)]
@@ -48,29 +49,36 @@ impl<'a> Pace<'a> {
         }
     }
 
-    /// Ends the line, if one was written. What follows is work that begins now.
-    fn begin_next(&mut self) {
-        self.finished();
+    /// The work begins now.
+    fn begin(&mut self) {
         if self.last.is_some() {
             self.last = Instant::now(self.rt).ok();
         }
     }
 }
 
-/// Writes how many records an audit has read and woven.
+/// Writes how many records were read, or settled, and how many of them were woven.
 #[derive(Drop)]
 pub(crate) struct ProgressLine<'a> {
     pace: Pace<'a>,
-    read: usize,
+    /// What was done with the records before they are woven.
+    done: &'static str,
+    records: usize,
     woven: usize,
 }
 
 impl<'a> ProgressLine<'a> {
     /// The line of an audit that begins now.
     pub(crate) fn new(rt: &'a HostRuntime) -> ProgressLine<'a> {
+        ProgressLine::of(rt, "read")
+    }
+
+    /// The line of work that begins now, and first does that with the records.
+    fn of(rt: &'a HostRuntime, done: &'static str) -> ProgressLine<'a> {
         ProgressLine {
             pace: Pace::new(rt),
-            read: 0,
+            done,
+            records: 0,
             woven: 0,
         }
     }
@@ -79,16 +87,16 @@ impl<'a> ProgressLine<'a> {
     fn tell(&mut self) {
         if self.pace.is_due() {
             let _ = eprint!(self.pace.rt;
-                "\rkyoto-link: {} records read, {} woven",
-                self.read, self.woven
+                "\rkyoto-link: {} records {}, {} woven",
+                self.records, self.done, self.woven
             );
         }
     }
 }
 
-impl<'a> weave::Watch for ProgressLine<'a> {
+impl<'a> Watch for ProgressLine<'a> {
     fn read(&mut self, records: usize) {
-        self.read = self.read.saturating_add(records);
+        self.records = self.records.saturating_add(records);
         self.tell();
     }
 
@@ -143,8 +151,7 @@ pub(crate) struct RunLine<'a> {
     pace: Pace<'a>,
     answered: usize,
     count: usize,
-    settled: usize,
-    woven: usize,
+    after: ProgressLine<'a>,
 }
 
 impl<'a> RunLine<'a> {
@@ -154,18 +161,7 @@ impl<'a> RunLine<'a> {
             pace: Pace::new(rt),
             answered: 0,
             count,
-            settled: 0,
-            woven: 0,
-        }
-    }
-
-    /// Writes how many records were settled and woven, where that is due.
-    fn tell(&mut self) {
-        if self.pace.is_due() {
-            let _ = eprint!(self.pace.rt;
-                "\rkyoto-link: {} records settled, {} woven",
-                self.settled, self.woven
-            );
+            after: ProgressLine::of(rt, "settled"),
         }
     }
 }
@@ -174,7 +170,8 @@ impl<'a> runs::Watch for RunLine<'a> {
     fn answered(&mut self) {
         self.answered = self.answered.saturating_add(1);
         if self.answered >= self.count {
-            self.pace.begin_next();
+            self.pace.finished();
+            self.after.pace.begin();
         }
     }
 
@@ -190,19 +187,18 @@ impl<'a> runs::Watch for RunLine<'a> {
     }
 }
 
-impl<'a> weave::Watch for RunLine<'a> {
+impl<'a> Watch for RunLine<'a> {
     fn read(&mut self, records: usize) {
-        self.settled = self.settled.saturating_add(records);
-        self.tell();
+        self.after.read(records);
     }
 
     fn woven(&mut self) {
-        self.woven = self.woven.saturating_add(1);
-        self.tell();
+        self.after.woven();
     }
 
     /// Ends the line, if there is one.
     fn finished(&mut self) {
         self.pace.finished();
+        self.after.finished();
     }
 }

@@ -176,8 +176,8 @@ def main():
     program()
     passed = False
     with tempfile.TemporaryDirectory(dir=given.room) as room:
-        program = pathlib.Path(room) / "store"
-        build_c(program)
+        peer = pathlib.Path(room) / "store"
+        build_c(peer)
         idle = min(played(room, 0, False)[0] for _ in range(3))
         print(f"a run without transfers: {idle:.2f} s")
         for together in (False, True):
@@ -185,7 +185,7 @@ def main():
             for count in given.counts:
                 seconds = min(played(room, count, together)[0] for _ in range(2)) - idle
                 scaled = {node: (max(1, times * count // 200), records * count // 200) for node, (times, records) in found.items()}
-                other = min(time_of_c(program, room, scaled, together) for _ in range(2))
+                other = min(time_of_c(peer, room, scaled, together) for _ in range(2))
                 share = other / seconds
                 passed |= share < LEAST_OF_C
                 made = sum(times for times, _ in scaled.values()) / count

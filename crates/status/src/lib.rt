@@ -3,6 +3,7 @@
 
 mod content;
 mod id;
+mod id_order;
 mod moment;
 mod order;
 mod rows;
@@ -11,6 +12,7 @@ mod tables;
 
 pub use content::Content;
 pub use id::TransactionId;
+pub use id_order::order_of_ids;
 pub use moment::{Moment, MomentFault};
 pub use order::Order;
 pub use rows::{RecordedStatus, Role, Row, RowInput};

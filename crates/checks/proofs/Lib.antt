@@ -7,4 +7,5 @@ pub mod CodesInOrder
 pub mod FoundUnits
 pub mod LabelledUnits
 pub mod LogCauses
+pub mod AccountNumbers
 pub mod CanonicalLengths

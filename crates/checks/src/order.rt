@@ -1,5 +1,6 @@
 //! The checks of an order to transfer units out of a registry.
 ghost use Rattle.std.specs.Prelude.{◌≡◌, ◌⊎◌, ◌+◌, ◌==◌, ◌||◌, not, true, false, List, Some, None, length, nat_lt, IfOk, IfErr, OnOk, IfSome, IfNone};
+ghost use Rattle.std.specs.Bool.{OnTrue, OnFalse};
 ghost use Rattle.std.specs.List.{list_any};
 ghost use Rattle.units.specs.Canonical.{canonical};
 ghost use Rattle.units.specs.Limits.{most_blocks, last_account};
@@ -8,7 +9,7 @@ ghost use Rattle.units.specs.declared.block.Block.{Block};
 ghost use Rattle.units.specs.declared.code.Code.{Code};
 ghost use Rattle.scheme.specs.declared.registries.Scheme.{Scheme};
 ghost use Rattle.status.specs.Content.{raws};
-ghost use Rattle.status.specs.Facts.{IsAccountNumber};
+ghost use Rattle.units.specs.Facts.{IsAccountNumber};
 ghost use Rattle.status.specs.Id.{id_at};
 ghost use Rattle.accounts.specs.Refusals.{MayReserve};
 ghost use Rattle.protocol.specs.AtRegistry.{content_of};
@@ -28,8 +29,8 @@ use status::{Content, Order, TransactionId};
 use std::alloc::Global;
 use units::limits::{LAST_ACCOUNT, LAST_UNIT, MOST_BLOCKS};
 use units::refusal_code::{
-    ACCOUNT_OUT_OF_RANGE, BLOCK_OUT_OF_RANGE, NO_SUCH_ACQUIRER, TRANSACTIONS_USED_UP,
-    WRONG_BLOCK_COUNT,
+    ACCOUNT_NOT_OPEN, ACCOUNT_OUT_OF_RANGE, BLOCK_OUT_OF_RANGE, NO_SUCH_ACQUIRER,
+    TRANSACTIONS_USED_UP, WRONG_BLOCK_COUNT,
 };
 use units::{Block, Code, Items, NoMemory, RawBlock, Refusal};
 
@@ -100,26 +101,36 @@ fn checked_blocks(alloc: Global, raw_blocks: &[RawBlock]) -> Result<Vec<Block>, 
     Ok(blocks)
 }
 
-/// Checks that the account may reserve the blocks' units.
+/// Whether no account can have that number.
+fn is_no_account(number: u64) -> bool
+    ensures value { result ≡ ((number == 0) || nat_lt last_account number) }
+    ensures none { OnTrue result (IsAccountNumber number → ⊥) }
+    ensures some { OnFalse result (IsAccountNumber number) }
+{
+    number == 0 || number > LAST_ACCOUNT
+}
+
+/// Checks that the account may reserve the blocks' units. No registry of a scheme has an account whose number is out of
+/// range, so that one isn't open.
 fn check_holdings(holdings: &Holdings, order: &Order, blocks: &[Block]) -> Result<(), Refusal>
     requires { raws blocks.now ≡ order.now.units }
     ensures may { OnOk result (MayReserve holdings.now order.now.account blocks.now) }
+    ensures number { OnOk result (IsAccountNumber order.now.account) }
     ensures ok { (scheme : Scheme) (code : Code) (known : Holding) → Knows scheme code holdings.now known → OnOk result (first_of (holding_refusals scheme code known order.now.account order.now.units) ≡ None) }
     ensures refused { (scheme : Scheme) (code : Code) (known : Holding) → Knows scheme code holdings.now known → IfErr result (λ r. first_of (holding_refusals scheme code known order.now.account order.now.units) ≡ Some r.code) }
 {
+    if is_no_account(order.account()) {
+        return Err(Refusal {
+            code: ACCOUNT_NOT_OPEN,
+        });
+    }
     holdings.check(order.account(), blocks)
-}
-
-/// Whether no account can have that number.
-fn is_no_account(number: u64) -> bool
-    ensures { result ≡ ((number == 0) || nat_lt last_account number) }
-{
-    number == 0 || number > LAST_ACCOUNT
 }
 
 /// Checks to which registry and which of its accounts the units are to go.
 fn check_receiver(scheme: &Scheme, code: Code, order: &Order) -> Result<(), Refusal>
     ensures ok { OnOk result (first_of (receiver_refusals scheme.now code order.now) ≡ None) }
+    ensures number { OnOk result (IsAccountNumber order.now.to_account) }
     ensures refused { IfErr result (λ r. first_of (receiver_refusals scheme.now code order.now) ≡ Some r.code) }
 {
     if is_no_acquirer(scheme, code, order.to_registry()) {
@@ -151,29 +162,33 @@ fn order_blocks(alloc: Global, order: &Order) -> Result<Vec<Block>, Refusal>
     checked_blocks(alloc, order.units())
 }
 
-/// What the order offers, with the units in canonical form. An order that passes its checks offers something where its
-/// account has a number that an account can have.
-fn new_content(order: &Order, units: Vec<Block>) -> Option<Content>
-    requires { raws units.items ≡ canonical order.now.units }
-    ensures some { IfSome result (λ c. c ≡ content_of order.now) }
-    ensures none { (scheme : Scheme) (code : Code) → IfNone result (first_of (block_refusals order.now.units) ≡ None → first_of (receiver_refusals scheme code order.now) ≡ None → IsAccountNumber order.now.account → ⊥) }
+/// What an order that passes its checks offers, with the units in canonical form.
+fn new_content(order: &Order, units: Vec<Block>) -> Content
+    requires units { raws units.items ≡ canonical order.now.units }
+    requires blocks { first_of (block_refusals order.now.units) ≡ None }
+    requires account { IsAccountNumber order.now.account }
+    requires to_account { IsAccountNumber order.now.to_account }
+    ensures { result ≡ content_of order.now }
 {
-    Content::new(
+    let content = Content::new(
         order.account(),
         order.to_registry(),
         order.to_account(),
         Items::from_vec(units),
-    )
+    );
+    content.unwrap()
 }
 
-/// What the order offers, with the order's blocks.
+/// The same, with the order's blocks, or `NoMemory`.
 fn content_of(alloc: Global, order: &Order, blocks: &[Block]) -> Result<Content, NoMemory>
-    requires { raws blocks.now ≡ order.now.units }
+    requires units { raws blocks.now ≡ order.now.units }
+    requires blocks { first_of (block_refusals order.now.units) ≡ None }
+    requires account { IsAccountNumber order.now.account }
+    requires to_account { IsAccountNumber order.now.to_account }
     ensures { IfOk result (λ c. c ≡ content_of order.now) }
 {
     let units = canonical(alloc, blocks)?;
-    // no scheme that is read lists an account whose number is out of range
-    new_content(order, units).ok_or(NoMemory)
+    Ok(new_content(order, units))
 }
 
 /// Checks an order to transfer units out of the registry of that code, with `last` transaction numbers given before.
@@ -182,8 +197,7 @@ fn content_of(alloc: Global, order: &Order, blocks: &[Block]) -> Result<Content,
 /// `BLOCKS_OVERLAP`: a unit is in two blocks; `ACCOUNT_NOT_OPEN`: the account is unknown or closed; `UNIT_NOT_HELD`:
 /// a unit isn't held in the account with its block's kind; `UNIT_RESERVED`: a unit is reserved; `NO_SUCH_ACQUIRER`:
 /// the acquiring registry is unknown, or is this one; `ACCOUNT_OUT_OF_RANGE`: no account can have the number of the
-/// receiving one; `TRANSACTIONS_USED_UP`: no number is left; `OUT_OF_MEMORY`, also where the registry lists the
-/// account under a number that no account can have, as it does in no scheme that is read.
+/// receiving one; `TRANSACTIONS_USED_UP`: no number is left; `OUT_OF_MEMORY`.
 pub fn propose_check(
     alloc: Global,
     scheme: &Scheme,

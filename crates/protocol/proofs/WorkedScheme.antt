@@ -115,6 +115,7 @@ nz_accounts_differ e = omega arith
 pub sound : AreMembers members
 sound = record {
   free = (few, (lit≤ tt, (((codes_differ, tt), (tt, tt)), ((((jp_accounts_differ, tt), (tt, tt)), (((nz_accounts_differ, tt), (tt, tt)), tt)), ((tt, ((refl, tt), tt)), ((tt, tt), tt))))));
+  numbered = (((lit≤ tt, lit≤ tt), ((lit≤ tt, lit≤ tt), tt)), (((lit≤ tt, lit≤ tt), ((lit≤ tt, lit≤ tt), tt)), tt));
   ordered = ((refl, tt), (tt, tt));
 }
 

@@ -4,6 +4,7 @@ pub mod Climbs
 pub mod Blocks
 pub mod BlocksInOrder
 pub mod Told
+pub mod Numbered
 pub mod Free
 pub mod Lists
 pub mod Unique

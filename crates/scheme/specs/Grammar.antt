@@ -4,6 +4,7 @@ use Rattle.serde_json.specs.Data.{Data, unsigned, boolean, number, string}
 use Rattle.units.specs.Apart.{Pairwise}
 use Rattle.units.specs.Code.{code_text}
 use Rattle.units.specs.Block.{kind_text, IsRawText}
+use Rattle.units.specs.Facts.{IsAccountNumber}
 use Rattle.units.specs.Limits.{last_account, most_records}
 use Rattle.units.specs.declared.block.Block.{Block}
 use Rattle.units.specs.declared.block.Kind.{Kind}
@@ -19,9 +20,9 @@ HasNoTwins xs = Pairwise (λ x y. x ≢ y) xs
 
 -- ---- values
 
--- an account's number, from 1 to `last_account`
+-- an account's number
 abbrev pub IsAccount : Data → ℕ → Type 0
-IsAccount d n = (d ≡ number (unsigned n)) × (1 ≤ n) × (n ≤ last_account)
+IsAccount d n = (d ≡ number (unsigned n)) × IsAccountNumber n
 
 -- the text of a kind
 abbrev pub IsKind : Data → Kind → Type 0

@@ -4,6 +4,7 @@ use Rattle.std.specs.declared.cmp.Ordering.TheVariants.{Less}
 use Rattle.std.specs.List.{AllByRecursion, list_any, find}
 use Rattle.units.specs.Apart.{Pairwise, AllApart}
 use Rattle.units.specs.Code.{same_code}
+use Rattle.units.specs.Facts.{IsAccountNumber}
 use Rattle.units.specs.Keys.{code_cmp}
 use Rattle.units.specs.Limits.{least_registries, most_registries, most_accounts, most_allotted}
 use Rattle.units.specs.declared.block.Block.{Block}
@@ -55,9 +56,14 @@ faults_in_order = TooMany ∷ TooFew ∷ CodeTwice ∷ AccountTwice ∷ UnknownA
 abbrev pub AreFree : List SchemeRegistry → Type 0
 AreFree members = AllByRecursion (λ fault. IsFreeOf fault members) faults_in_order
 
--- free of faults, and in byte order of their codes
+-- every account has a number that an account can have
+abbrev pub AreNumbered : List SchemeRegistry → Type 0
+AreNumbered members = AllByRecursion (λ m. AllByRecursion IsAccountNumber m.accounts) members
+
+-- free of faults, with accounts in range, and in byte order of their codes
 pub record AreMembers (members : List SchemeRegistry) : Type 0 where
   pub free : AreFree members
+  pub numbered : AreNumbered members
   pub ordered : Pairwise (λ a b. code_cmp a.code b.code ≡ Less) members
 
 -- the registry of that code

@@ -1,11 +1,12 @@
 -- What holds of the registries of a scheme has one proof, as a field of the scheme must.
-use Rattle.std.specs.Prelude.{◌≡◌, ◌≢◌, ◌≤◌, List, [], ◌∷◌, length}
+use Rattle.std.specs.Prelude.{◌≡◌, ◌≢◌, ◌≤◌, ℕ, List, [], ◌∷◌, length}
 use Rattle.std.specs.declared.cmp.Ordering.TheVariants.{Less}
 use Rattle.std.specs.Coded.{×_prop, Unit-prop, le_prop}
 use Rattle.std.specs.List.{AllByRecursion, AllByRecursion-prop}
 use Rattle.std.specs.Ordering.{Ordering-set}
 use Rattle.std.proofs.Props.{props}
 use Rattle.units.specs.Apart.{Pairwise, AreApart}
+use Rattle.units.specs.Facts.{IsAccountNumber}
 use Rattle.units.specs.Keys.{code_cmp}
 use Rattle.units.specs.Limits.{most_accounts}
 use Rattle.units.specs.declared.block.Block.{Block}
@@ -50,8 +51,12 @@ free-prop members UnknownAccount = AllByRecursion-prop (λ m. AllByRecursion (λ
 free-prop members AllotmentOverlap = Pairwise-prop (λ a b. AreApart a.raw b.raw) AreApart-prop (all_blocks members)
 free-prop members NoMemory = Unit-prop
 
+number-prop : (n : ℕ) → IsProp (IsAccountNumber n)
+number-prop n = ×_prop le_prop le_prop
+
 pub AreMembers-prop : (members : List SchemeRegistry) → IsProp (AreMembers members)
 AreMembers-prop members x y = λ i. record {
   free = AllByRecursion-prop (λ fault. IsFreeOf fault members) (free-prop members) faults_in_order x.free y.free i;
+  numbered = AllByRecursion-prop (λ m. AllByRecursion IsAccountNumber m.accounts) (λ m. AllByRecursion-prop IsAccountNumber number-prop m.accounts) members x.numbered y.numbered i;
   ordered = Pairwise-prop (λ a b. code_cmp a.code b.code ≡ Less) (λ a b. Ordering-set (code_cmp a.code b.code) Less) members x.ordered y.ordered i;
 }

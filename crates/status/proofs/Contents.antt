@@ -12,7 +12,7 @@ use Rattle.units.specs.Code.{same_code}
 use Rattle.std.proofs.lemmas.List.{length-map}
 use Rattle.units.specs.Facts.{IsRange}
 use Rattle.units.specs.declared.code.Code.{Code}
-use Rattle.status.specs.Facts.{IsAccountNumber}
+use Rattle.units.specs.Facts.{IsAccountNumber}
 use Rattle.units.specs.Unit.{same_raw, same_period, same_kind, period_index, kind_index}
 use Rattle.units.specs.declared.block.Block.{Block}
 use Rattle.units.specs.declared.block.RawBlock.{RawBlock}

@@ -9,7 +9,7 @@ use Rattle.units.specs.Unit.{same_raw}
 use Rattle.units.specs.declared.block.Block.{Block}
 use Rattle.units.specs.declared.block.RawBlock.{RawBlock}
 use Rattle.units.specs.declared.code.Code.{Code}
-use Rattle.status.specs.Facts.{IsAccountNumber}
+use Rattle.units.specs.Facts.{IsAccountNumber}
 
 pub record Content : Type 0 where
   -- the initiator's account, which the units leave

@@ -1,6 +1,6 @@
 //! What a transfer is about.
 ghost use Rattle.std.specs.Prelude.{◌≡◌, ◌≤◌, ◌↔◌, IsTrue, IfOk, IfSome, IfNone, length};
-ghost use Rattle.status.specs.Facts.{IsAccountNumber};
+ghost use Rattle.units.specs.Facts.{IsAccountNumber};
 ghost use Rattle.status.specs.Content.{IsContent, raws, same_blocks, same_content};
 
 use std::marker::Model;

@@ -1,9 +1,10 @@
 -- A scheme of three registries as a value: AU, which has nothing and may not take part at the start, JP and NZ with units
 -- of their own, NZ's of three kinds.
 use Rattle.std.proofs.Common.{◌≡◌, ℕ, ◌<◌, true, false, List, [], ◌∷◌, map, refl, ap, arith, lit≤, lit<}
+use Rattle.std.specs.List.{AllByRecursion}
 use Rattle.units.proofs.SharedUnits.{apart_from}
 use Rattle.units.specs.Apart.{AllApart}
-use Rattle.units.specs.Facts.{IsRange}
+use Rattle.units.specs.Facts.{IsAccountNumber, IsRange}
 use Rattle.units.specs.declared.block.Block.{Block}
 use Rattle.units.specs.declared.block.Kind.TheVariants.{Aau, Rmu, Eru, Cer, Tcer, Lcer}
 use Rattle.units.specs.declared.block.Period.TheVariants.{First}
@@ -98,10 +99,20 @@ blocks_apart = (
   ((apart_from aau.raw cer.raw refl, (apart_from aau.raw rmu.raw refl, tt)), ((apart_from cer.raw rmu.raw refl, tt), (tt, tt))),
 )
 
+numbers_of_au : AllByRecursion IsAccountNumber au_member.accounts
+numbers_of_au = ((lit≤ tt, lit≤ tt), ((lit≤ tt, lit≤ tt), tt))
+
+numbers_of_jp : AllByRecursion IsAccountNumber jp_member.accounts
+numbers_of_jp = ((lit≤ tt, lit≤ tt), ((lit≤ tt, lit≤ tt), ((lit≤ tt, lit≤ tt), tt)))
+
+numbers_of_nz : AllByRecursion IsAccountNumber nz_member.accounts
+numbers_of_nz = ((lit≤ tt, lit≤ tt), ((lit≤ tt, lit≤ tt), ((lit≤ tt, lit≤ tt), tt)))
+
 -- the codes differ, no account stands twice, each allotment is to an account, and no unit is allotted twice
 pub sound : AreMembers members
 sound = record {
   free = (few, (lit≤ tt, (codes_apart, ((accounts_of_au, (accounts_of_jp, (accounts_of_nz, tt))), ((tt, ((refl, tt), ((refl, (refl, tt)), tt))), (blocks_apart, tt))))));
+  numbered = (numbers_of_au, (numbers_of_jp, (numbers_of_nz, tt)));
   ordered = ((refl, (refl, tt)), ((refl, tt), (tt, tt)));
 }
 

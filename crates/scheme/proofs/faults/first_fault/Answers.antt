@@ -12,7 +12,7 @@ returns-then-not-have_different_codes-clause-some c =
         inl (
           refl,
           (λ free.
-              not_so c.have_different_codes.result c.have_different_codes.ensures c.if-not-have_different_codes.true (codes_rise c.args.members.now c.requires free)),
+              not_so c.have_different_codes.result c.have_different_codes.ensures c.if-not-have_different_codes.true (codes_rise c.args.members.now c.requires.sorted free)),
         ),
       ),
     )
@@ -90,4 +90,4 @@ returns-clause-none c =
     let blocks = c.as_mut_slice.ensures.value ∙ c.in_ok-blocks.ensures in
     let few = so c.are_few.result c.are_few.ensures c.if-not-are_few.false in
     let free = subst AllApart blocks (so c.are_apart.result c.are_apart.ensures c.if-not-are_apart.false) in
-    record { free = (few, (c.if-members-lt-LEAST_REGISTRIES.false, (codes_differ c.args.members.now rise, (apart, (known, (free, tt)))))); ordered = rise }
+    record { free = (few, (c.if-members-lt-LEAST_REGISTRIES.false, (codes_differ c.args.members.now rise, (apart, (known, (free, tt)))))); numbered = c.requires.numbered; ordered = rise }

@@ -106,6 +106,8 @@ impl NodeCore for LogCore {
 
     ghost journal_of = { λ l. l.journal };
 
+    ghost lacked_memory = { λ _ _. Unit {0} };
+
     fn node(&self) -> Node {
         Node::Itl
     }

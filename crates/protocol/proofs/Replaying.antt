@@ -1,10 +1,10 @@
 -- Journals whose records are each recorded at their place, with one record more; and those that are not.
-use Rattle.std.specs.Prelude.{◌==◌, false, ◌≡◌, ◌⊎◌, ℕ, ◌+◌, ◌<◌, ◌≤◌, List, [], ◌∷◌, ◌++◌, length, take, slice_get, Result, Ok, Err, Some, refl}
-use Rattle.std.proofs.Common.{sym, ap, arith, suc, zero, inl, inr, subst, ◌∙◌, drop, get_or, append_assoc, append-nil, length-append, zero-add, take-append-drop}
+use Rattle.std.specs.Prelude.{◌==◌, false, ◌≡◌, ◌⊎◌, ℕ, ◌+◌, ◌<◌, ◌≤◌, List, [], ◌∷◌, ◌++◌, length, ◌-◌, take, slice_get, Result, Ok, Err, Some, refl}
+use Rattle.std.proofs.Common.{sym, ap, arith, suc, zero, inl, inr, subst, ◌∙◌, drop, get_or, append_assoc, append-nil, length-append, length-take, zero-add, take-append-drop}
 use Rattle.std.proofs.Math.Seq.{take-append_seam, take-suc}
 use Rattle.std.proofs.lemmas.List.{take-append-le}
 use Rattle.std.proofs.lemmas.Bool.{true≢false, eq-eqb}
-use Rattle.std.proofs.lemmas.Option.{slice_get_within}
+use Rattle.std.proofs.lemmas.Option.{slice_get_read, slice_get_within}
 use Rattle.units.specs.RefusalCodes.{out_of_memory}
 use Rattle.units.specs.declared.code.Node.{Node}
 use Rattle.units.specs.declared.refusal.Refusal.{Refusal}
@@ -105,6 +105,15 @@ fault_at_next scheme s n m old j inputs k i fault schemes nodes taken below item
     subst (λ (x : Scheme). HasFault x n (old ++ inputs) fault) schemes
     (subst (λ (x : Node). HasFault s x (old ++ inputs) fault) nodes
     (subst (λ (l : List Input). HasFault s m l fault) whole (fault_more s m (j ++ i ∷ []) (drop (suc k) inputs) fault bad)))
+
+-- the first of some inputs that a core has not recorded
+pub next_input : {X : Type 0} (old inputs before new : List X) (k : ℕ) (i : X) → before ≡ old ++ take k inputs → new ≡ before → k < length inputs → i ≡ get_or inputs k i → slice_get inputs (length new - length old) ≡ Some i
+next_input old inputs before new k i taken same below item =
+    let a : length (old ++ take k inputs) ≡ length old + length (take k inputs) = length-append old (take k inputs) in
+    let b : length (take k inputs) ≡ k = omega (arith, length-take k inputs, below) in
+    let c : length new ≡ length (old ++ take k inputs) = ap length (same ∙ taken) in
+    let count : length new - length old ≡ k = omega arith in
+    subst (λ (m : ℕ). slice_get inputs m ≡ Some i) (sym count) (slice_get_read inputs (length inputs) k i refl below item)
 
 -- a code that differs from out of memory
 pub refused_otherwise : (code : ℕ) → (code == out_of_memory) ≡ false → code ≡ out_of_memory → ⊥

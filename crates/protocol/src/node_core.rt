@@ -18,7 +18,8 @@ pub enum Stepped {
 /// The core of a node: a scheme, a node, and its journal, the list of the inputs that it recorded, the oldest first.
 /// All that it returns is what `verdict`, `sends` and `stands` say of the journal's history.
 pub trait NodeCore: Drop {
-    ghost use Rattle.std.specs.Prelude.{◌≡◌, ℕ, List, [], length, take, slice_get, option_copied, IfOk};
+    ghost use Rattle.std.specs.Prelude.{◌≡◌, ℕ, List, [], length, take, slice_get, option_copied, IfErr, IfOk};
+    ghost use Rattle.units.specs.RefusalCodes.{out_of_memory};
     ghost use Rattle.units.specs.declared.code.Node.{Node};
     ghost use Rattle.wire.specs.declared.input.Input.{Input};
     ghost use Rattle.scheme.specs.declared.registries.Scheme.{Scheme};
@@ -36,6 +37,9 @@ pub trait NodeCore: Drop {
     /// The inputs that it recorded, the oldest first.
     ghost journal_of: { Self → List Input };
 
+    /// That core lacked the memory to take the input. Only `step` says so.
+    ghost lacked_memory: { Self → Input → Type 0 };
+
     /// The node that it is the core of.
     fn node(&self) -> Node
         ensures { result ≡ node_of self.now };
@@ -49,6 +53,7 @@ pub trait NodeCore: Drop {
     /// returned, or it is a repeat, or late, or it is refused for the reason that the code tells. Refusal
     /// `OUT_OF_MEMORY` may come in place of any of these. Where the input isn't recorded, nothing has changed.
     fn step(&mut self, input: &Input) -> Result<Stepped, Refusal>
+        ensures memory { IfErr result (λ refusal. refusal.code ≡ out_of_memory → lacked_memory self.old input.now) }
         ensures answer { IsDueOrNoMemory result (answer (scheme_of self.old) (node_of self.old) (journal_of self.old) input.now) }
         ensures journal { journal_of self.new ≡ after (journal_of self.old) input.now result }
         ensures scheme { scheme_of self.new ≡ scheme_of self.old }

@@ -1,6 +1,8 @@
 //! Journals taken into a core again.
-ghost use Rattle.std.specs.Prelude.{◌≡◌, ◌-◌, ◌<◌, [], ◌∷◌, ◌++◌, length, take, IfOk, IfErr, OnOk, OnErr};
+ghost use Rattle.std.specs.Prelude.{◌≡◌, ◌-◌, ◌<◌, [], ◌∷◌, ◌++◌, length, take, slice_get, IfOk, IfErr, OnOk, OnErr, Some};
 ghost use Rattle.protocol.specs.Cores.{HasFault, IsAt};
+ghost use Rattle.protocol.specs.declared.replay_fault.ReplayFault.TheVariants.{NoMemory};
+ghost use Rattle.wire.specs.declared.input.Input.{Input};
 
 use crate::node_core::{NodeCore, Stepped};
 use crate::replay_fault::ReplayFault;
@@ -15,6 +17,7 @@ fn resume_one<C: NodeCore>(core: &mut C, input: &Input) -> Result<(), ReplayFaul
     ensures err { OnErr result (C.journal_of core.new ≡ C.journal_of core.old) }
     ensures fault { IfErr result (HasFault (C.scheme_of core.old) (C.node_of core.old) (C.journal_of core.old ++ input.now ∷ [])) }
     ensures place { IfErr result (IsAt (length (C.journal_of core.old))) }
+    ensures memory { IfErr result (λ e. e ≡ NoMemory → C.lacked_memory core.old input.now) }
 {
     let place = core.journal().len();
     match core.step(input) {
@@ -29,7 +32,8 @@ fn resume_one<C: NodeCore>(core: &mut C, input: &Input) -> Result<(), ReplayFaul
 /// Takes each of these inputs into the core, in their order, as a record after its journal.
 ///
 /// Fails with `NotRecorded` at the first of them that the core doesn't record there, which is told by its place in
-/// the whole journal, and with `NoMemory` where memory ran out. The inputs before that one are recorded, and no other.
+/// the whole journal, and with `NoMemory` where the core lacked the memory for one of them. The inputs before that one
+/// are recorded, and no other.
 pub fn resume<C: NodeCore>(core: &mut C, inputs: &[Input]) -> Result<(), ReplayFault>
     ensures scheme { C.scheme_of core.new ≡ C.scheme_of core.old }
     ensures node { C.node_of core.new ≡ C.node_of core.old }
@@ -38,6 +42,7 @@ pub fn resume<C: NodeCore>(core: &mut C, inputs: &[Input]) -> Result<(), ReplayF
     ensures left { OnErr result (length (C.journal_of core.new) < length (C.journal_of core.old ++ inputs.now)) }
     ensures fault { IfErr result (HasFault (C.scheme_of core.old) (C.node_of core.old) (C.journal_of core.old ++ inputs.now)) }
     ensures place { IfErr result (IsAt (length (C.journal_of core.new))) }
+    ensures memory { IfErr result (λ e. e ≡ NoMemory → (before : C) × (input : Input) × (slice_get inputs.now (length (C.journal_of core.new) - length (C.journal_of core.old)) ≡ Some input) × (C.journal_of before ≡ C.journal_of core.new) × C.lacked_memory before input) }
 {
     for input in inputs {
         resume_one(core, input)?;

@@ -134,6 +134,8 @@ impl NodeCore for RegistryCore {
 
     ghost journal_of = { λ r. r.journal };
 
+    ghost lacked_memory = { λ _ _. Unit {0} };
+
     fn node(&self) -> Node {
         Node::Registry(self.code)
     }

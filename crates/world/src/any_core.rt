@@ -40,6 +40,8 @@ impl NodeCore for Core {
 
     ghost journal_of = { cores.journal_of };
 
+    ghost lacked_memory = { λ _ _. Unit {0} };
+
     fn node(&self) -> Node {
         match self {
             Core::Registry(core) => core.node(),

@@ -107,10 +107,11 @@ impl World {
     }
 
     /// The cores of all nodes, each with its journal and the tail: the log's, then those of the registries in the
-    /// scheme's order. Or `NoMemory`; the world is gone then too.
+    /// scheme's order. Each goes by the scheme. Or `NoMemory`; the world is gone then too.
     pub fn into_cores(self) -> Result<Vec<Core>, NoMemory>
         ensures stations { map (λ s. s.node) self.stations ≡ nodes self.scheme }
         ensures nodes { IfOk result (λ v. map node_of v.items ≡ nodes self.scheme) }
+        ensures schemes { IfOk result (λ v. All (λ core. scheme_of core ≡ self.scheme) v.items) }
         ensures journals { IfOk result (λ v. map journal_of v.items ≡ map journal self.stations) }
     {
         let World {

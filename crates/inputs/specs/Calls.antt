@@ -36,7 +36,7 @@ StopsReading c = (c.failed ≡ true) ⊎ (most_reads ≤ c.count)
 abbrev pub StopsWriting : Calls → Type 0
 StopsWriting c = (c.failed ≡ true) ⊎ ((c.empty ≡ true) ⊎ (most_interrupted ≤ c.interrupted))
 
--- out of memory, or reading stopped for such a reason
+-- reading stopped for such a reason, or memory ran out while no read had failed
 abbrev pub IsReadingFault : ReadFault → Type 0
 IsReadingFault (Read calls) = StopsReading calls
-IsReadingFault NoMemory = Unit {0}
+IsReadingFault (NoMemory calls) = calls.failed ≡ false

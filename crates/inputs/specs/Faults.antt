@@ -38,7 +38,7 @@ op_fault_text NoMemory = codes "out of memory"
 -- what a fault of a reader is to a command
 abbrev pub of_reading : ReadFault → OpFault
 of_reading (reading.Read calls) = Read
-of_reading reading.NoMemory = NoMemory
+of_reading (reading.NoMemory calls) = NoMemory
 
 -- out of memory is the command's own fault, and every other one the store's
 abbrev pub of_store : Node → StoreFault → OpFault

@@ -16,7 +16,7 @@ pub struct Calls {
 }
 
 impl Calls {
-    ghost use Rattle.std.specs.Prelude.{◌≡◌};
+    ghost use Rattle.std.specs.Prelude.{◌≡◌, ◌<◌, length};
     ghost use Rattle.std.specs.Io.{ReadsAtMost, WritesAtMost};
     ghost use Rattle.std.specs.Io.KnownBytes.{ReadConsumes, WriteAppends};
     ghost use Rattle.inputs.specs.Calls.{Counts, no_calls};
@@ -67,6 +67,7 @@ impl Calls {
 
     /// Reads once, and counts the call.
     pub fn read<R: Read>(&mut self, reader: &mut R, piece: &mut [u8]) -> Result<usize>
+        requires { 0 < length piece.old }
         ensures counts { Counts self.old self.new result }
         ensures bound { ReadsAtMost result piece.new }
         ensures bytes { ReadConsumes (R.remaining reader.old) (R.remaining reader.new) result piece.new }
@@ -78,6 +79,7 @@ impl Calls {
 
     /// Writes once, and counts the call.
     pub fn write<W: Write>(&mut self, writer: &mut W, bytes: &[u8]) -> Result<usize>
+        requires { 0 < length bytes.now }
         ensures counts { Counts self.old self.new result }
         ensures bound { WritesAtMost result bytes.now }
         ensures bytes { WriteAppends (W.contents writer.old) (W.contents writer.new) result bytes.now }

@@ -29,8 +29,8 @@ pub enum ReadFault {
     /// A read failed and was not interrupted, or the end didn't come in `MOST_READS` reads. It has the reads that
     /// there were.
     Read(Calls),
-    /// Out of memory.
-    NoMemory,
+    /// Out of memory. It has the reads that there were, of which none failed.
+    NoMemory(Calls),
 }
 
 /// Why not all was written: a write failed and was not interrupted, or took no byte, or `MOST_INTERRUPTED` of them were
@@ -51,7 +51,7 @@ impl From<ReadFault> for OpFault {
     fn from(fault: ReadFault) -> OpFault {
         match fault {
             ReadFault::Read(_) => OpFault::Read,
-            ReadFault::NoMemory => OpFault::NoMemory,
+            ReadFault::NoMemory(_) => OpFault::NoMemory,
         }
     }
 }
@@ -83,7 +83,7 @@ pub fn read_input<R: Read>(alloc: Global, reader: &mut R) -> Result<Vec<u8>, Rea
             Ok(0) => return Ok(input),
             Ok(n) => {
                 if input.extend_from_slice(&piece[..n]).is_err() {
-                    return Err(ReadFault::NoMemory);
+                    return Err(ReadFault::NoMemory(calls));
                 }
                 if input.len() > LONGEST_INPUT {
                     return Ok(input);

@@ -2,10 +2,10 @@
 -- in a list of pieces. Each step of the canonical form, which puts a block in its place and joins two neighbours,
 -- is shown to keep every tally. A list of pieces has no repeats exactly if every tally is at most one, so the
 -- canonical form has none if the blocks had none.
-use Rattle.std.proofs.Common.{◌≡◌, ℕ, zero, suc, ◌+◌, ◌-◌, ◌≤◌, List, [], ◌∷◌, ◌++◌, Bool, true, false, cond, inl, inr, refl, sym, ap, subst, ◌∙◌, arith, map, append_assoc}
-use Rattle.std.specs.Prelude.{◌||◌, ◌==◌, nat_lt}
+use Rattle.std.proofs.Common.{◌≡◌, ℕ, zero, suc, ◌+◌, ◌-◌, ◌≤◌, List, [], ◌∷◌, ◌++◌, Bool, true, false, true≢false, cond, Option, Some, None, ◌⊎◌, inl, inr, refl, sym, ap, subst, ◌∙◌, arith, map, append_assoc}
+use Rattle.std.specs.Prelude.{◌||◌, ◌==◌, nat_lt, find}
 use Rattle.std.specs.List.{list_any, count_by}
-use Rattle.std.proofs.lemmas.Bool.{cases_Bool, and_parts, or_parts, eqb-true, ltb-false}
+use Rattle.std.proofs.lemmas.Bool.{cases_Bool, cond-true, cond-false, and_parts, or_parts, eqb-true, ltb-false}
 use Rattle.units.proofs.Same.{code_of_same, kind_of_same, period_of_same}
 use Rattle.units.specs.Code.{same_code}
 use Rattle.units.specs.Unit.{same_period, same_kind}
@@ -16,8 +16,8 @@ use Rattle.units.specs.Canonical.{canonical, put_block, join_block, in_order, jo
 use Rattle.units.specs.Unit.{have_unit}
 use Rattle.protocol.specs.Pieces.{Piece, piece, pieces, pieces_of, repeats, same_unit, up_from}
 use Rattle.lemmas.proofs.SomePass.{list_any_some, list_any_none, list_any_not}
-use Rattle.protocol.proofs.CountsInLists.{count_yes, count_no, number_none, number_append, number_one}
-use Rattle.lemmas.proofs.Membership.{In, In_cases, In_left, In_right}
+use Rattle.protocol.proofs.CountsInLists.{count_yes, count_no, number_none, number_append, number_one, number_some}
+use Rattle.lemmas.proofs.Membership.{In, In_cases, In_left, In_right, In_find}
 use Rattle.protocol.proofs.UnitsOfBlocks.{unit_of_same, same_unit_refl, piece_of}
 
 abbrev is_at : Serial → Piece → Bool
@@ -211,3 +211,53 @@ canonical_from bs good p h = order_from bs p (joined_from (in_order bs) p (order
 -- a unit of the canonical form is one of the blocks
 pub canonical_piece : (bs : List RawBlock) → list_any is_out_of_range bs ≡ false → (s : Serial) → have_unit (canonical bs) s ≡ true → (p : Piece) × In p (pieces bs) × (p.unit ≡ s)
 canonical_piece bs good s h = let p = piece_of (canonical bs) s h in (p.0, canonical_from bs good p.0 p.1, p.2)
+
+-- ---- each unit is found in the canonical form as it is in the blocks
+
+-- where no unit is there twice, no later piece has the unit of the first
+alone : (p : Piece) (ps : List Piece) (q : Piece) → repeats (p ∷ ps) ≡ false → In q ps → p.unit ≡ q.unit → ⊥
+alone p ps q h i e =
+    let f = list_any_none (λ (t : Piece). same_unit p.unit t.unit) ps q (or_parts (list_any (λ (t : Piece). same_unit p.unit t.unit) ps) (repeats ps) h).0 i in
+    true≢false (sym (subst (λ u. same_unit p.unit u ≡ true) e (same_unit_refl p.unit)) ∙ f)
+
+-- pieces of one unit are then one
+one_piece : (ps : List Piece) (p q : Piece) → repeats ps ≡ false → In p ps → In q ps → p.unit ≡ q.unit → p ≡ q
+one_piece [] p q h i j e = absurd i
+one_piece (r ∷ rs) p q h (inl x) (inl y) e = sym x ∙ y
+one_piece (r ∷ rs) p q h (inl x) (inr j) e = absurd (alone r rs q h j (ap (λ (t : Piece). t.unit) x ∙ e))
+one_piece (r ∷ rs) p q h (inr i) (inl y) e = absurd (alone r rs p h i (ap (λ (t : Piece). t.unit) y ∙ sym e))
+one_piece (r ∷ rs) p q h (inr i) (inr j) e = one_piece rs p q (or_parts (list_any (λ (t : Piece). same_unit r.unit t.unit) rs) (repeats rs) h).1 i j e
+
+found_none : {X : Type 0} (p : X → Bool) (xs : List X) (x : X) → In x xs → p x ≡ true → find p xs ≡ None → ⊥
+found_none p [] x i h e = i
+found_none p (y ∷ ys) x i h e = elim (cases_Bool (p y)) [
+  | inl t ↦ let hit = sym (cond-true (p y) (Some y) (find p ys) t) ∙ e in cc (hit)
+  | inr f ↦ found_none p ys x (later i f) h (sym (cond-false (p y) (Some y) (find p ys) f) ∙ e)
+]
+  where
+    later : (y ≡ x) ⊎ In x ys → p y ≡ false → In x ys
+    later (inl same) f = absurd (true≢false (sym (ap p same ∙ h) ∙ f))
+    later (inr j) f = j
+
+-- what is found among some pieces is found among others without repeats, if these have the same tallies and all of those
+found_alike : (ps qs : List Piece) → repeats qs ≡ false → ((s : Serial) → tally s ps ≡ tally s qs) → ((p : Piece) → In p ps → In p qs)
+    → (s : Serial) → find (is_at s) ps ≡ find (is_at s) qs
+found_alike ps qs once same from s = go (find (is_at s) ps) (find (is_at s) qs) refl refl
+  where
+    go : (a b : Option Piece) → find (is_at s) ps ≡ a → find (is_at s) qs ≡ b → a ≡ b
+    go None None e f = refl
+    go None (Some q) e f =
+        let i = In_find (is_at s) qs q f in
+        let one = number_one (is_at s) qs q i.0 i.1 in
+        let tallies = same s in
+        let p = number_some (is_at s) ps (omega arith) in
+        absurd (found_none (is_at s) ps p.0 p.1 p.2 e)
+    go (Some p) None e f = let i = In_find (is_at s) ps p e in absurd (found_none (is_at s) qs p (from p i.0) i.1 f)
+    go (Some p) (Some q) e f =
+        let i = In_find (is_at s) ps p e in
+        let j = In_find (is_at s) qs q f in
+        ap Some (one_piece qs p q once (from p i.0) j.0 (unit_of_same p.unit s i.1 ∙ sym (unit_of_same q.unit s j.1)))
+
+pub canonical_found : (bs : List RawBlock) → list_any is_out_of_range bs ≡ false → repeats (pieces bs) ≡ false
+    → (s : Serial) → find (λ (p : Piece). same_unit p.unit s) (pieces (canonical bs)) ≡ find (λ (p : Piece). same_unit p.unit s) (pieces bs)
+canonical_found bs good once s = found_alike (pieces (canonical bs)) (pieces bs) once (tally_canonical bs good) (canonical_from bs good) s

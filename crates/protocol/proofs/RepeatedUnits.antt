@@ -3,7 +3,7 @@ use Rattle.std.proofs.Common.{◌≡◌, ℕ, zero, suc, List, [], ◌∷◌, �
 use Rattle.std.specs.Prelude.{◌-◌}
 use Rattle.std.specs.List.{list_any, AllByRecursion}
 use Rattle.std.proofs.lemmas.Bool.{or_parts}
-use Rattle.units.specs.Apart.{AreApart, AllApart}
+use Rattle.units.specs.Apart.{AreApart, AllApart, Pairwise}
 use Rattle.units.specs.Unit.{has_unit}
 use Rattle.units.specs.declared.block.Block.{Block}
 use Rattle.units.specs.declared.block.RawBlock.{RawBlock}
@@ -83,4 +83,20 @@ apart_repeats [] h = tt
 apart_repeats (b ∷ bs) h = (
   one_apart b bs (λ p q i j e. repeats_across (pieces_of b.raw) (pieces (raws bs)) p q h i j e),
   apart_repeats bs (repeats_right (pieces_of b.raw) (pieces (raws bs)) h),
+)
+
+-- blocks as they are written
+raw_apart : (b : RawBlock) (bs : List RawBlock) → ((p q : Piece) → In p (pieces_of b) → In q (pieces bs) → p.unit ≡ q.unit → ⊥) → AllByRecursion (AreApart b) bs
+raw_apart b [] no' = tt
+raw_apart b (c ∷ cs) no' = (
+  λ s x y. no' (record { unit = s; kind = b.kind }) (record { unit = s; kind = c.kind }) (piece_of_block b s x)
+      (In_left (record { unit = s; kind = c.kind }) (pieces_of c) (pieces cs) (piece_of_block c s y)) refl,
+  raw_apart b cs (λ p q i j e. no' p q i (In_right q (pieces_of c) (pieces cs) j) e),
+)
+
+pub raws_apart : (blocks : List RawBlock) → repeats (pieces blocks) ≡ false → Pairwise AreApart blocks
+raws_apart [] h = tt
+raws_apart (b ∷ bs) h = (
+  raw_apart b bs (λ p q i j e. repeats_across (pieces_of b) (pieces bs) p q h i j e),
+  raws_apart bs (repeats_right (pieces_of b) (pieces bs) h),
 )

@@ -1,7 +1,9 @@
 pub mod ListLemmas
+pub mod CanonicalOrder
 pub mod MovesAndHistories
 pub mod OneRegistry
 pub mod OneLog
+pub mod CleanUps
 pub mod AgreementOfNodes
 pub mod WorldLemmas
 pub mod OwnersOfUnits

@@ -3,6 +3,8 @@
 #![tactic(auto)]
 
 mod agreement;
+mod canonical_blocks;
+mod clean_ups;
 mod counting;
 mod debts;
 mod deliveries;
@@ -13,6 +15,8 @@ mod resolution;
 mod weaving;
 
 pub use agreement::nodes_agree;
+pub use canonical_blocks::canonical_form_keeps_units;
+pub use clean_ups::clean_up_takes_what_is_due;
 pub use counting::{completed_once, numbers_are_new, registry_counts_once};
 pub use debts::debts_are_owed;
 pub use deliveries::deliveries_are_welcome;

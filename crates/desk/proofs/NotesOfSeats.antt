@@ -9,12 +9,11 @@ use Rattle.std.proofs.lemmas.List.Sorted.{All-permutation, IsPermutation-sym}
 use Rattle.lemmas.proofs.Membership.{In, In_flat_map, map_In}
 use Rattle.lemmas.proofs.Positions.{In_contains, contains_in}
 use Rattle.units.specs.declared.code.Node.{Node}
-use Rattle.units.specs.declared.memory.NoMemory.{NoMemory}
 use Rattle.wire.specs.declared.input.Input.{Input}
 use Rattle.scheme.specs.declared.registries.Scheme.{Scheme}
 use Rattle.desk.specs.declared.notes.Note.{Note}
 use Rattle.desk.specs.Settling.{AllBorne, Bears, SomeUnborne}
-use Rattle.desk.specs.Views.{Held, Heard}
+use Rattle.desk.specs.Views.{Heard}
 
 -- ---- in another order
 
@@ -87,7 +86,7 @@ module _ {X : Type 0} (seen : X → Note) (scheme : Scheme) (n : Node) (seats : 
   abbrev FoundInSeats : List Input → Option ℕ → Type 0
   FoundInSeats journal found = MatchOption found (All (AllBorne scheme n journal) seats) (λ len. Any (SomeUnborne scheme n journal len) seats)
 
-  found_among : (journal : List Input) → IsPermutation (flat_map (λ (s : Heard). s.notes) seats) (map seen notes) → (result : Result (Option ℕ) NoMemory) → IfOk result (Found journal) → IfOk result (FoundInSeats journal)
+  found_among : {E : Type 0} (journal : List Input) → IsPermutation (flat_map (λ (s : Heard). s.notes) seats) (map seen notes) → (result : Result (Option ℕ) E) → IfOk result (Found journal) → IfOk result (FoundInSeats journal)
   found_among journal moved (Err e) h = tt
   found_among journal moved (Ok None) h =
       all_of_each (λ (s : Heard). s.notes) (Bears scheme n journal) seats (map seen notes) moved (all_after seen (Bears scheme n journal) notes h)
@@ -95,8 +94,8 @@ module _ {X : Type 0} (seen : X → Note) (scheme : Scheme) (n : Node) (seats : 
       let P : Note → Type 0 = λ note. (note.length ≡ len) × (Bears scheme n journal note → ⊥) in
       some_of_one (λ (s : Heard). s.notes) P seats (map seen notes) moved (some_after seen P notes h)
 
-  pub found_in_seats : (lent journal : List Input) → lent ≡ journal → IsPermutation (flat_map (λ (s : Heard). s.notes) seats) (map seen notes)
-      → (result : Result (Option ℕ) NoMemory) → IfOk result (Found lent) → IfOk result (FoundInSeats journal)
+  pub found_in_seats : {E : Type 0} (lent journal : List Input) → lent ≡ journal → IsPermutation (flat_map (λ (s : Heard). s.notes) seats) (map seen notes)
+      → (result : Result (Option ℕ) E) → IfOk result (Found lent) → IfOk result (FoundInSeats journal)
   found_in_seats lent journal journals moved result h = found_among journal moved result (subst (λ (j : List Input). IfOk result (Found j)) journals h)
 
 -- ---- one after another

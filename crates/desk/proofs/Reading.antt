@@ -1,10 +1,11 @@
 -- A store read page by page into a core, as far as its records go.
-use Rattle.std.proofs.Common.{◌≡◌, ◌++◌, ◌+◌, ◌-◌, ◌<◌, ℕ, zero, suc, Bool, true, false, List, [], ◌∷◌, length, take, drop, Some, None, Result, Ok, Err, Vec, IsTrue, refl, sym, ap, subst, ◌∙◌, arith, inl, inr}
+use Rattle.std.proofs.Common.{◌≡◌, ◌++◌, ◌+◌, ◌-◌, ◌*◌, ◌<◌, ◌≤◌, ℕ, zero, suc, Bool, true, false, List, [], ◌∷◌, length, take, drop, Some, None, Result, Ok, Err, Vec, IsTrue, refl, sym, ap, subst, ◌∙◌, arith, inl, inr, length-append}
 use Rattle.std.proofs.Common.{Global}
+use Rattle.std.proofs.lemmas.Option.{slice_get_within}
 use Rattle.units.specs.declared.code.Node.{Node}
 use Rattle.wire.specs.declared.input.Input.{Input}
 use Rattle.scheme.specs.declared.registries.Scheme.{Scheme}
-use Rattle.protocol.specs.Cores.{HasFault, IsFirstNotRecorded}
+use Rattle.protocol.specs.Cores.{HasFault, IsAt, IsFirstNotRecorded, Replays}
 use Rattle.protocol.specs.declared.replay_fault.ReplayFault.{ReplayFault}
 use Rattle.protocol.specs.declared.replay_fault.ReplayFault.TheVariants as replay
 use Rattle.stores.specs.Calls.{Loads}
@@ -12,7 +13,7 @@ use Rattle.stores.specs.Faults.{is_device_fault, IsReadFault}
 use Rattle.stores.specs.Records.{Places, AreRecords, IsDamagedAt}
 use Rattle.stores.specs.declared.fault.StoreFault.{StoreFault}
 use Rattle.stores.specs.declared.fault.StoreFault.TheVariants.{Reopen, Damaged, NoMemory}
-use Rattle.desk.specs.Loading.{IsLoaded, IsReadTo, damage_of}
+use Rattle.desk.specs.Loading.{IsInPage, IsLoaded, IsReadTo, damage_of, page_size}
 
 -- ---- places
 
@@ -26,6 +27,13 @@ damaged_front q (suc m) [] h = absurd (none_damaged q h)
 damaged_front zero (suc m) (place ∷ places) h = h
 damaged_front (suc q) (suc m) (None ∷ places) h = h
 damaged_front (suc q) (suc m) (Some text ∷ places) h = (h.0, damaged_front q m places h.1)
+
+damaged_within : (q m : ℕ) (places : Places) → IsDamagedAt q (take m places) → q < m
+damaged_within q zero places h = absurd (none_damaged q h)
+damaged_within q (suc m) [] h = absurd (none_damaged q h)
+damaged_within zero (suc m) (place ∷ places) h = omega arith
+damaged_within (suc q) (suc m) (None ∷ places) h = absurd h
+damaged_within (suc q) (suc m) (Some text ∷ places) h = let below = damaged_within q m places h.1 in omega (arith, below)
 
 -- damage after places with records
 damaged_after : (records : List Input) (p q m : ℕ) (places : Places) → p ≡ length records + q → AreRecords (take (length records) places) records → IsDamagedAt q (take m (drop (length records) places)) → IsDamagedAt p places
@@ -64,6 +72,27 @@ more_read (record_here ∷ records) page m [] read h = absurd read
 more_read (record_here ∷ records) page m (None ∷ places) read h = absurd read
 more_read (record_here ∷ records) page m (Some text ∷ places) read h = (read.0, more_read records page m places read.1 h)
 
+-- all places to the end of such a page have records
+through_page : (records page : List Input) (m all : ℕ) (places : Places) → all ≡ length records + m → AreRecords (take (length records) places) records → AreRecords (take m (drop (length records) places)) page
+    → AreRecords (take all places) (records ++ page)
+through_page [] page m all places is read h = let same : m ≡ all = omega arith in subst (λ (k : ℕ). AreRecords (take k places) page) same h
+through_page (record_here ∷ records) page m all [] is read h = absurd read
+through_page (record_here ∷ records) page m all (None ∷ places) is read h = absurd read
+through_page (record_here ∷ records) page m zero (Some text ∷ places) is read h = absurd (omega arith)
+through_page (record_here ∷ records) page m (suc all) (Some text ∷ places) is read h = (read.0, through_page records page m all places (omega arith) read.1 h)
+
+-- there are no more records than places
+count_within : (m : ℕ) (places : Places) (page : List Input) → AreRecords (take m places) page → length page ≤ m
+count_within m places [] h = omega arith
+count_within zero places (input ∷ page) h = absurd h
+count_within (suc m) [] (input ∷ page) h = absurd h
+count_within (suc m) (None ∷ places) (input ∷ page) h = absurd h
+count_within (suc m) (Some text ∷ places) (input ∷ page) h = let rest = count_within m places page h.1 in omega (arith, rest)
+
+-- a place of the page that comes after whole pages
+in_page : (pages start place : ℕ) → start ≡ pages * page_size → start ≤ place → place < start + page_size → IsInPage pages place
+in_page pages start place is from to = (omega (arith, is, from), omega (arith, is, to))
+
 -- ---- what a page leaves
 
 reopen_only : {X : Type 0} (fault : StoreFault) → let told : Result X StoreFault = Err fault in told ≡ Err Reopen → fault ≡ Reopen
@@ -79,14 +108,14 @@ module _ {S : Type 0} (is_honest : S → Type 0) (content : S → Places) (may_h
   abbrev Loaded : Scheme → Node → S → S → Result (List Input) StoreFault → Type 0
   Loaded scheme n old new result = IsLoaded is_honest content may_hold must_reopen scheme n old new result
 
-  -- a page of that many places at most, after the journal, was asked for
-  abbrev LoadsPage : S → S → ℕ → List Input → Result (Vec Input Global) StoreFault → Type 0
-  LoadsPage old new most journal result = Loads is_honest content may_hold must_reopen old new (length journal) (take most (drop (length journal) (content old))) result
+  -- the page after the journal was asked for
+  abbrev LoadsPage : S → S → List Input → Result (Vec Input Global) StoreFault → Type 0
+  LoadsPage old new journal result = Loads is_honest content may_hold must_reopen old new (length journal) (take page_size (drop (length journal) (content old))) result
 
   -- the same, where the place is a number that is told
-  pub page_after : (old new : S) (from : ℕ) (most : ℕ) (journal : List Input) (result : Result (Vec Input Global) StoreFault) → from ≡ length journal
-      → Loads is_honest content may_hold must_reopen old new from (take most (drop from (content old))) result → LoadsPage old new most journal result
-  page_after old new from most journal result is loads = subst (λ (k : ℕ). Loads is_honest content may_hold must_reopen old new k (take most (drop k (content old))) result) is loads
+  pub page_after : (old new : S) (from : ℕ) (journal : List Input) (result : Result (Vec Input Global) StoreFault) → from ≡ length journal
+      → Loads is_honest content may_hold must_reopen old new from (take page_size (drop from (content old))) result → LoadsPage old new journal result
+  page_after old new from journal result is loads = subst (λ (k : ℕ). Loads is_honest content may_hold must_reopen old new k (take page_size (drop k (content old))) result) is loads
 
   ran_as : (old new : S) (waits : Bool) → must_reopen old ≡ waits → (IsTrue (must_reopen old) → new ≡ old) → must_reopen new ≡ false → must_reopen old ≡ false
   ran_as old new true was same runs = ap must_reopen (sym (same was)) ∙ runs
@@ -98,7 +127,7 @@ module _ {S : Type 0} (is_honest : S → Type 0) (content : S → Places) (may_h
 
   -- nothing was read yet
   pub opened : (store : S) → ReadTo store store []
-  opened store = record { same = inl refl; honest = λ h. h; kept = λ h. refl; records = λ h. tt }
+  opened store = record { same = inl refl; honest = λ h. h; kept = λ h. refl; records = λ h. tt; whole = λ h. (0, refl) }
 
   runs_on : (old mid : S) (journal : List Input) → ReadTo old mid journal → must_reopen old ≡ false → must_reopen mid ≡ false
   runs_on old mid journal read runs = elim read.same [ inl same ↦ ap must_reopen same ∙ runs | inr both ↦ both.1 ]
@@ -106,8 +135,8 @@ module _ {S : Type 0} (is_honest : S → Type 0) (content : S → Places) (may_h
   waits_on : (old mid : S) (journal : List Input) → ReadTo old mid journal → IsTrue (must_reopen old) → mid ≡ old
   waits_on old mid journal read waits = elim read.same [ inl same ↦ same | inr both ↦ let never : true ≡ false = sym waits ∙ both.0 in absurd (cc (never)) ]
 
-  pub page_failed : (scheme : Scheme) (n : Node) (old mid new : S) (most : ℕ) (journal : List Input) (fault : StoreFault) → ReadTo old mid journal → LoadsPage mid new most journal (Err fault) → Loaded scheme n old new (Err fault)
-  page_failed scheme n old mid new most journal fault read loads = record {
+  pub page_failed : (scheme : Scheme) (n : Node) (old mid new : S) (journal : List Input) (fault : StoreFault) → Replays scheme n journal → ReadTo old mid journal → LoadsPage mid new journal (Err fault) → Loaded scheme n old new (Err fault)
+  page_failed scheme n old mid new journal fault recorded read loads = record {
     reopen = λ waits.
         let same = waits_on old mid journal read waits in
         let told = loads.reopen (subst (λ (s : S). IsTrue (must_reopen s)) (sym same) waits) in
@@ -117,8 +146,17 @@ module _ {S : Type 0} (is_honest : S → Type 0) (content : S → Places) (may_h
     damaged = λ h place is.
         let found = loads.damaged h place is in
         let early = loads.honest h in
-        inl (damaged_after journal place (place - length journal) most (content old) (omega (arith, found.0)) (read.records early)
-        (subst (λ (places : Places). IsDamagedAt (place - length journal) (take most (drop (length journal) places))) (read.kept early) found.1));
+        let whole = read.whole early in
+        let below = damaged_within (place - length journal) page_size (drop (length journal) (content mid)) found.1 in
+        inl (record {
+          pages = whole.0;
+          here = in_page whole.0 (length journal) place whole.1 found.0 (omega (arith, below));
+          records = journal;
+          before = subst (λ (k : ℕ). AreRecords (take k (content old)) journal) whole.1 (read.records early);
+          recorded = recorded;
+          damaged = damaged_after journal place (place - length journal) page_size (content old) (omega (arith, found.0)) (read.records early)
+              (subst (λ (places : Places). IsDamagedAt (place - length journal) (take page_size (drop (length journal) places))) (read.kept early) found.1);
+        });
     named = λ runs. loads.named (runs_on old mid journal read runs);
     stops = λ runs. loads.stops (runs_on old mid journal read runs);
     runs = tt;
@@ -127,80 +165,93 @@ module _ {S : Type 0} (is_honest : S → Type 0) (content : S → Places) (may_h
   }
 
   -- a store that waits returns no page
-  ran : (mid new : S) (most : ℕ) (journal : List Input) (page : Vec Input Global) (waits : Bool) → must_reopen mid ≡ waits → LoadsPage mid new most journal (Ok page) → must_reopen mid ≡ false
-  ran mid new most journal page true was loads = absurd (never_reopen page (loads.reopen was).0)
-  ran mid new most journal page false was loads = was
+  ran : (mid new : S) (journal : List Input) (page : Vec Input Global) (waits : Bool) → must_reopen mid ≡ waits → LoadsPage mid new journal (Ok page) → must_reopen mid ≡ false
+  ran mid new journal page true was loads = absurd (never_reopen page (loads.reopen was).0)
+  ran mid new journal page false was loads = was
 
   ran_first : (old mid : S) (journal : List Input) → ReadTo old mid journal → must_reopen mid ≡ false → must_reopen old ≡ false
   ran_first old mid journal read runs = elim read.same [ inl same ↦ ap must_reopen (sym same) ∙ runs | inr both ↦ both.0 ]
 
-  was_running : (old mid new : S) (most : ℕ) (journal : List Input) (page : Vec Input Global) → ReadTo old mid journal → LoadsPage mid new most journal (Ok page) → must_reopen old ≡ false
-  was_running old mid new most journal page read loads = ran_first old mid journal read (ran mid new most journal page (must_reopen mid) refl loads)
+  was_running : (old mid new : S) (journal : List Input) (page : Vec Input Global) → ReadTo old mid journal → LoadsPage mid new journal (Ok page) → must_reopen old ≡ false
+  was_running old mid new journal page read loads = ran_first old mid journal read (ran mid new journal page (must_reopen mid) refl loads)
 
-  -- one page more
-  pub page_read : (old mid new : S) (most : ℕ) (journal : List Input) (page : Vec Input Global) → ReadTo old mid journal → LoadsPage mid new most journal (Ok page) → ReadTo old new (journal ++ page.items)
-  page_read old mid new most journal page read loads = record {
-    same = inr (was_running old mid new most journal page read loads, loads.runs);
+  -- the records of the page, among the places of the store as it was first
+  page_of : (old mid new : S) (journal : List Input) (page : Vec Input Global) → ReadTo old mid journal → LoadsPage mid new journal (Ok page) → is_honest new → AreRecords (take page_size (drop (length journal) (content old))) page.items
+  page_of old mid new journal page read loads h = subst (λ (places : Places). AreRecords (take page_size (drop (length journal) places)) page.items) (read.kept (loads.honest h)) (loads.ok h)
+
+  -- one whole page more
+  pub page_read : (old mid new : S) (journal : List Input) (page : Vec Input Global) → page_size ≤ length page.items → ReadTo old mid journal → LoadsPage mid new journal (Ok page) → ReadTo old new (journal ++ page.items)
+  page_read old mid new journal page full read loads = record {
+    same = inr (was_running old mid new journal page read loads, loads.runs);
     honest = λ h. read.honest (loads.honest h);
     kept = λ h. loads.kept h loads.runs ∙ read.kept (loads.honest h);
-    records = λ h.
-        let early = loads.honest h in
-        more_read journal page.items most (content old) (read.records early)
-        (subst (λ (places : Places). AreRecords (take most (drop (length journal) places)) page.items) (read.kept early) (loads.ok h));
+    records = λ h. more_read journal page.items page_size (content old) (read.records (loads.honest h)) (page_of old mid new journal page read loads h);
+    whole = λ h.
+        let before = read.whole (loads.honest h) in
+        let most = count_within page_size (drop (length journal) (content old)) page.items (page_of old mid new journal page read loads h) in
+        (before.0 + 1, length-append journal page.items ∙ omega (arith, before.1, most, full));
   }
 
   -- a page with fewer records than were asked for is the last
-  pub page_last : (scheme : Scheme) (n : Node) (old mid new : S) (most : ℕ) (journal : List Input) (page : Vec Input Global) → length page.items < most → ReadTo old mid journal → LoadsPage mid new most journal (Ok page)
+  pub page_last : (scheme : Scheme) (n : Node) (old mid new : S) (journal : List Input) (page : Vec Input Global) → length page.items < page_size → ReadTo old mid journal → LoadsPage mid new journal (Ok page)
       → Loaded scheme n old new (Ok (journal ++ page.items))
-  page_last scheme n old mid new most journal page few read loads =
-      let runs = was_running old mid new most journal page read loads in
-      let more = page_read old mid new most journal page read loads in
+  page_last scheme n old mid new journal page few read loads =
+      let runs = was_running old mid new journal page read loads in
       record {
         reopen = λ waits. let never : true ≡ false = sym waits ∙ runs in absurd (cc (never));
         honest = λ h. read.honest (loads.honest h);
-        ok = λ h.
-            let early = loads.honest h in
-            all_read journal page.items most (content old) few (read.records early)
-            (subst (λ (places : Places). AreRecords (take most (drop (length journal) places)) page.items) (read.kept early) (loads.ok h));
+        ok = λ h. all_read journal page.items page_size (content old) few (read.records (loads.honest h)) (page_of old mid new journal page read loads h);
         damaged = λ h. tt;
         named = λ r. tt;
         stops = λ r. tt;
         runs = loads.runs;
-        kept = λ h r. more.kept h;
+        kept = λ h r. loads.kept h loads.runs ∙ read.kept (loads.honest h);
         crash = λ h r next held. loads.crash h (runs_on old mid journal read r) next held ∙ read.kept (loads.honest h);
       }
 
   -- a record of the page isn't recorded, or memory ran out
-  page_left : (scheme : Scheme) (n : Node) (old mid new : S) (most : ℕ) (journal : List Input) (page : Vec Input Global) (fault : StoreFault) → ReadTo old mid journal → LoadsPage mid new most journal (Ok page)
-      → IsReadFault fault → is_device_fault fault ≡ false → ((place : ℕ) → fault ≡ Damaged place → IsFirstNotRecorded scheme n (journal ++ page.items) place) → Loaded scheme n old new (Err fault)
-  page_left scheme n old mid new most journal page fault read loads named device bad =
-      let runs = was_running old mid new most journal page read loads in
-      let more = page_read old mid new most journal page read loads in
+  page_left : (scheme : Scheme) (n : Node) (old mid new : S) (journal : List Input) (page : Vec Input Global) (fault : StoreFault) → ReadTo old mid journal → LoadsPage mid new journal (Ok page)
+      → IsReadFault fault → is_device_fault fault ≡ false → ((place : ℕ) → fault ≡ Damaged place → (length journal ≤ place) × IsFirstNotRecorded scheme n (journal ++ page.items) place) → Loaded scheme n old new (Err fault)
+  page_left scheme n old mid new journal page fault read loads named device bad =
+      let runs = was_running old mid new journal page read loads in
       record {
         reopen = λ waits. let never : true ≡ false = sym waits ∙ runs in absurd (cc (never));
         honest = λ h. read.honest (loads.honest h);
         ok = λ h. tt;
-        damaged = λ h place is. inr (record { records = journal ++ page.items; first = more.records h; unrecorded = bad place is });
+        damaged = λ h place is.
+            let early = loads.honest h in
+            let whole = read.whole early in
+            let here = page_of old mid new journal page read loads h in
+            let most = count_within page_size (drop (length journal) (content old)) page.items here in
+            let found = bad place is in
+            let below = slice_get_within (journal ++ page.items) place found.1.input found.1.is in
+            inr (record {
+              pages = whole.0;
+              here = in_page whole.0 (length journal) place whole.1 found.0 (omega (arith, below, length-append journal page.items, most));
+              records = journal ++ page.items;
+              through = through_page journal page.items page_size ((whole.0 + 1) * page_size) (content old) (omega (arith, whole.1)) (read.records early) here;
+              unrecorded = found.1;
+            });
         named = λ r. named;
         stops = λ r. loads.runs ∙ sym device;
         runs = tt;
-        kept = λ h r. more.kept h;
+        kept = λ h r. loads.kept h loads.runs ∙ read.kept (loads.honest h);
         crash = λ h r next held. loads.crash h (runs_on old mid journal read r) next held ∙ read.kept (loads.honest h);
       }
 
-  page_refused : (scheme : Scheme) (n : Node) (old mid new : S) (most : ℕ) (journal : List Input) (page : Vec Input Global) (place : ℕ) → ReadTo old mid journal → LoadsPage mid new most journal (Ok page)
-      → IsFirstNotRecorded scheme n (journal ++ page.items) place → Loaded scheme n old new (Err (Damaged place))
-  page_refused scheme n old mid new most journal page place read loads bad =
-      page_left scheme n old mid new most journal page (Damaged place) read loads tt refl
-      (λ k is. let same : place ≡ k = cc (is) in subst (IsFirstNotRecorded scheme n (journal ++ page.items)) same bad)
+  page_refused : (scheme : Scheme) (n : Node) (old mid new : S) (journal : List Input) (page : Vec Input Global) (place : ℕ) → ReadTo old mid journal → LoadsPage mid new journal (Ok page)
+      → length journal ≤ place → IsFirstNotRecorded scheme n (journal ++ page.items) place → Loaded scheme n old new (Err (Damaged place))
+  page_refused scheme n old mid new journal page place read loads from bad =
+      page_left scheme n old mid new journal page (Damaged place) read loads tt refl
+      (λ k is. let same : place ≡ k = cc (is) in subst (λ (p : ℕ). (length journal ≤ p) × IsFirstNotRecorded scheme n (journal ++ page.items) p) same (from, bad))
 
-  page_too_large : (scheme : Scheme) (n : Node) (old mid new : S) (most : ℕ) (journal : List Input) (page : Vec Input Global) → ReadTo old mid journal → LoadsPage mid new most journal (Ok page)
+  page_too_large : (scheme : Scheme) (n : Node) (old mid new : S) (journal : List Input) (page : Vec Input Global) → ReadTo old mid journal → LoadsPage mid new journal (Ok page)
       → Loaded scheme n old new (Err NoMemory)
-  page_too_large scheme n old mid new most journal page read loads =
-      page_left scheme n old mid new most journal page NoMemory read loads tt refl (λ k is. absurd (cc (is)))
+  page_too_large scheme n old mid new journal page read loads =
+      page_left scheme n old mid new journal page NoMemory read loads tt refl (λ k is. absurd (cc (is)))
 
-  -- the records of the page are no journal after those before them
-  pub page_not_resumed : (scheme : Scheme) (n : Node) (old mid new : S) (most : ℕ) (journal : List Input) (page : Vec Input Global) (fault : ReplayFault) → ReadTo old mid journal → LoadsPage mid new most journal (Ok page)
-      → HasFault scheme n (journal ++ page.items) fault → Loaded scheme n old new (Err (damage_of fault))
-  page_not_resumed scheme n old mid new most journal page (replay.NotRecorded place) read loads bad = page_refused scheme n old mid new most journal page place read loads bad
-  page_not_resumed scheme n old mid new most journal page replay.NoMemory read loads bad = page_too_large scheme n old mid new most journal page read loads
+  -- the records of the page are no journal after those before them, of which the core has recorded some
+  pub page_not_resumed : (scheme : Scheme) (n : Node) (old mid new : S) (journal : List Input) (page : Vec Input Global) (reached : ℕ) (fault : ReplayFault) → ReadTo old mid journal → LoadsPage mid new journal (Ok page)
+      → length journal ≤ reached → IsAt reached fault → HasFault scheme n (journal ++ page.items) fault → Loaded scheme n old new (Err (damage_of fault))
+  page_not_resumed scheme n old mid new journal page reached (replay.NotRecorded place) read loads from at bad = page_refused scheme n old mid new journal page place read loads (omega (arith, from, at)) bad
+  page_not_resumed scheme n old mid new journal page reached replay.NoMemory read loads from at bad = page_too_large scheme n old mid new journal page read loads

@@ -34,20 +34,6 @@ IsTakeOf input taken = (taken.told ≡ lacking) ⊎ ((old : Held) × (new : Held
 abbrev pub IsQueryOf : TransactionId → Note → Type 0
 IsQueryOf id taken = (taken.told ≡ lacking) ⊎ ((held : Held) × (taken.told ≡ status_told held id) × (taken.length ≡ length held.journal))
 
--- ---- what was taken, until it is committed
-
--- what is handed back is what was taken
-abbrev pub IsOf : Note → Progress → Type 0
-IsOf taken (Committed receipt) = receipt ≡ taken
-IsOf taken (Awaited back) = back ≡ taken
-IsOf taken Stopped = Unit {0}
-
--- how far the first records of the state are committed, as many as `count` says
-abbrev pub IsProgress : Held → ℕ → Progress → Type 0
-IsProgress held count (Committed receipt) = count ≤ held.committed
-IsProgress held count (Awaited back) = (held.committed < count) × (held.runs ≡ true)
-IsProgress held count Stopped = (held.committed < count) × (held.runs ≡ false)
-
 -- ---- commits
 
 -- the store is honest; what each place has while it runs; what a crash or a reopening may find; a fault waits for a
@@ -75,3 +61,17 @@ pub record HasToSend (held : Held) (peer : Node) (from : ℕ) (found : Option (�
 -- some state has it to send
 abbrev pub IsToSend : Node → ℕ → Option (ℕ × Message) → Type 0
 IsToSend peer from found = (held : Held) × HasToSend held peer from found
+
+-- ---- what the code follows; no public contract cites what stands below
+
+-- what is handed back is what was taken
+abbrev pub IsOf : Note → Progress → Type 0
+IsOf taken (Committed receipt) = receipt ≡ taken
+IsOf taken (Awaited back) = back ≡ taken
+IsOf taken Stopped = Unit {0}
+
+-- how far the first records of the state are committed, as many as `count` says
+abbrev pub IsProgress : Held → ℕ → Progress → Type 0
+IsProgress held count (Committed receipt) = count ≤ held.committed
+IsProgress held count (Awaited back) = (held.committed < count) × (held.runs ≡ true)
+IsProgress held count Stopped = (held.committed < count) × (held.runs ≡ false)

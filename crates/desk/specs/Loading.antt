@@ -1,9 +1,9 @@
 -- What loading a store into a core finds.
-use Rattle.std.specs.Prelude.{◌≡◌, ◌⊎◌, ℕ, Bool, false, List, length, take, Result, Ok, Err, IfOk, IfErr, OnOk, IsTrue}
+use Rattle.std.specs.Prelude.{◌≡◌, ◌⊎◌, ◌+◌, ◌*◌, ◌<◌, ◌≤◌, ℕ, Bool, false, List, length, take, Result, Ok, Err, IfOk, IfErr, OnOk, IsTrue}
 use Rattle.units.specs.declared.code.Node.{Node}
 use Rattle.wire.specs.declared.input.Input.{Input}
 use Rattle.scheme.specs.declared.registries.Scheme.{Scheme}
-use Rattle.protocol.specs.Cores.{IsFirstNotRecorded}
+use Rattle.protocol.specs.Cores.{IsFirstNotRecorded, Replays}
 use Rattle.stores.specs.Faults.{is_device_fault, IsReadFault}
 use Rattle.stores.specs.Records.{Places, AreRecords, IsDamagedAt}
 use Rattle.stores.specs.declared.fault.StoreFault.{StoreFault}
@@ -15,14 +15,34 @@ use Rattle.desk.specs.declared.loading.Page.{Page}
 use Rattle.desk.specs.declared.loading.Page.TheVariants.{Full, Last}
 use Rattle.desk.specs.Views.{Held}
 
--- the first places have records, of which the one at that place is the first that isn't recorded there after those
--- before it
-pub record IsUnrecordedAt (scheme : Scheme) (n : Node) (places : Places) (place : ℕ) : Type 0 where
+-- how many places are read at once: a page
+abbrev pub page_size : ℕ
+page_size = 256
+
+-- the place is in the page that comes after that many pages
+abbrev pub IsInPage : ℕ → ℕ → Type 0
+IsInPage pages place = (pages * page_size ≤ place) × (place < (pages + 1) * page_size)
+
+-- the place is the first without a record; and all places of the pages before its own have records that are each
+-- recorded there after those before it
+pub record IsUnreadableAt (scheme : Scheme) (n : Node) (places : Places) (place : ℕ) : Type 0 where
+  pub pages : ℕ
+  pub here : IsInPage pages place
   pub records : List Input
-  pub first : AreRecords (take (length records) places) records
+  pub before : AreRecords (take (pages * page_size) places) records
+  pub recorded : Replays scheme n records
+  pub damaged : IsDamagedAt place places
+
+-- all places to the end of the place's page have records, of which the one at that place is the first that isn't
+-- recorded there after those before it
+pub record IsUnrecordedAt (scheme : Scheme) (n : Node) (places : Places) (place : ℕ) : Type 0 where
+  pub pages : ℕ
+  pub here : IsInPage pages place
+  pub records : List Input
+  pub through : AreRecords (take ((pages + 1) * page_size) places) records
   pub unrecorded : IsFirstNotRecorded scheme n records place
 
--- why records of a store are no journal, as a fault of that store
+-- why records of a store are no journal, as a fault of that store; no public contract cites it
 abbrev pub damage_of : ReplayFault → StoreFault
 damage_of (NotRecorded place) = Damaged place
 damage_of replay.NoMemory = NoMemory
@@ -35,27 +55,29 @@ journal_in (Err fault) = Err fault
 -- the store is honest; what each place has while it runs; what a crash or a reopening may find; a fault waits for a
 -- reopening
 module _ {S : Type 0} (is_honest : S → Type 0) (content : S → Places) (may_hold : S → Places → Type 0) (must_reopen : S → Bool) where
-  -- the store was read as far as this journal goes
+  -- the store was read as far as this journal goes, page by page; no public contract cites it
   pub record IsReadTo (old new : S) (journal : List Input) : Type 0 where
     pub same : (new ≡ old) ⊎ ((must_reopen old ≡ false) × (must_reopen new ≡ false))
     pub honest : is_honest new → is_honest old
     pub kept : is_honest new → content new ≡ content old
     pub records : is_honest new → AreRecords (take (length journal) (content old)) journal
+    pub whole : is_honest new → (pages : ℕ) × (length journal ≡ pages * page_size)
 
-  -- all records were read and recorded, at that node under that scheme; or one is damaged or isn't recorded; or
+  -- all records were read and recorded, at that node under that scheme; or a place is damaged, in the first page that
+  -- has such a place: the first that can't be read or, where all of the page can, the first that isn't recorded; or
   -- reading failed
   pub record IsLoaded (scheme : Scheme) (n : Node) (old new : S) (result : Result (List Input) StoreFault) : Type 0 where
     pub reopen : IsTrue (must_reopen old) → (result ≡ Err Reopen) × (new ≡ old)
     pub honest : is_honest new → is_honest old
     pub ok : is_honest new → IfOk result (λ journal. AreRecords (content old) journal)
-    pub damaged : is_honest new → IfErr result (λ e. (place : ℕ) → e ≡ Damaged place → IsDamagedAt place (content old) ⊎ IsUnrecordedAt scheme n (content old) place)
+    pub damaged : is_honest new → IfErr result (λ e. (place : ℕ) → e ≡ Damaged place → IsUnreadableAt scheme n (content old) place ⊎ IsUnrecordedAt scheme n (content old) place)
     pub named : must_reopen old ≡ false → IfErr result IsReadFault
     pub stops : must_reopen old ≡ false → IfErr result (λ e. must_reopen new ≡ is_device_fault e)
     pub runs : OnOk result (must_reopen new ≡ false)
     pub kept : is_honest new → must_reopen new ≡ false → content new ≡ content old
     pub crash : is_honest new → must_reopen old ≡ false → (next : Places) → may_hold new next → next ≡ content old
 
-  -- after one page more
+  -- after one page more; no public contract cites it
   abbrev pub IsReadOn : Scheme → Node → S → S → List Input → Result Page StoreFault → Type 0
   IsReadOn scheme n old new journal (Ok Full) = IsReadTo old new journal
   IsReadOn scheme n old new journal (Ok Last) = IsLoaded scheme n old new (Ok journal)

@@ -17,6 +17,8 @@ IsNoRecord (Refused refusal) = Unit {0}
 abbrev pub TellNoRecord : List Note → Type 0
 TellNoRecord notes = All (λ (note : Note). IsNoRecord (note.told)) notes
 
+-- ---- what the code follows; no public contract cites what stands below
+
 -- there is room for one ticket more and one note more, where something is to be asked
 abbrev pub HasRoom : Option Asked → ℕ → ℕ → ℕ → ℕ → Type 0
 HasRoom None tickets room_of_tickets notes room_of_notes = Unit {0}

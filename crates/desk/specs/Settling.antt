@@ -3,10 +3,11 @@ use Rattle.std.specs.Prelude.{◌≡◌, ℕ, ◌<◌, ◌≤◌, List, length, 
 use Rattle.units.specs.declared.code.Node.{Node}
 use Rattle.wire.specs.declared.input.Input.{Input}
 use Rattle.scheme.specs.declared.registries.Scheme.{Scheme}
+use Rattle.protocol.specs.Cores.{IsFirstNotRecorded}
 use Rattle.desk.specs.declared.life.Life.{Life}
 use Rattle.desk.specs.declared.life.Settled.{Settled}
 use Rattle.desk.specs.declared.life.Unsettled.{Unsettled}
-use Rattle.desk.specs.declared.life.Unsettled.TheVariants.{Missing, Twice, Differs, NotCommitted, Fell, Untrue, NoMemory}
+use Rattle.desk.specs.declared.life.Unsettled.TheVariants.{Missing, Twice, Differs, NotCommitted, Fell, Untrue, NotRecorded, NoMemory}
 use Rattle.desk.specs.declared.notes.Lengths.TheVariants as lengths
 use Rattle.desk.specs.declared.notes.Note.{Note}
 use Rattle.desk.specs.Covering.{Covers, IsMissing, IsTwice, NoneMissing, NoneTwice, SomeDiffers}
@@ -54,6 +55,7 @@ abbrev pub IsFaultOf : Scheme → Node → Held → List Heard → Unsettled →
 IsFaultOf scheme n held seats (NotCommitted len) = Covers held seats × Any (IsBeyond held.committed len) seats
 IsFaultOf scheme n held seats Fell = Covers held seats × All (IsWithin held.committed) seats × Any (λ (s : Heard). s.lengths ≡ lengths.Fell) seats
 IsFaultOf scheme n held seats (Untrue len) = Covers held seats × All (IsWithin held.committed) seats × All Stood seats × Any (SomeUnborne scheme n held.journal len) seats
+IsFaultOf scheme n held seats (NotRecorded place) = Covers held seats × All (IsWithin held.committed) seats × All Stood seats × IsFirstNotRecorded scheme n held.journal place
 IsFaultOf scheme n held seats fault = IsUncovered held seats fault
 
 abbrev pub Settles : Scheme → Node → Held → List Heard → Result Life Unsettled → Type 0

@@ -1,5 +1,6 @@
 //! Whether the journal bears what the seats noted.
-ghost use Rattle.std.specs.Prelude.{◌≡◌, ◌↔◌, ◌++◌, ◌⊎◌, ◌≤◌, [], None, length, take, map, flat_map, All, Any, IfOk, OnOk, MatchOption, IsTrue, IsPermutation};
+ghost use Rattle.std.specs.Prelude.{◌≡◌, ◌↔◌, ◌++◌, ◌⊎◌, ◌≤◌, [], None, length, take, map, flat_map, All, Any, IfErr, IfOk, OnOk, MatchOption, IsTrue, IsPermutation};
+ghost use Rattle.protocol.specs.Cores.{HasFault};
 ghost use Rattle.units.specs.RefusalCodes.{out_of_memory};
 ghost use Rattle.desk.specs.Due.{due, told_of};
 ghost use Rattle.desk.specs.Rooms.{IsNoRecord, TellNoRecord};
@@ -9,7 +10,7 @@ ghost use Rattle.desk.specs.Views.{committed_records};
 use crate::notes::{Asked, Note, Told};
 use crate::seat::Seat;
 use crate::state::{State, tell};
-use protocol::{NodeCore, Stepped, resume};
+use protocol::{NodeCore, ReplayFault, Stepped, resume};
 use std::alloc::Global;
 use units::refusal_code::OUT_OF_MEMORY;
 use units::{NoMemory, Refusal};
@@ -69,37 +70,41 @@ fn rewind<C: NodeCore>(core: &mut C, records: usize) -> Result<(), NoMemory>
 }
 
 /// Brings a core that has the first records of the journal to the first `records` of them.
-fn bring<C: NodeCore>(core: &mut C, journal: &[Input], records: usize) -> Result<(), NoMemory>
+fn bring<C: NodeCore>(core: &mut C, journal: &[Input], records: usize) -> Result<(), ReplayFault>
     requires within { records ≤ length journal.now }
     requires front { C.journal_of core.old ≡ take (length (C.journal_of core.old)) journal.now }
     ensures scheme { C.scheme_of core.new ≡ C.scheme_of core.old }
     ensures node { C.node_of core.new ≡ C.node_of core.old }
     ensures journal { OnOk result (C.journal_of core.new ≡ take records journal.now) }
+    ensures fault { IfErr result (HasFault (C.scheme_of core.old) (C.node_of core.old) journal.now) }
 {
     rewind(core, records)?;
     let start = core.records();
     match resume(core, &journal[start..records]) {
         Ok(()) => Ok(()),
-        // A node records its own journal again, so only memory can be lacking.
-        Err(_) => Err(NoMemory),
+        Err(fault) => Err(fault),
     }
 }
 
 /// Whether the journal bears a note. The core has the first records of the journal, and has them after it too, unless
 /// not.
-fn is_borne<C: NodeCore>(core: &mut C, journal: &[Input], note: &Note) -> Result<bool, NoMemory>
+fn is_borne<C: NodeCore>(core: &mut C, journal: &[Input], note: &Note) -> Result<bool, ReplayFault>
     requires no_record { IsNoRecord note.now.told }
     requires front { C.journal_of core.old ≡ take (length (C.journal_of core.old)) journal.now }
     ensures scheme { C.scheme_of core.new ≡ C.scheme_of core.old }
     ensures node { C.node_of core.new ≡ C.node_of core.old }
     ensures borne { IfOk result (λ b. IsTrue b ↔ Bears (C.scheme_of core.old) (C.node_of core.old) journal.now note.now) }
     ensures front { IfOk result (λ b. IsTrue b → C.journal_of core.new ≡ take (length (C.journal_of core.new)) journal.now) }
+    ensures fault { IfErr result (HasFault (C.scheme_of core.old) (C.node_of core.old) journal.now) }
 {
     if note.length > journal.len() {
         return Ok(false);
     }
     bring(core, journal, note.length)?;
-    is_due(core, note)
+    match is_due(core, note) {
+        Ok(due) => Ok(due),
+        Err(NoMemory) => Err(ReplayFault::NoMemory),
+    }
 }
 
 /// The length of the first note that the journal doesn't bear, or `None` where it bears all. The core has no record
@@ -108,7 +113,7 @@ fn unborne_of<C: NodeCore>(
     core: &mut C,
     journal: &[Input],
     notes: &[&Note],
-) -> Result<Option<usize>, NoMemory>
+) -> Result<Option<usize>, ReplayFault>
     requires empty { C.journal_of core.old ≡ [] }
     requires no_record { All (λ note. IsNoRecord note.now.told) notes.now }
     ensures found { IfOk result (λ found. MatchOption found
@@ -117,6 +122,7 @@ fn unborne_of<C: NodeCore>(
     ensures scheme { C.scheme_of core.new ≡ C.scheme_of core.old }
     ensures node { C.node_of core.new ≡ C.node_of core.old }
     ensures front { IfOk result (λ found. found ≡ None → C.journal_of core.new ≡ take (length (C.journal_of core.new)) journal.now) }
+    ensures fault { IfErr result (HasFault (C.scheme_of core.old) (C.node_of core.old) journal.now) }
 {
     for note in notes {
         if !is_borne(core, journal, note)? {
@@ -159,12 +165,12 @@ fn notes_by_length(alloc: Global, seats: &[Seat]) -> Result<Vec<&Note>, NoMemory
 
 /// The length of a note that the journal of the state doesn't bear, at the core's node under its scheme, or `None`
 /// where it bears all notes of the seats; then the core has the first records of the journal. Goes through the journal
-/// once. Or `NoMemory`.
+/// once. Fails with the first record of the journal that the core doesn't record at its place, and with `NoMemory`.
 fn judge<C: NodeCore>(
     core: &mut C,
     state: &State<C>,
     seats: &[Seat],
-) -> Result<Option<usize>, NoMemory>
+) -> Result<Option<usize>, ReplayFault>
     requires { C.journal_of core.old ≡ [] }
     ensures found { IfOk result (λ found. MatchOption found
         (All (AllBorne (C.scheme_of core.old) (C.node_of core.old) state.now.journal) seats.now)
@@ -172,6 +178,7 @@ fn judge<C: NodeCore>(
     ensures scheme { C.scheme_of core.new ≡ C.scheme_of core.old }
     ensures node { C.node_of core.new ≡ C.node_of core.old }
     ensures front { IfOk result (λ found. found ≡ None → C.journal_of core.new ≡ take (length (C.journal_of core.new)) state.now.journal) }
+    ensures fault { IfErr result (HasFault (C.scheme_of core.old) (C.node_of core.old) state.now.journal) }
 {
     let notes = notes_by_length(state.alloc(), seats)?;
     unborne_of(core, state.journal(), notes.as_slice())
@@ -183,7 +190,7 @@ pub(crate) fn find_unborne<C: NodeCore>(
     core: &mut C,
     state: &State<C>,
     seats: &[Seat],
-) -> Result<Option<usize>, NoMemory>
+) -> Result<Option<usize>, ReplayFault>
     requires { C.journal_of core.old ≡ [] }
     ensures found { IfOk result (λ found. MatchOption found
         (All (AllBorne (C.scheme_of core.old) (C.node_of core.old) state.now.journal) seats.now)
@@ -191,6 +198,7 @@ pub(crate) fn find_unborne<C: NodeCore>(
     ensures scheme { C.scheme_of core.new ≡ C.scheme_of core.old }
     ensures node { C.node_of core.new ≡ C.node_of core.old }
     ensures committed { IfOk result (λ found. found ≡ None → C.journal_of core.new ≡ committed_records state.now) }
+    ensures fault { IfErr result (HasFault (C.scheme_of core.old) (C.node_of core.old) state.now.journal) }
 {
     let found = judge(core, state, seats)?;
     if found.is_none() {

@@ -40,6 +40,9 @@ pub enum Unsettled {
     /// After this number of records, something else is due than what a seat was told.
     #[error("what a thread was told after {0} records isn't what is due then")]
     Untrue(usize),
+    /// The record at that place isn't one that the node records there.
+    #[error("the record at place {0} isn't one that the node records there")]
+    NotRecorded(usize),
     #[error("out of memory")]
     NoMemory,
 }

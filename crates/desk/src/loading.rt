@@ -3,7 +3,7 @@ ghost use Rattle.std.specs.Prelude.{◌≡◌, ◌<◌, ◌^◌, [], false, true
 ghost use Rattle.stores.specs.Calls.{Loads};
 ghost use Rattle.stores.specs.Faults.{faults_after};
 ghost use Rattle.protocol.specs.Cores.{Replays};
-ghost use Rattle.desk.specs.Loading.{IsLoaded, IsReadOn, IsReadTo, damage_of, journal_in};
+ghost use Rattle.desk.specs.Loading.{IsLoaded, IsReadOn, IsReadTo, damage_of, journal_in, page_size};
 
 use crate::state::State;
 use protocol::{NodeCore, ReplayFault, resume};
@@ -25,7 +25,7 @@ pub(crate) enum Page {
 
 /// The records of the store from that place on, at most `PAGE`.
 fn next_page<S: NodeStore>(store: &mut S, from: u64) -> Result<Vec<Input>, StoreFault>
-    ensures loads { Loads S.is_honest S.content S.may_hold S.must_reopen store.old store.new from (take 256 (drop from (S.content store.old))) result }
+    ensures loads { Loads S.is_honest S.content S.may_hold S.must_reopen store.old store.new from (take page_size (drop from (S.content store.old))) result }
     ensures faults { S.faults store.new ≡ faults_after (S.faults store.old) result }
     ensures whose { S.whose store.new ≡ S.whose store.old }
     ensures own { S.is_honest store.new → S.must_reopen store.new ≡ false → S.is_own store.old → S.is_own store.new }
@@ -58,7 +58,7 @@ fn read_on<C: NodeCore, S: NodeStore>(core: &mut C, store: &mut S) -> Result<Pag
     ensures honest { S.is_honest store.new → S.is_honest store.old }
     ensures runs { S.must_reopen store.new ≡ false → S.must_reopen store.old ≡ false }
 {
-    let page = next_page(store, core.records() as u64)?;
+    let page = next_page(store, core.journal().len() as u64)?;
     let inputs = page.as_slice();
     match resume(core, inputs) {
         Ok(()) => {
@@ -81,8 +81,9 @@ impl<C: NodeCore> State<C> {
     /// and all are committed.
     ///
     /// Fails as `load_page` of the store does, with `Damaged(p)` also where the record at place p is the first that
-    /// the core doesn't record after those before it, and with `NoMemory`. The store is then as `load_page` leaves
-    /// it.
+    /// the core doesn't record after those before it, and with `NoMemory`. Where places of several pages are damaged,
+    /// it names one of the first of these pages: the first that has no record, or where each has one the first whose
+    /// record isn't recorded. The store is then as `load_page` leaves it.
     pub fn load_from<S: NodeStore>(
         alloc: Global,
         mut core: C,

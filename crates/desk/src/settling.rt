@@ -1,5 +1,5 @@
 //! Settling: whether what the seats were told is what one thread alone would have been told.
-ghost use Rattle.std.specs.Prelude.{◌≡◌, ◌↔◌, ◌<◌, ◌≤◌, [], length, All, Any, IfOk, IsTrue, MatchBool, MatchResult};
+ghost use Rattle.std.specs.Prelude.{◌≡◌, ◌↔◌, ◌<◌, ◌≤◌, ℕ, [], length, All, Any, IfErr, IfOk, IsTrue, MatchBool, MatchResult};
 ghost use Rattle.desk.specs.Covering.{AllFit, Covers, Fits, NoneMissing, NoneTwice, SomeDiffers};
 ghost use Rattle.desk.specs.Settling.{IsBeyond, IsUncovered, IsWithin, Settles, Stood, life_of};
 ghost use Rattle.desk.specs.Views.{committed_records};
@@ -10,7 +10,7 @@ use crate::life::{Life, Settled, Unsettled};
 use crate::notes::{Lengths, Ticket};
 use crate::seat::Seat;
 use crate::state::State;
-use protocol::NodeCore;
+use protocol::{NodeCore, ReplayFault};
 
 /// Each place since the opening is named by one ticket.
 fn check_places<C: NodeCore>(state: &State<C>, seats: &[Seat]) -> Result<(), Unsettled>
@@ -95,6 +95,10 @@ fn has_fallen(seats: &[Seat]) -> bool
 /// As `settle`, where what is due is that of the core, at its node under its scheme, in place of the state's own: so a
 /// caller that can't name the state's knows under which scheme it has settled. The core has no record, and is returned
 /// with the committed ones.
+///
+/// Also fails with `NotRecorded` at the first record of the journal that the core doesn't record at its place after
+/// those before it, where that record is committed or a note was told after it. `Untrue` of a note that was told before
+/// it comes first.
 pub fn settle_with<C: NodeCore>(
     mut core: C,
     state: &State<C>,
@@ -122,7 +126,8 @@ pub fn settle_with<C: NodeCore>(
             core,
         }),
         Ok(Some(length)) => Err(Unsettled::Untrue(length)),
-        Err(_) => Err(Unsettled::NoMemory),
+        Err(ReplayFault::NotRecorded(place)) => Err(Unsettled::NotRecorded(place)),
+        Err(ReplayFault::NoMemory) => Err(Unsettled::NoMemory),
     }
 }
 
@@ -131,11 +136,15 @@ pub fn settle_with<C: NodeCore>(
 /// told of a shorter journal than before; and the journal bears each note.
 ///
 /// Fails with the first fault in the order of `Unsettled`, where there is one, and with `NoMemory` where memory ran
-/// out. Takes time in proportion to the records and the notes, but for the sorting of the notes by lengths.
+/// out; never with `NotRecorded`, since the node has recorded its own journal. Takes time in proportion to the records
+/// and the notes, but for the sorting of the notes by lengths.
 pub fn settle<C: NodeCore>(state: &State<C>, seats: &[Seat]) -> Result<Life, Unsettled>
-    ensures { Settles state.now.scheme state.now.node state.now seats.now result }
+    ensures settles { Settles state.now.scheme state.now.node state.now seats.now result }
+    ensures own { IfErr result (λ e. (place : ℕ) → e ≡ Unsettled.NotRecorded place → ⊥) }
 {
     let core = state.fresh()?;
+    // Its clause says that the state's core has recorded these, so that a fresh one records them too.
+    let _journal = state.journal();
     match settle_with(core, state, seats) {
         Ok(settled) => Ok(settled.life),
         Err(fault) => Err(fault),

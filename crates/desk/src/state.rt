@@ -318,9 +318,10 @@ impl<C: NodeCore> State<C> {
         self.core.node()
     }
 
-    /// All records of the journal, the oldest first.
+    /// All records of the journal, the oldest first. Each was recorded at its place after those before it.
     pub(crate) fn journal(&self) -> &[Input]
-        ensures { result.now ≡ self.now.journal }
+        ensures value { result.now ≡ self.now.journal }
+        ensures replays { Replays self.now.scheme self.now.node self.now.journal }
     {
         self.core.journal()
     }

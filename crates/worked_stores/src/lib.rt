@@ -7,6 +7,8 @@ mod checkpoint_rows;
 #[cfg(test)]
 mod cut_rows;
 #[cfg(test)]
+mod damage_rows;
+#[cfg(test)]
 mod driving;
 #[cfg(test)]
 mod file_store_rows;

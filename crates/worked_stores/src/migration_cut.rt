@@ -24,9 +24,9 @@ const CLOSE_ONE: &str = r#"{"account":2,"input":"close"}"#;
 const OPEN_ONE: &str = r#"{"account":2,"input":"open"}"#;
 
 /// The same as format 2 has them.
-const CLOSE: &str = r#"{"account":2,"input":"close","v":2}"#;
+pub const CLOSE: &str = r#"{"account":2,"input":"close","v":2}"#;
 
-const OPEN: &str = r#"{"account":2,"input":"open","v":2}"#;
+pub const OPEN: &str = r#"{"account":2,"input":"open","v":2}"#;
 
 /// The text of the record at that place, in format 1 and in format 2.
 fn texts_at(place: usize) -> (&'static str, &'static str) {

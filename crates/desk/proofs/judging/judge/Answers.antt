@@ -11,7 +11,7 @@ pub returns-clause-found : goal.returns-clause-found
 returns-clause-found g c =
     let moved = subst (λ notes. IsPermutation (flat_map (λ (s : Heard). s.notes) c.args.seats.now) (map (λ note. note.now) notes)) (sym c.as_slice.ensures.value) c.in_ok-notes.ensures.notes in
     found_in_seats (λ note. note.now) (g.C.NodeCore.scheme_of c.args.core.now) (g.C.NodeCore.node_of c.args.core.now) c.args.seats.now c.as_slice.result.now c.journal.result.now c.args.state.now.journal
-    c.journal.ensures moved c.unborne_of.result c.unborne_of.ensures.found
+    c.journal.ensures.value moved c.unborne_of.result c.unborne_of.ensures.found
 
 pub unborne_of-requires-clause-no_record : goal.unborne_of-requires-clause-no_record
 unborne_of-requires-clause-no_record g c =

@@ -17,8 +17,8 @@ returns-in-Err-check_twice g c =
     let counts = subst (CountsFrom opening (times_named seats)) (sym c.as_slice.ensures.value) c.in_ok-counts.ensures.counts in
     let again = subst (CountsFrom opening (times_named seats)) (sym c.as_slice-2.ensures.value) c.in_ok-counts.ensures.counts in
     let found = c.in-Err-check_twice.ensures (times_named seats) again in (
-      each_place held seats opening first journal opens within c.journal.ensures (ap length c.as_slice.ensures.value ∙ c.in_ok-counts.ensures.len) (λ p. 0 < times_named seats p) (c.in_default.ensures (times_named seats) counts),
-      (one_place held seats opening second journal opens within c.journal.ensures (ap length c.as_slice-2.ensures.value ∙ c.in_ok-counts.ensures.len) c.in-Err-check_twice.place found.0 found.1, found.2),
+      each_place held seats opening first journal opens within c.journal.ensures.value (ap length c.as_slice.ensures.value ∙ c.in_ok-counts.ensures.len) (λ p. 0 < times_named seats p) (c.in_default.ensures (times_named seats) counts),
+      (one_place held seats opening second journal opens within c.journal.ensures.value (ap length c.as_slice-2.ensures.value ∙ c.in_ok-counts.ensures.len) c.in-Err-check_twice.place found.0 found.1, found.2),
     )
 
 pub returns : goal.returns
@@ -33,6 +33,6 @@ returns g c =
     let second = c.as_slice-2.result.now in
     let counts = subst (CountsFrom opening (times_named seats)) (sym c.as_slice.ensures.value) c.in_ok-counts.ensures.counts in
     let again = subst (CountsFrom opening (times_named seats)) (sym c.as_slice-2.ensures.value) c.in_ok-counts.ensures.counts in (
-      each_place held seats opening first journal opens within c.journal.ensures (ap length c.as_slice.ensures.value ∙ c.in_ok-counts.ensures.len) (λ p. 0 < times_named seats p) (c.in_default.ensures (times_named seats) counts),
-      each_place held seats opening second journal opens within c.journal.ensures (ap length c.as_slice-2.ensures.value ∙ c.in_ok-counts.ensures.len) (λ p. times_named seats p ≤ 1) (c.in_default-check_twice.ensures (times_named seats) again),
+      each_place held seats opening first journal opens within c.journal.ensures.value (ap length c.as_slice.ensures.value ∙ c.in_ok-counts.ensures.len) (λ p. 0 < times_named seats p) (c.in_default.ensures (times_named seats) counts),
+      each_place held seats opening second journal opens within c.journal.ensures.value (ap length c.as_slice-2.ensures.value ∙ c.in_ok-counts.ensures.len) (λ p. times_named seats p ≤ 1) (c.in_default-check_twice.ensures (times_named seats) again),
     )

@@ -1,0 +1,72 @@
+use crate::links::new_core;
+use crate::migration_cut::{CLOSE, OPEN};
+use crate::records::record;
+use crate::store_files::{FOREVER, Stored, changed, new_files, open_as, registry};
+use desk::State;
+use std::alloc::Global;
+use std::process::Abort;
+use stores::{NodeStore, StoreFault};
+
+/// A close of an account that is closed, which no core records.
+const UNRECORDED_AT_1: &str =
+    r#"UPDATE entries SET body = '{"account":2,"input":"close","v":2}' WHERE place = 1"#;
+
+/// The same, two places later.
+const UNRECORDED_AT_3: &str =
+    r#"UPDATE entries SET body = '{"account":2,"input":"close","v":2}' WHERE place = 3"#;
+
+const UNREADABLE_AT_3: &str = "UPDATE entries SET body = 'x' WHERE place = 3";
+
+const UNREADABLE_AT_256: &str = "UPDATE entries SET body = 'x' WHERE place = 256";
+
+/// The files of NZ's store of that many records, by which an account is closed and opened in turn.
+fn files_of_turns(rt: &impl Abort, alloc: Global, records: usize) -> Stored {
+    let mut batch = Vec::new(alloc);
+    for place in 0..records {
+        let text = if place % 2 == 0 { CLOSE } else { OPEN };
+        batch.push(record(rt, alloc, text)).expect(rt, "memory");
+    }
+    let mut store = open_as(rt, alloc, new_files(alloc, FOREVER, FOREVER), "NZ");
+    assert!(rt; store.append(&batch).is_ok());
+    drop(batch);
+    store.close_files()
+}
+
+/// Asserts that a state can't be loaded from a store of that many records, once these statements were done, for the
+/// damage of that place; or that it can where there is none.
+fn assert_named(
+    rt: &impl Abort,
+    alloc: Global,
+    records: usize,
+    statements: &[&str],
+    place: Option<u64>,
+) {
+    let files = changed(rt, alloc, files_of_turns(rt, alloc, records), statements);
+    let mut store = open_as(rt, alloc, files, "NZ");
+    let core = new_core(rt, alloc, registry(rt, "NZ"));
+    let fault = State::load_from(alloc, core, &mut store).err();
+    assert!(rt; fault == place.map(StoreFault::Damaged));
+    drop(store);
+}
+
+#[test]
+fn a_store_without_damage_is_loaded(rt: HostRuntime) {
+    assert_named(&rt, rt.alloc(), 257, &[], None);
+}
+
+#[test]
+fn a_record_of_the_first_page_is_named_before_a_place_of_the_second(rt: HostRuntime) {
+    let statements = [UNRECORDED_AT_3, UNREADABLE_AT_256];
+    assert_named(&rt, rt.alloc(), 257, &statements, Some(3));
+}
+
+#[test]
+fn a_place_without_a_record_is_named_before_a_record_of_its_page(rt: HostRuntime) {
+    let statements = [UNRECORDED_AT_1, UNREADABLE_AT_3];
+    assert_named(&rt, rt.alloc(), 5, &statements, Some(3));
+}
+
+#[test]
+fn a_place_of_the_second_page_is_named(rt: HostRuntime) {
+    assert_named(&rt, rt.alloc(), 257, &[UNREADABLE_AT_256], Some(256));
+}

@@ -30,9 +30,6 @@ IsDamagedIn format _ _ = ⊥
 abbrev pub AreRecords : Places → List Input → Type 0
 AreRecords places inputs = AreRecordsIn Two places inputs
 
-abbrev pub HasNoRecord : Option (List ℕ) → Type 0
-HasNoRecord place = HasNoRecordIn Two place
-
 abbrev pub IsDamagedAt : ℕ → Places → Type 0
 IsDamagedAt p places = IsDamagedIn Two p places
 
@@ -49,3 +46,8 @@ abbrev pub unbroken : List (Option (List ℕ)) → List (List ℕ)
 unbroken [] = []
 unbroken (None ∷ slots) = []
 unbroken (Some body ∷ slots) = body ∷ unbroken slots
+
+-- ---- what the code follows; no public contract cites what stands below
+
+abbrev pub HasNoRecord : Option (List ℕ) → Type 0
+HasNoRecord place = HasNoRecordIn Two place

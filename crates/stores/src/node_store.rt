@@ -74,7 +74,8 @@ pub trait NodeStore {
         ensures whose { whose self.new ≡ whose self.old }
         ensures own { is_honest self.new → OnOk result (is_own self.new) };
 
-    /// How many calls of the device have failed; 0 follows the greatest number.
+    /// A number that each call which fails with `Device` or `Full` raises by one, and no other call changes; 0 follows
+    /// the greatest number. What it begins with isn't said.
     fn fault_count(&self) -> u64
         ensures { result ≡ faults self.now };
 }

@@ -7,6 +7,12 @@ use Rattle.accounts.specs.declared.account.Account.{Account}
 use Rattle.accounts.specs.declared.unit_holding.AccountStatus.{AccountStatus}
 use Rattle.accounts.specs.declared.unit_holding.AccountStatus.TheVariants.{Open}
 
+-- the status of each number
+unfoldable pub account_statuses : BTreeMap ℕ Account → FinMap nat_cmp AccountStatus
+account_statuses accounts = from_entries (map (λ e. (e.0, e.1.account_status)) accounts.entries)
+
+-- ---- what the code follows; no public contract cites what stands below
+
 -- an open account that holds nothing
 abbrev pub opened : Account
 opened = record { account_status = Open; held = 0; free = 0 }
@@ -14,7 +20,3 @@ opened = record { account_status = Open; held = 0; free = 0 }
 -- the account with the status
 abbrev pub with_account_status : AccountStatus → Account → Account
 with_account_status account_status a = record a { account_status = account_status }
-
--- the status of each number
-unfoldable pub account_statuses : BTreeMap ℕ Account → FinMap nat_cmp AccountStatus
-account_statuses accounts = from_entries (map (λ e. (e.0, e.1.account_status)) accounts.entries)

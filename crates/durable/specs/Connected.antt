@@ -16,6 +16,7 @@ pub record Connected (S : Type 0) : Type 0 where
   -- a fault stopped it, and it must be reopened first
   pub must_reopen : Bool
 
+-- its code, as each type has one; no public contract cites it
 abbrev pub connected_code : {S : Type 0} → Coded S → Coded (Connected S)
 connected_code {S} store =
     code_by (Held S × (ℕ × Bool)) (coded× (held_code store) (coded× coded_ℕ coded_bool)) (λ k. (k.conn, (k.count, k.must_reopen))) (λ p. record { conn = p.0; count = p.1.0; must_reopen = p.1.1 })
@@ -39,6 +40,8 @@ module _ {S : Type 0} (g : Ghosts S) where
   -- what an opening may make of it after a crash
   abbrev pub MayHold : Connected S → Places → Type 0
   MayHold k next = (db : Trees) × (state g k.conn).may_leave db × IsOpenedAs db next
+
+  -- ---- what the code follows; no public contract cites what stands below
 
   -- its last commit is a store, whose places were counted
   pub record IsCounted (k : Connected S) : Type 0 where

@@ -24,6 +24,47 @@ use Rattle.wire.specs.Records.{number_of}
 use Rattle.wire.specs.declared.record_format.RecordFormat.{RecordFormat}
 use Rattle.wire.specs.declared.record_format.RecordFormat.TheVariants.{One}
 
+-- the tables are others
+abbrev pub HasOtherTables : Database → Type 0
+HasOtherTables db = (db.schema ≡ no_schema → ⊥) × (IsStoreSchema db.schema → ⊥)
+
+-- there are records, and nothing says whose
+abbrev pub HasNoOwner : Database → Type 0
+HasNoOwner db = (order : TableOrder) × (db.schema ≡ store_schema order) × (db.trees (about_tree order) ≡ []) × (db.trees (entries_tree order) ≡ [] → ⊥)
+
+-- a record's place is below 0
+abbrev pub HasNegativePlace : Database → Type 0
+HasNegativePlace db = (order : TableOrder) × (db.schema ≡ store_schema order) × Any (λ row. (n : ℕ) × (column row 0 ≡ Int (negsuc n))) (db.trees (entries_tree order))
+
+-- the file is no store
+abbrev pub IsNoStore : Database → Type 0
+IsNoStore db = HasOtherTables db ⊎ (HasNoOwner db ⊎ HasNegativePlace db)
+
+-- the owner's row has no format of a store
+abbrev pub HasOtherFormat : Database → Type 0
+HasOtherFormat db =
+    (order : TableOrder) × (db.schema ≡ store_schema order) × (row : Row) × (db.trees (about_tree order) ≡ row ∷ []) × ((format : RecordFormat) → column row 2 ≡ Int (pos (number_of format)) → ⊥)
+
+-- the owner's row has another node
+abbrev pub HasOtherNode : List ℕ → Database → Type 0
+HasOtherNode node db = (order : TableOrder) × (db.schema ≡ store_schema order) × (row : Row) × (db.trees (about_tree order) ≡ row ∷ []) × (column row 3 ≡ Words node → ⊥)
+
+-- it is a store of that node and of format One, and that place is the first without a record
+abbrev pub HasDamagedRecord : List ℕ → Database → ℕ → Type 0
+HasDamagedRecord node db place = HasStore One db × (node_in db.trees ≡ node) × IsDamagedIn One place (slots_in db.trees)
+
+-- the fault of an opening for that node, by the first of these causes
+abbrev pub IsOpeningFault : List ℕ → Database → StoreFault → Type 0
+IsOpeningFault node db (Damaged place) = ((place ≡ 0) × IsNoStore db) ⊎ HasDamagedRecord node db place
+IsOpeningFault node db WrongVersion = (IsNoStore db → ⊥) × HasOtherFormat db
+IsOpeningFault node db WrongNode = (IsNoStore db → ⊥) × (HasOtherFormat db → ⊥) × HasOtherNode node db
+IsOpeningFault node db Device = Unit {0}
+IsOpeningFault node db Full = Unit {0}
+IsOpeningFault node db NoMemory = Unit {0}
+IsOpeningFault node db Reopen = ⊥
+
+-- ---- what the code follows; no public contract cites what stands below
+
 -- open, in no transaction, and nothing is uncommitted
 pub record IsOpened (s : State) : Type 0 where
   pub is_open : IsTrue s.is_open
@@ -85,51 +126,12 @@ IsLeastOrGreatest greatest rows (Some place) = Contains (places_in rows) place �
 abbrev pub HasLeastOrGreatest : Bool → Database → Option ℤ → Type 0
 HasLeastOrGreatest greatest db place = (order : TableOrder) × (db.schema ≡ store_schema order) × IsLeastOrGreatest greatest (db.trees (entries_tree order)) place
 
--- the tables are others
-abbrev pub HasOtherTables : Database → Type 0
-HasOtherTables db = (db.schema ≡ no_schema → ⊥) × (IsStoreSchema db.schema → ⊥)
-
--- there are records, and nothing says whose
-abbrev pub HasNoOwner : Database → Type 0
-HasNoOwner db = (order : TableOrder) × (db.schema ≡ store_schema order) × (db.trees (about_tree order) ≡ []) × (db.trees (entries_tree order) ≡ [] → ⊥)
-
--- a record's place is below 0
-abbrev pub HasNegativePlace : Database → Type 0
-HasNegativePlace db = (order : TableOrder) × (db.schema ≡ store_schema order) × Any (λ row. (n : ℕ) × (column row 0 ≡ Int (negsuc n))) (db.trees (entries_tree order))
-
--- the file is no store
-abbrev pub IsNoStore : Database → Type 0
-IsNoStore db = HasOtherTables db ⊎ (HasNoOwner db ⊎ HasNegativePlace db)
-
--- the owner's row has no format of a store
-abbrev pub HasOtherFormat : Database → Type 0
-HasOtherFormat db =
-    (order : TableOrder) × (db.schema ≡ store_schema order) × (row : Row) × (db.trees (about_tree order) ≡ row ∷ []) × ((format : RecordFormat) → column row 2 ≡ Int (pos (number_of format)) → ⊥)
-
--- the owner's row has another node
-abbrev pub HasOtherNode : List ℕ → Database → Type 0
-HasOtherNode node db = (order : TableOrder) × (db.schema ≡ store_schema order) × (row : Row) × (db.trees (about_tree order) ≡ row ∷ []) × (column row 3 ≡ Words node → ⊥)
-
 -- whose the file is
 abbrev pub IsOwner : List ℕ → Database → Owner → Type 0
 IsOwner node db Nobody = (order : TableOrder) × (db.schema ≡ store_schema order) × (db.trees (about_tree order) ≡ [])
 IsOwner node db OtherFormat = HasOtherFormat db
 IsOwner node db OtherNode = (HasOtherFormat db → ⊥) × HasOtherNode node db
 IsOwner node db (ThisNode format) = (order : TableOrder) × (db.schema ≡ store_schema order) × (db.trees (about_tree order) ≡ about (number_of format) node ∷ [])
-
--- it is a store of that node and of format One, and that place is the first without a record
-abbrev pub HasDamagedRecord : List ℕ → Database → ℕ → Type 0
-HasDamagedRecord node db place = HasStore One db × (node_in db.trees ≡ node) × IsDamagedIn One place (slots_in db.trees)
-
--- the fault of an opening for that node, by the first of these causes
-abbrev pub IsOpeningFault : List ℕ → Database → StoreFault → Type 0
-IsOpeningFault node db (Damaged place) = ((place ≡ 0) × IsNoStore db) ⊎ HasDamagedRecord node db place
-IsOpeningFault node db WrongVersion = (IsNoStore db → ⊥) × HasOtherFormat db
-IsOpeningFault node db WrongNode = (IsNoStore db → ⊥) × (HasOtherFormat db → ⊥) × HasOtherNode node db
-IsOpeningFault node db Device = Unit {0}
-IsOpeningFault node db Full = Unit {0}
-IsOpeningFault node db NoMemory = Unit {0}
-IsOpeningFault node db Reopen = ⊥
 
 -- there is a place, and it is below 0
 abbrev pub IsNegative : Option ℤ → Type 0

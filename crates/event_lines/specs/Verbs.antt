@@ -1,4 +1,4 @@
--- The first words of lines.
+-- The first words of lines. No public contract cites it.
 use Rattle.std.specs.Prelude.{ℕ, List, codes}
 use Rattle.event_lines.specs.declared.verbs.Numbered.{Numbered}
 use Rattle.event_lines.specs.declared.verbs.Numbered.TheVariants.{Open, Close, Ack, Commit, Post, Crash}

@@ -23,6 +23,8 @@ pub record AreCut (line : List ℕ) (words : List (List ℕ)) : Type 0 where
 abbrev pub texts : List (Bor (List ℕ)) → List (List ℕ)
 texts words = map (λ w. w.now) words
 
+-- ---- what the code follows; no public contract cites what stands below
+
 -- a block whose numbers have at most `most_digits` digits
 abbrev pub IsShort : RawBlock → Type 0
 IsShort b = (b.first < too_long) × (b.last < too_long)

@@ -1,4 +1,4 @@
--- The transactions that a clean-up cancels, read off the set of those that stand Checked.
+-- The transactions that a clean-up cancels, read off the set of those that stand Checked. No public contract cites it.
 use Rattle.std.specs.Prelude.{◌≡◌, ℕ, ◌+◌, ◌≤◌, List, ◌∷◌, ◌++◌, map}
 use Rattle.std.specs.List.{AllByRecursion}
 use Rattle.units.specs.Limits.{clean_up_age}

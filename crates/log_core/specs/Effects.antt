@@ -1,4 +1,4 @@
--- What the log's tables do for transitions.
+-- What the log's tables do for transitions. No public contract cites it.
 use Rattle.std.specs.Prelude.{◌≡◌, ℕ, ◌==◌, ◌&&◌, ◌||◌, not, Bool, List, [], ◌∷◌, map, Option, Some, None, option_map, if◌then◌else◌}
 use Rattle.std.specs.BTreeMap as tree
 use Rattle.std.specs.BTreeSet.{contains}

@@ -1,4 +1,4 @@
--- What the log's tables say of its history.
+-- What the log's tables say of its history. No public contract cites it.
 use Rattle.std.specs.Prelude.{◌≡◌, List, option_map}
 use Rattle.std.specs.BTreeMap as tree
 use Rattle.std.specs.BTreeSet.{contains}

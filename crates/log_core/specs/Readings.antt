@@ -16,7 +16,13 @@ use Rattle.checks.specs.declared.register.UnderWay.{UnderWay}
 use Rattle.protocol.specs.History.{Transition, Entry, newest, stands_at, carries, book_owner, allows}
 use Rattle.log_core.specs.declared.transfer.Transfer.{Transfer}
 
--- ---- a transaction
+-- ---- a unit
+
+-- who owns the unit
+abbrev pub owner : Scheme → List Transition → Serial → Option Owner
+owner scheme xs s = option_map (λ c. record { registry = c }) (book_owner scheme xs s)
+
+-- ---- what the code follows; no public contract cites what stands below
 
 -- its status, its content where that is known, and since when it stands so, in seconds
 pub record TransferState : Type 0 where
@@ -34,8 +40,6 @@ of_transfer x = record { status = x.status; content = x.content; since = x.since
 abbrev pub is_checked_since : List Transition → ℕ → TransactionId → Bool
 is_checked_since xs since t = option_map_or (λ x. same_status x.new Checked && (x.moment == since)) (newest xs t) false
 
--- ---- a unit
-
 -- the transition's transfer has the unit, and stands Checked or Accepted
 abbrev pub is_under_way_with : List Transition → Serial → Transition → Bool
 is_under_way_with xs s x = (stands_at xs x.id Checked || stands_at xs x.id Accepted) && carries x s
@@ -44,15 +48,9 @@ is_under_way_with xs s x = (stands_at xs x.id Checked || stands_at xs x.id Accep
 abbrev pub under_way : List Transition → Serial → Option UnderWay
 under_way xs s = option_map (λ x. record { id = x.id }) (find (is_under_way_with xs s) xs)
 
--- who owns the unit
-abbrev pub owner : Scheme → List Transition → Serial → Option Owner
-owner scheme xs s = option_map (λ c. record { registry = c }) (book_owner scheme xs s)
-
 -- the registry that holds it at the start
 abbrev pub owner_of : Holder → Owner
 owner_of h = record { registry = h.registry }
-
--- ---- a registry
 
 -- the last order on whether it may take part in transfers
 abbrev pub last_order : List Entry → Code → Option Bool

@@ -1,4 +1,4 @@
--- What the log's tables do with an input.
+-- What the log's tables do with an input. No public contract cites it.
 use Rattle.std.specs.Prelude.{◌≡◌, Result}
 use Rattle.units.specs.declared.code.Node.TheVariants.{Itl}
 use Rattle.units.specs.declared.refusal.Refusal.{Refusal}

@@ -1,4 +1,4 @@
--- What the log's tables say of transactions, and how the tables fit together.
+-- What the log's tables say of transactions, and how the tables fit together. No public contract cites it.
 use Rattle.std.specs.Prelude.{◌≡◌, ℕ, ◌==◌, ◌&&◌, Bool, true, false, List, [], ◌∷◌, Option, Some, None, option_map, is_some}
 use Rattle.std.specs.BTreeMap as tree
 use Rattle.std.specs.BTreeMap.{BTreeMap}

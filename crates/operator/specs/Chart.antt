@@ -89,18 +89,6 @@ first_ones (n ∷ ns) = n ∷ filter (λ m. not (same_node m n)) (first_ones ns)
 abbrev pub participants : List Happening → List Message → List Node
 participants hs never = first_ones (flat_map happening_nodes hs ++ (flat_map parties never ++ Itl ∷ []))
 
--- ---- what the program has told so far: the nodes of what happened, each once, which places of the bag were delivered,
--- and the lines
-
-pub record IsDrawn (hs : List Happening) (nodes : List Node) (delivered : ℕ → Bool) (lines : List ℕ) : Type 0 where
-  pub named : nodes ≡ first_ones (flat_map happening_nodes hs)
-  pub marked : (place : ℕ) → delivered place ≡ is_delivered hs place
-  pub spelled : lines ≡ flat_map happening_line hs
-
-pub record HasDrawn (scheme : Scheme) (events : List WorldEvent) (w : World) (nodes : List Node) (delivered : ℕ → Bool) (lines : List ℕ) : Type 0 where
-  pub world : w ≡ run (opening scheme) events
-  pub drawn : IsDrawn (happenings (opening scheme) events) nodes delivered lines
-
 -- ---- the chart
 
 -- its nodes, then what happened, the messages that were lost, and the table as a note over all nodes
@@ -117,3 +105,16 @@ pub record IsChart (scheme : Scheme) (events : List WorldEvent) (text : List ℕ
   pub table : List ℕ
   pub is_table : IsTable (run (opening scheme) events) table
   pub spelled : text ≡ chart_text (happenings (opening scheme) events) (lost (happenings (opening scheme) events) (run (opening scheme) events).bag) table
+
+-- ---- what the code follows; no public contract cites what stands below
+
+-- what was told so far: the nodes of what happened, each once, which places of the bag were delivered, and the lines
+pub record IsDrawn (hs : List Happening) (nodes : List Node) (delivered : ℕ → Bool) (lines : List ℕ) : Type 0 where
+  pub named : nodes ≡ first_ones (flat_map happening_nodes hs)
+  pub marked : (place : ℕ) → delivered place ≡ is_delivered hs place
+  pub spelled : lines ≡ flat_map happening_line hs
+
+-- the same of the world that the events lead to
+pub record HasDrawn (scheme : Scheme) (events : List WorldEvent) (w : World) (nodes : List Node) (delivered : ℕ → Bool) (lines : List ℕ) : Type 0 where
+  pub world : w ≡ run (opening scheme) events
+  pub drawn : IsDrawn (happenings (opening scheme) events) nodes delivered lines

@@ -46,23 +46,11 @@ faults_in words = fault_of kyoto_link words
 abbrev pub IsAskedFor : ErrorKind → Type 0
 IsAskedFor kind = (kind ≡ DisplayHelp) ⊎ (kind ≡ DisplayVersion)
 
--- the fault is what the error of clap is to the program
-abbrev pub IsFaultOf : Error → UsageFault → Type 0
-IsFaultOf error NoMemory = kind_of error ≡ OutOfMemory
-IsFaultOf error (Help e) = (e ≡ error) × IsAskedFor (kind_of error)
-IsFaultOf error (Usage e) = (e ≡ error) × (kind_of error ≢ OutOfMemory) × (IsAskedFor (kind_of error) → ⊥)
-
 -- help and the version come only of words that may ask for them, and wrong words have another fault
 abbrev pub IsUsageFault : List (List ℕ) → UsageFault → Type 0
 IsUsageFault words NoMemory = Unit {0}
 IsUsageFault words (Help e) = IsAskedFor (kind_of e) × IsAmong (kind_of e) (faults_in words)
 IsUsageFault words (Usage e) = (kind_of e ≢ OutOfMemory) × (IsAskedFor (kind_of e) → ⊥) × IsAmong (kind_of e) (faults_in words)
-
-abbrev pub IsCommand : App → Command → Type 0
-IsCommand a c = (app_of c ≡ a) × ((out-Command c).has_globals ≡ false)
-
-abbrev pub IsSubcommand : Shape → Command → Type 0
-IsSubcommand s c = (shape_of c ≡ s) × ((out-Command c).has_globals ≡ false)
 
 -- the value of an argument of the subcommand
 abbrev pub argument_of : ArgMatches → List ℕ → Option (List ℕ)
@@ -85,9 +73,23 @@ command_name (Show scheme folder node) = codes "show"
 command_name (Audit scheme folder) = codes "audit"
 command_name (Run scheme folder script) = codes "run"
 
+abbrev pub NamesAction : ArgMatches → Action → Type 0
+NamesAction m a = (subcommand_name_of m ≡ Some (command_name a)) × HasValues (argument_of m) a
+
+-- ---- what the code follows; no public contract cites what stands below
+
+-- the fault is what the error of clap is to the program
+abbrev pub IsFaultOf : Error → UsageFault → Type 0
+IsFaultOf error NoMemory = kind_of error ≡ OutOfMemory
+IsFaultOf error (Help e) = (e ≡ error) × IsAskedFor (kind_of error)
+IsFaultOf error (Usage e) = (e ≡ error) × (kind_of error ≢ OutOfMemory) × (IsAskedFor (kind_of error) → ⊥)
+
+abbrev pub IsCommand : App → Command → Type 0
+IsCommand a c = (app_of c ≡ a) × ((out-Command c).has_globals ≡ false)
+
+abbrev pub IsSubcommand : Shape → Command → Type 0
+IsSubcommand s c = (shape_of c ≡ s) × ((out-Command c).has_globals ≡ false)
+
 -- the action is that of the subcommand with these values
 abbrev pub IsOf : List ℕ → (List ℕ → Option (List ℕ)) → Action → Type 0
 IsOf name value a = (command_name a ≡ name) × HasValues value a
-
-abbrev pub NamesAction : ArgMatches → Action → Type 0
-NamesAction m a = (subcommand_name_of m ≡ Some (command_name a)) × HasValues (argument_of m) a

@@ -17,6 +17,8 @@ abbrev pub sent_in : ℕ → List Record → List Message → List Sent
 sent_in before [] ms = []
 sent_in before (r ∷ rs) ms = act r.acknowledges (take (r.sends - before) ms) ∷ sent_in r.sends rs (drop (r.sends - before) ms)
 
+-- ---- what the code follows; no public contract cites what stands below
+
 -- an acknowledgement sends nothing, and its message was sent before
 abbrev pub IsSentBefore : Option ℕ → ℕ → ℕ → Type 0
 IsSentBefore None before sends = Unit {0}

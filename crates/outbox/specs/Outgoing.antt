@@ -1,4 +1,5 @@
 -- What the records of a history did to its node's messages: for cores, whose outbox says this of their history.
+-- No public contract cites it.
 use Rattle.std.specs.Prelude.{List, [], ◌∷◌, ◌++◌}
 use Rattle.wire.specs.declared.input.Input.{Input}
 use Rattle.wire.specs.declared.input.Input.TheVariants.{Ack}

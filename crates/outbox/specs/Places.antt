@@ -1,4 +1,4 @@
--- Places of messages: where they go, and their keys.
+-- Places of messages: where they go, and their keys. No public contract cites it.
 use Rattle.std.specs.Prelude.{ℕ, suc, ◌==◌, ◌&&◌, ◌||◌, Bool, false, List, [], ◌∷◌, Option, Some, None}
 use Rattle.std.specs.declared.cmp.Ordering.{Ordering}
 use Rattle.units.specs.Code.{same_node}

@@ -1,4 +1,4 @@
--- Counts of messages.
+-- Counts of messages. No public contract cites it.
 use Rattle.std.specs.Prelude.{ℕ, List, [], ◌∷◌}
 use Rattle.outbox.specs.declared.record.Record.{Record}
 

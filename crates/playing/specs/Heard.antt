@@ -34,21 +34,6 @@ HasHeard seat asked (Step Late) = HasNoted seat asked (Step Late)
 HasHeard seat asked (Status status) = HasNoted seat asked (Status status)
 HasHeard seat asked (Refused refusal) = is_unjudged refusal.code ≡ false → HasNoted seat asked (Refused refusal)
 
--- what was taken is told once it is confirmed, or at once where no journal judged it; or the node had stopped before
-abbrev pub IsConfirmed : Heard → Note → Heard → Told → Type 0
-IsConfirmed old note new told =
-    ((told ≡ note.told) × (is_without_journal note.told ≡ true) × (new ≡ old))
-    ⊎ (((told ≡ note.told) × (new ≡ confirmed old note)) ⊎ ((told ≡ Refused stopped) × (new ≡ old)))
-
--- a seat has kept all that it had
-pub record Grows (old new : Heard) : Type 0 where
-  pub tickets : (t : Ticket) → Contains old.tickets t → Contains new.tickets t
-  pub notes : (note : Note) → Contains old.notes note → Contains new.notes note
-  pub confirmed : old.confirmed ≤ new.confirmed
-
-abbrev pub AllGrow : List Heard → List Heard → Type 0
-AllGrow olds news = (k : ℕ) (old : Heard) → slice_get olds k ≡ Some old → (new : Heard) × (slice_get news k ≡ Some new) × Grows old new
-
 -- the seat at the line's node has heard the answer
 pub record IsHeardAt (scheme : Scheme) (seats : List Heard) (l : ScriptLine) (told : Told) : Type 0 where
   pub at : ℕ
@@ -64,3 +49,20 @@ IsHeard scheme seats l (Answered told) = (is_possible scheme l ≡ true) × IsHe
 -- each line has its answer, with these seats
 abbrev pub AreHeard : Scheme → List Heard → List ScriptLine → List Answer → Type 0
 AreHeard scheme seats lines answers = AreAnswers (IsHeard scheme seats) lines answers
+
+-- ---- what the code follows; no public contract cites what stands below
+
+-- what was taken is told once it is confirmed, or at once where no journal judged it; or the node had stopped before
+abbrev pub IsConfirmed : Heard → Note → Heard → Told → Type 0
+IsConfirmed old note new told =
+    ((told ≡ note.told) × (is_without_journal note.told ≡ true) × (new ≡ old))
+    ⊎ (((told ≡ note.told) × (new ≡ confirmed old note)) ⊎ ((told ≡ Refused stopped) × (new ≡ old)))
+
+-- a seat has kept all that it had
+pub record Grows (old new : Heard) : Type 0 where
+  pub tickets : (t : Ticket) → Contains old.tickets t → Contains new.tickets t
+  pub notes : (note : Note) → Contains old.notes note → Contains new.notes note
+  pub confirmed : old.confirmed ≤ new.confirmed
+
+abbrev pub AllGrow : List Heard → List Heard → Type 0
+AllGrow olds news = (k : ℕ) (old : Heard) → slice_get olds k ≡ Some old → (new : Heard) × (slice_get news k ≡ Some new) × Grows old new

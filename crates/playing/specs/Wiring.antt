@@ -1,4 +1,4 @@
--- Which nodes send to which.
+-- Which nodes send to which. No public contract cites it.
 use Rattle.std.specs.Prelude.{List, [], ◌∷◌, map}
 use Rattle.units.specs.declared.code.Node.{Node}
 

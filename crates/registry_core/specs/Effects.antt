@@ -1,4 +1,4 @@
--- What the tables do for a transition.
+-- What the tables do for a transition. No public contract cites it.
 use Rattle.std.specs.Prelude.{◌≡◌, not, Bool, true, false, cond, List, Option, Some, None, option_map, if◌then◌else◌}
 use Rattle.std.specs.FinMap as map
 use Rattle.std.specs.Option.{option_or}

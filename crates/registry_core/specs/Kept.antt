@@ -1,4 +1,4 @@
--- What a registry's tables say of its history.
+-- What a registry's tables say of its history. No public contract cites it.
 use Rattle.std.specs.Prelude.{◌≡◌, ℕ, List}
 use Rattle.std.specs.FinMap as map
 use Rattle.units.specs.declared.block.Unit.{Unit as Serial}

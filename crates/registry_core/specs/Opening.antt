@@ -1,4 +1,4 @@
--- The unit holdings with which a registry starts.
+-- The unit holdings with which a registry starts. No public contract cites it.
 use Rattle.std.specs.Prelude.{List, [], ◌∷◌, Option, None, option_map}
 use Rattle.std.specs.Option.{option_or}
 use Rattle.units.specs.declared.block.Unit.{Unit as Serial}

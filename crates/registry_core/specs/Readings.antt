@@ -35,6 +35,8 @@ unit_holding_at scheme c xs s = cond (holds scheme c xs s) (option_map (unit_hol
 abbrev pub account_status_at : Scheme → Code → List Entry → ℕ → Option AccountStatus
 account_status_at scheme c es n = cond (has_account scheme c n) (Some (cond (is_closed es n) Closed Open)) None
 
+-- ---- what the code follows; no public contract cites what stands below
+
 -- a table's row of a transaction, where it keeps that one and a transition names it
 abbrev pub row_at : {R : Type 0} → (TransactionId → Bool) → (TransactionId → Transition → R) → List Transition → TransactionId → Option R
 row_at keep row xs t = cond (keep t) (option_map (row t) (newest xs t)) None

@@ -1,4 +1,4 @@
--- What a registry's tables do with an input.
+-- What a registry's tables do with an input. No public contract cites it.
 use Rattle.std.specs.Prelude.{◌≡◌, Result}
 use Rattle.units.specs.declared.code.Code.{Code}
 use Rattle.units.specs.declared.code.Node.TheVariants.{Registry}

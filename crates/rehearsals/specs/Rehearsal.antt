@@ -78,6 +78,8 @@ FailsSo IsText NoMemory r s v w = Keeps v w
 FailsSo IsText (Write count) r s v w = (text : List ℕ) × Reports IsText r s text × (count < length text) × Appends v w (take count text)
 FailsSo IsText _ r s v w = ⊥
 
+-- ---- what the code follows; no public contract cites what stands below
+
 -- what the command has done so far, where it goes on only without a fault
 abbrev pub IsEarlyFault : List ℕ → OpFault → Type 0
 IsEarlyFault input (Input line cause) = IsInputFault input line cause

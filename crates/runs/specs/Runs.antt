@@ -74,14 +74,6 @@ pub record ReportsInPart (scheme : Scheme) (lines : List ScriptLine) (count : �
   pub fewer : count < length text
   pub written : Appends before after (take count text)
 
--- a fault after the script's end, but for the output's
-abbrev pub IsLateFault : OpFault → Type 0
-IsLateFault (Store n fault) = Unit {0}
-IsLateFault (Unsettled n) = Unit {0}
-IsLateFault (Stuck n place) = Unit {0}
-IsLateFault NoMemory = Unit {0}
-IsLateFault _ = ⊥
-
 -- after the script's end the answers are written before anything else is looked at
 abbrev pub FailsToRun : OpFault → Scheme → List ScriptLine → (before after : Option (List ℕ)) → Type 0
 FailsToRun (Store n fault) scheme lines v w = HasAnswered lines v w
@@ -90,3 +82,13 @@ FailsToRun (Stuck n place) scheme lines v w = HasAnswered lines v w
 FailsToRun (Write count) scheme lines v w = AnswersInPart lines count v w ⊎ ReportsInPart scheme lines count v w
 FailsToRun NoMemory scheme lines v w = Keeps v w ⊎ HasAnswered lines v w
 FailsToRun _ scheme lines v w = ⊥
+
+-- ---- what the code follows; no public contract cites what stands below
+
+-- a fault after the script's end, but for the output's
+abbrev pub IsLateFault : OpFault → Type 0
+IsLateFault (Store n fault) = Unit {0}
+IsLateFault (Unsettled n) = Unit {0}
+IsLateFault (Stuck n place) = Unit {0}
+IsLateFault NoMemory = Unit {0}
+IsLateFault _ = ⊥

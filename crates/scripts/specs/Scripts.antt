@@ -38,7 +38,7 @@ FailsToReadScript Read r s = Unit {0}
 FailsToReadScript NoMemory r s = Unit {0}
 FailsToReadScript _ r s = ⊥
 
--- ---- within
+-- ---- what the code follows; no public contract cites what stands below
 
 -- why no line more was read
 abbrev pub IsNextFault : List ℕ → ℕ → ℕ → OpFault → Type 0

@@ -1,4 +1,4 @@
--- How an exchange ends that is about the delivery of a message.
+-- How an exchange ends that is about the delivery of a message. No public contract cites it.
 use Rattle.std.specs.Prelude.{ℕ, Result, Ok, Err}
 use Rattle.wire.specs.declared.reply.Reply.TheVariants as reply
 use Rattle.exchanges.specs.declared.ends.Exchange.{Exchange}

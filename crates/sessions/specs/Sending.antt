@@ -21,16 +21,18 @@ pub record Acknowledges (old new : Heard) (key : ℕ) : Type 0 where
   pub taken : IsTakeOf (Ack number) note
   pub seat : new ≡ kept old note
 
--- what comes of a message that goes over a connection of its own, if one can be made
-abbrev pub Tries : Heard → Heard → ℕ → Sent → Type 0
-Tries old new key Nothing = ⊥
-Tries old new key (Received k) = (k ≡ key) × Acknowledges old new key
-Tries old new key (NotReceived k) = (k ≡ key) × (new ≡ old)
-Tries old new key NoMemory = new ≡ old
-
 -- what comes of a call that looks for a message from that key on
 abbrev pub Sends : Node → ℕ → Heard → Heard → Sent → Type 0
 Sends peer from old new Nothing = IsToSend peer from None × (new ≡ old)
 Sends peer from old new (Received key) = ((m : Message) × IsToSend peer from (Some (key, m))) × Acknowledges old new key
 Sends peer from old new (NotReceived key) = ((m : Message) × IsToSend peer from (Some (key, m))) × (new ≡ old)
 Sends peer from old new NoMemory = new ≡ old
+
+-- ---- what the code follows; no public contract cites what stands below
+
+-- what comes of a message that goes over a connection of its own, if one can be made
+abbrev pub Tries : Heard → Heard → ℕ → Sent → Type 0
+Tries old new key Nothing = ⊥
+Tries old new key (Received k) = (k ≡ key) × Acknowledges old new key
+Tries old new key (NotReceived k) = (k ≡ key) × (new ≡ old)
+Tries old new key NoMemory = new ≡ old

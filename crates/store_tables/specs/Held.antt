@@ -38,13 +38,6 @@ pub record IsReadyIn (format : RecordFormat) (s : State) : Type 0 where
 abbrev pub IsReady : State → Type 0
 IsReady s = IsReadyIn newest s
 
--- a transaction is open that sees a store
-pub record IsInside (s : State) : Type 0 where
-  pub is_open : IsTrue s.is_open
-  pub inside : IsTrue s.in_transaction
-  pub schema : s.now.schema ≡ store_schema (order_in s.now.trees)
-  pub store : IsStore s.now.trees
-
 -- the bodies stand after what was there
 abbrev pub followed_by : List (Option (List ℕ)) → List (List ℕ) → List (Option (List ℕ))
 followed_by slots bodies = slots ++ map (λ body. Some body) bodies
@@ -60,3 +53,12 @@ pub record HasAllOrNone (old : Trees) (batch : List (List ℕ)) (new : Trees) : 
   pub store : IsStore new
   pub node : node_in new ≡ node_in old
   pub slots : (slots_in new ≡ slots_in old) ⊎ (slots_in new ≡ followed_by (slots_in old) batch)
+
+-- ---- what the code follows; no public contract cites what stands below
+
+-- a transaction is open that sees a store
+pub record IsInside (s : State) : Type 0 where
+  pub is_open : IsTrue s.is_open
+  pub inside : IsTrue s.in_transaction
+  pub schema : s.now.schema ≡ store_schema (order_in s.now.trees)
+  pub store : IsStore s.now.trees

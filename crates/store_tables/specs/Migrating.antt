@@ -30,6 +30,8 @@ IsOpenedAs db places = ((IsStoreIn One db → ⊥) × (places ≡ slots_in db)) 
 abbrev pub HasStore : RecordFormat → Database → Type 0
 HasStore format db = (db.schema ≡ store_schema (order_in db.trees)) × IsStoreIn format db.trees
 
+-- ---- what the code follows; no public contract cites what stands below
+
 -- a store of that format and of the same node, with such places
 pub record HasPlaces (format : RecordFormat) (old : Trees) (places : Places) (new : Trees) : Type 0 where
   pub store : IsStoreIn format new

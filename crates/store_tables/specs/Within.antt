@@ -1,4 +1,4 @@
--- What a transaction sees.
+-- What a transaction sees. No public contract cites it.
 use Rattle.std.specs.Prelude.{IsTrue}
 use Rattle.sqlite.specs.Effect.{Database}
 use Rattle.sqlite.specs.State.{State}

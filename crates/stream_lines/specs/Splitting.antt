@@ -20,6 +20,8 @@ abbrev pub Feeds : Held → Held → List ℕ → Result (List Line) LineFault �
 Feeds old new piece (Ok lines) = (old.closed ≡ false) × Splits old.limit (old.rest ++ piece) lines new.rest × (new ≡ record old { rest = new.rest })
 Feeds old new piece (Err fault) = Faults old new piece fault
 
+-- ---- what the code follows; no public contract cites what stands below
+
 -- what is held after these lines: what follows the last of them, or more of what was held before
 abbrev pub rest_after : List ℕ → List (List ℕ) → List ℕ → List ℕ
 rest_after held [] tail = held ++ tail

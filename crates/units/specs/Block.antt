@@ -28,14 +28,16 @@ numbers_text first last kind = decimal first ++ 45 ∷ (decimal last ++ 58 ∷ k
 abbrev pub raw_text : RawBlock → List ℕ
 raw_text r = code_text r.origin ++ 58 ∷ (period_text r.period ++ 58 ∷ numbers_text r.first r.last r.kind)
 
--- the text writes the numbers and the kind of a block
-pub record AreNumbers (text : List ℕ) (first last : ℕ) (kind : Kind) : Type 0 where
-  pub spelled : text ≡ numbers_text first last kind
-  pub first_fits : first < too_long
-  pub last_fits : last < too_long
-
 -- the text writes the block, whose numbers have at most `most_digits` digits
 pub record IsRawText (text : List ℕ) (r : RawBlock) : Type 0 where
   pub spelled : text ≡ raw_text r
   pub first : r.first < too_long
   pub last : r.last < too_long
+
+-- ---- what the code follows; no public contract cites what stands below
+
+-- the text writes the numbers and the kind of a block
+pub record AreNumbers (text : List ℕ) (first last : ℕ) (kind : Kind) : Type 0 where
+  pub spelled : text ≡ numbers_text first last kind
+  pub first_fits : first < too_long
+  pub last_fits : last < too_long

@@ -11,14 +11,16 @@ use Rattle.world.specs.Cores.{node_of, scheme_of}
 use Rattle.world.specs.Stations.{station_of}
 use Rattle.world.specs.declared.station.Station.{Station}
 
+-- the world that these stations and this bag make
+abbrev pub world_of : Scheme → List Station → List Posted → worlds.World
+world_of scheme stations bag = record { scheme = scheme; stations = map station_of stations; bag = bag }
+
+-- ---- what the code follows; no public contract cites what stands below
+
 -- a station of the scheme that posted nothing yet
 pub record IsFresh (scheme : Scheme) (s : Station) : Type 0 where
   pub scheme_is : scheme_of s.core ≡ scheme
   pub none : (key : ℕ) → contains nat_cmp s.posted key ≡ false
-
--- the world that these stations and this bag make
-abbrev pub world_of : Scheme → List Station → List Posted → worlds.World
-world_of scheme stations bag = record { scheme = scheme; stations = map station_of stations; bag = bag }
 
 -- the core goes by that scheme, and the station's keys are those of its messages in the bag
 pub record IsKept (scheme : Scheme) (bag : List Posted) (s : Station) : Type 0 where

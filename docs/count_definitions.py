@@ -4,7 +4,9 @@
 Prints, of the repository that this file stands in or of the folder that is given: the lines of definitions in
 crates/protocol/specs (no blank lines, comments and `use` lines), and, of all definitions in crates/*/specs that the
 headline's words cite, directly or through others, how many there are and how many lines they have; the names of limits
-and codes, which stand for a number alone, are counted apart. Types that the code declares are not counted.
+and codes, which stand for a number alone, are counted apart. Types that the code declares are not counted. Then, over all
+crates, how many definitions there are, how many of them the contracts of public functions reach, and each that says the
+contrary of itself, or doesn't say that no public contract cites it: where there is such a one the exit status is 1.
 
 With --files it prints instead the tables of docs/DEFINITIONS.md: the files of definitions of each crate, in the order in
 which each needs only those before it, with the comment that each begins with.
@@ -13,6 +15,8 @@ import glob
 import os
 import re
 import sys
+
+from reached_definitions import Repository
 
 HEADLINE = ["OnePlace", "SpentOnce", "Agrees", "live_of", "committed_of", "opening", "run"]
 HEADLINE_FILES = ["protocol/Claims", "protocol/World"]
@@ -111,6 +115,11 @@ def main():
     count = sum(len(files[key][1][word]) for key, word in seen - names)
     print("definitions that the headline's words cite: %d, of %d lines" % (len(seen - names), count))
     print("names of limits and codes among them: %d" % len(names))
+    repository = Repository(top)
+    print("definitions of all crates: %d, of which public contracts reach %d" % (repository.count(), len(repository.reached())))
+    misplaced = list(repository.misplaced())
+    print("\n".join(misplaced), end="\n" if misplaced else "")
+    sys.exit(1 if misplaced else 0)
 
 
 if __name__ == "__main__":

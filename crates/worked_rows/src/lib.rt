@@ -12,6 +12,8 @@ mod finding_rows;
 #[cfg(test)]
 mod given;
 #[cfg(test)]
+mod limit_rows;
+#[cfg(test)]
 mod line_rows;
 #[cfg(test)]
 mod log_rows;

@@ -1,0 +1,253 @@
+#!/usr/bin/env python3
+"""Plants a wrong constant, comparison, connective, constructor, code or field at each place of the protocol's definitions that has
+one, each alone, and lists those that no worked equation refuses.
+
+The places are found in crates/protocol/specs and in the status tables. A change that the checker doesn't take as a definition (its
+types differ) is none, and is counted apart. The others are tried on the equations of `worked_definitions`, and those that stand there
+also on the worked runs of `protocol`. Printed is a line for each change, and at the end those that nothing refuses, which
+docs/MUTATIONS.md explains one by one. The exit status is 1 where one stands that isn't listed there, or where one that is listed is
+refused. The libraries have to be built: `rt lib` in crates/protocol. With --list nothing is checked.
+"""
+
+import argparse
+import collections
+import concurrent.futures
+import dataclasses
+import itertools
+import pathlib
+import re
+import shutil
+import subprocess
+import sys
+import tempfile
+
+import definitions
+from definitions import ROOT
+
+LISTED = ROOT / "docs" / "MUTATIONS.md"
+WORKED = sorted((ROOT / "crates/protocol/proofs").glob("Worked*.antt"))
+STATUSES = ["Proposed", "Checked", "Accepted", "Rejected", "Cancelled", "Terminated", "Completed"]
+COLUMNS = [
+    "Propose", "RequestOrder", "RepeatedRequestOrder", "ProposalWithoutFinding", "ProposalWithFindings", "EqualProposal", "Request", "CleanUp",
+]
+# Each of these in the place of the one before it.
+CYCLES = [STATUSES, ["Repeat", "Late", "Refused"], ["IsRepeat", "IsLate"], ["Unknown", "Bare"], [f"column.{it}" for it in COLUMNS]]
+# Words for which another of the same type may stand.
+PAIRS = [
+    ("true", "false"), ("&&", "||"), ("nat_le", "nat_lt"), ("take", "drop"), ("is_some", "is_none"), ("list_any", "list_all"),
+    (".to", ".from"), (".first", ".last"), (".account", ".to_account"), (".committed", ".tail"), ("same_code", "same_node"),
+    (".origin", ".code"), (".old", ".new"), ("committed_of", "live_of"), ("◌×◌", "◌⊎◌"), ("≤", "<"), ("≡", "≢"), ("×", "⊎"),
+]
+NUMBER = re.compile(r"^\d[\d_]*$")
+WORD = re.compile(r"[^\s(){};,]+")
+# Where a word comes from that a file doesn't import.
+SOURCES = {
+    "nat_le": "Rattle.std.specs.Prelude", "nat_lt": "Rattle.std.specs.Prelude", "take": "Rattle.std.specs.Prelude", "drop": "Rattle.std.specs.Prelude",
+    "is_some": "Rattle.std.specs.Prelude", "is_none": "Rattle.std.specs.Prelude", "not": "Rattle.std.specs.Prelude", "true": "Rattle.std.specs.Prelude",
+    "false": "Rattle.std.specs.Prelude", "suc": "Rattle.std.specs.Prelude", "&&": "Rattle.std.specs.Prelude", "||": "Rattle.std.specs.Prelude",
+    "-": "Rattle.std.specs.Prelude", "≤": "Rattle.std.specs.Prelude", "<": "Rattle.std.specs.Prelude", "⊎": "Rattle.std.specs.Prelude",
+    "≢": "Rattle.std.specs.Prelude", "≡": "Rattle.std.specs.Prelude",
+    **{it: "Rattle.status.specs.declared.status.Status.TheVariants" for it in STATUSES},
+    **{it: "Rattle.status.specs.declared.rows.Row.TheVariants" for it in ("Repeat", "Late", "Refused")},
+}
+INFIX = {"&&", "||", "-", "≤", "<", "⊎", "≢", "≡"}
+
+
+@dataclasses.dataclass(frozen=True)
+class Mutation:
+    """In that file, in the definition of that name, the text from `begin` to `end` is to be `new`."""
+
+    file: str
+    name: str
+    begin: int
+    end: int
+    old: str
+    new: str
+    needs: tuple
+
+    # Which of the places of that text in the definition, counted from 1.
+    turn: int = 1
+
+    def __str__(self):
+        old, new = (" ".join(it.split()) for it in (self.old, self.new))
+        return f"{pathlib.Path(self.file).stem}.{self.name}: `{old}` → `{new or 'nothing'}`" + (f" ({self.turn})" if self.turn > 1 else "")
+
+
+def others_of(word, codes):
+    """What may stand in the place of a word, each with the words that it needs."""
+    found = []
+    for cycle in CYCLES:
+        if word in cycle:
+            new = cycle[(cycle.index(word) + 1) % len(cycle)]
+            found.append((new, (new,)))
+    for one, other in PAIRS:
+        for old, new in ((one, other), (other, one)):
+            if word == old:
+                found.append((new, (new,)))
+            elif old.startswith(".") and word.endswith(old) and word != old:
+                found.append((word.removesuffix(old) + new, ()))
+    if word in codes:
+        found.append((codes[(codes.index(word) + 1) % len(codes)], ()))
+    if NUMBER.match(word):
+        found.append((str(int(word.replace("_", "")) + 1), ()))
+    if word.startswith(("most_", "last_", "least_")) or word == "clean_up_age":
+        found.append((f"(suc {word})", ("suc",)))
+    if word == "+":
+        found.append(("-", ("-",)))
+    if word == "==":
+        found.append(("== suc", ("suc",)))
+    if word == "not":
+        found.append(("", ()))
+    return found
+
+
+def right_sides(text):
+    """Where the right sides of definitions and the types of fields stand: the definition's name, and the places of each line's part."""
+    name, at, record = None, 0, False
+    for line in text.splitlines(keepends=True):
+        bare = line.strip()
+        if bare and not bare.startswith(("--", "use ", "pub use ", "pub mod ")):
+            start = re.match(r"(?:abbrev |unfoldable )*pub (?:abbrev |unfoldable )*(data |record )?([^\s:({]+)", line)
+            if start:
+                name, record = start[2], bool(start[1])
+            elif not record and not line.startswith(" ") and " = " in line:
+                yield name, at + line.index(" = ") + 3, at + len(line)
+            elif line.startswith(" ") and name:
+                begin = line.index(" : ") + 3 if record and " : " in line else 0
+                yield name, at + begin, at + len(line)
+        at += len(line)
+
+
+def negations(text, begin, end):
+    """Where a condition of `cond` stands."""
+    for it in re.compile(r"\bcond (?=[\w(])").finditer(text, begin, end):
+        at = it.end()
+        if text[at] == "(":
+            depth = 0
+            for i in range(at, end):
+                depth += {"(": 1, ")": -1}.get(text[i], 0)
+                if depth == 0:
+                    yield at, i + 1
+                    break
+        else:
+            yield at, WORD.match(text, at).end()
+
+
+def mutations():
+    """All changes, each with a name of its own."""
+    turns = collections.Counter()
+    for it in unnamed():
+        turns[it.file, it.name, it.old, it.new] += 1
+        yield dataclasses.replace(it, turn=turns[it.file, it.name, it.old, it.new])
+
+
+def unnamed():
+    for path in definitions.definitions():
+        text, file = path.read_text(), str(path.relative_to(ROOT / "crates"))
+        codes = [it.strip() for items in re.findall(r"RefusalCodes\.\{([^}]*)\}", text) for it in items.split(",")]
+        lines = []
+        for name, begin, end in right_sides(text):
+            for it in WORD.finditer(text, begin, end):
+                for new, needs in others_of(it[0], codes):
+                    yield Mutation(file, name, it.start(), it.end(), it[0], new, needs)
+            for at, until in negations(text, begin, end):
+                yield Mutation(file, name, at, until, text[at:until], f"(not {text[at:until]})", ("not",))
+            lines.append((name, begin, end))
+        for (name, begin, end), (other, next_begin, next_end) in zip(lines, lines[1:]):
+            cause = re.compile(r" *(?:∷ )?(\(.*\))\n$")
+            one, two = cause.match(text[begin:end]), cause.match(text[next_begin:next_end])
+            if name == other and one and two:
+                old = text[begin:next_end]
+                new = text[begin:end].replace(one[1], two[1]) + text[next_begin:next_end].replace(two[1], one[1])
+                yield Mutation(file, name, begin, next_end, old, new, ())
+
+
+def imports(text, needs):
+    """The lines that bring what a change needs and the file doesn't import."""
+    brought = {it.strip().split(" as ")[-1] for items in re.findall(r"^use [\w.]+\.\{([^}]*)\}", text, re.M) for it in items.split(",")}
+    for word in needs:
+        name = f"◌{word}◌" if word in INFIX else word
+        if word in SOURCES and name not in brought:
+            yield f"use {SOURCES[word]}.{{{name}}}\n"
+
+
+def planted(it):
+    text = (ROOT / "crates" / it.file).read_text()
+    changed = text[: it.begin] + it.new + text[it.end :]
+    first = re.search(r"^use ", changed, re.M).start()
+    return changed[:first] + "".join(imports(text, it.needs)) + changed[first:]
+
+
+def check(words):
+    """Where the checker finds an error: among the definitions, or in which equations."""
+    ended = subprocess.run(words, capture_output=True, text=True, check=False)
+    said = ended.stdout + ended.stderr
+    errors = list(definitions.ERROR.finditer(said))
+    if any("/proofs/" not in it[1] for it in errors):
+        return "definitions", set()
+    equations = {it[2] for it in errors if not definitions.LIMIT.search(it[3])}
+    if ended.returncode != 0 and not errors:
+        sys.exit(said[-2000:])
+    return ("equations" if equations else "limit" if errors else "none"), equations
+
+
+def result_of(it, folder, words, refusing):
+    """What becomes of one change: none of a definition, refused by an equation, or not refused. The files of equations that refused
+    others of its definition are tried first."""
+    shared = [definitions.WORKED_SCHEME, *(file for file in definitions.FILES if file.stem in definitions.SHARED)]
+    rest = [file for file in definitions.FILES if file not in shared]
+    for files in ([file for file in rest if file in refusing], rest, [file for file in WORKED if file not in shared]):
+        if not files:
+            continue
+        definitions.put(definitions.definitions(), folder / "specs")
+        definitions.put([*files, *shared], folder / "proofs")
+        (folder / "specs" / pathlib.Path(it.file).name).write_text(definitions.renamed(planted(it)))
+        where, equations = check(words)
+        if where == "definitions":
+            return "isn't a definition"
+        if where == "limit":
+            return "refused by a limit"
+        if equations:
+            name = min(equations)
+            refusing.update(file for file in files if re.search(rf"^(?:pub )?{name} : ", file.read_text(), re.M))
+            return f"refused by {name}"
+    return "NOT REFUSED"
+
+
+def tried(changes):
+    """What becomes of each change of one definition."""
+    refusing = set()
+    with tempfile.TemporaryDirectory() as place:
+        folder = pathlib.Path(place)
+        shutil.copytree(ROOT / "crates" / definitions.CRATE / "src", folder / "src")
+        words = definitions.checking(folder / "src" / "lib.rt")
+        for it in changes:
+            result = result_of(it, folder, words, refusing)
+            print(f"{it}: {result}", flush=True)
+            yield it, result
+
+
+def main():
+    parser = argparse.ArgumentParser(description=__doc__, formatter_class=argparse.RawDescriptionHelpFormatter)
+    parser.add_argument("--list", action="store_true", help="print the changes, and check none")
+    parser.add_argument("--only", default="", metavar="WORD", help="only changes that have this in their names")
+    parser.add_argument("--jobs", type=int, default=2, metavar="N", help="how many to check at once (2)")
+    args = parser.parse_args()
+    chosen = [it for it in mutations() if args.only in str(it)]
+    if args.list:
+        print("\n".join(map(str, chosen)))
+        return
+    listed = LISTED.read_text() if LISTED.exists() else ""
+    good, counts = True, collections.Counter()
+    groups = [list(group) for _, group in itertools.groupby(chosen, lambda it: (it.file, it.name))]
+    with concurrent.futures.ThreadPoolExecutor(args.jobs) as pool:
+        for results in pool.map(lambda group: list(tried(group)), groups):
+            for it, result in results:
+                counts[result.split(" by ")[0]] += 1
+                good = good and (result == "NOT REFUSED") == (str(it) in listed)
+    print("; ".join(f"{count} {kind}" for kind, count in counts.items()))
+    sys.exit(0 if good else 1)
+
+
+if __name__ == "__main__":
+    main()

@@ -13,3 +13,6 @@ pub mod TwoRegistries
 pub mod CanonicalOrders
 pub mod HeldUnits
 pub mod RolesAndJournals
+pub mod FailingClaims
+pub mod OwnersAndRest
+pub mod OrdersOfRecords

@@ -1,27 +1,36 @@
--- Short names for messages and inputs, and for what a node answers to inputs after a journal.
-use Rattle.std.proofs.Common.{ℕ, List, map, Option, refl, lit≤}
+-- Short names for messages and inputs, for what a node answers to inputs after a journal, and for worlds with given
+-- journals.
+use Rattle.std.proofs.Common.{ℕ, true, List, [], ◌∷◌, map, Option, cond, refl, lit≤, lit<}
 use Rattle.std.specs.Prelude.{Result, Ok, Err}
+use Rattle.units.specs.Code.{same_node}
 use Rattle.units.specs.Facts.{IsLetter}
 use Rattle.units.specs.declared.block.RawBlock.{RawBlock}
 use Rattle.units.specs.declared.code.Code.{Code}
 use Rattle.units.specs.declared.code.Node.{Node}
+use Rattle.units.specs.declared.code.Node.TheVariants.{Itl}
 use Rattle.units.specs.declared.refusal.Refusal.{Refusal}
 use Rattle.status.specs.Content.{Content}
 use Rattle.status.specs.Id.{number_from}
 use Rattle.status.specs.declared.id.TransactionId.{TransactionId}
 use Rattle.status.specs.declared.moment.Moment.{Moment}
 use Rattle.status.specs.declared.status.Status.{Status}
+use Rattle.status.specs.declared.status.Status.TheVariants.{Completed}
 use Rattle.wire.specs.declared.input.Input.{Input}
 use Rattle.wire.specs.declared.input.Input.TheVariants as input
 use Rattle.wire.specs.declared.message.Message.{Message}
 use Rattle.wire.specs.declared.message.Message.TheVariants as message
 use Rattle.wire.specs.declared.message.ProposalStatus.{ProposalStatus}
+use Rattle.wire.specs.declared.message.ProposalStatus.TheVariants as proposal
+use Rattle.wire.specs.declared.notified.NotifiedStatus.TheVariants as notified
 use Rattle.scheme.specs.declared.registries.Scheme.{Scheme}
 use Rattle.protocol.specs.declared.node_core.Stepped.{Stepped}
 use Rattle.protocol.specs.declared.node_core.Stepped.TheVariants.{Recorded, Repeat, Late}
 use Rattle.protocol.specs.Cores.{answer}
+use Rattle.protocol.specs.Claims.{committed_of}
+use Rattle.protocol.specs.History.{Entry, Transition}
 use Rattle.protocol.specs.Verdict.{verdict, history, transitions_made}
-use Rattle.protocol.proofs.WorkedScheme.{nz, jp, scheme_of, first_of_may, at}
+use Rattle.protocol.specs.World.{World, Station}
+use Rattle.protocol.proofs.WorkedScheme.{jp, nz_node, jp_node, scheme_s, scheme_of, first_of_may, at, number, notification, nz, block}
 
 -- ---- a registry that the scheme of NZ and JP doesn't have; transactions, schemes and moments
 
@@ -106,3 +115,34 @@ pub record Moved : Type 0 where
 
 abbrev pub moves : Scheme → Node → List Input → Input → List Moved
 moves scheme n journal i = map (λ x. record { id = x.id; new = x.new; content = x.content; messages = x.messages }) (transitions_made (verdict scheme n (history scheme n journal) i))
+
+-- ---- worlds with these journals, forged ones among them
+
+abbrev pub has : Node → List Input → Station
+has n journal = record { node = n; committed = journal; tail = []; runs = true }
+
+abbrev pub world_with : Scheme → List Station → World
+world_with scheme stations = record { scheme = scheme; stations = stations; bag = [] }
+
+-- NZ and JP have these, and the log has nothing
+abbrev pub both_have : (at_nz at_jp : List Input) → Node → List Entry
+both_have at_nz at_jp = committed_of (world_with scheme_s (has Itl [] ∷ has jp_node at_jp ∷ has nz_node at_nz ∷ []))
+
+-- JP is told of a transfer of these units that it is completed
+abbrev pub told_jp : TransactionId → Content → List Input
+told_jp t k = comes (proposes Itl jp_node t proposal.Checked k) ∷ comes (notification Itl jp_node t notified.Completed) ∷ []
+
+abbrev pub first_unit : Content
+first_unit = to_jp (block 1 1 ∷ [])
+
+-- ---- transitions, and histories of one record
+
+abbrev pub completes : TransactionId → Option Content → Transition
+completes t k = record { id = t; new = Completed; content = k; moment = 0; messages = [] }
+
+abbrev pub one_entry : List Transition → List Entry
+one_entry xs = record { input = input.OpenAccount (number 1 (lit< tt)); transitions = xs } ∷ []
+
+-- the registries made these transitions, and the log none
+abbrev pub both_made : (at_nz at_jp : List Transition) → Node → List Entry
+both_made at_nz at_jp n = cond (same_node n nz_node) (one_entry at_nz) (cond (same_node n jp_node) (one_entry at_jp) [])

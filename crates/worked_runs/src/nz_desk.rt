@@ -21,6 +21,10 @@ use wire::Input;
 const SCHEME: &str =
     r#"{"records":2000,"registries":[{"accounts":[7,8],"allotted":[],"code":"JP","eligible":true,"kinds":["AAU","CER"]},{"accounts":[1,2],"allotted":[{"account":1,"units":["NZ:1:1-100:AAU"]}],"code":"NZ","eligible":true,"kinds":["AAU","RMU","ERU","CER","tCER","lCER"]}]}"#;
 
+/// The same registries, of which NZ has one account.
+const SCHEME_OF_ONE: &str =
+    r#"{"records":2000,"registries":[{"accounts":[7,8],"allotted":[],"code":"JP","eligible":true,"kinds":["AAU","CER"]},{"accounts":[1],"allotted":[{"account":1,"units":["NZ:1:1-100:AAU"]}],"code":"NZ","eligible":true,"kinds":["AAU"]}]}"#;
+
 /// NZ's first proposal.
 pub const TEN: Given = Event("propose NZ 1 JP 7 NZ:1:1-10:AAU");
 
@@ -42,7 +46,20 @@ pub fn nz(rt: &impl Abort) -> Node {
 pub fn nz_core(rt: &impl Abort, alloc: Global) -> RegistryCore
     ensures { result.journal ≡ [] }
 {
-    let scheme = Scheme::read(alloc, SCHEME.as_bytes()).expect(rt, "a scheme");
+    core_under(rt, alloc, SCHEME)
+}
+
+/// NZ's core under a scheme in which it has no account 2.
+pub fn core_of_one(rt: &impl Abort, alloc: Global) -> RegistryCore
+    ensures { result.journal ≡ [] }
+{
+    core_under(rt, alloc, SCHEME_OF_ONE)
+}
+
+fn core_under(rt: &impl Abort, alloc: Global, text: &str) -> RegistryCore
+    ensures { result.journal ≡ [] }
+{
+    let scheme = Scheme::read(alloc, text.as_bytes()).expect(rt, "a scheme");
     let code = Code::read("NZ").expect(rt, "a code");
     let core = RegistryCore::new(alloc, &scheme, code).expect(rt, "memory");
     drop(scheme);

@@ -1,10 +1,10 @@
 use crate::given::Given;
 use crate::nz_desk::{
-    CLOSE, NzDesk, TEN, TEN_MORE, assert_found, assert_taken, commit, confirm, nz_desk, nz_state,
-    query, recorded, settled, take, take_all,
+    CLOSE, NzDesk, NzState, TEN, TEN_MORE, assert_found, assert_taken, commit, confirm,
+    core_of_one, nz_desk, nz_state, query, recorded, settled, take, take_all,
 };
 use crate::same::assert_same;
-use desk::{Lengths, Life, Seat, Told, Unsettled};
+use desk::{Lengths, Life, Seat, Told, Unsettled, settle_with};
 use protocol::Stepped;
 use std::alloc::Global;
 use std::process::Abort;
@@ -127,4 +127,40 @@ fn an_unconfirmed_tail_settles(rt: HostRuntime) {
     };
     assert_same(&rt, seat.tickets().len(), 2);
     assert_found(&rt, desk, seat, Ok(life));
+}
+
+/// What is found where a core under another scheme settles the state.
+fn found_by_another(
+    rt: &impl Abort,
+    alloc: Global,
+    state: &NzState,
+    seats: &[Seat],
+) -> Option<Unsettled> {
+    match settle_with(core_of_one(rt, alloc), state, seats) {
+        Ok(settled) => {
+            drop(settled);
+            None
+        }
+        Err(fault) => Some(fault),
+    }
+}
+
+#[test]
+fn a_record_of_another_scheme_is_found(rt: HostRuntime) {
+    let alloc = rt.alloc();
+    let desk = nz_desk(&rt, alloc);
+    let mut seat = Seat::new(alloc);
+    take_all(
+        &rt,
+        alloc,
+        &desk,
+        &mut seat,
+        &[(TEN, recorded(0)), (CLOSE, recorded(1))],
+    );
+    ask(&rt, &desk, &mut seat, 2);
+    let (state, seats) = (desk.end(), [seat]);
+    let found = found_by_another(&rt, alloc, &state, &seats);
+    assert_same(&rt, found, Some(Unsettled::NotRecorded(1)));
+    drop(seats);
+    drop(state);
 }

@@ -5,8 +5,9 @@ Prints, of the repository that this file stands in or of the folder that is give
 crates/protocol/specs (no blank lines, comments and `use` lines), and, of all definitions in crates/*/specs that the
 headline's words cite, directly or through others, how many there are and how many lines they have; the names of limits
 and codes, which stand for a number alone, are counted apart. Types that the code declares are not counted. Then, over all
-crates, how many definitions there are, how many of them the contracts of public functions reach, and each that says the
-contrary of itself, or doesn't say that no public contract cites it: where there is such a one the exit status is 1.
+crates, how many definitions there are, how many of them the contracts of public functions reach, and each whose comment is
+wrong: one that is reached and says that no public contract cites it, or one that isn't and doesn't say so. Where there is
+such a one the exit status is 1.
 
 With --files it prints instead the tables of docs/DEFINITIONS.md: the files of definitions of each crate, in the order in
 which each needs only those before it, with the comment that each begins with.

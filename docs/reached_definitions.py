@@ -1,7 +1,7 @@
 """Which definitions the contracts of public functions reach, over all crates.
 
 A contract of a public function is its `requires`, `ensures` and `ghost` clauses; those of an exported trait, and the ghost terms of
-an exported type and of its impls, are read with them. The invariant of a type is none: whoever calls the type's functions needs not
+an exported type and of its impls, are read with them. The invariant of a type is none: whoever calls the type's functions need not
 know it. A definition is reached where a contract cites it, or a definition that is reached.
 """
 import glob

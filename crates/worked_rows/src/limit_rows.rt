@@ -179,9 +179,9 @@ fn long_order(rt: &impl Abort, alloc: Global) -> String {
     text.push_str("propose NZ 1 JP 7 ").expect(rt, "memory");
     for place in 0..16 {
         if place > 0 {
-            text.push_str(",").expect(rt, "memory");
+            text.push_str(" ").expect(rt, "memory");
         }
-        text.push_str("NZ:1:100000000000000-100000000000000:TCER")
+        text.push_str("NZ:1:100000000000000-100000000000000:tCER")
             .expect(rt, "memory");
     }
     text.push_str("\n").expect(rt, "memory");

@@ -185,7 +185,8 @@ def check(words):
     errors = list(definitions.ERROR.finditer(said))
     if any("/proofs/" not in it[1] for it in errors):
         return "definitions", set()
-    equations = {it[2] for it in errors if not definitions.LIMIT.search(it[3])}
+    # An error that isn't in a definition is told by its file.
+    equations = {it[2] or pathlib.Path(it[1]).stem for it in errors if not definitions.LIMIT.search(it[3])}
     if ended.returncode != 0 and not errors:
         sys.exit(said[-2000:])
     return ("equations" if equations else "limit" if errors else "none"), equations
@@ -231,6 +232,7 @@ def main():
     parser = argparse.ArgumentParser(description=__doc__, formatter_class=argparse.RawDescriptionHelpFormatter)
     parser.add_argument("--list", action="store_true", help="print the changes, and check none")
     parser.add_argument("--only", default="", metavar="WORD", help="only changes that have this in their names")
+    parser.add_argument("--done", metavar="FILE", help="an earlier run's output: what it tried isn't tried again")
     parser.add_argument("--jobs", type=int, default=2, metavar="N", help="how many to check at once (2)")
     args = parser.parse_args()
     chosen = [it for it in mutations() if args.only in str(it)]
@@ -238,7 +240,15 @@ def main():
         print("\n".join(map(str, chosen)))
         return
     listed = LISTED.read_text() if LISTED.exists() else ""
+    tried_before = pathlib.Path(args.done).read_text().splitlines() if args.done else []
+    earlier = dict(line.rsplit(": ", 1) for line in tried_before if ": " in line)
     good, counts = True, collections.Counter()
+    for it in chosen:
+        if str(it) in earlier:
+            print(f"{it}: {earlier[str(it)]}", flush=True)
+            counts[earlier[str(it)].split(" by ")[0]] += 1
+            good = good and (earlier[str(it)] == "NOT REFUSED") == (str(it) in listed)
+    chosen = [it for it in chosen if str(it) not in earlier]
     groups = [list(group) for _, group in itertools.groupby(chosen, lambda it: (it.file, it.name))]
     with concurrent.futures.ThreadPoolExecutor(args.jobs) as pool:
         for results in pool.map(lambda group: list(tried(group)), groups):

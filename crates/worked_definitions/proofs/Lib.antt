@@ -16,3 +16,4 @@ pub mod RolesAndJournals
 pub mod FailingClaims
 pub mod OwnersAndRest
 pub mod OrdersOfRecords
+pub mod EdgesOfDefinitions

@@ -2,7 +2,8 @@
 use Rattle.std.proofs.Common.{◌≡◌, false, [], ◌∷◌, None, map, refl}
 use Rattle.units.specs.declared.block.Kind.TheVariants.{Aau}
 use Rattle.wire.specs.declared.input.Input.TheVariants.{Request}
-use Rattle.protocol.specs.AtRegistry.{holds_some, is_place}
+use Rattle.status.specs.declared.status.Status.TheVariants.{Accepted}
+use Rattle.protocol.specs.AtRegistry.{holds_some, is_awaited, is_place}
 use Rattle.protocol.specs.Checks.{is_owner}
 use Rattle.protocol.specs.History.{is_eligible, transitions_of}
 use Rattle.protocol.specs.Pieces.{Piece}
@@ -21,6 +22,10 @@ holds_nothing = refl
 
 abbrev first_piece : Piece
 first_piece = record { unit = unit 1; kind = Aau }
+
+-- an accepted transfer without content goes to no account
+pub nothing_awaited : is_awaited jp (record { id = nz1; new = Accepted; content = None; moment = 0; messages = [] } ∷ []) 7 ≡ false
+nothing_awaited = refl
 
 pub in_no_account : is_place None 1 first_piece ≡ false
 in_no_account = refl

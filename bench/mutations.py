@@ -86,8 +86,10 @@ def others_of(word, codes):
                 found.append((new, (new,)))
             elif old.startswith(".") and word.endswith(old) and word != old:
                 found.append((word.removesuffix(old) + new, ()))
-    if word in codes:
+    if word in codes and len(codes) > 1:
         found.append((codes[(codes.index(word) + 1) % len(codes)], ()))
+    elif word in codes:
+        found.append((f"(suc {word})", ("suc",)))
     if NUMBER.match(word):
         found.append((str(int(word.replace("_", "")) + 1), ()))
     if word.startswith(("most_", "last_", "least_")) or word == "clean_up_age":

@@ -5,6 +5,7 @@ use Rattle.wire.specs.declared.input.Input.TheVariants.{Request}
 use Rattle.status.specs.declared.status.Status.TheVariants.{Accepted}
 use Rattle.protocol.specs.AtRegistry.{holds_some, is_awaited, is_place}
 use Rattle.protocol.specs.Checks.{is_owner}
+use Rattle.protocol.specs.Claims.{is_received}
 use Rattle.protocol.specs.History.{is_eligible, transitions_of}
 use Rattle.protocol.specs.Pieces.{Piece}
 use Rattle.protocol.specs.Verdict.{verdict, history}
@@ -29,6 +30,10 @@ nothing_awaited = refl
 
 pub in_no_account : is_place None 1 first_piece ≡ false
 in_no_account = refl
+
+-- a transfer without content goes to nobody who could have received it
+pub received_by_nobody : is_received (λ n. []) nz1 None ≡ false
+received_by_nobody = refl
 
 -- neither order of a registry has a moment
 pub no_moments : map (λ x. x.moment) (transitions_of (history scheme_s nz_node (orders 1 jp 7 (block 1 1 ∷ []) ∷ Request nz1 ∷ []))) ≡ 0 ∷ 0 ∷ []

@@ -1,11 +1,13 @@
 -- Histories of which a claim doesn't hold: a claim that could not fail would say nothing. Most are those of forged
 -- journals, whose nodes received what nobody sent.
-use Rattle.std.proofs.Common.{◌≡◌, ◌⊎◌, ℕ, ◌+◌, ◌≤◌, Bool, true, false, List, [], ◌∷◌, Option, Some, None, cond, inl, inr, refl, ap, arith}
+use Rattle.std.proofs.Common.{◌≡◌, ◌⊎◌, ◌∙◌, ◌&&◌, ℕ, zero, suc, ◌+◌, ◌≤◌, ◌<◌, Bool, true, false, List, [], ◌∷◌, Option, Some, None, cond, inl, inr, refl, ap, subst, arith, get_or}
+use Rattle.std.specs.List.{count_by}
 use Rattle.std.specs.Option.{option_map_or}
 use Rattle.units.specs.declared.code.Code.{Code}
 use Rattle.units.specs.declared.code.Node.{Node}
 use Rattle.units.specs.declared.code.Node.TheVariants.{Itl}
-use Rattle.status.specs.Id.{number_from}
+use Rattle.status.specs.Id.{number_from, same_id}
+use Rattle.status.specs.Status.{same_status}
 use Rattle.status.specs.declared.id.TransactionId.{TransactionId}
 use Rattle.status.specs.declared.status.Status.TheVariants.{Proposed, Checked, Accepted, Rejected, Terminated, Cancelled, Completed}
 use Rattle.wire.specs.declared.input.Input.{Input}
@@ -13,7 +15,7 @@ use Rattle.wire.specs.declared.message.ProposalStatus.TheVariants as proposal
 use Rattle.wire.specs.declared.notified.NotifiedStatus.{NotifiedStatus}
 use Rattle.wire.specs.declared.notified.NotifiedStatus.TheVariants as notified
 use Rattle.protocol.specs.Claims.{Agrees, OnePlace, SpentOnce, HolderOwns, CountedOnce, CompletedOnce, NextIsNew, IsEnd, IsUnderWay, DeliversWelcome, TerminatesForEligibility, committed_of}
-use Rattle.protocol.specs.History.{Entry, Transition, is_with}
+use Rattle.protocol.specs.History.{Entry, Transition, is_with, newest}
 use Rattle.protocol.specs.Registries.{allotted}
 use Rattle.protocol.specs.Verdict.{verdict}
 use Rattle.protocol.specs.World.{World, opening, step}
@@ -120,6 +122,19 @@ pub completed_and_cancelled : CompletedOnce (cancels nz1 ∷ give ∷ []) → �
 completed_and_cancelled h =
     let e : Cancelled ≡ Completed = ap (λ o. option_map_or (λ (x : Transition). x.new) o Proposed) (h give (1, (omega arith), refl) refl).0 in
     cc (e)
+
+-- what is completed counts, whatever else came before it
+abbrev over_cancelled : List Transition
+over_cancelled = give ∷ cancels nz1 ∷ []
+
+completed_at : (x : Transition) (i : ℕ) → i < 2 → get_or over_cancelled i x ≡ x → x.new ≡ Completed
+    → (newest over_cancelled x.id ≡ Some x) × (count_by (λ y. same_id y.id x.id && same_status y.new Completed) over_cancelled ≡ 1)
+completed_at x zero low is done = subst (λ (y : Transition). (newest over_cancelled y.id ≡ Some y) × (count_by (λ z. same_id z.id y.id && same_status z.new Completed) over_cancelled ≡ 1)) is (refl, refl)
+completed_at x (suc zero) low is done = let e : Cancelled ≡ Completed = ap (λ (y : Transition). y.new) is ∙ done in cc (e)
+completed_at x (suc (suc i)) low is done = absurd (omega (arith, low))
+
+pub completed_once : CompletedOnce over_cancelled
+completed_once x contained done = completed_at x contained.0 contained.1 contained.2 done
 
 -- the registry has given no number, and knows a transaction that has its first
 pub number_is_known : NextIsNew nz (one_entry (cancels nz1 ∷ [])) → ⊥

@@ -14,6 +14,7 @@ pub mod CanonicalOrders
 pub mod HeldUnits
 pub mod RolesAndJournals
 pub mod FailingClaims
+pub mod ClaimsAtLog
 pub mod OwnersAndRest
 pub mod OrdersOfRecords
 pub mod EdgesOfDefinitions

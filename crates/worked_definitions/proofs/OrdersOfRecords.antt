@@ -152,6 +152,11 @@ pub second_not_recorded : IsFirstNotRecorded scheme_s nz_node (order ∷ order �
 unfolding verdict
 second_not_recorded = record { input = order; is = refl; refused = λ e. cc (e); before = replays_one }
 
+-- what comes after it plays no part
+pub second_of_three_not_recorded : IsFirstNotRecorded scheme_s nz_node (order ∷ order ∷ order ∷ []) 1
+unfolding verdict
+second_of_three_not_recorded = record { input = order; is = refl; refused = λ e. cc (e); before = replays_one }
+
 pub first_is_recorded : IsFirstNotRecorded scheme_s nz_node (order ∷ order ∷ []) 0 → ⊥
 unfolding verdict
 first_is_recorded bad = bad.refused (order_recorded bad.input bad.is)

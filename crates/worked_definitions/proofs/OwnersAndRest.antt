@@ -1,5 +1,5 @@
 -- Who owns a unit before a transfer, on the way and after it, histories with two owners, and worlds that are not at rest.
-use Rattle.std.proofs.Common.{◌≡◌, ℕ, ◌+◌, ◌≤◌, Bool, true, false, List, [], ◌∷◌, Option, Some, None, inl, inr, refl, ap, ◌∙◌, arith}
+use Rattle.std.proofs.Common.{◌≡◌, ◌⊎◌, ℕ, ◌+◌, ◌≤◌, Bool, true, false, List, [], ◌∷◌, Option, Some, None, inl, inr, refl, ap, ◌∙◌, arith}
 use Rattle.std.specs.Prelude.{take}
 use Rattle.std.specs.Option.{option_map_or}
 use Rattle.units.specs.declared.code.Node.{Node}
@@ -10,7 +10,7 @@ use Rattle.status.specs.declared.status.Status.TheVariants.{Proposed, Checked, A
 use Rattle.wire.specs.declared.input.Input.{Input}
 use Rattle.protocol.specs.Claims.{is_received, live_of}
 use Rattle.protocol.specs.History.{Entry, Transition, carries}
-use Rattle.protocol.specs.Owner.{Owner, At, Due, Owing, Owns, OneOwner, Completes, Moves, sends_off, takes_in}
+use Rattle.protocol.specs.Owner.{Owner, At, Due, Owing, Owns, OneOwner, OwnersMove, Completes, Moves, sends_off, takes_in}
 use Rattle.protocol.specs.Verdict.{verdict}
 use Rattle.protocol.specs.WayOut.{AtRest, HasRoom, IsIdle, IsOpen, OnlyTransport}
 use Rattle.protocol.specs.World.{Station, opening, opening_station, step}
@@ -83,7 +83,15 @@ pub owner_of_nothing : OneOwner scheme_s (both_have [] (told_jp nz1 (to_jp (bloc
 unfolding verdict
 owner_of_nothing h = h.none (unit 101) (At jp) refl (refl, refl)
 
+-- an allotted unit has some owner
+pub some_owner : OneOwner scheme_s before → (a : Owner) × Owns scheme_s before (unit 1) a
+some_owner h = h.some (unit 1) refl
+
 -- ---- the moves of a transfer
+
+-- an owner at both ends stayed, or moved to itself
+pub one_of_two : OwnersMove scheme_s before before → (At nz ≡ At nz) ⊎ Moves before before (unit 1) (At nz) (At nz)
+one_of_two h = h (unit 1) (At nz) (At nz) (refl, refl) (refl, refl)
 
 proposed_before : Some Proposed ≡ Some Completed → ⊥
 proposed_before e = cc (e)

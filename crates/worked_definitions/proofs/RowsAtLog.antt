@@ -25,10 +25,10 @@ is_accepted = notification jp_node Itl nz1 notified.Accepted
 abbrev is_rejected : Message
 is_rejected = notification jp_node Itl nz1 (notified.Rejected (301 ∷ 304 ∷ []))
 
-abbrev is_completed : Message
+abbrev pub is_completed : Message
 is_completed = notification nz_node Itl nz1 notified.Completed
 
-abbrev request : Message
+abbrev pub request : Message
 request = asks nz_node Itl nz1
 
 -- ---- journals by which the transaction stands so
@@ -36,7 +36,7 @@ request = asks nz_node Itl nz1
 abbrev checked : List Input
 checked = comes proposed ∷ []
 
-abbrev accepted : List Input
+abbrev pub accepted : List Input
 accepted = checked ++ comes is_accepted ∷ []
 
 abbrev rejected : List Input
@@ -51,7 +51,7 @@ cleaned_up = checked ++ CleanUp a_day_after ∷ []
 abbrev asked_for : List Input
 asked_for = checked ++ comes request ∷ []
 
-abbrev completed : List Input
+abbrev pub completed : List Input
 completed = accepted ++ comes is_completed ∷ []
 
 -- a record without content

@@ -71,8 +71,9 @@ IsAnswer line reply (Some note) = Backs line reply note
 abbrev pub given_of : List Answered → List Given
 given_of answers = map (λ (a : Answered). record { line = a.line; reply = a.reply }) answers
 
--- a seat, and the answers that were given with it
-pub record Answering : Type 0 where
+-- a clock and a seat, and the answers that were given by them
+pub record Answering (K : Type 0) : Type 0 where
+  pub clock : K
   pub seat : Heard
   pub answers : List Answered
 
@@ -92,9 +93,10 @@ pub record EndsBy (old new : Heard) (note : Note) (answer : Answered) : Type 0 w
       → ((new ≡ confirmed (kept old note) note) × (answer.receipt ≡ Some note) × Gives note.told answer.reply)
       ⊎ ((new ≡ kept old note) × (answer.receipt ≡ None) × IsRefusedBy node_stopped answer.reply)
 
--- the desk took the message once, with that seat, and this came of it
-pub record Asks (old new : Heard) (message : Message) (answer : Answered) : Type 0 where
+-- the desk took the message once, with that seat and at a moment that the clock told, and this came of it
+pub record Asks (tells : Moment → Type 0) (old new : Heard) (message : Message) (answer : Answered) : Type 0 where
   pub moment : Moment
+  pub time : tells moment
   pub note : Note
   pub asked : note.asked ≡ Take (inputs.Received message moment)
   pub taken : IsTakeOf (inputs.Received message moment) note
@@ -110,11 +112,12 @@ pub record Declines (old new : Heard) (line : List ℕ) (answer : Answered) : Ty
   pub receipt : answer.receipt ≡ None
   pub reply : IsRefusedBy refusal.code answer.reply
 
--- the desk took the message that the line writes once, with that seat, and this came of it; or the line isn't read
-abbrev pub Replies : Heard → Heard → List ℕ → Answered → Type 0
-Replies old new line answer = Declines old new line answer ⊎ ((message : Message) × IsLine line message × Asks old new message answer)
+-- the desk took the message that the line writes once, and this came of it; or the line isn't read
+abbrev pub Replies : (Moment → Type 0) → Heard → Heard → List ℕ → Answered → Type 0
+Replies tells old new line answer = Declines old new line answer ⊎ ((message : Message) × IsLine line message × Asks tells old new message answer)
 
 -- what came of one more line: its answer is added, or memory ran out and nothing changed
-abbrev pub RepliesOnce : Answering → Answering → List ℕ → Result Reply NoMemory → Type 0
-RepliesOnce old new line (Ok reply) = (a : Answered) × (new.answers ≡ old.answers ++ a ∷ []) × (a.line ≡ line) × (a.reply ≡ reply) × Replies old.seat new.seat line a
-RepliesOnce old new line (Err e) = new ≡ old
+abbrev pub RepliesOnce : {K : Type 0} → (K → Moment → Type 0) → Answering K → Answering K → List ℕ → Result Reply NoMemory → Type 0
+RepliesOnce tells old new line (Ok reply) =
+    (a : Answered) × (new.answers ≡ old.answers ++ a ∷ []) × (new.clock ≡ old.clock) × (a.line ≡ line) × (a.reply ≡ reply) × Replies (tells old.clock) old.seat new.seat line a
+RepliesOnce tells old new line (Err e) = new ≡ old

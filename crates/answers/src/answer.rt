@@ -7,12 +7,13 @@ ghost use Rattle.answers.specs.Lines.{IsUnread};
 
 use crate::clock::Clock;
 use crate::job::Job;
-use desk::{Bell, Desk, Gate, Receipt, Seat, Taken, Told};
+use desk::{Bell, Desk, Gate, Opening, Receipt, Seat, Taken, Told};
 use protocol::{NodeCore, refusals_have_causes};
 use std::alloc::Global;
 use std::marker::Model;
 use std::rt::Clock as SystemClock;
 use std::sync::Wait;
+use stores::NodeStore;
 use units::refusal_code::{NODE_STOPPED, OUT_OF_MEMORY};
 use units::{NoMemory, Refusal};
 use wire::{Input, Message, Reply, ReplyCode};
@@ -150,9 +151,9 @@ fn reply_to(taken: &Taken) -> Reply
 
 /// Waits for the receipt of a message that was judged by a journal, and returns the answer to its line: with its reply
 /// and the receipt, or with refusal `NODE_STOPPED` where the node stopped before.
-fn answer_confirmed<C: NodeCore, B: Bell, R: Wait + SystemClock>(
+fn answer_confirmed<O: Opening, C: NodeCore, S: NodeStore, B: Bell, R: Wait + SystemClock>(
     rt: &R,
-    desk: &Desk<C, B>,
+    desk: &Desk<O, C, S, B>,
     seat: &mut Seat,
     line: Vec<u8>,
     taken: Taken,
@@ -171,9 +172,17 @@ fn answer_confirmed<C: NodeCore, B: Bell, R: Wait + SystemClock>(
 }
 
 /// As `answer_job`, for a line and the message that it writes.
-fn answer_message<C: NodeCore, B: Bell, K: Clock, G: Gate, R: Wait + SystemClock>(
+fn answer_message<
+    O: Opening,
+    C: NodeCore,
+    S: NodeStore,
+    B: Bell,
+    K: Clock,
+    G: Gate,
+    R: Wait + SystemClock,
+>(
     rt: &R,
-    desk: &Desk<C, B>,
+    desk: &Desk<O, C, S, B>,
     seat: &mut Seat,
     clock: &K,
     gate: &G,
@@ -182,7 +191,7 @@ fn answer_message<C: NodeCore, B: Bell, K: Clock, G: Gate, R: Wait + SystemClock
 ) -> Answer
     requires { IsLine line.items message }
     ensures line { result.line ≡ line.items }
-    ensures asks { Asks seat.old seat.new message result }
+    ensures asks { Asks (K.tells clock.now) seat.old seat.new message result }
 {
     let moment = clock.now();
     let taken = desk.take_at(rt, seat, Input::Received { message, moment }, gate);
@@ -195,16 +204,17 @@ fn answer_message<C: NodeCore, B: Bell, K: Clock, G: Gate, R: Wait + SystemClock
 /// Has the desk take a job's message once, at the clock's moment, and returns the answer to the job's line: at once
 /// where the node had stopped or memory ran out, and else when all records are committed that the journal had then.
 /// Where the node stops before, the reply is refusal `NODE_STOPPED`. While the desk holds its lock, it passes the gate.
-pub fn answer_job<C: NodeCore, B: Bell, K: Clock, G: Gate, R: Wait + SystemClock>(
-    rt: &R,
-    desk: &Desk<C, B>,
-    seat: &mut Seat,
-    clock: &K,
-    gate: &G,
-    job: Job,
-) -> Answer
+pub fn answer_job<
+    O: Opening,
+    C: NodeCore,
+    S: NodeStore,
+    B: Bell,
+    K: Clock,
+    G: Gate,
+    R: Wait + SystemClock,
+>(rt: &R, desk: &Desk<O, C, S, B>, seat: &mut Seat, clock: &K, gate: &G, job: Job) -> Answer
     ensures line { result.line ≡ job.line }
-    ensures asks { Asks seat.old seat.new job.message result }
+    ensures asks { Asks (K.tells clock.now) seat.old seat.new job.message result }
 {
     let (line, message) = job.into_parts();
     answer_message(rt, desk, seat, clock, gate, line, message)

@@ -1,8 +1,9 @@
 //! The moment that it is.
-ghost use Rattle.std.specs.Prelude.{◌≡◌, ◌/◌, min};
+ghost use Rattle.std.specs.Prelude.{◌≡◌, ◌≤◌, ◌/◌, min};
 ghost use Rattle.std.specs.Prelude.{ℕ};
 ghost use Rattle.std.specs.Duration.{as_nanos};
 ghost use Rattle.units.specs.Limits.{last_moment};
+ghost use Rattle.status.specs.declared.moment.Moment.{Moment};
 
 use status::Moment;
 use std::time::{Clock as SystemClock, Duration, SystemTime};
@@ -10,8 +11,12 @@ use units::limits::LAST_MOMENT;
 
 /// What tells the moment.
 pub trait Clock {
+    /// It told that moment.
+    ghost tells: { Self → Moment → Type 0 };
+
     /// The moment that it is.
-    fn now(&self) -> Moment;
+    fn now(&self) -> Moment
+        ensures { tells self.now result };
 }
 
 /// The clock of a runtime.
@@ -37,6 +42,10 @@ fn moment_after(since: Duration) -> Moment
 }
 
 impl<R: SystemClock> Clock for WallClock<R> {
+    // No clause of the standard library says what a runtime's clock returned, so that it is a moment is all that can
+    // be said here. Which one it is rests on the body of `now`.
+    ghost tells = { λ _ moment. moment.seconds ≤ last_moment };
+
     /// The whole seconds since the epoch that have passed, at most `LAST_MOMENT`. The least moment where the
     /// runtime's clock can't be read.
     fn now(&self) -> Moment {

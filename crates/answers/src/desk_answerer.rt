@@ -5,47 +5,49 @@ ghost use Rattle.answers.specs.Answers.{Replies};
 use crate::answer::{Answer, answer_job};
 use crate::clock::Clock;
 use crate::job::Job;
-use desk::{Bell, Desk, OpenGate, Seat};
+use desk::{Bell, Desk, OpenGate, Opening, Seat};
 use exchanges::Answerer;
 use protocol::NodeCore;
 use std::alloc::Global;
 use std::marker::Model;
 use std::rt::Clock as SystemClock;
 use std::sync::Wait;
+use stores::NodeStore;
 use units::NoMemory;
 use wire::Reply;
 
 /// Replies to lines by a desk, with a seat of its own, and keeps the answers.
 #[derive(Drop)]
-pub struct DeskAnswerer<'a, C: NodeCore, B: Bell, K: Clock, R: Wait> {
+pub struct DeskAnswerer<'a, O: Opening, C: NodeCore, S: NodeStore, B: Bell, K: Clock, R: Wait> {
     rt: &'a R,
     alloc: Global,
-    desk: &'a Desk<C, B>,
+    desk: &'a Desk<O, C, S, B>,
     clock: &'a K,
     seat: Seat,
     answers: Vec<Answer>,
 }
 
-impl<'a, C: NodeCore, B: Bell, K: Clock, R: Wait> Model for DeskAnswerer<'a, C, B, K, R> {
+impl<'a, O: Opening, C: NodeCore, S: NodeStore, B: Bell, K: Clock, R: Wait> Model
+    for DeskAnswerer<'a, O, C, S, B, K, R> {
     ghost use Rattle.answers.specs.Answers.{Answering};
 
-    ghost Value = { Answering };
+    ghost Value = { Answering K };
 
-    ghost view = { λ s. record { seat = s.seat; answers = s.answers.items } };
+    ghost view = { λ s. record { clock = s.clock.now; seat = s.seat; answers = s.answers.items } };
 }
 
 /// The answer to a line, by the desk with that seat where the line writes a message. Fails with `NoMemory` where
 /// memory ran out, and the desk has taken nothing.
-fn answer_line<C: NodeCore, B: Bell, K: Clock, R: Wait + SystemClock>(
+fn answer_line<O: Opening, C: NodeCore, S: NodeStore, B: Bell, K: Clock, R: Wait + SystemClock>(
     rt: &R,
     alloc: Global,
-    desk: &Desk<C, B>,
+    desk: &Desk<O, C, S, B>,
     seat: &mut Seat,
     clock: &K,
     line: &[u8],
 ) -> Result<Answer, NoMemory>
     ensures line { IfOk result (λ answer. answer.line ≡ line.now) }
-    ensures replies { IfOk result (λ answer. Replies seat.old seat.new line.now answer) }
+    ensures replies { IfOk result (λ answer. Replies (K.tells clock.now) seat.old seat.new line.now answer) }
     ensures err { OnErr result (seat.new ≡ seat.old) }
 {
     match Job::read(alloc, line) {
@@ -54,16 +56,24 @@ fn answer_line<C: NodeCore, B: Bell, K: Clock, R: Wait + SystemClock>(
     }
 }
 
-impl<'a, C: NodeCore, B: Bell, K: Clock, R: Wait> DeskAnswerer<'a, C, B, K, R> {
+impl<'a, O: Opening, C: NodeCore, S: NodeStore, B: Bell, K: Clock, R: Wait> DeskAnswerer<
+    'a,
+    O,
+    C,
+    S,
+    B,
+    K,
+    R,
+> {
     /// What replies by that desk with that seat, at the moments of the clock. It has no answers yet.
     pub fn new(
         rt: &'a R,
         alloc: Global,
-        desk: &'a Desk<C, B>,
+        desk: &'a Desk<O, C, S, B>,
         seat: Seat,
         clock: &'a K,
-    ) -> DeskAnswerer<'a, C, B, K, R>
-        ensures { result ≡ record { seat = seat; answers = [] } }
+    ) -> DeskAnswerer<'a, O, C, S, B, K, R>
+        ensures { result ≡ record { clock = clock.now; seat = seat; answers = [] } }
     {
         DeskAnswerer {
             rt,
@@ -98,8 +108,8 @@ impl<'a, C: NodeCore, B: Bell, K: Clock, R: Wait> DeskAnswerer<'a, C, B, K, R> {
     }
 }
 
-impl<'a, C: NodeCore, B: Bell, K: Clock, R: Wait + SystemClock> Answerer
-    for DeskAnswerer<'a, C, B, K, R> {
+impl<'a, O: Opening, C: NodeCore, S: NodeStore, B: Bell, K: Clock, R: Wait + SystemClock> Answerer
+    for DeskAnswerer<'a, O, C, S, B, K, R> {
     ghost use Rattle.exchanges.specs.Given.{GivesOne};
     ghost use Rattle.answers.specs.Answers.{RepliesOnce, given_of};
 
@@ -109,7 +119,7 @@ impl<'a, C: NodeCore, B: Bell, K: Clock, R: Wait + SystemClock> Answerer
     /// Fails with `NoMemory` where memory ran out. Then the desk has taken nothing, and the answers are as they were.
     fn answer(&mut self, line: &[u8]) -> Result<Reply, NoMemory>
         ensures given { GivesOne (given_of self.old.answers) (given_of self.new.answers) line.now result }
-        ensures replies { RepliesOnce self.old self.new line.now result }
+        ensures replies { RepliesOnce K.tells self.old self.new line.now result }
     {
         self.answers.reserve(1)?;
         let answer = answer_line(

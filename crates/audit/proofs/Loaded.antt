@@ -17,35 +17,33 @@ use Rattle.weave.proofs.Lists.{front_get}
 use Rattle.inputs.specs.declared.fault.OpFault.{OpFault}
 use Rattle.inputs.specs.declared.fault.OpFault.TheVariants.{Input as Line, Read, Write, Store, Stuck, Unsettled}
 use Rattle.inputs.specs.declared.fault.OpFault.TheVariants as op
-use Rattle.audit.specs.Stores.{AreKept, AreLoadedTo, FailsToLoad, FailsToLoadAt, IsKept, IsLoadedAs}
+use Rattle.stores.specs.declared.node_store.NodeStore.{Ghosts}
+use Rattle.audit.specs.Stores.{AreLoadedTo, AreUnwritten, FailsToLoad, FailsToLoadAt, IsLoadedAs, IsUnwritten}
 use Rattle.weave.proofs.Lists.{set_here, set_other}
 
 same_or_not : (k j : ℕ) → (k ≡ j) ⊎ (k ≢ j)
 same_or_not k j = elim (cases_Bool (k == j)) [ inl y ↦ inl (eqb-true k j y) | inr d ↦ inr (eqb-false k j d) ]
 
-module _ {S : Type 0} (is_honest : S → Type 0) (content : S → Places) (must_reopen : S → Bool) where
-  pub kept_same : (old : S) → IsKept is_honest content must_reopen old old
-  kept_same old = record { honest = λ h. h; same = λ h runs. refl }
+module _ {S : Type 0} (g : Ghosts S) where
+  pub kept_same : (old : S) → IsUnwritten g old old
+  kept_same old = record { honest = λ h. h; same = λ h runs. refl; whose = refl; own = λ h runs own. own }
 
-  pub all_same : (olds : List S) → AreKept is_honest content must_reopen olds olds
-  all_same olds k old new was is = subst (IsKept is_honest content must_reopen old) (one_some old new (sym was ∙ is)) (kept_same old)
+  pub all_same : (olds : List S) → AreUnwritten g olds olds
+  all_same olds k old new was is = subst (IsUnwritten g old) (one_some old new (sym was ∙ is)) (kept_same old)
 
   -- the store at a place was read, and those at other places are as they were
-  pub kept_more : (olds news : List S) (at : ℕ) (old new : S) → at < length news → slice_get olds at ≡ Some old → IsKept is_honest content must_reopen old new
-      → AreKept is_honest content must_reopen olds news → AreKept is_honest content must_reopen olds (set news at new)
+  pub kept_more : (olds news : List S) (at : ℕ) (old new : S) → at < length news → slice_get olds at ≡ Some old → IsUnwritten g old new
+      → AreUnwritten g olds news → AreUnwritten g olds (set news at new)
   kept_more olds news at old new below was kept all k o w iso isw =
       elim (same_or_not k at) [
         | inl e ↦
             let here : Some old ≡ Some o = sym was ∙ subst (λ z. slice_get olds z ≡ Some o) e iso in
             let there : Some new ≡ Some w = sym (set_here news at new below) ∙ subst (λ z. slice_get (set news at new) z ≡ Some w) e isw in
-            subst (λ z. IsKept is_honest content must_reopen z w) (one_some old o here) (subst (IsKept is_honest content must_reopen old) (one_some new w there) kept)
+            subst (λ z. IsUnwritten g z w) (one_some old o here) (subst (IsUnwritten g old) (one_some new w there) kept)
         | inr apart ↦ all k o w iso (sym (set_other news at k new apart) ∙ isw)
       ]
 
 module _ {S : Type 0} (is_honest : S → Type 0) (content : S → Places) (may_hold : S → Places → Type 0) (must_reopen : S → Bool) (scheme : Scheme) where
-  pub kept_of : (n : Node) (old new : S) (r : Result (List Input) StoreFault) → IsLoaded is_honest content may_hold must_reopen scheme n old new r → IsKept is_honest content must_reopen old new
-  kept_of n old new r l = record { honest = l.honest; same = l.kept }
-
   pub fails_at : (n : Node) (old new : S) (fault : StoreFault) → IsLoaded is_honest content may_hold must_reopen scheme n old new (Err fault) → FailsToLoadAt is_honest content may_hold must_reopen scheme n old new (of_store n fault)
   fails_at n old new Device l = (refl, (λ e. cc (e)), l)
   fails_at n old new Full l = (refl, (λ e. cc (e)), l)

@@ -79,13 +79,16 @@ all_committed (Some s) j is none = ap (λ (l : List Input). s.committed ++ l) no
 
 -- ---- a woven world
 
+pub scheme_woven : (scheme : Scheme) (js : List (List Input)) (events : List WorldEvent) (w : World) → IsWoven scheme (journal_of scheme js) events w → w.scheme ≡ scheme
+scheme_woven scheme js events w woven = ap (λ (v : World). v.scheme) woven.world ∙ run_scheme (opening scheme) events
+
 pub journals_woven : (scheme : Scheme) (js : List (List Input)) (events : List WorldEvent) (w : World) → length js ≡ length (nodes scheme) → map (λ (s : Station). s.node) w.stations ≡ nodes w.scheme
     → IsWoven scheme (journal_of scheme js) events w → map journal w.stations ≡ js
 journals_woven scheme js events w count named woven =
     all_placed w.stations js (subst (Pairwise Differ) (sym are) (nodes_differ scheme)) (count ∙ ap (λ (l : List Node). length l) (sym are) ∙ length-map w.stations (λ (s : Station). s.node)) each
   where
     are : map (λ (s : Station). s.node) w.stations ≡ nodes scheme
-    are = named ∙ ap nodes (ap (λ (v : World). v.scheme) woven.world ∙ run_scheme (opening scheme) events)
+    are = named ∙ ap nodes (scheme_woven scheme js events w woven)
 
     each : (n : Node) → whole (station w n) ≡ placed js (nodes_in w.stations) n
     each n =

@@ -5,30 +5,22 @@ use Rattle.units.specs.declared.code.Node.{Node}
 use Rattle.wire.specs.declared.input.Input.{Input}
 use Rattle.scheme.specs.declared.registries.Scheme.{Scheme}
 use Rattle.protocol.specs.Registries.{nodes}
-use Rattle.protocol.specs.Claims.{committed_of, live_of}
-use Rattle.protocol.specs.Headline.{IsSafe}
-use Rattle.protocol.specs.Table.{due}
 use Rattle.protocol.specs.Weave.{Projects}
-use Rattle.protocol.specs.World.{opening, run}
 use Rattle.protocol.specs.declared.event.WorldEvent.{WorldEvent}
 use Rattle.stores.specs.Records.{Places}
 use Rattle.weave.specs.Following.{IsWeaveFault, journal_of}
 use Rattle.weave.specs.declared.fault.WeaveFault.{WeaveFault}
 use Rattle.weave.specs.declared.fault.WeaveFault.TheVariants as weaving
-use Rattle.tables.specs.Table.{AddUp, IsTable}
+use Rattle.tables.specs.Table.{IsSafeTable}
 use Rattle.inputs.specs.declared.fault.OpFault.{OpFault}
 use Rattle.inputs.specs.declared.fault.OpFault.TheVariants.{Write, Store, Stuck, NoMemory}
 use Rattle.audit.specs.Stores.{AreLoaded, FailsToLoad}
 
--- the text is the table of the world that some events lead to, whose committed journals are these. It counts every
--- tonne once
+-- the text is the table of the world that some events lead to, whose committed journals are these
 pub record IsAuditTable (scheme : Scheme) (journals : List (List Input)) (text : List ℕ) : Type 0 where
   pub events : List WorldEvent
   pub projects : Projects scheme events (journal_of scheme journals)
-  pub table : IsTable (run (opening scheme) events) text
-  pub counted : AddUp scheme table.stocks (due (run (opening scheme) events))
-  pub live : IsSafe scheme (live_of (run (opening scheme) events))
-  pub committed : IsSafe scheme (committed_of (run (opening scheme) events))
+  pub is_table : IsSafeTable scheme events text
 
 -- some events lead to the world whose committed journals are these
 pub record HasRun (scheme : Scheme) (journals : List (List Input)) : Type 0 where

@@ -1,2 +1,3 @@
 pub mod Stores
 pub mod Audits
+pub mod Opened

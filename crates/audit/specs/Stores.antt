@@ -6,22 +6,24 @@ use Rattle.scheme.specs.declared.registries.Scheme.{Scheme}
 use Rattle.protocol.specs.Cores.{Replays}
 use Rattle.stores.specs.Records.{Places}
 use Rattle.stores.specs.declared.fault.StoreFault.{StoreFault}
+use Rattle.stores.specs.declared.node_store.NodeStore.{Ghosts}
 use Rattle.stores.specs.declared.fault.StoreFault.TheVariants as store_fault
 use Rattle.desk.specs.Loading.{IsLoaded}
 use Rattle.inputs.specs.declared.fault.OpFault.{OpFault}
 use Rattle.inputs.specs.declared.fault.OpFault.TheVariants.{Store, NoMemory}
 
--- nobody else wrote the store, and its device returned what was written; what each place has; a fault stopped it, and
+-- nothing was written to the store
+pub record IsUnwritten {S : Type 0} (g : Ghosts S) (old new : S) : Type 0 where
+  pub honest : g.is_honest new → g.is_honest old
+  pub same : g.is_honest new → g.must_reopen new ≡ false → g.content new ≡ g.content old
+  pub whose : g.whose new ≡ g.whose old
+  pub own : g.is_honest new → g.must_reopen new ≡ false → g.is_own old → g.is_own new
+
+abbrev pub AreUnwritten : {S : Type 0} → Ghosts S → List S → List S → Type 0
+AreUnwritten {S} g olds news = (k : ℕ) (old new : S) → slice_get olds k ≡ Some old → slice_get news k ≡ Some new → IsUnwritten g old new
+
+-- the store is honest; what each place has while it runs; what a crash or a reopening may find; a fault stopped it, and
 -- it must be reopened first
-module _ {S : Type 0} (is_honest : S → Type 0) (content : S → Places) (must_reopen : S → Bool) where
-  -- nothing was written to the store
-  pub record IsKept (old new : S) : Type 0 where
-    pub honest : is_honest new → is_honest old
-    pub same : is_honest new → must_reopen new ≡ false → content new ≡ content old
-
-  abbrev pub AreKept : List S → List S → Type 0
-  AreKept olds news = (k : ℕ) (old new : S) → slice_get olds k ≡ Some old → slice_get news k ≡ Some new → IsKept old new
-
 module _ {S : Type 0} (is_honest : S → Type 0) (content : S → Places) (may_hold : S → Places → Type 0) (must_reopen : S → Bool) where
   -- the node's store was read, its records are that journal, and the node records each after those before it
   abbrev pub IsLoadedAs : Scheme → Node → S → S → List Input → Type 0

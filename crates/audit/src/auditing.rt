@@ -1,23 +1,23 @@
 //! The table of one run that leads to the records of all stores.
-ghost use Rattle.std.specs.Prelude.{◌≡◌, ◌≤◌, ℕ, All, List, IfErr, IfOk, OnOk, length, map, string_bytes};
+ghost use Rattle.std.specs.Prelude.{◌≡◌, ◌≤◌, ℕ, false, All, List, IfErr, IfOk, OnOk, length, map, string_bytes};
 ghost use Rattle.std.specs.Io.KnownBytes.{Appends};
 ghost use Rattle.world.specs.Cores as node_cores;
 ghost use Rattle.audit.specs.Audits.{Audits, FailsToAudit, FailsToFindRun, FailsToWeave, HasRun, IsAuditTable, of_weaving};
-ghost use Rattle.audit.specs.Stores.{AreKept, AreLoaded, FailsToLoad};
-ghost use Rattle.desk.specs.Views.{committed_records};
+ghost use Rattle.audit.specs.Stores.{AreLoaded, AreUnwritten, FailsToLoad};
+ghost use Rattle.desk.specs.Views.{opened_with};
 ghost use Rattle.scheme.specs.declared.registries.Scheme.{Scheme};
 ghost use Rattle.weave.specs.Following.{IsWeaveFault, IsWoven, journal_of};
 ghost use Rattle.wire.specs.declared.input.Input.{Input};
 ghost use Rattle.protocol.specs.Registries.{nodes};
 
-use crate::loading::{load_cores, states_of};
-use desk::State;
+use crate::loading::{load_cores, pair_up};
+use desk::Stored;
 use inputs::{OpFault, write_out};
 use scheme::Scheme;
 use std::alloc::Global;
 use std::io::Write;
 use stores::NodeStore;
-use tables::{push_table, tonnes_add_up};
+use tables::push_table;
 use weave::{Nobody, Watch, WeaveFault, Woven, weave_cores};
 use world::Core;
 
@@ -39,7 +39,6 @@ fn table_of_woven(alloc: Global, woven: Result<Woven, WeaveFault>) -> Result<Str
     match woven {
         Ok(woven) => {
             let mut text = String::new(alloc);
-            tonnes_add_up();
             push_table(alloc, &mut text, &woven.world)?;
             Ok(text)
         }
@@ -70,6 +69,8 @@ pub fn table_of_cores<P: Watch>(
 /// The cores of the world that was woven of these journals, each with its journal, or what the fault is to the command.
 fn cores_of_woven(woven: Result<Woven, WeaveFault>) -> Result<Vec<Core>, OpFault>
     ensures run { (scheme : Scheme) (journals : List (List Input)) → length journals ≡ length (nodes scheme) → IfOk woven (λ w. IsWoven scheme (journal_of scheme journals) w.events.items w.world) → OnOk result (HasRun scheme journals) }
+    ensures nodes { (scheme : Scheme) (journals : List (List Input)) → IfOk woven (λ w. IsWoven scheme (journal_of scheme journals) w.events.items w.world) → IfOk result (λ v. map node_cores.node_of v.items ≡ nodes scheme) }
+    ensures schemes { (scheme : Scheme) (journals : List (List Input)) → IfOk woven (λ w. IsWoven scheme (journal_of scheme journals) w.events.items w.world) → IfOk result (λ v. All (λ core. node_cores.scheme_of core ≡ scheme) v.items) }
     ensures journals { (scheme : Scheme) (journals : List (List Input)) → length journals ≡ length (nodes scheme) → IfOk woven (λ w. IsWoven scheme (journal_of scheme journals) w.events.items w.world) → IfOk result (λ v. map node_cores.journal_of v.items ≡ journals) }
     ensures err { (scheme : Scheme) (journals : List (List Input)) → IfErr woven (IsWeaveFault scheme (journal_of scheme journals)) → IfErr result (FailsToWeave scheme journals) }
 {
@@ -94,36 +95,56 @@ fn find_run<P: Watch>(
     requires nodes { map node_cores.node_of cores.items ≡ nodes scheme.now }
     requires schemes { All (λ core. node_cores.scheme_of core ≡ scheme.now) cores.items }
     ensures run { OnOk result (HasRun scheme.now (map node_cores.journal_of cores.items)) }
+    ensures nodes { IfOk result (λ v. map node_cores.node_of v.items ≡ nodes scheme.now) }
+    ensures schemes { IfOk result (λ v. All (λ core. node_cores.scheme_of core ≡ scheme.now) v.items) }
     ensures journals { IfOk result (λ v. map node_cores.journal_of v.items ≡ map node_cores.journal_of cores.items) }
     ensures err { IfErr result (FailsToWeave scheme.now (map node_cores.journal_of cores.items)) }
 {
     cores_of_woven(weave_cores(alloc, scheme, cores, watch))
 }
 
-/// Reads the stores, one for each node: the log's, then those of the registries in the scheme's order, and returns the
-/// states that their records lead to, where a run leads to them all. Tells of the records as they are read and woven.
+/// Reads the stores, one for each node: the log's, then those of the registries in the scheme's order. Where a run
+/// leads to all their records, returns each with the state that its records lead to, which runs. Tells of the records as
+/// they are read and woven.
 ///
 /// The stores are read by pages, and nothing is written to them. Each record is taken once.
 ///
 /// # Errors
 ///
-/// Fails with `Store` and `Stuck` as `audit` does, and with `NoMemory` where memory ran out.
-pub fn load_run<S: NodeStore, P: Watch>(
+/// Fails with `Store` and `Stuck` as `audit` does, and with `NoMemory` where memory ran out. The stores are closed
+/// then.
+pub fn load_run<S: NodeStore + Drop, P: Watch>(
     alloc: Global,
     scheme: &Scheme,
-    stores: &mut [S],
+    mut stores: Vec<S>,
     watch: &mut P,
-) -> Result<Vec<State<Core>>, OpFault>
-    requires { length stores.old ≡ length (nodes scheme.now) }
-    ensures ok { IfOk result (λ v. AreLoaded S.is_honest S.content S.may_hold S.must_reopen scheme.now (nodes scheme.now) stores.old stores.new (map committed_records v.items)) }
-    ensures run { IfOk result (λ v. HasRun scheme.now (map committed_records v.items)) }
-    ensures err { IfErr result (λ e. FailsToFindRun S.is_honest S.content S.may_hold S.must_reopen e scheme.now stores.old stores.new) }
-    ensures kept { AreKept S.is_honest S.content S.must_reopen stores.old stores.new }
+) -> Result<Vec<Stored<Core, S>>, OpFault>
+    requires whose { map S.whose stores.items ≡ nodes scheme.now }
+    requires own { All (λ s. S.is_honest s → S.must_reopen s ≡ false → S.is_own s) stores.items }
+    ensures nodes { IfOk result (λ v. map (λ s. s.state.node) v.items ≡ nodes scheme.now) }
+    ensures opened { IfOk result (λ v. All (λ s. s.state ≡ opened_with scheme.now s.state.node s.state.journal) v.items) }
+    ensures loaded { IfOk result (λ v. AreLoaded S.is_honest S.content S.may_hold S.must_reopen scheme.now (nodes scheme.now) stores.items (map (λ s. s.store) v.items) (map (λ s. s.state.journal) v.items)) }
+    ensures unwritten { IfOk result (λ v. AreUnwritten S.NodeStore stores.items (map (λ s. s.store) v.items)) }
+    ensures run { IfOk result (λ v. HasRun scheme.now (map (λ s. s.state.journal) v.items)) }
+    ensures err { IfErr result (λ e. (left : List S) × FailsToFindRun S.is_honest S.content S.may_hold S.must_reopen e scheme.now stores.items left × AreUnwritten S.NodeStore stores.items left) }
 {
-    let cores = load_cores(alloc, scheme, stores, watch)?;
-    let cores = find_run(alloc, scheme, cores, watch)?;
-    watch.finished();
-    Ok(states_of(alloc, cores)?)
+    let cores = match load_cores(alloc, scheme, stores.as_mut_slice(), watch) {
+        Ok(cores) => cores,
+        Err(fault) => {
+            drop(stores);
+            return Err(fault);
+        }
+    };
+    match find_run(alloc, scheme, cores, watch) {
+        Ok(cores) => {
+            watch.finished();
+            Ok(pair_up(alloc, cores, stores)?)
+        }
+        Err(fault) => {
+            drop(stores);
+            Err(fault)
+        }
+    }
 }
 
 /// Reads the stores of the first nodes: the log's, then those of the registries in the scheme's order. So a fault of
@@ -141,7 +162,7 @@ pub fn read_first<S: NodeStore>(
     requires { length stores.old ≤ length (nodes scheme.now) }
     ensures ok { OnOk result ((journals : List (List Input)) × AreLoaded S.is_honest S.content S.may_hold S.must_reopen scheme.now (nodes scheme.now) stores.old stores.new journals) }
     ensures err { IfErr result (FailsToLoad S.is_honest S.content S.may_hold S.must_reopen scheme.now (nodes scheme.now) stores.old stores.new) }
-    ensures kept { AreKept S.is_honest S.content S.must_reopen stores.old stores.new }
+    ensures unwritten { AreUnwritten S.NodeStore stores.old stores.new }
 {
     let _cores = load_cores(alloc, scheme, stores, &mut Nobody)?;
     Ok(())
@@ -171,7 +192,7 @@ pub fn audit<S: NodeStore, W: Write>(
     requires { length stores.old ≡ length (nodes scheme.now) }
     ensures ok { OnOk result ((table : List ℕ) × Audits S.is_honest S.content S.may_hold S.must_reopen scheme.now stores.old stores.new table × Appends (W.contents writer.old) (W.contents writer.new) table) }
     ensures err { IfErr result (λ e. FailsToAudit S.is_honest S.content S.may_hold S.must_reopen e scheme.now stores.old stores.new (W.contents writer.old) (W.contents writer.new)) }
-    ensures kept { AreKept S.is_honest S.content S.must_reopen stores.old stores.new }
+    ensures unwritten { AreUnwritten S.NodeStore stores.old stores.new }
 {
     audit_watched(alloc, scheme, stores, writer, &mut Nobody)
 }
@@ -191,7 +212,7 @@ pub fn audit_watched<S: NodeStore, W: Write, P: Watch>(
     requires { length stores.old ≡ length (nodes scheme.now) }
     ensures ok { OnOk result ((table : List ℕ) × Audits S.is_honest S.content S.may_hold S.must_reopen scheme.now stores.old stores.new table × Appends (W.contents writer.old) (W.contents writer.new) table) }
     ensures err { IfErr result (λ e. FailsToAudit S.is_honest S.content S.may_hold S.must_reopen e scheme.now stores.old stores.new (W.contents writer.old) (W.contents writer.new)) }
-    ensures kept { AreKept S.is_honest S.content S.must_reopen stores.old stores.new }
+    ensures unwritten { AreUnwritten S.NodeStore stores.old stores.new }
 {
     let cores = load_cores(alloc, scheme, stores, watch)?;
     let table = table_of_cores(alloc, scheme, cores, watch)?;

@@ -1,11 +1,12 @@
-//! The cores that the records of all nodes' stores lead to, and states of them.
-ghost use Rattle.std.specs.Prelude.{◌≡◌, ◌≤◌, ◌++◌, ◌∷◌, [], All, IfErr, IfOk, OnOk, length, map, take};
+//! The cores that the records of all nodes' stores lead to, and their states with the stores.
+ghost use Rattle.std.specs.Prelude.{◌≡◌, ◌≤◌, ◌++◌, ◌∷◌, [], ℕ, All, IfErr, IfOk, OnOk, Some, length, map, slice_get, take};
 ghost use Rattle.protocol.specs.Registries.{nodes};
-ghost use Rattle.audit.specs.Stores.{AreKept, AreLoaded, FailsToLoad, FailsToLoadAt, IsKept, IsLoadedAs};
-ghost use Rattle.desk.specs.Views.{committed_records};
+ghost use Rattle.audit.specs.Stores.{AreLoaded, AreUnwritten, FailsToLoad, FailsToLoadAt, IsLoadedAs, IsUnwritten};
+ghost use Rattle.audit.specs.Opened.{opened_core};
+ghost use Rattle.desk.specs.Keeping.{IsKept};
 ghost use Rattle.world.specs.Cores.{journal_of, node_of, scheme_of};
 
-use desk::State;
+use desk::{State, Stored};
 use inputs::{OpFault, store_fault};
 use protocol::{NodeCore, node_at};
 use scheme::Scheme;
@@ -26,7 +27,7 @@ fn load_one<S: NodeStore>(
     ensures scheme { IfOk result (λ core. scheme_of core ≡ scheme.now) }
     ensures node { IfOk result (λ core. node_of core ≡ node) }
     ensures err { IfErr result (FailsToLoadAt S.is_honest S.content S.may_hold S.must_reopen scheme.now node store.old store.new) }
-    ensures kept { IsKept S.is_honest S.content S.must_reopen store.old store.new }
+    ensures unwritten { IsUnwritten S.NodeStore store.old store.new }
 {
     let core = Core::new(alloc, scheme, node)?;
     match State::load_from(alloc, core, store) {
@@ -60,7 +61,7 @@ pub(crate) fn load_cores<S: NodeStore, P: Watch>(
     ensures nodes { IfOk result (λ v. map node_of v.items ≡ take (length stores.old) (nodes scheme.now)) }
     ensures schemes { IfOk result (λ v. All (λ core. scheme_of core ≡ scheme.now) v.items) }
     ensures err { IfErr result (FailsToLoad S.is_honest S.content S.may_hold S.must_reopen scheme.now (nodes scheme.now) stores.old stores.new) }
-    ensures kept { AreKept S.is_honest S.content S.must_reopen stores.old stores.new }
+    ensures unwritten { AreUnwritten S.NodeStore stores.old stores.new }
 {
     let mut cores = Vec::new(alloc);
     for store in stores.iter_mut() {
@@ -76,13 +77,24 @@ pub(crate) fn load_cores<S: NodeStore, P: Watch>(
     Ok(cores)
 }
 
-/// A state of each core, in which its whole journal is committed.
-pub(crate) fn states_of(alloc: Global, cores: Vec<Core>) -> Result<Vec<State<Core>>, NoMemory>
-    ensures { IfOk result (λ v. map committed_records v.items ≡ map journal_of cores.items) }
+/// The state of each core with its store, which has the records of it.
+pub(crate) fn pair_up<S: NodeStore + Drop>(
+    alloc: Global,
+    cores: Vec<Core>,
+    stores: Vec<S>,
+) -> Result<Vec<Stored<Core, S>>, NoMemory>
+    requires count { length stores.items ≡ length cores.items }
+    requires kept { (k : ℕ) (core : Core) (store : S) → slice_get cores.items k ≡ Some core → slice_get stores.items k ≡ Some store → IsKept S.NodeStore (record { state = opened_core core; store = store }) }
+    ensures states { IfOk result (λ v. map (λ s. s.state) v.items ≡ map opened_core cores.items) }
+    ensures stores { IfOk result (λ v. map (λ s. s.store) v.items ≡ stores.items) }
 {
-    let mut states = Vec::new(alloc);
+    let mut nodes = Vec::new(alloc);
+    let mut stores = stores.into_iter();
     for core in cores {
-        states.push(State::new(alloc, core))?;
+        let Some(store) = stores.next() else {
+            unreachable!();
+        };
+        nodes.push(Stored::new(State::new(alloc, core), store))?;
     }
-    Ok(states)
+    Ok(nodes)
 }

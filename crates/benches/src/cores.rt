@@ -1,5 +1,7 @@
 //! What whole cores take.
 
+ghost use Rattle.std.specs.Prelude.{◌≡◌, [], IfOk};
+
 use crate::fault::Fault;
 use crate::log_rounds::{
     clean_up, codes, eligibility_orders, log_rounds_of, proposals_of, scheme_text,
@@ -82,7 +84,9 @@ pub fn at_registry(
 }
 
 /// The log of the scheme of these registries.
-pub fn log_of(alloc: Global, codes: &[Code]) -> Result<LogCore, Fault> {
+pub fn log_of(alloc: Global, codes: &[Code]) -> Result<LogCore, Fault>
+    ensures { IfOk result (λ core. core.journal ≡ []) }
+{
     let text = scheme_text(alloc, codes)?;
     let scheme = Scheme::read(alloc, text.as_bytes())?;
     Ok(LogCore::new(alloc, &scheme)?)

@@ -1,7 +1,7 @@
 //! Exchanges with a registry's desk, each over a connection of its own on the loopback interface.
 
 use crate::fault::Fault;
-use crate::nz::{code, nz_state};
+use crate::nz::{code, in_memory};
 use crate::work::one;
 use answers::{DeskAnswerer, WallClock};
 use desk::{Desk, RoomBell, Seat};
@@ -11,12 +11,14 @@ use sessions::{Accepted, Dial, Listen};
 use sockets::{Port, Ports};
 use std::alloc::Global;
 use std::io::{Read, Write};
+use std::marker::Brand;
 use std::net::{Net, TcpListener, TcpStream};
 use std::rt::Clock;
 use std::sync::Wait;
 use std::thread;
 use std::thread::Threads;
 use std::time::{Duration, Instant};
+use stores::MemoryStore;
 use units::Node;
 use wire::{Message, Reply, decode};
 
@@ -24,7 +26,7 @@ use wire::{Message, Reply, decode};
 const COMPLETED: &str =
     r#"{"call":"AcceptNotification","codes":[],"from":"ITL","status":"Completed","to":"NZ","transaction":"NZ9"}"#;
 
-type NzDesk = Desk<RegistryCore, RoomBell>;
+type NzDesk = Desk<Brand, RegistryCore, MemoryStore, RoomBell>;
 
 /// Serves one connection to its end with that seat.
 fn serve_one<Rd: Read + Drop, Wr: Write + Drop, R: Wait + Clock>(
@@ -141,7 +143,7 @@ where
     R: Threads + Wait + Clock + Net<Listener = TcpListener, Stream = TcpStream> + Sync,
 {
     let node = Node::Registry(code("NZ")?);
-    let desk = Desk::new(nz_state(alloc)?, RoomBell::new());
+    let desk: NzDesk = Desk::new(in_memory(alloc)?, RoomBell::new());
     one(
         alloc,
         time_of(rt, alloc, node, &desk, count).ok_or(Fault::Exchange)?,

@@ -22,8 +22,8 @@
 //! records; of 9 it prints nothing.
 //!
 //! `benches scheme ROUNDS` (9 to 10,000,000) reads a text from standard input to its end. Then, ROUNDS times, it reads
-//! the text as a JSON value and lets the value go, reads it as a scheme and lets the scheme go, and prints a line of the
-//! two times in microseconds: `JSON SCHEME`. The second has the first's work in it.
+//! the text as a JSON value and lets the value go, reads it as a scheme and lets the scheme go, and prints a line of
+//! the two times in microseconds: `JSON SCHEME`. The second has the first's work in it.
 //!
 //! `benches store PATH RECORDS SIZE LOADS` makes a store at PATH, where nothing may be yet, appends RECORDS records
 //! (0 to 999,999) to it in batches of SIZE (1 to 1,000,000), and prints the time. Then, LOADS times (0 to 1,000), it
@@ -31,16 +31,16 @@
 //! RECORDS proposals in all while a fifth commits them to a store in memory, and prints the time. `benches file PATH
 //! RECORDS` does the same with a store that it makes at PATH. `benches alone RECORDS` has one thread take and commit
 //! the proposals. `benches sends KEYS` gives the log KEYS proposals (0 to 1,000,000), so that it has KEYS messages to
-//! send to 31 registries, and prints the time of 10,000 calls for the next one, and that of 10,000 look-ups in an ordered
-//! map of as many keys. `benches exchanges EXCHANGES` (0 to 1,000,000) has one thread serve the sessions of a registry's
-//! desk and another send it the same message as often as that, over a connection of the loopback interface each time,
-//! which the registry refuses each time without a record, and prints the time. Each of these lines is one time in
-//! microseconds. Where the number is 0 nothing is made or printed.
+//! send to 31 registries, and prints the time of 10,000 calls for the next one, and that of 10,000 look-ups in an
+//! ordered map of as many keys. `benches exchanges EXCHANGES` (0 to 1,000,000) has one thread serve the sessions of a
+//! registry's desk and another send it the same message as often as that, over a connection of the loopback interface
+//! each time, which the registry refuses each time without a record, and prints the time. Each of these lines is one
+//! time in microseconds. Where the number is 0 nothing is made or printed.
 //!
-//! The exit status is 2 where the words are no such words; 3 where an input is refused, a store has a fault, the text is
-//! no scheme, or not all is recorded, loaded or told as it should be; 5 where memory was refused; and 1 where the system
-//! failed, or a message had another reply. No contract speaks of time: what is proved is that the program is safe, and
-//! that it ends unless a thread waits forever.
+//! The exit status is 2 where the words are no such words; 3 where an input is refused, a store has a fault, the text
+//! is no scheme, or not all is recorded, loaded or told as it should be; 5 where memory was refused; and 1 where the
+//! system failed, or a message had another reply. No contract speaks of time: what is proved is that the program is
+//! safe, and that it ends unless a thread waits forever.
 #![tactic(auto)]
 
 mod cores;
@@ -62,7 +62,7 @@ use crate::exchange_times::exchanges_time;
 use crate::fault::Fault;
 use crate::file_times::path_times;
 use crate::maps::in_map;
-use crate::nz::{file_store, memory_store};
+use crate::nz::{in_file, in_memory};
 use crate::outboxes::in_outbox;
 use crate::schemes::print_rounds;
 use crate::sends::sends_times;
@@ -114,8 +114,8 @@ where
     let times = match work {
         Work::Inputs(inputs, count) => return measure_inputs(host, inputs, count),
         Work::Store(path, batches) => path_times(host, path, &batches),
-        Work::Memory(records) => threads_time(rt, alloc, memory_store(alloc), records),
-        Work::File(path, records) => { threads_time(rt, alloc, file_store(host, path), records) }
+        Work::Memory(records) => threads_time(rt, alloc, in_memory(alloc), records),
+        Work::File(path, records) => { threads_time(rt, alloc, in_file(host, path), records) }
         Work::Alone(records) => alone_time(rt, alloc, records),
         Work::Sends(keys) => sends_times(rt, alloc, keys),
         Work::Exchanges(count) => exchanges_time(rt, alloc, count),

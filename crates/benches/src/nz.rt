@@ -1,14 +1,17 @@
 //! Registry NZ, which has all the units of the orders that it is given, its orders, and its stores.
 
+ghost use Rattle.std.specs.Prelude.{◌≡◌, [], true, false, IfOk};
+
 use crate::fault::Fault;
-use desk::State;
+use desk::Stored;
 use durable::SqlStore;
+use protocol::NodeCore;
 use registry_core::RegistryCore;
 use scheme::Scheme;
 use sqlite::File;
 use status::Order;
 use std::alloc::Global;
-use stores::MemoryStore;
+use stores::{MemoryStore, NodeStore};
 use units::{Code, Items, Node, RawBlock};
 use wire::Input;
 
@@ -34,19 +37,59 @@ pub fn order_of(alloc: Global, jp: Code, block: RawBlock) -> Result<Input, Fault
     Ok(Input::Propose(order.ok_or(Fault::Input)?))
 }
 
-/// NZ's state, which has recorded nothing.
-pub fn nz_state(alloc: Global) -> Result<State<RegistryCore>, Fault> {
+/// NZ's core, which has recorded nothing.
+fn nz_core(alloc: Global) -> Result<RegistryCore, Fault>
+    ensures { IfOk result (λ core. core.journal ≡ []) }
+{
     let scheme = Scheme::read(alloc, SCHEME.as_bytes())?;
-    let core = RegistryCore::new(alloc, &scheme, code("NZ")?)?;
-    Ok(State::new(alloc, core))
+    Ok(RegistryCore::new(alloc, &scheme, code("NZ")?)?)
 }
 
-/// NZ's store in memory.
-pub fn memory_store(alloc: Global) -> Result<MemoryStore, Fault> {
-    Ok(MemoryStore::new(alloc, Node::Registry(code("NZ")?)))
+/// A core's state over the store.
+pub fn stored_over<C: NodeCore, S: NodeStore + Drop>(
+    alloc: Global,
+    core: C,
+    store: S,
+) -> Result<Stored<C, S>, Fault>
+    requires journal { C.journal_of core ≡ [] }
+    requires whose { S.whose store ≡ C.node_of core }
+    requires own { S.is_honest store → S.must_reopen store ≡ false → S.is_own store }
+    ensures { IfOk result (λ s. s.state.runs ≡ true) }
+{
+    match Stored::load(alloc, core, store) {
+        Ok(stored) => Ok(stored),
+        Err((fault, store)) => {
+            drop(store);
+            Err(Fault::from(fault))
+        }
+    }
+}
+
+/// NZ's state over a store in memory.
+pub fn in_memory(alloc: Global) -> Result<Stored<RegistryCore, MemoryStore>, Fault>
+    ensures { IfOk result (λ s. s.state.runs ≡ true) }
+{
+    let core = nz_core(alloc)?;
+    let store = MemoryStore::new(alloc, core.node());
+    stored_over(alloc, core, store)
+}
+
+/// NZ's state over a store that is made at the path.
+pub fn in_file(rt: &HostRuntime, path: &str) -> Result<Stored<RegistryCore, SqlStore<File>>, Fault>
+    ensures { IfOk result (λ s. s.state.runs ≡ true) }
+{
+    let core = nz_core(rt.alloc())?;
+    let node = core.node();
+    match store_files::open_path(rt, path, node) {
+        Ok(store) => stored_over(rt.alloc(), core, store),
+        Err(fault) => {
+            drop(core);
+            Err(Fault::from(fault))
+        }
+    }
 }
 
 /// NZ's store, made at the path.
 pub fn file_store(rt: &HostRuntime, path: &str) -> Result<SqlStore<File>, Fault> {
-    Ok(SqlStore::open_path(rt, path, Node::Registry(code("NZ")?))?)
+    Ok(store_files::open_path(rt, path, Node::Registry(code("NZ")?))?)
 }

@@ -5,9 +5,10 @@ ghost use Rattle.std.specs.Prelude.{◌<◌};
 use crate::cores::log_of;
 use crate::fault::Fault;
 use crate::log_rounds::{REGISTRIES, codes, proposals_of};
-use desk::{State, Told};
+use crate::nz::stored_over;
+use desk::{State, Stored, Told};
 use log_core::LogCore;
-use protocol::Stepped;
+use protocol::{NodeCore, Stepped};
 use std::alloc::Global;
 use std::collections::BTreeMap;
 use std::rt::Clock;
@@ -22,46 +23,42 @@ const CALLS: u32 = 10_000;
 /// How far the key of one call is from the next one's.
 const STRIDE: u32 = 97;
 
+/// The log's state over a store in memory.
+type LogStored = Stored<LogCore, MemoryStore>;
+
 /// Has the state take the proposal, and returns whether it was recorded.
-fn take(state: &mut State<LogCore>, proposal: Input) -> bool {
-    let taken = state.take(proposal);
+fn take(stored: &mut LogStored, proposal: Input) -> bool {
+    let taken = stored.take(proposal);
     let is_recorded = matches!(taken.told(), Told::Step(Stepped::Recorded(_)));
     drop(taken);
     is_recorded
 }
 
 /// Has the state record the proposal, and commits that.
-fn record(
-    state: &mut State<LogCore>,
-    store: &mut MemoryStore,
-    proposal: Input,
-) -> Result<(), Fault> {
-    if !take(state, proposal) {
+fn record(stored: &mut LogStored, proposal: Input) -> Result<(), Fault> {
+    if !take(stored, proposal) {
         return Err(Fault::Recorded);
     }
-    state.commit(store, 1)?;
+    stored.commit(1)?;
     Ok(())
 }
 
 /// Has the state record the proposals, and commits them.
-fn record_all(
-    state: &mut State<LogCore>,
-    alloc: Global,
-    proposals: Vec<Input>,
-) -> Result<(), Fault> {
-    let mut store = MemoryStore::new(alloc, Node::Itl);
+fn record_all(stored: &mut LogStored, proposals: Vec<Input>) -> Result<(), Fault> {
     for proposal in proposals {
-        record(state, &mut store, proposal)?;
+        record(stored, proposal)?;
     }
     Ok(())
 }
 
 /// The log's state, with that many messages to send, all committed.
-fn log_state(alloc: Global, codes: &[Code], keys: u32) -> Result<State<LogCore>, Fault> {
+fn log_stored(alloc: Global, codes: &[Code], keys: u32) -> Result<LogStored, Fault> {
     let proposals = proposals_of(alloc, codes, keys)?;
-    let mut state = State::new(alloc, log_of(alloc, codes)?);
-    record_all(&mut state, alloc, proposals)?;
-    Ok(state)
+    let core = log_of(alloc, codes)?;
+    let store = MemoryStore::new(alloc, core.node());
+    let mut stored = stored_over(alloc, core, store)?;
+    record_all(&mut stored, proposals)?;
+    Ok(stored)
 }
 
 /// How long the calls for the next message take.
@@ -139,8 +136,8 @@ pub fn sends_times(clock: &impl Clock, alloc: Global, keys: u32) -> Result<Vec<D
         return Err(Fault::Words);
     }
     let codes = codes(alloc)?;
-    let state = log_state(alloc, codes.as_slice(), keys)?;
-    let times = times_of(clock, alloc, &state, codes.as_slice(), keys);
-    drop(state);
+    let stored = log_stored(alloc, codes.as_slice(), keys)?;
+    let times = times_of(clock, alloc, stored.state(), codes.as_slice(), keys);
+    drop(stored);
     times
 }

@@ -1,22 +1,25 @@
 //! Proposals that threads give a desk.
 
+ghost use Rattle.std.specs.Prelude.{◌≡◌, true, IfOk};
+
 use crate::fault::Fault;
-use crate::nz::{code, memory_store, nz_state, order_of};
+use crate::nz::{code, in_memory, order_of};
 use crate::work::one;
-use desk::{BATCH, Bell, Desk, RoomBell, Seat, State, Taken, Told, settle};
+use desk::{BATCH, Bell, Desk, Ended, RoomBell, Seat, State, Stored, Taken, Told, settle};
 use protocol::Stepped;
 use registry_core::RegistryCore;
 use std::alloc::Global;
+use std::marker::Brand;
 use std::rt::Clock;
 use std::sync::Wait;
 use std::thread;
 use std::thread::Threads;
 use std::time::{Duration, Instant};
-use stores::{NodeStore, StoreFault};
+use stores::{MemoryStore, NodeStore, StoreFault};
 use units::{Code, Kind, Period, RawBlock};
 use wire::Input;
 
-type NzDesk = Desk<RegistryCore, RoomBell>;
+type NzDesk<S> = Desk<Brand, RegistryCore, S, RoomBell>;
 
 const TAKERS: u32 = 4;
 
@@ -38,7 +41,12 @@ fn proposal(alloc: Global, jp: Code, place: u64) -> Result<Input, Fault> {
 }
 
 /// Waits until what was taken is committed, and returns whether it was.
-fn confirm<R: Wait + Clock>(rt: &R, desk: &NzDesk, seat: &mut Seat, taken: Taken) -> bool {
+fn confirm<S: NodeStore, R: Wait + Clock>(
+    rt: &R,
+    desk: &NzDesk<S>,
+    seat: &mut Seat,
+    taken: Taken,
+) -> bool {
     let confirmed = desk.confirm(rt, seat, taken);
     let is_committed = confirmed.is_ok();
     drop(confirmed);
@@ -47,9 +55,9 @@ fn confirm<R: Wait + Clock>(rt: &R, desk: &NzDesk, seat: &mut Seat, taken: Taken
 
 /// Has the desk take the input, and waits until the last one is committed. Returns whether it was recorded, and the
 /// last one committed.
-fn take_one<R: Wait + Clock>(
+fn take_one<S: NodeStore, R: Wait + Clock>(
     rt: &R,
-    desk: &NzDesk,
+    desk: &NzDesk<S>,
     seat: &mut Seat,
     input: Input,
     is_last: bool,
@@ -65,10 +73,10 @@ fn take_one<R: Wait + Clock>(
 }
 
 /// Has the desk take the proposals of those places, and waits until the last one is committed.
-fn take_each<R: Wait + Clock>(
+fn take_each<S: NodeStore, R: Wait + Clock>(
     rt: &R,
     alloc: Global,
-    desk: &NzDesk,
+    desk: &NzDesk<S>,
     seat: &mut Seat,
     jp: Code,
     first: u64,
@@ -86,10 +94,10 @@ fn take_each<R: Wait + Clock>(
 }
 
 /// The same, at a seat of its own, which it returns.
-fn take_all<R: Wait + Clock>(
+fn take_all<S: NodeStore, R: Wait + Clock>(
     rt: &R,
     alloc: Global,
-    desk: &NzDesk,
+    desk: &NzDesk<S>,
     jp: Code,
     first: u64,
     count: u64,
@@ -105,14 +113,10 @@ fn take_all<R: Wait + Clock>(
 }
 
 /// Commits until the desk has stopped.
-fn commit_all<R: Wait + Clock, S: NodeStore>(
-    rt: &R,
-    desk: &NzDesk,
-    store: &mut S,
-) -> Result<(), StoreFault> {
+fn commit_all<S: NodeStore, R: Wait + Clock>(rt: &R, desk: &NzDesk<S>) -> Result<(), StoreFault> {
     for _ in rt.forever() {
         let rings = desk.bell().rings(rt);
-        if desk.commit_next(rt, store)? == 0 {
+        if desk.commit_next(rt)? == 0 {
             if !desk.is_running(rt) {
                 return Ok(());
             }
@@ -123,10 +127,10 @@ fn commit_all<R: Wait + Clock, S: NodeStore>(
 }
 
 /// Has four threads take the proposals, and stops the desk then.
-fn take_in_threads<R: Threads + Wait + Clock + Sync>(
+fn take_in_threads<S: NodeStore + Send, R: Threads + Wait + Clock + Sync>(
     rt: &R,
     alloc: Global,
-    desk: &NzDesk,
+    desk: &NzDesk<S>,
     jp: Code,
     records: u32,
 ) -> Result<Vec<Seat>, Fault> {
@@ -155,17 +159,16 @@ fn take_in_threads<R: Threads + Wait + Clock + Sync>(
 }
 
 /// Four threads that take, and one that commits.
-fn take_and_commit<S: NodeStore + Send + Drop, R: Threads + Wait + Clock + Sync>(
+fn take_and_commit<S: NodeStore + Send, R: Threads + Wait + Clock + Sync>(
     rt: &R,
     alloc: Global,
-    desk: &NzDesk,
-    mut store: S,
+    desk: &NzDesk<S>,
     jp: Code,
     records: u32,
 ) -> Result<Vec<Seat>, Fault> {
     let (committed, seats) = thread::join(
         rt,
-        move || commit_all(rt, desk, &mut store),
+        move || commit_all(rt, desk),
         || take_in_threads(rt, alloc, desk, jp, records),
     );
     committed?;
@@ -183,10 +186,10 @@ fn settle_records(state: &State<RegistryCore>, seats: &[Seat], records: u32) -> 
 }
 
 /// Ends the desk, and settles.
-fn end(desk: NzDesk, seats: Vec<Seat>, records: u32) -> Result<(), Fault> {
-    let state = desk.end();
-    let settled = settle_records(&state, seats.as_slice(), records);
-    drop(state);
+fn end<S: NodeStore + Drop>(desk: NzDesk<S>, seats: Vec<Seat>, records: u32) -> Result<(), Fault> {
+    let Ended { stored, fault: _ } = desk.end();
+    let settled = settle_records(stored.state(), seats.as_slice(), records);
+    drop(stored);
     drop(seats);
     settled
 }
@@ -195,12 +198,11 @@ fn end(desk: NzDesk, seats: Vec<Seat>, records: u32) -> Result<(), Fault> {
 fn run_threads<S: NodeStore + Send + Drop, R: Threads + Wait + Clock + Sync>(
     rt: &R,
     alloc: Global,
-    desk: NzDesk,
-    store: S,
+    desk: NzDesk<S>,
     records: u32,
     jp: Code,
 ) -> Result<(), Fault> {
-    match take_and_commit(rt, alloc, &desk, store, jp, records) {
+    match take_and_commit(rt, alloc, &desk, jp, records) {
         Ok(seats) => end(desk, seats, records),
         Err(fault) => {
             drop(desk);
@@ -209,86 +211,84 @@ fn run_threads<S: NodeStore + Send + Drop, R: Threads + Wait + Clock + Sync>(
     }
 }
 
+/// NZ's state over a store in memory.
+type NzStored = Stored<RegistryCore, MemoryStore>;
+
 /// Has the state take the input.
-fn take_alone(state: &mut State<RegistryCore>, input: Input) {
-    drop(state.take(input));
+fn take_alone(stored: &mut NzStored, input: Input) {
+    drop(stored.take(input));
 }
 
 /// Commits a batch of what the state has recorded.
-fn commit_alone<S: NodeStore>(
-    state: &mut State<RegistryCore>,
-    store: &mut S,
-) -> Result<(), StoreFault> {
-    state.commit(store, BATCH)?;
+fn commit_alone(stored: &mut NzStored) -> Result<(), StoreFault> {
+    stored.commit(BATCH)?;
     Ok(())
 }
 
 /// Has one thread record and commit that many proposals.
-fn run_alone<S: NodeStore>(
-    alloc: Global,
-    state: &mut State<RegistryCore>,
-    store: &mut S,
-    records: u32,
-    jp: Code,
-) -> Result<(), Fault> {
+fn run_alone(alloc: Global, stored: &mut NzStored, records: u32, jp: Code) -> Result<(), Fault> {
     for place in 0..u64::from(records) {
-        take_alone(state, proposal(alloc, jp, place)?);
+        take_alone(stored, proposal(alloc, jp, place)?);
         if place % BATCH as u64 == 0 {
-            commit_alone(state, store)?;
+            commit_alone(stored)?;
         }
     }
-    commit_alone(state, store)?;
-    if state.committed().len() == records as usize {
+    commit_alone(stored)?;
+    if stored.state().committed().len() == records as usize {
         Ok(())
     } else {
         Err(Fault::Recorded)
     }
 }
 
-/// How long threads take over a store.
+/// How long threads take over a state and its store.
 pub fn threads_time<R: Threads + Wait + Clock + Sync, S: NodeStore + Send + Drop>(
     rt: &R,
     alloc: Global,
-    store: Result<S, Fault>,
+    stored: Result<Stored<RegistryCore, S>, Fault>,
     records: u32,
-) -> Result<Vec<Duration>, Fault> {
-    let jp = code("JP")?;
-    let store = store?;
-    let desk = Desk::new(nz_state(alloc)?, RoomBell::new());
+) -> Result<Vec<Duration>, Fault>
+    requires { IfOk stored (λ s. s.state.runs ≡ true) }
+{
+    let stored = match stored {
+        Ok(stored) => stored,
+        Err(fault) => return Err(fault),
+    };
+    let desk: NzDesk<S> = Desk::new(stored, RoomBell::new());
+    let Ok(jp) = code("JP") else {
+        drop(desk);
+        return Err(Fault::Input);
+    };
     match Instant::now(rt) {
         Ok(start) => {
-            run_threads(rt, alloc, desk, store, records, jp)?;
+            run_threads(rt, alloc, desk, records, jp)?;
             one(alloc, start.elapsed(rt)?)
         }
         Err(error) => {
             drop(desk);
-            drop(store);
             Err(Fault::from(error))
         }
     }
 }
 
-/// How long one thread takes over the state and the store.
-fn time_alone<S: NodeStore>(
+/// How long one thread takes over the state and its store.
+fn time_alone(
     clock: &impl Clock,
     alloc: Global,
-    state: &mut State<RegistryCore>,
-    store: &mut S,
+    stored: &mut NzStored,
     records: u32,
     jp: Code,
 ) -> Result<Duration, Fault> {
     let start = Instant::now(clock)?;
-    run_alone(alloc, state, store, records, jp)?;
+    run_alone(alloc, stored, records, jp)?;
     Ok(start.elapsed(clock)?)
 }
 
 /// How long one thread takes over a store in memory.
 pub fn alone_time(clock: &impl Clock, alloc: Global, records: u32) -> Result<Vec<Duration>, Fault> {
     let jp = code("JP")?;
-    let mut store = memory_store(alloc)?;
-    let mut state = nz_state(alloc)?;
-    let time = time_alone(clock, alloc, &mut state, &mut store, records, jp);
-    drop(state);
-    drop(store);
+    let mut stored = in_memory(alloc)?;
+    let time = time_alone(clock, alloc, &mut stored, records, jp);
+    drop(stored);
     one(alloc, time?)
 }

@@ -110,8 +110,8 @@ fn is_no_account(number: u64) -> bool
     number == 0 || number > LAST_ACCOUNT
 }
 
-/// Checks that the account may reserve the blocks' units. No registry of a scheme has an account whose number is out of
-/// range, so that one isn't open.
+/// Checks that the account is open and holds the blocks' units, none of them reserved. An account whose number is out
+/// of range isn't open, since no registry of a scheme has one.
 fn check_holdings(holdings: &Holdings, order: &Order, blocks: &[Block]) -> Result<(), Refusal>
     requires { raws blocks.now ≡ order.now.units }
     ensures may { OnOk result (MayReserve holdings.now order.now.account blocks.now) }
@@ -179,7 +179,7 @@ fn new_content(order: &Order, units: Vec<Block>) -> Content
     content.unwrap()
 }
 
-/// The same, with the order's blocks, or `NoMemory`.
+/// The content of an order that passes its checks, with a copy of its blocks in canonical form; or `NoMemory`.
 fn content_of(alloc: Global, order: &Order, blocks: &[Block]) -> Result<Content, NoMemory>
     requires units { raws blocks.now ≡ order.now.units }
     requires blocks { first_of (block_refusals order.now.units) ≡ None }

@@ -3,3 +3,5 @@ pub mod Reading
 pub mod CountedPlaces
 pub mod NotesOfSeats
 pub mod JournalFronts
+pub mod Keepings
+pub mod AtDesks

@@ -1,6 +1,6 @@
--- What the calls of a desk do. No clause can name the state under a desk's lock, so each says of some state that this
--- is what it told, committed or had to send.
-use Rattle.std.specs.Prelude.{◌≡◌, ◌⊎◌, ℕ, ◌<◌, ◌≤◌, Bool, true, false, length, slice_get, option_map, Option, None, Some, Result, Ok, IfOk, IfSome}
+-- What the calls of a desk return. No clause can name the state under a desk's lock, so each says of some state that
+-- this is what it returned.
+use Rattle.std.specs.Prelude.{◌≡◌, ◌⊎◌, ℕ, ◌<◌, ◌≤◌, Bool, true, false, length, slice_get, option_map, Option, None, Some, IfSome}
 use Rattle.units.specs.RefusalCodes.{out_of_memory}
 use Rattle.units.specs.declared.code.Node.{Node}
 use Rattle.status.specs.declared.id.TransactionId.{TransactionId}
@@ -8,19 +8,14 @@ use Rattle.wire.specs.declared.input.Input.{Input}
 use Rattle.wire.specs.declared.message.Message.{Message}
 use Rattle.protocol.specs.History.{is_acknowledged, sends}
 use Rattle.protocol.specs.Unacknowledged.{IsLeastFrom, awaits}
-use Rattle.stores.specs.Calls.{Appends}
-use Rattle.stores.specs.Records.{Places}
-use Rattle.stores.specs.declared.fault.StoreFault.{StoreFault}
 use Rattle.desk.specs.declared.notes.Note.{Note}
 use Rattle.desk.specs.declared.notes.Told.{Told}
 use Rattle.desk.specs.declared.notes.Told.TheVariants.{Refused}
 use Rattle.desk.specs.declared.progress.Progress.{Progress}
 use Rattle.desk.specs.declared.progress.Progress.TheVariants.{Committed, Awaited, Stopped}
-use Rattle.desk.specs.Calls.{Tells, batch_of, done}
+use Rattle.desk.specs.Calls.{Tells}
 use Rattle.desk.specs.Due.{status_told}
 use Rattle.desk.specs.Views.{Held, committed_past, past}
-
--- ---- inputs and questions
 
 -- memory ran out before the state was asked
 abbrev pub lacking : Told
@@ -34,33 +29,12 @@ IsTakeOf input taken = (taken.told ≡ lacking) ⊎ ((old : Held) × (new : Held
 abbrev pub IsQueryOf : TransactionId → Note → Type 0
 IsQueryOf id taken = (taken.told ≡ lacking) ⊎ ((held : Held) × (taken.told ≡ status_told held id) × (taken.length ≡ length held.journal))
 
--- ---- commits
-
--- the store is honest; what each place has while it runs; what a crash or a reopening may find; a fault waits for a
--- reopening
-module _ {S : Type 0} (is_honest : S → Type 0) (content : S → Places) (may_hold : S → Places → Type 0) (must_reopen : S → Bool) where
-  -- what a commit of at most `max` records of that state leaves in the store and returns
-  pub record Commits (held : Held) (old new : S) (max : ℕ) (result : Result ℕ StoreFault) : Type 0 where
-    pub count : IfOk result (λ count. count ≡ length (batch_of held max))
-    pub none : length (batch_of held max) ≡ 0 → (result ≡ Ok 0) × (new ≡ old)
-    pub some : 0 < length (batch_of held max) → Appends is_honest content may_hold must_reopen old new (batch_of held max) (done result)
-
-  -- it is that of some state
-  abbrev pub IsCommit : S → S → ℕ → Result ℕ StoreFault → Type 0
-  IsCommit old new max result = (held : Held) × Commits held old new max result
-
--- ---- messages
-
 -- the state has this to send to the peer from that key on: the least key of a committed record's message that no record
 -- acknowledges, with the message
 pub record HasToSend (held : Held) (peer : Node) (from : ℕ) (found : Option (ℕ × Message)) : Type 0 where
   pub stopped : held.runs ≡ false → found ≡ None
   pub key : held.runs ≡ true → IsLeastFrom (awaits (sends (committed_past held)) (is_acknowledged (past held)) peer) from (option_map (λ sent. sent.0) found)
   pub message : IfSome found (λ sent. slice_get (sends (committed_past held)) sent.0 ≡ Some sent.1)
-
--- some state has it to send
-abbrev pub IsToSend : Node → ℕ → Option (ℕ × Message) → Type 0
-IsToSend peer from found = (held : Held) × HasToSend held peer from found
 
 -- ---- what the code follows; no public contract cites what stands below
 

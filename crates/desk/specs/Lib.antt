@@ -8,3 +8,4 @@ pub mod Covering
 pub mod Settling
 pub mod Counts
 pub mod Desks
+pub mod Keeping

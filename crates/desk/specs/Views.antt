@@ -1,5 +1,5 @@
 -- What contracts see of a state, and of a seat.
-use Rattle.std.specs.Prelude.{ℕ, Bool, List, Option, take, drop}
+use Rattle.std.specs.Prelude.{ℕ, Bool, true, List, Option, length, take, drop}
 use Rattle.units.specs.declared.code.Node.{Node}
 use Rattle.wire.specs.declared.input.Input.{Input}
 use Rattle.scheme.specs.declared.registries.Scheme.{Scheme}
@@ -18,6 +18,10 @@ pub record Held : Type 0 where
   pub committed : ℕ
   pub opening : ℕ
   pub runs : Bool
+
+-- a state that runs, with that journal, which was there at its opening and is committed as a whole
+abbrev pub opened_with : Scheme → Node → List Input → Held
+opened_with scheme n journal = record { scheme = scheme; node = n; journal = journal; committed = length journal; opening = length journal; runs = true }
 
 -- what the whole journal says
 abbrev pub past : Held → List Entry

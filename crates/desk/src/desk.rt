@@ -1,17 +1,19 @@
-//! A node's state that several threads share.
-ghost use Rattle.std.specs.Prelude.{◌≡◌, false, max, Some, IfOk, MatchResult};
-ghost use Rattle.stores.specs.Faults.{faults_after};
-ghost use Rattle.desk.specs.Desks.{IsCommit, IsOf, IsQueryOf, IsTakeOf, IsToSend, lacking};
+//! A node's state with its store, which several threads share.
+ghost use Rattle.std.specs.Prelude.{◌≡◌, max, Some, IfOk, MatchResult};
+ghost use Rattle.desk.specs.Desks.{IsOf, IsQueryOf, IsTakeOf, lacking};
 ghost use Rattle.desk.specs.Due.{stopped};
+ghost use Rattle.desk.specs.Keeping.{AreStored, IsAtDesk, IsCommit, IsKept, IsProgressOfRun, IsToSend, MayOpen};
 ghost use Rattle.desk.specs.Telling.{kept};
 
+use crate::at_desk::{AtDesk, BATCH};
 use crate::bell::Bell;
 use crate::gate::{Gate, OpenGate, Spot};
-use crate::locked::BATCH;
 use crate::notes::{Asked, Told};
+use crate::opening::Opening;
 use crate::progress::Progress;
 use crate::seat::Seat;
-use crate::state::{Receipt, State, Taken};
+use crate::state::{Receipt, Taken};
+use crate::stored::Stored;
 use protocol::{NodeCore, Stepped};
 use status::TransactionId;
 use std::rt::Clock as SystemClock;
@@ -21,19 +23,28 @@ use units::refusal_code::NODE_STOPPED;
 use units::{NoMemory, Node, Refusal};
 use wire::{Input, Message};
 
-/// A node's state under a lock, and a bell that rings when it has a record more, has committed records, or has
-/// stopped. A thread brings a seat of its own to each call that tells it something.
+/// What a desk leaves: the state with its store, and the fault that stopped the store, if one did.
 #[derive(Drop)]
-pub struct Desk<C: NodeCore, B: Bell> {
-    state: Mutex<State<C>>,
+pub struct Ended<C: NodeCore, S: NodeStore> {
+    pub stored: Stored<C, S>,
+    pub fault: Option<StoreFault>,
+}
+
+/// A node's state and its store under a lock, and a bell that rings when the state has a record more, has committed
+/// records, or has stopped. A thread brings a seat of its own to each call that tells it something.
+#[derive(Drop)]
+pub struct Desk<O: Opening, C: NodeCore, S: NodeStore, B: Bell> {
+    locked: Mutex<AtDesk<O, C, S>>,
     bell: B,
 }
 
-impl<C: NodeCore, B: Bell> Desk<C, B> {
-    /// A desk with this state.
-    pub fn new(state: State<C>, bell: B) -> Desk<C, B> {
+impl<O: Opening, C: NodeCore, S: NodeStore, B: Bell> Desk<O, C, S, B> {
+    /// A desk with this state, which runs, and its store.
+    pub fn new(stored: Stored<C, S>, bell: B) -> Desk<O, C, S, B>
+        requires { MayOpen S.NodeStore O.opened stored }
+    {
         Desk {
-            state: Mutex::new(state),
+            locked: Mutex::new(AtDesk::new(stored)),
             bell,
         }
     }
@@ -94,9 +105,9 @@ impl<C: NodeCore, B: Bell> Desk<C, B> {
         ensures asked { result.asked ≡ Asked.Take input }
         ensures told { IsTakeOf input result }
     {
-        let mut state = self.state.lock(rt);
-        gate.pass(Spot::Locked(state.node()));
-        state.take_some(input)
+        let mut locked = self.locked.lock(rt);
+        gate.pass(Spot::Locked(locked.state().node()));
+        locked.take(input)
     }
 
     /// Tells refusal `OUT_OF_MEMORY` of what a seat had no room for.
@@ -114,9 +125,9 @@ impl<C: NodeCore, B: Bell> Desk<C, B> {
         ensures asked { result.asked ≡ asked }
         ensures told { result.told ≡ lacking }
     {
-        let state = self.state.lock(rt);
-        gate.pass(Spot::Locked(state.node()));
-        state.refuse_for_memory(asked)
+        let locked = self.locked.lock(rt);
+        gate.pass(Spot::Locked(locked.state().node()));
+        locked.state().refuse_for_memory(asked)
     }
 
     /// Asks the state where a transaction stands, and returns what it tells. The seat has kept it.
@@ -150,7 +161,7 @@ impl<C: NodeCore, B: Bell> Desk<C, B> {
         ensures asked { result.asked ≡ Asked.Query id }
         ensures told { IsQueryOf id result }
     {
-        self.state.lock(rt).query_some(id)
+        self.locked.lock(rt).state().query_some(id)
     }
 
     /// Waits until all records are committed that the journal had when this was taken, and returns a receipt of it.
@@ -164,7 +175,7 @@ impl<C: NodeCore, B: Bell> Desk<C, B> {
         taken: Taken,
     ) -> Result<Receipt, Refusal>
         ensures { MatchResult result
-            (λ receipt. (receipt ≡ taken) × (seat.new ≡ record seat.old { confirmed = max seat.old.confirmed taken.length }))
+            (λ receipt. (receipt ≡ taken) × (seat.new ≡ record seat.old { confirmed = max seat.old.confirmed taken.length }) × AreStored S.NodeStore O.opened taken.length)
             (λ refusal. (refusal ≡ stopped) × (seat.new ≡ seat.old)) }
     {
         match self.wait_for_receipt(rt, taken) {
@@ -181,7 +192,9 @@ impl<C: NodeCore, B: Bell> Desk<C, B> {
         rt: &R,
         taken: Taken,
     ) -> Result<Receipt, Refusal>
-        ensures { MatchResult result (λ receipt. receipt ≡ taken) (λ refusal. refusal ≡ stopped) }
+        ensures { MatchResult result
+            (λ receipt. (receipt ≡ taken) × AreStored S.NodeStore O.opened taken.length)
+            (λ refusal. refusal ≡ stopped) }
     {
         let mut awaited = taken;
         for _ in rt.forever() {
@@ -198,44 +211,31 @@ impl<C: NodeCore, B: Bell> Desk<C, B> {
     }
 
     fn progress_locked<R: Wait>(&self, rt: &R, taken: Taken) -> Progress
-        ensures { IsOf taken result }
+        ensures same { IsOf taken result }
+        ensures progress { IsProgressOfRun S.NodeStore O.opened taken.length result }
     {
-        self.state.lock(rt).progress_of(taken)
+        self.locked.lock(rt).progress_of(taken)
     }
 
     /// Appends the first records that aren't committed, at most `BATCH`, to the store, and returns how many: these
     /// are committed now. It holds the lock until the store has them. Where there are none, and where the state was
     /// stopped, it returns 0, and the store is as it was. The bell rings unless it returns 0.
     ///
-    /// Fails as `append` of the store does. Then the state has stopped.
-    pub fn commit_next<R: Wait, S: NodeStore>(
-        &self,
-        rt: &R,
-        store: &mut S,
-    ) -> Result<usize, StoreFault>
-        ensures commits { IsCommit S.is_honest S.content S.may_hold S.must_reopen store.old store.new BATCH result }
-        ensures faults { S.faults store.new ≡ faults_after (S.faults store.old) result }
-        ensures whose { S.whose store.new ≡ S.whose store.old }
-        ensures own { S.is_honest store.new → S.must_reopen store.new ≡ false → S.is_own store.old → S.is_own store.new }
+    /// Fails as `append` of the store does. Then the state has stopped, and `end` returns the fault.
+    pub fn commit_next<R: Wait>(&self, rt: &R) -> Result<usize, StoreFault>
+        ensures { IsCommit S.NodeStore O.opened BATCH result }
     {
-        let committed = self.commit_locked(rt, store);
+        let committed = self.commit_locked(rt);
         if !matches!(committed, Ok(0)) {
             self.bell.ring(rt);
         }
         committed
     }
 
-    fn commit_locked<R: Wait, S: NodeStore>(
-        &self,
-        rt: &R,
-        store: &mut S,
-    ) -> Result<usize, StoreFault>
-        ensures commits { IsCommit S.is_honest S.content S.may_hold S.must_reopen store.old store.new BATCH result }
-        ensures faults { S.faults store.new ≡ faults_after (S.faults store.old) result }
-        ensures whose { S.whose store.new ≡ S.whose store.old }
-        ensures own { S.is_honest store.new → S.must_reopen store.new ≡ false → S.is_own store.old → S.is_own store.new }
+    fn commit_locked<R: Wait>(&self, rt: &R) -> Result<usize, StoreFault>
+        ensures { IsCommit S.NodeStore O.opened BATCH result }
     {
-        self.state.lock(rt).commit_some(store)
+        self.locked.lock(rt).commit()
     }
 
     /// The least key, from `from` on, of a message to `peer` that the committed records send and no record of the
@@ -247,19 +247,19 @@ impl<C: NodeCore, B: Bell> Desk<C, B> {
         peer: Node,
         from: usize,
     ) -> Result<Option<(usize, Message)>, NoMemory>
-        ensures { IfOk result (λ found. IsToSend peer from found) }
+        ensures { IfOk result (λ found. IsToSend S.NodeStore O.opened peer from found) }
     {
-        self.state.lock(rt).copied_send(peer, from)
+        self.locked.lock(rt).next_send(peer, from)
     }
 
     /// Whether the state runs: it wasn't stopped, and no commit of it failed.
     pub fn is_running<R: Wait>(&self, rt: &R) -> bool {
-        self.state.lock(rt).is_running()
+        self.locked.lock(rt).state().is_running()
     }
 
     /// How many records are committed. There may be more once this returns.
     pub fn committed_count<R: Wait>(&self, rt: &R) -> usize {
-        self.state.lock(rt).committed_count()
+        self.locked.lock(rt).state().committed_count()
     }
 
     /// The bell, for threads that wait until there is more to commit or to send: read its number, look at the desk,
@@ -271,13 +271,17 @@ impl<C: NodeCore, B: Bell> Desk<C, B> {
 
     /// Stops the state, and rings the bell. Calls that wait in `confirm` for a commit fail then.
     pub fn stop<R: Wait>(&self, rt: &R) {
-        self.state.lock(rt).stop();
+        self.locked.lock(rt).stop();
         self.bell.ring(rt);
     }
 
-    /// The state, once no thread shares the desk.
-    pub fn end(self) -> State<C> {
-        let Desk { state, bell: _ } = self;
-        state.into_inner()
+    /// The state with its store, and the fault that stopped the store, if one did, once no thread shares the desk.
+    pub fn end(self) -> Ended<C, S>
+        ensures keeps { IsKept S.NodeStore result.stored }
+        ensures at { IsAtDesk S.NodeStore O.opened result.stored result.fault }
+    {
+        let Desk { locked, bell: _ } = self;
+        let (stored, fault) = locked.into_inner().into_parts();
+        Ended { stored, fault }
     }
 }

@@ -2,6 +2,7 @@
 //! the same.
 #![tactic(auto)]
 
+mod at_desk;
 mod bell;
 mod counting;
 mod desk;
@@ -11,17 +12,21 @@ mod life;
 mod loading;
 mod locked;
 mod notes;
+mod opening;
 mod progress;
 mod seat;
 mod settling;
 mod state;
+mod stored;
 
+pub use at_desk::BATCH;
 pub use bell::{Bell, LONGEST_QUIET, RoomBell};
-pub use desk::Desk;
+pub use desk::{Desk, Ended};
 pub use gate::{Gate, OpenGate, Spot};
 pub use life::{Life, Settled, Unsettled};
-pub use locked::BATCH;
 pub use notes::{Asked, Lengths, Note, Ticket, Told};
+pub use opening::Opening;
 pub use seat::Seat;
 pub use settling::{settle, settle_with};
 pub use state::{Receipt, State, Taken};
+pub use stored::Stored;

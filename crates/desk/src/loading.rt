@@ -4,6 +4,7 @@ ghost use Rattle.stores.specs.Calls.{Loads};
 ghost use Rattle.stores.specs.Faults.{faults_after};
 ghost use Rattle.protocol.specs.Cores.{Replays};
 ghost use Rattle.desk.specs.Loading.{IsLoaded, IsReadOn, IsReadTo, damage_of, journal_in, page_size};
+ghost use Rattle.desk.specs.Views.{opened_with};
 
 use crate::state::State;
 use protocol::{NodeCore, ReplayFault, resume};
@@ -77,7 +78,7 @@ fn read_on<C: NodeCore, S: NodeStore>(core: &mut C, store: &mut S) -> Result<Pag
 }
 
 impl<C: NodeCore> State<C> {
-    /// A state that runs, whose journal are the records of the store: all are taken into the core, a page at a time,
+    /// A state that runs and whose journal is the records of the store: the core takes all of them, a page at a time,
     /// and all are committed.
     ///
     /// Fails as `load_page` of the store does, with `Damaged(p)` also where the record at place p is the first that
@@ -90,7 +91,7 @@ impl<C: NodeCore> State<C> {
         store: &mut S,
     ) -> Result<State<C>, StoreFault>
         requires { C.journal_of core ≡ [] }
-        ensures state { IfOk result (λ s. s ≡ record { scheme = C.scheme_of core; node = C.node_of core; journal = s.journal; committed = length s.journal; opening = length s.journal; runs = true }) }
+        ensures state { IfOk result (λ s. s ≡ opened_with (C.scheme_of core) (C.node_of core) s.journal) }
         ensures replays { IfOk result (λ s. Replays s.scheme s.node s.journal) }
         ensures loaded { IsLoaded S.is_honest S.content S.may_hold S.must_reopen (C.scheme_of core) (C.node_of core) store.old store.new (journal_in result) }
         ensures faults { S.faults store.new ≡ faults_after (S.faults store.old) result }

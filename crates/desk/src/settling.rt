@@ -92,9 +92,9 @@ fn has_fallen(seats: &[Seat]) -> bool
     false
 }
 
-/// As `settle`, where what is due is that of the core, at its node under its scheme, in place of the state's own: so a
-/// caller that can't name the state's knows under which scheme it has settled. The core has no record, and is returned
-/// with the committed ones.
+/// As `settle`, by a core of the caller's in place of the state's: each note is compared with what that core is due
+/// to tell, at its node under its scheme, so that a caller who can't name the state's scheme still names this one.
+/// The core has no record, and is returned with the committed ones.
 ///
 /// Also fails with `NotRecorded` at the first record of the journal that the core doesn't record at its place after
 /// those before it, where that record is committed or a note was told after it. `Untrue` of a note that was told before

@@ -8,7 +8,7 @@ ghost use Rattle.stores.specs.Calls.{Appends};
 ghost use Rattle.stores.specs.Faults.{faults_after};
 ghost use Rattle.desk.specs.Calls.{Takes, Tells, batch_of, committed_by, done};
 ghost use Rattle.desk.specs.Due.{status_told, told_of};
-ghost use Rattle.desk.specs.Views.{committed_past, committed_records, past, tail};
+ghost use Rattle.desk.specs.Views.{committed_past, committed_records, opened_with, past, tail};
 
 use crate::notes::{Asked, Told};
 use protocol::{NodeCore, Stepped};
@@ -124,7 +124,7 @@ impl<C: NodeCore> State<C> {
     /// A state that runs, in which the whole journal of the core is committed. Each of its records is recorded at its
     /// place after those before it.
     pub fn new(alloc: Global, core: C) -> State<C>
-        ensures state { result ≡ record { scheme = C.scheme_of core; node = C.node_of core; journal = C.journal_of core; committed = length (C.journal_of core); opening = length (C.journal_of core); runs = true } }
+        ensures state { result ≡ opened_with (C.scheme_of core) (C.node_of core) (C.journal_of core) }
         ensures replays { Replays result.scheme result.node result.journal }
     {
         let records = core.journal().len();
@@ -209,7 +209,7 @@ impl<C: NodeCore> State<C> {
     }
 
     /// The next `count` records are committed, so that `batch` begins after them.
-    pub fn mark_committed(&mut self, count: usize)
+    fn mark_committed(&mut self, count: usize)
         requires { self.old.committed + count ≤ length self.old.journal }
         ensures { self.new ≡ record self.old { committed = self.old.committed + count } }
     {

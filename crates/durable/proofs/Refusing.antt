@@ -23,7 +23,7 @@ use Rattle.stores.specs.declared.fault.StoreFault.TheVariants.{Device, Full, Dam
 use Rattle.durable.proofs.Reopening.{is-clean}
 
 -- files that are clean were so when the opening ended
-clean-left : {D : Type 0} {g : Ghosts D} (rest : Leftover D g) (given : Files D) → (given.log, given.db) ≡ files_left rest → AreClean g given.log given.db → IsCleanLeft rest
+pub clean-left : {D : Type 0} {g : Ghosts D} (rest : Leftover D g) (given : Files D) → (given.log, given.db) ≡ files_left rest → AreClean g given.log given.db → IsCleanLeft rest
 clean-left {D} {g} (left.Files now) given same honest = subst (λ (p : D × D). AreClean g p.0 p.1) same honest
 clean-left {D} {g} (left.Unopened it) given same honest = is-clean it.pool (subst (λ (p : D × D). AreClean g p.0 p.1) same honest)
 clean-left {D} {g} (left.Store it) given same honest = is-clean it.pool (subst (λ (p : D × D). AreClean g p.0 p.1) same honest)

@@ -10,10 +10,9 @@ use Rattle.durable.specs.Refusals.{IsFileFault, IsUnharmed}
 use Rattle.stores.specs.declared.fault.StoreFault.{StoreFault}
 use Rattle.stores.specs.declared.fault.StoreFault.TheVariants.{Device, Full, Damaged, WrongNode, WrongVersion, Reopen, NoMemory}
 
--- files of a connection that may leave nothing else hold what they held
-pub spared : {D : Type 0} (g : Ghosts D) (left : Files D) (was : Trees) (may_leave : Trees → Type 0) → Hold g left may_leave → (AreClean g left.log left.db → (db : Trees) → may_leave db → db ≡ was)
-    → Hold g left (λ next. next ≡ was)
-spared {D} g left was may_leave holds only honest image there = ∥∥₁_map (holds honest image there) (λ held. (held.0, only honest held.0 held.1, held.2))
+-- files of a connection hold what it may leave
+pub spared : {D : Type 0} (g : Ghosts D) (left : Files D) (may_leave Wanted : Trees → Type 0) → Hold g left may_leave → (AreClean g left.log left.db → (db : Trees) → may_leave db → Wanted db) → Hold g left Wanted
+spared {D} g left may_leave Wanted holds wanted honest image there = ∥∥₁_map (holds honest image there) (λ held. (held.0, wanted honest held.0 held.1, held.2))
 
 -- files that were not opened were not judged, but where they hold no database
 pub not-looked-at : {D : Type 0} (g : Ghosts D) (files left : Files D) (fault : StoreFault) → IsFileFault g files fault → IsUnharmed g files fault left

@@ -63,25 +63,9 @@ IsOpeningFault node db Full = Unit {0}
 IsOpeningFault node db NoMemory = Unit {0}
 IsOpeningFault node db Reopen = ⊥
 
--- ---- what the code follows; no public contract cites what stands below
-
--- open, in no transaction, and nothing is uncommitted
-pub record IsOpened (s : State) : Type 0 where
-  pub is_open : IsTrue s.is_open
-  pub idle : s.in_transaction ≡ false
-  pub settled : s.now ≡ s.committed
-
--- only the table of the owner is made
-abbrev pub about_schema : Schema
-about_schema = record { tables = about_table 0 ∷ []; indexes = []; views = [] }
-
 -- no table
 abbrev pub IsBare : Database → Type 0
 IsBare db = db.schema ≡ no_schema
-
--- the table of the owner alone, without a row
-abbrev pub HasAbout : Database → Type 0
-HasAbout db = (db.schema ≡ about_schema) × (db.trees 0 ≡ [])
 
 -- both tables without a row
 abbrev pub IsEmpty : Database → Type 0
@@ -96,6 +80,27 @@ pub record IsFresh (name : List ℕ) (db : Trees) : Type 0 where
   pub store : IsStore db
   pub node : node_in db ≡ name
   pub slots : slots_in db ≡ []
+
+-- what an opening for that node makes of a database, whatever becomes of it: the same; of a new one a store without a
+-- record; of a store of format One what it is migrated to
+abbrev pub MayComeOf : List ℕ → Database → Trees → Type 0
+MayComeOf name before db = (db ≡ before.trees) ⊎ ((IsNew before × IsFresh name db) ⊎ IsMigrated before.trees db)
+
+-- ---- what the code follows; no public contract cites what stands below
+
+-- open, in no transaction, and nothing is uncommitted
+pub record IsOpened (s : State) : Type 0 where
+  pub is_open : IsTrue s.is_open
+  pub idle : s.in_transaction ≡ false
+  pub settled : s.now ≡ s.committed
+
+-- only the table of the owner is made
+abbrev pub about_schema : Schema
+about_schema = record { tables = about_table 0 ∷ []; indexes = []; views = [] }
+
+-- the table of the owner alone, without a row
+abbrev pub HasAbout : Database → Type 0
+HasAbout db = (db.schema ≡ about_schema) × (db.trees 0 ≡ [])
 
 -- the same, with its tables
 abbrev pub HasFresh : List ℕ → Database → Type 0
@@ -157,5 +162,5 @@ pub record BecomesStore (name : List ℕ) (before : Database) (s : State) (resul
   pub found : OnOk result ((IsNew before × (slots_in s.committed.trees ≡ [])) ⊎ ((s.committed ≡ before) ⊎ IsMigrated before.trees s.committed.trees))
   pub tables : OnOk result (HasItsTables before.schema s.committed.schema)
   pub fault : IfErr result (IsOpeningFault name before)
-  pub crash : (db : Trees) → s.may_leave db → (db ≡ before.trees) ⊎ ((IsNew before × IsFresh name db) ⊎ IsMigrated before.trees db)
+  pub crash : (db : Trees) → s.may_leave db → MayComeOf name before db
   pub unharmed : IfErr result (λ e. IsTrue (is_judgement e) → (db : Trees) → s.may_leave db → db ≡ before.trees)

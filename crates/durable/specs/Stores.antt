@@ -9,7 +9,7 @@ use Rattle.durable.specs.Backing.{MayFind}
 use Rattle.store_tables.specs.Migrating.{IsOpenedAs}
 use Rattle.durable.specs.Kept as kept
 use Rattle.stores.specs.Records.{Places}
-use Rattle.durable.specs.Refusals.{IsRefusal}
+use Rattle.durable.specs.Refusals.{IsRefusal, AreSpared}
 use Rattle.stores.specs.declared.fault.StoreFault.{StoreFault}
 use Rattle.durable.specs.declared.sql_store.SqlStore.{SqlStore}
 
@@ -51,3 +51,11 @@ module _ {D : Type 0} (g : Ghosts D) where
   -- why an opening of its files for its node was refused
   abbrev pub IsReopeningFault : SqlStore D g → StoreFault → Type 0
   IsReopeningFault s fault = (files : Files D) × HadFiles s files × IsRefusal g files (node_text (node_of s)) fault
+
+  -- its files were opened again in vain, and it has those that were left of them
+  pub record HasSpared (old new : SqlStore D g) : Type 0 where
+    pub files : Files D
+    pub left : Files D
+    pub had : HadFiles old files
+    pub has : kept.AreFilesOf g new.store_state left
+    pub spared : AreSpared g (node_text (node_of old)) files left

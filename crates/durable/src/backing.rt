@@ -9,7 +9,7 @@ ghost use Rattle.sqlite_wal.specs.Reads.{AreClean};
 ghost use Rattle.durable.specs.Backing.{IsFound, MayFind, Hold};
 ghost use Rattle.stores.specs.Faults.{is_device_fault};
 ghost use Rattle.store_tables.specs.SqlFaults.{store_fault_of};
-ghost use Rattle.durable.specs.Refusals.{IsFileFault};
+ghost use Rattle.durable.specs.Refusals.{IsFileFault, AreGivenBack};
 
 use crate::fault::fault_of_copying;
 use sqlite::{Connection, Error as SqlError, ErrorCode, FileStore, Options};
@@ -89,6 +89,7 @@ pub(crate) fn open_again<D: Disk + Drop>(
     ensures found { IfOk result (λ conn. HasCleanDisk (file_state conn) → IsFound D.Disk files (file_state conn).committed.trees) }
     ensures named { IfErr result (λ e. (e.0 ≡ StoreFault.Damaged 0) ⊎ ((e.0 ≡ StoreFault.NoMemory) ⊎ IsTrue (is_device_fault e.0))) }
     ensures fault { IfErr result (λ e. AreClean D.Disk e.1.log e.1.db → IsFileFault D.Disk files e.0) }
+    ensures spared { IfErr result (λ e. (e.1 ≡ files) ⊎ AreGivenBack D.Disk files e.1) }
 {
     if !files.may_be_used() {
         return Err((StoreFault::Device, files));

@@ -23,7 +23,8 @@ fn fault_below(error: StoreError) -> StoreFault
     }
 }
 
-/// What an error of a call that copies the log tells. It is `Device` where a failed call of the device shut the database.
+/// The fault of a call that copies the log, from the database's error: `Device` where a failed call of the device shut
+/// the database.
 pub(crate) fn fault_of_copying<D: Disk>(database: &FileStore<D>, error: StoreError) -> StoreFault
     ensures open { result ≢ StoreFault.Device → IsClean (view database.now) → IsTrue (view database.now).is_open }
     ensures told { (result ≡ StoreFault.Device) ⊎ (result ≡ store_fault_of (store_error error)) }

@@ -20,6 +20,7 @@ use stores::{Readiness, StoreFault, decode_records, encode_records};
 use wire::Input;
 
 /// A store over an open connection. After a fault every call returns `Reopen`.
+#[derive(Drop)]
 pub(crate) struct OpenStore<S: Alter> {
     conn: Connection<S>,
     count: u64,
@@ -38,18 +39,6 @@ impl<S: Alter> Model for OpenStore<S> {
     ghost view = { λ s. record { conn = s.conn; count = s.count; must_reopen = is_stopped s.readiness } };
 
     ghost invariant = { λ s. IsSound S.Store (record { conn = s.conn; count = s.count; must_reopen = is_stopped s.readiness }) };
-}
-
-// It is written out, so that a caller does not prove again how each part is dropped.
-impl<S: Alter + Drop> Drop for OpenStore<S> {
-    fn drop(self) {
-        let OpenStore {
-            conn: _,
-            count: _,
-            readiness: _,
-            alloc: _,
-        } = self;
-    }
 }
 
 /// The count with the batch, if the places fit.

@@ -5,30 +5,21 @@ ghost use Rattle.sqlite_wal.specs.Reads.{AreClean};
 ghost use Rattle.units.specs.Code.{node_text};
 ghost use Rattle.durable.specs.Backing.{IsFound, MayFind, Hold, HoldAlone};
 ghost use Rattle.stores.specs.Faults.{is_device_fault};
-ghost use Rattle.store_tables.specs.SqlFaults.{store_fault_of};
 ghost use Rattle.store_tables.specs.Held.{slots_in, node_in, IsStore};
 ghost use Rattle.store_tables.specs.Migrating.{IsOpenedAs};
 ghost use Rattle.durable.specs.Kept.{is_there};
 ghost use Rattle.stores.specs.Records.{Places};
-ghost use Rattle.durable.specs.Refusals.{IsRefusal, IsUnharmed};
+ghost use Rattle.durable.specs.Refusals.{IsRefusal, IsUnharmed, AreSpared};
 
-use crate::backing::opening_fault;
-use crate::store_state::{StoreState, count_fault, store_from_files, store_over};
-use sqlite::{Connection, Error as SqlError, ErrorCode, File, Leftover, Options, Unknown};
-use sqlite_disk::{Disk, Files, Tally};
+use crate::store_state::{StoreState, count_fault, store_from_files};
+use sqlite::{File, Options};
+use sqlite_disk::{Disk, Files};
 use std::alloc::Global;
-use std::hash::{BuildHasher, RandomState};
 use std::mem;
-use store_tables::{Nobody, Watch, fault_of};
+use store_tables::{Nobody, Watch};
 use stores::{NodeStore, StoreFault};
 use units::Node;
 use wire::Input;
-
-/// What the failed calls of files have met before the first call.
-const UNTOUCHED: Tally = Tally {
-    caught: 0,
-    refused: 0,
-};
 
 /// A store in a file of SQLite and its log.
 #[derive(Drop)]
@@ -50,8 +41,9 @@ impl<D: Disk + Drop> SqlStore<D> {
     /// Fails with the first that is so of `Damaged(0)`, where the files hold no store, `WrongVersion`, `WrongNode`, and
     /// `Damaged(p)`, where `p` is the first place without a record in a store of format One; the database that they
     /// hold stays as it was. Fails with `Device`, `Full` or `NoMemory` at any call of the database, and with `Device`
-    /// where the files can't be used since a sync failed; then a store of format One has its records in that format or,
-    /// migrated, in format Two.
+    /// where the files can't be used since a sync failed. Then the files are as they were; or as SQLite gave them back,
+    /// where it couldn't open them; or, where it could, they hold the database that it found, or a store that was
+    /// made of new files, or that a store of format One was migrated to.
     pub fn open_files(
         alloc: Global,
         files: Files<D>,
@@ -64,10 +56,36 @@ impl<D: Disk + Drop> SqlStore<D> {
         ensures owner { IfOk result (λ s. IsHonest D.Disk s → owner D.Disk s ≡ node_text node) }
         ensures found { IfOk result (λ s. IsHonest D.Disk s → (db : Trees) × IsFound D.Disk files db × IsOpenedAs db (content D.Disk s)) }
         ensures durable { IfOk result (λ s. IsHonest D.Disk s → (next : Places) → MayHold D.Disk s next → next ≡ content D.Disk s) }
+        ensures named { IfErr result (λ e. e.0 ≢ StoreFault.Reopen) }
         ensures fault { IfErr result (λ e. AreClean D.Disk e.1.log e.1.db → IsRefusal D.Disk files (node_text node) e.0) }
         ensures unharmed { IfErr result (λ e. AreClean D.Disk e.1.log e.1.db → IsUnharmed D.Disk files e.0 e.1) }
+        ensures spared { IfErr result (λ e. AreSpared D.Disk (node_text node) files e.1) }
     {
-        let store = store_from_files(alloc, files, options, node)?;
+        SqlStore::open_files_watched(alloc, files, options, node, &mut Nobody)
+    }
+
+    /// As `open_files`, and tells how far a migration of the store has come.
+    ///
+    /// Fails as `open_files` does.
+    pub fn open_files_watched<W: Watch>(
+        alloc: Global,
+        files: Files<D>,
+        options: Options,
+        node: Node,
+        watch: &mut W,
+    ) -> Result<SqlStore<D>, (StoreFault, Files<D>)>
+        ensures runs { IfOk result (λ s. must_reopen D.Disk s ≡ false) }
+        ensures node { IfOk result (λ s. node_of D.Disk s ≡ node) }
+        ensures faults { IfOk result (λ s. faults D.Disk s ≡ 0) }
+        ensures owner { IfOk result (λ s. IsHonest D.Disk s → owner D.Disk s ≡ node_text node) }
+        ensures found { IfOk result (λ s. IsHonest D.Disk s → (db : Trees) × IsFound D.Disk files db × IsOpenedAs db (content D.Disk s)) }
+        ensures durable { IfOk result (λ s. IsHonest D.Disk s → (next : Places) → MayHold D.Disk s next → next ≡ content D.Disk s) }
+        ensures named { IfErr result (λ e. e.0 ≢ StoreFault.Reopen) }
+        ensures fault { IfErr result (λ e. AreClean D.Disk e.1.log e.1.db → IsRefusal D.Disk files (node_text node) e.0) }
+        ensures unharmed { IfErr result (λ e. AreClean D.Disk e.1.log e.1.db → IsUnharmed D.Disk files e.0 e.1) }
+        ensures spared { IfErr result (λ e. AreSpared D.Disk (node_text node) files e.1) }
+    {
+        let store = store_from_files(alloc, files, options, node, watch)?;
         Ok(SqlStore {
             store_state: StoreState::Open(store),
             node,
@@ -137,79 +155,6 @@ impl<D: Disk + Drop> SqlStore<D> {
     }
 }
 
-/// Why a connection to the files at a path could not be made, by what is left of them, where they were opened at all.
-fn path_fault(error: SqlError, left: Option<Leftover<File>>) -> StoreFault
-    ensures unopened { left ≡ None → result ≡ store_fault_of error }
-    ensures no_database { left ≢ None → error ≡ SqlError.SqliteFailure ErrorCode.NotADatabase → result ≡ StoreFault.Damaged 0 }
-    ensures other { error ≢ SqlError.SqliteFailure ErrorCode.NotADatabase → error ≢ SqlError.SqliteFailure ErrorCode.DatabaseCorrupt → result ≡ store_fault_of error }
-    ensures named { (result ≡ StoreFault.Damaged 0) ⊎ ((result ≡ StoreFault.NoMemory) ⊎ IsTrue (is_device_fault result)) }
-{
-    match left {
-        Some(left) => opening_fault(error, UNTOUCHED, left.into_files().tally()),
-        None => fault_of(error),
-    }
-}
-
-impl SqlStore<File> {
-    ghost use Rattle.durable.specs.Stores.{IsHonest, MayHold, content, must_reopen, owner, node_of, faults};
-
-    /// Opens the file at the path, with its log beside it, makes it a store of the node where there is none, and migrates
-    /// a store of format One to format Two.
-    ///
-    /// Fails as `open_files` does, and with `Device` where the file can't be opened or another handle has it open. No
-    /// clause ties the result to what stands at the path.
-    pub fn open_path(rt: &HostRuntime, path: &str, node: Node) -> Result<SqlStore<File>, StoreFault>
-        ensures runs { IfOk result (λ s. must_reopen _ s ≡ false) }
-        ensures node { IfOk result (λ s. node_of _ s ≡ node) }
-        ensures faults { IfOk result (λ s. faults _ s ≡ 0) }
-        ensures owner { IfOk result (λ s. IsHonest _ s → owner _ s ≡ node_text node) }
-        ensures durable { IfOk result (λ s. IsHonest _ s → (next : Places) → MayHold _ s next → next ≡ content _ s) }
-        ensures named { IfErr result (λ e. e ≢ StoreFault.Reopen) }
-    {
-        SqlStore::open_path_watched(rt, path, node, &mut Nobody)
-    }
-
-    /// As `open_path`, and tells how far a migration of the store has come.
-    ///
-    /// Fails as `open_path` does.
-    pub fn open_path_watched<W: Watch>(
-        rt: &HostRuntime,
-        path: &str,
-        node: Node,
-        watch: &mut W,
-    ) -> Result<SqlStore<File>, StoreFault>
-        ensures runs { IfOk result (λ s. must_reopen _ s ≡ false) }
-        ensures node { IfOk result (λ s. node_of _ s ≡ node) }
-        ensures faults { IfOk result (λ s. faults _ s ≡ 0) }
-        ensures owner { IfOk result (λ s. IsHonest _ s → owner _ s ≡ node_text node) }
-        ensures durable { IfOk result (λ s. IsHonest _ s → (next : Places) → MayHold _ s next → next ≡ content _ s) }
-        ensures named { IfErr result (λ e. e ≢ StoreFault.Reopen) }
-    {
-        let alloc = rt.alloc();
-        let Ok(name) = format!(in alloc; "{node}") else {
-            return Err(StoreFault::NoMemory);
-        };
-        let Ok(seeds) = RandomState::new(rt) else {
-            return Err(StoreFault::Device);
-        };
-        let options = Options::new(seeds.hash_one(&0u8));
-        let conn = match Connection::open_from(rt, path, false, Unknown) {
-            Ok(conn) => conn,
-            Err((error, left)) => return Err(path_fault(error, left)),
-        };
-        match store_over(alloc, conn, &name, watch) {
-            Ok(store) => Ok(SqlStore {
-                store_state: StoreState::Open(store),
-                node,
-                faults: 0,
-                options,
-                alloc,
-            }),
-            Err((fault, _)) => Err(fault),
-        }
-    }
-}
-
 impl SqlStore<File> {
     ghost use Rattle.durable.specs.Stores.{must_reopen};
 
@@ -229,14 +174,14 @@ impl SqlStore<File> {
 }
 
 impl<D: Disk + Drop> NodeStore for SqlStore<D> {
-    ghost use Rattle.std.specs.Prelude.{◌≡◌, ◌≢◌, ◌⊎◌, ℕ, false, Ok, Err, OnOk, IfErr, IsTrue};
+    ghost use Rattle.std.specs.Prelude.{◌≡◌, ◌≢◌, ◌⊎◌, ℕ, false, Ok, Err, OnOk, OnErr, IfErr, IsTrue};
     ghost use Rattle.stores.specs.Calls.{Appends, Reopens};
     ghost use Rattle.stores.specs.Faults.{faults_after};
     ghost use Rattle.stores.specs.Records.{Places};
     ghost use Rattle.store_tables.specs.Rooms.{LacksRoom};
     ghost use Rattle.stores.specs.declared.fault.StoreFault.TheVariants.{Reopen, NoMemory, Damaged, Full};
     ghost use Rattle.units.specs.Code.{node_text};
-    ghost use Rattle.durable.specs.Stores.{IsHonest, MayHold, content, must_reopen, faults, disk_faults, node_of, owner, IsReopeningFault};
+    ghost use Rattle.durable.specs.Stores.{IsHonest, MayHold, content, must_reopen, faults, disk_faults, node_of, owner, IsReopeningFault, HasSpared};
 
     ghost is_honest = { λ s. IsHonest D.Disk s };
 
@@ -290,17 +235,18 @@ impl<D: Disk + Drop> NodeStore for SqlStore<D> {
         }
     }
 
-    /// Fails with `Damaged(p)`, `WrongVersion` and `WrongNode` as `open_files` does. After a sync that failed the
-    /// same files can't be used again, and every reopening fails with `Device`.
+    /// Fails with `Damaged(p)`, `WrongVersion` and `WrongNode` as `open_files` does, and leaves of the files what that
+    /// leaves. After a sync that failed the same files can't be used again, and every reopening fails with `Device`.
     fn reopen(&mut self) -> Result<(), StoreFault>
         ensures reopens { Reopens (IsHonest D.Disk) (content D.Disk) (MayHold D.Disk) (must_reopen D.Disk) self.old self.new result }
         ensures count { faults D.Disk self.new ≡ faults_after (faults D.Disk self.old) result }
         ensures node { node_of D.Disk self.new ≡ node_of D.Disk self.old }
         ensures owner { IsHonest D.Disk self.new → OnOk result (owner D.Disk self.new ≡ node_text (node_of D.Disk self.new)) }
         ensures fault { IsHonest D.Disk self.new → IfErr result (IsReopeningFault D.Disk self.old) }
+        ensures spared { OnErr result (HasSpared D.Disk self.old self.new) }
     {
         let files = mem::replace(&mut self.store_state, StoreState::Absent).into_files();
-        match store_from_files(self.alloc, files, self.options, self.node) {
+        match store_from_files(self.alloc, files, self.options, self.node, &mut Nobody) {
             Ok(store) => {
                 self.store_state = StoreState::Open(store);
                 Ok(())

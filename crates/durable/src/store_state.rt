@@ -12,9 +12,9 @@ ghost use Rattle.stores.specs.Faults.{is_device_fault, is_judgement, count_after
 ghost use Rattle.store_tables.specs.Held.{slots_in, node_in, IsStore};
 ghost use Rattle.store_tables.specs.Migrating.{IsOpenedAs};
 ghost use Rattle.durable.specs.Kept.{IsHonest, MayHold, content, owner, disk_faults, must_reopen, is_there, AreFilesOf};
-ghost use Rattle.durable.specs.Opening.{IsOpeningFault};
+ghost use Rattle.durable.specs.Opening.{IsOpeningFault, MayComeOf};
 ghost use Rattle.stores.specs.Records.{Places, written};
-ghost use Rattle.durable.specs.Refusals.{IsRefusal, IsUnharmed};
+ghost use Rattle.durable.specs.Refusals.{IsRefusal, IsUnharmed, AreSpared};
 ghost use Rattle.stores.specs.declared.fault.StoreFault.TheVariants.{Device, Reopen, NoMemory, Full};
 ghost use Rattle.store_tables.specs.Rooms.{LacksRoom};
 
@@ -24,28 +24,18 @@ use crate::opening::open_as_store;
 use sqlite::{Connection, FileStore, Options};
 use sqlite_disk::{Disk, Files};
 use std::alloc::Global;
-use store_tables::{Nobody, Watch};
+use store_tables::Watch;
 use stores::StoreFault;
 use units::Node;
 use wire::Input;
 
 /// The store over the connection, or the files after a reopening that failed.
+#[derive(Drop)]
 pub(crate) enum StoreState<D: Disk + Drop> {
     Open(OpenStore<FileStore<D>>),
     Shut(Files<D>),
     /// Within a reopening alone.
     Absent,
-}
-
-// It is written out, so that a caller does not prove again how each part is dropped.
-impl<D: Disk + Drop> Drop for StoreState<D> {
-    fn drop(self) {
-        match self {
-            StoreState::Open(_store) => {}
-            StoreState::Shut(_files) => {}
-            StoreState::Absent => {}
-        }
-    }
 }
 
 /// How many calls of the device have failed, after this fault too.
@@ -109,7 +99,8 @@ impl<D: Disk + Drop> StoreState<D> {
                 Ok(files) => Ok(files),
                 Err((fault, files)) => Err((fault, files)),
             },
-            StoreState::Shut(_) | StoreState::Absent => unreachable!(),
+            StoreState::Shut(_files) => unreachable!(),
+            StoreState::Absent => unreachable!(),
         }
     }
 
@@ -169,6 +160,7 @@ pub(crate) fn store_over<D: Disk + Drop, W: Watch>(
     ensures refused { IfErr result (λ e. AreClean D.Disk e.1.log e.1.db → HasCleanDisk (file_state conn)) }
     ensures fault { IfErr result (λ e. AreClean D.Disk e.1.log e.1.db → IsOpeningFault name.now (file_state conn).committed e.0) }
     ensures unharmed { IfErr result (λ e. IsTrue (is_judgement e.0) → Hold D.Disk e.1 (λ next. next ≡ (file_state conn).committed.trees)) }
+    ensures spared { IfErr result (λ e. Hold D.Disk e.1 (MayComeOf name.now (file_state conn).committed)) }
 {
     match open_as_store(&mut conn, alloc, name, watch) {
         Ok(count) => Ok(OpenStore::new(alloc, conn, count)),
@@ -176,13 +168,14 @@ pub(crate) fn store_over<D: Disk + Drop, W: Watch>(
     }
 }
 
-/// Opens the files as a store of the node. An error gives them back, and files that were found to be no store of the
-/// node, or to have a damaged record, hold what they held.
-pub(crate) fn store_from_files<D: Disk + Drop>(
+/// Opens the files as a store of the node, and tells the watch how far a migration has come. An error gives them back,
+/// and files that were found to be no store of the node, or to have a damaged record, hold what they held.
+pub(crate) fn store_from_files<D: Disk + Drop, W: Watch>(
     alloc: Global,
     files: Files<D>,
     options: Options,
     node: Node,
+    watch: &mut W,
 ) -> Result<OpenStore<FileStore<D>>, (StoreFault, Files<D>)>
     ensures runs { IfOk result (λ k. k.must_reopen ≡ false) }
     ensures owner { IfOk result (λ k. connected.IsHonest over_files k → node_in (file_state k.conn).committed.trees ≡ node_text node) }
@@ -191,10 +184,11 @@ pub(crate) fn store_from_files<D: Disk + Drop>(
     ensures named { IfErr result (λ e. e.0 ≢ Reopen) }
     ensures fault { IfErr result (λ e. AreClean D.Disk e.1.log e.1.db → IsRefusal D.Disk files (node_text node) e.0) }
     ensures unharmed { IfErr result (λ e. AreClean D.Disk e.1.log e.1.db → IsUnharmed D.Disk files e.0 e.1) }
+    ensures spared { IfErr result (λ e. AreSpared D.Disk (node_text node) files e.1) }
 {
     let Ok(name) = format!(in alloc; "{node}") else {
         return Err((StoreFault::NoMemory, files));
     };
     let conn = open_again(alloc, files, options)?;
-    store_over(alloc, conn, &name, &mut Nobody)
+    store_over(alloc, conn, &name, watch)
 }

@@ -65,7 +65,7 @@ impl Calls {
         }
     }
 
-    /// Reads once, and counts the call.
+    /// Reads once, and counts the call. The piece has room for at least one byte.
     pub fn read<R: Read>(&mut self, reader: &mut R, piece: &mut [u8]) -> Result<usize>
         requires { 0 < length piece.old }
         ensures counts { Counts self.old self.new result }
@@ -77,7 +77,7 @@ impl Calls {
         outcome
     }
 
-    /// Writes once, and counts the call.
+    /// Writes some of the bytes, of which there is at least one, once, and counts the call.
     pub fn write<W: Write>(&mut self, writer: &mut W, bytes: &[u8]) -> Result<usize>
         requires { 0 < length bytes.now }
         ensures counts { Counts self.old self.new result }

@@ -73,7 +73,8 @@ pub enum OpFault {
     /// No run leads to the journals of the stores: followed as far as they go, that node is the first with a record
     /// left, at that place.
     Stuck { node: Node, place: usize },
-    /// What the threads of that node were told isn't what one thread alone would have been told.
+    /// What the threads of that node were told isn't what one thread alone would have been told, or its journal isn't
+    /// recorded under the scheme.
     Unsettled { node: Node },
     /// Out of memory.
     NoMemory,

@@ -1,5 +1,7 @@
 //! What a command's words name: the files and the folder, opened.
-ghost use Rattle.std.specs.Prelude.{◌≡◌, ◌<◌, ◌+◌, ◌++◌, IfOk, OnOk, codes, length, string_bytes};
+ghost use Rattle.std.specs.Prelude.{◌≡◌, ◌++◌, All, IfOk, codes, map, string_bytes};
+ghost use Rattle.durable.specs.Stores.{node_of};
+ghost use Rattle.kyoto_link.specs.Owners.{IsNodes, IsOwn};
 ghost use Rattle.units.specs.Code.{node_text};
 ghost use Rattle.protocol.specs.Registries.{nodes};
 
@@ -7,6 +9,7 @@ use crate::watching::MigrationLine;
 use audit::read_first;
 use durable::SqlStore;
 use inputs::{OpFault, read_scheme, store_fault};
+use protocol::nodes_of;
 use scheme::Scheme;
 use scripts::{ScriptLine, read_script};
 use sqlite::File;
@@ -58,13 +61,15 @@ pub(crate) fn open_store(
     rt: &HostRuntime,
     folder: &str,
     node: Node,
-) -> Result<SqlStore<File>, OpFault> {
+) -> Result<SqlStore<File>, OpFault>
+    ensures { IfOk result (IsNodes _ node) }
+{
     let Ok(path) = store_path(rt.alloc(), folder, node) else {
         return Err(OpFault::NoMemory);
     };
     tell_missing(rt, path.as_str());
     let mut line = MigrationLine::new(rt, node);
-    let opened = SqlStore::open_path_watched(rt, path.as_str(), node, &mut line);
+    let opened = store_files::open_path_watched(rt, path.as_str(), node, &mut line);
     line.finished();
     match opened {
         Ok(store) => Ok(store),
@@ -72,41 +77,30 @@ pub(crate) fn open_store(
     }
 }
 
-/// Opens the store of one node more. Where it can't be opened, a fault in the records of those before it comes first.
-fn open_next(
-    rt: &HostRuntime,
-    scheme: &Scheme,
-    folder: &str,
-    node: Node,
-    stores: &mut Vec<SqlStore<File>>,
-) -> Result<(), OpFault>
-    requires { length stores.old.items < length (nodes scheme.now) }
-    ensures { OnOk result (length stores.new.items ≡ length stores.old.items + 1) }
-{
-    match open_store(rt, folder, node) {
-        Ok(store) => match stores.push(store) {
-            Ok(()) => Ok(()),
-            Err(_) => Err(OpFault::NoMemory),
-        },
-        Err(fault) => {
-            read_first(rt.alloc(), scheme, stores.as_mut_slice())?;
-            Err(fault)
-        }
-    }
-}
-
-/// Opens the stores of all nodes: the log's, then those of the registries in the scheme's order.
+/// Opens the stores of all nodes: the log's, then those of the registries in the scheme's order. Where one can't be opened,
+/// a fault in the records of those before it comes first.
 pub(crate) fn open_stores(
     rt: &HostRuntime,
     scheme: &Scheme,
     folder: &str,
 ) -> Result<Vec<SqlStore<File>>, OpFault>
-    ensures { IfOk result (λ v. length v.items ≡ length (nodes scheme.now)) }
+    ensures whose { IfOk result (λ v. map (node_of _) v.items ≡ nodes scheme.now) }
+    ensures own { IfOk result (λ v. All (IsOwn _) v.items) }
 {
+    let names = nodes_of(rt.alloc(), scheme)?;
     let mut stores = Vec::new(rt.alloc());
-    open_next(rt, scheme, folder, Node::Itl, &mut stores)?;
-    for member in scheme.registries() {
-        open_next(rt, scheme, folder, Node::Registry(member.code), &mut stores)?;
+    for at in 0..names.len() {
+        match open_store(rt, folder, names[at]) {
+            Ok(store) => match stores.push(store) {
+                Ok(()) => {}
+                Err(_) => return Err(OpFault::NoMemory),
+            },
+            // A fault in the records of the stores before it comes first.
+            Err(fault) => {
+                read_first(rt.alloc(), scheme, stores.as_mut_slice())?;
+                return Err(fault);
+            }
+        }
     }
     Ok(stores)
 }

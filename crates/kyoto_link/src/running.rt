@@ -1,16 +1,17 @@
 //! The command `run`.
-ghost use Rattle.std.specs.Prelude.{◌≡◌, IfOk, length, vec_len};
+ghost use Rattle.std.specs.Prelude.{◌≡◌, All, IfOk, length, map, vec_len};
+ghost use Rattle.desk.specs.Views.{opened_with};
 ghost use Rattle.protocol.specs.Registries.{nodes};
 
 use crate::files::{find_folder, open_stores, scheme_at, script_at};
 use crate::watching::{ProgressLine, RunLine};
 use answers::WallClock;
 use audit::load_run;
-use desk::OpenGate;
+use desk::{OpenGate, Stored};
 use durable::SqlStore;
 use inputs::{OpFault, store_fault};
 use protocol::nodes_of;
-use runs::{Loaded, Network, run_script};
+use runs::{Network, run_script};
 use scheme::Scheme;
 use scripts::ScriptLine;
 use sockets::{Port, Ports, open_ports};
@@ -23,28 +24,22 @@ use std::sync::Wait;
 use std::thread::Threads;
 use units::Node;
 use weave::Watch;
+use world::Core;
 
-/// The stores of all nodes, and the states that their records lead to. Fails with `Stuck` where no run leads to these
+/// A node's state, and its store.
+type StoredNode = Stored<Core, SqlStore<File>>;
+
+/// The stores of all nodes, each with the state that its records lead to. Fails with `Stuck` where no run leads to these
 /// records: a run that went on from them would add to them.
-fn load_nodes(
-    rt: &HostRuntime,
-    scheme: &Scheme,
-    folder: &str,
-) -> Result<Loaded<SqlStore<File>>, OpFault>
-    ensures states { IfOk result (λ l. vec_len l.states ≡ length (nodes scheme.now)) }
-    ensures stores { IfOk result (λ l. vec_len l.stores ≡ length (nodes scheme.now)) }
+fn load_nodes(rt: &HostRuntime, scheme: &Scheme, folder: &str) -> Result<Vec<StoredNode>, OpFault>
+    ensures nodes { IfOk result (λ v. map (λ s. s.state.node) v.items ≡ nodes scheme.now) }
+    ensures opened { IfOk result (λ v. All (λ s. s.state ≡ opened_with scheme.now s.state.node s.state.journal) v.items) }
 {
-    let mut stores = open_stores(rt, scheme, folder)?;
+    let stores = open_stores(rt, scheme, folder)?;
     let mut progress = ProgressLine::new(rt);
-    let found = load_run(rt.alloc(), scheme, stores.as_mut_slice(), &mut progress);
+    let loaded = load_run(rt.alloc(), scheme, stores, &mut progress);
     progress.finished();
-    match found {
-        Ok(states) => Ok(Loaded { states, stores }),
-        Err(fault) => {
-            drop(stores);
-            Err(fault)
-        }
-    }
+    loaded
 }
 
 /// A listener for each node.
@@ -64,10 +59,12 @@ fn open_all<R: Net<Listener = TcpListener, Stream = TcpStream>>(
 
 /// Copies each store's log into its database file, which has all its records by itself then, and closes it. Fails with
 /// the first fault of a store, after all of them were closed; the records of that one are in its file and its log.
-fn close_stores(stores: Vec<SqlStore<File>>) -> Result<(), OpFault> {
+fn close_stores(nodes: Vec<StoredNode>) -> Result<(), OpFault> {
     let mut first = Ok(());
-    for store in stores {
-        let node = store.node();
+    for stored in nodes {
+        let (state, store) = stored.into_parts();
+        let node = state.node();
+        drop(state);
         if let Err(fault) = store.checkpoint() {
             first = first.and(Err(store_fault(node, fault)));
         }
@@ -82,12 +79,12 @@ fn run_loaded<R>(
     threads: &R,
     scheme: &Scheme,
     lines: &[ScriptLine],
-    loaded: Loaded<SqlStore<File>>,
+    loaded: Vec<StoredNode>,
 ) -> Result<(), OpFault>
 where
     R: Threads + Wait + SystemClock + Net<Listener = TcpListener, Stream = TcpStream> + Sync,
-    requires states { vec_len loaded.states ≡ length (nodes scheme.now) }
-    requires stores { vec_len loaded.stores ≡ length (nodes scheme.now) }
+    requires nodes { map (λ s. s.state.node) loaded.items ≡ nodes scheme.now }
+    requires opened { All (λ s. s.state ≡ opened_with scheme.now s.state.node s.state.journal) loaded.items }
 {
     let nodes = nodes_of(rt.alloc(), scheme)?;
     let listeners = open_all(rt, threads, nodes.as_slice())?;

@@ -19,7 +19,7 @@ use Rattle.protocol.specs.declared.event.WorldEvent.{WorldEvent}
 use Rattle.protocol.specs.declared.event.WorldEvent.TheVariants.{Take, Commit, Post, Deliver, Crash, Restart}
 use Rattle.chart_lines.specs.ChartLines.{lost_line, participant_line, wide_note_line}
 use Rattle.operator.specs.Chart.{Happening, HasDrawn, IsChart, IsDrawn, chart_text, delivers, first_ones, happening, happening_line, happening_nodes, happenings, is_delivered, lost, message_of, participants, parties}
-use Rattle.tables.specs.Table.{IsTable}
+use Rattle.tables.specs.Table.{IsSafeTable}
 use Rattle.rehearsals.proofs.Runs.{run-snoc}
 
 flat_snoc : {X A : Type 0} (f : X → List A) (xs : List X) (x : X) → flat_map f (xs ++ x ∷ []) ≡ flat_map f xs ++ f x
@@ -133,7 +133,7 @@ module _ (scheme : Scheme) (events : List WorldEvent) (w : World) (named : List 
   abbrev all : List Happening
   all = happenings (opening scheme) events
 
-  pub charted : (never : List Message) (nodes : List Node) (front table text : List ℕ) → never ≡ lost all w.bag → nodes ≡ participants all never → IsTable w table
+  pub charted : (never : List Message) (nodes : List Node) (front table text : List ℕ) → never ≡ lost all w.bag → nodes ≡ participants all never → IsSafeTable scheme events table
       → front ≡ codes "sequenceDiagram\n" ++ flat_map participant_line nodes ++ lines ++ flat_map lost_line never → text ≡ front ++ wide_note_line nodes table → IsChart scheme events text
   charted never nodes front table text lacks takes is begins ends =
       let v = run (opening scheme) events in
@@ -143,7 +143,7 @@ module _ (scheme : Scheme) (events : List WorldEvent) (w : World) (named : List 
       let text_of : List Node → List ℕ → List Message → List ℕ = λ ns ls ms. head ++ part ns ++ ls ++ flat_map lost_line ms ++ wide_note_line ns table in
       record {
         table = table;
-        is_table = subst (λ (x : World). IsTable x table) drawn.world is;
+        is_table = is;
         spelled =
             ends ∙ ap (λ (l : List ℕ). l ++ wide_note_line nodes table) begins
             ∙ ap (λ (ns : List Node). text_of ns lines never) takes

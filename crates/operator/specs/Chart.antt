@@ -14,7 +14,7 @@ use Rattle.protocol.specs.declared.event.Posted.{Posted}
 use Rattle.protocol.specs.declared.event.WorldEvent.{WorldEvent}
 use Rattle.protocol.specs.declared.event.WorldEvent.TheVariants.{Take, Commit, Post, Deliver, Crash, Restart}
 use Rattle.chart_lines.specs.ChartLines.{event_line, lost_line, participant_line, wide_note_line}
-use Rattle.tables.specs.Table.{IsTable}
+use Rattle.tables.specs.Table.{IsSafeTable}
 
 -- ---- what happened
 
@@ -100,10 +100,10 @@ chart_text hs never table =
     ++ flat_map lost_line never
     ++ wide_note_line (participants hs never) table
 
--- the text is the chart of the events under the scheme
+-- the text is the chart of the events under the scheme, with the table of the world that they lead to
 pub record IsChart (scheme : Scheme) (events : List WorldEvent) (text : List ℕ) : Type 0 where
   pub table : List ℕ
-  pub is_table : IsTable (run (opening scheme) events) table
+  pub is_table : IsSafeTable scheme events table
   pub spelled : text ≡ chart_text (happenings (opening scheme) events) (lost (happenings (opening scheme) events) (run (opening scheme) events).bag) table
 
 -- ---- what the code follows; no public contract cites what stands below

@@ -8,11 +8,12 @@ ghost use Rattle.std.specs.Ordering.{nat_cmp};
 ghost use Rattle.units.specs.Code.{same_node};
 ghost use Rattle.units.specs.declared.code.Node.{Node};
 ghost use Rattle.scheme.specs.declared.registries.Scheme.{Scheme};
+ghost use Rattle.protocol.specs.World.{opening, run};
 ghost use Rattle.protocol.specs.declared.event.WorldEvent.{WorldEvent};
 ghost use Rattle.chart_lines.specs.ChartLines.{lost_line, participant_line, wide_note_line};
 ghost use Rattle.operator.specs.Chart.{HasDrawn, Happening, IsChart, IsDrawn, arrives, delivers, event_nodes, first_ones, is_delivered, lost, message_of, parties};
 ghost use Rattle.rehearsals.specs.Rehearsal.{Reports, FailsSo};
-ghost use Rattle.tables.specs.Table.{IsTable};
+ghost use Rattle.tables.specs.Table.{IsSafeTable};
 
 use chart_lines::{push_event, push_lost, push_participant, push_wide_note};
 use inputs::OpFault;
@@ -220,7 +221,8 @@ fn push_table_note(
     nodes: &[Node],
     world: &World,
 ) -> Result<(), NoMemory>
-    ensures { OnOk result ((table : List ℕ) × IsTable world.now table × (string_bytes text.new ≡ string_bytes text.old ++ wide_note_line nodes.now table)) }
+    ensures { (scheme : Scheme) (events : List WorldEvent) → world.now ≡ run (opening scheme) events
+        → OnOk result ((table : List ℕ) × IsSafeTable scheme events table × (string_bytes text.new ≡ string_bytes text.old ++ wide_note_line nodes.now table)) }
 {
     let mut table = String::new(alloc);
     push_table(alloc, &mut table, world)?;

@@ -1,7 +1,7 @@
 -- Which nodes send to which; lists that grow by an element, seen by a part of each.
-use Rattle.std.proofs.Common.{◌≡◌, ℕ, zero, suc, ◌+◌, ◌<◌, List, [], ◌∷◌, ◌++◌, length, take, drop, map, get_or, refl, ap, sym, ◌∙◌, arith, append-nil, append_assoc, length-append}
+use Rattle.std.proofs.Common.{◌≡◌, ℕ, zero, suc, ◌+◌, ◌<◌, List, [], ◌∷◌, ◌++◌, length, take, drop, map, get_or, refl, ap, sym, ◌∙◌, arith, length-append}
 use Rattle.std.specs.Prelude.{slice_get, Some}
-use Rattle.std.proofs.lemmas.List.{length-map, map-append, nil_from_length, take_all, take_more}
+use Rattle.std.proofs.lemmas.List.{length-map, map-append, take_all, take_more}
 use Rattle.units.specs.declared.code.Node.{Node}
 use Rattle.playing.specs.Wiring.{peers_of}
 
@@ -24,10 +24,6 @@ pub part_more : {X Y : Type 0} (f : X → Y) (xs : List X) (x : X) (zs : List X)
 part_more f xs x zs ys k more low same item =
     ap (map f) more ∙ map-append f xs (x ∷ []) ∙ ap (λ t. t ++ f x ∷ []) same ∙ ap (λ y. take k ys ++ y ∷ []) item ∙ sym (take_more ys k (f x) low)
 
--- one element more, whose part is the first of what is left
-pub part_moved : {X Y : Type 0} (f : X → Y) (xs : List X) (x : X) (zs : List X) (rest ys : List Y) → zs ≡ xs ++ x ∷ [] → map f xs ++ f x ∷ rest ≡ ys → map f zs ++ rest ≡ ys
-part_moved f xs x zs rest ys more same = ap (λ t. map f t ++ rest) more ∙ ap (λ t. t ++ rest) (map-append f xs (x ∷ [])) ∙ append_assoc (map f xs) (f x ∷ []) rest ∙ same
-
 -- as many
 pub pushed_count : {X : Type 0} (xs : List X) (x : X) (zs : List X) (k : ℕ) → zs ≡ xs ++ x ∷ [] → length xs ≡ k → length zs ≡ k + 1
 pushed_count xs x zs k more same = ap (λ l. length l) more ∙ length-append xs (x ∷ []) ∙ ap (λ n. n + 1) same
@@ -41,6 +37,3 @@ peers_count (log ∷ registries) = ap suc (length-map registries (λ r. log ∷ 
 
 pub part_whole : {X Y : Type 0} (f : X → Y) (xs : List X) (ys : List Y) (k : ℕ) → map f xs ≡ take k ys → length ys ≡ k → map f xs ≡ ys
 part_whole f xs ys k same whole = same ∙ take_all k ys (omega (arith, whole))
-
-pub all_moved : {X Y : Type 0} (f : X → Y) (xs : List X) (rest ys : List Y) → length rest ≡ 0 → map f xs ++ rest ≡ ys → map f xs ≡ ys
-all_moved f xs rest ys none same = sym (append-nil (map f xs)) ∙ ap (λ l. map f xs ++ l) (sym (nil_from_length rest none)) ∙ same

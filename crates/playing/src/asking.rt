@@ -5,7 +5,7 @@ ghost use Rattle.playing.specs.Answers.{asked_by};
 ghost use Rattle.playing.specs.Heard.{Grows, HasHeard, IsConfirmed};
 
 use crate::watch::{Watch, tell_committed};
-use desk::{Asked, Bell, Desk, Seat, Taken, Told};
+use desk::{Asked, Bell, Desk, Opening, Seat, Taken, Told};
 use protocol::NodeCore;
 use scripts::ScriptLine;
 use status::{Status, TransactionId};
@@ -13,6 +13,7 @@ use std::rt::Clock as SystemClock;
 use std::sync::Wait;
 use std::thread;
 use std::time::Duration;
+use stores::NodeStore;
 use units::Refusal;
 use units::refusal_code::{NODE_STOPPED, OUT_OF_MEMORY};
 use wire::Input;
@@ -32,9 +33,9 @@ fn is_unjudged(told: Told) -> bool
 
 /// What was told, once all records are committed that the journal had then; at once where no journal judged it. Refusal
 /// `NODE_STOPPED` where the node stopped before.
-fn confirmed<C: NodeCore, B: Bell, R: Wait + SystemClock>(
+fn confirmed<O: Opening, C: NodeCore, S: NodeStore, B: Bell, R: Wait + SystemClock>(
     rt: &R,
-    desk: &Desk<C, B>,
+    desk: &Desk<O, C, S, B>,
     seat: &mut Seat,
     taken: Taken,
 ) -> Told
@@ -55,9 +56,9 @@ fn confirmed<C: NodeCore, B: Bell, R: Wait + SystemClock>(
 }
 
 /// What the node tells of an order, once its record is committed.
-fn order<C: NodeCore, B: Bell, R: Wait + SystemClock>(
+fn order<O: Opening, C: NodeCore, S: NodeStore, B: Bell, R: Wait + SystemClock>(
     rt: &R,
-    desk: &Desk<C, B>,
+    desk: &Desk<O, C, S, B>,
     seat: &mut Seat,
     input: Input,
 ) -> Told
@@ -69,9 +70,9 @@ fn order<C: NodeCore, B: Bell, R: Wait + SystemClock>(
 }
 
 /// The same of a copy of the order; refusal `OUT_OF_MEMORY` where there is no memory for one.
-fn order_copy<C: NodeCore, B: Bell, R: Wait + SystemClock>(
+fn order_copy<O: Opening, C: NodeCore, S: NodeStore, B: Bell, R: Wait + SystemClock>(
     rt: &R,
-    desk: &Desk<C, B>,
+    desk: &Desk<O, C, S, B>,
     seat: &mut Seat,
     input: &Input,
 ) -> Told
@@ -85,9 +86,9 @@ fn order_copy<C: NodeCore, B: Bell, R: Wait + SystemClock>(
 }
 
 /// Where the transaction stands at the node, once what says so is committed.
-fn question<C: NodeCore, B: Bell, R: Wait + SystemClock>(
+fn question<O: Opening, C: NodeCore, S: NodeStore, B: Bell, R: Wait + SystemClock>(
     rt: &R,
-    desk: &Desk<C, B>,
+    desk: &Desk<O, C, S, B>,
     seat: &mut Seat,
     id: TransactionId,
 ) -> Told
@@ -117,9 +118,9 @@ struct Awaited {
 
 /// Asks where the transaction stands until it has that status, at most that many times, and returns what was told
 /// last. A stopped node isn't asked again.
-fn question_until<C: NodeCore, B: Bell, P: Watch, R: Wait + SystemClock>(
+fn question_until<O: Opening, C: NodeCore, S: NodeStore, B: Bell, P: Watch, R: Wait + SystemClock>(
     rt: &R,
-    desks: &[Desk<C, B>],
+    desks: &[Desk<O, C, S, B>],
     at: usize,
     seat: &mut Seat,
     awaited: Awaited,
@@ -142,9 +143,9 @@ fn question_until<C: NodeCore, B: Bell, P: Watch, R: Wait + SystemClock>(
 }
 
 /// What the node at that place tells of a line of a script.
-pub(crate) fn ask<C: NodeCore, B: Bell, P: Watch, R: Wait + SystemClock>(
+pub(crate) fn ask<O: Opening, C: NodeCore, S: NodeStore, B: Bell, P: Watch, R: Wait + SystemClock>(
     rt: &R,
-    desks: &[Desk<C, B>],
+    desks: &[Desk<O, C, S, B>],
     at: usize,
     seat: &mut Seat,
     line: &ScriptLine,

@@ -9,6 +9,6 @@ mod watch;
 mod wiring;
 
 pub use answer::{Answer, lines_of};
-pub use threads::{Ends, Loaded, Played, Run, run_and_play};
+pub use threads::{Ends, Played, Run, run_and_play};
 pub use watch::Watch;
 pub use wiring::Network;

@@ -9,13 +9,14 @@ ghost use Rattle.playing.specs.Heard.{AllGrow, AreHeard, IsHeard};
 use crate::answer::Answer;
 use crate::asking::ask;
 use crate::watch::{Watch, tell_committed};
-use desk::{Bell, Desk, Seat};
+use desk::{Bell, Desk, Opening, Seat};
 use protocol::{NodeCore, place_of};
 use scheme::Scheme;
 use scripts::ScriptLine;
 use std::alloc::Global;
 use std::rt::Clock as SystemClock;
 use std::sync::Wait;
+use stores::NodeStore;
 use units::{NoMemory, Node};
 use wire::Input;
 
@@ -50,10 +51,10 @@ fn place_for(scheme: &Scheme, line: &ScriptLine) -> Option<usize>
 }
 
 /// What a line comes to.
-fn play<C: NodeCore, B: Bell, P: Watch, R: Wait + SystemClock>(
+fn play<O: Opening, C: NodeCore, S: NodeStore, B: Bell, P: Watch, R: Wait + SystemClock>(
     rt: &R,
     scheme: &Scheme,
-    desks: &[Desk<C, B>],
+    desks: &[Desk<O, C, S, B>],
     seats: &mut [Seat],
     line: &ScriptLine,
     watch: &mut P,
@@ -79,11 +80,18 @@ fn push(answers: &mut Vec<Answer>, answer: Answer) -> Result<(), NoMemory>
 
 /// What the lines come to, one after another. Tells of each that was answered. Fails with `NoMemory` where memory ran
 /// out for the answers, before the first line.
-pub(crate) fn play_all<C: NodeCore, B: Bell, P: Watch, R: Wait + SystemClock>(
+pub(crate) fn play_all<
+    O: Opening,
+    C: NodeCore,
+    S: NodeStore,
+    B: Bell,
+    P: Watch,
+    R: Wait + SystemClock,
+>(
     rt: &R,
     alloc: Global,
     scheme: &Scheme,
-    desks: &[Desk<C, B>],
+    desks: &[Desk<O, C, S, B>],
     seats: &mut [Seat],
     lines: &[ScriptLine],
     watch: &mut P,

@@ -1,6 +1,7 @@
 //! The threads of all nodes, and the one that plays a script.
-ghost use Rattle.std.specs.Prelude.{◌≡◌, length, vec_len, IfOk};
+ghost use Rattle.std.specs.Prelude.{◌≡◌, All, length, vec_len, IfOk};
 ghost use Rattle.std.specs.Thread.{IsSync};
+ghost use Rattle.desk.specs.Keeping.{MayOpen};
 ghost use Rattle.protocol.specs.Registries.{nodes};
 ghost use Rattle.playing.specs.Heard.{AreHeard};
 
@@ -9,13 +10,11 @@ use crate::playing::play_all;
 use crate::watch::Watch;
 use crate::wiring::{Network, desks_of, nodes_to_run};
 use answers::Clock;
-use desk::{Bell, Desk, Gate, RoomBell, Seat, State};
+use desk::{Desk, Gate, Opening, RoomBell, Seat, Stored};
 use protocol::nodes_of;
 use scheme::Scheme;
 use scripts::ScriptLine;
-use sessions::{
-    Dial, LONGEST_MUSTER, Listen, Muster, Mustered, NodeEnd, NodeToRun, run_all, threads_of,
-};
+use sessions::{Dial, LONGEST_MUSTER, Listen, Muster, Mustered, NodeParts, run_all, threads_of};
 use std::alloc::Global;
 use std::rt::Clock as SystemClock;
 use std::sync::Wait;
@@ -26,17 +25,9 @@ use stores::NodeStore;
 use units::{NoMemory, Node};
 use world::Core;
 
-/// The states of all nodes, and the stores that they were loaded from: those of the log, and then those of the
-/// registries in the scheme's order.
-#[derive(Drop)]
-pub struct Loaded<S> {
-    pub states: Vec<State<Core>>,
-    pub stores: Vec<S>,
-}
-
-/// How the nodes' threads ended, in the order of the nodes: for each its seats, its store and the fault of that, or that
-/// memory ran out for its threads. `NoMemory` where no thread was started.
-pub type Ends<S> = Result<Vec<Result<NodeEnd<S>, NoMemory>>, NoMemory>;
+/// The seats of each node's threads, in the order of the nodes, or `NoMemory` where memory ran out for its threads.
+/// `NoMemory` in place of the list where no thread was started.
+pub type Ends = Result<Vec<Result<Vec<Seat>, NoMemory>>, NoMemory>;
 
 /// What a script came to, an answer for each line, and the seats that it was told that with, one at each desk.
 #[derive(Drop)]
@@ -45,30 +36,31 @@ pub struct Played {
     pub answers: Vec<Answer>,
 }
 
-/// What a run left: the desks of all nodes, how their threads ended, and what the script came to, or that memory ran out
-/// for its answers or the system had no thread for a node.
+/// What a run left: the desks of all nodes, how their threads ended, and the script's answers and seats, or `NoMemory`
+/// where memory ran out for them or the system had no thread for a node.
 #[derive(Drop)]
-pub struct Run<S> {
-    pub desks: Vec<Desk<Core, RoomBell>>,
-    pub ends: Ends<S>,
+pub struct Run<O: Opening, S: NodeStore> {
+    pub desks: Vec<Desk<O, Core, S, RoomBell>>,
+    pub ends: Ends,
     pub played: Result<Played, NoMemory>,
 }
 
 /// All desks stop.
-fn stop_all<R: Wait>(rt: &R, desks: &[Desk<Core, RoomBell>]) {
+fn stop_all<O: Opening, S: NodeStore, R: Wait>(rt: &R, desks: &[Desk<O, Core, S, RoomBell>]) {
     for desk in desks {
         desk.stop(rt);
     }
 }
 
 /// Runs the nodes. Where no thread was started, all desks stop, so that nobody waits for a commit.
-fn run_or_stop<S, L, D, K, G, R>(
+fn run_or_stop<O, S, L, D, K, G, R>(
     rt: &R,
     alloc: Global,
-    desks: &[Desk<Core, RoomBell>],
-    stations: Vec<NodeToRun<'_, Core, RoomBell, L, D, K, G, S>>,
-) -> Ends<S>
+    desks: &[Desk<O, Core, S, RoomBell>],
+    stations: Vec<NodeParts<'_, O, Core, S, RoomBell, L, D, K, G>>,
+) -> Ends
 where
+    O: Opening + Send,
     S: NodeStore + Send + Drop,
     L: Listen + Sync,
     D: Dial + Sync,
@@ -96,11 +88,11 @@ fn new_seats(alloc: Global, count: usize) -> Result<Vec<Seat>, NoMemory>
 }
 
 /// Plays the script with new seats.
-fn play_with_seats<P: Watch, R: Wait + SystemClock>(
+fn play_with_seats<O: Opening, S: NodeStore, P: Watch, R: Wait + SystemClock>(
     rt: &R,
     alloc: Global,
     scheme: &Scheme,
-    desks: &[Desk<Core, RoomBell>],
+    desks: &[Desk<O, Core, S, RoomBell>],
     lines: &[ScriptLine],
     watch: &mut P,
 ) -> Result<Played, NoMemory>
@@ -114,23 +106,23 @@ fn play_with_seats<P: Watch, R: Wait + SystemClock>(
 }
 
 /// How many threads those nodes have.
-fn threads_of_all<S, L, D, K, G>(
-    stations: &[NodeToRun<'_, Core, RoomBell, L, D, K, G, S>],
+fn threads_of_all<O: Opening, S: NodeStore, L, D, K, G>(
+    stations: &[NodeParts<'_, O, Core, S, RoomBell, L, D, K, G>],
 ) -> usize {
     let mut threads: usize = 0;
     for station in stations {
-        threads = threads.saturating_add(threads_of(station.parts.peers.len()));
+        threads = threads.saturating_add(threads_of(station.peers.len()));
     }
     threads
 }
 
-/// Plays the script with new seats once that many threads of the nodes have reported. Fails with `NoMemory` where one is
-/// missing: then no order was given and nothing asked.
-fn play_mustered<P: Watch, R: Wait + SystemClock>(
+/// Plays the script with new seats once that many threads of the nodes have reported. Fails with `NoMemory` where one
+/// is missing: then no order was given and nothing asked.
+fn play_mustered<O: Opening, S: NodeStore, P: Watch, R: Wait + SystemClock>(
     rt: &R,
     alloc: Global,
     scheme: &Scheme,
-    desks: &[Desk<Core, RoomBell>],
+    desks: &[Desk<O, Core, S, RoomBell>],
     lines: &[ScriptLine],
     muster: &Muster,
     threads: usize,
@@ -147,11 +139,11 @@ fn play_mustered<P: Watch, R: Wait + SystemClock>(
 }
 
 /// Plays the script once all threads have reported, and then stops all nodes.
-fn play_and_stop<P: Watch, R: Wait + SystemClock>(
+fn play_and_stop<O: Opening, S: NodeStore, P: Watch, R: Wait + SystemClock>(
     rt: &R,
     alloc: Global,
     scheme: &Scheme,
-    desks: &[Desk<Core, RoomBell>],
+    desks: &[Desk<O, Core, S, RoomBell>],
     lines: &[ScriptLine],
     muster: &Muster,
     threads: usize,
@@ -172,17 +164,18 @@ fn play_and_stop<P: Watch, R: Wait + SystemClock>(
 ///
 /// Where the system has no thread for the nodes, they begin when the script has ended: it was not played, since no
 /// thread reported, and all desks have stopped, so that they end at once.
-fn run_beside_script<S, L, D, K, G, P, R>(
+fn run_beside_script<O, S, L, D, K, G, P, R>(
     rt: &R,
     alloc: Global,
     scheme: &Scheme,
-    desks: &[Desk<Core, RoomBell>],
+    desks: &[Desk<O, Core, S, RoomBell>],
     lines: &[ScriptLine],
     muster: &Muster,
-    stations: Vec<NodeToRun<'_, Core, RoomBell, L, D, K, G, S>>,
+    stations: Vec<NodeParts<'_, O, Core, S, RoomBell, L, D, K, G>>,
     watch: &mut P,
-) -> (Ends<S>, Result<Played, NoMemory>)
+) -> (Ends, Result<Played, NoMemory>)
 where
+    O: Opening + Send,
     S: NodeStore + Send + Drop,
     L: Listen + Sync,
     D: Dial + Sync,
@@ -198,7 +191,7 @@ where
     let threads = threads_of_all(stations.as_slice());
     thread::join(
         rt,
-        move || -> Ends<S>
+        move || -> Ends
             requires { IsSync R.row }
             ensures { IfOk result (λ v. vec_len v ≡ vec_len stations.entry) }
         { run_or_stop(rt, alloc, desks, stations) },
@@ -213,25 +206,24 @@ where
 /// All nodes, the log and then the registries in the scheme's order, the desk of each, and where the threads of all
 /// report.
 #[derive(Drop)]
-struct NodesAtDesks {
+struct NodesAtDesks<O: Opening, S: NodeStore> {
     nodes: Vec<Node>,
-    desks: Vec<Desk<Core, RoomBell>>,
+    desks: Vec<Desk<O, Core, S, RoomBell>>,
     muster: Muster,
 }
 
-/// Runs the nodes in threads of their own while the script is played, each with the store at its place, as
-/// `run_beside_script` does.
-fn run_wired<'a, S, L, D, K, G, P, R>(
+/// Runs the nodes in threads of their own while the script is played, as `run_beside_script` does.
+fn run_wired<O, S, L, D, K, G, P, R>(
     rt: &R,
     alloc: Global,
     scheme: &Scheme,
     lines: &[ScriptLine],
-    all: &'a NodesAtDesks,
-    stores: Vec<S>,
-    network: &Network<'a, L, D, K, G>,
+    all: &NodesAtDesks<O, S>,
+    network: &Network<'_, L, D, K, G>,
     watch: &mut P,
-) -> Result<(Ends<S>, Result<Played, NoMemory>), NoMemory>
+) -> Result<(Ends, Result<Played, NoMemory>), NoMemory>
 where
+    O: Opening + Send,
     S: NodeStore + Send + Drop,
     L: Listen + Sync,
     D: Dial + Sync,
@@ -241,7 +233,6 @@ where
     R: Threads + Wait + SystemClock + Sync,
     requires names { all.now.nodes.items ≡ nodes scheme.now }
     requires desks { vec_len all.now.desks ≡ length (nodes scheme.now) }
-    requires stores { vec_len stores ≡ length (nodes scheme.now) }
     requires listeners { length network.now.listeners.now ≡ length (nodes scheme.now) }
     ensures ends { IfOk result (λ r. IfOk r.0 (λ v. vec_len v ≡ length (nodes scheme.now))) }
     ensures heard { IfOk result (λ r. IfOk r.1 (λ p. AreHeard scheme.now p.seats.items lines.now p.answers.items)) }
@@ -249,31 +240,32 @@ where
 {
     let desks = all.desks.as_slice();
     let names = all.nodes.as_slice();
-    let nodes = nodes_to_run(alloc, names, desks, network, &all.muster, stores)?;
+    let nodes = nodes_to_run(alloc, names, desks, network, &all.muster)?;
     Ok(run_beside_script(rt, alloc, scheme, desks, lines, &all.muster, nodes, watch))
 }
 
-/// Makes a desk of each node's state, and runs the nodes in threads of their own while the script's lines are ordered
+/// Makes a desk of each node's state and its store, and runs the nodes in threads of their own while the script's lines are ordered
 /// and asked one after another; then stops all nodes, and returns once their threads have ended. The first line waits
 /// for all threads to begin. The watch is told of each line. Each order and each question is answered once all records
 /// are committed that the node's journal had then.
 ///
 /// # Errors
 ///
-/// Fails with `NoMemory` where memory ran out before a thread was started. In what it returns `ends` is `NoMemory` where
-/// memory for the threads ran out, and `played` where memory for the answers did. `played` is `NoMemory` also where the
-/// system had too few threads: some were missing, and for `LONGEST_MUSTER` seconds no further one began. Then no line
-/// was ordered or asked. All nodes have stopped in any case.
-pub fn run_and_play<S, L, D, K, G, P, R>(
+/// Fails with `NoMemory` where memory ran out before a thread was started. In what it returns `ends` is `NoMemory`
+/// where memory for the threads ran out, and `played` where memory for the answers did. `played` is `NoMemory` also
+/// where the system had too few threads: some were missing, and for `LONGEST_MUSTER` seconds no further one began. Then
+/// no line was ordered or asked. All nodes have stopped in any case.
+pub fn run_and_play<O, S, L, D, K, G, P, R>(
     rt: &R,
     alloc: Global,
     scheme: &Scheme,
     lines: &[ScriptLine],
-    loaded: Loaded<S>,
+    loaded: Vec<Stored<Core, S>>,
     network: &Network<'_, L, D, K, G>,
     watch: &mut P,
-) -> Result<Run<S>, NoMemory>
+) -> Result<Run<O, S>, NoMemory>
 where
+    O: Opening + Send,
     S: NodeStore + Send + Drop,
     L: Listen + Sync,
     D: Dial + Sync,
@@ -281,21 +273,20 @@ where
     G: Gate + Sync,
     P: Watch,
     R: Threads + Wait + SystemClock + Sync,
-    requires states { vec_len loaded.states ≡ length (nodes scheme.now) }
-    requires stores { vec_len loaded.stores ≡ length (nodes scheme.now) }
+    requires count { vec_len loaded ≡ length (nodes scheme.now) }
+    requires may_open { All (MayOpen S.NodeStore O.opened) loaded.items }
     requires listeners { length network.now.listeners.now ≡ length (nodes scheme.now) }
     ensures desks { IfOk result (λ r. vec_len r.desks ≡ length (nodes scheme.now)) }
     ensures ends { IfOk result (λ r. IfOk r.ends (λ v. vec_len v ≡ length (nodes scheme.now))) }
     ensures heard { IfOk result (λ r. IfOk r.played (λ p. AreHeard scheme.now p.seats.items lines.now p.answers.items)) }
     ensures seats { IfOk result (λ r. IfOk r.played (λ p. vec_len p.seats ≡ length (nodes scheme.now))) }
 {
-    let Loaded { states, stores } = loaded;
     let all = NodesAtDesks {
         nodes: nodes_of(alloc, scheme)?,
-        desks: desks_of(alloc, states)?,
+        desks: desks_of(alloc, loaded)?,
         muster: Muster::new(),
     };
-    let (ends, played) = run_wired(rt, alloc, scheme, lines, &all, stores, network, watch)?;
+    let (ends, played) = run_wired(rt, alloc, scheme, lines, &all, network, watch)?;
     Ok(Run {
         desks: all.desks,
         ends,

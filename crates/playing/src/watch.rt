@@ -1,8 +1,9 @@
 //! Who is told how far a script has come.
 
-use desk::{Bell, Desk};
+use desk::{Bell, Desk, Opening};
 use protocol::NodeCore;
 use std::sync::Wait;
+use stores::NodeStore;
 
 /// What is told while a script is played. It changes nothing of what comes of the script.
 pub trait Watch {
@@ -18,9 +19,9 @@ pub trait Watch {
 }
 
 /// Tells how many records the nodes have committed, where that is due.
-pub(crate) fn tell_committed<C: NodeCore, B: Bell, P: Watch, R: Wait>(
+pub(crate) fn tell_committed<O: Opening, C: NodeCore, S: NodeStore, B: Bell, P: Watch, R: Wait>(
     rt: &R,
-    desks: &[Desk<C, B>],
+    desks: &[Desk<O, C, S, B>],
     watch: &mut P,
 ) {
     if !watch.is_due() {

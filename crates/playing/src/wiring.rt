@@ -1,9 +1,10 @@
-//! The nodes of a run, each with its desk, its store and its connections.
-ghost use Rattle.std.specs.Prelude.{◌≡◌, ◌<◌, ◌+◌, length, map, slice_get, vec_len, IfOk, OnOk};
+//! The nodes of a run, each with its desk and its connections.
+ghost use Rattle.std.specs.Prelude.{◌≡◌, ◌<◌, ◌+◌, All, length, map, slice_get, vec_len, IfOk, OnOk};
+ghost use Rattle.desk.specs.Keeping.{MayOpen};
 ghost use Rattle.playing.specs.Wiring.{peers_of};
 
-use desk::{Desk, RoomBell, State};
-use sessions::{Muster, NodeParts, NodeToRun};
+use desk::{Desk, Opening, RoomBell, Stored};
+use sessions::{Muster, NodeParts};
 use std::alloc::Global;
 use stores::NodeStore;
 use units::{NoMemory, Node};
@@ -19,9 +20,9 @@ pub struct Network<'a, L, D, K, G> {
     pub gate: &'a G,
 }
 
-fn push_desk(
-    desks: &mut Vec<Desk<Core, RoomBell>>,
-    desk: Desk<Core, RoomBell>,
+fn push_desk<O: Opening, S: NodeStore + Drop>(
+    desks: &mut Vec<Desk<O, Core, S, RoomBell>>,
+    desk: Desk<O, Core, S, RoomBell>,
 ) -> Result<(), NoMemory>
     ensures { OnOk result (length desks.new.items ≡ length desks.old.items + 1) }
 {
@@ -29,16 +30,17 @@ fn push_desk(
     Ok(())
 }
 
-/// A desk for each state.
-pub(crate) fn desks_of(
+/// A desk for each state with its store.
+pub(crate) fn desks_of<O: Opening, S: NodeStore + Drop>(
     alloc: Global,
-    states: Vec<State<Core>>,
-) -> Result<Vec<Desk<Core, RoomBell>>, NoMemory>
-    ensures { IfOk result (λ v. vec_len v ≡ vec_len states) }
+    nodes: Vec<Stored<Core, S>>,
+) -> Result<Vec<Desk<O, Core, S, RoomBell>>, NoMemory>
+    requires { All (MayOpen S.NodeStore O.opened) nodes.items }
+    ensures { IfOk result (λ v. vec_len v ≡ vec_len nodes) }
 {
     let mut desks = Vec::new(alloc);
-    for state in states {
-        push_desk(&mut desks, Desk::new(state, RoomBell::new()))?;
+    for stored in nodes {
+        push_desk(&mut desks, Desk::new(stored, RoomBell::new()))?;
     }
     Ok(desks)
 }
@@ -51,32 +53,29 @@ fn peers_at(names: &[Node], at: usize) -> &[Node]
     if at == 0 { &names[1..] } else { &names[..1] }
 }
 
-/// The nodes to run: each with the desk, the listener and the store at its place, and with the nodes that it sends to.
-/// The threads of all report at that muster.
-pub(crate) fn nodes_to_run<'a, S, L, D, K, G>(
+/// The nodes to run: each with the desk and the listener at its place, and with the nodes that it sends to. The threads
+/// of all report at that muster.
+pub(crate) fn nodes_to_run<'a, O, S, L, D, K, G>(
     alloc: Global,
     names: &'a [Node],
-    desks: &'a [Desk<Core, RoomBell>],
+    desks: &'a [Desk<O, Core, S, RoomBell>],
     network: &Network<'a, L, D, K, G>,
     muster: &'a Muster,
-    stores: Vec<S>,
-) -> Result<Vec<NodeToRun<'a, Core, RoomBell, L, D, K, G, S>>, NoMemory>
+) -> Result<Vec<NodeParts<'a, O, Core, S, RoomBell, L, D, K, G>>, NoMemory>
 where
-    S: NodeStore + Drop,
+    O: Opening,
+    S: NodeStore,
     requires desks { length desks.now ≡ length names.now }
     requires listeners { length network.now.listeners.now ≡ length names.now }
-    requires stores { vec_len stores ≡ length names.now }
     ensures count { IfOk result (λ v. vec_len v ≡ length names.now) }
-    ensures names { IfOk result (λ v. map (λ n. n.parts.node) v.items ≡ names.now) }
-    ensures desks { IfOk result (λ v. map (λ n. n.parts.desk.now) v.items ≡ desks.now) }
-    ensures listeners { IfOk result (λ v. map (λ n. n.parts.listen.now) v.items ≡ network.now.listeners.now) }
-    ensures peers { IfOk result (λ v. map (λ n. n.parts.peers.now) v.items ≡ peers_of names.now) }
-    ensures stores { IfOk result (λ v. map (λ n. n.store) v.items ≡ stores.items) }
+    ensures names { IfOk result (λ v. map (λ n. n.node) v.items ≡ names.now) }
+    ensures desks { IfOk result (λ v. map (λ n. n.desk.now) v.items ≡ desks.now) }
+    ensures listeners { IfOk result (λ v. map (λ n. n.listen.now) v.items ≡ network.now.listeners.now) }
+    ensures peers { IfOk result (λ v. map (λ n. n.peers.now) v.items ≡ peers_of names.now) }
 {
     let mut nodes = Vec::with_capacity(alloc, names.len())?;
-    let mut at = 0;
-    for store in stores {
-        let parts = NodeParts {
+    for at in 0..names.len() {
+        nodes.push(NodeParts {
             node: names[at],
             desk: &desks[at],
             listen: &network.listeners[at],
@@ -85,9 +84,7 @@ where
             clock: network.clock,
             gate: network.gate,
             muster,
-        };
-        nodes.push(NodeToRun { parts, store })?;
-        at += 1;
+        })?;
     }
     Ok(nodes)
 }

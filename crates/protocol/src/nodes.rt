@@ -19,8 +19,8 @@ pub fn nodes_of(alloc: Global, scheme: &Scheme) -> Result<Vec<Node>, NoMemory>
     Ok(nodes)
 }
 
-/// The place of that node among the nodes of the scheme, counted from 0: the log's is 0, then come the registries in the
-/// scheme's order.
+/// The place of that node among the nodes of the scheme, counted from 0: the log's is 0, then come the registries in
+/// the scheme's order.
 pub fn place_of(scheme: &Scheme, node: Node) -> Option<usize>
     ensures { result ≡ place_of scheme.now node }
 {

@@ -14,7 +14,7 @@ use report_lines::push_outcome;
 use scheme::Scheme;
 use std::alloc::Global;
 use std::io::{Read, Write};
-use tables::{push_table, tonnes_add_up};
+use tables::push_table;
 use units::NoMemory;
 use world::World;
 
@@ -65,7 +65,6 @@ impl Reporter for Rehearsal {
 
     fn text(self) -> Result<String, NoMemory> {
         let mut text = self.lines;
-        tonnes_add_up();
         push_table(self.alloc, &mut text, &self.world)?;
         Ok(text)
     }

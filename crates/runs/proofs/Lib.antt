@@ -3,3 +3,4 @@ pub mod Collected
 pub mod Reported
 pub mod Settling
 pub mod Written
+pub mod Opened

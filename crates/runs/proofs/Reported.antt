@@ -41,10 +41,9 @@ module _ (scheme : Scheme) (helds : List Held) (own : List Heard) (seats : List 
       journal_is scheme (node_of l) x.at x.place (committed_by_all helds) ∙ image_or committed_records helds x.at held.0 [] held.1 in
       (h.0, subst (λ (js : List Input). IsBorne scheme (node_of l) js (asked_by l) told) (sym journal) (borne scheme (node_of l) held.0 heard.0 x.seat settled among (asked_by l) told x.heard))
 
-  pub run_report : (lines : List ScriptLine) (answers : List Answer) (first text : List ℕ) → AreHeard scheme own lines answers → first ≡ answer_lines 1 answers → text ≡ first ++ table → IsRunReport scheme lines text
+  pub run_report : (lines : List ScriptLine) (answers : List Answer) (first text : List ℕ) → AreHeard scheme own lines answers → first ≡ answer_lines 1 answers → text ≡ first ++ table → IsRunReport scheme lines (committed_by_all helds) text
   run_report lines answers first text h first_is text_is = record {
     answers = answers;
-    journals = committed_by_all helds;
     table = table;
     borne = record { count = h.count; each = λ k l answer at_l at_a. is_answer l answer (h.each k l answer at_l at_a) };
     is_table = r.is_table;

@@ -3,49 +3,56 @@ use Rattle.std.proofs.Common.{◌≡◌, ◌<◌, ℕ, List, Option, Some, None,
 use Rattle.std.specs.Io.KnownBytes.{Appends, Keeps}
 use Rattle.scheme.specs.declared.registries.Scheme.{Scheme}
 use Rattle.inputs.specs.declared.fault.OpFault.{OpFault}
-use Rattle.inputs.specs.declared.fault.OpFault.TheVariants.{Input, Read, Write, Store, Stuck, Unsettled, NoMemory}
+use Rattle.inputs.specs.declared.fault.OpFault.TheVariants.{Input as Line, Read, Write, Store, Stuck, Unsettled, NoMemory}
 use Rattle.scripts.specs.declared.line.ScriptLine.{ScriptLine}
 use Rattle.playing.specs.Answers.{answer_lines}
-use Rattle.runs.specs.Runs.{FailsToReport, FailsToRun, HasAnswered, IsLateFault, IsReported, IsRunReport, IsTableFault}
+use Rattle.units.specs.declared.code.Node.{Node}
+use Rattle.wire.specs.declared.input.Input.{Input}
+use Rattle.stores.specs.declared.node_store.NodeStore.{Ghosts}
+use Rattle.desk.specs.Keeping.{Keeping}
+use Rattle.playing.specs.Heard.{AreHeard}
+use Rattle.runs.specs.Runs.{FailsToReport, FailsToRun, HasAnswered, HaveEnded, IsLateFault, IsReported, IsRunReport, IsTableFault, committed_by_all, states_of}
 use Rattle.playing.specs.declared.answer.Answer.{Answer}
 use Rattle.desk.specs.Views.{Held, Heard}
 
-pub late_fault : (e : OpFault) (scheme : Scheme) (helds : List Held) (seats : List (List Heard)) → IsTableFault scheme helds seats e → IsLateFault e
-late_fault (Unsettled told) scheme helds seats h = tt
-late_fault (Stuck n place) scheme helds seats h = tt
-late_fault NoMemory scheme helds seats h = tt
-late_fault (Input line cause) scheme helds seats h = absurd h
-late_fault Read scheme helds seats h = absurd h
-late_fault (Write count) scheme helds seats h = absurd h
-late_fault (Store told fault) scheme helds seats h = absurd h
+module _ {S : Type 0} (g : Ghosts S) (opened : Scheme → Node → List Input → ℕ → Type 0) (scheme : Scheme) where
+  pub late_fault : (e : OpFault) (ends : List (Keeping S)) (seats : List (List Heard)) → HaveEnded g opened scheme ends → IsTableFault scheme (states_of ends) seats e → IsLateFault g opened scheme e
+  late_fault (Unsettled told) ends seats ended h = inr (record { ends = ends; seats = seats; ended = ended; cause = h })
+  late_fault (Stuck n place) ends seats ended h = record { ends = ends; seats = seats; ended = ended; cause = h }
+  late_fault NoMemory ends seats ended h = tt
+  late_fault (Line line cause) ends seats ended h = absurd h
+  late_fault Read ends seats ended h = absurd h
+  late_fault (Write count) ends seats ended h = absurd h
+  late_fault (Store told fault) ends seats ended h = absurd h
 
-module _ (scheme : Scheme) (lines : List ScriptLine) (before after : Option (List ℕ)) (answers : List Answer) (all : length answers ≡ length lines) (text : List ℕ) (is : text ≡ answer_lines 1 answers) where
-  answered : Appends before after text → HasAnswered lines before after
-  answered written = record { answers = answers; count = all; written = subst (Appends before after) is written }
+  module _ (lines : List ScriptLine) (before after : Option (List ℕ)) (answers : List Answer) (seats : List Heard) (heard : AreHeard scheme seats lines answers) (text : List ℕ) (is : text ≡ answer_lines 1 answers) where
+    answered : Appends before after text → HasAnswered scheme lines before after
+    answered written = record { answers = answers; seats = seats; heard = heard; written = subst (Appends before after) is written }
 
-  pub fails_late : (e : OpFault) → IsLateFault e → Appends before after text → FailsToRun e scheme lines before after
-  fails_late (Store told fault) late written = answered written
-  fails_late (Unsettled told) late written = answered written
-  fails_late (Stuck n place) late written = answered written
-  fails_late NoMemory late written = inr (answered written)
-  fails_late (Input line cause) late written = absurd late
-  fails_late Read late written = absurd late
-  fails_late (Write count) late written = absurd late
+    pub fails_late : (e : OpFault) → IsLateFault g opened scheme e → Appends before after text → FailsToRun g opened e scheme lines before after
+    fails_late (Store told fault) late written = (late, answered written)
+    fails_late (Unsettled told) late written = (late, answered written)
+    fails_late (Stuck n place) late written = (late, answered written)
+    fails_late NoMemory late written = inr (answered written)
+    fails_late (Line line cause) late written = absurd late
+    fails_late Read late written = absurd late
+    fails_late (Write count) late written = absurd late
 
-  pub fails_in_answers : (e : OpFault) → ((count : ℕ) × (e ≡ Write count) × (count < length text) × Appends before after (take count text)) → FailsToRun e scheme lines before after
-  fails_in_answers e h =
-      subst (λ (x : OpFault). FailsToRun x scheme lines before after) (sym h.1)
-      (inl (record {
-        answers = answers;
-        each = all;
-        fewer = subst (λ (xs : List ℕ). h.0 < length xs) is h.2;
-        written = subst (λ (xs : List ℕ). Appends before after (take h.0 xs)) is h.3;
-      }))
+    pub fails_in_answers : (e : OpFault) → ((count : ℕ) × (e ≡ Write count) × (count < length text) × Appends before after (take count text)) → FailsToRun g opened e scheme lines before after
+    fails_in_answers e h =
+        subst (λ (x : OpFault). FailsToRun g opened x scheme lines before after) (sym h.1)
+        (inl (record {
+          answers = answers;
+          seats = seats;
+          heard = heard;
+          fewer = subst (λ (xs : List ℕ). h.0 < length xs) is h.2;
+          written = subst (λ (xs : List ℕ). Appends before after (take h.0 xs)) is h.3;
+        }))
 
-pub fails_in_report : (scheme : Scheme) (lines : List ScriptLine) (before after : Option (List ℕ)) (text : List ℕ) (e : OpFault) → IsRunReport scheme lines text
-    → ((count : ℕ) × (e ≡ Write count) × (count < length text) × Appends before after (take count text)) → FailsToRun e scheme lines before after
-fails_in_report scheme lines before after text e report h =
-    subst (λ (x : OpFault). FailsToRun x scheme lines before after) (sym h.1) (inr (record { text = text; report = report; fewer = h.2; written = h.3 }))
+  pub fails_in_report : (lines : List ScriptLine) (before after : Option (List ℕ)) (ends : List (Keeping S)) (text : List ℕ) (e : OpFault) → HaveEnded g opened scheme ends → IsRunReport scheme lines (committed_by_all (states_of ends)) text
+      → ((count : ℕ) × (e ≡ Write count) × (count < length text) × Appends before after (take count text)) → FailsToRun g opened e scheme lines before after
+  fails_in_report lines before after ends text e ended report h =
+      subst (λ (x : OpFault). FailsToRun g opened x scheme lines before after) (sym h.1) (inr (record { ends = ends; text = text; ended = ended; report = report; fewer = h.2; written = h.3 }))
 
 -- ---- what is told of a table
 
@@ -57,7 +64,7 @@ pub fails_unwritten : (e : OpFault) (scheme : Scheme) (helds : List Held) (seats
 fails_unwritten (Unsettled told) scheme helds seats v h = (h, keeps_same v)
 fails_unwritten (Stuck n place) scheme helds seats v h = (h, keeps_same v)
 fails_unwritten NoMemory scheme helds seats v h = (h, keeps_same v)
-fails_unwritten (Input line cause) scheme helds seats v h = absurd h
+fails_unwritten (Line line cause) scheme helds seats v h = absurd h
 fails_unwritten Read scheme helds seats v h = absurd h
 fails_unwritten (Write count) scheme helds seats v h = absurd h
 fails_unwritten (Store told fault) scheme helds seats v h = absurd h

@@ -1,9 +1,13 @@
 -- What a run with threads reports.
-use Rattle.std.specs.Prelude.{◌≡◌, ◌⊎◌, ◌<◌, ℕ, List, ◌++◌, Option, length, map, take}
+use Rattle.std.specs.Prelude.{◌≡◌, ◌≢◌, ◌⊎◌, ◌<◌, ℕ, All, List, ◌++◌, Option, None, Some, length, map, slice_get, take}
 use Rattle.std.specs.Io.KnownBytes.{Appends, Keeps}
 use Rattle.units.specs.declared.code.Node.{Node}
 use Rattle.wire.specs.declared.input.Input.{Input}
 use Rattle.scheme.specs.declared.registries.Scheme.{Scheme}
+use Rattle.protocol.specs.Registries.{nodes}
+use Rattle.stores.specs.declared.fault.StoreFault.{StoreFault}
+use Rattle.stores.specs.declared.node_store.NodeStore.{Ghosts}
+use Rattle.desk.specs.Keeping.{IsAtDesk, IsKept, Keeping}
 use Rattle.desk.specs.Views.{Held, Heard, committed_records}
 use Rattle.weave.specs.Following.{IsWeaveFault, journal_of}
 use Rattle.weave.specs.declared.fault.WeaveFault.TheVariants as weaving
@@ -12,6 +16,7 @@ use Rattle.inputs.specs.declared.fault.OpFault.TheVariants.{Write, Store, Stuck,
 use Rattle.audit.specs.Audits.{IsAuditTable}
 use Rattle.scripts.specs.declared.line.ScriptLine.{ScriptLine}
 use Rattle.playing.specs.Answers.{AreAnswers, IsAnswer, answer_lines}
+use Rattle.playing.specs.Heard.{AreHeard}
 use Rattle.runs.specs.Settled.{AreSettled, FailsToSettle}
 use Rattle.playing.specs.declared.answer.Answer.{Answer}
 
@@ -42,53 +47,100 @@ abbrev pub FailsToReport : OpFault → Scheme → List Held → List (List Heard
 FailsToReport (Write count) scheme helds seats v w = (table : List ℕ) × IsReported scheme helds seats table × (count < length table) × Appends v w (take count table)
 FailsToReport fault scheme helds seats v w = IsTableFault scheme helds seats fault × Keeps v w
 
+-- ---- how the nodes of a run end
+
+abbrev pub states_of : {S : Type 0} → List (Keeping S) → List Held
+states_of nodes = map (λ n. n.state) nodes
+
+-- the state at a desk goes by the scheme, and is that of one of the nodes that were loaded: its journal at the opening
+-- is that one's, and its store's count of faults was
+pub record IsLoadedAmong {S : Type 0} (g : Ghosts S) (scheme : Scheme) (loaded : List (Keeping S)) (its_scheme : Scheme) (n : Node) (journal : List Input) (faults : ℕ) : Type 0 where
+  pub scheme_is : its_scheme ≡ scheme
+  pub at : ℕ
+  pub old : Keeping S
+  pub is : slice_get loaded at ≡ Some old
+  pub node_is : n ≡ old.state.node
+  pub journal_is : journal ≡ old.state.journal
+  pub faults_are : faults ≡ g.faults old.store
+
+-- what is known of the nodes of the run when their desks open
+module _ {S : Type 0} (g : Ghosts S) (opened : Scheme → Node → List Input → ℕ → Type 0) where
+  -- no fault stopped the store, which has just the committed records
+  pub record EndsWell (kept : Keeping S) : Type 0 where
+    pub keeps : IsKept g kept
+    pub at : IsAtDesk g opened kept None
+
+  -- each node of the scheme ended well
+  pub record HaveEnded (scheme : Scheme) (ends : List (Keeping S)) : Type 0 where
+    pub nodes_are : map (λ e. e.state.node) ends ≡ nodes scheme
+    pub well : All (EndsWell) ends
+
+  -- that fault stopped the node's store
+  pub record HasFailed (n : Node) (fault : StoreFault) : Type 0 where
+    pub kept : Keeping S
+    pub keeps : IsKept g kept
+    pub node_is : kept.state.node ≡ n
+    pub at : IsAtDesk g opened kept (Some fault)
+
+  -- the desk in that node's place is another's
+  pub record IsMisplaced (n : Node) : Type 0 where
+    pub kept : Keeping S
+    pub keeps : IsKept g kept
+    pub other : kept.state.node ≢ n
+
+  -- all nodes ended well, and what their threads were told has that fault
+  pub record HasTableFault (scheme : Scheme) (fault : OpFault) : Type 0 where
+    pub ends : List (Keeping S)
+    pub seats : List (List Heard)
+    pub ended : HaveEnded scheme ends
+    pub cause : IsTableFault scheme (states_of ends) seats fault
+
+  -- a fault after the script's end, but for the output's
+  abbrev pub IsLateFault : Scheme → OpFault → Type 0
+  IsLateFault scheme (Store n fault) = HasFailed n fault
+  IsLateFault scheme (Unsettled n) = IsMisplaced n ⊎ HasTableFault scheme (Unsettled n)
+  IsLateFault scheme (Stuck n place) = HasTableFault scheme (Stuck n place)
+  IsLateFault scheme NoMemory = Unit {0}
+  IsLateFault scheme _ = ⊥
+
 -- ---- a script
 
--- the answers to the script's lines, and then the table of the world that a run leads to, whose committed journals bear
--- the answers
-pub record IsRunReport (scheme : Scheme) (lines : List ScriptLine) (text : List ℕ) : Type 0 where
+-- the answers to the script's lines, and then the table of the world that a run leads to, whose committed journals are
+-- these and bear the answers
+pub record IsRunReport (scheme : Scheme) (lines : List ScriptLine) (journals : List (List Input)) (text : List ℕ) : Type 0 where
   pub answers : List Answer
-  pub journals : List (List Input)
   pub table : List ℕ
   pub borne : AreAnswers (IsAnswer scheme (journal_of scheme journals)) lines answers
   pub is_table : IsAuditTable scheme journals table
   pub spelled : text ≡ answer_lines 1 answers ++ table
 
--- an answer to each line was written, and nothing else
-pub record HasAnswered (lines : List ScriptLine) (before after : Option (List ℕ)) : Type 0 where
+-- an answer to each line, as the desks told it, was written, and nothing else
+pub record HasAnswered (scheme : Scheme) (lines : List ScriptLine) (before after : Option (List ℕ)) : Type 0 where
   pub answers : List Answer
-  pub count : length answers ≡ length lines
+  pub seats : List Heard
+  pub heard : AreHeard scheme seats lines answers
   pub written : Appends before after (answer_lines 1 answers)
 
 -- the first bytes of the answers were written, fewer than all
-pub record AnswersInPart (lines : List ScriptLine) (count : ℕ) (before after : Option (List ℕ)) : Type 0 where
+pub record AnswersInPart (scheme : Scheme) (lines : List ScriptLine) (count : ℕ) (before after : Option (List ℕ)) : Type 0 where
   pub answers : List Answer
-  pub each : length answers ≡ length lines
+  pub seats : List Heard
+  pub heard : AreHeard scheme seats lines answers
   pub fewer : count < length (answer_lines 1 answers)
   pub written : Appends before after (take count (answer_lines 1 answers))
 
--- the answers and the first bytes of the table were written, fewer than all
-pub record ReportsInPart (scheme : Scheme) (lines : List ScriptLine) (count : ℕ) (before after : Option (List ℕ)) : Type 0 where
-  pub text : List ℕ
-  pub report : IsRunReport scheme lines text
-  pub fewer : count < length text
-  pub written : Appends before after (take count text)
+module _ {S : Type 0} (g : Ghosts S) (opened : Scheme → Node → List Input → ℕ → Type 0) where
+  -- the nodes ended well, and the answers and the first bytes of their table were written, fewer than all
+  pub record ReportsInPart (scheme : Scheme) (lines : List ScriptLine) (count : ℕ) (before after : Option (List ℕ)) : Type 0 where
+    pub ends : List (Keeping S)
+    pub text : List ℕ
+    pub ended : HaveEnded g opened scheme ends
+    pub report : IsRunReport scheme lines (committed_by_all (states_of ends)) text
+    pub fewer : count < length text
+    pub written : Appends before after (take count text)
 
--- after the script's end the answers are written before anything else is looked at
-abbrev pub FailsToRun : OpFault → Scheme → List ScriptLine → (before after : Option (List ℕ)) → Type 0
-FailsToRun (Store n fault) scheme lines v w = HasAnswered lines v w
-FailsToRun (Unsettled n) scheme lines v w = HasAnswered lines v w
-FailsToRun (Stuck n place) scheme lines v w = HasAnswered lines v w
-FailsToRun (Write count) scheme lines v w = AnswersInPart lines count v w ⊎ ReportsInPart scheme lines count v w
-FailsToRun NoMemory scheme lines v w = Keeps v w ⊎ HasAnswered lines v w
-FailsToRun _ scheme lines v w = ⊥
-
--- ---- what the code follows; no public contract cites what stands below
-
--- a fault after the script's end, but for the output's
-abbrev pub IsLateFault : OpFault → Type 0
-IsLateFault (Store n fault) = Unit {0}
-IsLateFault (Unsettled n) = Unit {0}
-IsLateFault (Stuck n place) = Unit {0}
-IsLateFault NoMemory = Unit {0}
-IsLateFault _ = ⊥
+  -- after the script's end the answers are written before anything else is looked at
+  abbrev pub FailsToRun : OpFault → Scheme → List ScriptLine → (before after : Option (List ℕ)) → Type 0
+  FailsToRun (Write count) scheme lines v w = AnswersInPart scheme lines count v w ⊎ ReportsInPart scheme lines count v w
+  FailsToRun NoMemory scheme lines v w = Keeps v w ⊎ HasAnswered scheme lines v w
+  FailsToRun fault scheme lines v w = IsLateFault g opened scheme fault × HasAnswered scheme lines v w

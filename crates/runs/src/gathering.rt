@@ -1,112 +1,127 @@
-//! What a run leaves: of each node the state, and the seats of all that were told something by its desk.
-ghost use Rattle.std.specs.Prelude.{◌≡◌, ◌+◌, ◌<◌, ◌++◌, ◌∷◌, [], Contains, Vec, length, map, vec_capacity, vec_len, IfOk, OnOk};
+//! What a run leaves: of each node the state with its store, and the seats of all that were told something by its desk.
+ghost use Rattle.std.specs.Prelude.{◌≡◌, ◌+◌, ◌<◌, ◌++◌, ◌∷◌, [], All, Contains, Vec, length, map, vec_capacity, vec_len, IfErr, IfOk, OnOk};
 ghost use Rattle.std.specs.Global.{Global};
 ghost use Rattle.desk.specs.Views.{Heard};
+ghost use Rattle.protocol.specs.Registries.{nodes};
 ghost use Rattle.runs.specs.Gathered.{AreGathered};
+ghost use Rattle.runs.specs.Runs.{EndsWell, HaveEnded, IsLateFault};
 
-use desk::{Bell, Desk, Seat, State};
-use sessions::NodeEnd;
+use desk::{Desk, Ended, Opening, RoomBell, Seat, Stored};
+use inputs::{OpFault, store_fault};
+use protocol::node_at;
+use scheme::Scheme;
 use std::alloc::Global;
-use stores::StoreFault;
-use units::NoMemory;
+use stores::NodeStore;
+use units::{NoMemory, Node};
 use world::Core;
 
-/// The seats of all that were told something by the nodes' desks, a list for each node, the store of each node, and the
-/// fault of each node's store.
-#[derive(Drop)]
-pub(crate) struct Gathered<S> {
-    pub(crate) seats: Vec<Vec<Seat>>,
-    pub(crate) stores: Vec<S>,
-    pub(crate) faults: Vec<Option<StoreFault>>,
-}
-
-impl<S: Drop> Gathered<S> {
-    /// Makes room for one node more, and for one seat more among its seats.
-    fn make_room(&mut self, seats: &mut Vec<Seat>) -> Result<(), NoMemory>
-        ensures gathered { self.new.seats.items ≡ self.old.seats.items }
-        ensures stores { self.new.stores.items ≡ self.old.stores.items }
-        ensures seats { OnOk result ((vec_len self.new.seats < vec_capacity self.new.seats) × (vec_len self.new.faults < vec_capacity self.new.faults)) }
-        ensures store { OnOk result (vec_len self.new.stores < vec_capacity self.new.stores) }
-        ensures seat { OnOk result (vec_len seats.new < vec_capacity seats.new) }
-    {
-        seats.reserve(1)?;
-        self.seats.reserve(1)?;
-        self.stores.reserve(1)?;
-        self.faults.reserve(1)?;
-        Ok(())
-    }
-
-    /// Adds the store and the seats of a node's threads, and one seat more.
-    fn add(&mut self, end: Option<Result<NodeEnd<S>, NoMemory>>, seat: Seat) -> Result<(), NoMemory>
-        ensures seats { OnOk result ((v : Vec Heard Global) × (self.new.seats.items ≡ self.old.seats.items ++ v ∷ []) × Contains v.items seat) }
-        ensures stores { OnOk result (vec_len self.new.stores ≡ vec_len self.old.stores + 1) }
-    {
-        let Some(Ok(end)) = end else {
-            drop(seat);
-            return Err(NoMemory);
-        };
-        let NodeEnd {
-            seats: mut others,
-            store,
-            fault,
-        } = end;
-        if let Err(NoMemory) = self.make_room(&mut others) {
-            drop(others);
-            drop(store);
-            drop(seat);
-            return Err(NoMemory);
-        }
-        others.push_reserved(seat);
-        self.seats.push_reserved(others);
-        self.stores.push_reserved(store);
-        self.faults.push_reserved(fault);
-        Ok(())
-    }
-}
-
-/// The seats of each node's threads with that of the script at its desk, and the nodes' stores, in the order of the
-/// nodes. Fails with `NoMemory` where memory ran out, also for the threads of a node.
-pub(crate) fn gather<S: Drop>(
-    alloc: Global,
-    ends: Vec<Result<NodeEnd<S>, NoMemory>>,
-    seats: Vec<Seat>,
-) -> Result<Gathered<S>, NoMemory>
-    ensures seats { IfOk result (λ g. AreGathered seats.items (map (λ v. v.items) g.seats.items)) }
-    ensures stores { IfOk result (λ g. vec_len g.stores ≡ vec_len seats) }
+/// Makes room for one list more, and for one seat more in the list that comes next.
+fn make_room(all: &mut Vec<Vec<Seat>>, next: &mut Vec<Seat>) -> Result<(), NoMemory>
+    ensures all { all.new.items ≡ all.old.items }
+    ensures list { OnOk result (vec_len all.new < vec_capacity all.new) }
+    ensures seat { OnOk result (vec_len next.new < vec_capacity next.new) }
 {
-    let mut gathered = Gathered {
-        seats: Vec::new(alloc),
-        stores: Vec::new(alloc),
-        faults: Vec::new(alloc),
-    };
-    let mut ends = ends.into_iter();
-    for seat in seats {
-        if let Err(NoMemory) = gathered.add(ends.next(), seat) {
-            drop(ends);
-            drop(gathered);
-            return Err(NoMemory);
-        }
-    }
-    Ok(gathered)
-}
-
-fn push(states: &mut Vec<State<Core>>, state: State<Core>) -> Result<(), NoMemory>
-    ensures { OnOk result (length states.new.items ≡ length states.old.items + 1) }
-{
-    states.push(state)?;
+    next.reserve(1)?;
+    all.reserve(1)?;
     Ok(())
 }
 
-/// The states of the desks, which no thread shares any more.
-pub(crate) fn states_of<B: Bell>(
-    alloc: Global,
-    desks: Vec<Desk<Core, B>>,
-) -> Result<Vec<State<Core>>, NoMemory>
-    ensures { IfOk result (λ v. vec_len v ≡ vec_len desks) }
+/// Adds the seats of a node's threads, with one seat more.
+fn add(
+    all: &mut Vec<Vec<Seat>>,
+    end: Option<Result<Vec<Seat>, NoMemory>>,
+    seat: Seat,
+) -> Result<(), NoMemory>
+    ensures { OnOk result ((v : Vec Heard Global) × (all.new.items ≡ all.old.items ++ v ∷ []) × Contains v.items seat) }
 {
-    let mut states = Vec::new(alloc);
-    for desk in desks {
-        push(&mut states, desk.end())?;
+    let Some(Ok(mut seats)) = end else {
+        drop(seat);
+        return Err(NoMemory);
+    };
+    if let Err(NoMemory) = make_room(all, &mut seats) {
+        drop(seats);
+        drop(seat);
+        return Err(NoMemory);
     }
-    Ok(states)
+    seats.push_reserved(seat);
+    all.push_reserved(seats);
+    Ok(())
+}
+
+/// The seats of each node's threads with that of the script at its desk, in the order of the nodes. Fails with
+/// `NoMemory` where memory ran out, also for the threads of a node.
+pub(crate) fn gather(
+    alloc: Global,
+    ends: Vec<Result<Vec<Seat>, NoMemory>>,
+    seats: Vec<Seat>,
+) -> Result<Vec<Vec<Seat>>, NoMemory>
+    ensures { IfOk result (λ all. AreGathered seats.items (map (λ v. v.items) all.items)) }
+{
+    let mut all = Vec::new(alloc);
+    let mut ends = ends.into_iter();
+    for seat in seats {
+        if let Err(NoMemory) = add(&mut all, ends.next(), seat) {
+            drop(ends);
+            drop(all);
+            return Err(NoMemory);
+        }
+    }
+    Ok(all)
+}
+
+/// The state with its store that the desk of that node leaves, which no thread shares any more. Fails with the fault that
+/// stopped the store, if one did, and with `Unsettled` where the desk is another node's.
+fn end_desk<O: Opening, S: NodeStore + Drop>(
+    node: Node,
+    desk: Desk<O, Core, S, RoomBell>,
+) -> Result<Stored<Core, S>, OpFault>
+    ensures well { IfOk result (EndsWell S.NodeStore O.opened) }
+    ensures node { IfOk result (λ s. s.state.node ≡ node) }
+    ensures err { (scheme : _) → IfErr result (IsLateFault S.NodeStore O.opened scheme) }
+{
+    let Ended { stored, fault } = desk.end();
+    if stored.state().node() != node {
+        drop(stored);
+        return Err(OpFault::Unsettled { node });
+    }
+    match fault {
+        None => Ok(stored),
+        Some(fault) => {
+            drop(stored);
+            Err(store_fault(node, fault))
+        }
+    }
+}
+
+/// Adds what one more desk leaves.
+fn push<S: NodeStore + Drop>(
+    nodes: &mut Vec<Stored<Core, S>>,
+    stored: Stored<Core, S>,
+) -> Result<(), NoMemory>
+    ensures { OnOk result (nodes.new.items ≡ nodes.old.items ++ stored ∷ []) }
+{
+    nodes.push(stored)?;
+    Ok(())
+}
+
+/// The states with their stores that the desks of all nodes leave, which no thread shares any more. Fails with the fault
+/// of the first node's store that failed, and with `NoMemory` where memory ran out.
+pub(crate) fn end_all<O: Opening, S: NodeStore + Drop>(
+    alloc: Global,
+    scheme: &Scheme,
+    desks: Vec<Desk<O, Core, S, RoomBell>>,
+) -> Result<Vec<Stored<Core, S>>, OpFault>
+    requires { vec_len desks ≡ length (nodes scheme.now) }
+    ensures ended { IfOk result (λ v. HaveEnded S.NodeStore O.opened scheme.now v.items) }
+    ensures err { IfErr result (IsLateFault S.NodeStore O.opened scheme.now) }
+{
+    let mut ended = Vec::new(alloc);
+    for desk in desks {
+        let node = node_at(scheme, ended.len());
+        match end_desk(node, desk) {
+            Ok(stored) => push(&mut ended, stored)?,
+            Err(fault) => return Err(fault),
+        }
+    }
+    Ok(ended)
 }

@@ -6,7 +6,7 @@ mod reporting;
 mod running;
 mod watch;
 
-pub use playing::{Loaded, Network, Watch};
+pub use playing::{Network, Watch};
 pub use reporting::report_run;
 pub use running::run_script;
 pub use watch::Nobody;

@@ -1,53 +1,34 @@
 //! A script, played while all nodes run in threads of their own.
-ghost use Rattle.std.specs.Prelude.{◌≡◌, ◌<◌, ◌++◌, ℕ, List, length, map, vec_len, IfErr, IfOk, OnOk, string_bytes};
+ghost use Rattle.std.specs.Prelude.{◌≡◌, ◌<◌, ◌++◌, ℕ, All, List, length, map, vec_len, IfErr, IfOk, OnOk, string_bytes};
 ghost use Rattle.std.specs.Io.KnownBytes.{Appends};
 ghost use Rattle.protocol.specs.Registries.{nodes};
-ghost use Rattle.desk.specs.Views.{Heard};
+ghost use Rattle.desk.specs.Keeping.{MayOpen};
+ghost use Rattle.desk.specs.Views.{Heard, opened_with};
 ghost use Rattle.scripts.specs.declared.line.ScriptLine.{ScriptLine as ALine};
 ghost use Rattle.playing.specs.Answers.{answer_lines};
 ghost use Rattle.playing.specs.Heard.{AreHeard};
 ghost use Rattle.runs.specs.Gathered.{AreGathered};
-ghost use Rattle.runs.specs.Runs.{FailsToRun, IsLateFault, IsRunReport};
+ghost use Rattle.runs.specs.Runs.{FailsToRun, HaveEnded, IsLateFault, IsLoadedAmong, IsRunReport, IsTableFault, committed_by_all, states_of};
 ghost use Rattle.playing.specs.declared.answer.Answer.{Answer as AnAnswer};
 
-use crate::gathering::{Gathered, gather, states_of};
+use crate::gathering::{end_all, gather};
 use crate::reporting::report_of;
 use answers::Clock;
-use desk::{Desk, Gate, RoomBell, Seat, State};
-use inputs::{OpFault, store_fault, write_out};
-use playing::{Ends, Loaded, Network, Played, Run, Watch, lines_of, run_and_play};
-use protocol::nodes_of;
+use desk::{Desk, Gate, Opening, RoomBell, Seat, Stored};
+use inputs::{OpFault, write_out};
+use playing::{Ends, Network, Played, Run, Watch, lines_of, run_and_play};
 use scheme::Scheme;
 use scripts::ScriptLine;
 use sessions::{Dial, Listen};
 use std::alloc::Global;
 use std::io::Write;
+use std::marker::Brand;
 use std::rt::Clock as SystemClock;
 use std::sync::Wait;
 use std::thread::Threads;
-use stores::{NodeStore, StoreFault};
-use units::{NoMemory, Node};
+use stores::NodeStore;
+use units::NoMemory;
 use world::Core;
-
-/// Fails with the first fault of a store, where there is one.
-fn check_stores(names: &[Node], faults: &[Option<StoreFault>]) -> Result<(), OpFault>
-    ensures { IfErr result IsLateFault }
-{
-    for (node, fault) in names.iter().zip(faults) {
-        if let Some(fault) = fault {
-            return Err(store_fault(*node, *fault));
-        }
-    }
-    Ok(())
-}
-
-/// Fails with the fault of the first node's store that failed, where there is one.
-fn check_nodes(alloc: Global, scheme: &Scheme, faults: &[Option<StoreFault>]) -> Result<(), OpFault>
-    ensures { IfErr result IsLateFault }
-{
-    let names = nodes_of(alloc, scheme)?;
-    check_stores(names.as_slice(), faults)
-}
 
 fn joined(alloc: Global, first: &str, second: &str) -> Result<String, NoMemory>
     ensures { IfOk result (λ s. string_bytes s ≡ first.now ++ second.now) }
@@ -57,70 +38,84 @@ fn joined(alloc: Global, first: &str, second: &str) -> Result<String, NoMemory>
     Ok(text)
 }
 
+/// What a run leaves: of each node the state with its store, and the seats of all that were told something by its desk.
+#[derive(Drop)]
+struct Left<S: NodeStore> {
+    nodes: Vec<Stored<Core, S>>,
+    seats: Vec<Vec<Seat>>,
+}
+
 /// What a run leaves, where no store failed.
-fn gather_checked<S: Drop>(
+fn gather_all<O: Opening, S: NodeStore + Drop>(
     alloc: Global,
     scheme: &Scheme,
-    ends: Ends<S>,
+    desks: Vec<Desk<O, Core, S, RoomBell>>,
+    ends: Ends,
     seats: Vec<Seat>,
-) -> Result<Gathered<S>, OpFault>
-    ensures ok { IfOk result (λ g. AreGathered seats.items (map (λ v. v.items) g.seats.items)) }
-    ensures stores { IfOk result (λ g. vec_len g.stores ≡ vec_len seats) }
-    ensures err { IfErr result IsLateFault }
+) -> Result<Left<S>, OpFault>
+    requires { vec_len desks ≡ length (nodes scheme.now) }
+    ensures ended { IfOk result (λ left. HaveEnded S.NodeStore O.opened scheme.now left.nodes.items) }
+    ensures seats { IfOk result (λ left. AreGathered seats.items (map (λ v. v.items) left.seats.items)) }
+    ensures err { IfErr result (IsLateFault S.NodeStore O.opened scheme.now) }
 {
-    let ends = match ends {
-        Ok(ends) => ends,
-        Err(NoMemory) => {
+    let nodes = match end_all(alloc, scheme, desks) {
+        Ok(nodes) => nodes,
+        Err(fault) => {
+            drop(ends);
             drop(seats);
-            return Err(OpFault::NoMemory);
+            return Err(fault);
         }
     };
-    let gathered = gather(alloc, ends, seats)?;
-    match check_nodes(alloc, scheme, gathered.faults.as_slice()) {
-        Ok(()) => Ok(gathered),
-        Err(fault) => {
-            drop(gathered);
-            Err(fault)
+    let Ok(ends) = ends else {
+        drop(nodes);
+        drop(seats);
+        return Err(OpFault::NoMemory);
+    };
+    match gather(alloc, ends, seats) {
+        Ok(seats) => Ok(Left { nodes, seats }),
+        Err(NoMemory) => {
+            drop(nodes);
+            Err(OpFault::NoMemory)
         }
     }
 }
 
-/// The answers, and then the table of these states.
-fn with_table<P: weave::Watch>(
+/// The answers, and then the table of what these nodes have committed.
+fn with_table<S: NodeStore, P: weave::Watch>(
     alloc: Global,
     scheme: &Scheme,
-    states: &[State<Core>],
+    stored: &[Stored<Core, S>],
     seats: &[Vec<Seat>],
     answers: &str,
     watch: &mut P,
 ) -> Result<String, OpFault>
-    requires states { length states.now ≡ length (nodes scheme.now) }
+    requires states { length stored.now ≡ length (nodes scheme.now) }
     requires seats { length seats.now ≡ length (nodes scheme.now) }
     ensures ok { IfOk result
         (λ s. (own : List Heard) → length own ≡ length (nodes scheme.now) → AreGathered own (map (λ v. v.items) seats.now)
         → (lines : List ALine) (told : List AnAnswer) → AreHeard scheme.now own lines told
-        → answers.now ≡ answer_lines 1 told → IsRunReport scheme.now lines (string_bytes s)) }
-    ensures err { IfErr result IsLateFault }
+        → answers.now ≡ answer_lines 1 told → IsRunReport scheme.now lines (committed_by_all (states_of stored.now)) (string_bytes s)) }
+    ensures err { IfErr result (IsTableFault scheme.now (states_of stored.now) (map (λ v. v.items) seats.now)) }
 {
-    match report_of(alloc, scheme, states, seats, watch) {
+    match report_of(alloc, scheme, stored, seats, watch) {
         Ok(table) => Ok(joined(alloc, answers, table.as_str())?),
         Err(fault) => Err(fault),
     }
 }
 
-/// What a run that went well leaves: the answers and then the table, and the stores of the nodes.
+/// What a run that went well leaves: the answers and then the table, and the nodes' states with their stores.
 #[derive(Drop)]
-struct Whole<S> {
+struct Whole<S: NodeStore> {
     text: String,
-    stores: Vec<S>,
+    nodes: Vec<Stored<Core, S>>,
 }
 
 /// The answers, and then the table of what the nodes have committed.
-fn whole_of<S: Drop, P: weave::Watch>(
+fn whole_of<O: Opening, S: NodeStore + Drop, P: weave::Watch>(
     alloc: Global,
     scheme: &Scheme,
-    desks: Vec<Desk<Core, RoomBell>>,
-    ends: Ends<S>,
+    desks: Vec<Desk<O, Core, S, RoomBell>>,
+    ends: Ends,
     seats: Vec<Seat>,
     answers: &str,
     watch: &mut P,
@@ -129,73 +124,58 @@ fn whole_of<S: Drop, P: weave::Watch>(
     requires seats { vec_len seats ≡ length (nodes scheme.now) }
     ensures ok { IfOk result
         (λ w. (lines : List ALine) (told : List AnAnswer) → AreHeard scheme.now seats.items lines told
-        → answers.now ≡ answer_lines 1 told → IsRunReport scheme.now lines (string_bytes w.text)) }
-    ensures stores { IfOk result (λ w. vec_len w.stores ≡ length (nodes scheme.now)) }
-    ensures err { IfErr result IsLateFault }
+        → answers.now ≡ answer_lines 1 told → IsRunReport scheme.now lines (committed_by_all (states_of w.nodes.items)) (string_bytes w.text)) }
+    ensures ended { IfOk result (λ w. HaveEnded S.NodeStore O.opened scheme.now w.nodes.items) }
+    ensures err { IfErr result (IsLateFault S.NodeStore O.opened scheme.now) }
 {
-    let gathered = match gather_checked(alloc, scheme, ends, seats) {
-        Ok(gathered) => gathered,
-        Err(fault) => {
-            drop(desks);
-            return Err(fault);
-        }
-    };
-    let Ok(states) = states_of(alloc, desks) else {
-        drop(gathered);
-        return Err(OpFault::NoMemory);
-    };
-    let whole = with_table(
+    let Left { nodes, seats } = gather_all(alloc, scheme, desks, ends, seats)?;
+    let text = with_table(
         alloc,
         scheme,
-        states.as_slice(),
-        gathered.seats.as_slice(),
+        nodes.as_slice(),
+        seats.as_slice(),
         answers,
         watch,
     );
     watch.finished();
-    drop(states);
-    let Gathered {
-        seats,
-        stores,
-        faults: _,
-    } = gathered;
     drop(seats);
-    match whole {
-        Ok(text) => Ok(Whole { text, stores }),
+    match text {
+        Ok(text) => Ok(Whole { text, nodes }),
         Err(fault) => {
-            drop(stores);
+            drop(nodes);
             Err(fault)
         }
     }
 }
 
-/// Writes what a run came to: the answers in any case, and then the table or the fault. Returns the stores of the nodes.
-fn write_run<S: Drop, W: Write, P: weave::Watch>(
+/// Writes the results of a run: the answers in any case, and then the table or the fault. Returns the nodes' states with
+/// their stores.
+fn write_run<O: Opening, S: NodeStore + Drop, W: Write, P: weave::Watch>(
     alloc: Global,
     scheme: &Scheme,
-    desks: Vec<Desk<Core, RoomBell>>,
-    ends: Ends<S>,
+    desks: Vec<Desk<O, Core, S, RoomBell>>,
+    ends: Ends,
     played: Played,
     lines: &[ScriptLine],
     writer: &mut W,
     watch: &mut P,
-) -> Result<Vec<S>, OpFault>
+) -> Result<Vec<Stored<Core, S>>, OpFault>
     requires desks { vec_len desks ≡ length (nodes scheme.now) }
     requires seats { vec_len played.seats ≡ length (nodes scheme.now) }
     requires heard { AreHeard scheme.now played.seats.items lines.now played.answers.items }
-    ensures ok { OnOk result ((text : List ℕ) × IsRunReport scheme.now lines.now text × Appends (W.contents writer.old) (W.contents writer.new) text) }
-    ensures stores { IfOk result (λ v. vec_len v ≡ length (nodes scheme.now)) }
-    ensures err { IfErr result (λ e. FailsToRun e scheme.now lines.now (W.contents writer.old) (W.contents writer.new)) }
+    ensures ok { IfOk result (λ v. (text : List ℕ) × IsRunReport scheme.now lines.now (committed_by_all (states_of v.items)) text × Appends (W.contents writer.old) (W.contents writer.new) text) }
+    ensures ended { IfOk result (λ v. HaveEnded S.NodeStore O.opened scheme.now v.items) }
+    ensures err { IfErr result (λ e. FailsToRun S.NodeStore O.opened e scheme.now lines.now (W.contents writer.old) (W.contents writer.new)) }
 {
     let Played { seats, answers } = played;
     let Ok(text) = lines_of(alloc, answers.as_slice()) else {
         return Err(OpFault::NoMemory);
     };
     match whole_of(alloc, scheme, desks, ends, seats, text.as_str(), watch) {
-        Ok(Whole { text, stores }) => match write_out(writer, text.as_str()) {
-            Ok(()) => Ok(stores),
+        Ok(Whole { text, nodes }) => match write_out(writer, text.as_str()) {
+            Ok(()) => Ok(nodes),
             Err(unwritten) => {
-                drop(stores);
+                drop(nodes);
                 Err(unwritten)
             }
         },
@@ -206,13 +186,60 @@ fn write_run<S: Drop, W: Write, P: weave::Watch>(
     }
 }
 
+/// As `run_script`, where that is known of the nodes when their desks open.
+fn run_opened<O, S, L, D, K, G, W, P, R>(
+    rt: &R,
+    alloc: Global,
+    scheme: &Scheme,
+    lines: &[ScriptLine],
+    loaded: Vec<Stored<Core, S>>,
+    network: &Network<'_, L, D, K, G>,
+    writer: &mut W,
+    watch: &mut P,
+) -> Result<Vec<Stored<Core, S>>, OpFault>
+where
+    O: Opening + Send,
+    S: NodeStore + Send + Drop,
+    L: Listen + Sync,
+    D: Dial + Sync,
+    K: Clock + Sync,
+    G: Gate + Sync,
+    W: Write,
+    P: Watch + weave::Watch,
+    R: Threads + Wait + SystemClock + Sync,
+    requires count { vec_len loaded ≡ length (nodes scheme.now) }
+    requires may_open { All (MayOpen S.NodeStore O.opened) loaded.items }
+    requires listeners { length network.now.listeners.now ≡ length (nodes scheme.now) }
+    ensures ok { IfOk result (λ v. (text : List ℕ) × IsRunReport scheme.now lines.now (committed_by_all (states_of v.items)) text × Appends (W.contents writer.old) (W.contents writer.new) text) }
+    ensures ended { IfOk result (λ v. HaveEnded S.NodeStore O.opened scheme.now v.items) }
+    ensures err { IfErr result (λ e. FailsToRun S.NodeStore O.opened e scheme.now lines.now (W.contents writer.old) (W.contents writer.new)) }
+{
+    let run: Run<O, S> = run_and_play(rt, alloc, scheme, lines, loaded, network, watch)?;
+    let Run {
+        desks,
+        ends,
+        played,
+    } = run;
+    let played = match played {
+        Ok(played) => played,
+        Err(NoMemory) => {
+            drop(desks);
+            drop(ends);
+            return Err(OpFault::NoMemory);
+        }
+    };
+    write_run(alloc, scheme, desks, ends, played, lines, writer, watch)
+}
+
 /// Runs all nodes, each in threads of its own, while the script's lines are ordered and asked one after another; then
 /// stops all nodes. Each order and each question is answered once all records are committed that the node's journal had
 /// then. Writes the answers, a line each, and then the table of a run that leads to what all nodes have committed: of
 /// the world that the protocol's own steps lead to, whatever sockets and threads did.
 ///
-/// The states are those that the stores' records lead to. The watch is told of the script's lines, and afterwards of the
-/// records as they are settled and woven. Returns the stores, each as its node left it.
+/// The nodes are the log and then the registries in the scheme's order, each with its store and the state that the
+/// store's records lead to. The watch is told of the script's lines, and afterwards of the records as they are settled
+/// and woven. Returns the nodes as they ended: no store has failed, each has the committed records of its node, which
+/// the table is of, and these begin with those that it was loaded with.
 ///
 /// # Errors
 ///
@@ -229,11 +256,11 @@ pub fn run_script<S, L, D, K, G, W, P, R>(
     alloc: Global,
     scheme: &Scheme,
     lines: &[ScriptLine],
-    loaded: Loaded<S>,
+    loaded: Vec<Stored<Core, S>>,
     network: &Network<'_, L, D, K, G>,
     writer: &mut W,
     watch: &mut P,
-) -> Result<Vec<S>, OpFault>
+) -> Result<Vec<Stored<Core, S>>, OpFault>
 where
     S: NodeStore + Send + Drop,
     L: Listen + Sync,
@@ -243,25 +270,14 @@ where
     W: Write,
     P: Watch + weave::Watch,
     R: Threads + Wait + SystemClock + Sync,
-    requires states { vec_len loaded.states ≡ length (nodes scheme.now) }
-    requires stores { vec_len loaded.stores ≡ length (nodes scheme.now) }
+    requires nodes { map (λ s. s.state.node) loaded.items ≡ nodes scheme.now }
+    requires opened { All (λ s. s.state ≡ opened_with scheme.now s.state.node s.state.journal) loaded.items }
     requires listeners { length network.now.listeners.now ≡ length (nodes scheme.now) }
-    ensures ok { OnOk result ((text : List ℕ) × IsRunReport scheme.now lines.now text × Appends (W.contents writer.old) (W.contents writer.new) text) }
-    ensures stores { IfOk result (λ v. vec_len v ≡ length (nodes scheme.now)) }
-    ensures err { IfErr result (λ e. FailsToRun e scheme.now lines.now (W.contents writer.old) (W.contents writer.new)) }
+    ensures ok { IfOk result (λ v. (text : List ℕ) × IsRunReport scheme.now lines.now (committed_by_all (states_of v.items)) text × Appends (W.contents writer.old) (W.contents writer.new) text) }
+    ensures ended { IfOk result (λ v. HaveEnded S.NodeStore (IsLoadedAmong S.NodeStore scheme.now loaded.items) scheme.now v.items) }
+    ensures err { IfErr result (λ e. FailsToRun S.NodeStore (IsLoadedAmong S.NodeStore scheme.now loaded.items) e scheme.now lines.now (W.contents writer.old) (W.contents writer.new)) }
 {
-    let Run {
-        desks,
-        ends,
-        played,
-    } = run_and_play(rt, alloc, scheme, lines, loaded, network, watch)?;
-    let played = match played {
-        Ok(played) => played,
-        Err(NoMemory) => {
-            drop(desks);
-            drop(ends);
-            return Err(OpFault::NoMemory);
-        }
-    };
-    write_run(alloc, scheme, desks, ends, played, lines, writer, watch)
+    run_opened::<Brand, S, L, D, K, G, W, P, R>(
+        rt, alloc, scheme, lines, loaded, network, writer, watch,
+    )
 }

@@ -9,7 +9,7 @@ use units::{Block, Code, Items, Kind, Label};
 /// The blocks that an account has at the start.
 #[derive(Debug, Drop)]
 pub struct Allotment {
-    /// In a scheme that was read: one of the registry's accounts, 1 to `LAST_ACCOUNT`.
+    /// One of the registry's accounts, in any scheme: 1 to `LAST_ACCOUNT`.
     pub account: u64,
     pub units: Items<Block>,
 }
@@ -18,7 +18,7 @@ pub struct Allotment {
 #[derive(Debug, Drop)]
 pub struct SchemeRegistry {
     pub code: Code,
-    /// In a scheme that was read: at most `MOST_ACCOUNTS` numbers, 1 to `LAST_ACCOUNT`, none twice.
+    /// Numbers of 1 to `LAST_ACCOUNT`, in any scheme. In one that was read: at most `MOST_ACCOUNTS`, none twice.
     pub accounts: Items<u64>,
     /// In a scheme that was read: at most `MOST_ALLOTTED` blocks in all registries, no unit twice.
     pub allotted: Items<Allotment>,

@@ -1,15 +1,42 @@
 -- What comes of a message that was due.
-use Rattle.std.proofs.Common.{ℕ, Some, sym, subst}
+use Rattle.std.proofs.Common.{◌≡◌, ℕ, List, [], ◌∷◌, ◌++◌, Option, Some, sym, subst}
 use Rattle.units.specs.declared.code.Node.{Node}
+use Rattle.wire.specs.Messages.{message_text}
 use Rattle.wire.specs.declared.message.Message.{Message}
-use Rattle.desk.specs.Desks.{IsToSend}
+use Rattle.scheme.specs.declared.registries.Scheme.{Scheme}
+use Rattle.wire.specs.declared.input.Input.{Input}
+use Rattle.stores.specs.declared.node_store.NodeStore.{Ghosts}
+use Rattle.desk.specs.Keeping.{IsToSend}
 use Rattle.desk.specs.Views.{Heard}
+use Rattle.exchanges.specs.Exchanges.{Exchanges}
+use Rattle.exchanges.specs.Watched.{Watched}
+use Rattle.sessions.specs.Delivering.{received}
 use Rattle.sessions.specs.declared.sending.Sent.{Sent}
 use Rattle.sessions.specs.declared.sending.Sent.TheVariants.{Nothing, Received, NotReceived, NoMemory}
-use Rattle.sessions.specs.Sending.{Acknowledges, Sends, Tries}
+use Rattle.sessions.specs.Sending.{Acknowledges, IsReceivedBy, Sends, Tries, unused}
 
-pub tries_send : (peer : Node) (from : ℕ) (old new : Heard) (key : ℕ) (m : Message) (sent : Sent) → IsToSend peer from (Some (key, m)) → Tries old new key sent → Sends peer from old new sent
-tries_send peer from old new key m Nothing due t = absurd t
-tries_send peer from old new key m (Received k) due t = ((m, subst (λ (n : ℕ). IsToSend peer from (Some (n, m))) (sym t.0) due), subst (λ (n : ℕ). Acknowledges old new n) (sym t.0) t.1)
-tries_send peer from old new key m (NotReceived k) due t = ((m, subst (λ (n : ℕ). IsToSend peer from (Some (n, m))) (sym t.0) due), t.1)
-tries_send peer from old new key m NoMemory due t = t
+module _ {R W : Type 0} (leads : Node → R → W → Type 0) (remaining : R → Option (List ℕ)) (contents : W → Option (List ℕ)) where
+  pub received_by :
+      (peer : Node) (m : Message) (reader : R) (writer : W) (r r' : Watched R) (w w' : Watched W) → leads peer reader writer → r ≡ unused reader → w ≡ unused writer
+      → Exchanges remaining contents r r' w w' (message_text m ++ 10 ∷ []) received → IsReceivedBy leads remaining contents peer m
+  received_by peer m reader writer r r' w w' led new_reader new_writer ended = record {
+    reader = reader;
+    writer = writer;
+    read = r';
+    written = w';
+    led = led;
+    ended =
+        subst (λ (first : Watched R). Exchanges remaining contents first r' (unused writer) w' (message_text m ++ 10 ∷ []) received) new_reader (
+        subst (λ (first : Watched W). Exchanges remaining contents r r' first w' (message_text m ++ 10 ∷ []) received) new_writer ended
+        );
+  }
+
+  module _ {S : Type 0} (g : Ghosts S) (opened : Scheme → Node → List Input → ℕ → Type 0) where
+    pub tries_send :
+        (peer : Node) (from : ℕ) (old new : Heard) (key : ℕ) (m : Message) (sent : Sent) → IsToSend g opened peer from (Some (key, m)) → Tries leads remaining contents peer m old new key sent
+        → Sends leads remaining contents g opened peer from old new sent
+    tries_send peer from old new key m Nothing due t = absurd t
+    tries_send peer from old new key m (Received k) due t =
+        ((m, subst (λ (n : ℕ). IsToSend g opened peer from (Some (n, m))) (sym t.0) due, t.1), subst (λ (n : ℕ). Acknowledges old new n) (sym t.0) t.2)
+    tries_send peer from old new key m (NotReceived k) due t = ((m, subst (λ (n : ℕ). IsToSend g opened peer from (Some (n, m))) (sym t.0) due), t.1)
+    tries_send peer from old new key m NoMemory due t = t

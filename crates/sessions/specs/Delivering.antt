@@ -1,5 +1,5 @@
--- How an exchange ends that is about the delivery of a message. No public contract cites it.
-use Rattle.std.specs.Prelude.{ℕ, Result, Ok, Err}
+-- How an exchange ends that is about the delivery of a message.
+use Rattle.std.specs.Prelude.{Result, Ok, Err}
 use Rattle.wire.specs.declared.reply.Reply.TheVariants as reply
 use Rattle.exchanges.specs.declared.ends.Exchange.{Exchange}
 use Rattle.exchanges.specs.declared.ends.Exchange.TheVariants.{Answered, WriteFault, ReadFault, PeerEnded, BadReply, NoMemory}
@@ -7,6 +7,8 @@ use Rattle.exchanges.specs.declared.ends.Exchange.TheVariants.{Answered, WriteFa
 -- the peer replied that the message was received
 abbrev pub received : Exchange
 received = Answered reply.Received
+
+-- ---- what the code follows; no public contract cites what stands below
 
 -- it ended in another way
 abbrev pub IsOtherEnd : Exchange → Type 0
@@ -19,6 +21,6 @@ IsOtherEnd BadReply = Unit {0}
 IsOtherEnd NoMemory = Unit {0}
 
 -- the end that a delivery comes of
-abbrev pub end_of : Result ℕ Exchange → Exchange
-end_of (Ok key) = received
+abbrev pub end_of : {T : Type 0} → Result T Exchange → Exchange
+end_of (Ok _) = received
 end_of (Err end) = end

@@ -1,3 +1,2 @@
 pub mod Delivering
 pub mod Sending
-pub mod Ends

@@ -1,4 +1,6 @@
 //! Connections between nodes.
+ghost use Rattle.std.specs.Prelude.{IfSome};
+ghost use Rattle.units.specs.declared.code.Node.{Node};
 
 use std::io::{Read, Write};
 use units::Node;
@@ -33,6 +35,10 @@ pub trait Dial {
     /// The bytes that go to the other end.
     type Writer: Write + Drop + Send;
 
+    /// They are the two directions of a connection that it made with that node.
+    ghost leads: { Self → Node → Self.Reader → Self.Writer → Type 0 };
+
     /// Makes a connection with that node, and returns its two directions. `None` where making it failed.
-    fn connect(&self, peer: Node) -> Option<(Self::Reader, Self::Writer)>;
+    fn connect(&self, peer: Node) -> Option<(Self::Reader, Self::Writer)>
+        ensures { IfSome result (λ made. leads self.now peer made.0 made.1) };
 }

@@ -1,8 +1,9 @@
 //! One message over one connection.
-ghost use Rattle.std.specs.Prelude.{◌≡◌, ◌++◌, ◌∷◌, [], MatchResult};
+ghost use Rattle.std.specs.Prelude.{◌≡◌, ◌++◌, ◌∷◌, [], MatchResult, IfOk};
 ghost use Rattle.wire.specs.Messages.{message_text};
 ghost use Rattle.exchanges.specs.Exchanges.{Exchanges};
 ghost use Rattle.sessions.specs.Delivering.{IsOtherEnd, end_of};
+ghost use Rattle.sessions.specs.Sending.{IsReceivedBy};
 
 use crate::connections::Dial;
 use exchanges::{Counted, Exchange, exchange};
@@ -12,18 +13,24 @@ use std::marker::Model;
 use units::Node;
 use wire::{Message, Reply};
 
-/// The key of a message of which the peer replied in an exchange that it was received. Only this module makes one.
-#[derive(Debug, Drop)]
-pub(crate) struct Delivered {
+/// A message with its key, and the node that replied in an exchange of it that it was received, over a connection that
+/// was made with that node. Only `deliver` makes one.
+#[derive(Drop)]
+pub(crate) struct Delivered<'a, D: Dial> {
+    dial: &'a D,
+    peer: Node,
     key: usize,
+    message: &'a Message,
 }
 
-impl Model for Delivered {
-    ghost use Rattle.std.specs.Prelude.{ℕ};
+impl<'a, D: Dial> Model for Delivered<'a, D> {
+    ghost use Rattle.sessions.specs.Sending.{Delivery, IsReceivedBy};
 
-    ghost Value = { ℕ };
+    ghost Value = { Delivery D };
 
-    ghost view = { λ d. d.key };
+    ghost view = { λ d. record { dial = d.dial.now; peer = d.peer; key = d.key; message = d.message.now } };
+
+    ghost invariant = { λ d. IsReceivedBy (D.leads d.dial.now) D.Reader.remaining D.Writer.contents d.peer d.message.now };
 }
 
 /// Why a message wasn't delivered.
@@ -35,52 +42,59 @@ pub(crate) enum Undelivered {
     Ended(Exchange),
 }
 
-impl Delivered {
+impl<'a, D: Dial> Delivered<'a, D> {
     /// The key of the message.
     pub(crate) fn key(&self) -> usize
-        ensures { result ≡ self.now }
+        ensures key { result ≡ self.now.key }
+        ensures received { IsReceivedBy (D.leads self.now.dial) D.Reader.remaining D.Writer.contents self.now.peer self.now.message }
     {
         self.key
     }
 }
 
-/// One exchange of the message with that key. Fails with how it ended where that isn't with the reply that the message
-/// was received.
+/// One exchange of the message. Fails with how it ended where that isn't with the reply that the message was received.
 fn deliver_over<R: Read, W: Write>(
     alloc: Global,
     reader: &mut Counted<R>,
     writer: &mut Counted<W>,
-    key: usize,
     message: &Message,
-) -> Result<Delivered, Exchange>
-    ensures key { MatchResult result (λ delivered. delivered ≡ key) IsOtherEnd }
+) -> Result<(), Exchange>
+    ensures end { MatchResult result (λ _. Unit {0}) IsOtherEnd }
     ensures exchange { Exchanges R.remaining W.contents reader.old reader.new writer.old writer.new
         (message_text message.now ++ 10 ∷ []) (end_of result) }
 {
     match exchange(alloc, reader, writer, message) {
-        Exchange::Answered(Reply::Received) => Ok(Delivered { key }),
+        Exchange::Answered(Reply::Received) => Ok(()),
         end => Err(end),
     }
 }
 
 /// One exchange of the message with that key over a connection of its own. Fails where no connection could be made,
 /// and where the peer didn't reply that the message was received.
-pub(crate) fn deliver<D: Dial>(
+pub(crate) fn deliver<'a, D: Dial>(
     alloc: Global,
-    dial: &D,
+    dial: &'a D,
     peer: Node,
     key: usize,
-    message: &Message,
-) -> Result<Delivered, Undelivered>
-    ensures { MatchResult result (λ delivered. delivered ≡ key) (λ _. Unit {0}) }
+    message: &'a Message,
+) -> Result<Delivered<'a, D>, Undelivered>
+    ensures value { IfOk result
+        (λ delivered. delivered ≡ record { dial = dial.now; peer = peer; key = key; message = message.now }) }
+    ensures received { IfOk result
+        (λ _. IsReceivedBy (D.leads dial.now) D.Reader.remaining D.Writer.contents peer message.now) }
 {
     let Some((reader, writer)) = dial.connect(peer) else {
         return Err(Undelivered::NoConnection);
     };
     let mut reader = Counted::new(reader);
     let mut writer = Counted::new(writer);
-    match deliver_over(alloc, &mut reader, &mut writer, key, message) {
-        Ok(delivered) => Ok(delivered),
+    match deliver_over(alloc, &mut reader, &mut writer, message) {
+        Ok(()) => Ok(Delivered {
+            dial,
+            peer,
+            key,
+            message,
+        }),
         Err(end) => Err(Undelivered::Ended(end)),
     }
 }

@@ -13,6 +13,6 @@ mod workers;
 
 pub use connections::{Accepted, Dial, Listen};
 pub use mustering::{LONGEST_MUSTER, Muster, Mustered};
-pub use node_threads::{NodeEnd, NodeParts, NodeToRun, WORKERS, run_all, run_node, threads_of};
+pub use node_threads::{NodeParts, WORKERS, run_all, run_node, threads_of};
 pub use sending::{Sent, send_next};
 pub use session_threads::SESSION_THREADS;

@@ -1,7 +1,6 @@
 //! The threads of a node, and those of several nodes.
 ghost use Rattle.std.specs.Prelude.{◌≡◌, ◌<◌, ◌+◌, ◌^◌, ℕ, length, vec_len, slice_get, IfOk, Ok, Some};
 ghost use Rattle.std.specs.Thread.{IsSync};
-ghost use Rattle.sessions.specs.Ends.{faults_with};
 
 use crate::connections::{Dial, Listen};
 use crate::mustering::Muster;
@@ -10,14 +9,14 @@ use crate::session_threads::{SESSION_THREADS, serve_sessions};
 use crate::workers::{Errand, work};
 use answers::Clock;
 use crossbeam_channel::{Receiver, Sender};
-use desk::{Bell, Desk, Gate, Seat};
+use desk::{Bell, Desk, Gate, Opening, Seat};
 use protocol::NodeCore;
 use std::alloc::Global;
 use std::rt::Clock as SystemClock;
 use std::sync::Wait;
 use std::thread;
 use std::thread::Threads;
-use stores::{NodeStore, StoreFault};
+use stores::NodeStore;
 use units::{NoMemory, Node};
 
 /// How many threads of a node have its desk take jobs.
@@ -40,9 +39,9 @@ pub fn threads_of(peers: usize) -> usize
 /// What the threads of a node share: its name, its desk, what accepts and makes its connections, the nodes that it
 /// sends to, its clock, the gate that its workers pass, and where each reports once when it begins.
 #[derive(Drop)]
-pub struct NodeParts<'a, C: NodeCore, B: Bell, L, D, K, G> {
+pub struct NodeParts<'a, O: Opening, C: NodeCore, S: NodeStore, B: Bell, L, D, K, G> {
     pub node: Node,
-    pub desk: &'a Desk<C, B>,
+    pub desk: &'a Desk<O, C, S, B>,
     pub listen: &'a L,
     pub dial: &'a D,
     pub peers: &'a [Node],
@@ -51,69 +50,51 @@ pub struct NodeParts<'a, C: NodeCore, B: Bell, L, D, K, G> {
     pub muster: &'a Muster,
 }
 
-/// What a node's threads left: the seats of those that took something at its desk, its store, and the store's fault,
-/// if one stopped the node.
-#[derive(Drop)]
-pub struct NodeEnd<S> {
-    pub seats: Vec<Seat>,
-    pub store: S,
-    pub fault: Option<StoreFault>,
-}
-
-/// Commits the desk's records to the store until the desk stops, and returns the store's fault, if that stopped it.
-fn commit_all<C: NodeCore, B: Bell, S: NodeStore, R: Wait + SystemClock>(
+/// Commits the desk's records to its store until the desk stops, also where the store has a fault.
+fn commit_all<O: Opening, C: NodeCore, S: NodeStore, B: Bell, R: Wait + SystemClock>(
     rt: &R,
-    desk: &Desk<C, B>,
-    store: &mut S,
-) -> Option<StoreFault>
-    ensures store { S.whose store.new ≡ S.whose store.old }
-    ensures faults { S.faults store.new ≡ faults_with (S.faults store.old) result }
-{
+    desk: &Desk<O, C, S, B>,
+) {
     for _ in rt.forever() {
         // Read before the desk is looked at, so that no ring between the two is missed.
         let rings = desk.bell().rings(rt);
-        match desk.commit_next(rt, store) {
+        match desk.commit_next(rt) {
             Ok(0) => {
                 if !desk.is_running(rt) {
-                    return None;
+                    return;
                 }
                 desk.bell().wait(rt, rings);
             }
             Ok(_) => {}
-            Err(fault) => return Some(fault),
+            Err(_) => return,
         }
     }
-    unreachable!()
 }
 
-/// Reports that it has begun. Then it commits the desk's records until the desk stops, and returns the store and its
-/// fault, if that stopped the desk.
-fn report_and_commit<C: NodeCore, B: Bell, S: NodeStore, R: Wait + SystemClock>(
+/// Reports that it has begun. Then it commits the desk's records until the desk stops.
+fn report_and_commit<O: Opening, C: NodeCore, S: NodeStore, B: Bell, R: Wait + SystemClock>(
     rt: &R,
-    desk: &Desk<C, B>,
+    desk: &Desk<O, C, S, B>,
     muster: &Muster,
-    mut store: S,
-) -> (S, Option<StoreFault>)
-    ensures store { S.whose result.0 ≡ S.whose store }
-    ensures faults { S.faults result.0 ≡ faults_with (S.faults store) result.1 }
-{
+) {
     muster.report(rt);
-    let fault = commit_all(rt, desk, &mut store);
-    (store, fault)
+    commit_all(rt, desk);
 }
 
-/// Reports that it has begun. Then it works or sends with one seat, until the desk stops: the first `WORKERS` places are
-/// those of the job workers, and each place after these is that of a peer's sender.
-fn take_part<C, B, L, D, K, G, R>(
+/// Reports that it has begun. Then it works or sends with one seat, until the desk stops: the first `WORKERS` places
+/// are those of the job workers, and each place after these is that of a peer's sender.
+fn take_part<O, C, S, B, L, D, K, G, R>(
     rt: &R,
     alloc: Global,
-    parts: &NodeParts<'_, C, B, L, D, K, G>,
+    parts: &NodeParts<'_, O, C, S, B, L, D, K, G>,
     errands: &Receiver<Errand>,
     place: usize,
     seat: &mut Seat,
 )
 where
+    O: Opening,
     C: NodeCore,
+    S: NodeStore,
     B: Bell,
     D: Dial,
     K: Clock,
@@ -129,15 +110,17 @@ where
 }
 
 /// Works and sends in a thread for each seat, until the desk stops.
-fn take_all<C, B, L, D, K, G, R>(
+fn take_all<O, C, S, B, L, D, K, G, R>(
     rt: &R,
     alloc: Global,
-    parts: &NodeParts<'_, C, B, L, D, K, G>,
+    parts: &NodeParts<'_, O, C, S, B, L, D, K, G>,
     errands: &Receiver<Errand>,
     seats: &mut [Seat],
 )
 where
+    O: Opening + Send,
     C: NodeCore + Send,
+    S: NodeStore + Send,
     B: Bell + Sync,
     L: Sync,
     D: Dial + Sync,
@@ -157,16 +140,18 @@ where
 }
 
 /// The threads that take something at the desk, and those that serve sessions, whose end ends the job workers.
-fn serve_and_take<C, B, L, D, K, G, R>(
+fn serve_and_take<O, C, S, B, L, D, K, G, R>(
     rt: &R,
     alloc: Global,
-    parts: &NodeParts<'_, C, B, L, D, K, G>,
+    parts: &NodeParts<'_, O, C, S, B, L, D, K, G>,
     errands: Sender<Errand>,
     handed: &Receiver<Errand>,
     seats: &mut [Seat],
 )
 where
+    O: Opening + Send,
     C: NodeCore + Send,
+    S: NodeStore + Send,
     B: Bell + Sync,
     L: Listen + Sync,
     D: Dial + Sync,
@@ -198,47 +183,43 @@ fn new_seats(alloc: Global, count: usize) -> Result<Vec<Seat>, NoMemory>
 }
 
 /// All threads of a node, until the desk stops.
-fn run_threads<C, B, L, D, K, G, S, R>(
+fn run_threads<O, C, S, B, L, D, K, G, R>(
     rt: &R,
     alloc: Global,
-    parts: &NodeParts<'_, C, B, L, D, K, G>,
+    parts: &NodeParts<'_, O, C, S, B, L, D, K, G>,
     errands: Sender<Errand>,
     handed: &Receiver<Errand>,
     mut seats: Vec<Seat>,
-    store: S,
-) -> NodeEnd<S>
+) -> Vec<Seat>
 where
+    O: Opening + Send,
     C: NodeCore + Send,
+    S: NodeStore + Send,
     B: Bell + Sync,
     L: Listen + Sync,
     D: Dial + Sync,
     K: Clock + Sync,
     G: Gate + Sync,
-    S: NodeStore + Send + Drop,
     R: Threads + Wait + SystemClock + Sync,
-    ensures seats { vec_len result.seats ≡ vec_len seats }
-    ensures store { S.whose result.store ≡ S.whose store }
-    ensures faults { S.faults result.store ≡ faults_with (S.faults store) result.fault }
+    ensures { vec_len result ≡ vec_len seats }
 {
     let taking = seats.as_mut_slice();
-    let ((store, fault), ()) = thread::join(
+    thread::join(
         rt,
-        move || report_and_commit(rt, parts.desk, parts.muster, store),
+        move ||
+            requires { IsSync R.row }
+        { report_and_commit(rt, parts.desk, parts.muster) },
         move ||
             requires { IsSync R.row }
         { serve_and_take(rt, alloc, parts, errands, handed, taking) },
     );
-    NodeEnd {
-        seats,
-        store,
-        fault,
-    }
+    seats
 }
 
-/// Runs a node's threads until its desk stops: one commits the desk's records to the store, `SESSION_THREADS` serve
+/// Runs a node's threads until its desk stops: one commits the desk's records to its store, `SESSION_THREADS` serve
 /// the connections that others make, `WORKERS` have the desk take their jobs, and one for each peer sends it the
 /// messages that are due, again every `LONGEST_QUIET` seconds while they aren't received. `MOST_JOBS` jobs wait at
-/// most.
+/// most. Returns the seats of those that took something at the desk.
 ///
 /// The desk stops when it is told to, where the store has a fault, and where 100 accepts in a row failed. Then each
 /// thread ends by itself: one that waits at the bell, for a worker or for a connection looks at the desk again after a
@@ -248,107 +229,86 @@ where
 /// Each of these `threads_of` threads reports once at the muster when it begins. Where the system has no thread for
 /// one, another does its work once it has ended its own, and until then nobody does. So whoever gives orders at the
 /// desk waits for all reports first, and stops the desk where one is missing.
-pub fn run_node<C, B, L, D, K, G, S, R>(
+pub fn run_node<O, C, S, B, L, D, K, G, R>(
     rt: &R,
     alloc: Global,
-    parts: &NodeParts<'_, C, B, L, D, K, G>,
-    store: S,
-) -> Result<NodeEnd<S>, NoMemory>
+    parts: &NodeParts<'_, O, C, S, B, L, D, K, G>,
+) -> Result<Vec<Seat>, NoMemory>
 where
+    O: Opening + Send,
     C: NodeCore + Send,
+    S: NodeStore + Send,
     B: Bell + Sync,
     L: Listen + Sync,
     D: Dial + Sync,
     K: Clock + Sync,
     G: Gate + Sync,
-    S: NodeStore + Send + Drop,
     R: Threads + Wait + SystemClock + Sync,
-    ensures seats { IfOk result (λ end. vec_len end.seats ≡ WORKERS + length parts.now.peers.now) }
-    ensures store { IfOk result (λ end. S.whose end.store ≡ S.whose store) }
-    ensures faults { IfOk result (λ end. S.faults end.store ≡ faults_with (S.faults store) end.fault) }
+    ensures { IfOk result (λ seats. vec_len seats ≡ WORKERS + length parts.now.peers.now) }
 {
     let seats = new_seats(alloc, WORKERS + parts.peers.len())?;
     let (errands, handed) = crossbeam_channel::bounded(alloc, MOST_JOBS)?;
-    Ok(run_threads(rt, alloc, parts, errands, &handed, seats, store))
-}
-
-/// A node to run, and its store.
-#[derive(Drop)]
-pub struct NodeToRun<'a, C: NodeCore, B: Bell, L, D, K, G, S> {
-    pub parts: NodeParts<'a, C, B, L, D, K, G>,
-    pub store: S,
+    Ok(run_threads(rt, alloc, parts, errands, &handed, seats))
 }
 
 /// As `run_node`. Where memory ran out, the desk has stopped.
-fn run_one<C, B, L, D, K, G, S, R>(
+fn run_one<O, C, S, B, L, D, K, G, R>(
     rt: &R,
     alloc: Global,
-    node: NodeToRun<'_, C, B, L, D, K, G, S>,
-) -> Result<NodeEnd<S>, NoMemory>
+    parts: NodeParts<'_, O, C, S, B, L, D, K, G>,
+) -> Result<Vec<Seat>, NoMemory>
 where
+    O: Opening + Send,
     C: NodeCore + Send,
+    S: NodeStore + Send,
     B: Bell + Sync,
     L: Listen + Sync,
     D: Dial + Sync,
     K: Clock + Sync,
     G: Gate + Sync,
-    S: NodeStore + Send + Drop,
     R: Threads + Wait + SystemClock + Sync,
-    ensures seats { IfOk result (λ end. vec_len end.seats ≡ WORKERS + length node.entry.parts.peers.now) }
-    ensures store { IfOk result (λ end. S.whose end.store ≡ S.whose node.entry.store) }
-    ensures faults { IfOk result (λ end. S.faults end.store ≡ faults_with (S.faults node.entry.store) end.fault) }
+    ensures { IfOk result (λ seats. vec_len seats ≡ WORKERS + length parts.entry.peers.now) }
 {
-    let NodeToRun { parts, store } = node;
-    let end = run_node(rt, alloc, &parts, store);
-    if end.is_err() {
+    let seats = run_node(rt, alloc, &parts);
+    if seats.is_err() {
         // No thread of it commits, so that whoever waits for a commit has to be told.
         parts.desk.stop(rt);
     }
-    end
+    seats
 }
 
-/// Runs several nodes, each as `run_node` does, until the desk of each has stopped, and returns their ends in the order
-/// of the nodes. What happens at one node stops no other one; where memory ran out for a node's threads, its end is
-/// `NoMemory` and its desk has stopped. Fails with `NoMemory` where memory ran out: then nothing is told of what the
-/// threads did.
-pub fn run_all<C, B, L, D, K, G, S, R>(
+/// Runs several nodes, each as `run_node` does, until the desk of each has stopped, and returns the seats of each in the
+/// order of the nodes. What happens at one node stops no other one; where memory ran out for a node's threads, it has
+/// `NoMemory` in place of seats, and its desk has stopped. Fails with `NoMemory` where memory ran out: then nothing is
+/// told of what the threads did.
+pub fn run_all<O, C, S, B, L, D, K, G, R>(
     rt: &R,
     alloc: Global,
-    nodes: Vec<NodeToRun<'_, C, B, L, D, K, G, S>>,
-) -> Result<Vec<Result<NodeEnd<S>, NoMemory>>, NoMemory>
+    nodes: Vec<NodeParts<'_, O, C, S, B, L, D, K, G>>,
+) -> Result<Vec<Result<Vec<Seat>, NoMemory>>, NoMemory>
 where
+    O: Opening + Send,
     C: NodeCore + Send,
+    S: NodeStore + Send,
     B: Bell + Sync,
     L: Listen + Sync,
     D: Dial + Sync,
     K: Clock + Sync,
     G: Gate + Sync,
-    S: NodeStore + Send + Drop,
     R: Threads + Wait + SystemClock + Sync,
     ensures count { IfOk result (λ ends. vec_len ends ≡ vec_len nodes.entry) }
     ensures seats { IfOk result
-        (λ ends. (k : ℕ) (node : _) (end : _) → slice_get nodes.entry.items k ≡ Some node
-        → slice_get ends.items k ≡ Some (Ok end)
-        → vec_len end.seats ≡ WORKERS + length node.parts.peers.now) }
-    ensures stores { IfOk result
-        (λ ends. (k : ℕ) (node : _) (end : _) → slice_get nodes.entry.items k ≡ Some node
-        → slice_get ends.items k ≡ Some (Ok end)
-        → S.whose end.store ≡ S.whose node.store) }
-    ensures faults { IfOk result
-        (λ ends. (k : ℕ) (node : _) (end : _) → slice_get nodes.entry.items k ≡ Some node
-        → slice_get ends.items k ≡ Some (Ok end)
-        → S.faults end.store ≡ faults_with (S.faults node.store) end.fault) }
+        (λ ends. (k : ℕ) (parts : _) (seats : _) → slice_get nodes.entry.items k ≡ Some parts
+        → slice_get ends.items k ≡ Some (Ok seats)
+        → vec_len seats ≡ WORKERS + length parts.peers.now) }
 {
     let ends = thread::map_vec(
         rt,
         nodes,
-        &|node: NodeToRun<'_, C, B, L, D, K, G, S>| -> Result<NodeEnd<S>, NoMemory>
+        &|parts: NodeParts<'_, O, C, S, B, L, D, K, G>| -> Result<Vec<Seat>, NoMemory>
             requires { IsSync R.row }
-            ensures seats { IfOk result (λ end. vec_len end.seats ≡ WORKERS + length node.entry.parts.peers.now) }
-            ensures store { IfOk result (λ end. S.whose end.store ≡ S.whose node.entry.store) }
-            ensures faults { IfOk result
-                (λ end. S.faults end.store ≡ faults_with (S.faults node.entry.store) end.fault) }
-        { run_one(rt, alloc, node) },
+            ensures { IfOk result (λ seats. vec_len seats ≡ WORKERS + length parts.entry.peers.now) }
+        { run_one(rt, alloc, parts) },
     )?;
     Ok(ends)
 }

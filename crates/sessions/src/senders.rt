@@ -2,18 +2,19 @@
 
 use crate::connections::Dial;
 use crate::sending::{Sent, send_next};
-use desk::{Bell, Desk, Seat};
+use desk::{Bell, Desk, Opening, Seat};
 use protocol::NodeCore;
 use std::alloc::Global;
 use std::rt::Clock as SystemClock;
 use std::sync::Wait;
+use stores::NodeStore;
 use units::Node;
 
 /// Sends what is due to a peer: the message with the least key, and then those with higher keys, each once.
-fn send_round<C: NodeCore, B: Bell, D: Dial, R: Wait>(
+fn send_round<O: Opening, C: NodeCore, S: NodeStore, B: Bell, D: Dial, R: Wait>(
     rt: &R,
     alloc: Global,
-    desk: &Desk<C, B>,
+    desk: &Desk<O, C, S, B>,
     dial: &D,
     peer: Node,
     seat: &mut Seat,
@@ -32,14 +33,14 @@ fn send_round<C: NodeCore, B: Bell, D: Dial, R: Wait>(
 
 /// Sends what is due to a peer, until the desk stops: again whenever the bell has rung, and every `LONGEST_QUIET`
 /// seconds, so that a message that wasn't received is sent again also where nothing happens at the node.
-pub(crate) fn send_all<C: NodeCore, B: Bell, D: Dial, R: Wait + SystemClock>(
-    rt: &R,
-    alloc: Global,
-    desk: &Desk<C, B>,
-    dial: &D,
-    peer: Node,
-    seat: &mut Seat,
-) {
+pub(crate) fn send_all<
+    O: Opening,
+    C: NodeCore,
+    S: NodeStore,
+    B: Bell,
+    D: Dial,
+    R: Wait + SystemClock,
+>(rt: &R, alloc: Global, desk: &Desk<O, C, S, B>, dial: &D, peer: Node, seat: &mut Seat) {
     for _ in rt.forever() {
         let rings = desk.bell().rings(rt);
         if !desk.is_running(rt) {

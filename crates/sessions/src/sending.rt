@@ -3,11 +3,12 @@ ghost use Rattle.sessions.specs.Sending.{Acknowledges, Sends, Tries};
 
 use crate::connections::Dial;
 use crate::delivery::{Delivered, Undelivered, deliver};
-use desk::{Bell, Desk, Seat};
+use desk::{Bell, Desk, Opening, Seat};
 use exchanges::Exchange;
 use protocol::NodeCore;
 use std::alloc::Global;
 use std::sync::Wait;
+use stores::NodeStore;
 use units::Node;
 use wire::{Input, Message, Number};
 
@@ -26,9 +27,9 @@ pub enum Sent {
 }
 
 /// Has the desk take the acknowledgement of the message with that key.
-fn take_acknowledgement<C: NodeCore, B: Bell, R: Wait>(
+fn take_acknowledgement<O: Opening, C: NodeCore, S: NodeStore, B: Bell, R: Wait>(
     rt: &R,
-    desk: &Desk<C, B>,
+    desk: &Desk<O, C, S, B>,
     seat: &mut Seat,
     key: Number,
 )
@@ -38,13 +39,14 @@ fn take_acknowledgement<C: NodeCore, B: Bell, R: Wait>(
 }
 
 /// Has the desk take the acknowledgement of a message that was delivered, where its key has few enough digits.
-fn acknowledge<C: NodeCore, B: Bell, R: Wait>(
+fn acknowledge<O: Opening, C: NodeCore, S: NodeStore, B: Bell, D: Dial, R: Wait>(
     rt: &R,
-    desk: &Desk<C, B>,
+    desk: &Desk<O, C, S, B>,
     seat: &mut Seat,
-    delivered: &Delivered,
+    delivered: &Delivered<'_, D>,
 ) -> Sent
-    ensures { Tries seat.old seat.new delivered.now result }
+    ensures { Tries (D.leads delivered.now.dial) D.Reader.remaining D.Writer.contents
+        delivered.now.peer delivered.now.message seat.old seat.new delivered.now.key result }
 {
     let key = delivered.key();
     let Some(number) = Number::new(key as u64) else {
@@ -55,17 +57,18 @@ fn acknowledge<C: NodeCore, B: Bell, R: Wait>(
 }
 
 /// Sends the message with that key over a connection of its own, and acknowledges it where it was delivered.
-fn send<C: NodeCore, B: Bell, D: Dial, R: Wait>(
+fn send<O: Opening, C: NodeCore, S: NodeStore, B: Bell, D: Dial, R: Wait>(
     rt: &R,
     alloc: Global,
-    desk: &Desk<C, B>,
+    desk: &Desk<O, C, S, B>,
     seat: &mut Seat,
     dial: &D,
     peer: Node,
     key: usize,
     message: &Message,
 ) -> Sent
-    ensures { Tries seat.old seat.new key result }
+    ensures { Tries (D.leads dial.now) D.Reader.remaining D.Writer.contents
+        peer message.now seat.old seat.new key result }
 {
     match deliver(alloc, dial, peer, key, message) {
         Ok(delivered) => acknowledge(rt, desk, seat, &delivered),
@@ -77,16 +80,17 @@ fn send<C: NodeCore, B: Bell, D: Dial, R: Wait>(
 /// Sends the next message to a peer: the one with the least key, from `from` on, that the committed records send and
 /// no record acknowledges. One exchange over a connection of its own; where the peer replies that the message was
 /// received, the desk takes its acknowledgement with the sender's seat, and else the seat is told nothing.
-pub fn send_next<C: NodeCore, B: Bell, D: Dial, R: Wait>(
+pub fn send_next<O: Opening, C: NodeCore, S: NodeStore, B: Bell, D: Dial, R: Wait>(
     rt: &R,
     alloc: Global,
-    desk: &Desk<C, B>,
+    desk: &Desk<O, C, S, B>,
     seat: &mut Seat,
     dial: &D,
     peer: Node,
     from: usize,
 ) -> Sent
-    ensures { Sends peer from seat.old seat.new result }
+    ensures { Sends (D.leads dial.now) D.Reader.remaining D.Writer.contents S.NodeStore O.opened
+        peer from seat.old seat.new result }
 {
     let Ok(found) = desk.next_send(rt, peer, from) else {
         return Sent::NoMemory;

@@ -5,7 +5,7 @@ use crate::mustering::Muster;
 use crate::watched_reader::WatchedReader;
 use crate::workers::{Errand, WorkersAnswerer};
 use crossbeam_channel::Sender;
-use desk::{Bell, Desk};
+use desk::{Bell, Desk, Opening};
 use exchanges::{Counted, serve_session};
 use protocol::NodeCore;
 use std::alloc::Global;
@@ -15,6 +15,7 @@ use std::sync::{Mutex, Wait};
 use std::thread;
 use std::thread::Threads;
 use std::time::Duration;
+use stores::NodeStore;
 
 /// How many threads of a node serve sessions: any number from 1 on.
 pub const SESSION_THREADS: usize = 4;
@@ -43,9 +44,9 @@ fn pause_after(failures: u32) -> Duration {
 
 /// One more accept has failed. The desk stops where that makes `MOST_FAILED_ACCEPTS` in a row, and else this thread
 /// pauses.
-fn stop_or_pause<C: NodeCore, B: Bell, R: Wait + SystemClock>(
+fn stop_or_pause<O: Opening, C: NodeCore, S: NodeStore, B: Bell, R: Wait + SystemClock>(
     rt: &R,
-    desk: &Desk<C, B>,
+    desk: &Desk<O, C, S, B>,
     failures: &Mutex<u32>,
 ) {
     let count = count_failure(rt, failures);
@@ -58,10 +59,18 @@ fn stop_or_pause<C: NodeCore, B: Bell, R: Wait + SystemClock>(
 
 /// Serves one connection to its end. It ends where the desk has stopped, at the next read, and where a line takes too
 /// long.
-fn serve_one<C: NodeCore, B: Bell, Rd: Read + Drop, Wr: Write + Drop, R: Wait + SystemClock>(
+fn serve_one<
+    O: Opening,
+    C: NodeCore,
+    S: NodeStore,
+    B: Bell,
+    Rd: Read + Drop,
+    Wr: Write + Drop,
+    R: Wait + SystemClock,
+>(
     rt: &R,
     alloc: Global,
-    desk: &Desk<C, B>,
+    desk: &Desk<O, C, S, B>,
     reader: Rd,
     writer: Wr,
     errands: &Sender<Errand>,
@@ -75,10 +84,10 @@ fn serve_one<C: NodeCore, B: Bell, Rd: Read + Drop, Wr: Write + Drop, R: Wait + 
 /// Reports that it has begun. Then it accepts connections and serves each to its end, until the desk stops. It stops
 /// the desk where `MOST_FAILED_ACCEPTS` accepts in a row failed, at all session threads together. One to which nobody
 /// came is none of them, and doesn't end the row.
-fn serve_all<C: NodeCore, B: Bell, L: Listen, R: Wait + SystemClock>(
+fn serve_all<O: Opening, C: NodeCore, S: NodeStore, B: Bell, L: Listen, R: Wait + SystemClock>(
     rt: &R,
     alloc: Global,
-    desk: &Desk<C, B>,
+    desk: &Desk<O, C, S, B>,
     listen: &L,
     muster: &Muster,
     failures: &Mutex<u32>,
@@ -105,11 +114,20 @@ fn serve_all<C: NodeCore, B: Bell, L: Listen, R: Wait + SystemClock>(
 /// Where the system has no thread for some of them, these begin after the others have ended: the desk has stopped then,
 /// so that they serve nothing. Until then fewer sessions are served at a time, but always one.
 pub(crate) fn serve_sessions<
+    O: Opening + Send,
     C: NodeCore + Send,
+    S: NodeStore + Send,
     B: Bell + Sync,
     L: Listen + Sync,
     R: Threads + Wait + SystemClock + Sync,
->(rt: &R, alloc: Global, desk: &Desk<C, B>, listen: &L, muster: &Muster, errands: Sender<Errand>) {
+>(
+    rt: &R,
+    alloc: Global,
+    desk: &Desk<O, C, S, B>,
+    listen: &L,
+    muster: &Muster,
+    errands: Sender<Errand>,
+) {
     let failures = Mutex::new(0);
     thread::for_each_mut(
         rt,

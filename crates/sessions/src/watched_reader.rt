@@ -1,11 +1,12 @@
 //! The reader of a session that ends with its node.
 
-use desk::{Bell, Desk};
+use desk::{Bell, Desk, Opening};
 use protocol::NodeCore;
 use std::io::{self, ErrorKind, Read};
 use std::rt::Clock as SystemClock;
 use std::sync::Wait;
 use std::time::{Duration, Instant};
+use stores::NodeStore;
 
 /// How many seconds a line may take, from when its first byte was read until its newline is.
 const LONGEST_LINE_TIME: u64 = 10;
@@ -13,21 +14,29 @@ const LONGEST_LINE_TIME: u64 = 10;
 /// A reader that reads on only while a desk runs, and while the line that it reads was begun no more than
 /// `LONGEST_LINE_TIME` seconds ago.
 #[derive(Drop)]
-pub(crate) struct WatchedReader<'a, Rd, C: NodeCore, B: Bell, R> {
+pub(crate) struct WatchedReader<'a, Rd, O: Opening, C: NodeCore, S: NodeStore, B: Bell, R> {
     inner: Rd,
     rt: &'a R,
-    desk: &'a Desk<C, B>,
+    desk: &'a Desk<O, C, S, B>,
     /// When the line was begun that is being read, if one is.
     begun: Option<Instant>,
 }
 
-impl<'a, Rd, C: NodeCore, B: Bell, R: Wait + SystemClock> WatchedReader<'a, Rd, C, B, R> {
+impl<'a, Rd, O: Opening, C: NodeCore, S: NodeStore, B: Bell, R: Wait + SystemClock> WatchedReader<
+    'a,
+    Rd,
+    O,
+    C,
+    S,
+    B,
+    R,
+> {
     /// That reader, for as long as the desk runs. No line is begun.
     pub(crate) fn new(
         rt: &'a R,
-        desk: &'a Desk<C, B>,
+        desk: &'a Desk<O, C, S, B>,
         inner: Rd,
-    ) -> WatchedReader<'a, Rd, C, B, R> {
+    ) -> WatchedReader<'a, Rd, O, C, S, B, R> {
         WatchedReader {
             inner,
             rt,
@@ -48,8 +57,8 @@ impl<'a, Rd, C: NodeCore, B: Bell, R: Wait + SystemClock> WatchedReader<'a, Rd, 
         }
     }
 
-    /// When the line was begun that is being read, if one is, once those bytes were read. Where the time can't be known,
-    /// the line counts as begun with the bytes that are read next.
+    /// When the line was begun that is being read, if one is, once those bytes were read. Where the time can't be
+    /// known, the line counts as begun with the bytes that are read next.
     fn begun_after(&self, bytes: &[u8]) -> Option<Instant> {
         let Some(last) = bytes.last() else {
             return self.begun;
@@ -64,8 +73,8 @@ impl<'a, Rd, C: NodeCore, B: Bell, R: Wait + SystemClock> WatchedReader<'a, Rd, 
     }
 }
 
-impl<'a, Rd: Read, C: NodeCore, B: Bell, R: Wait + SystemClock> Read
-    for WatchedReader<'a, Rd, C, B, R> {
+impl<'a, Rd: Read, O: Opening, C: NodeCore, S: NodeStore, B: Bell, R: Wait + SystemClock> Read
+    for WatchedReader<'a, Rd, O, C, S, B, R> {
     ghost remaining = { λ w. Rd.remaining w.inner };
 
     /// Fails with `TimedOut` where the desk doesn't run, and where the line takes too long. Nothing was read then.

@@ -6,13 +6,14 @@ ghost use Rattle.answers.specs.Lines.{IsNoLine};
 
 use answers::{Answer, Clock, Job, answer_job};
 use crossbeam_channel::{Receiver, RecvTimeoutError, Sender};
-use desk::{Bell, Desk, Gate, LONGEST_QUIET, Seat};
+use desk::{Bell, Desk, Gate, LONGEST_QUIET, Opening, Seat};
 use exchanges::Answerer;
 use protocol::NodeCore;
 use std::alloc::Global;
 use std::rt::Clock as SystemClock;
 use std::sync::Wait;
 use std::time::Duration;
+use stores::NodeStore;
 use units::NoMemory;
 use wire::Reply;
 
@@ -25,22 +26,29 @@ pub(crate) struct Errand {
 
 /// Replies to the lines of one session by the workers, and keeps the answers.
 #[derive(Drop)]
-pub(crate) struct WorkersAnswerer<'a, C: NodeCore, B: Bell, R: Wait> {
+pub(crate) struct WorkersAnswerer<'a, O: Opening, C: NodeCore, S: NodeStore, B: Bell, R: Wait> {
     rt: &'a R,
     alloc: Global,
-    desk: &'a Desk<C, B>,
+    desk: &'a Desk<O, C, S, B>,
     errands: &'a Sender<Errand>,
     answers: Vec<Answer>,
 }
 
-impl<'a, C: NodeCore, B: Bell, R: Wait> WorkersAnswerer<'a, C, B, R> {
+impl<'a, O: Opening, C: NodeCore, S: NodeStore, B: Bell, R: Wait> WorkersAnswerer<
+    'a,
+    O,
+    C,
+    S,
+    B,
+    R,
+> {
     /// What replies by the workers of that desk, which take these errands. It has no answers yet.
     pub(crate) fn new(
         rt: &'a R,
         alloc: Global,
-        desk: &'a Desk<C, B>,
+        desk: &'a Desk<O, C, S, B>,
         errands: &'a Sender<Errand>,
-    ) -> WorkersAnswerer<'a, C, B, R>
+    ) -> WorkersAnswerer<'a, O, C, S, B, R>
         ensures { result.answers.items ≡ [] }
     {
         WorkersAnswerer {
@@ -54,9 +62,9 @@ impl<'a, C: NodeCore, B: Bell, R: Wait> WorkersAnswerer<'a, C, B, R> {
 }
 
 /// Waits for the answer of a worker. `None` where the workers are gone, and where the desk has stopped before one came.
-fn wait_for_answer<C: NodeCore, B: Bell, R: Wait + SystemClock>(
+fn wait_for_answer<O: Opening, C: NodeCore, S: NodeStore, B: Bell, R: Wait + SystemClock>(
     rt: &R,
-    desk: &Desk<C, B>,
+    desk: &Desk<O, C, S, B>,
     answers: &Receiver<Answer>,
 ) -> Option<Answer> {
     for _ in rt.forever() {
@@ -75,10 +83,10 @@ fn wait_for_answer<C: NodeCore, B: Bell, R: Wait + SystemClock>(
 
 /// Hands a job to a worker, and waits for its answer. `None` where the workers are gone, and where the desk has stopped
 /// before one answered. Fails with `NoMemory` where memory ran out, and the job was handed to none.
-fn ask<C: NodeCore, B: Bell, R: Wait + SystemClock>(
+fn ask<O: Opening, C: NodeCore, S: NodeStore, B: Bell, R: Wait + SystemClock>(
     rt: &R,
     alloc: Global,
-    desk: &Desk<C, B>,
+    desk: &Desk<O, C, S, B>,
     errands: &Sender<Errand>,
     job: Job,
 ) -> Result<Option<Answer>, NoMemory> {
@@ -100,10 +108,10 @@ fn ask<C: NodeCore, B: Bell, R: Wait + SystemClock>(
 
 /// The answer to a line, by a worker where the line writes a message. Where none answers, the node has stopped. Fails
 /// with `NoMemory` where memory ran out, and the line was handed to no worker.
-fn answer_line<C: NodeCore, B: Bell, R: Wait + SystemClock>(
+fn answer_line<O: Opening, C: NodeCore, S: NodeStore, B: Bell, R: Wait + SystemClock>(
     rt: &R,
     alloc: Global,
-    desk: &Desk<C, B>,
+    desk: &Desk<O, C, S, B>,
     errands: &Sender<Errand>,
     line: &[u8],
 ) -> Result<Answer, NoMemory>
@@ -130,7 +138,8 @@ fn answer_line<C: NodeCore, B: Bell, R: Wait + SystemClock>(
     Ok(Answer::stopped(copy))
 }
 
-impl<'a, C: NodeCore, B: Bell, R: Wait + SystemClock> Answerer for WorkersAnswerer<'a, C, B, R> {
+impl<'a, O: Opening, C: NodeCore, S: NodeStore, B: Bell, R: Wait + SystemClock> Answerer
+    for WorkersAnswerer<'a, O, C, S, B, R> {
     ghost use Rattle.answers.specs.Answers.{given_of};
 
     ghost given = { λ s. given_of s.answers.items };
@@ -145,9 +154,17 @@ impl<'a, C: NodeCore, B: Bell, R: Wait + SystemClock> Answerer for WorkersAnswer
 }
 
 /// Has the desk take the jobs of errands with this seat, and hands their answers back, until no session is left.
-pub(crate) fn work<C: NodeCore, B: Bell, K: Clock, G: Gate, R: Wait + SystemClock>(
+pub(crate) fn work<
+    O: Opening,
+    C: NodeCore,
+    S: NodeStore,
+    B: Bell,
+    K: Clock,
+    G: Gate,
+    R: Wait + SystemClock,
+>(
     rt: &R,
-    desk: &Desk<C, B>,
+    desk: &Desk<O, C, S, B>,
     clock: &K,
     gate: &G,
     errands: &Receiver<Errand>,

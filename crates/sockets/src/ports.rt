@@ -1,15 +1,15 @@
 //! Where all nodes accept connections, and what connects to them there.
-ghost use Rattle.std.specs.Prelude.{◌≡◌, ◌++◌, ◌∷◌, [], IfOk, zip, OnErr, OnOk};
+ghost use Rattle.std.specs.Prelude.{◌≡◌, ◌++◌, ◌∷◌, [], Some, IfOk, zip, OnErr, OnOk};
+ghost use Rattle.std.specs.Io.Buffered.{reader_inner};
 ghost use Rattle.sockets.specs.Places.{address_of};
 
-use crate::loopback::{LONGEST_WAIT, directions};
+use crate::dialled::{Dialled, dial_at};
 use crate::port::Port;
 use sessions::Dial;
 use std::alloc::Global;
 use std::io::BufReader;
 use std::marker::Model;
 use std::net::{Net, SocketAddr, TcpStream};
-use std::time::Duration;
 use units::{NoMemory, Node};
 
 /// How many bytes are read of a connection at once: a reply has fewer.
@@ -88,16 +88,16 @@ impl<'a, R: Net> Ports<'a, R> {
 
 impl<'a, R: Net<Stream = TcpStream>> Dial for Ports<'a, R> {
     // One exchange reads a byte at a time, up to its newline.
-    type Reader = BufReader<TcpStream>;
+    type Reader = BufReader<Dialled>;
 
-    type Writer = TcpStream;
+    type Writer = Dialled;
 
-    fn connect(&self, peer: Node) -> Option<(BufReader<TcpStream>, TcpStream)> {
+    // Both directions are of a connection that was made to where the node accepts connections.
+    ghost leads = { λ places peer reader writer. (address_of places peer ≡ Some (reader_inner reader)) × (address_of places peer ≡ Some writer) };
+
+    fn connect(&self, peer: Node) -> Option<(BufReader<Dialled>, Dialled)> {
         let address = self.address_of(peer)?;
-        // A connect to a listener whose queue is full waits for minutes otherwise.
-        let longest = Duration::from_secs(LONGEST_WAIT);
-        let stream = self.net.connect_timeout(address, longest).ok()?;
-        let (reader, writer) = directions(stream)?;
+        let (reader, writer) = dial_at(self.net, address)?;
         let reader = BufReader::with_capacity(self.alloc, READ_AT_ONCE, reader).ok()?;
         Some((reader, writer))
     }

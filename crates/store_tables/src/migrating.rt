@@ -231,8 +231,8 @@ fn migrate_inside<S: Alter, W: Watch>(
 /// Makes a store of format One, which has `count` places, one of format Two with the same inputs, in one transaction.
 ///
 /// Fails with `Damaged(p)` for the first place that has no record in format One, and with `Device`, `Full` or
-/// `NoMemory` at any call of the database. After `Damaged` the store has format One with its records as they were; after
-/// the others it has, or is migrated.
+/// `NoMemory` at any call of the database. After `Damaged` the store has format One with its records as they were;
+/// after the others it has, or is migrated.
 pub fn migrate<S: Alter, W: Watch>(
     conn: &mut Connection<S>,
     alloc: Global,

@@ -2,7 +2,7 @@
 
 /// What is told of a store while it is migrated. It changes nothing of what comes of it.
 pub trait Watch {
-    /// That many of the store's records were rewritten, of so many: told after every 256 records, and after the last one.
+    /// `records` of the store's `count` records were rewritten: called after every 256 records, and after the last one.
     fn migrated(&mut self, records: u64, count: u64);
 }
 

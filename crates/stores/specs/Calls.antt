@@ -3,7 +3,7 @@
 use Rattle.std.specs.Prelude.{◌≡◌, ◌≢◌, ◌⊎◌, ◌++◌, ◌-◌, ◌≤◌, ℕ, Bool, false, List, [], Vec, Result, Ok, Err, IfOk, IfErr, OnOk, OnErr, IsTrue}
 use Rattle.std.specs.declared.alloc.Global.{Global}
 use Rattle.wire.specs.declared.input.Input.{Input}
-use Rattle.stores.specs.Faults.{is_device_fault, IsReadFault}
+use Rattle.stores.specs.Faults.{is_device_fault, refuses_a_store, IsReadFault}
 use Rattle.stores.specs.Records.{Places, AreRecords, IsDamagedAt, IsAllOrNone, written}
 use Rattle.stores.specs.declared.fault.StoreFault.{StoreFault}
 use Rattle.stores.specs.declared.fault.StoreFault.TheVariants.{Reopen, NoMemory, Damaged}
@@ -40,7 +40,8 @@ module _ {S : Type 0} (is_honest : S → Type 0) (content : S → Places) (may_h
     pub kept : is_honest new → must_reopen new ≡ false → content new ≡ content old
     pub crash : is_honest new → must_reopen old ≡ false → (next : Places) → may_hold new next → next ≡ content old
 
-  -- the store was opened again: its content is one that it could hold before
+  -- the store was opened again: its content is one that it could hold before. A store that was found and refused holds
+  -- what it could hold before
   pub record Reopens (old new : S) (result : Result Unit StoreFault) : Type 0 where
     pub named : IfErr result (λ e. e ≢ Reopen)
     pub runs : OnOk result (must_reopen new ≡ false)
@@ -48,3 +49,4 @@ module _ {S : Type 0} (is_honest : S → Type 0) (content : S → Places) (may_h
     pub honest : OnOk result (is_honest new → is_honest old)
     pub settles : is_honest new → OnOk result ∥ may_hold old (content new) ∥₁
     pub settled : OnOk result (IsSettled new)
+    pub refused : is_honest new → IfErr result (λ e. IsTrue (refuses_a_store e) → is_honest old × ((next : Places) → may_hold new next → ∥ may_hold old next ∥₁))

@@ -1,5 +1,5 @@
 -- Which faults are those of the device or of size.
-use Rattle.std.specs.Prelude.{ℕ, ◌+◌, ◌%◌, ◌^◌, Bool, true, false, Result, Ok, Err}
+use Rattle.std.specs.Prelude.{ℕ, ◌+◌, ◌%◌, ◌^◌, ◌==◌, Bool, true, false, not, Result, Ok, Err}
 use Rattle.stores.specs.declared.fault.StoreFault.{StoreFault}
 use Rattle.stores.specs.declared.fault.StoreFault.TheVariants.{Device, Full, Damaged, WrongNode, WrongVersion, NoMemory}
 
@@ -14,6 +14,14 @@ is_judgement (Damaged place) = true
 is_judgement WrongNode = true
 is_judgement WrongVersion = true
 is_judgement _ = false
+
+-- a store was found, and is none of this node, has another format, or has a place without a record; at place 0 the fault
+-- may also be that there is no store
+abbrev pub refuses_a_store : StoreFault → Bool
+refuses_a_store (Damaged place) = not (place == 0)
+refuses_a_store WrongNode = true
+refuses_a_store WrongVersion = true
+refuses_a_store _ = false
 
 -- a fault with which reading a store that runs may fail
 abbrev pub IsReadFault : StoreFault → Type 0

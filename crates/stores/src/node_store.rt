@@ -67,7 +67,9 @@ pub trait NodeStore {
         ensures own { is_honest self.new → must_reopen self.new ≡ false → is_own self.old → is_own self.new };
 
     /// Opens the store again, whether or not it must be. After `Ok` the content is one that it could hold before.
-    /// After an error, which is never `Reopen`, a reopening is still due.
+    /// After an error, which is never `Reopen`, a reopening is still due. After `WrongNode`, `WrongVersion`, and
+    /// `Damaged(p)` where `p` isn't 0, it finds what one before could find. What it finds after the other errors isn't
+    /// said here.
     fn reopen(&mut self) -> Result<(), StoreFault>
         ensures reopens { Reopens is_honest content may_hold must_reopen self.old self.new result }
         ensures count { faults self.new ≡ faults_after (faults self.old) result }

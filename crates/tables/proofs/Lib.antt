@@ -6,3 +6,4 @@ pub mod DueTransfers
 pub mod TonnesAddUp
 pub mod Texts
 pub mod CountedUnits
+mod SafeTables

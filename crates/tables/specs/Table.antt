@@ -3,10 +3,12 @@ use Rattle.std.specs.Prelude.{◌≡◌, ℕ, ◌+◌, List, ◌++◌, flat_map,
 use Rattle.units.specs.declared.code.Node.TheVariants.{Itl, Registry}
 use Rattle.wire.specs.declared.message.Proposal.{Proposal}
 use Rattle.scheme.specs.declared.registries.Scheme.{Scheme}
-use Rattle.protocol.specs.Claims.{live_of}
+use Rattle.protocol.specs.Claims.{committed_of, live_of}
+use Rattle.protocol.specs.Headline.{IsSafe}
 use Rattle.protocol.specs.History.{stands, transitions_of}
 use Rattle.protocol.specs.Table.{due, transactions}
-use Rattle.protocol.specs.World.{World}
+use Rattle.protocol.specs.World.{World, opening, run}
+use Rattle.protocol.specs.declared.event.WorldEvent.{WorldEvent}
 use Rattle.report_lines.specs.NumberOfUnits.{allotted_units}
 use Rattle.world.specs.Stocks.{AreStocks}
 use Rattle.world.specs.declared.views.Stock.{Stock}
@@ -40,3 +42,11 @@ pub record IsTable (w : World) (text : List ℕ) : Type 0 where
 -- scheme allots
 abbrev pub AddUp : Scheme → List Stock → List Proposal → Type 0
 AddUp scheme stocks owing = sum_by (λ s. held_shown s.lines) stocks + owed_shown owing ≡ allotted_units scheme
+
+-- the text is the table of the world that the events lead to from the opening one. It counts every tonne once; and by
+-- journals with their tails, and by committed journals, no tonne is in two places and none is lost
+pub record IsSafeTable (scheme : Scheme) (events : List WorldEvent) (text : List ℕ) : Type 0 where
+  pub table : IsTable (run (opening scheme) events) text
+  pub counted : AddUp scheme table.stocks (due (run (opening scheme) events))
+  pub live : IsSafe scheme (live_of (run (opening scheme) events))
+  pub committed : IsSafe scheme (committed_of (run (opening scheme) events))

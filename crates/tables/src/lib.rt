@@ -1,6 +1,7 @@
 //! The table of a world, as the program writes it, and the law of its numbers.
 #![tactic(auto)]
 
+mod safe_worlds;
 mod table;
 mod totals;
 

@@ -1,7 +1,12 @@
 //! The table of a world.
 ghost use Rattle.std.specs.Prelude.{◌≡◌, ◌++◌, ℕ, List, OnOk, flat_map, map, string_bytes};
-ghost use Rattle.tables.specs.Table.{IsTable, row_of, stock_lines, transaction_lines};
+ghost use Rattle.protocol.specs.World.{opening, run};
+ghost use Rattle.protocol.specs.declared.event.WorldEvent.{WorldEvent};
+ghost use Rattle.scheme.specs.declared.registries.Scheme.{Scheme};
+ghost use Rattle.tables.specs.Table.{IsSafeTable, IsTable, row_of, stock_lines, transaction_lines};
 
+use crate::safe_worlds::worlds_are_safe;
+use crate::totals::tonnes_add_up;
 use report_lines::{TransactionRow, push_owed, push_registry, push_transaction};
 use std::alloc::Global;
 use units::{NoMemory, Node};
@@ -42,12 +47,8 @@ fn push_stocks(text: &mut String, stocks: &[Stock]) -> Result<(), NoMemory>
     Ok(())
 }
 
-/// Adds the table of a world: a line for each transfer, what each registry holds, and what is owed.
-///
-/// # Errors
-///
-/// Fails with `NoMemory` where there is no room for it; the text may have a part of it then.
-pub fn push_table(alloc: Global, text: &mut String, world: &World) -> Result<(), NoMemory>
+/// Adds a line for each transfer, what each registry holds, and what is owed.
+fn push_parts(alloc: Global, text: &mut String, world: &World) -> Result<(), NoMemory>
     ensures { OnOk result ((table : List ℕ) × IsTable world.now table × (string_bytes text.new ≡ string_bytes text.old ++ table)) }
 {
     push_transactions(alloc, text, world)?;
@@ -55,4 +56,20 @@ pub fn push_table(alloc: Global, text: &mut String, world: &World) -> Result<(),
     push_stocks(text, stocks.as_slice())?;
     let due = world.due(alloc)?;
     push_owed(text, due.as_slice())
+}
+
+/// Adds the table of a world: a line for each transfer, what each registry holds, and what is owed.
+///
+/// Where events led to the world, the table counts every tonne once, and no tonne is in two places and none is lost.
+///
+/// # Errors
+///
+/// Fails with `NoMemory` where there is no room for it; the text may have a part of it then.
+pub fn push_table(alloc: Global, text: &mut String, world: &World) -> Result<(), NoMemory>
+    ensures table { OnOk result ((table : List ℕ) × IsTable world.now table × (string_bytes text.new ≡ string_bytes text.old ++ table)) }
+    ensures safe { (scheme : Scheme) (events : List WorldEvent) → world.now ≡ run (opening scheme) events → OnOk result ((table : List ℕ) × IsSafeTable scheme events table × (string_bytes text.new ≡ string_bytes text.old ++ table)) }
+{
+    tonnes_add_up();
+    worlds_are_safe();
+    push_parts(alloc, text, world)
 }

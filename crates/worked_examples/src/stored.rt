@@ -12,7 +12,7 @@ use units::Node;
 /// The store of a node.
 fn open_store(rt: &HostRuntime, folder: &str, node: Node) -> Option<SqlStore<File>> {
     let path = format!(in rt.alloc(); "{folder}/{node}.db").ok()?;
-    SqlStore::open_path(rt, path.as_str(), node).ok()
+    store_files::open_path(rt, path.as_str(), node).ok()
 }
 
 /// The stores of all nodes.

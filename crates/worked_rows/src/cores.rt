@@ -84,7 +84,8 @@ pub fn walk<C: Seen>(rt: &impl Abort, alloc: Global, core: &mut C, row: &[(Given
     }
 }
 
-fn assert_text(rt: &impl Abort, alloc: Global, message: &Message, expected: &str) {
+/// Asserts that the message has that text.
+pub fn assert_text(rt: &impl Abort, alloc: Global, message: &Message, expected: &str) {
     let text = encode(alloc, message).expect(rt, "memory");
     assert_same(rt, text.as_slice(), expected.as_bytes());
 }

@@ -49,3 +49,7 @@ mod streams;
 mod units_rows;
 #[cfg(test)]
 mod value_rows;
+#[cfg(test)]
+mod views_rows;
+#[cfg(test)]
+mod worlds;

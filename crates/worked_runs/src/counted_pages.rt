@@ -1,10 +1,15 @@
-use crate::nz_desk::{NzState, nz, nz_core, nz_state, turn};
+ghost use Rattle.std.specs.Prelude.{◌≡◌};
+
+use crate::nz_desk::{nz_core, stored_over, turn};
 use crate::same::{assert_same, assert_same_in};
-use desk::State;
+use desk::{State, Stored};
+use protocol::NodeCore;
+use registry_core::RegistryCore;
 use std::alloc::Global;
 use std::marker::Model;
 use std::process::Abort;
 use stores::{MemoryStore, NodeStore, StoreFault};
+use units::Node;
 use wire::Input;
 
 /// A store that counts what it is asked. In contracts it is the store.
@@ -63,36 +68,34 @@ impl<S: NodeStore> NodeStore for CountedStore<S> {
 
 type Counted = CountedStore<MemoryStore>;
 
-fn counted(rt: &impl Abort, alloc: Global) -> Counted {
+/// An empty store of that node.
+fn counted(alloc: Global, node: Node) -> Counted
+    ensures { result.node ≡ node }
+{
     CountedStore {
-        store: MemoryStore::new(alloc, nz(rt)),
+        store: MemoryStore::new(alloc, node),
         appends: 0,
         loads: 0,
         pages: 0,
     }
 }
 
-/// A state that has closed and opened an account in turn, that many records in all.
-fn state_of(rt: &impl Abort, alloc: Global, records: usize) -> NzState {
-    let mut state = nz_state(rt, alloc);
-    for place in 0..records {
-        drop(state.take(turn(rt, alloc, place)));
-    }
-    state
+/// NZ's state with an empty store.
+fn stored(rt: &impl Abort, alloc: Global) -> Stored<RegistryCore, Counted> {
+    let core = nz_core(rt, alloc);
+    let store = counted(alloc, core.node());
+    stored_over(rt, alloc, core, store)
 }
 
-/// Has a state of that many records commit them to the store, and gives how many it committed.
-fn committed(rt: &impl Abort, alloc: Global, store: &mut Counted, records: usize) -> usize {
-    let mut state = state_of(rt, alloc, records);
-    let committed = state.commit(store, records);
-    drop(state);
-    committed.expect(rt, "no fault of the store")
-}
-
-/// A store of that many records, appended at once.
+/// A store of that many records, by which an account is closed and opened in turn, appended at once.
 fn store_of(rt: &impl Abort, alloc: Global, records: usize) -> Counted {
-    let mut store = counted(rt, alloc);
-    assert_same(rt, committed(rt, alloc, &mut store, records), records);
+    let mut stored = stored(rt, alloc);
+    for place in 0..records {
+        drop(stored.take(turn(rt, alloc, place)));
+    }
+    assert_same(rt, stored.commit(records), Ok(records));
+    let (state, store) = stored.into_parts();
+    drop(state);
     store
 }
 
@@ -105,12 +108,13 @@ fn records_read(rt: &impl Abort, alloc: Global, store: &mut Counted) -> usize {
     records
 }
 
-/// How many pages a store of that many records is asked for. It is asked for nothing else.
+/// How many pages a store of that many records is asked for, where they are read. It is asked for nothing else.
 fn pages_of(rt: &impl Abort, alloc: Global, records: usize) -> u32 {
     let mut store = store_of(rt, alloc, records);
+    let before = store.pages;
     assert_same(rt, records_read(rt, alloc, &mut store), records);
     assert_same(rt, (store.appends, store.loads), (1, 0));
-    store.pages
+    store.pages.saturating_sub(before)
 }
 
 #[test]

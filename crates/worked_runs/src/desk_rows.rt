@@ -1,7 +1,8 @@
 use crate::given::Given::{self, Message};
+use crate::given::input_of;
 use crate::nz_desk::{
-    NzDesk, NzState, TEN, TEN_MORE, assert_taken, commit, confirm, next_key, nz, nz_desk, nz_state,
-    query, recorded, take_all, take_at, turn,
+    NzDesk, NzState, NzStored, TEN, TEN_MORE, commit, confirm, next_key, nz_desk, nz_stored, query,
+    recorded, state_left, take_all, turn,
 };
 use crate::same::{assert_same, assert_same_in};
 use desk::{Life, Seat, Taken, Told, Unsettled, settle};
@@ -44,7 +45,7 @@ fn messages_leave_after_their_commit(rt: HostRuntime) {
     let (mut a, mut b) = (Seat::new(alloc), Seat::new(alloc));
     let desk = desk_of_two(&rt, alloc, &mut a, &mut b);
     assert_next(&rt, &desk, [None, None, None]);
-    assert_same(&rt, commit(&rt, alloc, &desk), 2);
+    assert_same(&rt, commit(&rt, &desk), 2);
     assert_next(&rt, &desk, [Some(0), Some(1), None]);
     drop((desk, a, b));
 }
@@ -62,7 +63,7 @@ fn a_query_is_confirmed(rt: HostRuntime) {
     let alloc = rt.alloc();
     let (mut a, mut b) = (Seat::new(alloc), Seat::new(alloc));
     let desk = desk_of_two(&rt, alloc, &mut a, &mut b);
-    assert_same(&rt, commit(&rt, alloc, &desk), 2);
+    assert_same(&rt, commit(&rt, &desk), 2);
     assert_proposed(&rt, &desk, &mut a);
     assert_same(&rt, a.confirmed(), 2);
     drop((desk, a, b));
@@ -101,10 +102,10 @@ fn a_stopped_desk_settles(rt: HostRuntime) {
     let alloc = rt.alloc();
     let (mut a, mut b) = (Seat::new(alloc), Seat::new(alloc));
     let desk = desk_of_two(&rt, alloc, &mut a, &mut b);
-    assert_same(&rt, commit(&rt, alloc, &desk), 2);
+    assert_same(&rt, commit(&rt, &desk), 2);
     take_all(&rt, alloc, &desk, &mut a, TOLD);
     assert_stops(&rt, alloc, &desk, &mut a);
-    let (state, seats) = (desk.end(), [a, b]);
+    let (state, seats) = (state_left(desk), [a, b]);
     assert_settles(&rt, &state, &seats);
     drop((state, seats));
 }
@@ -123,19 +124,25 @@ fn a_desk_commits_64_at_most(rt: HostRuntime) {
     let alloc = rt.alloc();
     let desk = nz_desk(&rt, alloc);
     record_many(&rt, alloc, &desk, 65);
-    let mut store = MemoryStore::new(alloc, nz(&rt));
     for records in [64, 1, 0] {
-        assert_same(&rt, desk.commit_next(&rt, &mut store), Ok(records));
+        assert_same(&rt, desk.commit_next(&rt), Ok(records));
     }
     drop(desk);
 }
 
-/// A state with two records.
-fn state_of_two(rt: &impl Abort, alloc: Global) -> NzState {
-    let mut state = nz_state(rt, alloc);
-    assert_taken(rt, alloc, &mut state, TEN, recorded(0));
-    assert_taken(rt, alloc, &mut state, TEN_MORE, recorded(1));
-    state
+/// Asserts what the state tells of an input.
+fn assert_stored(rt: &impl Abort, alloc: Global, stored: &mut NzStored, given: Given, told: Told) {
+    let taken = stored.take(input_of(rt, alloc, given));
+    assert_same(rt, taken.told(), told);
+    drop(taken);
+}
+
+/// A state with two records and an empty store.
+fn stored_two(rt: &impl Abort, alloc: Global) -> NzStored {
+    let mut stored = nz_stored(rt, alloc);
+    assert_stored(rt, alloc, &mut stored, TEN, recorded(0));
+    assert_stored(rt, alloc, &mut stored, TEN_MORE, recorded(1));
+    stored
 }
 
 /// How many records the state would commit next, where a batch has at most `max`.
@@ -146,58 +153,42 @@ fn next_batch(rt: &impl Abort, state: &NzState, max: usize) -> usize {
     records
 }
 
-/// Has the state commit its next batch, and gives how many records it had.
-fn commit_batch(
-    rt: &impl Abort,
-    state: &mut NzState,
-    store: &mut MemoryStore,
-    max: usize,
-) -> usize {
-    let batch = next_batch(rt, state, max);
-    let committed = state.commit(store, max).expect(rt, "no fault of the store");
-    assert_same(rt, committed, batch);
-    committed
+/// Has the state commit its next batch of at most `max` records.
+fn commit_batch(rt: &impl Abort, stored: &mut NzStored, max: usize) {
+    let batch = next_batch(rt, stored.state(), max);
+    assert_same(rt, stored.commit(max), Ok(batch));
 }
 
 /// How many records the store has.
-fn stored(rt: &impl Abort, store: &mut MemoryStore) -> usize {
+fn records_in(rt: &impl Abort, store: &mut MemoryStore) -> usize {
     let loaded = store.load().expect(rt, "memory");
     let records = loaded.len();
     drop(loaded);
     records
 }
 
-/// Asserts how many records the state has committed, and how many it would next.
-fn assert_committed(rt: &impl Abort, state: &NzState, committed: usize, next: usize) {
-    assert_same(rt, state.committed().len(), committed);
-    assert_same(rt, next_batch(rt, state, 64), next);
-}
-
-/// Has the state commit at most `max` records, and asserts how many the store has then.
-fn commit_up_to(
-    rt: &impl Abort,
-    state: &mut NzState,
-    store: &mut MemoryStore,
-    max: usize,
-    records: usize,
-) {
-    let before = stored(rt, store);
-    let committed = commit_batch(rt, state, store, max);
-    assert_same(rt, before.checked_add(committed), Some(records));
-    assert_same(rt, stored(rt, store), records);
+/// Has a state of two records commit batches of at most these numbers of records, and asserts how many are committed
+/// then, which its store has.
+fn assert_committed(rt: &impl Abort, alloc: Global, batches: &[usize], records: usize) {
+    let mut stored = stored_two(rt, alloc);
+    for max in batches {
+        commit_batch(rt, &mut stored, *max);
+    }
+    let (state, mut store) = stored.into_parts();
+    assert_same(rt, state.committed().len(), records);
+    let next = next_batch(rt, &state, 64);
+    assert_same(rt, records.checked_add(next), Some(2));
+    assert_same(rt, records_in(rt, &mut store), records);
+    drop(state);
 }
 
 #[test]
 fn a_state_commits_in_batches(rt: HostRuntime) {
     let alloc = rt.alloc();
-    let mut state = state_of_two(&rt, alloc);
-    let mut store = MemoryStore::new(alloc, nz(&rt));
-    assert_committed(&rt, &state, 0, 2);
-    for (max, records) in [(1, 1), (64, 2), (64, 2)] {
-        commit_up_to(&rt, &mut state, &mut store, max, records);
-        assert_committed(&rt, &state, records, 2_usize.saturating_sub(records));
+    let batches = [1, 64, 64];
+    for (count, records) in [(0, 0), (1, 1), (2, 2), (3, 2)] {
+        assert_committed(&rt, alloc, &batches[..count], records);
     }
-    drop(state);
 }
 
 /// How many records the journal had when that was taken of which there is a receipt.
@@ -213,33 +204,21 @@ fn not_received(rt: &impl Abort, state: &NzState, taken: Taken) -> Taken {
     state.receipt(taken).err().expect(rt, "what was taken")
 }
 
-/// Has the state commit one record.
-fn commit_one(rt: &impl Abort, alloc: Global, state: &mut NzState) {
-    let mut store = MemoryStore::new(alloc, nz(rt));
-    assert_same(rt, commit_batch(rt, state, &mut store, 1), 1);
-}
-
 /// Asserts that of the first there is a receipt once one record is committed, and of the second only after another.
-fn assert_receipts(
-    rt: &impl Abort,
-    alloc: Global,
-    state: &mut NzState,
-    first: Taken,
-    second: Taken,
-) {
-    commit_one(rt, alloc, state);
-    assert_same(rt, received(rt, state, first), 1);
-    let second = not_received(rt, state, second);
-    commit_one(rt, alloc, state);
-    assert_same(rt, received(rt, state, second), 2);
+fn assert_receipts(rt: &impl Abort, stored: &mut NzStored, first: Taken, second: Taken) {
+    commit_batch(rt, stored, 1);
+    assert_same(rt, received(rt, stored.state(), first), 1);
+    let second = not_received(rt, stored.state(), second);
+    commit_batch(rt, stored, 1);
+    assert_same(rt, received(rt, stored.state(), second), 2);
 }
 
 #[test]
 fn what_is_committed_has_a_receipt(rt: HostRuntime) {
     let alloc = rt.alloc();
-    let mut state = nz_state(&rt, alloc);
-    let first = take_at(&rt, alloc, &mut state, TEN);
-    let second = take_at(&rt, alloc, &mut state, TEN_MORE);
-    assert_receipts(&rt, alloc, &mut state, first, second);
-    drop(state);
+    let mut stored = nz_stored(&rt, alloc);
+    let first = stored.take(input_of(&rt, alloc, TEN));
+    let second = stored.take(input_of(&rt, alloc, TEN_MORE));
+    assert_receipts(&rt, &mut stored, first, second);
+    drop(stored);
 }

@@ -8,8 +8,7 @@ use std::process::Abort;
 use std::rt::Clock as SystemClock;
 use std::sync::Wait;
 use std::thread::Threads;
-use stores::{Kept, MemoryStore, StoreFault};
-use units::Node;
+use stores::StoreFault;
 
 /// A proposal that NZ's store doesn't take, a question to NZ after that, and one to JP.
 const AT_ONCE: &str = "\
@@ -53,12 +52,7 @@ where
         + Sync,
 {
     let nz = registry(rt, "NZ");
-    let stores = [
-        MemoryStore::new(alloc, Node::Itl),
-        MemoryStore::new(alloc, registry(rt, "JP")),
-        MemoryStore::fused(alloc, nz, passes, Kept::None),
-    ];
-    let (done, written) = played(rt, alloc, stores, script);
+    let (done, written) = played(rt, alloc, Some(passes), script);
     let fault = OpFault::Store {
         node: nz,
         fault: StoreFault::Device,

@@ -1,10 +1,10 @@
 use crate::given::{Given, input_of};
 use crate::nz_desk::{
-    CLOSE, NzDesk, NzState, OPEN, TEN, TEN_MORE, assert_found, assert_taken, confirm, next_key, nz,
-    nz_core, nz_desk, recorded, take, take_all,
+    CLOSE, NzDesk, NzState, OPEN, TEN, TEN_MORE, assert_taken, confirm, failing_desk, next_key, nz,
+    nz_core, recorded, settled, take, take_all,
 };
 use crate::same::assert_same;
-use desk::{Life, Seat, State, Told};
+use desk::{Ended, Life, Seat, State, Told};
 use std::alloc::Global;
 use std::process::Abort;
 use std::rt::Clock;
@@ -15,40 +15,45 @@ use units::refusal_code::NODE_STOPPED;
 
 const STOPPED: Told = Told::Refused(Refusal { code: NODE_STOPPED });
 
-/// A desk's commit to the store fails, and it has stopped then.
-fn assert_stops(
-    rt: &(impl Wait + Abort),
-    alloc: Global,
-    desk: &NzDesk,
-    seat: &mut Seat,
-    store: &mut MemoryStore,
-) {
-    assert_same(rt, desk.commit_next(rt, store), Err(StoreFault::Device));
-    assert_same(rt, desk.commit_next(rt, store), Ok(0));
+/// A desk's commit fails, and it has stopped then.
+fn assert_stops(rt: &(impl Wait + Abort), alloc: Global, desk: &NzDesk, seat: &mut Seat) {
+    assert_same(rt, desk.commit_next(rt), Err(StoreFault::Device));
+    assert_same(rt, desk.commit_next(rt), Ok(0));
     take_all(rt, alloc, desk, seat, &[(CLOSE, STOPPED)]);
     assert_same(rt, next_key(rt, desk, 0), None);
 }
 
-/// Has a desk fail at its first commit, and settles what its seat was told.
-fn fail(rt: &(impl Wait + Clock + Abort), alloc: Global, store: &mut MemoryStore) {
-    let desk = nz_desk(rt, alloc);
-    let mut seat = Seat::new(alloc);
-    take_all(rt, alloc, &desk, &mut seat, &[(TEN, recorded(0))]);
-    let taken = take(rt, alloc, &desk, &mut seat, TEN_MORE);
-    assert_stops(rt, alloc, &desk, &mut seat, store);
-    assert!(rt; !confirm(rt, &desk, &mut seat, taken));
+/// Asserts that the desk leaves two records that aren't committed and the fault of its store, and that the seat was told
+/// what the state settles with. Returns the store.
+fn left_store(rt: &impl Abort, desk: NzDesk, seat: Seat) -> MemoryStore {
+    let Ended { stored, fault } = desk.end();
+    assert_same(rt, fault, Some(StoreFault::Device));
+    let (state, store) = stored.into_parts();
     let life = Life {
         opening: 0,
         records: 2,
         committed: 0,
     };
-    assert_found(rt, desk, seat, Ok(life));
+    let seats = [seat];
+    assert_same(rt, settled(state, &seats), Ok(life));
+    drop(seats);
+    store
+}
+
+/// The store after a desk's first commit to it failed, of which it keeps all or nothing.
+fn failed(rt: &(impl Wait + Clock + Abort), alloc: Global, keeps: Kept) -> MemoryStore {
+    let desk = failing_desk(rt, alloc, keeps);
+    let mut seat = Seat::new(alloc);
+    take_all(rt, alloc, &desk, &mut seat, &[(TEN, recorded(0))]);
+    let taken = take(rt, alloc, &desk, &mut seat, TEN_MORE);
+    assert_stops(rt, alloc, &desk, &mut seat);
+    assert!(rt; !confirm(rt, &desk, &mut seat, taken));
+    left_store(rt, desk, seat)
 }
 
 /// The store after a desk's first commit to it failed, of which it keeps all or nothing, opened again.
 fn failed_store(rt: &(impl Wait + Clock + Abort), alloc: Global, keeps: Kept) -> MemoryStore {
-    let mut store = MemoryStore::fused(alloc, nz(rt), 0, keeps);
-    fail(rt, alloc, &mut store);
+    let mut store = failed(rt, alloc, keeps);
     assert_same(rt, store.reopen(), Ok(()));
     store
 }

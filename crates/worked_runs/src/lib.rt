@@ -1,7 +1,8 @@
 //! Worked rows of what nodes do: a node's desk, with several threads at it and with stores that fail; exchanges and a
-//! node's sessions, over bytes in memory that end, fail or are interrupted anywhere, at a desk alone, and with the threads
-//! of nodes over sockets of this machine; `audit` and `weave`, over stores whose records one run leads to, forged ones and
-//! stores with a fault; and `runs`, scripts over nodes with threads, sockets of this machine and stores in memory.
+//! node's sessions, over bytes in memory that end, fail or are interrupted anywhere, at a desk alone, and with the
+//! threads of nodes over sockets of this machine; `audit` and `weave`, over stores whose records one run leads to,
+//! forged ones and stores with a fault; and `runs`, scripts over nodes with threads, sockets of this machine and stores
+//! in memory.
 #![tactic(auto)]
 
 #[cfg(test)]
@@ -42,6 +43,8 @@ mod nz_desk;
 mod one_node;
 #[cfg(test)]
 mod registries;
+#[cfg(test)]
+mod report_rows;
 #[cfg(test)]
 mod same;
 #[cfg(test)]

@@ -1,12 +1,14 @@
 //! The nodes of the worked scheme, and what a script comes to at them.
 
-use crate::registries::{registry, worked_scheme};
+ghost use Rattle.std.specs.Prelude.{◌≡◌, ◌++◌, ◌∷◌, [], map};
+
+use crate::registries::worked_scheme;
 use answers::WallClock;
 use audit::load_run;
 use desk::OpenGate;
 use inputs::OpFault;
 use protocol::nodes_of;
-use runs::{Loaded, Network, run_script};
+use runs::{Network, run_script};
 use scripts::{ScriptLine, read_script};
 use sockets::{Ports, open_ports};
 use std::alloc::Global;
@@ -15,17 +17,47 @@ use std::process::Abort;
 use std::rt::Clock as SystemClock;
 use std::sync::Wait;
 use std::thread::Threads;
-use stores::MemoryStore;
+use stores::{Kept, MemoryStore};
 use units::Node;
 use weave::Nobody;
 
-/// Empty stores of the log, of JP and of NZ.
-pub fn new_stores(rt: &impl Abort, alloc: Global) -> [MemoryStore; 3] {
-    [
-        MemoryStore::new(alloc, Node::Itl),
-        MemoryStore::new(alloc, registry(rt, "JP")),
-        MemoryStore::new(alloc, registry(rt, "NZ")),
-    ]
+/// The place of NZ among the nodes.
+const NZ: usize = 2;
+
+/// An empty store of the node, which takes that many batches before one fails, where a number is given.
+fn store_of(alloc: Global, node: Node, passes: Option<u64>) -> MemoryStore
+    ensures { result.node ≡ node }
+{
+    match passes {
+        Some(passes) => MemoryStore::fused(alloc, node, passes, Kept::None),
+        None => MemoryStore::new(alloc, node),
+    }
+}
+
+/// Adds a store.
+fn push(rt: &impl Abort, stores: &mut Vec<MemoryStore>, store: MemoryStore)
+    ensures { stores.new.items ≡ stores.old.items ++ store ∷ [] }
+{
+    if stores.push(store).is_err() {
+        rt.abort();
+    }
+}
+
+/// Empty stores of these nodes, of which that of NZ takes `passes` batches before one fails, where that is given.
+fn stores_of(
+    rt: &impl Abort,
+    alloc: Global,
+    nodes: &[Node],
+    passes: Option<u64>,
+) -> Vec<MemoryStore>
+    ensures { map (λ s. s.node) result.items ≡ nodes.now }
+{
+    let mut stores = Vec::new(alloc);
+    for at in 0..nodes.len() {
+        let passes = if at == NZ { passes } else { None };
+        push(rt, &mut stores, store_of(alloc, nodes[at], passes));
+    }
+    stores
 }
 
 fn lines_of(rt: &impl Abort, alloc: Global, script: &str) -> Vec<ScriptLine> {
@@ -33,11 +65,12 @@ fn lines_of(rt: &impl Abort, alloc: Global, script: &str) -> Vec<ScriptLine> {
     read_script(alloc, &mut reader).expect(rt, "a script")
 }
 
-/// What a run of the script over the stores of the log, of JP and of NZ comes to, and what it writes.
+/// What a run of the script over empty stores of the log, of JP and of NZ returns, and what it writes. NZ's takes `passes`
+/// batches before one fails, where that is given.
 pub fn played<R>(
     rt: &R,
     alloc: Global,
-    stores: [MemoryStore; 3],
+    passes: Option<u64>,
     script: &str,
 ) -> (Result<(), OpFault>, Vec<u8>)
 where
@@ -48,14 +81,14 @@ where
         + Abort
         + Sync,
 {
-    played_watched(rt, alloc, stores, script, &mut runs::Nobody)
+    played_watched(rt, alloc, passes, script, &mut runs::Nobody)
 }
 
 /// The same, where the watch is told how far the run is.
 pub fn played_watched<P, R>(
     rt: &R,
     alloc: Global,
-    stores: [MemoryStore; 3],
+    passes: Option<u64>,
     script: &str,
     watch: &mut P,
 ) -> (Result<(), OpFault>, Vec<u8>)
@@ -70,9 +103,9 @@ where
 {
     let scheme = worked_scheme(rt, alloc);
     let lines = lines_of(rt, alloc, script);
-    let mut stores = Vec::from_array(alloc, stores).expect(rt, "memory");
-    let states = load_run(alloc, &scheme, stores.as_mut_slice(), &mut Nobody).expect(rt, "states");
     let nodes = nodes_of(alloc, &scheme).expect(rt, "memory");
+    let stores = stores_of(rt, alloc, nodes.as_slice(), passes);
+    let loaded = load_run(alloc, &scheme, stores, &mut Nobody).expect(rt, "a run");
     let listeners = open_ports(rt, alloc, nodes.len()).expect(rt, "free ports");
     let dial = Ports::of(rt, alloc, nodes.as_slice(), listeners.as_slice()).expect(rt, "memory");
     let network = Network {
@@ -87,7 +120,7 @@ where
         alloc,
         &scheme,
         lines.as_slice(),
-        Loaded { states, stores },
+        loaded,
         &network,
         &mut written,
         watch,
@@ -98,8 +131,8 @@ where
     drop(lines);
     drop(scheme);
     match done {
-        Ok(stores) => {
-            drop(stores);
+        Ok(ended) => {
+            drop(ended);
             (Ok(()), written)
         }
         Err(fault) => (Err(fault), written),

@@ -1,4 +1,4 @@
-use crate::nodes::{new_stores, played};
+use crate::nodes::played;
 use crate::same::assert_same;
 
 /// Orders that the log doesn't take, lines of a node that the scheme lacks, and a transaction that nobody knows.
@@ -31,8 +31,7 @@ end
 
 #[test]
 fn lines_that_are_not_possible(rt: HostRuntime) {
-    let stores = new_stores(&rt, rt.alloc());
-    let (done, written) = played(&rt, rt.alloc(), stores, SCRIPT);
+    let (done, written) = played(&rt, rt.alloc(), None, SCRIPT);
     assert_same(&rt, done, Ok(()));
     assert!(rt; written.as_slice() == REPORT.as_bytes());
 }

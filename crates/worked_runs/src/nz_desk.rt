@@ -1,20 +1,22 @@
 //! Registry NZ of the worked scheme, its desks, and what they are asked.
 
-ghost use Rattle.std.specs.Prelude.{◌≡◌, []};
+ghost use Rattle.std.specs.Prelude.{◌≡◌, [], true, false};
+ghost use Rattle.units.specs.declared.code.Node.TheVariants.{Registry};
 
 use crate::given::Given::{self, Event};
 use crate::given::input_of;
 use crate::same::{assert_same, assert_same_in};
-use desk::{Desk, Life, RoomBell, Seat, State, Taken, Told, Unsettled, settle};
-use protocol::Stepped;
+use desk::{Desk, Ended, Life, RoomBell, Seat, State, Stored, Taken, Told, Unsettled, settle};
+use protocol::{NodeCore, Stepped};
 use registry_core::RegistryCore;
 use scheme::Scheme;
 use status::TransactionId;
 use std::alloc::Global;
+use std::marker::Brand;
 use std::process::Abort;
 use std::rt::Clock;
 use std::sync::Wait;
-use stores::MemoryStore;
+use stores::{Kept, MemoryStore, NodeStore};
 use units::{Code, Node};
 use wire::Input;
 
@@ -37,7 +39,9 @@ pub const OPEN: Given = Event("open NZ 2");
 
 pub type NzState = State<RegistryCore>;
 
-pub type NzDesk = Desk<RegistryCore, RoomBell>;
+pub type NzStored = Stored<RegistryCore, MemoryStore>;
+
+pub type NzDesk = Desk<Brand, RegistryCore, MemoryStore, RoomBell>;
 
 pub fn nz(rt: &impl Abort) -> Node {
     Node::Registry(Code::read("NZ").expect(rt, "a code"))
@@ -77,8 +81,58 @@ pub fn nz_state(rt: &impl Abort, alloc: Global) -> NzState {
     State::new(alloc, nz_core(rt, alloc))
 }
 
+/// NZ's state over that store of it.
+pub fn stored_over<S: NodeStore + Drop>(
+    rt: &impl Abort,
+    alloc: Global,
+    core: RegistryCore,
+    store: S,
+) -> Stored<RegistryCore, S>
+    requires journal { core.journal ≡ [] }
+    requires whose { S.whose store ≡ Registry core.code }
+    requires own { S.is_honest store → S.must_reopen store ≡ false → S.is_own store }
+    ensures { result.state.runs ≡ true }
+{
+    match Stored::load(alloc, core, store) {
+        Ok(stored) => stored,
+        Err((_, store)) => {
+            drop(store);
+            rt.abort()
+        }
+    }
+}
+
+/// NZ's state with an empty store.
+pub fn nz_stored(rt: &impl Abort, alloc: Global) -> NzStored
+    ensures { result.state.runs ≡ true }
+{
+    let core = nz_core(rt, alloc);
+    let store = MemoryStore::new(alloc, core.node());
+    stored_over(rt, alloc, core, store)
+}
+
 pub fn nz_desk(rt: &impl Abort, alloc: Global) -> NzDesk {
-    Desk::new(nz_state(rt, alloc), RoomBell::new())
+    Desk::new(nz_stored(rt, alloc), RoomBell::new())
+}
+
+/// NZ's desk over an empty store whose first append fails, of which it keeps all or nothing.
+pub fn failing_desk(rt: &impl Abort, alloc: Global, keeps: Kept) -> NzDesk {
+    let core = nz_core(rt, alloc);
+    let store = MemoryStore::fused(alloc, core.node(), 0, keeps);
+    Desk::new(stored_over(rt, alloc, core, store), RoomBell::new())
+}
+
+/// The state and the store that the desk leaves.
+pub fn parts_left(desk: NzDesk) -> (NzState, MemoryStore) {
+    let Ended { stored, fault: _ } = desk.end();
+    stored.into_parts()
+}
+
+/// The state that the desk leaves.
+pub fn state_left(desk: NzDesk) -> NzState {
+    let (state, store) = parts_left(desk);
+    drop(store);
+    state
 }
 
 /// The input at that place where an account is closed and opened in turn.
@@ -129,7 +183,7 @@ pub fn settled(state: NzState, seats: &[Seat]) -> Result<Life, Unsettled> {
 /// Ends the desk, and asserts what it settles to with the one seat.
 pub fn assert_found(rt: &impl Abort, desk: NzDesk, seat: Seat, expected: Result<Life, Unsettled>) {
     let seats = [seat];
-    assert_same(rt, settled(desk.end(), &seats), expected);
+    assert_same(rt, settled(state_left(desk), &seats), expected);
     drop(seats);
 }
 
@@ -164,9 +218,7 @@ pub fn next_key(rt: &(impl Wait + Abort), desk: &NzDesk, from: usize) -> Option<
     }
 }
 
-/// Has the desk commit to a new store.
-pub fn commit(rt: &(impl Wait + Abort), alloc: Global, desk: &NzDesk) -> usize {
-    let mut store = MemoryStore::new(alloc, nz(rt));
-    desk.commit_next(rt, &mut store)
-        .expect(rt, "no fault of the store")
+/// Has the desk commit.
+pub fn commit(rt: &(impl Wait + Abort), desk: &NzDesk) -> usize {
+    desk.commit_next(rt).expect(rt, "no fault of the store")
 }

@@ -13,7 +13,6 @@ use std::rt::Clock;
 use std::sync::Wait;
 use std::thread;
 use std::thread::Threads;
-use stores::MemoryStore;
 use wire::Message;
 
 /// Runs one node that sends to none.
@@ -23,8 +22,7 @@ pub fn run_alone<D: Dial + Sync, R: Threads + Wait + Clock + Sync>(
     station: &Station,
     dial: &D,
 ) -> Ended {
-    let store = MemoryStore::new(alloc, station.node);
-    run_node(rt, alloc, &parts_of(station, dial, &OpenGate), store)
+    run_node(rt, alloc, &parts_of(station, dial, &OpenGate))
 }
 
 /// One exchange with the node. Then it stops.

@@ -1,3 +1,6 @@
+ghost use Rattle.std.specs.Prelude.{◌≡◌, true};
+ghost use Rattle.units.specs.Code.{same_node};
+
 use crate::exchange_rows::RECEIVED;
 use crate::given::input_of;
 use crate::nz_desk::{TEN, TEN_MORE};
@@ -16,12 +19,13 @@ use std::sync::atomic::{AtomicU64, Ordering};
 use std::thread;
 use std::thread::Threads;
 use std::time::Duration;
-use stores::MemoryStore;
 use units::Node;
 
-/// Connections with a node that replies to each message that it was received. The first ones can't be made.
+/// Connections with one peer, which replies to each message that it was received. The first ones can't be made, and none
+/// with another node.
 #[derive(Drop)]
 struct FailingDial {
+    peer: Node,
     failing: u64,
     connects: AtomicU64,
 }
@@ -31,8 +35,10 @@ impl Dial for FailingDial {
 
     type Writer = Full;
 
-    fn connect(&self, _peer: Node) -> Option<(&'static [u8], Full)> {
-        if self.connects.fetch_add(1, Ordering::SeqCst) < self.failing {
+    ghost leads = { λ dial peer _ _. same_node dial.peer peer ≡ true };
+
+    fn connect(&self, peer: Node) -> Option<(&'static [u8], Full)> {
+        if self.connects.fetch_add(1, Ordering::SeqCst) < self.failing || self.peer != peer {
             return None;
         }
         Some((RECEIVED, Full { room: usize::MAX }))
@@ -57,7 +63,7 @@ fn run_sending<R: Threads + Wait + Clock + Sync>(
         gate: &OpenGate,
         muster: &station.muster,
     };
-    run_node(rt, alloc, &parts, MemoryStore::new(alloc, station.node))
+    run_node(rt, alloc, &parts)
 }
 
 /// Waits until that many connections were asked for, at most `TURNS` turns of one millisecond, and stops the node.
@@ -114,6 +120,7 @@ where
     let nz = open_station(rt, alloc, registry(rt, "NZ"), 0);
     let seat = seat_of_two(rt, alloc, &nz.desk);
     let dial = FailingDial {
+        peer: Node::Itl,
         failing,
         connects: AtomicU64::new(0),
     };

@@ -1,7 +1,7 @@
 use crate::given::Given;
 use crate::nz_desk::{
     CLOSE, NzDesk, NzState, TEN, TEN_MORE, assert_found, assert_taken, commit, confirm,
-    core_of_one, nz_desk, nz_state, query, recorded, settled, take, take_all,
+    core_of_one, nz_desk, nz_state, query, recorded, settled, state_left, take, take_all,
 };
 use crate::same::assert_same;
 use desk::{Lengths, Life, Seat, Told, Unsettled, settle_with};
@@ -74,7 +74,7 @@ fn confirmed_seat(rt: &(impl Wait + Clock + Abort), alloc: Global) -> Seat {
     let desk = nz_desk(rt, alloc);
     let mut seat = Seat::new(alloc);
     let taken = take(rt, alloc, &desk, &mut seat, TEN);
-    assert_same(rt, commit(rt, alloc, &desk), 1);
+    assert_same(rt, commit(rt, &desk), 1);
     assert!(rt; confirm(rt, &desk, &mut seat, taken));
     drop(desk);
     seat
@@ -119,7 +119,7 @@ fn an_unconfirmed_tail_settles(rt: HostRuntime) {
     let mut seat = Seat::new(alloc);
     take_all(&rt, alloc, &desk, &mut seat, TWO);
     desk.stop(&rt);
-    assert_same(&rt, commit(&rt, alloc, &desk), 0);
+    assert_same(&rt, commit(&rt, &desk), 0);
     let life = Life {
         opening: 0,
         records: 2,
@@ -158,7 +158,7 @@ fn a_record_of_another_scheme_is_found(rt: HostRuntime) {
         &[(TEN, recorded(0)), (CLOSE, recorded(1))],
     );
     ask(&rt, &desk, &mut seat, 2);
-    let (state, seats) = (desk.end(), [seat]);
+    let (state, seats) = (state_left(desk), [seat]);
     let found = found_by_another(&rt, alloc, &state, &seats);
     assert_same(&rt, found, Some(Unsettled::NotRecorded(1)));
     drop(seats);

@@ -1,15 +1,18 @@
 //! Nodes of the worked scheme with their desks and ports, and what others send them.
+ghost use Rattle.std.specs.Prelude.{◌≡◌};
 
 use crate::registries::worked_scheme;
 use crate::same::assert_same;
 use answers::Clock;
-use desk::{Desk, Gate, RoomBell, Seat, State, settle};
+use desk::{Desk, Gate, RoomBell, Seat, State, Stored, settle};
 use exchanges::{Counted, Exchange, exchange};
-use sessions::{Accepted, Dial, Listen, Muster, NodeEnd, NodeParts, NodeToRun, run_all};
+use protocol::NodeCore;
+use sessions::{Accepted, Dial, Listen, Muster, NodeParts, run_all};
 use sockets::{Port, Ports};
 use status::Moment;
 use std::alloc::Global;
 use std::io::{Read, Write};
+use std::marker::Brand;
 use std::net::{Net, TcpListener, TcpStream};
 use std::process::Abort;
 use std::rt::Clock as SystemClock;
@@ -40,15 +43,18 @@ pub const PROPOSAL: &str =
 /// What a node replies to a message of a transfer that it doesn't know, where it has to.
 pub const UNKNOWN: u16 = 47;
 
-pub type NodeDesk = Desk<Core, RoomBell>;
+pub type NodeDesk = Desk<Brand, Core, MemoryStore, RoomBell>;
 
-pub type Ended = Result<NodeEnd<MemoryStore>, NoMemory>;
+/// The seats of a node's threads.
+pub type Ended = Result<Vec<Seat>, NoMemory>;
 
 /// A clock that stands still.
 #[derive(Clone, Copy, Debug)]
 pub struct StillClock;
 
 impl Clock for StillClock {
+    ghost tells = { λ _ moment. moment.seconds ≡ 1_335_830_400 };
+
     fn now(&self) -> Moment {
         Moment {
             seconds: 1_335_830_400,
@@ -104,7 +110,14 @@ pub fn desk_of(rt: &impl Abort, alloc: Global, node: Node) -> NodeDesk {
     let scheme = worked_scheme(rt, alloc);
     let core = Core::new(alloc, &scheme, node).expect(rt, "memory");
     drop(scheme);
-    Desk::new(State::new(alloc, core), RoomBell::new())
+    let store = MemoryStore::new(alloc, core.node());
+    match Stored::load(alloc, core, store) {
+        Ok(stored) => Desk::new(stored, RoomBell::new()),
+        Err((_, store)) => {
+            drop(store);
+            rt.abort()
+        }
+    }
 }
 
 /// A node's station, at whose port the first `failing` accepts fail.
@@ -158,7 +171,7 @@ pub fn parts_of<'a, D, G>(
     station: &'a Station,
     dial: &'a D,
     gate: &'a G,
-) -> NodeParts<'a, Core, RoomBell, FailingPort, D, StillClock, G> {
+) -> NodeParts<'a, Brand, Core, MemoryStore, RoomBell, FailingPort, D, StillClock, G> {
     NodeParts {
         node: station.node,
         desk: &station.desk,
@@ -168,19 +181,6 @@ pub fn parts_of<'a, D, G>(
         clock: &StillClock,
         gate,
         muster: &station.muster,
-    }
-}
-
-/// A node that sends to none, with an empty store.
-fn node_to_run<'a, D, G>(
-    alloc: Global,
-    station: &'a Station,
-    dial: &'a D,
-    gate: &'a G,
-) -> NodeToRun<'a, Core, RoomBell, FailingPort, D, StillClock, G, MemoryStore> {
-    NodeToRun {
-        parts: parts_of(station, dial, gate),
-        store: MemoryStore::new(alloc, station.node),
     }
 }
 
@@ -198,22 +198,26 @@ where
     G: Gate + Sync,
     R: Threads + Wait + SystemClock + Sync,
 {
-    let nodes = [
-        node_to_run(alloc, one, dial, gate),
-        node_to_run(alloc, other, dial, gate),
-    ];
+    let nodes = [parts_of(one, dial, gate), parts_of(other, dial, gate)];
     run_all(rt, alloc, Vec::from_array(alloc, nodes)?)
 }
 
-/// The seats of a node that ended without a fault, and that other one.
+/// The seats of a node's threads, and that other one.
 fn seats_of(rt: &impl Abort, end: Ended, other: Option<Seat>) -> Vec<Seat> {
-    let end = end.expect(rt, "memory");
-    assert_same(rt, end.fault, None);
-    let mut seats = end.seats;
+    let mut seats = end.expect(rt, "memory");
     if let Some(seat) = other {
         seats.push(seat).expect(rt, "memory");
     }
     seats
+}
+
+/// The state that the desk leaves, whose store has no fault.
+fn state_left(rt: &impl Abort, desk: NodeDesk) -> State<Core> {
+    let desk::Ended { stored, fault } = desk.end();
+    assert_same(rt, fault, None);
+    let (state, store) = stored.into_parts();
+    drop(store);
+    state
 }
 
 /// How many records the node has and how many it has committed, as its threads were told, and whoever has that other
@@ -226,7 +230,7 @@ pub fn records_of(
 ) -> (usize, usize) {
     let seats = seats_of(rt, end, other);
     drop(station.listen);
-    let state = station.desk.end();
+    let state = state_left(rt, station.desk);
     let life = settle(&state, seats.as_slice()).expect(rt, "a life");
     drop(state);
     drop(seats);

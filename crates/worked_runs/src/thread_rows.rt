@@ -1,11 +1,12 @@
 use crate::given::{Given, input_of};
-use crate::nz_desk::{NzState, TEN, TEN_MORE, nz, nz_state, settled};
+use crate::nz_desk::{NzDesk, TEN, TEN_MORE, nz_desk, nz_stored, settled, state_left};
 use crate::same::assert_same;
 use desk::{Bell, Desk, Life, RoomBell, Seat, Taken, Told};
 use protocol::Stepped;
 use registry_core::RegistryCore;
 use status::{Order, Status, TransactionId};
 use std::alloc::Global;
+use std::marker::Brand;
 use std::process::Abort;
 use std::rt::Clock;
 use std::sync::Wait;
@@ -42,14 +43,14 @@ impl Bell for WatchedBell {
     }
 }
 
-type WatchedDesk = Desk<RegistryCore, WatchedBell>;
+type WatchedDesk = Desk<Brand, RegistryCore, MemoryStore, WatchedBell>;
 
-fn watched(state: NzState) -> WatchedDesk {
+fn watched(rt: &impl Abort, alloc: Global) -> WatchedDesk {
     let bell = WatchedBell {
         bell: RoomBell::new(),
         waits: AtomicU64::new(0),
     };
-    Desk::new(state, bell)
+    Desk::new(nz_stored(rt, alloc), bell)
 }
 
 /// What the thread that commits saw.
@@ -67,14 +68,13 @@ enum Seen {
 fn commit_awaited<R: Wait + Clock>(
     rt: &R,
     desk: &WatchedDesk,
-    store: &mut MemoryStore,
     waits: u64,
     told: &AtomicU64,
 ) -> Seen {
     for _ in 0..TURNS {
         if desk.bell().waits.load(Ordering::SeqCst) >= waits {
             let early = told.load(Ordering::SeqCst) != 0;
-            return match (early, desk.commit_next(rt, store)) {
+            return match (early, desk.commit_next(rt)) {
                 (false, Ok(1)) => Seen::Awaited,
                 _ => Seen::ToldEarly,
             };
@@ -102,7 +102,6 @@ fn confirm_and_commit<R: Threads + Wait + Clock + Sync>(
     rt: &R,
     desk: &WatchedDesk,
     seat: &mut Seat,
-    store: &mut MemoryStore,
     taken: Taken,
     waits: u64,
 ) -> (bool, Seen) {
@@ -111,21 +110,19 @@ fn confirm_and_commit<R: Threads + Wait + Clock + Sync>(
     thread::join(
         rt,
         move || confirm(rt, desk, seat, taken, told),
-        move || commit_awaited(rt, desk, store, waits, told),
+        move || commit_awaited(rt, desk, waits, told),
     )
 }
 
 /// Has one thread confirm what was taken, and another commit. Asserts that the first waits for the second.
 fn answer_waits<R: Threads + Wait + Clock + Abort + Sync>(
     rt: &R,
-    alloc: Global,
     desk: &WatchedDesk,
     seat: &mut Seat,
     taken: Taken,
     waits: u64,
 ) {
-    let mut store = MemoryStore::new(alloc, nz(rt));
-    let both = confirm_and_commit(rt, desk, seat, &mut store, taken, waits);
+    let both = confirm_and_commit(rt, desk, seat, taken, waits);
     assert_same(rt, both, (true, Seen::Awaited));
 }
 
@@ -149,14 +146,14 @@ fn ask(rt: &(impl Wait + Abort), desk: &WatchedDesk, seat: &mut Seat) -> Taken {
 #[test]
 fn a_receipt_waits_for_the_commit(rt: HostRuntime) {
     let alloc = rt.alloc();
-    let desk = watched(nz_state(&rt, alloc));
+    let desk = watched(&rt, alloc);
     let mut seat = Seat::new(alloc);
     let taken = take(&rt, alloc, &desk, &mut seat, TEN);
-    answer_waits(&rt, alloc, &desk, &mut seat, taken, 1);
+    answer_waits(&rt, &desk, &mut seat, taken, 1);
     drop(take(&rt, alloc, &desk, &mut seat, TEN_MORE));
     let asked = ask(&rt, &desk, &mut seat);
     assert_same(&rt, asked.told(), Told::Status(Some(Status::Proposed)));
-    answer_waits(&rt, alloc, &desk, &mut seat, asked, 2);
+    answer_waits(&rt, &desk, &mut seat, asked, 2);
     assert_same(&rt, seat.confirmed(), 2);
     drop((desk, seat));
 }
@@ -166,12 +163,7 @@ const EACH: u32 = 20;
 
 /// Has the desk take proposals of one unit each, from that unit on, and waits for each receipt. Gives the seat, and how
 /// many were recorded and confirmed.
-fn propose_units<R: Wait + Clock>(
-    rt: &R,
-    alloc: Global,
-    desk: &Desk<RegistryCore, RoomBell>,
-    first: u32,
-) -> (Seat, u32) {
+fn propose_units<R: Wait + Clock>(rt: &R, alloc: Global, desk: &NzDesk, first: u32) -> (Seat, u32) {
     let mut seat = Seat::new(alloc);
     let mut confirmed = 0;
     for unit in first..first.saturating_add(EACH) {
@@ -195,14 +187,10 @@ fn proposal(alloc: Global, unit: u32) -> Option<Input> {
 }
 
 /// Commits until the desk has stopped.
-fn commit_all<R: Wait + Clock>(
-    rt: &R,
-    desk: &Desk<RegistryCore, RoomBell>,
-    store: &mut MemoryStore,
-) {
+fn commit_all<R: Wait + Clock>(rt: &R, desk: &NzDesk) {
     for _ in rt.forever() {
         let rings = desk.bell().rings(rt);
-        match desk.commit_next(rt, store) {
+        match desk.commit_next(rt) {
             Ok(0) if desk.is_running(rt) => desk.bell().wait(rt, rings),
             Ok(0) => return,
             Ok(_) => {}
@@ -215,7 +203,7 @@ fn commit_all<R: Wait + Clock>(
 fn propose_twice<R: Threads + Wait + Clock + Sync>(
     rt: &R,
     alloc: Global,
-    desk: &Desk<RegistryCore, RoomBell>,
+    desk: &NzDesk,
 ) -> ((Seat, u32), (Seat, u32)) {
     let both = thread::join(
         rt,
@@ -230,12 +218,11 @@ fn propose_twice<R: Threads + Wait + Clock + Sync>(
 fn three_threads<R: Threads + Wait + Clock + Sync>(
     rt: &R,
     alloc: Global,
-    desk: &Desk<RegistryCore, RoomBell>,
-    store: &mut MemoryStore,
+    desk: &NzDesk,
 ) -> ((Seat, u32), (Seat, u32)) {
     let ((), both) = thread::join(
         rt,
-        move || commit_all(rt, desk, store),
+        move || commit_all(rt, desk),
         || propose_twice(rt, alloc, desk),
     );
     both
@@ -244,9 +231,8 @@ fn three_threads<R: Threads + Wait + Clock + Sync>(
 #[test]
 fn threads_at_one_desk_settle(rt: HostRuntime) {
     let alloc = rt.alloc();
-    let desk = Desk::new(nz_state(&rt, alloc), RoomBell::new());
-    let mut store = MemoryStore::new(alloc, nz(&rt));
-    let ((a, first), (b, second)) = three_threads(&rt, alloc, &desk, &mut store);
+    let desk = nz_desk(&rt, alloc);
+    let ((a, first), (b, second)) = three_threads(&rt, alloc, &desk);
     assert_same(&rt, (first, second), (EACH, EACH));
     let life = Life {
         opening: 0,
@@ -254,6 +240,6 @@ fn threads_at_one_desk_settle(rt: HostRuntime) {
         committed: 40,
     };
     let seats = [a, b];
-    assert_same(&rt, settled(desk.end(), &seats), Ok(life));
+    assert_same(&rt, settled(state_left(desk), &seats), Ok(life));
     drop(seats);
 }

@@ -1,4 +1,4 @@
-use crate::nodes::{new_stores, played};
+use crate::nodes::played;
 use crate::same::assert_same;
 
 /// One transfer from NZ to JP.
@@ -27,8 +27,7 @@ const RUNS: usize = 100;
 #[test]
 fn hundred_transfers(rt: HostRuntime) {
     for _ in 0..RUNS {
-        let stores = new_stores(&rt, rt.alloc());
-        let (done, written) = played(&rt, rt.alloc(), stores, SCRIPT);
+        let (done, written) = played(&rt, rt.alloc(), None, SCRIPT);
         assert_same(&rt, done, Ok(()));
         assert!(rt; written.as_slice() == REPORT.as_bytes());
     }

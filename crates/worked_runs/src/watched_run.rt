@@ -1,4 +1,4 @@
-use crate::nodes::{new_stores, played_watched};
+use crate::nodes::played_watched;
 use crate::same::assert_same;
 use crate::threaded_run::SCRIPT;
 
@@ -49,8 +49,7 @@ fn a_watch_is_told_of_lines_and_records(rt: HostRuntime) {
         woven: 0,
         finished: 0,
     };
-    let stores = new_stores(&rt, rt.alloc());
-    let (done, written) = played_watched(&rt, rt.alloc(), stores, SCRIPT, &mut told);
+    let (done, written) = played_watched(&rt, rt.alloc(), None, SCRIPT, &mut told);
     drop(written);
     assert_same(&rt, done, Ok(()));
     assert!(rt; told.answered == 4);

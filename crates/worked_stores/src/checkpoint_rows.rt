@@ -1,10 +1,9 @@
 use crate::file_store_rows::{append_two, assert_two, assert_two_in, count};
-use crate::records::two;
-use crate::store_files::{
+use crate::fused_files::{
     FOREVER, MemoryFiles, Stored, after_a_crash, assert_refused, new_files, open_as, opened,
     registry, with_bytes,
 };
-use durable::SqlStore;
+use crate::records::two;
 use sqlite::Files;
 use sqlite_disk::{Fuse, Memory};
 use std::alloc::Global;
@@ -185,7 +184,7 @@ fn a_store_that_waits_is_not_copied(rt: HostRuntime) {
 
 /// Has NZ's store at the path in these files append two records, and copies its log.
 fn copy_at(rt: &impl Abort, files: &HostRuntime, path: &str) {
-    let opened = SqlStore::open_path(files, path, registry(rt, "NZ"));
+    let opened = store_files::open_path(files, path, registry(rt, "NZ"));
     let mut store = opened.expect(rt, "no fault of the store");
     append_two(rt, files.alloc(), &mut store);
     assert!(rt; store.checkpoint().is_ok());
@@ -193,7 +192,7 @@ fn copy_at(rt: &impl Abort, files: &HostRuntime, path: &str) {
 
 /// Asserts that NZ's store at the path in these files has the two records.
 fn assert_two_at(rt: &impl Abort, files: &HostRuntime, path: &str) {
-    let opened = SqlStore::open_path(files, path, registry(rt, "NZ"));
+    let opened = store_files::open_path(files, path, registry(rt, "NZ"));
     let mut store = opened.expect(rt, "no fault of the store");
     assert_two(rt, files.alloc(), &mut store);
     drop(store);

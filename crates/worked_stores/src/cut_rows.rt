@@ -1,6 +1,6 @@
 use crate::driving::transfer;
+use crate::fused_files::registry;
 use crate::links::{Cut, File, Link};
-use crate::store_files::registry;
 use std::alloc::Global;
 use std::process::Abort;
 use units::Node;

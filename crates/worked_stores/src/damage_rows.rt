@@ -1,7 +1,7 @@
+use crate::fused_files::{FOREVER, Stored, changed, new_files, open_as, registry};
 use crate::links::new_core;
 use crate::migration_cut::{CLOSE, OPEN};
 use crate::records::record;
-use crate::store_files::{FOREVER, Stored, changed, new_files, open_as, registry};
 use desk::State;
 use std::alloc::Global;
 use std::process::Abort;

@@ -1,9 +1,10 @@
-use crate::records::{ACCEPTED, PROPOSE, are_two, has_text, two};
-use crate::store_files::{
+use crate::fused_files::{
     FOREVER, MemoryFiles, Stored, after_a_crash, assert_refused, changed, new_files, open_as,
     opened, refused, registry,
 };
+use crate::records::{ACCEPTED, PROPOSE, are_two, has_text, two};
 use durable::SqlStore;
+use sqlite::File;
 use sqlite_disk::Disk;
 use std::alloc::Global;
 use std::fs;
@@ -284,34 +285,37 @@ fn assert_refused_at(
     code: &str,
     wanted: StoreFault,
 ) {
-    let opened = SqlStore::open_path(files, path, registry(rt, code));
+    let opened = store_files::open_path(files, path, registry(rt, code));
     assert!(rt; opened.err() == Some(wanted));
 }
 
-/// Appends two records to the store where it has none, and asserts that it has these two.
-fn keep_two<S: NodeStore>(rt: &impl Abort, alloc: Global, store: &mut S) {
-    if count(rt, store) == 0 {
-        append_two(rt, alloc, store);
-        assert!(rt; store.reopen().is_ok());
-    }
-    assert_two(rt, alloc, store);
+/// NZ's store at the path in these files.
+fn store_at(rt: &impl Abort, files: &HostRuntime, path: &str) -> SqlStore<File> {
+    let opened = store_files::open_path(files, path, registry(rt, "NZ"));
+    opened.expect(rt, "no fault of the store")
 }
 
-/// Opens NZ's store at the path in these files, keeps two records in it, and asserts that it is refused to others
-/// meanwhile.
-fn keep_at(rt: &impl Abort, files: &HostRuntime, path: &str) {
-    let opened = SqlStore::open_path(files, path, registry(rt, "NZ"));
-    let mut store = opened.expect(rt, "no fault of the store");
-    keep_two(rt, files.alloc(), &mut store);
+/// Makes NZ's store at the path in these files, with two records, and asserts that it is refused to others meanwhile.
+fn make_at(rt: &impl Abort, files: &HostRuntime, path: &str) {
+    let mut store = store_at(rt, files, path);
+    assert!(rt; count(rt, &mut store) == 0);
+    append_two(rt, files.alloc(), &mut store);
     assert_refused_at(rt, files, path, "NZ", StoreFault::Device);
+    drop(store);
+}
+
+/// Asserts that NZ's store at the path in these files has the two records, also once it was opened again.
+fn assert_two_at(rt: &impl Abort, files: &HostRuntime, path: &str) {
+    let mut store = store_at(rt, files, path);
+    assert_kept(rt, files.alloc(), &mut store);
     drop(store);
 }
 
 #[test]
 fn a_store_at_a_path(rt: HostRuntime) {
     fs::create_dir(&rt, "durable_test").expect(&rt, "a new folder");
-    keep_at(&rt, &rt, "durable_test/NZ.db");
-    keep_at(&rt, &rt, "durable_test/NZ.db");
+    make_at(&rt, &rt, "durable_test/NZ.db");
+    assert_two_at(&rt, &rt, "durable_test/NZ.db");
     assert_refused_at(&rt, &rt, "durable_test/NZ.db", "JP", StoreFault::WrongNode);
     let text = "no database, but a text that is long enough";
     fs::write(&rt, "durable_test/JP.db", text).expect(&rt, "a new file");

@@ -13,6 +13,8 @@ mod driving;
 #[cfg(test)]
 mod file_store_rows;
 #[cfg(test)]
+mod fused_files;
+#[cfg(test)]
 mod links;
 #[cfg(test)]
 mod memory_store_rows;
@@ -25,8 +27,10 @@ mod old_stores;
 #[cfg(test)]
 mod records;
 #[cfg(test)]
+mod reopening_rows;
+#[cfg(test)]
 mod same;
 #[cfg(test)]
-mod store_files;
+mod stumble;
 #[cfg(test)]
 mod watch_rows;

@@ -3,8 +3,8 @@ ghost use Rattle.std.specs.Prelude.{◌≡◌, [], length};
 ghost use Rattle.protocol.specs.Registries.{nodes};
 ghost use Rattle.world.specs.Cores.{journal_of};
 
+use crate::fused_files::{Stored, after_a_crash, registry};
 use crate::same::assert_same;
-use crate::store_files::{Stored, after_a_crash, registry};
 use audit::audit;
 use desk::{State, Told};
 use durable::SqlStore;

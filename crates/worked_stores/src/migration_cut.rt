@@ -1,9 +1,9 @@
+use crate::fused_files::{
+    FOREVER, MemoryFiles, Stored, after_a_crash, open_as, opened, registry, with_bytes,
+};
 use crate::links::new_core;
 use crate::old_stores::{PROPOSE_ONE, old_files};
 use crate::records::{PROPOSE, has_text};
-use crate::store_files::{
-    FOREVER, MemoryFiles, Stored, after_a_crash, open_as, opened, registry, with_bytes,
-};
 use desk::State;
 use protocol::NodeCore;
 use std::alloc::Global;

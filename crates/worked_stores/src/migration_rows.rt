@@ -1,10 +1,10 @@
+use crate::fused_files::{
+    MemoryFiles, Stored, assert_refused, changed, open_as, refused, registry,
+};
 use crate::old_stores::{
     ACCEPTED_ONE, PROPOSE_ONE, assert_format, old_files, old_files_entries_first,
 };
 use crate::records::{ACCEPTED, PROPOSE};
-use crate::store_files::{
-    MemoryFiles, Stored, assert_refused, changed, open_as, refused, registry,
-};
 use operator::show;
 use std::alloc::Global;
 use std::process::Abort;

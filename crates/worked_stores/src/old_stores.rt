@@ -1,6 +1,6 @@
 //! Stores of format 1, which no program makes any more: made by statements.
 
-use crate::store_files::{FOREVER, Stored, execute_all, new_files, open_database, store_of};
+use crate::fused_files::{FOREVER, Stored, execute_all, new_files, open_database, store_of};
 use sqlite::types::ValueRef;
 use sqlite::{Alter, Connection, Transaction};
 use std::alloc::Global;

@@ -1,6 +1,6 @@
+use crate::fused_files::registry;
 use crate::old_stores::{PROPOSE_ONE, make_old_store_at};
-use crate::store_files::registry;
-use durable::{SqlStore, Watch};
+use durable::Watch;
 use std::alloc::Global;
 use std::fs;
 use std::process::Abort;
@@ -45,7 +45,7 @@ fn told_at(rt: &impl Abort, files: &HostRuntime, path: &str) -> Told {
         records: [0; MOST_CALLS],
         counts: [0; MOST_CALLS],
     };
-    let opened = SqlStore::open_path_watched(files, path, registry(rt, "NZ"), &mut watch);
+    let opened = store_files::open_path_watched(files, path, registry(rt, "NZ"), &mut watch);
     drop(opened.expect(rt, "no fault of the store"));
     watch
 }

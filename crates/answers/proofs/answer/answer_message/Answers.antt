@@ -16,6 +16,7 @@ answer_confirmed-requires-clause-source g c = record {
 pub returns-in-Some-clause-asks : goal.returns-in-Some-clause-asks
 returns-in-Some-clause-asks g c = record {
   moment = c.now-moment.result;
+  time = c.now-moment.ensures;
   note = c.take_at-taken.result;
   asked = c.take_at-taken.ensures.asked;
   taken = c.take_at-taken.ensures.told;
@@ -25,6 +26,7 @@ returns-in-Some-clause-asks g c = record {
 pub returns-in-None-clause-asks : goal.returns-in-None-clause-asks
 returns-in-None-clause-asks g c = record {
   moment = c.now-moment.result;
+  time = c.now-moment.ensures;
   note = c.take_at-taken.result;
   asked = c.take_at-taken.ensures.asked;
   taken = c.take_at-taken.ensures.told;

@@ -11,3 +11,9 @@ returns-clause-journals g c =
 
 pub returns-clause-err : goal.returns-clause-err
 returns-clause-err g c = c.cores_of_woven.ensures.err c.args.scheme.now (map node_cores.journal_of c.args.cores.items) c.weave_cores.ensures.err
+
+pub returns-clause-nodes : goal.returns-clause-nodes
+returns-clause-nodes g c = c.cores_of_woven.ensures.nodes c.args.scheme.now (map node_cores.journal_of c.args.cores.items) c.weave_cores.ensures.ok
+
+pub returns-clause-schemes : goal.returns-clause-schemes
+returns-clause-schemes g c = c.cores_of_woven.ensures.schemes c.args.scheme.now (map node_cores.journal_of c.args.cores.items) c.weave_cores.ensures.ok

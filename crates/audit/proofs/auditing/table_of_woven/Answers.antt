@@ -1,4 +1,4 @@
-use Rattle.std.proofs.Common.{◌∙◌, ◌++◌, ℕ, List, ap, subst}
+use Rattle.std.proofs.Common.{subst}
 use Rattle.std.specs.Prelude.{IfErr, IfOk}
 use Rattle.weave.specs.Following.{IsWeaveFault, IsWoven, journal_of}
 use Rattle.audit.proofs.Tables.{audited, fails_to_weave}
@@ -10,6 +10,6 @@ returns-in-Err-clause-err c scheme journals fails =
 
 pub returns-in_ok-push_table-in-Ok-clause-ok : goal.returns-in_ok-push_table-in-Ok-clause-ok
 returns-in_ok-push_table-in-Ok-clause-ok c scheme journals woven =
+    let events = c.in-Ok.woven.events.items in
     let here = subst (λ r. IfOk r (λ w. IsWoven scheme (journal_of scheme journals) w.events.items w.world)) c.in-Ok.is woven in
-    audited c.tonnes_add_up.ensures.sums c.tonnes_add_up.ensures.fits scheme journals c.in-Ok.woven.events.items c.in-Ok.woven.world c.in_ok-push_table-in-Ok.ensures.0 _ here.world here.projects c.in_ok-push_table-in-Ok.ensures.1
-    (c.in_ok-push_table-in-Ok.ensures.2 ∙ ap (λ (bytes : List ℕ). bytes ++ c.in_ok-push_table-in-Ok.ensures.0) c.new-text.ensures.bytes)
+    audited scheme journals events _ _ here.projects c.new-text.ensures.bytes (c.in_ok-push_table-in-Ok.ensures.safe scheme events here.world)

@@ -20,17 +20,17 @@ returns-in-Err-clause-err g c =
     fails_first g.S.NodeStore.is_honest g.S.NodeStore.content g.S.NodeStore.may_hold g.S.NodeStore.must_reopen c.args.scheme.now (nodes c.args.scheme.now) c.args.stores.now c.loop-store.stores (map journal_of c.loop-store.cores.items) c.loop-store.store-index c.node_at-node.result (get_or c.loop-store.stores c.loop-store.store-index c.store-item.result) c.load_one.new.store
     count below isn was c.loop-store.invariant.loaded c.in-Err.fault c.in-Err.ensures.err
 
-pub returns-in-Err-clause-kept : goal.returns-in-Err-clause-kept
-returns-in-Err-clause-kept g c =
+pub returns-in-Err-clause-unwritten : goal.returns-in-Err-clause-unwritten
+returns-in-Err-clause-unwritten g c =
     let below : c.loop-store.store-index < length c.loop-store.stores = omega (arith, c.loop-store-test.true, c.loop-store.auto.stores) in
     let was = sym (c.loop-store.invariant.later c.loop-store.store-index (omega arith)) ∙ get_at c.loop-store.stores c.loop-store.store-index c.store-item.result below in
-    kept_more g.S.NodeStore.is_honest g.S.NodeStore.content g.S.NodeStore.must_reopen c.args.stores.now c.loop-store.stores c.loop-store.store-index (get_or c.loop-store.stores c.loop-store.store-index c.store-item.result) c.load_one.new.store below was c.load_one.ensures.kept c.loop-store.invariant.kept
+    kept_more g.S.NodeStore c.args.stores.now c.loop-store.stores c.loop-store.store-index (get_or c.loop-store.stores c.loop-store.store-index c.store-item.result) c.load_one.new.store below was c.load_one.ensures.unwritten c.loop-store.invariant.kept
 
-pub returns-in_err-push-in-Ok-clause-kept : goal.returns-in_err-push-in-Ok-clause-kept
-returns-in_err-push-in-Ok-clause-kept g c =
+pub returns-in_err-push-in-Ok-clause-unwritten : goal.returns-in_err-push-in-Ok-clause-unwritten
+returns-in_err-push-in-Ok-clause-unwritten g c =
     let below : c.loop-store.store-index < length c.loop-store.stores = omega (arith, c.loop-store-test.true, c.loop-store.auto.stores) in
     let was = sym (c.loop-store.invariant.later c.loop-store.store-index (omega arith)) ∙ get_at c.loop-store.stores c.loop-store.store-index c.store-item.result below in
-    kept_more g.S.NodeStore.is_honest g.S.NodeStore.content g.S.NodeStore.must_reopen c.args.stores.now c.loop-store.stores c.loop-store.store-index (get_or c.loop-store.stores c.loop-store.store-index c.store-item.result) c.load_one.new.store below was c.load_one.ensures.kept c.loop-store.invariant.kept
+    kept_more g.S.NodeStore c.args.stores.now c.loop-store.stores c.loop-store.store-index (get_or c.loop-store.stores c.loop-store.store-index c.store-item.result) c.load_one.new.store below was c.load_one.ensures.unwritten c.loop-store.invariant.kept
 
 pub loop-store-preserved : goal.loop-store-preserved
 loop-store-preserved g c =
@@ -49,7 +49,7 @@ loop-store-preserved g c =
       schemes = subst (All (λ (core : Core). scheme_of core ≡ c.args.scheme.now)) (sym c.in_ok-push-in-Ok.ensures)
           (All-push (λ (core : Core). scheme_of core ≡ c.args.scheme.now) c.loop-store.cores.items c.in-Ok.core c.loop-store.invariant.schemes c.in-Ok.ensures.scheme);
       later = λ k above. set_other c.loop-store.stores c.loop-store.store-index k c.load_one.new.store (λ e. omega (arith, above, e)) ∙ c.loop-store.invariant.later k (omega (arith, above));
-      kept = kept_more g.S.NodeStore.is_honest g.S.NodeStore.content g.S.NodeStore.must_reopen c.args.stores.now c.loop-store.stores c.loop-store.store-index (get_or c.loop-store.stores c.loop-store.store-index c.store-item.result) c.load_one.new.store below was c.load_one.ensures.kept c.loop-store.invariant.kept;
+      kept = kept_more g.S.NodeStore c.args.stores.now c.loop-store.stores c.loop-store.store-index (get_or c.loop-store.stores c.loop-store.store-index c.store-item.result) c.load_one.new.store below was c.load_one.ensures.unwritten c.loop-store.invariant.kept;
       count = omega (arith, longer, c.loop-store.invariant.count);
     }
 

@@ -2,7 +2,7 @@ use Rattle.std.proofs.Common.{◌≡◌, ◌≤◌, ℕ, length, map, take}
 use Rattle.std.specs.Prelude.{All, slice_get}
 use Rattle.protocol.specs.Registries.{nodes}
 use Rattle.world.specs.Cores.{journal_of, node_of, scheme_of}
-use Rattle.audit.specs.Stores.{AreKept, AreLoadedTo}
+use Rattle.audit.specs.Stores.{AreLoadedTo, AreUnwritten}
 use Rattle.audit.proofs.loading.load_cores.Given as goal
 
 abbrev pub invariant-loop-store : goal.invariant-loop-store
@@ -11,6 +11,6 @@ invariant-loop-store g l = record {
   nodes : map node_of l.cores.items ≡ take l.store-index (nodes l.scheme);
   schemes : All (λ core. scheme_of core ≡ l.scheme) l.cores.items;
   later : (k : ℕ) → l.store-index ≤ k → slice_get l.stores k ≡ slice_get l.initial.stores k;
-  kept : AreKept g.S.NodeStore.is_honest g.S.NodeStore.content g.S.NodeStore.must_reopen l.initial.stores l.stores;
+  kept : AreUnwritten g.S.NodeStore l.initial.stores l.stores;
   count : length l.cores.items ≡ l.store-index;
 }

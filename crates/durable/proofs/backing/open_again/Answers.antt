@@ -1,4 +1,5 @@
-use Rattle.durable.proofs.Refusing.{not-opened}
+use Rattle.std.proofs.Common.{inr}
+use Rattle.durable.proofs.Refusing.{clean-left, not-opened}
 use Rattle.durable.proofs.backing.open_again.Goals as goal
 
 pub returns-in-Ok-clause-opened : goal.returns-in-Ok-clause-opened
@@ -14,3 +15,10 @@ pub returns-in-Err-clause-fault : goal.returns-in-Err-clause-fault
 returns-in-Err-clause-fault g c honest =
     not-opened c.args.files c.into_files-files.result c.in-Err.left c.in-Err.error c.tally-before.result c.tally.result c.opening_fault-fault.result c.into_files-files.ensures c.in-Err.ensures.cause honest
     c.tally-before.ensures c.tally.ensures c.opening_fault-fault.ensures.named c.opening_fault-fault.ensures.damaged
+
+pub returns-in-Err-clause-spared : goal.returns-in-Err-clause-spared
+returns-in-Err-clause-spared g c = inr (record {
+  rest = c.in-Err.left;
+  same = c.into_files-files.ensures;
+  leaves = λ honest. c.in-Err.ensures.unharmed (clean-left c.in-Err.left c.into_files-files.result c.into_files-files.ensures honest);
+})

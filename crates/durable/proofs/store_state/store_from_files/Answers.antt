@@ -1,4 +1,4 @@
-use Rattle.std.proofs.Common.{◌≡◌, Result, Ok, Err, IfOk, IfErr, IsTrue, List, ℕ, inr, sym, subst, rules}
+use Rattle.std.proofs.Common.{◌≡◌, ◌⊎◌, Result, Ok, Err, IfOk, IfErr, IsTrue, List, ℕ, inl, inr, sym, subst, rules}
 use Rattle.sqlite.specs.Files.{over_files, file_state}
 use Rattle.sqlite.specs.State.{HasCleanDisk}
 use Rattle.sqlite.specs.Tree.{Trees}
@@ -8,8 +8,8 @@ use Rattle.durable.specs.Backing.{IsFound, Hold}
 use Rattle.durable.specs.Connected as connected
 use Rattle.store_tables.specs.Held.{node_in}
 use Rattle.store_tables.specs.Migrating.{IsOpenedAs}
-use Rattle.durable.specs.Opening.{IsOpeningFault}
-use Rattle.durable.specs.Refusals.{IsRefusal, IsUnharmed}
+use Rattle.durable.specs.Opening.{IsOpeningFault, MayComeOf}
+use Rattle.durable.specs.Refusals.{IsRefusal, IsUnharmed, AreSpared, AreGivenBack}
 use Rattle.stores.specs.Faults.{is_judgement}
 use Rattle.durable.proofs.Sparing.{not-looked-at}
 use Rattle.durable.proofs.store_state.store_from_files.Goals as goal
@@ -56,3 +56,20 @@ returns-in_err-conn-clause-unharmed g c =
     let same : c.from_residual.result ≡ Err c.in_err-conn.field-0.0 = search rules in
     let e = c.in_err-conn.field-0.0 in
     subst (λ r. IfErr r (λ e. AreClean g.D.Disk e.1.log e.1.db → IsUnharmed g.D.Disk c.args.files e.0 e.1)) (sym same) (λ honest. not-looked-at g.D.Disk c.args.files e.1 e.0 (c.in_err-conn.ensures.fault honest))
+
+pub returns-clause-spared : goal.returns-clause-spared
+returns-clause-spared g c =
+    let conn = file_state c.in_ok-conn.conn in
+    both-err (λ e. AreClean g.D.Disk e.1.log e.1.db → HasCleanDisk conn) (λ e. Hold g.D.Disk e.1 (MayComeOf c.deref.result.now conn.committed)) (λ e. AreSpared g.D.Disk (node_text c.args.node) c.args.files e.1) c.store_over.result
+    (λ e refused held. inr (inr (λ clean. let early = refused clean in record {
+      db = conn.committed;
+      sound = c.in_ok-conn.ensures.sound early;
+      found = c.in_ok-conn.ensures.found early;
+      holds = subst (λ (n : List ℕ). Hold g.D.Disk e.1 (MayComeOf n conn.committed)) (name-is g c) held;
+    }))) c.store_over.ensures.refused c.store_over.ensures.spared
+
+-- what an opening in vain left, among all that may be left
+pub returns-in_err-conn-clause-spared : goal.returns-in_err-conn-clause-spared
+returns-in_err-conn-clause-spared g c =
+    let same : c.from_residual.result ≡ Err c.in_err-conn.field-0.0 = search rules in
+    subst (λ r. IfErr r (λ e. AreSpared g.D.Disk (node_text c.args.node) c.args.files e.1)) (sym same) (elim (c.in_err-conn.ensures.spared) [ inl untouched ↦ inl untouched | inr given ↦ inr (inl given) ])

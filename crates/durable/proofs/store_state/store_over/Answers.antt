@@ -1,6 +1,7 @@
-use Rattle.std.proofs.Common.{sym, subst}
+use Rattle.std.proofs.Common.{◌≡◌, sym, subst}
 use Rattle.sqlite.specs.Files.{over_files, file_state}
 use Rattle.durable.specs.Connected as connected
+use Rattle.durable.specs.Opening.{MayComeOf}
 use Rattle.store_tables.specs.Migrating.{IsOpenedAs}
 use Rattle.durable.proofs.Sparing.{spared}
 use Rattle.durable.proofs.store_state.store_over.Goals as goal
@@ -13,4 +14,9 @@ returns-in-Ok-clause-opened g c = λ honest.
 pub returns-in-Err-clause-unharmed : goal.returns-in-Err-clause-unharmed
 returns-in-Err-clause-unharmed g c = λ judged.
     let gone = c.files_of.ensures in
-    spared g.D.Disk c.files_of.result (file_state c.args.conn).committed.trees _ gone.holds (λ honest db left. (c.in-Err.ensures.settled (gone.honest honest)).unharmed judged db left)
+    spared g.D.Disk c.files_of.result _ (λ next. next ≡ (file_state c.args.conn).committed.trees) gone.holds (λ honest db left. (c.in-Err.ensures.settled (gone.honest honest)).unharmed judged db left)
+
+pub returns-in-Err-clause-spared : goal.returns-in-Err-clause-spared
+returns-in-Err-clause-spared g c =
+    let gone = c.files_of.ensures in
+    spared g.D.Disk c.files_of.result _ (MayComeOf c.args.name.now (file_state c.args.conn).committed) gone.holds (λ honest db left. (c.in-Err.ensures.settled (gone.honest honest)).crash db left)

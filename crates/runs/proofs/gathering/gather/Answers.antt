@@ -4,21 +4,20 @@ use Rattle.runs.proofs.Collected.{gathered_more, rest_more}
 use Rattle.runs.proofs.gathering.gather.Goals as goal
 
 pub loop-seat-preserved : goal.loop-seat-preserved
-loop-seat-preserved g c =
+loop-seat-preserved c =
     let step = c.in-Some.ensures.steps in
-    let all = c.loop-seat.gathered.seats.items in
-    let more = c.in_default.ensures.seats in
+    let all = c.loop-seat.all.items in
+    let more = c.in_default.ensures in
     let longer = ap (λ (l : _). length l) more.1 in
     record {
-      rest = rest_more (λ v. v.items) c.args.seats.items all more.0 c.in-Some.seat c.loop-seat.seat-iterator.rest.items c.next.new.self.rest.items c.loop-seat.invariant.rest step.0 c.add.new.self.seats.items more.1;
-      each = gathered_more (λ v. v.items) c.args.seats.items all more.0 c.in-Some.seat c.loop-seat.seat-iterator.rest.items c.next.new.self.rest.items c.loop-seat.invariant.rest step.0 c.add.new.self.seats.items more.1 more.2 c.loop-seat.invariant.each;
-      stores = omega (arith, longer, length-append all (more.0 ∷ []), c.in_default.ensures.stores, c.loop-seat.invariant.stores);
+      rest = rest_more (λ v. v.items) c.args.seats.items all more.0 c.in-Some.seat c.loop-seat.seat-iterator.rest.items c.next.new.self.rest.items c.loop-seat.invariant.rest step.0 c.add.new.all.items more.1;
+      each = gathered_more (λ v. v.items) c.args.seats.items all more.0 c.in-Some.seat c.loop-seat.seat-iterator.rest.items c.next.new.self.rest.items c.loop-seat.invariant.rest step.0 c.add.new.all.items more.1 more.2 c.loop-seat.invariant.each;
       count = omega (arith, longer, length-append all (more.0 ∷ []), ap (λ (l : _). length l) step.0, c.loop-seat.invariant.count);
     }
 
-pub returns-clause-seats : goal.returns-clause-seats
-returns-clause-seats g c =
+pub returns : goal.returns
+returns c =
     record {
-      count = omega (arith, length-map c.loop-seat.gathered.seats.items (λ v. v.items), c.loop-seat.invariant.count, c.in-None.ensures.steps.0, c.loop-seat.seat-iterator.rest.ok.0);
+      count = omega (arith, length-map c.loop-seat.all.items (λ v. v.items), c.loop-seat.invariant.count, c.in-None.ensures.steps.0, c.loop-seat.seat-iterator.rest.ok.0);
       each = λ k s h under. c.loop-seat.invariant.each k s h (omega (arith, under, c.loop-seat.invariant.count, c.in-None.ensures.steps.0, c.loop-seat.seat-iterator.rest.ok.0));
     }

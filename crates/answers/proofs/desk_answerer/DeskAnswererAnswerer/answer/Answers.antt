@@ -6,7 +6,8 @@ pub returns-clause-replies : goal.returns-clause-replies
 returns-clause-replies g c = (
   c.in_ok-answer.answer,
   search rules,
+  search rules,
   c.in_ok-answer.ensures.line,
   sym c.reply-reply.ensures,
-  subst (λ (s : Answering). Replies s.seat c.answer_line.new.seat c.args.line.now c.in_ok-answer.answer) c.self.view_is c.in_ok-answer.ensures.replies,
+  subst (λ (s : Answering g.row.K.Denot). Replies (g.K.Clock.tells s.clock) s.seat c.answer_line.new.seat c.args.line.now c.in_ok-answer.answer) c.self.view_is c.in_ok-answer.ensures.replies,
 )

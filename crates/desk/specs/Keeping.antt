@@ -1,0 +1,111 @@
+-- A state beside the store that has its committed records, and what is known of the two at a desk.
+use Rattle.std.specs.Prelude.{◌≡◌, ◌<◌, ◌≤◌, ℕ, Bool, true, false, List, length, take, drop, Option, Some, None, is_some, Result, Ok, Err, IfOk}
+use Rattle.units.specs.declared.code.Node.{Node}
+use Rattle.wire.specs.declared.input.Input.{Input}
+use Rattle.stores.specs.Records.{Places, AreRecords, written}
+use Rattle.scheme.specs.declared.registries.Scheme.{Scheme}
+use Rattle.stores.specs.Calls.{Appends}
+use Rattle.stores.specs.Faults.{count_after}
+use Rattle.stores.specs.declared.fault.StoreFault.{StoreFault}
+use Rattle.stores.specs.declared.node_store.NodeStore.{Ghosts}
+use Rattle.wire.specs.declared.message.Message.{Message}
+use Rattle.desk.specs.Calls.{batch_of, committed_by, done}
+use Rattle.desk.specs.Desks.{HasToSend, IsProgress}
+use Rattle.desk.specs.Views.{Held}
+use Rattle.desk.specs.declared.progress.Progress.{Progress}
+
+-- ---- what the places of a store have
+
+-- the first records of the journal, `count` of them: those of the opening as they were loaded, then the texts of those
+-- that came since
+pub record HaveFirst (opening : ℕ) (journal : List Input) (count : ℕ) (places : Places) : Type 0 where
+  pub loaded : AreRecords (take opening places) (take opening journal)
+  pub since : drop opening places ≡ written (drop opening (take count journal))
+
+-- the committed records, and no others
+abbrev pub HaveCommitted : Held → Places → Type 0
+HaveCommitted held places = HaveFirst held.opening held.journal held.committed places
+
+-- the committed records, and maybe some of the tail
+pub record HaveSome (held : Held) (places : Places) : Type 0 where
+  pub count : ℕ
+  pub least : held.committed ≤ count
+  pub most : count ≤ length held.journal
+  pub first : HaveFirst held.opening held.journal count places
+
+-- ---- a state and its store
+
+pub record Keeping (S : Type 0) : Type 0 where
+  pub state : Held
+  pub store : S
+
+module _ {S : Type 0} (g : Ghosts S) where
+  -- the store is the state's, and has just the committed records while it runs. After a crash it may hold these, and
+  -- maybe some of the tail with them. While the state runs, so does the store
+  pub record IsKept (kept : Keeping S) : Type 0 where
+    pub opening : kept.state.opening ≤ kept.state.committed
+    pub committed : kept.state.committed ≤ length kept.state.journal
+    pub whose : g.whose kept.store ≡ kept.state.node
+    pub own : g.is_honest kept.store → g.must_reopen kept.store ≡ false → g.is_own kept.store
+    pub runs : kept.state.runs ≡ true → g.must_reopen kept.store ≡ false
+    pub has : g.is_honest kept.store → g.must_reopen kept.store ≡ false → HaveCommitted kept.state (g.content kept.store)
+    pub found : g.is_honest kept.store → (next : Places) → g.may_hold kept.store next → HaveSome kept.state next
+
+  -- what a commit of at most `max` records makes of a state and its store, and returns
+  pub record Commits (old new : Keeping S) (max : ℕ) (result : Result ℕ StoreFault) : Type 0 where
+    pub state : new.state ≡ committed_by old.state result
+    pub count : IfOk result (λ count. count ≡ length (batch_of old.state max))
+    pub none : length (batch_of old.state max) ≡ 0 → (result ≡ Ok 0) × (new ≡ old)
+    pub some : 0 < length (batch_of old.state max) → Appends g.is_honest g.content g.may_hold g.must_reopen old.store new.store (batch_of old.state max) (done result)
+
+-- ---- at a desk
+
+-- a store's count of failed calls of the device, after commits that ended with that fault, or with none
+abbrev pub count_with : ℕ → Option StoreFault → ℕ
+count_with n None = n
+count_with n (Some fault) = count_after n fault
+
+-- the state goes by a scheme, is a node's, and had records at its opening, as is known of the desks of its run; and the
+-- fault is that which stopped the store, if one did
+module _ {S : Type 0} (g : Ghosts S) (opened : Scheme → Node → List Input → ℕ → Type 0) where
+  pub record IsAtDesk (kept : Keeping S) (fault : Option StoreFault) : Type 0 where
+    pub before : ℕ
+    pub began : opened kept.state.scheme kept.state.node (take kept.state.opening kept.state.journal) before
+    pub counted : g.faults kept.store ≡ count_with before fault
+    pub stopped : g.must_reopen kept.store ≡ is_some fault
+    pub running : kept.state.runs ≡ true → fault ≡ None
+
+  -- a state that runs, with its store, is of this run
+  pub record MayOpen (kept : Keeping S) : Type 0 where
+    pub begins : opened kept.state.scheme kept.state.node (take kept.state.opening kept.state.journal) (g.faults kept.store)
+    pub runs : kept.state.runs ≡ true
+
+  -- No clause can name what lies under a desk's lock, so each says of some state and its store that they are of this
+  -- run, and that this is what they committed or had to send.
+  pub record IsOfRun (kept : Keeping S) : Type 0 where
+    pub keeps : IsKept g kept
+    pub fault : Option StoreFault
+    pub at : IsAtDesk kept fault
+
+  -- a commit of at most `max` records
+  abbrev pub IsCommit : ℕ → Result ℕ StoreFault → Type 0
+  IsCommit max result = (old : Keeping S) × (new : Keeping S) × IsOfRun old × IsOfRun new × Commits g old new max result
+
+  -- a message to send, which a store has as a committed record's
+  abbrev pub IsToSend : Node → ℕ → Option (ℕ × Message) → Type 0
+  IsToSend peer from found = (kept : Keeping S) × IsOfRun kept × HasToSend kept.state peer from found
+
+  -- as many records as that are committed, and a store has them
+  abbrev pub AreStored : ℕ → Type 0
+  AreStored count = (kept : Keeping S) × IsOfRun kept × (count ≤ kept.state.committed)
+
+-- ---- what the code follows; no public contract cites what stands below
+
+-- the fault that ended the commits, if one did
+abbrev pub fault_after : Option StoreFault → Result ℕ StoreFault → Option StoreFault
+fault_after fault (Ok count) = fault
+fault_after fault (Err told) = Some told
+
+-- as many records as `count` are committed, or they aren't, at some state of the run
+abbrev pub IsProgressOfRun : {S : Type 0} → Ghosts S → (Scheme → Node → List Input → ℕ → Type 0) → ℕ → Progress → Type 0
+IsProgressOfRun {S} g opened count progress = (kept : Keeping S) × IsOfRun g opened kept × IsProgress kept.state count progress

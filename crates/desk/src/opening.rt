@@ -1,0 +1,21 @@
+//! What is known of the nodes of a run when their desks open.
+ghost use Rattle.std.specs.Prelude.{ℕ, List};
+ghost use Rattle.units.specs.declared.code.Node.{Node};
+ghost use Rattle.wire.specs.declared.input.Input.{Input};
+ghost use Rattle.scheme.specs.declared.registries.Scheme.{Scheme};
+
+use std::marker::Brand;
+
+/// What is known of the nodes of a run when their desks open. It stays true of what lies under each desk's lock.
+///
+/// A run picks it where it calls a function that is generic in it, with `Brand` for the type. Where nothing is to be
+/// known, `Brand` itself says nothing.
+pub trait Opening {
+    /// A node goes by that scheme, is that one, has these records when its desk opens, and its store that count of
+    /// faults.
+    ghost opened: { Scheme → Node → List Input → ℕ → Type 0 };
+}
+
+impl Opening for Brand {
+    ghost opened = { λ scheme node journal faults. Unit {0} };
+}

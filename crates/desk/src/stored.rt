@@ -1,0 +1,115 @@
+//! A node's state with the store that has its committed records.
+ghost use Rattle.std.specs.Prelude.{◌≡◌, ◌<◌, false, true, [], length, IfOk, IfErr};
+ghost use Rattle.stores.specs.Faults.{faults_after};
+ghost use Rattle.desk.specs.Calls.{Tells};
+ghost use Rattle.desk.specs.Keeping.{Commits, IsKept};
+ghost use Rattle.desk.specs.Loading.{IsLoaded};
+ghost use Rattle.desk.specs.Views.{opened_with};
+
+use crate::notes::Asked;
+use crate::state::{State, Taken};
+use protocol::NodeCore;
+use std::alloc::Global;
+use std::marker::Model;
+use stores::{NodeStore, StoreFault};
+use wire::Input;
+
+/// A node's state, and the store that has the committed records of it. Nothing but a commit changes the two together.
+#[derive(Drop)]
+pub struct Stored<C: NodeCore, S: NodeStore> {
+    state: State<C>,
+    store: S,
+}
+
+impl<C: NodeCore, S: NodeStore> Model for Stored<C, S> {
+    ghost use Rattle.std.specs.Coded.{codes};
+    ghost use Rattle.scheme.specs.contracts.registries.Scheme as kept_scheme;
+    ghost use Rattle.desk.specs.Keeping.{IsKept, Keeping};
+
+    ghost Value = { Keeping S };
+
+    ghost coded = { Prim.hlevel (codes, kept_scheme.the_row.coded, S.code) };
+
+    ghost view = { λ s. record { state = s.state; store = s.store } };
+
+    ghost invariant = { λ s. IsKept S.NodeStore (record { state = s.state; store = s.store }) };
+}
+
+impl<C: NodeCore, S: NodeStore> Stored<C, S> {
+    /// A state with its store, which has the committed records of it.
+    pub fn new(state: State<C>, store: S) -> Stored<C, S>
+        requires { IsKept S.NodeStore (record { state = state; store = store }) }
+        ensures { result ≡ record { state = state; store = store } }
+    {
+        Stored { state, store }
+    }
+
+    /// A state that runs and whose journal is the records of the store, as `State::load_from` makes it, with the store.
+    ///
+    /// Fails as `State::load_from` does, and gives the store back.
+    pub fn load(alloc: Global, core: C, mut store: S) -> Result<Stored<C, S>, (StoreFault, S)>
+        requires journal { C.journal_of core ≡ [] }
+        requires whose { S.whose store ≡ C.node_of core }
+        requires own { S.is_honest store → S.must_reopen store ≡ false → S.is_own store }
+        ensures state { IfOk result (λ s. s.state ≡ opened_with (C.scheme_of core) (C.node_of core) s.state.journal) }
+        ensures loaded { IfOk result (λ s. IsLoaded S.is_honest S.content S.may_hold S.must_reopen (C.scheme_of core) (C.node_of core) store s.store (Ok s.state.journal)) }
+        ensures failed { IfErr result (λ e. IsLoaded S.is_honest S.content S.may_hold S.must_reopen (C.scheme_of core) (C.node_of core) store e.1 (Err e.0)) }
+        ensures keeps { IfOk result (IsKept S.NodeStore) }
+    {
+        match State::load_from(alloc, core, &mut store) {
+            Ok(state) => Ok(Stored { state, store }),
+            Err(fault) => Err((fault, store)),
+        }
+    }
+
+    /// The state.
+    pub fn state(&self) -> &State<C>
+        ensures state { result.now ≡ self.now.state }
+        ensures keeps { IsKept S.NodeStore self.now }
+    {
+        &self.state
+    }
+
+    /// As `take` of the state.
+    pub fn take(&mut self, input: Input) -> Taken
+        ensures asked { result.asked ≡ Asked.Take input }
+        ensures told { Tells self.old.state input result.told self.new.state }
+        ensures length { result.length ≡ length self.new.state.journal }
+        ensures store { self.new.store ≡ self.old.store }
+        ensures kept { IsKept S.NodeStore self.old }
+    {
+        self.state.take(input)
+    }
+
+    /// Appends the first records that aren't committed, at most `max`, to the store, and returns how many: these are
+    /// committed now. A state that was stopped, one that is committed as a whole, and a `max` of 0 give 0, and change
+    /// nothing.
+    ///
+    /// Fails as `append` of the store does. Then the state has stopped, and nothing else of it has changed.
+    pub fn commit(&mut self, max: usize) -> Result<usize, StoreFault>
+        ensures commits { Commits S.NodeStore self.old self.new max result }
+        ensures faults { S.faults self.new.store ≡ faults_after (S.faults self.old.store) result }
+        ensures kept { IsKept S.NodeStore self.old }
+        ensures keeps { IsKept S.NodeStore self.new }
+    {
+        self.state.commit(&mut self.store, max)
+    }
+
+    /// As `stop` of the state.
+    pub fn stop(&mut self)
+        ensures state { self.new.state ≡ record self.old.state { runs = false } }
+        ensures store { self.new.store ≡ self.old.store }
+    {
+        self.state.stop();
+    }
+
+    /// The state and its store, which has its committed records.
+    pub fn into_parts(self) -> (State<C>, S)
+        ensures state { result.0 ≡ self.state }
+        ensures store { result.1 ≡ self.store }
+        ensures keeps { IsKept S.NodeStore (record { state = result.0; store = result.1 }) }
+    {
+        let Stored { state, store } = self;
+        (state, store)
+    }
+}

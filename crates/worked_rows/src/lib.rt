@@ -24,6 +24,8 @@ mod message_rows;
 #[cfg(test)]
 mod outbox_rows;
 #[cfg(test)]
+mod part_rows;
+#[cfg(test)]
 mod record_rows;
 #[cfg(test)]
 mod registries;

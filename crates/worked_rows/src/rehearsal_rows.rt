@@ -1,6 +1,6 @@
 use crate::same::assert_same;
 use crate::streams::Full;
-use inputs::{Cause, OpFault};
+use inputs::{Calls, Cause, OpFault, ReadFault, read_input, write_text};
 use operator::{Action, UsageFault, parse_words};
 use rehearsals::rehearse;
 use std::alloc::Global;
@@ -81,6 +81,55 @@ fn reads_on_after_an_interruption_alone(rt: HostRuntime) {
         OpFault::Input { line, cause },
     );
     assert_interrupted(&rt, rt.alloc(), ErrorKind::Other, OpFault::Read);
+}
+
+/// The reads that a fault has.
+fn reads_of(fault: ReadFault) -> Calls {
+    match fault {
+        ReadFault::Read(calls) | ReadFault::NoMemory(calls) => calls,
+    }
+}
+
+#[test]
+fn tells_how_often_it_read(rt: HostRuntime) {
+    let mut reader = Interrupted {
+        bytes: b"{}\n",
+        at: 2,
+        kind: ErrorKind::Other,
+    };
+    let read = read_input(rt.alloc(), &mut reader).err();
+    let calls = reads_of(read.expect(&rt, "a fault"));
+    assert_same(&rt, (calls.count(), calls.interrupted()), (3, 0));
+}
+
+/// Takes one byte, and then each write is interrupted.
+#[derive(Drop)]
+struct Stalled {
+    taken: usize,
+}
+
+impl Write for Stalled {
+    fn write(&mut self, bytes: &[u8]) -> io::Result<usize> {
+        if self.taken > 0 {
+            return Err(ErrorKind::Interrupted.into());
+        }
+        self.taken = bytes.len().min(1);
+        Ok(self.taken)
+    }
+
+    fn flush(&mut self) -> io::Result<()> {
+        Ok(())
+    }
+}
+
+#[test]
+fn tells_how_often_it_was_interrupted(rt: HostRuntime) {
+    let mut writer = Stalled { taken: 0 };
+    let fault = write_text(&mut writer, b"end\n").err();
+    let fault = fault.expect(&rt, "a fault");
+    let calls = fault.calls;
+    assert_same(&rt, fault.written, 1);
+    assert_same(&rt, (calls.count(), calls.interrupted()), (20_001, 20_000));
 }
 
 #[test]

@@ -1,6 +1,7 @@
 use crate::same::assert_same;
+use event_lines::LineFault;
 use inputs::{Cause, OpFault};
-use scripts::{ScriptLine, read_script};
+use scripts::{ScriptLine, read_script, script_line_of};
 use std::alloc::Global;
 use std::process::Abort;
 use std::test::Fail;
@@ -82,6 +83,18 @@ fn reads_each_line(rt: HostRuntime) -> Result<(), Fail> {
     let lines = read_script(rt.alloc(), &mut reader).map_err(|_| "no script")?;
     assert_kinds(&rt, lines.as_slice(), KINDS);
     drop(lines);
+    Ok(())
+}
+
+#[test]
+fn reads_a_line_by_itself(rt: HostRuntime) -> Result<(), Fail> {
+    for (text, kind) in LINES.lines().zip(KINDS) {
+        let line = script_line_of(rt.alloc(), text.as_bytes()).map_err(|_| "no line")?;
+        assert_same(&rt, kind_of(&line), *kind);
+        drop(line);
+    }
+    let fault = script_line_of(rt.alloc(), b"ack NZ 0").err();
+    assert_same(&rt, fault, Some(LineFault::Order));
     Ok(())
 }
 

@@ -2,8 +2,8 @@ use crate::same::assert_same;
 use std::alloc::Global;
 use std::process::Abort;
 use units::{
-    Block, BlockFault, BlockSet, Code, Items, Kind, Node, Period, RawBlock, Refusal, Unit, UnitMap,
-    cut, number, overlaps,
+    Block, BlockFault, BlockSet, Code, Interval, Items, Kind, Node, Period, RawBlock, Refusal,
+    Unit, UnitMap, cut, number, overlaps,
 };
 
 #[test]
@@ -207,7 +207,42 @@ fn labels_of_units(rt: HostRuntime) {
     assert_same(&rt, kinds.count_where(|kind| kind == Kind::Aau), 7);
     assert!(rt; kinds.has_some_of(&block, |kind| kind == Kind::Cer));
     assert_same(&rt, kinds.pieces().len(), 3);
+    let copy = kinds.copy().expect(&rt, "memory");
     label(&rt, &mut kinds, &block, None);
     assert_same(&rt, kinds.get(&unit), None);
     drop(kinds);
+    assert_same(&rt, copy.get(&unit), Some(Kind::Aau));
+    assert_same(&rt, copy.pieces().len(), 3);
+    drop(copy);
+}
+
+/// Whether an interval of NZ's units 4 to 6 of the first period has the unit.
+fn interval_has(rt: &impl Abort, unit: Unit) -> bool {
+    let interval = Interval {
+        origin: Code::read("NZ").expect(rt, "a code"),
+        period: Period::First,
+        first: 4,
+        last: 6,
+        label: 0u8,
+    };
+    interval.has(&unit)
+}
+
+#[test]
+fn units_of_an_interval(rt: HostRuntime) {
+    for (origin, period, number, has) in [
+        ("NZ", Period::First, 3, false),
+        ("NZ", Period::First, 4, true),
+        ("NZ", Period::First, 6, true),
+        ("NZ", Period::First, 7, false),
+        ("NZ", Period::Second, 5, false),
+        ("JP", Period::First, 5, false),
+    ] {
+        let unit = Unit {
+            origin: Code::read(origin).expect(&rt, "a code"),
+            period,
+            number,
+        };
+        assert_same(&rt, interval_has(&rt, unit), has);
+    }
 }

@@ -1,7 +1,7 @@
 use crate::cores::{ROOM, walk};
 use crate::given::Given::{self, Event, Message};
 use crate::registries::registry;
-use crate::same::assert_same_in;
+use crate::same::{assert_same, assert_same_in};
 use crate::worlds::{
     Line, assert_bag, assert_journal, assert_no_registry, assert_owed, assert_stands,
     assert_stocks, assert_transfers, assert_unit, id, unit, world_of,
@@ -90,6 +90,7 @@ const AT_JP: &[(&str, &[Line])] = &[("JP", &[(7, "NZ:1:1-100:AAU", None)]), ("NZ
 fn one_transfer(rt: HostRuntime) {
     let alloc = rt.alloc();
     let world = world_of(&rt, alloc, &ONE_TRANSFER);
+    assert_same(&rt, world.scheme().records(), 1000);
     let all = [
         ("NZ", Some(Completed)),
         ("ITL", Some(Completed)),

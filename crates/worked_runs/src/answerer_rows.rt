@@ -10,11 +10,12 @@ use std::rt::Clock;
 use std::sync::Wait;
 use units::refusal_code::{NODE_STOPPED, NOT_A_MESSAGE};
 
-/// Asserts that these answers refuse by these codes, one after the other.
+/// Asserts that these answers refuse by these codes, one after the other, and which of them a journal judged.
 fn assert_refused(rt: &impl Abort, answers: &[Answer], codes: &[u16]) {
     assert_same(rt, answers.len(), codes.len());
     for (answer, code) in answers.iter().zip(codes) {
         assert_same(rt, answer.reply(), refused(rt, *code));
+        assert_same(rt, answer.receipt().is_some(), *code == UNKNOWN);
     }
 }
 

@@ -28,6 +28,8 @@ mod forged_rows;
 #[cfg(test)]
 mod given;
 #[cfg(test)]
+mod job_rows;
+#[cfg(test)]
 mod journals;
 #[cfg(test)]
 mod meetings;
@@ -41,6 +43,8 @@ mod not_possible;
 mod nz_desk;
 #[cfg(test)]
 mod one_node;
+#[cfg(test)]
+mod port_rows;
 #[cfg(test)]
 mod registries;
 #[cfg(test)]
@@ -61,6 +65,8 @@ mod streams;
 mod thread_rows;
 #[cfg(test)]
 mod threaded_run;
+#[cfg(test)]
+mod told_rows;
 #[cfg(test)]
 mod waits;
 #[cfg(test)]

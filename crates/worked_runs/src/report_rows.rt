@@ -90,8 +90,8 @@ fn seats_of(rt: &impl Abort, alloc: Global, scheme: &Scheme, given: Given) -> [V
     [Vec::new(alloc), Vec::new(alloc), nz]
 }
 
-/// What the report comes to of states with these records, where a thread was told that NZ's input is its first record
-/// and committed, and what is written.
+/// What `report_run` returns of states with these records, and what it writes, where a thread was told that NZ's input
+/// is its first record and committed.
 fn reported(
     rt: &impl Abort,
     alloc: Global,

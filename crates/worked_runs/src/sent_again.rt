@@ -5,11 +5,12 @@ use crate::exchange_rows::RECEIVED;
 use crate::given::input_of;
 use crate::nz_desk::{TEN, TEN_MORE};
 use crate::registries::registry;
-use crate::stations::{Ended, NodeDesk, Station, StillClock, open_station, records_of};
+use crate::same::assert_same;
+use crate::stations::{Ended, NodeDesk, Station, StillClock, desk_of, open_station, records_of};
 use crate::streams::Full;
 use crate::waits::TURNS;
 use desk::{OpenGate, Seat};
-use sessions::{Dial, NodeParts, run_node};
+use sessions::{Dial, NodeParts, Sent, run_node, send_next};
 use std::alloc::Global;
 use std::net::{Net, TcpListener, TcpStream};
 use std::process::Abort;
@@ -138,4 +139,39 @@ fn what_got_no_connection_is_sent_again(rt: HostRuntime) {
     for failing in [1, 2] {
         assert!(rt; sends_both(&rt, alloc, failing));
     }
+}
+
+/// Asserts what becomes of the next message to the log.
+fn assert_sent(
+    rt: &(impl Wait + Abort),
+    alloc: Global,
+    desk: &NodeDesk,
+    seat: &mut Seat,
+    dial: &FailingDial,
+    expected: Sent,
+) {
+    let sent = send_next(rt, alloc, desk, seat, dial, Node::Itl, 0);
+    assert_same(rt, sent, expected);
+}
+
+/// The proposal isn't sent before it is committed. The first connection can't be made. Once the log has replied over
+/// the second one, the message is acknowledged.
+#[test]
+fn the_next_message_is_sent(rt: HostRuntime) {
+    let alloc = rt.alloc();
+    let desk = desk_of(&rt, alloc, registry(&rt, "NZ"));
+    let mut seat = Seat::new(alloc);
+    let dial = FailingDial {
+        peer: Node::Itl,
+        failing: 1,
+        connects: AtomicU64::new(0),
+    };
+    drop(desk.take(&rt, &mut seat, input_of(&rt, alloc, TEN)));
+    assert_sent(&rt, alloc, &desk, &mut seat, &dial, Sent::Nothing);
+    assert_same(&rt, desk.commit_next(&rt).ok(), Some(1));
+    assert_sent(&rt, alloc, &desk, &mut seat, &dial, Sent::NotReceived(0));
+    assert_sent(&rt, alloc, &desk, &mut seat, &dial, Sent::Received(0));
+    assert_sent(&rt, alloc, &desk, &mut seat, &dial, Sent::Nothing);
+    drop(seat);
+    drop(desk);
 }

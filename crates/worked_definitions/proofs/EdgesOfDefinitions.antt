@@ -8,9 +8,16 @@ use Rattle.protocol.specs.Checks.{is_owner}
 use Rattle.protocol.specs.Claims.{is_received}
 use Rattle.protocol.specs.History.{is_eligible, transitions_of}
 use Rattle.protocol.specs.Pieces.{Piece}
+use Rattle.protocol.specs.Registries.{has_account, takes_kind}
 use Rattle.protocol.specs.Verdict.{verdict, history}
 use Rattle.protocol.proofs.WorkedScheme.{nz, jp, nz_node, block, unit, nz1, scheme_s}
 use Rattle.worked_definitions.proofs.ShortNames.{au, orders}
+
+pub no_account_when_unknown : has_account scheme_s au 1 ≡ false
+no_account_when_unknown = refl
+
+pub no_kind_when_unknown : takes_kind scheme_s au Aau ≡ false
+no_kind_when_unknown = refl
 
 pub not_eligible_when_unknown : is_eligible scheme_s [] au ≡ false
 not_eligible_when_unknown = refl

@@ -16,5 +16,6 @@ pub mod RolesAndJournals
 pub mod FailingClaims
 pub mod ClaimsAtLog
 pub mod OwnersAndRest
+pub mod RestAndWayOut
 pub mod OrdersOfRecords
 pub mod EdgesOfDefinitions

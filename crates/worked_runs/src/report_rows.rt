@@ -62,41 +62,57 @@ fn state_of(
     state
 }
 
-/// Has the state take the input and commit it, and tells the seat of both.
+/// Has the state take the input, and tells the seat.
 fn tell(rt: &impl Abort, alloc: Global, state: &mut NodeState, seat: &mut Seat, given: Given) {
     let input = input_of(rt, alloc, given);
     seat.prepare_input(&input).expect(rt, "memory");
     let taken = state.take(input);
     seat.keep(&taken);
-    commit(rt, state, 1);
-    let receipt = state.state().receipt(taken).ok().expect(rt, "a receipt");
-    seat.confirm(&receipt);
-    drop(receipt);
+    drop(taken);
 }
 
-/// A seat that was told by a state of its own that NZ's input is the first record and committed.
-fn told_seat(rt: &impl Abort, alloc: Global, scheme: &Scheme, given: Given) -> Seat {
+/// A seat that was told of these records by a state of its own.
+fn told_seat(
+    rt: &impl Abort,
+    alloc: Global,
+    scheme: &Scheme,
+    node: Node,
+    records: &[Given],
+) -> Seat {
     let mut seat = Seat::new(alloc);
-    let mut state = empty_state(rt, alloc, scheme, registry(rt, "NZ"));
-    tell(rt, alloc, &mut state, &mut seat, given);
+    let mut state = empty_state(rt, alloc, scheme, node);
+    for given in records {
+        tell(rt, alloc, &mut state, &mut seat, *given);
+    }
     drop(state);
     seat
 }
 
-/// The seats of the log, of JP and of NZ: one of NZ, which was told that its input is the first record and committed.
-fn seats_of(rt: &impl Abort, alloc: Global, scheme: &Scheme, given: Given) -> [Vec<Seat>; 3] {
-    let seat = told_seat(rt, alloc, scheme, given);
-    let nz = Vec::from_array(alloc, [seat]).expect(rt, "memory");
-    [Vec::new(alloc), Vec::new(alloc), nz]
+/// The seats of the log, of JP and of NZ, one each, which were told of these records.
+fn seats_of(
+    rt: &impl Abort,
+    alloc: Global,
+    scheme: &Scheme,
+    told: [&[Given]; 3],
+) -> [Vec<Seat>; 3] {
+    let [log, jp, nz] = told;
+    let log = told_seat(rt, alloc, scheme, Node::Itl, log);
+    let jp = told_seat(rt, alloc, scheme, registry(rt, "JP"), jp);
+    let nz = told_seat(rt, alloc, scheme, registry(rt, "NZ"), nz);
+    [
+        Vec::from_array(alloc, [log]).expect(rt, "memory"),
+        Vec::from_array(alloc, [jp]).expect(rt, "memory"),
+        Vec::from_array(alloc, [nz]).expect(rt, "memory"),
+    ]
 }
 
-/// What `report_run` returns of states with these records, and what it writes, where a thread was told that NZ's input
-/// is its first record and committed.
+/// What `report_run` returns of states with these records, and what it writes, where a thread of each was told of all
+/// of them, but that of NZ of these.
 fn reported(
     rt: &impl Abort,
     alloc: Global,
     rows: [Row<'_>; 3],
-    given: Given,
+    told: &[Given],
 ) -> (Result<(), OpFault>, Vec<u8>) {
     let scheme = worked_scheme(rt, alloc);
     let [log, jp, nz] = rows;
@@ -105,7 +121,7 @@ fn reported(
         state_of(rt, alloc, &scheme, registry(rt, "JP"), jp),
         state_of(rt, alloc, &scheme, registry(rt, "NZ"), nz),
     ];
-    let seats = seats_of(rt, alloc, &scheme, given);
+    let seats = seats_of(rt, alloc, &scheme, [log.0, jp.0, told]);
     let mut written = Vec::new(alloc);
     let done = report_run(alloc, &scheme, &states, &seats, &mut written);
     drop(seats);
@@ -133,17 +149,17 @@ end
 #[test]
 fn what_is_committed_is_in_the_table(rt: HostRuntime) {
     let rows = [(LOG, 3), (JP, 1), (NZ, 2)];
-    let (done, written) = reported(&rt, rt.alloc(), rows, PROPOSED);
+    let (done, written) = reported(&rt, rt.alloc(), rows, NZ);
     assert_same(&rt, done, Ok(()));
     assert!(rt; written.as_slice() == IN_TRANSIT.as_bytes());
 }
 
-/// A thread was told that NZ has closed an account, of which NZ has no record.
+/// The thread was told that NZ has closed an account, of which NZ has no record.
 #[test]
 fn a_node_is_unsettled(rt: HostRuntime) {
     let node = registry(&rt, "NZ");
     let rows = [(LOG, 3), (JP, 2), (NZ, 2)];
-    let (done, written) = reported(&rt, rt.alloc(), rows, Event("close NZ 2"));
+    let (done, written) = reported(&rt, rt.alloc(), rows, &[PROPOSED, Event("close NZ 2")]);
     assert_same(&rt, done, Err(OpFault::Unsettled { node }));
     assert!(rt; written.is_empty());
 }
@@ -153,7 +169,7 @@ fn a_node_is_unsettled(rt: HostRuntime) {
 fn no_run_leads_to_what_is_committed(rt: HostRuntime) {
     let node = Node::Itl;
     let rows = [(LOG, 3), (JP, 1), (NZ, 1)];
-    let (done, written) = reported(&rt, rt.alloc(), rows, PROPOSED);
+    let (done, written) = reported(&rt, rt.alloc(), rows, NZ);
     assert_same(&rt, done, Err(OpFault::Stuck { node, place: 2 }));
     assert!(rt; written.is_empty());
 }

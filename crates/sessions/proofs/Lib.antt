@@ -1,1 +1,2 @@
 mod SentMessages
+mod Taking

@@ -8,6 +8,7 @@ mod node_threads;
 mod senders;
 mod sending;
 mod session_threads;
+mod thread_seat;
 mod watched_reader;
 mod workers;
 

@@ -1,11 +1,13 @@
 //! The threads of a node, and those of several nodes.
-ghost use Rattle.std.specs.Prelude.{◌≡◌, ◌<◌, ◌+◌, ◌^◌, ℕ, length, vec_len, slice_get, IfOk, Ok, Some};
+ghost use Rattle.std.specs.Prelude.{◌≡◌, ◌<◌, ◌≤◌, ◌+◌, ◌^◌, [], ℕ, All, length, vec_capacity, vec_len, slice_get, IfOk, Ok, Some};
 ghost use Rattle.std.specs.Thread.{IsSync};
+ghost use Rattle.sessions.specs.Orders.{HasNoOrder, HaveNoOrders};
 
 use crate::connections::{Dial, Listen};
 use crate::mustering::Muster;
 use crate::senders::send_all;
 use crate::session_threads::{SESSION_THREADS, serve_sessions};
+use crate::thread_seat::ThreadSeat;
 use crate::workers::{Errand, work};
 use answers::Clock;
 use crossbeam_channel::{Receiver, Sender};
@@ -89,7 +91,7 @@ fn take_part<O, C, S, B, L, D, K, G, R>(
     parts: &NodeParts<'_, O, C, S, B, L, D, K, G>,
     errands: &Receiver<Errand>,
     place: usize,
-    seat: &mut Seat,
+    seat: &mut ThreadSeat,
 )
 where
     O: Opening,
@@ -103,9 +105,9 @@ where
 {
     parts.muster.report(rt);
     if place < WORKERS {
-        work(rt, parts.desk, parts.clock, parts.gate, errands, seat);
+        work(rt, parts.desk, parts.clock, parts.gate, errands, &mut seat.seat);
     } else if let Some(peer) = parts.peers.get(place - WORKERS) {
-        send_all(rt, alloc, parts.desk, parts.dial, *peer, seat);
+        send_all(rt, alloc, parts.desk, parts.dial, *peer, &mut seat.seat);
     }
 }
 
@@ -115,7 +117,7 @@ fn take_all<O, C, S, B, L, D, K, G, R>(
     alloc: Global,
     parts: &NodeParts<'_, O, C, S, B, L, D, K, G>,
     errands: &Receiver<Errand>,
-    seats: &mut [Seat],
+    seats: &mut [ThreadSeat],
 )
 where
     O: Opening + Send,
@@ -133,7 +135,7 @@ where
         rt,
         seats,
         threads,
-        &|place: usize, seat: &mut Seat|
+        &|place: usize, seat: &mut ThreadSeat|
             requires { IsSync R.row }
         { take_part(rt, alloc, parts, errands, place, seat) },
     );
@@ -146,7 +148,7 @@ fn serve_and_take<O, C, S, B, L, D, K, G, R>(
     parts: &NodeParts<'_, O, C, S, B, L, D, K, G>,
     errands: Sender<Errand>,
     handed: &Receiver<Errand>,
-    seats: &mut [Seat],
+    seats: &mut [ThreadSeat],
 )
 where
     O: Opening + Send,
@@ -172,12 +174,12 @@ where
 }
 
 /// That many seats that were told nothing.
-fn new_seats(alloc: Global, count: usize) -> Result<Vec<Seat>, NoMemory>
+fn new_seats(alloc: Global, count: usize) -> Result<Vec<ThreadSeat>, NoMemory>
     ensures { IfOk result (λ seats. vec_len seats ≡ count) }
 {
     let mut seats = Vec::new(alloc);
     for made in 0..count {
-        seats.push(Seat::new(alloc))?;
+        seats.push(ThreadSeat::new(alloc))?;
     }
     Ok(seats)
 }
@@ -189,8 +191,8 @@ fn run_threads<O, C, S, B, L, D, K, G, R>(
     parts: &NodeParts<'_, O, C, S, B, L, D, K, G>,
     errands: Sender<Errand>,
     handed: &Receiver<Errand>,
-    mut seats: Vec<Seat>,
-) -> Vec<Seat>
+    mut seats: Vec<ThreadSeat>,
+) -> Vec<ThreadSeat>
 where
     O: Opening + Send,
     C: NodeCore + Send,
@@ -216,10 +218,22 @@ where
     seats
 }
 
+/// Adds the seats to those, for which there is room.
+fn add_seats(all: &mut Vec<Seat>, seats: Vec<ThreadSeat>)
+    requires empty { all.old.items ≡ [] }
+    requires room { vec_len seats ≤ vec_capacity all.old }
+    ensures len { vec_len all.new ≡ vec_len seats }
+    ensures none { All HasNoOrder all.new.items }
+{
+    for seat in seats {
+        all.push_reserved(seat.into_seat());
+    }
+}
+
 /// Runs a node's threads until its desk stops: one commits the desk's records to its store, `SESSION_THREADS` serve
 /// the connections that others make, `WORKERS` have the desk take their jobs, and one for each peer sends it the
 /// messages that are due, again every `LONGEST_QUIET` seconds while they aren't received. `MOST_JOBS` jobs wait at
-/// most. Returns the seats of those that took something at the desk.
+/// most. Returns the seats of those that took something at the desk: messages and acknowledgements, and no orders.
 ///
 /// The desk stops when it is told to, where the store has a fault, and where 100 accepts in a row failed. Then each
 /// thread ends by itself: one that waits at the bell, for a worker or for a connection looks at the desk again after a
@@ -244,11 +258,14 @@ where
     K: Clock + Sync,
     G: Gate + Sync,
     R: Threads + Wait + SystemClock + Sync,
-    ensures { IfOk result (λ seats. vec_len seats ≡ WORKERS + length parts.now.peers.now) }
+    ensures len { IfOk result (λ seats. vec_len seats ≡ WORKERS + length parts.now.peers.now) }
+    ensures none { IfOk result (λ seats. All HasNoOrder seats.items) }
 {
     let seats = new_seats(alloc, WORKERS + parts.peers.len())?;
+    let mut all = Vec::with_capacity(alloc, seats.len())?;
     let (errands, handed) = crossbeam_channel::bounded(alloc, MOST_JOBS)?;
-    Ok(run_threads(rt, alloc, parts, errands, &handed, seats))
+    add_seats(&mut all, run_threads(rt, alloc, parts, errands, &handed, seats));
+    Ok(all)
 }
 
 /// As `run_node`. Where memory ran out, the desk has stopped.
@@ -267,7 +284,8 @@ where
     K: Clock + Sync,
     G: Gate + Sync,
     R: Threads + Wait + SystemClock + Sync,
-    ensures { IfOk result (λ seats. vec_len seats ≡ WORKERS + length parts.entry.peers.now) }
+    ensures len { IfOk result (λ seats. vec_len seats ≡ WORKERS + length parts.entry.peers.now) }
+    ensures none { IfOk result (λ seats. All HasNoOrder seats.items) }
 {
     let seats = run_node(rt, alloc, &parts);
     if seats.is_err() {
@@ -301,13 +319,15 @@ where
         (λ ends. (k : ℕ) (parts : _) (seats : _) → slice_get nodes.entry.items k ≡ Some parts
         → slice_get ends.items k ≡ Some (Ok seats)
         → vec_len seats ≡ WORKERS + length parts.peers.now) }
+    ensures none { IfOk result (λ ends. HaveNoOrders ends.items) }
 {
     let ends = thread::map_vec(
         rt,
         nodes,
         &|parts: NodeParts<'_, O, C, S, B, L, D, K, G>| -> Result<Vec<Seat>, NoMemory>
             requires { IsSync R.row }
-            ensures { IfOk result (λ seats. vec_len seats ≡ WORKERS + length parts.entry.peers.now) }
+            ensures len { IfOk result (λ seats. vec_len seats ≡ WORKERS + length parts.entry.peers.now) }
+            ensures none { IfOk result (λ seats. All HasNoOrder seats.items) }
         { run_one(rt, alloc, parts) },
     )?;
     Ok(ends)

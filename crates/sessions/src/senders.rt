@@ -1,4 +1,5 @@
 //! A thread that sends a node's messages to one peer.
+ghost use Rattle.sessions.specs.Orders.{HasNoOrder};
 
 use crate::connections::Dial;
 use crate::sending::{Sent, send_next};
@@ -18,7 +19,10 @@ fn send_round<O: Opening, C: NodeCore, S: NodeStore, B: Bell, D: Dial, R: Wait>(
     dial: &D,
     peer: Node,
     seat: &mut Seat,
-) {
+)
+    requires { HasNoOrder seat.old }
+    ensures { HasNoOrder seat.new }
+{
     let mut from: usize = 0;
     for _ in rt.forever() {
         match send_next(rt, alloc, desk, seat, dial, peer, from) {
@@ -40,7 +44,10 @@ pub(crate) fn send_all<
     B: Bell,
     D: Dial,
     R: Wait + SystemClock,
->(rt: &R, alloc: Global, desk: &Desk<O, C, S, B>, dial: &D, peer: Node, seat: &mut Seat) {
+>(rt: &R, alloc: Global, desk: &Desk<O, C, S, B>, dial: &D, peer: Node, seat: &mut Seat)
+    requires { HasNoOrder seat.old }
+    ensures { HasNoOrder seat.new }
+{
     for _ in rt.forever() {
         let rings = desk.bell().rings(rt);
         if !desk.is_running(rt) {

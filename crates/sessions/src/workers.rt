@@ -3,6 +3,7 @@ ghost use Rattle.std.specs.Prelude.{◌≡◌, ◌⊎◌, [], IfOk};
 ghost use Rattle.units.specs.RefusalCodes.{not_a_message, out_of_memory};
 ghost use Rattle.answers.specs.Answers.{IsRefusedBy};
 ghost use Rattle.answers.specs.Lines.{IsNoLine};
+ghost use Rattle.sessions.specs.Orders.{HasNoOrder};
 
 use answers::{Answer, Clock, Job, answer_job};
 use crossbeam_channel::{Receiver, RecvTimeoutError, Sender};
@@ -169,7 +170,10 @@ pub(crate) fn work<
     gate: &G,
     errands: &Receiver<Errand>,
     seat: &mut Seat,
-) {
+)
+    requires { HasNoOrder seat.old }
+    ensures { HasNoOrder seat.new }
+{
     for _ in rt.forever() {
         let Ok(errand) = errands.recv(rt) else {
             break;

@@ -72,7 +72,7 @@ heard_more scheme olds news lines answers l answer g h is = record {
       ];
 }
 
-take_more : {X : Type 0} (k : ℕ) (xs : List X) (x : X) → slice_get xs k ≡ Some x → take (suc k) xs ≡ take k xs ++ x ∷ []
+pub take_more : {X : Type 0} (k : ℕ) (xs : List X) (x : X) → slice_get xs k ≡ Some x → take (suc k) xs ≡ take k xs ++ x ∷ []
 take_more zero [] x is = absurd (cc (is))
 take_more (suc k) [] x is = absurd (cc (is))
 take_more zero (y ∷ ys) x is = ap (λ (z : _). z ∷ []) (one_some y x is)

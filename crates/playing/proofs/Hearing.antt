@@ -1,5 +1,5 @@
 -- What a seat has kept of what it was told at a desk.
-use Rattle.std.proofs.Common.{◌≡◌, ◌∙◌, ◌<◌, ◌≤◌, ℕ, Bool, true, false, true≢false, List, [], ◌∷◌, ◌++◌, length, Option, Result, Ok, Err, inl, inr, refl, sym, ap, subst, arith, max, if◌then◌else◌, length-append}
+use Rattle.std.proofs.Common.{◌≡◌, ◌∙◌, ◌+◌, ◌<◌, ◌≤◌, ℕ, Bool, true, false, true≢false, List, [], ◌∷◌, ◌++◌, length, Option, Result, Ok, Err, inl, inr, refl, sym, ap, subst, arith, max, if◌then◌else◌, length-append}
 use Rattle.std.specs.Prelude.{Contains}
 use Rattle.units.specs.declared.refusal.Refusal.{Refusal}
 use Rattle.status.specs.declared.id.TransactionId.{TransactionId}
@@ -109,7 +109,7 @@ unjudged new asked (Step Late) e = absurd (true≢false (sym e))
 unjudged new asked (Status status) e = absurd (true≢false (sym e))
 unjudged new asked (Refused refusal) e = λ judged. absurd (true≢false (sym e ∙ judged))
 
--- a record's place is below the length that was told with it
+-- a record's place is the last one of the length that was told with it
 recorded_place : (place : ℕ) (journal : List Input) (v : Verdict) → answer_of (length journal) v ≡ Ok (Recorded place) → place ≡ length journal
 recorded_place place journal (IsRecorded xs) e = cc (e)
 recorded_place place journal IsRepeat e = absurd (cc (e))
@@ -120,7 +120,7 @@ result_of : (result : Result Stepped Refusal) (s : Stepped) → told_of result �
 result_of (Ok found) s e = cc (e)
 result_of (Err refusal) s e = absurd (cc (e))
 
-one_longer : (old new : Held) (input : Input) (result : Result Stepped Refusal) (place : ℕ) → Takes old input result new → result ≡ Ok (Recorded place) → (runs : Bool) → old.runs ≡ runs → place < length new.journal
+one_longer : (old new : Held) (input : Input) (result : Result Stepped Refusal) (place : ℕ) → Takes old input result new → result ≡ Ok (Recorded place) → (runs : Bool) → old.runs ≡ runs → length new.journal ≡ place + 1
 one_longer old new input result place takes is false e = let stops : result ≡ Err stopped = (takes.0 e).0 in absurd (cc (sym is ∙ stops))
 one_longer old new input result place takes is true e =
     elim ((takes.1 e).0) [
@@ -131,13 +131,15 @@ one_longer old new input result place takes is true e =
       | inr lacks ↦ absurd (cc (sym is ∙ lacks))
     ]
 
-place_below : (taken : Note) (input : Input) (place : ℕ) → IsTakeOf input taken → taken.told ≡ Step (Recorded place) → place < taken.length
-place_below taken input place (inl lacks) e = absurd (cc (sym e ∙ lacks))
-place_below taken input place (inr h) e =
+pub recorded_length : (taken : Note) (input : Input) (place : ℕ) → IsTakeOf input taken → taken.told ≡ Step (Recorded place) → taken.length ≡ place + 1
+recorded_length taken input place (inl lacks) e = absurd (cc (sym e ∙ lacks))
+recorded_length taken input place (inr h) e =
     let tells = h.2 in
     let is : tells.0 ≡ Ok (Recorded place) = result_of tells.0 (Recorded place) (sym tells.1 ∙ e) in
-    let below = one_longer h.0 h.1 input tells.0 place tells.2 is h.0.runs refl in
-    omega (arith, below, h.3)
+    h.3 ∙ one_longer h.0 h.1 input tells.0 place tells.2 is h.0.runs refl
+
+place_below : (taken : Note) (input : Input) (place : ℕ) → IsTakeOf input taken → taken.told ≡ Step (Recorded place) → place < taken.length
+place_below taken input place takes e = omega (arith, recorded_length taken input place takes e)
 
 either_told : (b : Bool) (status : Option AStatus) (s : Stepped) → (if b then Status status else Refused stopped) ≡ Step s → ⊥
 either_told true status s e = cc (e)

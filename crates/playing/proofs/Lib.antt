@@ -1,5 +1,6 @@
 pub mod HeardLines
 pub mod Hearing
 pub mod Lines
+pub mod Ordering
 pub mod Places
 pub mod Wired

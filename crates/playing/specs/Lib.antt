@@ -1,3 +1,4 @@
 pub mod Answers
 pub mod Heard
+pub mod Orders
 pub mod Wiring

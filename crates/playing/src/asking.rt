@@ -3,6 +3,7 @@ ghost use Rattle.std.specs.Prelude.{◌≡◌, ◌<◌, length};
 ghost use Rattle.answers.specs.Answers.{is_without_journal};
 ghost use Rattle.playing.specs.Answers.{asked_by};
 ghost use Rattle.playing.specs.Heard.{Grows, HasHeard, IsConfirmed};
+ghost use Rattle.playing.specs.Orders.{Adds};
 
 use crate::watch::{Watch, tell_committed};
 use desk::{Asked, Bell, Desk, Opening, Seat, Taken, Told};
@@ -64,6 +65,7 @@ fn order<O: Opening, C: NodeCore, S: NodeStore, B: Bell, R: Wait + SystemClock>(
 ) -> Told
     ensures heard { HasHeard seat.new (Asked.Take input) result }
     ensures grows { Grows seat.old seat.new }
+    ensures adds { Adds (Asked.Take input) seat.old seat.new result }
 {
     let taken = desk.take(rt, seat, input);
     confirmed(rt, desk, seat, taken)
@@ -78,6 +80,7 @@ fn order_copy<O: Opening, C: NodeCore, S: NodeStore, B: Bell, R: Wait + SystemCl
 ) -> Told
     ensures heard { HasHeard seat.new (Asked.Take input.now) result }
     ensures grows { Grows seat.old seat.new }
+    ensures adds { Adds (Asked.Take input.now) seat.old seat.new result }
 {
     match input.copy() {
         Ok(input) => order(rt, desk, seat, input),
@@ -94,6 +97,7 @@ fn question<O: Opening, C: NodeCore, S: NodeStore, B: Bell, R: Wait + SystemCloc
 ) -> Told
     ensures heard { HasHeard seat.new (Asked.Query id) result }
     ensures grows { Grows seat.old seat.new }
+    ensures adds { Adds (Asked.Query id) seat.old seat.new result }
 {
     let taken = desk.query(rt, seat, id);
     confirmed(rt, desk, seat, taken)
@@ -129,6 +133,7 @@ fn question_until<O: Opening, C: NodeCore, S: NodeStore, B: Bell, P: Watch, R: W
     requires { at < length desks.now }
     ensures heard { HasHeard seat.new (Asked.Query awaited.id) result }
     ensures grows { Grows seat.old seat.new }
+    ensures adds { Adds (Asked.Query awaited.id) seat.old seat.new result }
 {
     let mut told = question(rt, &desks[at], seat, awaited.id);
     for _ in 1..awaited.turns {
@@ -154,6 +159,7 @@ pub(crate) fn ask<O: Opening, C: NodeCore, S: NodeStore, B: Bell, P: Watch, R: W
     requires { at < length desks.now }
     ensures heard { HasHeard seat.new (asked_by line.now) result }
     ensures grows { Grows seat.old seat.new }
+    ensures adds { Adds (asked_by line.now) seat.old seat.new result }
 {
     match line {
         ScriptLine::Order { input, .. } => order_copy(rt, &desks[at], seat, input),

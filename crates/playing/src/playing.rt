@@ -1,10 +1,13 @@
 //! The lines of a script, one after another, at the desks of all nodes.
-ghost use Rattle.std.specs.Prelude.{◌≡◌, ◌<◌, ◌++◌, ◌∷◌, [], true, false, length, IfNone, IfOk, IfSome, OnOk, Some};
+ghost use Rattle.std.specs.Prelude.{◌≡◌, ◌<◌, ◌++◌, ◌∷◌, [], true, false, All, List, length, IfNone, IfOk, IfSome, OnOk, Some};
 ghost use Rattle.scheme.specs.declared.registries.Scheme.{Scheme as AScheme};
 ghost use Rattle.protocol.specs.Registries.{nodes, place_of};
 ghost use Rattle.protocol.specs.World.{is_order, opening};
 ghost use Rattle.playing.specs.Answers.{is_possible, node_of};
-ghost use Rattle.playing.specs.Heard.{AllGrow, AreHeard, IsHeard};
+ghost use Rattle.playing.specs.Heard.{AllGrow, IsHeard};
+ghost use Rattle.playing.specs.Orders.{HaveOrders, IsPlayed};
+ghost use Rattle.playing.specs.declared.answer.Answer.{Answer as AnAnswer};
+ghost use Rattle.scripts.specs.declared.line.ScriptLine.{ScriptLine as ALine};
 
 use crate::answer::Answer;
 use crate::asking::ask;
@@ -63,6 +66,8 @@ fn play<O: Opening, C: NodeCore, S: NodeStore, B: Bell, P: Watch, R: Wait + Syst
     requires seats { length seats.old ≡ length (nodes scheme.now) }
     ensures heard { IsHeard scheme.now seats.new line.now result }
     ensures grow { AllGrow seats.old seats.new }
+    ensures orders { (lines : List ALine) (answers : List AnAnswer) → length answers ≡ length lines → HaveOrders scheme.now lines answers seats.old
+        → HaveOrders scheme.now (lines ++ line.now ∷ []) (answers ++ result ∷ []) seats.new }
     ensures count { length seats.new ≡ length seats.old }
 {
     match place_for(scheme, line) {
@@ -78,7 +83,7 @@ fn push(answers: &mut Vec<Answer>, answer: Answer) -> Result<(), NoMemory>
     Ok(())
 }
 
-/// What the lines come to, one after another. Tells of each that was answered. Fails with `NoMemory` where memory ran
+/// What the lines come to, one after another, told with new seats. Tells of each that was answered. Fails with `NoMemory` where memory ran
 /// out for the answers, before the first line.
 pub(crate) fn play_all<
     O: Opening,
@@ -98,7 +103,8 @@ pub(crate) fn play_all<
 ) -> Result<Vec<Answer>, NoMemory>
     requires desks { length desks.now ≡ length (nodes scheme.now) }
     requires seats { length seats.old ≡ length (nodes scheme.now) }
-    ensures heard { IfOk result (λ v. AreHeard scheme.now seats.new lines.now v.items) }
+    requires none { All (λ s. s.tickets ≡ []) seats.old }
+    ensures played { IfOk result (λ v. IsPlayed scheme.now lines.now v.items seats.new) }
     ensures count { length seats.new ≡ length seats.old }
 {
     let mut answers = Vec::with_capacity(alloc, lines.len())?;

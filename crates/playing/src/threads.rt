@@ -1,9 +1,10 @@
 //! The threads of all nodes, and the one that plays a script.
-ghost use Rattle.std.specs.Prelude.{◌≡◌, All, length, vec_len, IfOk};
+ghost use Rattle.std.specs.Prelude.{◌≡◌, [], All, length, vec_len, IfOk};
 ghost use Rattle.std.specs.Thread.{IsSync};
 ghost use Rattle.desk.specs.Keeping.{MayOpen};
 ghost use Rattle.protocol.specs.Registries.{nodes};
-ghost use Rattle.playing.specs.Heard.{AreHeard};
+ghost use Rattle.sessions.specs.Orders.{HaveNoOrders};
+ghost use Rattle.playing.specs.Orders.{IsPlayed};
 
 use crate::answer::Answer;
 use crate::playing::play_all;
@@ -67,7 +68,8 @@ where
     K: Clock + Sync,
     G: Gate + Sync,
     R: Threads + Wait + SystemClock + Sync,
-    ensures { IfOk result (λ v. vec_len v ≡ vec_len stations.entry) }
+    ensures len { IfOk result (λ v. vec_len v ≡ vec_len stations.entry) }
+    ensures none { IfOk result (λ v. HaveNoOrders v.items) }
 {
     let ends = run_all(rt, alloc, stations);
     if ends.is_err() {
@@ -78,7 +80,8 @@ where
 
 /// That many seats that were told nothing.
 fn new_seats(alloc: Global, count: usize) -> Result<Vec<Seat>, NoMemory>
-    ensures { IfOk result (λ v. vec_len v ≡ count) }
+    ensures len { IfOk result (λ v. vec_len v ≡ count) }
+    ensures none { IfOk result (λ v. All (λ s. s.tickets ≡ []) v.items) }
 {
     let mut seats = Vec::new(alloc);
     for made in 0..count {
@@ -97,7 +100,7 @@ fn play_with_seats<O: Opening, S: NodeStore, P: Watch, R: Wait + SystemClock>(
     watch: &mut P,
 ) -> Result<Played, NoMemory>
     requires { length desks.now ≡ length (nodes scheme.now) }
-    ensures heard { IfOk result (λ p. AreHeard scheme.now p.seats.items lines.now p.answers.items) }
+    ensures played { IfOk result (λ p. IsPlayed scheme.now lines.now p.answers.items p.seats.items) }
     ensures seats { IfOk result (λ p. vec_len p.seats ≡ length (nodes scheme.now)) }
 {
     let mut seats = new_seats(alloc, desks.len())?;
@@ -129,7 +132,7 @@ fn play_mustered<O: Opening, S: NodeStore, P: Watch, R: Wait + SystemClock>(
     watch: &mut P,
 ) -> Result<Played, NoMemory>
     requires { length desks.now ≡ length (nodes scheme.now) }
-    ensures heard { IfOk result (λ p. AreHeard scheme.now p.seats.items lines.now p.answers.items) }
+    ensures played { IfOk result (λ p. IsPlayed scheme.now lines.now p.answers.items p.seats.items) }
     ensures seats { IfOk result (λ p. vec_len p.seats ≡ length (nodes scheme.now)) }
 {
     match muster.wait_for(rt, threads, Duration::from_secs(LONGEST_MUSTER)) {
@@ -150,7 +153,7 @@ fn play_and_stop<O: Opening, S: NodeStore, P: Watch, R: Wait + SystemClock>(
     watch: &mut P,
 ) -> Result<Played, NoMemory>
     requires { length desks.now ≡ length (nodes scheme.now) }
-    ensures heard { IfOk result (λ p. AreHeard scheme.now p.seats.items lines.now p.answers.items) }
+    ensures played { IfOk result (λ p. IsPlayed scheme.now lines.now p.answers.items p.seats.items) }
     ensures seats { IfOk result (λ p. vec_len p.seats ≡ length (nodes scheme.now)) }
 {
     let played = play_mustered(rt, alloc, scheme, desks, lines, muster, threads, watch);
@@ -185,7 +188,8 @@ where
     R: Threads + Wait + SystemClock + Sync,
     requires { length desks.now ≡ length (nodes scheme.now) }
     ensures ends { IfOk result.0 (λ v. vec_len v ≡ vec_len stations.entry) }
-    ensures heard { IfOk result.1 (λ p. AreHeard scheme.now p.seats.items lines.now p.answers.items) }
+    ensures none { IfOk result.0 (λ v. HaveNoOrders v.items) }
+    ensures played { IfOk result.1 (λ p. IsPlayed scheme.now lines.now p.answers.items p.seats.items) }
     ensures seats { IfOk result.1 (λ p. vec_len p.seats ≡ length (nodes scheme.now)) }
 {
     let threads = threads_of_all(stations.as_slice());
@@ -193,11 +197,12 @@ where
         rt,
         move || -> Ends
             requires { IsSync R.row }
-            ensures { IfOk result (λ v. vec_len v ≡ vec_len stations.entry) }
+            ensures len { IfOk result (λ v. vec_len v ≡ vec_len stations.entry) }
+            ensures none { IfOk result (λ v. HaveNoOrders v.items) }
         { run_or_stop(rt, alloc, desks, stations) },
         move || -> Result<Played, NoMemory>
             requires { length desks.now ≡ length (nodes scheme.now) }
-            ensures heard { IfOk result (λ p. AreHeard scheme.entry.now p.seats.items lines.entry.now p.answers.items) }
+            ensures played { IfOk result (λ p. IsPlayed scheme.entry.now lines.entry.now p.answers.items p.seats.items) }
             ensures seats { IfOk result (λ p. vec_len p.seats ≡ length (nodes scheme.entry.now)) }
         { play_and_stop(rt, alloc, scheme, desks, lines, muster, threads, watch) },
     )
@@ -235,7 +240,8 @@ where
     requires desks { vec_len all.now.desks ≡ length (nodes scheme.now) }
     requires listeners { length network.now.listeners.now ≡ length (nodes scheme.now) }
     ensures ends { IfOk result (λ r. IfOk r.0 (λ v. vec_len v ≡ length (nodes scheme.now))) }
-    ensures heard { IfOk result (λ r. IfOk r.1 (λ p. AreHeard scheme.now p.seats.items lines.now p.answers.items)) }
+    ensures none { IfOk result (λ r. IfOk r.0 (λ v. HaveNoOrders v.items)) }
+    ensures played { IfOk result (λ r. IfOk r.1 (λ p. IsPlayed scheme.now lines.now p.answers.items p.seats.items)) }
     ensures seats { IfOk result (λ r. IfOk r.1 (λ p. vec_len p.seats ≡ length (nodes scheme.now))) }
 {
     let desks = all.desks.as_slice();
@@ -278,7 +284,8 @@ where
     requires listeners { length network.now.listeners.now ≡ length (nodes scheme.now) }
     ensures desks { IfOk result (λ r. vec_len r.desks ≡ length (nodes scheme.now)) }
     ensures ends { IfOk result (λ r. IfOk r.ends (λ v. vec_len v ≡ length (nodes scheme.now))) }
-    ensures heard { IfOk result (λ r. IfOk r.played (λ p. AreHeard scheme.now p.seats.items lines.now p.answers.items)) }
+    ensures none { IfOk result (λ r. IfOk r.ends (λ v. HaveNoOrders v.items)) }
+    ensures played { IfOk result (λ r. IfOk r.played (λ p. IsPlayed scheme.now lines.now p.answers.items p.seats.items)) }
     ensures seats { IfOk result (λ r. IfOk r.played (λ p. vec_len p.seats ≡ length (nodes scheme.now))) }
 {
     let all = NodesAtDesks {

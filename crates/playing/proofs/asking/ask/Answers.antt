@@ -1,4 +1,5 @@
 use Rattle.playing.proofs.HeardLines.{heard_line}
+use Rattle.playing.proofs.Ordering.{adds_line}
 use Rattle.playing.proofs.asking.ask.Goals as goal
 
 pub returns-in-Order-clause-heard : goal.returns-in-Order-clause-heard
@@ -9,3 +10,12 @@ returns-in-Status-clause-heard g c = heard_line _ _ c.question.new.seat _ c.in-S
 
 pub returns-in-Until-clause-heard : goal.returns-in-Until-clause-heard
 returns-in-Until-clause-heard g c = heard_line _ _ c.question_until.new.seat _ c.in-Until.is c.question_until.ensures.heard
+
+pub returns-in-Order-clause-adds : goal.returns-in-Order-clause-adds
+returns-in-Order-clause-adds g c = adds_line _ _ c.args.seat.now c.order_copy.new.seat _ c.in-Order.is c.order_copy.ensures.adds
+
+pub returns-in-Status-clause-adds : goal.returns-in-Status-clause-adds
+returns-in-Status-clause-adds g c = adds_line _ _ c.args.seat.now c.question.new.seat _ c.in-Status.is c.question.ensures.adds
+
+pub returns-in-Until-clause-adds : goal.returns-in-Until-clause-adds
+returns-in-Until-clause-adds g c = adds_line _ _ c.args.seat.now c.question_until.new.seat _ c.in-Until.is c.question_until.ensures.adds

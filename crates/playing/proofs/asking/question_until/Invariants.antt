@@ -1,9 +1,11 @@
 use Rattle.desk.specs.declared.notes.Asked.TheVariants.{Query}
 use Rattle.playing.specs.Heard.{Grows, HasHeard}
+use Rattle.playing.specs.Orders.{Adds}
 use Rattle.playing.proofs.asking.question_until.Given as goal
 
 abbrev pub invariant-loop : goal.invariant-loop
 invariant-loop g l = record {
   heard : HasHeard l.seat (Query l.awaited.id) l.told;
   grows : Grows l.initial.seat l.seat;
+  adds : Adds (Query l.awaited.id) l.fn.seat l.seat l.told;
 }

@@ -3,6 +3,7 @@ use Rattle.std.proofs.Math.ListN.{set}
 use Rattle.std.proofs.lemmas.List.{get_or-set_same, length-set}
 use Rattle.std.proofs.lemmas.Option.{slice_get-get_or, slice_get_read}
 use Rattle.playing.proofs.HeardLines.{grow_at}
+use Rattle.playing.proofs.Ordering.{orders_asked, orders_impossible}
 use Rattle.playing.proofs.playing.play.Goals as goal
 
 pub returns-in-Some-clause-heard : goal.returns-in-Some-clause-heard
@@ -26,3 +27,13 @@ returns-in-Some-clause-grow g c =
     let place = c.in-Some.ensures.some in
     let low : c.in-Some.at < length c.args.seats.now = omega (arith, place.1, c.requires.seats) in
     grow_at c.args.seats.now c.in-Some.at _ c.ask.new.seat (slice_get-get_or c.args.seats.now c.in-Some.at _ low) c.ask.ensures.grows
+
+pub returns-in-Some-clause-orders : goal.returns-in-Some-clause-orders
+returns-in-Some-clause-orders g c =
+    let place = c.in-Some.ensures.some in
+    let low : c.in-Some.at < length c.args.seats.now = omega (arith, place.1, c.requires.seats) in
+    λ lines answers len have. orders_asked c.args.scheme.now lines answers c.args.seats.now c.args.line.now len have c.ask.result c.in-Some.at _ c.ask.new.seat
+    (slice_get-get_or c.args.seats.now c.in-Some.at _ low) place.0 place.2 c.ask.ensures.adds
+
+pub returns-in-None-clause-orders : goal.returns-in-None-clause-orders
+returns-in-None-clause-orders g c = λ lines answers len have. orders_impossible c.args.scheme.now lines answers c.args.seats.now c.args.line.now len have

@@ -1,11 +1,14 @@
 -- The seats of one node after another.
-use Rattle.std.proofs.Common.{◌≡◌, ◌∙◌, ◌≤◌, ℕ, zero, suc, List, [], ◌∷◌, ◌++◌, drop, length, map, Some, inl, inr, sym, ap, subst, arith, length-append}
-use Rattle.std.specs.Prelude.{Contains, slice_get}
+use Rattle.std.proofs.Common.{◌≡◌, ◌∙◌, ◌≤◌, ℕ, zero, suc, List, [], ◌∷◌, ◌++◌, drop, length, map, All, Vec, Global, Option, Some, None, Result, Ok, Err, refl, inl, inr, sym, ap, subst, arith, length-append}
+use Rattle.std.specs.Prelude.{IfOk, IfSome, slice_get}
+use Rattle.std.specs.Option.{option_to_list}
 use Rattle.std.proofs.lemmas.List.{length-map, map-append}
 use Rattle.std.proofs.lemmas.Option.{slice_get_within}
 use Rattle.lemmas.proofs.OneValue.{one_some}
+use Rattle.units.specs.declared.memory.NoMemory.{NoMemory}
 use Rattle.desk.specs.Views.{Heard}
-use Rattle.runs.specs.Gathered.{AreGatheredTo}
+use Rattle.sessions.specs.Orders.{HasNoOrder, HaveNoOrders}
+use Rattle.runs.specs.Gathered.{AreGatheredTo, IsGathered}
 use Rattle.playing.proofs.HeardLines.{last_or_before}
 
 drop_at : {X : Type 0} (k : ℕ) (xs : List X) (x : X) (ys : List X) → drop k xs ≡ x ∷ ys → (slice_get xs k ≡ Some x) × (drop (suc k) xs ≡ ys)
@@ -18,17 +21,17 @@ module _ {V : Type 0} (f : V → List Heard) (own : List Heard) (all : List V) (
   pub own_at : (slice_get own (length all) ≡ Some seat) × (drop (suc (length all)) own ≡ next)
   own_at = drop_at (length all) own seat next (sym left ∙ taken)
 
-  gathered_last : Contains (f v) seat → AreGatheredTo (length all) own (map f all) → AreGatheredTo (length (all ++ v ∷ [])) own (map f (all ++ v ∷ []))
+  gathered_last : IsGathered (f v) seat → AreGatheredTo (length all) own (map f all) → AreGatheredTo (length (all ++ v ∷ [])) own (map f (all ++ v ∷ []))
   gathered_last among before = λ k s h under at_own at_all.
       elim (last_or_before (map f all) (f v) h k (ap (λ (l : List (List Heard)). slice_get l k) (sym (map-append f all (v ∷ []))) ∙ at_all)) [
         | inl early ↦ before k s h (omega (arith, slice_get_within (map f all) k h early, length-map all f)) at_own early
         | inr last ↦
             let k_is : k ≡ length all = omega (arith, last.0, length-map all f) in
             let same : seat ≡ s = one_some seat s (sym own_at.0 ∙ ap (slice_get own) (sym k_is) ∙ at_own) in
-            subst (Contains h) same (subst (λ (x : List Heard). Contains x seat) (sym last.1) among)
+            subst (IsGathered h) same (subst (λ (x : List Heard). IsGathered x seat) (sym last.1) among)
       ]
 
-  pub gathered_more : (new : List V) → new ≡ all ++ v ∷ [] → Contains (f v) seat → AreGatheredTo (length all) own (map f all) → AreGatheredTo (length new) own (map f new)
+  pub gathered_more : (new : List V) → new ≡ all ++ v ∷ [] → IsGathered (f v) seat → AreGatheredTo (length all) own (map f all) → AreGatheredTo (length new) own (map f new)
   gathered_more new is among before = subst (λ (xs : List V). AreGatheredTo (length xs) own (map f xs)) (sym is) (gathered_last among before)
 
   pub rest_more : (new : List V) → new ≡ all ++ v ∷ [] → next ≡ drop (length new) own
@@ -38,3 +41,21 @@ module _ {V : Type 0} (f : V → List Heard) (own : List Heard) (all : List V) (
 
   pub count_more : (new : List V) → new ≡ all ++ v ∷ [] → length new ≤ length own
   count_more new is = omega (arith, ap (λ (xs : List V). length xs) is, length-append all (v ∷ []), slice_get_within own (length all) seat own_at.0)
+
+-- ---- the seats of threads, which have no orders
+
+abbrev pub HasNone : Option (Result (Vec Heard Global) NoMemory) → Type 0
+HasNone found = IfSome found (λ ended. IfOk ended (λ seats. All HasNoOrder seats.items))
+
+pub has_seats : (seats : Vec Heard Global) (e : Result (Vec Heard Global) NoMemory) → e ≡ Ok seats → HasNone (Some e) → All HasNoOrder seats.items
+has_seats seats e is none = subst (λ (r : Result (Vec Heard Global) NoMemory). HasNone (Some r)) is none
+
+has_none : (e : Result (Vec Heard Global) NoMemory) (more : List (Result (Vec Heard Global) NoMemory)) → HaveNoOrders (e ∷ more) → HasNone (Some e)
+has_none (Ok seats) more none = none 0 seats refl
+has_none (Err e) more none = tt
+
+pub none_left : (old new : List (Result (Vec Heard Global) NoMemory)) (found : Option (Result (Vec Heard Global) NoMemory)) → old ≡ option_to_list found ++ new → HaveNoOrders old → HasNone found × HaveNoOrders new
+none_left old new None is none = (tt, subst HaveNoOrders is none)
+none_left old new (Some e) is none =
+    let all : HaveNoOrders (e ∷ new) = subst HaveNoOrders is none in
+    (has_none e new all, λ k seats at. all (suc k) seats at)

@@ -1,5 +1,5 @@
 -- Nodes that were loaded, at the beginning of a run and at its end.
-use Rattle.std.proofs.Common.{◌≡◌, ◌≢◌, ◌∙◌, ◌≤◌, ◌++◌, ℕ, zero, suc, Bool, true, false, not, IsTrue, ◌↔◌, List, [], ◌∷◌, None, Some, inl, inr, refl, sym, ap, subst, length, map, take, arith, length-append}
+use Rattle.std.proofs.Common.{◌≡◌, ◌∙◌, ◌++◌, ℕ, zero, suc, Bool, true, false, not, IsTrue, ◌↔◌, List, [], ◌∷◌, Some, refl, sym, ap, length, map, take, arith, length-append}
 use Rattle.std.specs.Prelude.{All, slice_get}
 use Rattle.std.proofs.lemmas.List.{take_all}
 use Rattle.std.proofs.lemmas.List.Elements.{All-cons, All-contains, All-nil}

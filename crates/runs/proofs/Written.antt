@@ -11,7 +11,7 @@ use Rattle.wire.specs.declared.input.Input.{Input}
 use Rattle.stores.specs.declared.node_store.NodeStore.{Ghosts}
 use Rattle.desk.specs.Keeping.{Keeping}
 use Rattle.playing.specs.Heard.{AreHeard}
-use Rattle.runs.specs.Runs.{FailsToReport, FailsToRun, HasAnswered, HaveEnded, IsLateFault, IsReported, IsRunReport, IsTableFault, committed_by_all, states_of}
+use Rattle.runs.specs.Runs.{FailsToReport, FailsToRun, HasAnswered, HaveEnded, IsLateFault, IsReported, IsRunReport, IsTableFault, states_of}
 use Rattle.playing.specs.declared.answer.Answer.{Answer}
 use Rattle.desk.specs.Views.{Held, Heard}
 
@@ -49,7 +49,7 @@ module _ {S : Type 0} (g : Ghosts S) (opened : Scheme → Node → List Input �
           written = subst (λ (xs : List ℕ). Appends before after (take h.0 xs)) is h.3;
         }))
 
-  pub fails_in_report : (lines : List ScriptLine) (before after : Option (List ℕ)) (ends : List (Keeping S)) (text : List ℕ) (e : OpFault) → HaveEnded g opened scheme ends → IsRunReport scheme lines (committed_by_all (states_of ends)) text
+  pub fails_in_report : (lines : List ScriptLine) (before after : Option (List ℕ)) (ends : List (Keeping S)) (text : List ℕ) (e : OpFault) → HaveEnded g opened scheme ends → IsRunReport scheme lines (states_of ends) text
       → ((count : ℕ) × (e ≡ Write count) × (count < length text) × Appends before after (take count text)) → FailsToRun g opened e scheme lines before after
   fails_in_report lines before after ends text e ended report h =
       subst (λ (x : OpFault). FailsToRun g opened x scheme lines before after) (sym h.1) (inr (record { ends = ends; text = text; ended = ended; report = report; fewer = h.2; written = h.3 }))

@@ -1,10 +1,15 @@
 -- The seats of all that were told something by the nodes' desks. No public contract cites it.
-use Rattle.std.specs.Prelude.{◌≡◌, ◌<◌, ℕ, List, Contains, length, slice_get, Some}
+use Rattle.std.specs.Prelude.{◌≡◌, ◌<◌, ℕ, All, List, [], ◌∷◌, ◌++◌, length, slice_get, Some}
 use Rattle.desk.specs.Views.{Heard}
+use Rattle.sessions.specs.Orders.{HasNoOrder}
 
--- the seat of the script at each of the first nodes' desks is among those of the node
+-- the script's seat stands after those of the node's threads, which have no orders
+abbrev pub IsGathered : List Heard → Heard → Type 0
+IsGathered heard seat = (threads : List Heard) × (heard ≡ threads ++ seat ∷ []) × All HasNoOrder threads
+
+-- the seat of the script at each of the first nodes' desks stands among those of the node
 abbrev pub AreGatheredTo : ℕ → List Heard → List (List Heard) → Type 0
-AreGatheredTo at own all = (k : ℕ) (seat : Heard) (heard : List Heard) → k < at → slice_get own k ≡ Some seat → slice_get all k ≡ Some heard → Contains heard seat
+AreGatheredTo at own all = (k : ℕ) (seat : Heard) (heard : List Heard) → k < at → slice_get own k ≡ Some seat → slice_get all k ≡ Some heard → IsGathered heard seat
 
 pub record AreGathered (own : List Heard) (all : List (List Heard)) : Type 0 where
   pub count : length all ≡ length own

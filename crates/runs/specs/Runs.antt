@@ -1,14 +1,16 @@
 -- What a run with threads reports.
-use Rattle.std.specs.Prelude.{◌≡◌, ◌≢◌, ◌⊎◌, ◌<◌, ℕ, All, List, ◌++◌, Option, None, Some, length, map, slice_get, take}
+use Rattle.std.specs.Prelude.{◌≡◌, ◌≢◌, ◌⊎◌, ◌<◌, ◌+◌, ℕ, cond, All, List, [], ◌∷◌, ◌++◌, Option, None, Some, drop, length, map, slice_get, take}
 use Rattle.std.specs.Io.KnownBytes.{Appends, Keeps}
 use Rattle.units.specs.declared.code.Node.{Node}
 use Rattle.wire.specs.declared.input.Input.{Input}
 use Rattle.scheme.specs.declared.registries.Scheme.{Scheme}
-use Rattle.protocol.specs.Registries.{nodes}
+use Rattle.protocol.specs.Registries.{nodes, place_of}
 use Rattle.stores.specs.declared.fault.StoreFault.{StoreFault}
 use Rattle.stores.specs.declared.node_store.NodeStore.{Ghosts}
 use Rattle.desk.specs.Keeping.{IsAtDesk, IsKept, Keeping}
 use Rattle.desk.specs.Views.{Held, Heard, committed_records}
+use Rattle.desk.specs.declared.notes.Ticket.{Ticket}
+use Rattle.sessions.specs.Orders.{was_ordered}
 use Rattle.weave.specs.Following.{IsWeaveFault, journal_of}
 use Rattle.weave.specs.declared.fault.WeaveFault.TheVariants as weaving
 use Rattle.inputs.specs.declared.fault.OpFault.{OpFault}
@@ -17,6 +19,7 @@ use Rattle.audit.specs.Audits.{IsAuditTable}
 use Rattle.scripts.specs.declared.line.ScriptLine.{ScriptLine}
 use Rattle.playing.specs.Answers.{AreAnswers, IsAnswer, answer_lines}
 use Rattle.playing.specs.Heard.{AreHeard}
+use Rattle.playing.specs.Orders.{AreOrders}
 use Rattle.runs.specs.Settled.{AreSettled, FailsToSettle}
 use Rattle.playing.specs.declared.answer.Answer.{Answer}
 
@@ -105,13 +108,23 @@ module _ {S : Type 0} (g : Ghosts S) (opened : Scheme → Node → List Input �
 
 -- ---- a script
 
+-- of records, the first of which has that place, those that were ordered, each with its place
+abbrev pub ordered_from : ℕ → List Input → List Ticket
+ordered_from place [] = []
+ordered_from place (input ∷ inputs) = cond (was_ordered input) (record { place = place; input = input } ∷ ordered_from (place + 1) inputs) (ordered_from (place + 1) inputs)
+
+-- the committed records since the opening that were ordered
+abbrev pub orders_of : Held → List Ticket
+orders_of held = ordered_from held.opening (drop held.opening (committed_records held))
+
 -- the answers to the script's lines, and then the table of the world that a run leads to, whose committed journals are
--- these and bear the answers
-pub record IsRunReport (scheme : Scheme) (lines : List ScriptLine) (journals : List (List Input)) (text : List ℕ) : Type 0 where
+-- those of these nodes; they bear the answers, and since the opening they have the script's orders and no others
+pub record IsRunReport (scheme : Scheme) (lines : List ScriptLine) (helds : List Held) (text : List ℕ) : Type 0 where
   pub answers : List Answer
   pub table : List ℕ
-  pub borne : AreAnswers (IsAnswer scheme (journal_of scheme journals)) lines answers
-  pub is_table : IsAuditTable scheme journals table
+  pub borne : AreAnswers (IsAnswer scheme (journal_of scheme (committed_by_all helds))) lines answers
+  pub orders : (n : Node) (at : ℕ) (held : Held) → place_of scheme n ≡ Some at → slice_get helds at ≡ Some held → AreOrders n lines answers (orders_of held)
+  pub is_table : IsAuditTable scheme (committed_by_all helds) table
   pub spelled : text ≡ answer_lines 1 answers ++ table
 
 -- an answer to each line, as the desks told it, was written, and nothing else
@@ -135,7 +148,7 @@ module _ {S : Type 0} (g : Ghosts S) (opened : Scheme → Node → List Input �
     pub ends : List (Keeping S)
     pub text : List ℕ
     pub ended : HaveEnded g opened scheme ends
-    pub report : IsRunReport scheme lines (committed_by_all (states_of ends)) text
+    pub report : IsRunReport scheme lines (states_of ends) text
     pub fewer : count < length text
     pub written : Appends before after (take count text)
 

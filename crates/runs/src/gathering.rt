@@ -1,9 +1,10 @@
 //! What a run leaves: of each node the state with its store, and the seats of all that were told something by its desk.
-ghost use Rattle.std.specs.Prelude.{◌≡◌, ◌+◌, ◌<◌, ◌++◌, ◌∷◌, [], All, Contains, Vec, length, map, vec_capacity, vec_len, IfErr, IfOk, OnOk};
+ghost use Rattle.std.specs.Prelude.{◌≡◌, ◌+◌, ◌<◌, ◌++◌, ◌∷◌, [], All, Vec, length, map, vec_capacity, vec_len, IfErr, IfOk, IfSome, OnOk};
 ghost use Rattle.std.specs.Global.{Global};
 ghost use Rattle.desk.specs.Views.{Heard};
 ghost use Rattle.protocol.specs.Registries.{nodes};
-ghost use Rattle.runs.specs.Gathered.{AreGathered};
+ghost use Rattle.sessions.specs.Orders.{HasNoOrder, HaveNoOrders};
+ghost use Rattle.runs.specs.Gathered.{AreGathered, IsGathered};
 ghost use Rattle.runs.specs.Runs.{EndsWell, HaveEnded, IsLateFault};
 
 use desk::{Desk, Ended, Opening, RoomBell, Seat, Stored};
@@ -18,6 +19,7 @@ use world::Core;
 /// Makes room for one list more, and for one seat more in the list that comes next.
 fn make_room(all: &mut Vec<Vec<Seat>>, next: &mut Vec<Seat>) -> Result<(), NoMemory>
     ensures all { all.new.items ≡ all.old.items }
+    ensures next { next.new.items ≡ next.old.items }
     ensures list { OnOk result (vec_len all.new < vec_capacity all.new) }
     ensures seat { OnOk result (vec_len next.new < vec_capacity next.new) }
 {
@@ -26,13 +28,14 @@ fn make_room(all: &mut Vec<Vec<Seat>>, next: &mut Vec<Seat>) -> Result<(), NoMem
     Ok(())
 }
 
-/// Adds the seats of a node's threads, with one seat more.
+/// Adds the seats of a node's threads, with the script's seat at the node after them.
 fn add(
     all: &mut Vec<Vec<Seat>>,
     end: Option<Result<Vec<Seat>, NoMemory>>,
     seat: Seat,
 ) -> Result<(), NoMemory>
-    ensures { OnOk result ((v : Vec Heard Global) × (all.new.items ≡ all.old.items ++ v ∷ []) × Contains v.items seat) }
+    requires { IfSome end (λ ended. IfOk ended (λ seats. All HasNoOrder seats.items)) }
+    ensures { OnOk result ((v : Vec Heard Global) × (all.new.items ≡ all.old.items ++ v ∷ []) × IsGathered v.items seat) }
 {
     let Some(Ok(mut seats)) = end else {
         drop(seat);
@@ -55,6 +58,7 @@ pub(crate) fn gather(
     ends: Vec<Result<Vec<Seat>, NoMemory>>,
     seats: Vec<Seat>,
 ) -> Result<Vec<Vec<Seat>>, NoMemory>
+    requires { HaveNoOrders ends.items }
     ensures { IfOk result (λ all. AreGathered seats.items (map (λ v. v.items) all.items)) }
 {
     let mut all = Vec::new(alloc);

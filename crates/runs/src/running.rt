@@ -6,9 +6,10 @@ ghost use Rattle.desk.specs.Keeping.{MayOpen};
 ghost use Rattle.desk.specs.Views.{Heard, opened_with};
 ghost use Rattle.scripts.specs.declared.line.ScriptLine.{ScriptLine as ALine};
 ghost use Rattle.playing.specs.Answers.{answer_lines};
-ghost use Rattle.playing.specs.Heard.{AreHeard};
+ghost use Rattle.playing.specs.Orders.{IsPlayed};
+ghost use Rattle.sessions.specs.Orders.{HaveNoOrders};
 ghost use Rattle.runs.specs.Gathered.{AreGathered};
-ghost use Rattle.runs.specs.Runs.{FailsToRun, HaveEnded, IsLateFault, IsLoadedAmong, IsRunReport, IsTableFault, committed_by_all, states_of};
+ghost use Rattle.runs.specs.Runs.{FailsToRun, HaveEnded, IsLateFault, IsLoadedAmong, IsRunReport, IsTableFault, states_of};
 ghost use Rattle.playing.specs.declared.answer.Answer.{Answer as AnAnswer};
 
 use crate::gathering::{end_all, gather};
@@ -53,7 +54,8 @@ fn gather_all<O: Opening, S: NodeStore + Drop>(
     ends: Ends,
     seats: Vec<Seat>,
 ) -> Result<Left<S>, OpFault>
-    requires { vec_len desks ≡ length (nodes scheme.now) }
+    requires desks { vec_len desks ≡ length (nodes scheme.now) }
+    requires none { IfOk ends (λ v. HaveNoOrders v.items) }
     ensures ended { IfOk result (λ left. HaveEnded S.NodeStore O.opened scheme.now left.nodes.items) }
     ensures seats { IfOk result (λ left. AreGathered seats.items (map (λ v. v.items) left.seats.items)) }
     ensures err { IfErr result (IsLateFault S.NodeStore O.opened scheme.now) }
@@ -93,8 +95,8 @@ fn with_table<S: NodeStore, P: weave::Watch>(
     requires seats { length seats.now ≡ length (nodes scheme.now) }
     ensures ok { IfOk result
         (λ s. (own : List Heard) → length own ≡ length (nodes scheme.now) → AreGathered own (map (λ v. v.items) seats.now)
-        → (lines : List ALine) (told : List AnAnswer) → AreHeard scheme.now own lines told
-        → answers.now ≡ answer_lines 1 told → IsRunReport scheme.now lines (committed_by_all (states_of stored.now)) (string_bytes s)) }
+        → (lines : List ALine) (told : List AnAnswer) → IsPlayed scheme.now lines told own
+        → answers.now ≡ answer_lines 1 told → IsRunReport scheme.now lines (states_of stored.now) (string_bytes s)) }
     ensures err { IfErr result (IsTableFault scheme.now (states_of stored.now) (map (λ v. v.items) seats.now)) }
 {
     match report_of(alloc, scheme, stored, seats, watch) {
@@ -121,10 +123,11 @@ fn whole_of<O: Opening, S: NodeStore + Drop, P: weave::Watch>(
     watch: &mut P,
 ) -> Result<Whole<S>, OpFault>
     requires desks { vec_len desks ≡ length (nodes scheme.now) }
+    requires none { IfOk ends (λ v. HaveNoOrders v.items) }
     requires seats { vec_len seats ≡ length (nodes scheme.now) }
     ensures ok { IfOk result
-        (λ w. (lines : List ALine) (told : List AnAnswer) → AreHeard scheme.now seats.items lines told
-        → answers.now ≡ answer_lines 1 told → IsRunReport scheme.now lines (committed_by_all (states_of w.nodes.items)) (string_bytes w.text)) }
+        (λ w. (lines : List ALine) (told : List AnAnswer) → IsPlayed scheme.now lines told seats.items
+        → answers.now ≡ answer_lines 1 told → IsRunReport scheme.now lines (states_of w.nodes.items) (string_bytes w.text)) }
     ensures ended { IfOk result (λ w. HaveEnded S.NodeStore O.opened scheme.now w.nodes.items) }
     ensures err { IfErr result (IsLateFault S.NodeStore O.opened scheme.now) }
 {
@@ -162,8 +165,9 @@ fn write_run<O: Opening, S: NodeStore + Drop, W: Write, P: weave::Watch>(
 ) -> Result<Vec<Stored<Core, S>>, OpFault>
     requires desks { vec_len desks ≡ length (nodes scheme.now) }
     requires seats { vec_len played.seats ≡ length (nodes scheme.now) }
-    requires heard { AreHeard scheme.now played.seats.items lines.now played.answers.items }
-    ensures ok { IfOk result (λ v. (text : List ℕ) × IsRunReport scheme.now lines.now (committed_by_all (states_of v.items)) text × Appends (W.contents writer.old) (W.contents writer.new) text) }
+    requires none { IfOk ends (λ v. HaveNoOrders v.items) }
+    requires played { IsPlayed scheme.now lines.now played.answers.items played.seats.items }
+    ensures ok { IfOk result (λ v. (text : List ℕ) × IsRunReport scheme.now lines.now (states_of v.items) text × Appends (W.contents writer.old) (W.contents writer.new) text) }
     ensures ended { IfOk result (λ v. HaveEnded S.NodeStore O.opened scheme.now v.items) }
     ensures err { IfErr result (λ e. FailsToRun S.NodeStore O.opened e scheme.now lines.now (W.contents writer.old) (W.contents writer.new)) }
 {
@@ -210,7 +214,7 @@ where
     requires count { vec_len loaded ≡ length (nodes scheme.now) }
     requires may_open { All (MayOpen S.NodeStore O.opened) loaded.items }
     requires listeners { length network.now.listeners.now ≡ length (nodes scheme.now) }
-    ensures ok { IfOk result (λ v. (text : List ℕ) × IsRunReport scheme.now lines.now (committed_by_all (states_of v.items)) text × Appends (W.contents writer.old) (W.contents writer.new) text) }
+    ensures ok { IfOk result (λ v. (text : List ℕ) × IsRunReport scheme.now lines.now (states_of v.items) text × Appends (W.contents writer.old) (W.contents writer.new) text) }
     ensures ended { IfOk result (λ v. HaveEnded S.NodeStore O.opened scheme.now v.items) }
     ensures err { IfErr result (λ e. FailsToRun S.NodeStore O.opened e scheme.now lines.now (W.contents writer.old) (W.contents writer.new)) }
 {
@@ -239,7 +243,9 @@ where
 /// The nodes are the log and then the registries in the scheme's order, each with its store and the state that the
 /// store's records lead to. The watch is told of the script's lines, and afterwards of the records as they are settled
 /// and woven. Returns the nodes as they ended: no store has failed, each has the committed records of its node, which
-/// the table is of, and these begin with those that it was loaded with.
+/// the table is of, and these begin with those that it was loaded with. Since then each has the script's orders that were
+/// answered as recorded, in the script's order, each once. It has no others but for those that it had taken when it
+/// stopped.
 ///
 /// # Errors
 ///
@@ -273,7 +279,7 @@ where
     requires nodes { map (λ s. s.state.node) loaded.items ≡ nodes scheme.now }
     requires opened { All (λ s. s.state ≡ opened_with scheme.now s.state.node s.state.journal) loaded.items }
     requires listeners { length network.now.listeners.now ≡ length (nodes scheme.now) }
-    ensures ok { IfOk result (λ v. (text : List ℕ) × IsRunReport scheme.now lines.now (committed_by_all (states_of v.items)) text × Appends (W.contents writer.old) (W.contents writer.new) text) }
+    ensures ok { IfOk result (λ v. (text : List ℕ) × IsRunReport scheme.now lines.now (states_of v.items) text × Appends (W.contents writer.old) (W.contents writer.new) text) }
     ensures ended { IfOk result (λ v. HaveEnded S.NodeStore (IsLoadedAmong S.NodeStore scheme.now loaded.items) scheme.now v.items) }
     ensures err { IfErr result (λ e. FailsToRun S.NodeStore (IsLoadedAmong S.NodeStore scheme.now loaded.items) e scheme.now lines.now (W.contents writer.old) (W.contents writer.new)) }
 {

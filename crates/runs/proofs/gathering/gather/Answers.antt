@@ -1,7 +1,10 @@
 use Rattle.std.proofs.Common.{◌∷◌, [], length, ap, arith, length-append}
 use Rattle.std.proofs.lemmas.List.{length-map}
-use Rattle.runs.proofs.Collected.{gathered_more, rest_more}
+use Rattle.runs.proofs.Collected.{gathered_more, none_left, rest_more}
 use Rattle.runs.proofs.gathering.gather.Goals as goal
+
+pub add-requires : goal.add-requires
+add-requires c = (none_left c.loop-seat.ends.rest.items c.next-in-loop-seat.new.self.rest.items c.next-in-loop-seat.result c.next-in-loop-seat.ensures.items c.loop-seat.invariant.none).0
 
 pub loop-seat-preserved : goal.loop-seat-preserved
 loop-seat-preserved c =
@@ -12,6 +15,7 @@ loop-seat-preserved c =
     record {
       rest = rest_more (λ v. v.items) c.args.seats.items all more.0 c.in-Some.seat c.loop-seat.seat-iterator.rest.items c.next.new.self.rest.items c.loop-seat.invariant.rest step.0 c.add.new.all.items more.1;
       each = gathered_more (λ v. v.items) c.args.seats.items all more.0 c.in-Some.seat c.loop-seat.seat-iterator.rest.items c.next.new.self.rest.items c.loop-seat.invariant.rest step.0 c.add.new.all.items more.1 more.2 c.loop-seat.invariant.each;
+      none = (none_left c.loop-seat.ends.rest.items c.next-in-loop-seat.new.self.rest.items c.next-in-loop-seat.result c.next-in-loop-seat.ensures.items c.loop-seat.invariant.none).1;
       count = omega (arith, longer, length-append all (more.0 ∷ []), ap (λ (l : _). length l) step.0, c.loop-seat.invariant.count);
     }
 

@@ -6,5 +6,5 @@ use Rattle.runs.proofs.running.with_table.Goals as goal
 
 pub returns-in_ok-joined-in-Ok-clause-ok : goal.returns-in_ok-joined-in-Ok-clause-ok
 returns-in_ok-joined-in-Ok-clause-ok g c =
-    λ own each gathered lines told heard answers. run_report c.args.scheme.now (states_of c.args.stored.now) own (map (λ v. v.items) c.args.seats.now) (string_bytes c.in-Ok.table) (length-map c.args.stored.now (λ s. s.state) ∙ c.requires.states) gathered each c.in-Ok.ensures.ok lines told c.args.answers.now
-    (string_bytes c.in_ok-joined-in-Ok.field-0) heard answers (c.in_ok-joined-in-Ok.ensures ∙ ap (λ (t : List ℕ). c.args.answers.now ++ t) c.as_str.ensures.value)
+    λ own each gathered lines told played answers. run_report c.args.scheme.now (states_of c.args.stored.now) own (map (λ v. v.items) c.args.seats.now) (string_bytes c.in-Ok.table) (length-map c.args.stored.now (λ s. s.state) ∙ c.requires.states) gathered each c.in-Ok.ensures.ok lines told c.args.answers.now
+    (string_bytes c.in_ok-joined-in-Ok.field-0) played answers (c.in_ok-joined-in-Ok.ensures ∙ ap (λ (t : List ℕ). c.args.answers.now ++ t) c.as_str.ensures.value)

@@ -100,10 +100,10 @@ none_at_first place x xs [] no_order from ordered = All-nil (λ (t : Ticket). t.
 none_at_first place x xs (t ∷ ts) no_order from ordered =
     All-cons (λ (u : Ticket). u.place ≢ place) t ts
     (λ same.
-        let here = (All-head (IsFrom place (x ∷ xs)) t ts from).1 in
-        let first : t.place - place ≡ zero = omega (arith, same) in
-        let x_is : x ≡ t.input = one_some x t.input (subst (λ (k : ℕ). slice_get (x ∷ xs) k ≡ Some t.input) first here) in
-        absurd (true≢false (sym (All-head IsOrdered t ts ordered) ∙ (sym (ap was_ordered x_is) ∙ no_order))))
+    let here = (All-head (IsFrom place (x ∷ xs)) t ts from).1 in
+    let first : t.place - place ≡ zero = omega (arith, same) in
+    let x_is : x ≡ t.input = one_some x t.input (subst (λ (k : ℕ). slice_get (x ∷ xs) k ≡ Some t.input) first here) in
+    absurd (true≢false (sym (All-head IsOrdered t ts ordered) ∙ (sym (ap was_ordered x_is) ∙ no_order))))
     (none_at_first place x xs ts no_order (All-tail (IsFrom place (x ∷ xs)) t ts from) (All-tail IsOrdered t ts ordered))
 
 -- the first ticket names the first place, which one ticket alone names
@@ -169,8 +169,8 @@ module _ (held : Held) (heard threads : List Heard) (seat : Heard) (covers : Cov
       others (t ∷ ts) f w =
           All-cons (λ (u : Ticket). u.place ≢ place) t ts
           (λ same.
-              let x_is : x ≡ t.input = one_some x t.input (sym at ∙ (sym (ap (slice_get held.journal) same) ∙ (All-head (Fits held) t ts f).1)) in
-              absurd (true≢false (sym ordered ∙ (ap was_ordered x_is ∙ All-head (λ (u : Ticket). was_ordered u.input ≡ false) t ts w))))
+          let x_is : x ≡ t.input = one_some x t.input (sym at ∙ (sym (ap (slice_get held.journal) same) ∙ (All-head (Fits held) t ts f).1)) in
+          absurd (true≢false (sym ordered ∙ (ap was_ordered x_is ∙ All-head (λ (u : Ticket). was_ordered u.input ≡ false) t ts w))))
           (others ts (All-tail (Fits held) t ts f) (All-tail (λ (u : Ticket). was_ordered u.input ≡ false) t ts w))
 
   no_threads : (place : ℕ) (x : Input) → slice_get held.journal place ≡ Some x → was_ordered x ≡ true → (ss : List Heard) → All (λ (s : Heard). All (Fits held) s.tickets) ss → All HasNoOrder ss → times_named ss place ≡ 0
@@ -197,9 +197,9 @@ module _ (held : Held) (heard threads : List Heard) (seat : Heard) (covers : Cov
   orders_in_turn ordered ascend =
       ordered_are (drop held.opening held.journal) held.opening seat.tickets
       (All-weaker (Fits held) (IsFrom held.opening (drop held.opening held.journal)) (λ t fit.
-          let same : held.opening + (t.place - held.opening) ≡ t.place = omega (arith, fit.0) in
-          (fit.0, get_after held.opening held.journal (t.place - held.opening) ∙ (ap (slice_get held.journal) same ∙ fit.1)))
-          seat.tickets (front threads seat fits).1)
+      let same : held.opening + (t.place - held.opening) ≡ t.place = omega (arith, fit.0) in
+      (fit.0, get_after held.opening held.journal (t.place - held.opening) ∙ (ap (slice_get held.journal) same ∙ fit.1)))
+      seat.tickets (front threads seat fits).1)
       ordered ascend
       (λ k x at is. named_once (held.opening + k) x (omega arith) (sym (get_after held.opening held.journal k) ∙ at) is)
 
@@ -270,9 +270,9 @@ module _ (count : ℕ) where
       → ((input : Input) (place : ℕ) → node_of l ≡ n → asked_by l ≡ Take input → answer ≡ Answered (Step (Recorded place)) → place < count) → IsRecordAt n l answer ts → IsRecordAt n l answer (within count ts)
   at_node_within n l NotPossible ts low is = ap (within count) is
   at_node_within n l (Answered told) ts low is = (
-      (λ here. record_within (asked_by l) told ts (λ input place asked same. low input place here asked (ap Answered same)) (is.0 here)),
-      (λ other. ap (within count) (is.1 other)),
-    )
+    (λ here. record_within (asked_by l) told ts (λ input place asked same. low input place here asked (ap Answered same)) (is.0 here)),
+    (λ other. ap (within count) (is.1 other)),
+  )
 
   pub orders_within : (n : Node) (ls : List ScriptLine) (answers : List Answer) (ts : List Ticket)
       → ((k : ℕ) (l : ScriptLine) (input : Input) (place : ℕ) → slice_get ls k ≡ Some l → slice_get answers k ≡ Some (Answered (Step (Recorded place))) → node_of l ≡ n → asked_by l ≡ Take input → place < count)
@@ -280,12 +280,12 @@ module _ (count : ℕ) where
   orders_within n [] answers ts low is = ap (within count) is
   orders_within n (l ∷ ls) [] ts low is = ap (within count) is
   orders_within n (l ∷ ls) (a ∷ answers) ts low is = (
-      within count is.0,
-      within count is.1,
-      ap (within count) is.2 ∙ filter-append (is_within count) is.0 is.1,
-      at_node_within n l a is.0 (λ input place here asked same. low 0 l input place refl (ap Some same) here asked) is.3,
-      orders_within n ls answers is.1 (λ k m input place at_line at_answer here asked. low (suc k) m input place at_line at_answer here asked) is.4,
-    )
+    within count is.0,
+    within count is.1,
+    ap (within count) is.2 ∙ filter-append (is_within count) is.0 is.1,
+    at_node_within n l a is.0 (λ input place here asked same. low 0 l input place refl (ap Some same) here asked) is.3,
+    orders_within n ls answers is.1 (λ k m input place at_line at_answer here asked. low (suc k) m input place at_line at_answer here asked) is.4,
+  )
 
 -- what is committed of the orders of a node whose threads were told what one alone would have been told
 pub committed_orders : (n : Node) (held : Held) (heard threads : List Heard) (seat : Heard) (lines : List ScriptLine) (answers : List Answer) → Covers held heard → seat.lengths ≡ Grew → heard ≡ threads ++ seat ∷ [] → All HasNoOrder threads

@@ -105,7 +105,14 @@ where
 {
     parts.muster.report(rt);
     if place < WORKERS {
-        work(rt, parts.desk, parts.clock, parts.gate, errands, &mut seat.seat);
+        work(
+            rt,
+            parts.desk,
+            parts.clock,
+            parts.gate,
+            errands,
+            &mut seat.seat,
+        );
     } else if let Some(peer) = parts.peers.get(place - WORKERS) {
         send_all(rt, alloc, parts.desk, parts.dial, *peer, &mut seat.seat);
     }
@@ -264,7 +271,10 @@ where
     let seats = new_seats(alloc, WORKERS + parts.peers.len())?;
     let mut all = Vec::with_capacity(alloc, seats.len())?;
     let (errands, handed) = crossbeam_channel::bounded(alloc, MOST_JOBS)?;
-    add_seats(&mut all, run_threads(rt, alloc, parts, errands, &handed, seats));
+    add_seats(
+        &mut all,
+        run_threads(rt, alloc, parts, errands, &handed, seats),
+    );
     Ok(all)
 }
 

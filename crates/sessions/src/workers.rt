@@ -163,14 +163,7 @@ pub(crate) fn work<
     K: Clock,
     G: Gate,
     R: Wait + SystemClock,
->(
-    rt: &R,
-    desk: &Desk<O, C, S, B>,
-    clock: &K,
-    gate: &G,
-    errands: &Receiver<Errand>,
-    seat: &mut Seat,
-)
+>(rt: &R, desk: &Desk<O, C, S, B>, clock: &K, gate: &G, errands: &Receiver<Errand>, seat: &mut Seat)
     requires { HasNoOrder seat.old }
     ensures { HasNoOrder seat.new }
 {

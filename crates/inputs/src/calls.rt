@@ -22,7 +22,7 @@ impl Calls {
     ghost use Rattle.inputs.specs.Calls.{Counts, no_calls};
 
     /// No calls.
-    pub fn none() -> Calls
+    pub(crate) fn none() -> Calls
         ensures { result ≡ no_calls }
     {
         Calls {
@@ -66,7 +66,7 @@ impl Calls {
     }
 
     /// Reads once, and counts the call. The piece has room for at least one byte.
-    pub fn read<R: Read>(&mut self, reader: &mut R, piece: &mut [u8]) -> Result<usize>
+    pub(crate) fn read<R: Read>(&mut self, reader: &mut R, piece: &mut [u8]) -> Result<usize>
         requires { 0 < length piece.old }
         ensures counts { Counts self.old self.new result }
         ensures bound { ReadsAtMost result piece.new }
@@ -78,7 +78,7 @@ impl Calls {
     }
 
     /// Writes some of the bytes, of which there is at least one, once, and counts the call.
-    pub fn write<W: Write>(&mut self, writer: &mut W, bytes: &[u8]) -> Result<usize>
+    pub(crate) fn write<W: Write>(&mut self, writer: &mut W, bytes: &[u8]) -> Result<usize>
         requires { 0 < length bytes.now }
         ensures counts { Counts self.old self.new result }
         ensures bound { WritesAtMost result bytes.now }

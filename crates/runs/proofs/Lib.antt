@@ -5,3 +5,4 @@ pub mod Ordered
 pub mod Reported
 pub mod Settling
 pub mod Written
+pub mod WorkedOrders

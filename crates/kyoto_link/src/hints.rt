@@ -1,7 +1,8 @@
 //! A second line on a fault, for who waits at a terminal: the path, the word or the line that it is about.
 
-use crate::files::{find_folder, scheme_at};
 use crate::scheme_hints::tell_scheme;
+use crate::system_files::SystemFiles;
+use commands::{Archive, scheme_at};
 use inputs::OpFault;
 use operator::Action;
 use std::fs;
@@ -64,7 +65,7 @@ fn tell_unread(rt: &HostRuntime, named: &Named<'_>) {
             return;
         }
     }
-    if find_folder(rt, named.folder).is_err() {
+    if !(SystemFiles { rt }).has_folder(named.folder) {
         let _ = eprintln!(rt; "kyoto-link: {} is no folder", named.folder);
         return;
     }
@@ -89,7 +90,7 @@ fn tell_script_line(rt: &HostRuntime, script: &str, line: u64) {
 
 /// Names the file of which a line has a fault, or the node that isn't in the scheme.
 fn tell_line(rt: &HostRuntime, named: &Named<'_>, line: u64) {
-    if scheme_at(rt, named.scheme).is_err() {
+    if scheme_at(rt.alloc(), &SystemFiles { rt }, named.scheme).is_err() {
         tell_scheme(rt, named.scheme);
     } else if let Some(node) = named.node {
         let _ = eprintln!(rt; "kyoto-link: {node} is no node of {}", named.scheme);

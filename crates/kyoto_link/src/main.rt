@@ -1,21 +1,22 @@
 //! The program `kyoto-link`.
 #![tactic(auto)]
 
-mod files;
+ghost use Rattle.std.specs.Prelude.{◌≡◌, ◌⊎◌, MatchResult};
+ghost use Rattle.std.specs.Process.{exit_status};
+ghost use Rattle.inputs.specs.Faults.{exit_status as status_of};
+
 mod hints;
-mod running;
 mod scheme_hints;
+mod system_files;
 mod watching;
 
-use crate::files::{find_folder, open_store, open_stores, scheme_at};
 use crate::hints::explain;
-use crate::running::run_nodes;
-use crate::watching::ProgressLine;
-use audit::audit_watched;
+use crate::system_files::SystemFiles;
+use crate::watching::Terminal;
 use clap::Error;
-use inputs::{OpFault, node_of, write_out};
-use operator::{Action, UsageFault, chart, parse_words, show};
-use rehearsals::rehearse;
+use commands::perform;
+use inputs::{OpFault, write_out};
+use operator::{Action, UsageFault, parse_words};
 use std::io::ErrorKind;
 use std::net::{Net, TcpListener, TcpStream};
 use std::process::ExitCode;
@@ -23,40 +24,17 @@ use std::rt::Clock as SystemClock;
 use std::sync::Wait;
 use std::thread::Threads;
 use std::{env, io};
-use weave::Watch;
 
 /// The exit status for words that are wrong.
 const WRONG_WORDS: u8 = 2;
 
 /// Writes the fault on standard error, and returns its exit status. Where the fault can't be written, the status
 /// alone tells of it.
-fn report(rt: &impl Eprint, fault: OpFault) -> ExitCode {
+fn report(rt: &impl Eprint, fault: OpFault) -> ExitCode
+    ensures { exit_status result ≡ status_of fault }
+{
     let _ = eprintln!(rt; "kyoto-link: {fault}");
     ExitCode::from(fault.status())
-}
-
-fn show_node(rt: &HostRuntime, scheme: &str, folder: &str, node: &str) -> Result<(), OpFault> {
-    let scheme = scheme_at(rt, scheme)?;
-    let node = node_of(&scheme, node)?;
-    find_folder(rt, folder)?;
-    let mut store = open_store(rt, folder, node)?;
-    show(rt.alloc(), node, &mut store, &mut io::writer(rt))
-}
-
-fn audit_stores(rt: &HostRuntime, scheme: &str, folder: &str) -> Result<(), OpFault> {
-    let scheme = scheme_at(rt, scheme)?;
-    find_folder(rt, folder)?;
-    let mut stores = open_stores(rt, &scheme, folder)?;
-    let mut progress = ProgressLine::new(rt);
-    let done = audit_watched(
-        rt.alloc(),
-        &scheme,
-        stores.as_mut_slice(),
-        &mut io::writer(rt),
-        &mut progress,
-    );
-    progress.finished();
-    done
 }
 
 /// Does what the action says. `threads` is the same runtime, as one that may start threads, wait and open sockets.
@@ -64,27 +42,15 @@ fn act<R>(rt: &HostRuntime, threads: &R, action: &Action) -> Result<(), OpFault>
 where
     R: Threads + Wait + SystemClock + Net<Listener = TcpListener, Stream = TcpStream> + Sync,
 {
-    match action {
-        Action::Rehearse => rehearse(rt.alloc(), &mut rt.reader(), &mut io::writer(rt)),
-        Action::Chart => chart(rt.alloc(), &mut rt.reader(), &mut io::writer(rt)),
-        Action::Show {
-            scheme,
-            folder,
-            node,
-        } => show_node(rt, scheme.as_str(), folder.as_str(), node.as_str()),
-        Action::Audit { scheme, folder } => audit_stores(rt, scheme.as_str(), folder.as_str()),
-        Action::Run {
-            scheme,
-            folder,
-            script,
-        } => run_nodes(
-            rt,
-            threads,
-            scheme.as_str(),
-            folder.as_str(),
-            script.as_str(),
-        ),
-    }
+    perform(
+        threads,
+        rt.alloc(),
+        &SystemFiles { rt },
+        action,
+        &mut rt.reader(),
+        &mut io::writer(rt),
+        &Terminal { rt },
+    )
 }
 
 /// Writes help or the version on standard output.
@@ -96,7 +62,9 @@ fn write_help(rt: &HostRuntime, error: &Error) -> Result<(), OpFault> {
 }
 
 /// Writes on standard error what is wrong with the words: `clap`'s lines, each after the program's name.
-fn refuse(rt: &HostRuntime, error: &Error) -> ExitCode {
+fn refuse(rt: &HostRuntime, error: &Error) -> ExitCode
+    ensures { (exit_status result ≡ 2) ⊎ (exit_status result ≡ 5) }
+{
     let Ok(text) = format!(in rt.alloc(); "{error}") else {
         return report(rt, OpFault::NoMemory);
     };
@@ -109,7 +77,9 @@ fn refuse(rt: &HostRuntime, error: &Error) -> ExitCode {
 }
 
 /// The exit status of an action, whose fault is written on standard error.
-fn ended(rt: &HostRuntime, done: Result<(), OpFault>) -> ExitCode {
+fn ended(rt: &HostRuntime, done: Result<(), OpFault>) -> ExitCode
+    ensures { MatchResult done (λ _. exit_status result ≡ 0) (λ fault. exit_status result ≡ status_of fault) }
+{
     match done {
         Ok(()) => ExitCode::SUCCESS,
         Err(fault) => report(rt, fault),

@@ -1,5 +1,6 @@
 //! How far long work has come, for who waits at a terminal.
 
+use commands::Progress;
 use std::io::IsTerminal;
 use std::time::Instant;
 use units::Node;
@@ -200,5 +201,25 @@ impl<'a> Watch for RunLine<'a> {
     fn finished(&mut self) {
         self.pace.finished();
         self.after.finished();
+    }
+}
+
+/// The terminal, if standard error is one.
+#[derive(Clone, Copy)]
+pub(crate) struct Terminal<'a> {
+    pub(crate) rt: &'a HostRuntime,
+}
+
+impl<'a> Progress for Terminal<'a> {
+    type OfAudit = ProgressLine<'a>;
+
+    type OfRun = RunLine<'a>;
+
+    fn of_audit(&self) -> ProgressLine<'a> {
+        ProgressLine::new(self.rt)
+    }
+
+    fn of_run(&self, lines: usize) -> RunLine<'a> {
+        RunLine::new(self.rt, lines)
     }
 }

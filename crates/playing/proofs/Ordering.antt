@@ -33,7 +33,8 @@ use Rattle.scripts.specs.declared.line.ScriptLine.{ScriptLine}
 use Rattle.scripts.specs.declared.line.ScriptLine.TheVariants as line
 use Rattle.playing.specs.Answers.{asked_by, is_possible, node_of}
 use Rattle.playing.specs.Heard.{IsConfirmed}
-use Rattle.playing.specs.Orders.{Adds, AreInTurn, AreOrders, Ascend, HasOrders, HaveOrders, IsPlayed, IsRecordAt, IsRecordOf}
+use Rattle.playing.specs.Notes.{AreNotes, AreOfLines, IsNotedOf, IsOfLine}
+use Rattle.playing.specs.Orders.{Adds, AreInTurn, AreOrders, Ascend, HasOrders, HaveOrders, IsPlayed, IsRecordOf, Notes}
 use Rattle.playing.specs.declared.answer.Answer.{Answer}
 use Rattle.playing.specs.declared.answer.Answer.TheVariants.{NotPossible, Told as Answered}
 use Rattle.playing.proofs.HeardLines.{heard_none, last_or_before, take_more}
@@ -224,21 +225,31 @@ turns_more asked old new told turns a e =
         let first = here 0 (ticket one.0 one.1) (omega arith) in
         subst (λ (ts : List Ticket). Ascend (old.tickets ++ ts)) (sym one.3) (ascend_more old.tickets (ticket one.0 one.1) old.seen t.0 t.1 first.0)
 
-orders_more : (n : Node) (ls : List ScriptLine) (answers : List Answer) (records : List Ticket) (l : ScriptLine) (answer : Answer) (first : List Ticket) → length answers ≡ length ls → AreOrders n ls answers records → IsRecordAt n l answer first
-    → AreOrders n (ls ++ l ∷ []) (answers ++ answer ∷ []) (records ++ first)
-orders_more n [] [] records l answer first len none is = (first, [], ap (λ (ts : List Ticket). ts ++ first) none ∙ sym (append-nil first), is, refl)
-orders_more n [] (b ∷ bs) records l answer first len none is = absurd (omega (arith, len))
-orders_more n (m ∷ ms) [] records l answer first len none is = absurd (omega (arith, len))
-orders_more n (m ∷ ms) (b ∷ bs) records l answer first len h is =
-    (h.0, h.1 ++ first, ap (λ (ts : List Ticket). ts ++ first) h.2 ∙ append_assoc h.0 h.1 first, h.3, orders_more n ms bs h.1 l answer first (omega (arith, len)) h.4 is)
+lines_more : {T : Type 0} (Of : ScriptLine → Told → List T → Type 0) (n : Node) (ls : List ScriptLine) (answers : List Answer) (left : List T) (l : ScriptLine) (answer : Answer) (first : List T) → length answers ≡ length ls → AreOfLines Of n ls answers left
+    → IsOfLine Of n l answer first → AreOfLines Of n (ls ++ l ∷ []) (answers ++ answer ∷ []) (left ++ first)
+lines_more {T} Of n [] [] left l answer first len none is = (first, [], ap (λ (ts : List T). ts ++ first) none ∙ sym (append-nil first), is, refl)
+lines_more {T} Of n [] (b ∷ bs) left l answer first len none is = absurd (omega (arith, len))
+lines_more {T} Of n (m ∷ ms) [] left l answer first len none is = absurd (omega (arith, len))
+lines_more {T} Of n (m ∷ ms) (b ∷ bs) left l answer first len h is =
+    (h.0, h.1 ++ first, ap (λ (ts : List T). ts ++ first) h.2 ∙ append_assoc h.0 h.1 first, h.3, lines_more Of n ms bs h.1 l answer first (omega (arith, len)) h.4 is)
+
+-- a line that left nothing there
+no_more : {T : Type 0} (Of : ScriptLine → Told → List T → Type 0) (n : Node) (ls : List ScriptLine) (answers : List Answer) (left : List T) (l : ScriptLine) (answer : Answer) → length answers ≡ length ls → AreOfLines Of n ls answers left → IsOfLine Of n l answer []
+    → AreOfLines Of n (ls ++ l ∷ []) (answers ++ answer ∷ []) left
+no_more Of n ls answers left l answer len h is = subst (AreOfLines Of n (ls ++ l ∷ []) (answers ++ answer ∷ [])) (append-nil left) (lines_more Of n ls answers left l answer [] len h is)
+
+abbrev IsRecordOfLine : ScriptLine → Told → List Ticket → Type 0
+IsRecordOfLine l told = IsRecordOf (asked_by l) told
 
 -- ---- the seats of all nodes
 
-no_orders : (scheme : Scheme) (seats : List Heard) → All (λ (s : Heard). s.tickets ≡ []) seats → HaveOrders scheme [] [] seats
+no_orders : (scheme : Scheme) (seats : List Heard) → All (λ (s : Heard). (s.tickets ≡ []) × (s.notes ≡ [])) seats → HaveOrders scheme [] [] seats
 no_orders scheme seats none n at seat place is =
-    let empty : seat.tickets ≡ [] = subst (λ (s : Heard). s.tickets ≡ []) (get_or_from_slice_get seats at seat seat is) (none at seat (slice_get_within seats at seat is)) in
+    let nothing : (seat.tickets ≡ []) × (seat.notes ≡ []) = subst (λ (s : Heard). (s.tickets ≡ []) × (s.notes ≡ [])) (get_or_from_slice_get seats at seat seat is) (none at seat (slice_get_within seats at seat is)) in
+    let empty : seat.tickets ≡ [] = nothing.0 in
     record {
       orders = empty;
+      notes = nothing.1;
       ordered = subst (All IsOrdered) (sym empty) (All-nil IsOrdered);
       turns = λ e. (
         subst Ascend (sym empty) (λ i j t u under at_i at_j. absurd (cc (at_i))),
@@ -246,7 +257,7 @@ no_orders scheme seats none n at seat place is =
       );
     }
 
-pub played_none : (scheme : Scheme) (answers : List Answer) (seats : List Heard) → answers ≡ [] → All (λ (s : Heard). s.tickets ≡ []) seats → IsPlayed scheme [] answers seats
+pub played_none : (scheme : Scheme) (answers : List Answer) (seats : List Heard) → answers ≡ [] → All (λ (s : Heard). (s.tickets ≡ []) × (s.notes ≡ [])) seats → IsPlayed scheme [] answers seats
 played_none scheme answers seats none empty =
     subst (λ (given : List Answer). IsPlayed scheme [] given seats) (sym none) (record { heard = heard_none scheme seats; orders = no_orders scheme seats empty })
 
@@ -256,24 +267,26 @@ module _ (scheme : Scheme) (ls : List ScriptLine) (answers : List Answer) (seats
   orders_impossible n at seat place is =
       let h = have n at seat place is in
       record {
-        orders = subst (AreOrders n (ls ++ l ∷ []) (answers ++ NotPossible ∷ [])) (append-nil seat.tickets) (orders_more n ls answers seat.tickets l NotPossible [] len h.orders refl);
+        orders = no_more IsRecordOfLine n ls answers seat.tickets l NotPossible len h.orders refl;
+        notes = no_more IsNotedOf n ls answers seat.notes l NotPossible len h.notes refl;
         ordered = h.ordered;
         turns = h.turns;
       }
 
   -- a line that was asked at its node
-  module _ (told : Told) (at : ℕ) (old new : Heard) (was : slice_get seats at ≡ Some old) (place : place_of scheme (node_of l) ≡ Some at) (possible : is_possible scheme l ≡ true) (a : Adds (asked_by l) old new told) where
-    at_node : (n : Node) → place_of scheme n ≡ Some at → IsRecordAt n l (Answered told) a.records
-    at_node n place_n =
+  module _ (told : Told) (at : ℕ) (old new : Heard) (was : slice_get seats at ≡ Some old) (place : place_of scheme (node_of l) ≡ Some at) (possible : is_possible scheme l ≡ true) (a : Adds (asked_by l) old new told) (b : Notes (IsNotedOf l) old new told) where
+    at_node : {T : Type 0} (Of : ScriptLine → Told → List T → Type 0) (n : Node) (left : List T) → place_of scheme n ≡ Some at → Of l told left → IsOfLine Of n l (Answered told) left
+    at_node Of n left place_n is =
         let same : node_of l ≡ n = one_some (node_of l) n (sym (node_of_place scheme (node_of l) at place) ∙ node_of_place scheme n at place_n) in
-        ((λ its. a.is), (λ others. absurd (others same)))
+        ((λ its. is), (λ others. absurd (others same)))
 
     here : (n : Node) (seat : Heard) → place_of scheme n ≡ Some at → seat ≡ new → HasOrders n (ls ++ l ∷ []) (answers ++ Answered told ∷ []) seat
     here n seat place_n is =
         let h = have n at old place_n was in
         subst (HasOrders n (ls ++ l ∷ []) (answers ++ Answered told ∷ [])) (sym is)
         (record {
-          orders = subst (AreOrders n (ls ++ l ∷ []) (answers ++ Answered told ∷ [])) (sym a.tickets) (orders_more n ls answers old.tickets l (Answered told) a.records len h.orders (at_node n place_n));
+          orders = subst (AreOrders n (ls ++ l ∷ []) (answers ++ Answered told ∷ [])) (sym a.tickets) (lines_more IsRecordOfLine n ls answers old.tickets l (Answered told) a.records len h.orders (at_node IsRecordOfLine n a.records place_n a.is));
+          notes = subst (AreNotes n (ls ++ l ∷ []) (answers ++ Answered told ∷ [])) (sym b.added) (lines_more IsNotedOf n ls answers old.notes l (Answered told) b.notes len h.notes (at_node IsNotedOf n b.notes place_n b.is));
           ordered = subst (All IsOrdered) (sym a.tickets) (ordered_more scheme l old.tickets a.records h.ordered possible (one_at_most (asked_by l) told a.records a.is));
           turns = turns_more (asked_by l) old new told h.turns a;
         })
@@ -283,9 +296,8 @@ module _ (scheme : Scheme) (ls : List ScriptLine) (answers : List Answer) (seats
         let h = have n k seat place_n is in
         let differs : node_of l ≢ n = λ same. other (one_some k at (sym place_n ∙ (ap (place_of scheme) (sym same) ∙ place))) in
         record {
-          orders =
-              subst (AreOrders n (ls ++ l ∷ []) (answers ++ Answered told ∷ [])) (append-nil seat.tickets)
-              (orders_more n ls answers seat.tickets l (Answered told) [] len h.orders ((λ same. absurd (differs same)), (λ others. refl)));
+          orders = no_more IsRecordOfLine n ls answers seat.tickets l (Answered told) len h.orders ((λ same. absurd (differs same)), (λ others. refl));
+          notes = no_more IsNotedOf n ls answers seat.notes l (Answered told) len h.notes ((λ same. absurd (differs same)), (λ others. refl));
           ordered = h.ordered;
           turns = h.turns;
         }

@@ -1,4 +1,5 @@
 pub mod Answers
 pub mod Heard
+pub mod Notes
 pub mod Orders
 pub mod Wiring

@@ -1,5 +1,5 @@
--- Which records of a node are the orders of a script.
-use Rattle.std.specs.Prelude.{◌≡◌, ◌≢◌, ◌⊎◌, ◌≤◌, ◌<◌, ◌+◌, ℕ, true, All, List, [], ◌∷◌, ◌++◌, Some, slice_get}
+-- Which records of a node are the orders of a script, and what the seats of a script have.
+use Rattle.std.specs.Prelude.{◌≡◌, ◌⊎◌, ◌≤◌, ◌<◌, ◌+◌, ℕ, true, All, List, [], ◌∷◌, ◌++◌, Some, slice_get}
 use Rattle.units.specs.declared.code.Node.{Node}
 use Rattle.scheme.specs.declared.registries.Scheme.{Scheme}
 use Rattle.protocol.specs.Registries.{place_of}
@@ -9,15 +9,16 @@ use Rattle.desk.specs.Views.{Heard}
 use Rattle.desk.specs.declared.notes.Asked.{Asked}
 use Rattle.desk.specs.declared.notes.Asked.TheVariants.{Take}
 use Rattle.desk.specs.declared.notes.Lengths.TheVariants.{Grew}
+use Rattle.desk.specs.declared.notes.Note.{Note}
 use Rattle.desk.specs.declared.notes.Ticket.{Ticket}
 use Rattle.desk.specs.declared.notes.Told.{Told}
 use Rattle.desk.specs.declared.notes.Told.TheVariants.{Step, Refused}
 use Rattle.sessions.specs.Orders.{was_ordered}
 use Rattle.scripts.specs.declared.line.ScriptLine.{ScriptLine}
-use Rattle.playing.specs.Answers.{asked_by, node_of}
+use Rattle.playing.specs.Answers.{asked_by}
 use Rattle.playing.specs.Heard.{AreHeard}
+use Rattle.playing.specs.Notes.{AreNotes, AreOfLines}
 use Rattle.playing.specs.declared.answer.Answer.{Answer}
-use Rattle.playing.specs.declared.answer.Answer.TheVariants.{NotPossible, Told as Answered}
 
 -- what is recorded of what is asked: an order that is told as recorded, at its place; and an order may have been recorded
 -- that a node had taken when it stopped
@@ -26,15 +27,9 @@ IsRecordOf (Take input) (Step (Recorded place)) records = records ≡ record { p
 IsRecordOf (Take input) (Refused refusal) records = (records ≡ []) ⊎ ((refusal ≡ stopped) × ((place : ℕ) × (records ≡ record { place = place; input = input } ∷ [])))
 IsRecordOf asked told records = records ≡ []
 
--- what a node records of a line: nothing, where the line is another node's or isn't possible
-abbrev pub IsRecordAt : Node → ScriptLine → Answer → List Ticket → Type 0
-IsRecordAt n l NotPossible records = records ≡ []
-IsRecordAt n l (Answered told) records = (node_of l ≡ n → IsRecordOf (asked_by l) told records) × (node_of l ≢ n → records ≡ [])
-
 -- the records are the orders of the script to the node, in the script's order, each once
 abbrev pub AreOrders : Node → List ScriptLine → List Answer → List Ticket → Type 0
-AreOrders n (l ∷ ls) (answer ∷ answers) records = (first : List Ticket) × (rest : List Ticket) × (records ≡ first ++ rest) × IsRecordAt n l answer first × AreOrders n ls answers rest
-AreOrders n _ _ records = records ≡ []
+AreOrders n lines answers records = AreOfLines (λ l told. IsRecordOf (asked_by l) told) n lines answers records
 
 -- ---- what the seats of a script have
 
@@ -46,9 +41,10 @@ Ascend tickets = (i j : ℕ) (t u : Ticket) → i < j → slice_get tickets i �
 abbrev pub AreInTurn : Heard → Type 0
 AreInTurn seat = seat.lengths ≡ Grew → Ascend seat.tickets × All (λ (t : Ticket). t.place < seat.seen) seat.tickets
 
--- the seat's records are the orders of the lines to that node, in their order
+-- the seat's records are the orders of the lines to that node, in their order, and its notes are what else was told there
 pub record HasOrders (n : Node) (lines : List ScriptLine) (answers : List Answer) (seat : Heard) : Type 0 where
   pub orders : AreOrders n lines answers seat.tickets
+  pub notes : AreNotes n lines answers seat.notes
   pub ordered : All (λ (t : Ticket). was_ordered t.input ≡ true) seat.tickets
   pub turns : AreInTurn seat
 
@@ -69,3 +65,9 @@ pub record Adds (asked : Asked) (old new : Heard) (told : Told) : Type 0 where
   pub tickets : new.tickets ≡ old.tickets ++ records
   pub is : IsRecordOf asked told records
   pub grew : new.lengths ≡ Grew → (old.lengths ≡ Grew) × (old.seen ≤ new.seen) × All (λ (t : Ticket). (old.seen ≤ t.place + 1) × (t.place < new.seen)) records
+
+-- the notes that one question more leaves in a seat
+pub record Notes (Of : Told → List Note → Type 0) (old new : Heard) (told : Told) : Type 0 where
+  pub notes : List Note
+  pub added : new.notes ≡ old.notes ++ notes
+  pub is : Of told notes

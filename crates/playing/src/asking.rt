@@ -1,9 +1,10 @@
 //! One line of a script, at the desk of its node.
-ghost use Rattle.std.specs.Prelude.{◌≡◌, ◌<◌, length};
+ghost use Rattle.std.specs.Prelude.{◌≡◌, ◌≢◌, ◌⊎◌, ◌<◌, true, false, length, Some};
 ghost use Rattle.answers.specs.Answers.{is_without_journal};
 ghost use Rattle.playing.specs.Answers.{asked_by};
 ghost use Rattle.playing.specs.Heard.{Grows, HasHeard, IsConfirmed};
-ghost use Rattle.playing.specs.Orders.{Adds};
+ghost use Rattle.playing.specs.Notes.{IsAwaited, IsNoted, IsNotedOf};
+ghost use Rattle.playing.specs.Orders.{Adds, Notes};
 
 use crate::watch::{Watch, tell_committed};
 use desk::{Asked, Bell, Desk, Opening, Seat, Taken, Told};
@@ -66,6 +67,7 @@ fn order<O: Opening, C: NodeCore, S: NodeStore, B: Bell, R: Wait + SystemClock>(
     ensures heard { HasHeard seat.new (Asked.Take input) result }
     ensures grows { Grows seat.old seat.new }
     ensures adds { Adds (Asked.Take input) seat.old seat.new result }
+    ensures notes { Notes (IsNoted (Asked.Take input)) seat.old seat.new result }
 {
     let taken = desk.take(rt, seat, input);
     confirmed(rt, desk, seat, taken)
@@ -81,6 +83,7 @@ fn order_copy<O: Opening, C: NodeCore, S: NodeStore, B: Bell, R: Wait + SystemCl
     ensures heard { HasHeard seat.new (Asked.Take input.now) result }
     ensures grows { Grows seat.old seat.new }
     ensures adds { Adds (Asked.Take input.now) seat.old seat.new result }
+    ensures notes { Notes (IsNoted (Asked.Take input.now)) seat.old seat.new result }
 {
     match input.copy() {
         Ok(input) => order(rt, desk, seat, input),
@@ -98,17 +101,20 @@ fn question<O: Opening, C: NodeCore, S: NodeStore, B: Bell, R: Wait + SystemCloc
     ensures heard { HasHeard seat.new (Asked.Query id) result }
     ensures grows { Grows seat.old seat.new }
     ensures adds { Adds (Asked.Query id) seat.old seat.new result }
+    ensures notes { Notes (IsNoted (Asked.Query id)) seat.old seat.new result }
 {
     let taken = desk.query(rt, seat, id);
     confirmed(rt, desk, seat, taken)
 }
 
-/// Whether there is nothing more to wait for: the transaction has the status, or the node has stopped.
-fn is_over(told: Told, status: Status) -> bool {
+/// Whether there is nothing more to wait for: the transaction has the status, or no journal judged the question.
+fn is_over(told: Told, status: Status) -> bool
+    ensures over { result ≡ true → (told ≡ Told.Status (Some status)) ⊎ (is_without_journal told ≡ true) }
+    ensures waits { result ≡ false → (told ≢ Told.Status (Some status)) × (is_without_journal told ≡ false) }
+{
     match told {
         Told::Status(found) => found == Some(status),
-        Told::Refused(refusal) => refusal.code == NODE_STOPPED,
-        Told::Step(_) => false,
+        _ => is_unjudged(told),
     }
 }
 
@@ -121,7 +127,7 @@ struct Awaited {
 }
 
 /// Asks where the transaction stands until it has that status, at most that many times, and returns what was told
-/// last. A stopped node isn't asked again.
+/// last. Where no journal judged it, since the node had stopped or memory ran out, it isn't asked again.
 fn question_until<O: Opening, C: NodeCore, S: NodeStore, B: Bell, P: Watch, R: Wait + SystemClock>(
     rt: &R,
     desks: &[Desk<O, C, S, B>],
@@ -134,9 +140,10 @@ fn question_until<O: Opening, C: NodeCore, S: NodeStore, B: Bell, P: Watch, R: W
     ensures heard { HasHeard seat.new (Asked.Query awaited.id) result }
     ensures grows { Grows seat.old seat.new }
     ensures adds { Adds (Asked.Query awaited.id) seat.old seat.new result }
+    ensures notes { Notes (IsAwaited awaited.id awaited.status awaited.turns) seat.old seat.new result }
 {
     let mut told = question(rt, &desks[at], seat, awaited.id);
-    for _ in 1..awaited.turns {
+    for asked in 1..awaited.turns {
         if is_over(told, awaited.status) {
             break;
         }
@@ -160,6 +167,7 @@ pub(crate) fn ask<O: Opening, C: NodeCore, S: NodeStore, B: Bell, P: Watch, R: W
     ensures heard { HasHeard seat.new (asked_by line.now) result }
     ensures grows { Grows seat.old seat.new }
     ensures adds { Adds (asked_by line.now) seat.old seat.new result }
+    ensures notes { Notes (IsNotedOf line.now) seat.old seat.new result }
 {
     match line {
         ScriptLine::Order { input, .. } => order_copy(rt, &desks[at], seat, input),

@@ -103,7 +103,7 @@ pub(crate) fn play_all<
 ) -> Result<Vec<Answer>, NoMemory>
     requires desks { length desks.now ≡ length (nodes scheme.now) }
     requires seats { length seats.old ≡ length (nodes scheme.now) }
-    requires none { All (λ s. s.tickets ≡ []) seats.old }
+    requires none { All (λ s. (s.tickets ≡ []) × (s.notes ≡ [])) seats.old }
     ensures played { IfOk result (λ v. IsPlayed scheme.now lines.now v.items seats.new) }
     ensures count { length seats.new ≡ length seats.old }
 {

@@ -81,7 +81,7 @@ where
 /// That many seats that were told nothing.
 fn new_seats(alloc: Global, count: usize) -> Result<Vec<Seat>, NoMemory>
     ensures len { IfOk result (λ v. vec_len v ≡ count) }
-    ensures none { IfOk result (λ v. All (λ s. s.tickets ≡ []) v.items) }
+    ensures none { IfOk result (λ v. All (λ s. (s.tickets ≡ []) × (s.notes ≡ [])) v.items) }
 {
     let mut seats = Vec::new(alloc);
     for made in 0..count {

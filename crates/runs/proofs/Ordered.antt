@@ -21,7 +21,8 @@ use Rattle.desk.specs.declared.notes.Told.TheVariants.{Step, Status, Refused}
 use Rattle.sessions.specs.Orders.{HasNoOrder, was_ordered}
 use Rattle.scripts.specs.declared.line.ScriptLine.{ScriptLine}
 use Rattle.playing.specs.Answers.{asked_by, node_of}
-use Rattle.playing.specs.Orders.{AreOrders, Ascend, HasOrders, IsRecordAt, IsRecordOf}
+use Rattle.playing.specs.Notes.{IsOfLine}
+use Rattle.playing.specs.Orders.{AreOrders, Ascend, HasOrders, IsRecordOf}
 use Rattle.playing.specs.declared.answer.Answer.{Answer}
 use Rattle.playing.specs.declared.answer.Answer.TheVariants.{NotPossible, Told as Answered}
 use Rattle.runs.specs.Runs.{ordered_from, orders_of}
@@ -252,6 +253,9 @@ one_or_none count t = either (nat_lt t.place count)
 
 -- ---- the orders of the lines, as far as they are committed
 
+abbrev IsRecordOfLine : ScriptLine → Told → List Ticket → Type 0
+IsRecordOfLine l told = IsRecordOf (asked_by l) told
+
 module _ (count : ℕ) where
   record_within : (asked : Asked) (told : Told) (ts : List Ticket) → ((input : Input) (place : ℕ) → asked ≡ Take input → told ≡ Step (Recorded place) → place < count) → IsRecordOf asked told ts → IsRecordOf asked told (within count ts)
   record_within (Take input) (Step (Recorded place)) ts low is = ap (within count) is ∙ one_within count (record { place = place; input = input }) (low input place refl refl)
@@ -267,7 +271,7 @@ module _ (count : ℕ) where
   record_within (Query id) told ts low is = ap (within count) is
 
   at_node_within : (n : Node) (l : ScriptLine) (answer : Answer) (ts : List Ticket)
-      → ((input : Input) (place : ℕ) → node_of l ≡ n → asked_by l ≡ Take input → answer ≡ Answered (Step (Recorded place)) → place < count) → IsRecordAt n l answer ts → IsRecordAt n l answer (within count ts)
+      → ((input : Input) (place : ℕ) → node_of l ≡ n → asked_by l ≡ Take input → answer ≡ Answered (Step (Recorded place)) → place < count) → IsOfLine IsRecordOfLine n l answer ts → IsOfLine IsRecordOfLine n l answer (within count ts)
   at_node_within n l NotPossible ts low is = ap (within count) is
   at_node_within n l (Answered told) ts low is = (
     (λ here. record_within (asked_by l) told ts (λ input place asked same. low input place here asked (ap Answered same)) (is.0 here)),

@@ -1,3 +1,4 @@
+use crate::named::{block, id};
 use crate::same::assert_same;
 use accounts::{HeldBlock, Holdings};
 use status::TransactionId;
@@ -7,14 +8,6 @@ use units::{Block, NoMemory, Refusal};
 
 fn refusal(code: u16) -> Result<(), Refusal> {
     Err(Refusal { code })
-}
-
-fn block(rt: &impl Abort, text: &str) -> Block {
-    Block::read(text).expect(rt, "a block")
-}
-
-fn id(rt: &impl Abort, text: &str) -> TransactionId {
-    TransactionId::read(text).expect(rt, "an identifier")
 }
 
 /// A line of account 1.
@@ -76,21 +69,29 @@ fn assert_removed(rt: &impl Abort, holdings: &mut Holdings, id: TransactionId, f
     assert_same(rt, holdings.free_count(1), free);
 }
 
+/// An account, a block, and the code by which an order of the block from the account is refused, where the first sixty of
+/// a hundred units are reserved.
+const REFUSED: &[(u64, &str, u16)] = &[
+    (1, "NZ:1:60-61:AAU", 106),
+    (1, "NZ:1:100-101:AAU", 105),
+    (1, "NZ:1:61-61:CER", 105),
+    (2, "NZ:1:1-60:AAU", 105),
+    (3, "NZ:1:1-60:AAU", 104),
+];
+
+fn assert_all_refused(rt: &impl Abort, holdings: &mut Holdings) {
+    for (account, text, code) in REFUSED {
+        assert_refused(rt, holdings, *account, text, *code);
+    }
+}
+
 #[test]
 fn holdings_are_reserved_once(rt: HostRuntime) {
     let first = id(&rt, "NZ1");
     let sixty = [block(&rt, "NZ:1:1-60:AAU")];
     let mut holdings = hundred(&rt, rt.alloc());
     assert_reserved(&rt, &mut holdings, &sixty, first, 40);
-    for (account, text, code) in [
-        (1, "NZ:1:60-61:AAU", 106),
-        (1, "NZ:1:100-101:AAU", 105),
-        (1, "NZ:1:61-61:CER", 105),
-        (2, "NZ:1:1-60:AAU", 105),
-        (3, "NZ:1:1-60:AAU", 104),
-    ] {
-        assert_refused(&rt, &mut holdings, account, text, code);
-    }
+    assert_all_refused(&rt, &mut holdings);
     assert_released(&rt, &mut holdings, id(&rt, "NZ2"), 40);
     assert_released(&rt, &mut holdings, first, 100);
     drop(holdings);

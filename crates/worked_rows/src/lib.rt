@@ -22,6 +22,8 @@ mod logs;
 #[cfg(test)]
 mod message_rows;
 #[cfg(test)]
+mod named;
+#[cfg(test)]
 mod outbox_rows;
 #[cfg(test)]
 mod part_rows;

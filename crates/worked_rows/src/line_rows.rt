@@ -1,26 +1,11 @@
 use crate::message_rows::{NOTIFICATION, PROPOSAL, REQUEST, assert_written};
 use crate::same::assert_same;
-use std::alloc::{AllocError, Global};
+use std::alloc::Global;
 use std::process::Abort;
 use stream_lines::{Line, LineFault, Splitter, Truncated};
 use units::Items;
 
 const LIMIT: usize = 8192;
-
-fn texts<'a>(
-    alloc: Global,
-    first: &'a [Line],
-    second: &'a [Line],
-) -> Result<Vec<&'a [u8]>, AllocError> {
-    let mut texts = Vec::new(alloc);
-    for line in first {
-        texts.push(line.as_slice())?;
-    }
-    for line in second {
-        texts.push(line.as_slice())?;
-    }
-    Ok(texts)
-}
 
 /// What `feed` returns, by how many lines it returns.
 #[derive(Clone, Copy, PartialEq, Eq, Debug)]
@@ -153,11 +138,18 @@ fn a_stream_that_ends_within_a_line(rt: HostRuntime) {
     assert_same(&rt, splitter.finish(), Err(Truncated));
 }
 
-/// The lines of both are `Proposed NZ7` and `Accepted`.
-fn assert_texts(rt: &impl Abort, alloc: Global, first: &[Line], second: &[Line]) {
-    let texts = texts(alloc, first, second).expect(rt, "memory");
-    let wanted = [b"Proposed NZ7".as_slice(), b"Accepted".as_slice()];
-    assert!(rt; texts.as_slice() == wanted.as_slice());
+const TWO_LINES: &[&[u8]] = &[b"Proposed NZ7", b"Accepted"];
+
+/// The lines of the first piece and then of the second are these two.
+fn assert_texts(rt: &impl Abort, first: &[Line], second: &[Line]) {
+    assert!(rt; first.len() <= TWO_LINES.len());
+    assert_same(rt, second.len(), TWO_LINES.len() - first.len());
+    for (line, text) in first.iter().zip(TWO_LINES) {
+        assert_same(rt, line.as_slice(), *text);
+    }
+    for (line, text) in second.iter().zip(&TWO_LINES[first.len()..]) {
+        assert_same(rt, line.as_slice(), *text);
+    }
 }
 
 /// A stream of these two pieces has the two lines.
@@ -165,7 +157,7 @@ fn assert_two_lines(rt: &impl Abort, alloc: Global, before: &[u8], after: &[u8])
     let mut splitter = Splitter::new(alloc, LIMIT);
     let first = lines_of(rt, &mut splitter, before);
     let second = lines_of(rt, &mut splitter, after);
-    assert_texts(rt, alloc, first.as_slice(), second.as_slice());
+    assert_texts(rt, first.as_slice(), second.as_slice());
     drop(first);
     drop(second);
     assert_same(rt, splitter.finish(), Ok(()));
@@ -201,14 +193,17 @@ fn assert_one_line(rt: &impl Abort, alloc: Global, before: &[u8], after: &[u8], 
     assert_same(rt, splitter.finish(), Ok(()));
 }
 
+fn assert_cut_everywhere(rt: &impl Abort, alloc: Global, text: &str) {
+    let mut stream = Vec::from_slice(alloc, text.as_bytes()).expect(rt, "memory");
+    stream.push(b'\n').expect(rt, "memory");
+    for cut in 0..=stream.len() {
+        assert_one_line(rt, alloc, &stream[..cut], &stream[cut..], text);
+    }
+}
+
 #[test]
 fn a_message_in_two_pieces(rt: HostRuntime) {
-    let alloc = rt.alloc();
     for text in [PROPOSAL, NOTIFICATION, REQUEST] {
-        let mut stream = Vec::from_slice(alloc, text.as_bytes()).expect(&rt, "memory");
-        stream.push(b'\n').expect(&rt, "memory");
-        for cut in 0..=stream.len() {
-            assert_one_line(&rt, alloc, &stream[..cut], &stream[cut..], text);
-        }
+        assert_cut_everywhere(&rt, rt.alloc(), text);
     }
 }

@@ -1,8 +1,9 @@
+use crate::named::{block, code, id};
 use crate::same::assert_same;
-use status::{Content, TransactionId};
+use status::Content;
 use std::alloc::Global;
 use std::process::Abort;
-use units::{Block, Code, Items, Node, Refusal};
+use units::{Code, Items, Node, Refusal};
 use wire::{
     AcquirerCodes, LogCodes, Message, Notification, NotifiedStatus, Proposal, ProposalStatus,
     Request, decode, encode,
@@ -28,14 +29,6 @@ fn changed(rt: &impl Abort, alloc: Global, text: &str, old: &str, new: &str) -> 
     let (before, after) = text.split_once(old).expect(rt, "it stands there");
     assert!(rt; !after.contains(old));
     format!(in alloc; "{before}{new}{after}").expect(rt, "memory")
-}
-
-fn code(rt: &impl Abort, text: &str) -> Code {
-    Code::read(text).expect(rt, "a code")
-}
-
-fn id(rt: &impl Abort, text: &str) -> TransactionId {
-    TransactionId::read(text).expect(rt, "an identifier")
 }
 
 fn rejected(rt: &impl Abort, alloc: Global, codes: &[u16]) -> NotifiedStatus {
@@ -71,8 +64,7 @@ fn request(rt: &impl Abort, from: Node) -> Message {
 fn content(rt: &impl Abort, alloc: Global, acquirer: Code) -> Content {
     let mut blocks = Vec::new(alloc);
     for text in ["NZ:1:1-100:AAU", "CH:2:5-999999999999999:lCER"] {
-        let block = Block::read(text).expect(rt, "a block");
-        blocks.push(block).expect(rt, "memory");
+        blocks.push(block(rt, text)).expect(rt, "memory");
     }
     let made = Content::new(999_999_999, acquirer, 7, Items::from_vec(blocks));
     made.expect(rt, "a content")

@@ -86,16 +86,20 @@ fn reads_each_line(rt: HostRuntime) -> Result<(), Fail> {
     Ok(())
 }
 
+/// The text is a line of that kind.
+fn assert_kind(rt: &impl Abort, alloc: Global, text: &str, kind: Kind) {
+    let line = script_line_of(alloc, text.as_bytes()).expect(rt, "a line");
+    assert_same(rt, kind_of(&line), kind);
+    drop(line);
+}
+
 #[test]
-fn reads_a_line_by_itself(rt: HostRuntime) -> Result<(), Fail> {
+fn reads_a_line_by_itself(rt: HostRuntime) {
     for (text, kind) in LINES.lines().zip(KINDS) {
-        let line = script_line_of(rt.alloc(), text.as_bytes()).map_err(|_| "no line")?;
-        assert_same(&rt, kind_of(&line), *kind);
-        drop(line);
+        assert_kind(&rt, rt.alloc(), text, *kind);
     }
     let fault = script_line_of(rt.alloc(), b"ack NZ 0").err();
     assert_same(&rt, fault, Some(LineFault::Order));
-    Ok(())
 }
 
 const FAULTS: &[(&str, u64, Cause)] = &[

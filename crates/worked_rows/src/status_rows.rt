@@ -1,3 +1,4 @@
+use crate::named::code;
 use crate::same::{assert_same, assert_same_in};
 use status::{
     Content, Moment, MomentFault, Order, RecordedStatus, Role, Row, RowInput, Status,
@@ -8,10 +9,6 @@ use std::process::Abort;
 use units::{Block, Code, Items, Kind, Period, RawBlock};
 
 const TOO_LONG: u64 = 1_000_000_000_000_000_000;
-
-fn code(rt: &impl Abort, text: &str) -> Code {
-    Code::read(text).expect(rt, "a code")
-}
 
 /// A content of an account, an acquirer, its account, and blocks.
 fn content(

@@ -1,10 +1,11 @@
 use crate::cores::{ROOM, walk};
 use crate::given::Given::{self, Event, Message};
+use crate::named::{id, unit};
 use crate::registries::registry;
 use crate::same::{assert_same, assert_same_in};
 use crate::worlds::{
     Line, assert_bag, assert_journal, assert_no_registry, assert_owed, assert_stands,
-    assert_stocks, assert_transfers, assert_unit, id, unit, world_of,
+    assert_stocks, assert_transfers, assert_unit, world_of,
 };
 use protocol::Outcome::{Recorded, Refused};
 use registry_core::RegistryCore;

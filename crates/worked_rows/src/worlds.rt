@@ -2,14 +2,15 @@
 
 use crate::cores::{ROOM, assert_text, scheme};
 use crate::given::{Given, input_of};
+use crate::named::{block, code, id, node, unit};
 use crate::same::{assert_same, assert_same_in};
 use accounts::HeldBlock;
 use event_lines::event_of;
 use protocol::WorldEvent;
-use status::{Status, TransactionId};
+use status::Status;
 use std::alloc::Global;
 use std::process::Abort;
-use units::{Block, Code, Node, Unit};
+use units::Node;
 use wire::{Input, Proposal};
 use world::World;
 
@@ -33,24 +34,6 @@ pub fn world_of(rt: &impl Abort, alloc: Global, lines: &[&str]) -> World {
     drop(events);
     drop(scheme);
     world
-}
-
-fn code(rt: &impl Abort, text: &str) -> Code {
-    Code::read(text).expect(rt, "a code")
-}
-
-fn node(rt: &impl Abort, text: &str) -> Node {
-    Node::read(text).expect(rt, "a node")
-}
-
-/// The identifier of that text.
-pub fn id(rt: &impl Abort, text: &str) -> TransactionId {
-    TransactionId::read(text).expect(rt, "an identifier")
-}
-
-/// The first unit of that block.
-pub fn unit(rt: &impl Abort, block: &str) -> Unit {
-    Block::read(block).expect(rt, "a block").first_unit()
 }
 
 /// Asserts where the transaction stands at these nodes.
@@ -114,10 +97,10 @@ pub fn assert_bag(
 }
 
 fn held_block(rt: &impl Abort, line: Line) -> HeldBlock {
-    let (account, block, reserving) = line;
+    let (account, text, reserving) = line;
     HeldBlock {
         account,
-        block: Block::read(block).expect(rt, "a block"),
+        block: block(rt, text),
         reserving: reserving.map(|text| id(rt, text)),
     }
 }

@@ -1,4 +1,5 @@
 use Rattle.playing.proofs.HeardLines.{heard_line}
+use Rattle.playing.proofs.Noting.{notes_line}
 use Rattle.playing.proofs.Ordering.{adds_line}
 use Rattle.playing.proofs.asking.ask.Goals as goal
 
@@ -19,3 +20,12 @@ returns-in-Status-clause-adds g c = adds_line _ _ c.args.seat.now c.question.new
 
 pub returns-in-Until-clause-adds : goal.returns-in-Until-clause-adds
 returns-in-Until-clause-adds g c = adds_line _ _ c.args.seat.now c.question_until.new.seat _ c.in-Until.is c.question_until.ensures.adds
+
+pub returns-in-Order-clause-notes : goal.returns-in-Order-clause-notes
+returns-in-Order-clause-notes g c = notes_line _ _ c.args.seat.now c.order_copy.new.seat _ c.in-Order.is c.order_copy.ensures.notes
+
+pub returns-in-Status-clause-notes : goal.returns-in-Status-clause-notes
+returns-in-Status-clause-notes g c = notes_line _ _ c.args.seat.now c.question.new.seat _ c.in-Status.is c.question.ensures.notes
+
+pub returns-in-Until-clause-notes : goal.returns-in-Until-clause-notes
+returns-in-Until-clause-notes g c = notes_line _ _ c.args.seat.now c.question_until.new.seat _ c.in-Until.is c.question_until.ensures.notes

@@ -1,4 +1,5 @@
 use Rattle.playing.proofs.Hearing.{grows_asked, heard_order}
+use Rattle.playing.proofs.Noting.{notes_asked}
 use Rattle.playing.proofs.Ordering.{adds_order}
 use Rattle.playing.proofs.asking.order.Goals as goal
 
@@ -10,3 +11,6 @@ returns-clause-heard g c = heard_order c.args.seat.now c.take-taken.new.seat c.c
 
 pub returns-clause-adds : goal.returns-clause-adds
 returns-clause-adds g c = adds_order c.args.seat.now c.take-taken.new.seat c.confirmed.new.seat _ _ _ c.take-taken.ensures.asked c.take-taken.ensures.told c.take-taken.ensures.seat c.confirmed.ensures
+
+pub returns-clause-notes : goal.returns-clause-notes
+returns-clause-notes g c = notes_asked c.args.seat.now c.take-taken.new.seat c.confirmed.new.seat _ _ _ c.take-taken.ensures.asked c.take-taken.ensures.seat c.confirmed.ensures

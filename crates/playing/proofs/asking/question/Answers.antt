@@ -1,4 +1,5 @@
 use Rattle.playing.proofs.Hearing.{grows_asked, heard_question}
+use Rattle.playing.proofs.Noting.{notes_asked}
 use Rattle.playing.proofs.Ordering.{adds_question}
 use Rattle.playing.proofs.asking.question.Goals as goal
 
@@ -10,3 +11,6 @@ returns-clause-heard g c = heard_question c.args.seat.now c.query-taken.new.seat
 
 pub returns-clause-adds : goal.returns-clause-adds
 returns-clause-adds g c = adds_question c.args.seat.now c.query-taken.new.seat c.confirmed.new.seat _ _ _ c.query-taken.ensures.asked c.query-taken.ensures.seat c.confirmed.ensures
+
+pub returns-clause-notes : goal.returns-clause-notes
+returns-clause-notes g c = notes_asked c.args.seat.now c.query-taken.new.seat c.confirmed.new.seat _ _ _ c.query-taken.ensures.asked c.query-taken.ensures.seat c.confirmed.ensures

@@ -33,7 +33,7 @@ returns-in-Some-clause-orders g c =
     let place = c.in-Some.ensures.some in
     let low : c.in-Some.at < length c.args.seats.now = omega (arith, place.1, c.requires.seats) in
     λ lines answers len have. orders_asked c.args.scheme.now lines answers c.args.seats.now c.args.line.now len have c.ask.result c.in-Some.at _ c.ask.new.seat
-    (slice_get-get_or c.args.seats.now c.in-Some.at _ low) place.0 place.2 c.ask.ensures.adds
+    (slice_get-get_or c.args.seats.now c.in-Some.at _ low) place.0 place.2 c.ask.ensures.adds c.ask.ensures.notes
 
 pub returns-in-None-clause-orders : goal.returns-in-None-clause-orders
 returns-in-None-clause-orders g c = λ lines answers len have. orders_impossible c.args.scheme.now lines answers c.args.seats.now c.args.line.now len have

@@ -1,0 +1,26 @@
+-- Stores that are closed one after another, and what came of a run before that.
+use Rattle.std.proofs.Common.{◌≡◌, ◌∙◌, ◌∷◌, ◌++◌, ℕ, List, [], Some, Result, Ok, Err, IfOk, append-nil, append_assoc, arith, ap, length, refl, sym}
+use Rattle.std.specs.Prelude.{slice_get}
+
+-- the first of those that are left is done
+pub one_done : {X : Type 0} (all done left rest : List X) (x : X) → all ≡ done ++ left → left ≡ x ∷ rest → all ≡ (done ++ x ∷ []) ++ rest
+one_done {X} all done left rest x split is = split ∙ (ap (λ (xs : List X). done ++ xs) is ∙ sym (append_assoc done (x ∷ []) rest))
+
+after_done : {X : Type 0} (done rest : List X) (x : X) → slice_get (done ++ x ∷ rest) (length done) ≡ Some x
+after_done [] rest x = refl
+after_done (y ∷ ys) rest x = after_done ys rest x
+
+-- where it stands
+pub at_next : {X : Type 0} (all done left rest : List X) (x : X) → all ≡ done ++ left → left ≡ x ∷ rest → slice_get all (length done) ≡ Some x
+at_next {X} all done left rest x split is = ap (λ (xs : List X). slice_get xs (length done)) (split ∙ ap (λ (xs : List X). done ++ xs) is) ∙ after_done done rest x
+
+-- none is left
+pub all_done : {X : Type 0} (all done left : List X) → all ≡ done ++ left → length left ≡ 0 → all ≡ done
+all_done all done [] split none = split ∙ append-nil done
+all_done all done (x ∷ xs) split none = absurd (omega (arith, none))
+
+-- ---- results
+
+pub both_ok : {T E : Type 0} {P Q R : T → Type 0} (r : Result T E) → ((x : T) → P x → Q x → R x) → IfOk r P → IfOk r Q → IfOk r R
+both_ok (Ok x) f p q = f x p q
+both_ok (Err e) f p q = tt

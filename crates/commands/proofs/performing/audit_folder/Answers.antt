@@ -1,0 +1,43 @@
+use Rattle.std.proofs.Common.{◌∙◌, ap, inl, inr, length, sym}
+use Rattle.std.proofs.lemmas.Result.{err_from_is_err_and}
+use Rattle.protocol.specs.Registries.{nodes}
+use Rattle.runs.proofs.Written.{if_err, keeps_same, on_ok}
+use Rattle.commands.proofs.InFolder.{count_of}
+use Rattle.commands.proofs.performing.audit_folder.Goals as goal
+
+pub returns-in_err-stores-clause-err : goal.returns-in_err-stores-clause-err
+returns-in_err-stores-clause-err g c =
+    let p = err_from_is_err_and c.from_residual-in_err-stores.result c.from_residual-in_err-stores.ensures.1 in
+    let scheme = c.in_ok-scheme in
+    rw (p.1, p.2) (inr (scheme.scheme, scheme.ensures.ok, inr (inl (c.in_err-stores.ensures.err, keeps_same _))))
+
+pub audit_watched-done-requires : goal.audit_watched-done-requires
+audit_watched-done-requires g c =
+    ap (λ l. length l) c.as_mut_slice.ensures.value
+    ∙ count_of g.A.Archive c.args.archive.now g.A.Store.NodeStore c.args.folder.now (nodes c.in_ok-scheme.scheme) c.in_ok-stores.stores.items c.in_ok-stores.ensures.ok
+
+pub returns-clause-ok : goal.returns-clause-ok
+returns-clause-ok g c =
+    let value = c.as_mut_slice.ensures.value in
+    on_ok c.audit_watched-done.result
+    (λ h. record {
+      scheme = c.in_ok-scheme.scheme;
+      has_scheme = c.in_ok-scheme.ensures.ok;
+      stores = c.in_ok-stores.stores.items;
+      left = c.audit_watched-done.new.stores;
+      opened = c.in_ok-stores.ensures.ok;
+      table = h.0;
+      audits = rw (sym value) h.1;
+      unwritten = rw (sym value) c.audit_watched-done.ensures.unwritten;
+      written = h.2;
+    })
+    c.audit_watched-done.ensures.ok
+
+pub returns-clause-err : goal.returns-clause-err
+returns-clause-err g c =
+    let value = c.as_mut_slice.ensures.value in
+    let scheme = c.in_ok-scheme in
+    let stores = c.in_ok-stores in
+    if_err c.audit_watched-done.result
+    (λ e h. inr (scheme.scheme, scheme.ensures.ok, inr (inr (stores.stores.items, c.audit_watched-done.new.stores, stores.ensures.ok, rw (sym value) h, rw (sym value) c.audit_watched-done.ensures.unwritten))))
+    c.audit_watched-done.ensures.err

@@ -1,0 +1,56 @@
+use Rattle.std.proofs.Common.{◌≡◌, ◌∙◌, ◌++◌, ◌∷◌, List, [], ap, arith, length, subst, sym, OnOk}
+use Rattle.std.proofs.lemmas.List.Elements.{All-push}
+use Rattle.desk.specs.Keeping.{Keeping}
+use Rattle.inputs.specs.Faults.{of_store}
+use Rattle.runs.proofs.Written.{on_ok}
+use Rattle.commands.specs.Commands.{AreClosed}
+use Rattle.commands.proofs.Closing.{all_done, at_next, one_done}
+use Rattle.commands.proofs.running.close_stores.Goals as goal
+
+pub loop-stored-preserved-in-Ok : goal.loop-stored-preserved-in-Ok
+loop-stored-preserved-in-Ok g c =
+    let closed = c.loop-stored.invariant.closed in
+    let step = c.in-Some.ensures.steps.0 in
+    record {
+      closed = (closed.0 ++ c.in-Some.stored ∷ [], one_done c.args.nodes.items closed.0 c.loop-stored.stored-iterator.rest.items c.next.new.self.rest.items c.in-Some.stored closed.1 step, tt);
+      first = record {
+        at = length closed.0;
+        kept = c.in-Some.stored;
+        is = at_next c.args.nodes.items closed.0 c.loop-stored.stored-iterator.rest.items c.next.new.self.rest.items c.in-Some.stored closed.1 step;
+        cause = c.in-Err.fault;
+        told = c.store_fault.ensures ∙ ap (λ n. of_store n c.in-Err.fault) (c.node-node.ensures ∙ ap (λ s. s.node) c.into_parts-state.ensures.state);
+      };
+    }
+
+pub loop-stored-preserved-in-Err-first : goal.loop-stored-preserved-in-Err-first
+loop-stored-preserved-in-Err-first g c =
+    let closed = c.loop-stored.invariant.closed in
+    let all = closed.0 ++ c.in-Some.stored ∷ [] in
+    record {
+      closed = (
+        all,
+        one_done c.args.nodes.items closed.0 c.loop-stored.stored-iterator.rest.items c.next.new.self.rest.items c.in-Some.stored closed.1 c.in-Some.ensures.steps.0,
+        subst (λ r. OnOk r (AreClosed (g.A.Archive.closes c.args.archive.now) all)) (sym c.in-Err-first.is) tt,
+      );
+      first = c.loop-stored.invariant.first;
+    }
+
+pub loop-stored-preserved : goal.loop-stored-preserved
+loop-stored-preserved g c =
+    let closed = c.loop-stored.invariant.closed in
+    let closes = g.A.Archive.closes c.args.archive.now in
+    record {
+      closed = (
+        closed.0 ++ c.in-Some.stored ∷ [],
+        one_done c.args.nodes.items closed.0 c.loop-stored.stored-iterator.rest.items c.next.new.self.rest.items c.in-Some.stored closed.1 c.in-Some.ensures.steps.0,
+        on_ok c.loop-stored.first (λ done. All-push (λ (k : Keeping g.row.A-Store.Denot). closes k.store) closed.0 c.in-Some.stored done (subst closes c.into_parts-state.ensures.store c.in_default.ensures)) closed.2,
+      );
+      first = c.loop-stored.invariant.first;
+    }
+
+pub returns-clause-ok : goal.returns-clause-ok
+returns-clause-ok g c =
+    let closed = c.loop-stored.invariant.closed in
+    let left = c.loop-stored.stored-iterator.rest in
+    let none : length left.items ≡ 0 = omega (arith, c.in-None.ensures.steps.0, left.ok.0) in
+    subst (λ (ks : List (Keeping g.row.A-Store.Denot)). OnOk c.loop-stored.first (AreClosed (g.A.Archive.closes c.args.archive.now) ks)) (sym (all_done c.args.nodes.items closed.0 left.items closed.1 none)) closed.2

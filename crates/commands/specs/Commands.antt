@@ -1,0 +1,201 @@
+-- What each command does with what its words name, and why it doesn't.
+use Rattle.std.specs.Prelude.{◌≡◌, ◌⊎◌, ℕ, true, All, List, Option, Some, map, slice_get, string_bytes}
+use Rattle.std.specs.Io.KnownBytes.{Appends, Keeps}
+use Rattle.units.specs.Code.{node_text}
+use Rattle.units.specs.declared.code.Node.{Node}
+use Rattle.wire.specs.declared.input.Input.{Input}
+use Rattle.scheme.specs.declared.registries.Scheme.{Scheme}
+use Rattle.protocol.specs.Registries.{is_node, nodes}
+use Rattle.stores.specs.Records.{AreRecords}
+use Rattle.stores.specs.declared.fault.StoreFault.{StoreFault}
+use Rattle.stores.specs.declared.node_store.NodeStore.{Ghosts as StoreGhosts}
+use Rattle.desk.specs.Keeping.{Keeping}
+use Rattle.desk.specs.Views.{opened_with}
+use Rattle.inputs.specs.Faults.{of_store}
+use Rattle.inputs.specs.declared.fault.Cause.TheVariants.{Order}
+use Rattle.inputs.specs.declared.fault.OpFault.{OpFault}
+use Rattle.inputs.specs.declared.fault.OpFault.TheVariants.{Input as InputFault, Read, NoMemory}
+use Rattle.rehearsals.specs.Rehearsal.{FailsSo, Reports}
+use Rattle.rehearsals.specs.Report.{IsReport}
+use Rattle.operator.specs.Chart.{IsChart}
+use Rattle.operator.specs.Show.{FailsToShow, shown}
+use Rattle.operator.specs.declared.command_line.Action.{Action}
+use Rattle.operator.specs.declared.command_line.Action.TheVariants.{Rehearse, Chart, Show, Audit, Run}
+use Rattle.audit.specs.Audits.{Audits, FailsToAudit, FailsToFindRun, HasRun}
+use Rattle.audit.specs.Stores.{AreLoaded, AreUnwritten}
+use Rattle.scripts.specs.declared.line.ScriptLine.{ScriptLine}
+use Rattle.runs.specs.Runs.{FailsToRun, HaveEnded, IsLoadedAmong, IsRunReport, states_of}
+use Rattle.commands.specs.Opened.{AreStoresIn, FailsToOpen, HasScheme, HasScript, IsShut, IsStoreIn, LacksFolder, LacksScheme, LacksScript}
+use Rattle.commands.specs.declared.archive.Archive.{Ghosts}
+
+-- ---- a run of loaded nodes
+
+-- the states go by the scheme, one for each of its nodes, and each has its whole journal from its opening
+pub record AreOpened {S : Type 0} (scheme : Scheme) (loaded : List (Keeping S)) : Type 0 where
+  pub nodes_are : map (λ (k : Keeping S). k.state.node) loaded ≡ nodes scheme
+  pub opened : All (λ (k : Keeping S). k.state ≡ opened_with scheme k.state.node k.state.journal) loaded
+
+-- no port could be had, or memory ran out
+abbrev pub IsPortFault : OpFault → Type 0
+IsPortFault fault = (fault ≡ Read) ⊎ (fault ≡ NoMemory)
+
+-- the store of each node was closed
+abbrev pub AreClosed : {S : Type 0} → (S → Type 0) → List (Keeping S) → Type 0
+AreClosed {S} closes ended = All (λ (k : Keeping S). closes k.store) ended
+
+-- the store of one of the nodes failed to close
+pub record HasClosingFault {S : Type 0} (ended : List (Keeping S)) (fault : OpFault) : Type 0 where
+  pub at : ℕ
+  pub kept : Keeping S
+  pub is : slice_get ended at ≡ Some kept
+  pub cause : StoreFault
+  pub told : fault ≡ of_store kept.state.node cause
+
+module _ {S : Type 0} (of : StoreGhosts S) where
+  -- the nodes ended well, and the script's report of them was written
+  pub record HasReported (scheme : Scheme) (lines : List ScriptLine) (loaded ended : List (Keeping S)) (before after : Option (List ℕ)) : Type 0 where
+    pub well : HaveEnded of (IsLoadedAmong of scheme loaded) scheme ended
+    pub text : List ℕ
+    pub report : IsRunReport scheme lines (states_of ended) text
+    pub written : Appends before after text
+
+  -- and their stores were closed
+  abbrev pub RunsLoaded : (closes : S → Type 0) → Scheme → List ScriptLine → List (Keeping S) → (before after : Option (List ℕ)) → Type 0
+  RunsLoaded closes scheme lines loaded v w = (ended : List (Keeping S)) × HasReported scheme lines loaded ended v w × AreClosed closes ended
+
+  -- no port could be had; or the run failed; or it was reported, and a store failed to close
+  abbrev pub FailsToRunLoaded : Scheme → List ScriptLine → List (Keeping S) → OpFault → (before after : Option (List ℕ)) → Type 0
+  FailsToRunLoaded scheme lines loaded fault v w =
+      (IsPortFault fault × Keeps v w)
+      ⊎ (FailsToRun of (IsLoadedAmong of scheme loaded) fault scheme lines v w ⊎ ((ended : List (Keeping S)) × HasReported scheme lines loaded ended v w × HasClosingFault ended fault))
+
+-- ---- nodes that are loaded
+
+-- an archive, and what is known of its stores
+module _ {A F S : Type 0} (g : Ghosts A F S) (archive : A) (of : StoreGhosts S) where
+  -- the nodes were loaded from the stores in the folder, and a run leads to their records
+  pub record LoadsFolder (folder : List ℕ) (scheme : Scheme) (loaded : List (Keeping S)) : Type 0 where
+    pub stores : List S
+    pub opened : AreStoresIn g archive of folder (nodes scheme) stores
+    pub are : AreOpened scheme loaded
+    pub read : AreLoaded of.is_honest of.content of.may_hold of.must_reopen scheme (nodes scheme) stores (map (λ (k : Keeping S). k.store) loaded) (map (λ (k : Keeping S). k.state.journal) loaded)
+    pub unwritten : AreUnwritten of stores (map (λ (k : Keeping S). k.store) loaded)
+    pub run : HasRun scheme (map (λ (k : Keeping S). k.state.journal) loaded)
+
+  abbrev pub FailsToLoadFolder : List ℕ → Scheme → OpFault → Type 0
+  FailsToLoadFolder folder scheme fault =
+      FailsToOpen g archive of folder scheme fault
+      ⊎ ((stores left : List S) × AreStoresIn g archive of folder (nodes scheme) stores × FailsToFindRun of.is_honest of.content of.may_hold of.must_reopen fault scheme stores left × AreUnwritten of stores left)
+
+-- ---- what the words of a command name
+
+-- an archive, what a file has left to be read, and what is known of a store
+module _ {A F S : Type 0} (g : Ghosts A F S) (archive : A) (remaining : F → Option (List ℕ)) (of : StoreGhosts S) where
+  -- a command's fault, and what it has written
+  abbrev Failing : Type 1
+  Failing = OpFault → (before after : Option (List ℕ)) → Type 0
+
+  -- there is no scheme at the path; or there is one, and that comes of it
+  abbrev pub FailsFromScheme : List ℕ → (Scheme → Failing) → Failing
+  FailsFromScheme path Later fault v w = (LacksScheme g archive remaining path fault × Keeps v w) ⊎ ((scheme : Scheme) × HasScheme g archive remaining path scheme × Later scheme fault v w)
+
+  abbrev pub FailsFromScript : List ℕ → (List ScriptLine → Failing) → Failing
+  FailsFromScript path Later fault v w = (LacksScript g archive remaining path fault × Keeps v w) ⊎ ((lines : List ScriptLine) × HasScript g archive remaining path lines × Later lines fault v w)
+
+  abbrev pub FailsFromFolder : List ℕ → Failing → Failing
+  FailsFromFolder folder Later fault v w = (LacksFolder g archive folder fault × Keeps v w) ⊎ Later fault v w
+
+  -- ---- `show`
+
+  -- the word names the node of the scheme
+  pub record IsNamed (scheme : Scheme) (word : List ℕ) (n : Node) : Type 0 where
+    pub text : word ≡ node_text n
+    pub member : is_node scheme n ≡ true
+
+  -- the word names none
+  pub record NamesNone (scheme : Scheme) (word : List ℕ) (fault : OpFault) : Type 0 where
+    pub is : fault ≡ InputFault 1 Order
+    pub none : (n : Node) → IsNamed scheme word n → ⊥
+
+  -- the records of the store of the node that the word names were written
+  pub record ShowsNode (path folder word : List ℕ) (before after : Option (List ℕ)) : Type 0 where
+    pub scheme : Scheme
+    pub has_scheme : HasScheme g archive remaining path scheme
+    pub node : Node
+    pub named : IsNamed scheme word node
+    pub store : S
+    pub left : S
+    pub opened : IsStoreIn g archive of folder node store
+    pub inputs : List Input
+    pub records : of.is_honest left → AreRecords (of.content store) inputs
+    pub written : Appends before after (shown inputs)
+
+  abbrev pub FailsFromStore : List ℕ → Node → Failing
+  FailsFromStore folder n fault v w = (IsShut g archive folder n fault × Keeps v w) ⊎ ((store left : S) × IsStoreIn g archive of folder n store × FailsToShow fault n (of.is_honest left) (of.content store) v w)
+
+  abbrev pub FailsFromWord : List ℕ → Scheme → (Node → Failing) → Failing
+  FailsFromWord word scheme Later fault v w = (NamesNone scheme word fault × Keeps v w) ⊎ ((n : Node) × IsNamed scheme word n × Later n fault v w)
+
+  -- the first fault of the scheme, the node's word, the folder, the store and its records
+  abbrev pub FailsToShowNode : (path folder word : List ℕ) → Failing
+  FailsToShowNode path folder word = FailsFromScheme path (λ scheme. FailsFromWord word scheme (λ n. FailsFromFolder folder (FailsFromStore folder n)))
+
+  -- ---- `audit`
+
+  -- the stores of the scheme's nodes were read, and the table of a run that leads to their records was written
+  pub record AuditsFolder (path folder : List ℕ) (before after : Option (List ℕ)) : Type 0 where
+    pub scheme : Scheme
+    pub has_scheme : HasScheme g archive remaining path scheme
+    pub stores : List S
+    pub left : List S
+    pub opened : AreStoresIn g archive of folder (nodes scheme) stores
+    pub table : List ℕ
+    pub audits : Audits of.is_honest of.content of.may_hold of.must_reopen scheme stores left table
+    pub unwritten : AreUnwritten of stores left
+    pub written : Appends before after table
+
+  abbrev pub FailsFromStores : List ℕ → Scheme → Failing
+  FailsFromStores folder scheme fault v w =
+      (FailsToOpen g archive of folder scheme fault × Keeps v w)
+      ⊎ ((stores left : List S) × AreStoresIn g archive of folder (nodes scheme) stores × FailsToAudit of.is_honest of.content of.may_hold of.must_reopen fault scheme stores left v w × AreUnwritten of stores left)
+
+  -- the first fault of the scheme, the folder, the stores and their records
+  abbrev pub FailsToAuditFolder : (path folder : List ℕ) → Failing
+  FailsToAuditFolder path folder = FailsFromScheme path (λ scheme. FailsFromFolder folder (FailsFromStores folder scheme))
+
+  -- ---- `run`
+
+  -- the script was played while the nodes ran, from the records in the folder, and its report was written
+  pub record RunsFolder (path folder script : List ℕ) (before after : Option (List ℕ)) : Type 0 where
+    pub scheme : Scheme
+    pub has_scheme : HasScheme g archive remaining path scheme
+    pub lines : List ScriptLine
+    pub has_script : HasScript g archive remaining script lines
+    pub loaded : List (Keeping S)
+    pub loads : LoadsFolder g archive of folder scheme loaded
+    pub runs : RunsLoaded of (g.closes archive) scheme lines loaded before after
+
+  abbrev pub FailsFromRecords : List ℕ → Scheme → (List (Keeping S) → Failing) → Failing
+  FailsFromRecords folder scheme Later fault v w = (FailsToLoadFolder g archive of folder scheme fault × Keeps v w) ⊎ ((loaded : List (Keeping S)) × LoadsFolder g archive of folder scheme loaded × Later loaded fault v w)
+
+  -- the first fault of the scheme, the script, the folder, the stores and their records, the ports and the run
+  abbrev pub FailsToRunFolder : (path folder script : List ℕ) → Failing
+  FailsToRunFolder path folder script =
+      FailsFromScheme path (λ scheme. FailsFromScript script (λ lines. FailsFromFolder folder (FailsFromRecords folder scheme (λ loaded. FailsToRunLoaded of scheme lines loaded))))
+
+  -- ---- all commands
+
+  -- what standard input has left, before and after, and the output
+  abbrev pub Performs : Action → (r s before after : Option (List ℕ)) → Type 0
+  Performs Rehearse r s v w = (text : List ℕ) × Reports IsReport r s text × Appends v w text
+  Performs Chart r s v w = (text : List ℕ) × Reports IsChart r s text × Appends v w text
+  Performs (Show scheme folder node) r s v w = ShowsNode (string_bytes scheme) (string_bytes folder) (string_bytes node) v w
+  Performs (Audit scheme folder) r s v w = AuditsFolder (string_bytes scheme) (string_bytes folder) v w
+  Performs (Run scheme folder script) r s v w = RunsFolder (string_bytes scheme) (string_bytes folder) (string_bytes script) v w
+
+  abbrev pub FailsToPerform : Action → OpFault → (r s before after : Option (List ℕ)) → Type 0
+  FailsToPerform Rehearse fault r s v w = FailsSo IsReport fault r s v w
+  FailsToPerform Chart fault r s v w = FailsSo IsChart fault r s v w
+  FailsToPerform (Show scheme folder node) fault r s v w = FailsToShowNode (string_bytes scheme) (string_bytes folder) (string_bytes node) fault v w
+  FailsToPerform (Audit scheme folder) fault r s v w = FailsToAuditFolder (string_bytes scheme) (string_bytes folder) fault v w
+  FailsToPerform (Run scheme folder script) fault r s v w = FailsToRunFolder (string_bytes scheme) (string_bytes folder) (string_bytes script) fault v w

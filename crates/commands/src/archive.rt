@@ -1,0 +1,59 @@
+//! The files and the stores that the words of a command name.
+ghost use Rattle.std.specs.Prelude.{◌≡◌, false, IfErr, IfNone, IfOk, IfSome, OnOk, List, ℕ};
+ghost use Rattle.stores.specs.declared.fault.StoreFault.{StoreFault as AFault};
+ghost use Rattle.units.specs.declared.code.Node.{Node as ANode};
+
+use std::io::Read;
+use stores::{NodeStore, StoreFault};
+use units::Node;
+
+/// Files at paths, and folders with the stores of nodes.
+pub trait Archive {
+    /// An open file.
+    type File: Read + Drop;
+    /// An open store.
+    type Store: NodeStore + Send + Drop;
+
+    /// It is the file at that path.
+    ghost opens: { Self → List ℕ → Self.File → Type 0 };
+
+    /// There is no such file, or folder, or it can't be opened.
+    ghost lacks: { Self → List ℕ → Type 0 };
+
+    /// It is the store of that node in the folder at that path.
+    ghost keeps: { Self → List ℕ → ANode → Self.Store → Type 0 };
+
+    /// The node's store in the folder at that path can't be opened, for that fault.
+    ghost fails: { Self → List ℕ → ANode → AFault → Type 0 };
+
+    /// The store was closed, and what it holds is in its database file by itself.
+    ghost closes: { Self → Self.Store → Type 0 };
+
+    /// Opens the file at the path, to be read. `None` where it can't be opened.
+    fn open(&self, path: &str) -> Option<Self::File>
+        ensures some { IfSome result (opens self.now path.now) }
+        ensures none { IfNone result (lacks self.now path.now) };
+
+    /// Whether there is a folder at the path.
+    fn has_folder(&self, path: &str) -> bool
+        ensures { result ≡ false → lacks self.now path.now };
+
+    /// Opens the store of the node in the folder at the path. A store that isn't there is made.
+    ///
+    /// # Errors
+    ///
+    /// Fails with the store's fault, which is never `Reopen`.
+    fn open_store(&self, folder: &str, node: Node) -> Result<Self::Store, StoreFault>
+        ensures keeps { IfOk result (keeps self.now folder.now node) }
+        ensures whose { IfOk result (λ s. Self.Store.whose s ≡ node) }
+        ensures own { IfOk result (λ s. Self.Store.is_honest s → Self.Store.must_reopen s ≡ false → Self.Store.is_own s) }
+        ensures fails { IfErr result (fails self.now folder.now node) };
+
+    /// Closes the store. What it holds is in its database file by itself afterwards.
+    ///
+    /// # Errors
+    ///
+    /// Fails with the store's fault. Its records are there all the same, in its file and its log.
+    fn close(&self, store: Self::Store) -> Result<(), StoreFault>
+        ensures { OnOk result (closes self.now store) };
+}

@@ -1,0 +1,13 @@
+//! The commands, over any files and stores that their words name.
+#![tactic(auto)]
+
+mod archive;
+mod opening;
+mod performing;
+mod progress;
+mod running;
+
+pub use archive::Archive;
+pub use opening::scheme_at;
+pub use performing::perform;
+pub use progress::Progress;

@@ -1,0 +1,111 @@
+//! What a command's words name, opened and read.
+ghost use Rattle.std.specs.Prelude.{◌≡◌, ◌≤◌, false, All, IfErr, IfOk, OnErr, length, map};
+ghost use Rattle.inputs.specs.Faults.{of_store};
+ghost use Rattle.inputs.specs.declared.fault.OpFault.TheVariants as faults;
+ghost use Rattle.protocol.specs.Registries.{nodes};
+ghost use Rattle.commands.specs.Opened.{AreStoresIn, FailsToOpen, HasScheme, HasScript, IsShut, IsStoreIn, LacksFolder, LacksScheme, LacksScript};
+
+use crate::archive::Archive;
+use audit::read_first;
+use inputs::{OpFault, read_scheme, store_fault};
+use protocol::nodes_of;
+use scheme::Scheme;
+use scripts::{ScriptLine, read_script};
+use std::alloc::Global;
+use units::Node;
+
+/// The scheme of the file at the path.
+///
+/// # Errors
+///
+/// Fails with `Read` where the file can't be opened, and as `read_scheme` does.
+pub fn scheme_at<A: Archive>(alloc: Global, archive: &A, path: &str) -> Result<Scheme, OpFault>
+    ensures ok { IfOk result (HasScheme A.Archive archive.now A.File.remaining path.now) }
+    ensures err { IfErr result (LacksScheme A.Archive archive.now A.File.remaining path.now) }
+{
+    match archive.open(path) {
+        Some(mut file) => read_scheme(alloc, &mut file),
+        None => Err(OpFault::Read),
+    }
+}
+
+/// The lines of the script in the file at the path.
+///
+/// # Errors
+///
+/// Fails with `Read` where the file can't be opened, and as `read_script` does.
+pub(crate) fn script_at<A: Archive>(
+    alloc: Global,
+    archive: &A,
+    path: &str,
+) -> Result<Vec<ScriptLine>, OpFault>
+    ensures ok { IfOk result (λ v. HasScript A.Archive archive.now A.File.remaining path.now v.items) }
+    ensures err { IfErr result (LacksScript A.Archive archive.now A.File.remaining path.now) }
+{
+    match archive.open(path) {
+        Some(mut file) => read_script(alloc, &mut file),
+        None => Err(OpFault::Read),
+    }
+}
+
+/// Fails with `Read` where there is no folder at the path.
+pub(crate) fn find_folder<A: Archive>(archive: &A, path: &str) -> Result<(), OpFault>
+    ensures { IfErr result (LacksFolder A.Archive archive.now path.now) }
+{
+    if archive.has_folder(path) {
+        Ok(())
+    } else {
+        Err(OpFault::Read)
+    }
+}
+
+/// The store of the node in the folder.
+///
+/// # Errors
+///
+/// Fails with the store's fault, or with `NoMemory` where memory ran out.
+pub(crate) fn open_store<A: Archive>(
+    archive: &A,
+    folder: &str,
+    node: Node,
+) -> Result<A::Store, OpFault>
+    ensures ok { IfOk result (IsStoreIn A.Archive archive.now A.Store.NodeStore folder.now node) }
+    ensures err { IfErr result (IsShut A.Archive archive.now folder.now node) }
+{
+    match archive.open_store(folder, node) {
+        Ok(store) => Ok(store),
+        Err(fault) => Err(store_fault(node, fault)),
+    }
+}
+
+/// The stores of all nodes in the folder: the log's, then those of the registries in the scheme's order. Where one can't
+/// be opened, a fault in the records of those before it comes first.
+///
+/// # Errors
+///
+/// Fails with the first fault of a store, or with `NoMemory` where memory ran out.
+pub(crate) fn open_stores<A: Archive>(
+    alloc: Global,
+    archive: &A,
+    scheme: &Scheme,
+    folder: &str,
+) -> Result<Vec<A::Store>, OpFault>
+    ensures ok { IfOk result (λ v. AreStoresIn A.Archive archive.now A.Store.NodeStore folder.now (nodes scheme.now) v.items) }
+    ensures err { IfErr result (FailsToOpen A.Archive archive.now A.Store.NodeStore folder.now scheme.now) }
+{
+    let names = nodes_of(alloc, scheme)?;
+    let mut stores = Vec::new(alloc);
+    for at in 0..names.len() {
+        match open_store(archive, folder, names[at]) {
+            Ok(store) => match stores.push(store) {
+                Ok(()) => {}
+                Err(_) => return Err(OpFault::NoMemory),
+            },
+            Err(fault) => {
+                read_first(alloc, scheme, stores.as_mut_slice())?;
+                return Err(fault);
+            }
+        }
+    }
+    Ok(stores)
+}

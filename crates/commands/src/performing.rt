@@ -1,0 +1,124 @@
+//! What each command does.
+ghost use Rattle.std.specs.Prelude.{IfErr, OnOk};
+ghost use Rattle.commands.specs.Commands.{AuditsFolder, FailsToAuditFolder, FailsToPerform, FailsToShowNode, Performs, ShowsNode};
+
+use crate::archive::Archive;
+use crate::opening::{find_folder, open_store, open_stores, scheme_at};
+use crate::progress::Progress;
+use crate::running::run_folder;
+use audit::audit_watched;
+use inputs::{OpFault, node_of};
+use operator::{Action, chart, show};
+use rehearsals::rehearse;
+use std::alloc::Global;
+use std::io::{Read, Write};
+use std::net::{Net, TcpListener, TcpStream};
+use std::rt::Clock as SystemClock;
+use std::sync::Wait;
+use std::thread::Threads;
+use weave::Watch;
+
+/// Writes the records of the store of the node that the word names.
+fn show_node<A: Archive, W: Write>(
+    alloc: Global,
+    archive: &A,
+    scheme: &str,
+    folder: &str,
+    word: &str,
+    writer: &mut W,
+) -> Result<(), OpFault>
+    ensures ok { OnOk result (ShowsNode A.Archive archive.now A.File.remaining A.Store.NodeStore scheme.now folder.now word.now (W.contents writer.old) (W.contents writer.new)) }
+    ensures err { IfErr result (λ e. FailsToShowNode A.Archive archive.now A.File.remaining A.Store.NodeStore scheme.now folder.now word.now e (W.contents writer.old) (W.contents writer.new)) }
+{
+    let scheme = scheme_at(alloc, archive, scheme)?;
+    let node = node_of(&scheme, word)?;
+    find_folder(archive, folder)?;
+    let mut store = open_store(archive, folder, node)?;
+    show(alloc, node, &mut store, writer)
+}
+
+/// Writes the table of a run that leads to the records of the stores in the folder.
+fn audit_folder<A: Archive, W: Write, P: Progress>(
+    alloc: Global,
+    archive: &A,
+    scheme: &str,
+    folder: &str,
+    writer: &mut W,
+    progress: &P,
+) -> Result<(), OpFault>
+    ensures ok { OnOk result (AuditsFolder A.Archive archive.now A.File.remaining A.Store.NodeStore scheme.now folder.now (W.contents writer.old) (W.contents writer.new)) }
+    ensures err { IfErr result (λ e. FailsToAuditFolder A.Archive archive.now A.File.remaining A.Store.NodeStore scheme.now folder.now e (W.contents writer.old) (W.contents writer.new)) }
+{
+    let scheme = scheme_at(alloc, archive, scheme)?;
+    find_folder(archive, folder)?;
+    let mut stores = open_stores(alloc, archive, &scheme, folder)?;
+    let mut watch = progress.of_audit();
+    let done = audit_watched(alloc, &scheme, stores.as_mut_slice(), writer, &mut watch);
+    watch.finished();
+    done
+}
+
+/// Does what the action says: reads standard input from `reader` where it reads it, and writes its results to `writer`.
+///
+/// # Errors
+///
+/// Fails with the first fault, in the order in which the command looks at what its words name. Nothing is written then,
+/// but where the output failed, and but for the answers of a script and a table that were written before a store failed
+/// to close.
+pub fn perform<A, I, W, P, R>(
+    rt: &R,
+    alloc: Global,
+    archive: &A,
+    action: &Action,
+    reader: &mut I,
+    writer: &mut W,
+    progress: &P,
+) -> Result<(), OpFault>
+where
+    A: Archive,
+    I: Read,
+    W: Write,
+    P: Progress,
+    R: Threads + Wait + SystemClock + Net<Listener = TcpListener, Stream = TcpStream> + Sync,
+    ensures ok { OnOk result (Performs A.Archive archive.now A.File.remaining A.Store.NodeStore action.now (I.remaining reader.old) (I.remaining reader.new) (W.contents writer.old) (W.contents writer.new)) }
+    ensures err { IfErr result (λ e. FailsToPerform A.Archive archive.now A.File.remaining A.Store.NodeStore action.now e (I.remaining reader.old) (I.remaining reader.new) (W.contents writer.old) (W.contents writer.new)) }
+{
+    match action {
+        Action::Rehearse => rehearse(alloc, reader, writer),
+        Action::Chart => chart(alloc, reader, writer),
+        Action::Show {
+            scheme,
+            folder,
+            node,
+        } => show_node(
+            alloc,
+            archive,
+            scheme.as_str(),
+            folder.as_str(),
+            node.as_str(),
+            writer,
+        ),
+        Action::Audit { scheme, folder } => audit_folder(
+            alloc,
+            archive,
+            scheme.as_str(),
+            folder.as_str(),
+            writer,
+            progress,
+        ),
+        Action::Run {
+            scheme,
+            folder,
+            script,
+        } => run_folder(
+            rt,
+            alloc,
+            archive,
+            scheme.as_str(),
+            folder.as_str(),
+            script.as_str(),
+            writer,
+            progress,
+        ),
+    }
+}

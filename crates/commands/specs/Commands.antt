@@ -103,7 +103,7 @@ module _ {A F S : Type 0} (g : Ghosts A F S) (archive : A) (remaining : F → Op
   FailsFromScript path Later fault v w = (LacksScript g archive remaining path fault × Keeps v w) ⊎ ((lines : List ScriptLine) × HasScript g archive remaining path lines × Later lines fault v w)
 
   abbrev pub FailsFromFolder : List ℕ → Failing → Failing
-  FailsFromFolder folder Later fault v w = (LacksFolder g archive folder fault × Keeps v w) ⊎ Later fault v w
+  FailsFromFolder folder Later fault v w = (LacksFolder g archive folder fault × Keeps v w) ⊎ (g.is_folder archive folder × Later fault v w)
 
   -- ---- `show`
 
@@ -123,6 +123,7 @@ module _ {A F S : Type 0} (g : Ghosts A F S) (archive : A) (remaining : F → Op
     pub has_scheme : HasScheme g archive remaining path scheme
     pub node : Node
     pub named : IsNamed scheme word node
+    pub in_folder : g.is_folder archive folder
     pub store : S
     pub left : S
     pub opened : IsStoreIn g archive of folder node store
@@ -146,6 +147,7 @@ module _ {A F S : Type 0} (g : Ghosts A F S) (archive : A) (remaining : F → Op
   pub record AuditsFolder (path folder : List ℕ) (before after : Option (List ℕ)) : Type 0 where
     pub scheme : Scheme
     pub has_scheme : HasScheme g archive remaining path scheme
+    pub in_folder : g.is_folder archive folder
     pub stores : List S
     pub left : List S
     pub opened : AreStoresIn g archive of folder (nodes scheme) stores
@@ -171,6 +173,7 @@ module _ {A F S : Type 0} (g : Ghosts A F S) (archive : A) (remaining : F → Op
     pub has_scheme : HasScheme g archive remaining path scheme
     pub lines : List ScriptLine
     pub has_script : HasScript g archive remaining script lines
+    pub in_folder : g.is_folder archive folder
     pub loaded : List (Keeping S)
     pub loads : LoadsFolder g archive of folder scheme loaded
     pub runs : RunsLoaded of (g.closes archive) scheme lines loaded before after

@@ -1,5 +1,5 @@
 //! The files and the stores that the words of a command name.
-ghost use Rattle.std.specs.Prelude.{◌≡◌, false, IfErr, IfNone, IfOk, IfSome, OnOk, List, ℕ};
+ghost use Rattle.std.specs.Prelude.{◌≡◌, true, false, IfErr, IfNone, IfOk, IfSome, OnOk, List, ℕ};
 ghost use Rattle.stores.specs.declared.fault.StoreFault.{StoreFault as AFault};
 ghost use Rattle.units.specs.declared.code.Node.{Node as ANode};
 
@@ -16,6 +16,9 @@ pub trait Archive {
 
     /// It is the file at that path.
     ghost opens: { Self → List ℕ → Self.File → Type 0 };
+
+    /// There is a folder at that path.
+    ghost is_folder: { Self → List ℕ → Type 0 };
 
     /// There is no such file, or folder, or it can't be opened.
     ghost lacks: { Self → List ℕ → Type 0 };
@@ -36,7 +39,8 @@ pub trait Archive {
 
     /// Whether there is a folder at the path.
     fn has_folder(&self, path: &str) -> bool
-        ensures { result ≡ false → lacks self.now path.now };
+        ensures yes { result ≡ true → is_folder self.now path.now }
+        ensures no { result ≡ false → lacks self.now path.now };
 
     /// Opens the store of the node in the folder at the path. A store that isn't there is made.
     ///

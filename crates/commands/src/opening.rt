@@ -1,7 +1,5 @@
 //! What a command's words name, opened and read.
-ghost use Rattle.std.specs.Prelude.{◌≡◌, ◌≤◌, false, All, IfErr, IfOk, OnErr, length, map};
-ghost use Rattle.inputs.specs.Faults.{of_store};
-ghost use Rattle.inputs.specs.declared.fault.OpFault.TheVariants as faults;
+ghost use Rattle.std.specs.Prelude.{IfErr, IfOk, OnOk};
 ghost use Rattle.protocol.specs.Registries.{nodes};
 ghost use Rattle.commands.specs.Opened.{AreStoresIn, FailsToOpen, HasScheme, HasScript, IsShut, IsStoreIn, LacksFolder, LacksScheme, LacksScript};
 
@@ -50,7 +48,8 @@ pub(crate) fn script_at<A: Archive>(
 
 /// Fails with `Read` where there is no folder at the path.
 pub(crate) fn find_folder<A: Archive>(archive: &A, path: &str) -> Result<(), OpFault>
-    ensures { IfErr result (LacksFolder A.Archive archive.now path.now) }
+    ensures ok { OnOk result (A.is_folder archive.now path.now) }
+    ensures err { IfErr result (LacksFolder A.Archive archive.now path.now) }
 {
     if archive.has_folder(path) {
         Ok(())

@@ -36,11 +36,15 @@ impl<'a> Archive for SystemFiles<'a> {
 
     ghost opens = { λ _ path file. Unit {0} };
 
+    ghost is_folder = { λ _ path. Unit {0} };
+
     ghost lacks = { λ _ path. Unit {0} };
 
     ghost keeps = { λ _ folder n store. Unit {0} };
 
     ghost fails = { λ _ folder n fault. Unit {0} };
+
+    ghost closes = { λ _ store. Unit {0} };
 
     fn open(&self, path: &str) -> Option<File> {
         fs::open(self.rt, path).ok()

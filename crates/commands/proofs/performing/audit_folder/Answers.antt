@@ -9,7 +9,7 @@ pub returns-in_err-stores-clause-err : goal.returns-in_err-stores-clause-err
 returns-in_err-stores-clause-err g c =
     let p = err_from_is_err_and c.from_residual-in_err-stores.result c.from_residual-in_err-stores.ensures.1 in
     let scheme = c.in_ok-scheme in
-    rw (p.1, p.2) (inr (scheme.scheme, scheme.ensures.ok, inr (inl (c.in_err-stores.ensures.err, keeps_same _))))
+    rw (p.1, p.2) (inr (scheme.scheme, scheme.ensures.ok, inr (c.in_ok-find_folder.ensures.ok, inl (c.in_err-stores.ensures.err, keeps_same _))))
 
 pub audit_watched-done-requires : goal.audit_watched-done-requires
 audit_watched-done-requires g c =
@@ -23,6 +23,7 @@ returns-clause-ok g c =
     (λ h. record {
       scheme = c.in_ok-scheme.scheme;
       has_scheme = c.in_ok-scheme.ensures.ok;
+      in_folder = c.in_ok-find_folder.ensures.ok;
       stores = c.in_ok-stores.stores.items;
       left = c.audit_watched-done.new.stores;
       opened = c.in_ok-stores.ensures.ok;
@@ -39,5 +40,5 @@ returns-clause-err g c =
     let scheme = c.in_ok-scheme in
     let stores = c.in_ok-stores in
     if_err c.audit_watched-done.result
-    (λ e h. inr (scheme.scheme, scheme.ensures.ok, inr (inr (stores.stores.items, c.audit_watched-done.new.stores, stores.ensures.ok, rw (sym value) h, rw (sym value) c.audit_watched-done.ensures.unwritten))))
+    (λ e h. inr (scheme.scheme, scheme.ensures.ok, inr (c.in_ok-find_folder.ensures.ok, inr (stores.stores.items, c.audit_watched-done.new.stores, stores.ensures.ok, rw (sym value) h, rw (sym value) c.audit_watched-done.ensures.unwritten))))
     c.audit_watched-done.ensures.err

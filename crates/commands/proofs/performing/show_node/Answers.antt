@@ -15,7 +15,7 @@ returns-in_err-store-clause-err g c =
     let scheme = c.in_ok-scheme in
     let node = c.in_ok-node in
     rw (p.1, p.2)
-    (inr (scheme.scheme, scheme.ensures.ok, inr (node.node, record { text = node.ensures.ok.0; member = node.ensures.ok.1 }, inr (inl (c.in_err-store.ensures.err, keeps_same _)))))
+    (inr (scheme.scheme, scheme.ensures.ok, inr (node.node, record { text = node.ensures.ok.0; member = node.ensures.ok.1 }, inr (c.in_ok-find_folder.ensures.ok, inl (c.in_err-store.ensures.err, keeps_same _)))))
 
 pub returns-clause-ok : goal.returns-clause-ok
 returns-clause-ok g c =
@@ -25,6 +25,7 @@ returns-clause-ok g c =
       has_scheme = c.in_ok-scheme.ensures.ok;
       node = c.in_ok-node.node;
       named = record { text = c.in_ok-node.ensures.ok.0; member = c.in_ok-node.ensures.ok.1 };
+      in_folder = c.in_ok-find_folder.ensures.ok;
       store = c.in_ok-store.store;
       left = c.show.new.store;
       opened = c.in_ok-store.ensures.ok;
@@ -40,5 +41,5 @@ returns-clause-err g c =
     let node = c.in_ok-node in
     let store = c.in_ok-store in
     if_err c.show.result
-    (λ e h. inr (scheme.scheme, scheme.ensures.ok, inr (node.node, record { text = node.ensures.ok.0; member = node.ensures.ok.1 }, inr (inr (store.store, c.show.new.store, store.ensures.ok, h)))))
+    (λ e h. inr (scheme.scheme, scheme.ensures.ok, inr (node.node, record { text = node.ensures.ok.0; member = node.ensures.ok.1 }, inr (c.in_ok-find_folder.ensures.ok, inr (store.store, c.show.new.store, store.ensures.ok, h)))))
     c.show.ensures.err

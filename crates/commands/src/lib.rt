@@ -2,12 +2,14 @@
 #![tactic(auto)]
 
 mod archive;
+mod obeying;
 mod opening;
 mod performing;
 mod progress;
 mod running;
 
 pub use archive::Archive;
+pub use obeying::{Ended, obey};
 pub use opening::scheme_at;
 pub use performing::perform;
 pub use progress::Progress;

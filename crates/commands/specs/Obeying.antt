@@ -1,0 +1,40 @@
+-- How a command line ends.
+use Rattle.std.specs.Prelude.{◌≡◌, ◌⊎◌, ℕ, List, Option}
+use Rattle.std.specs.Io.KnownBytes.{Keeps}
+use Rattle.clap.specs.Words.{HasMatchesOf}
+use Rattle.clap.specs.declared.error.Error.{Error}
+use Rattle.clap.specs.declared.parser.matches.ArgMatches.{ArgMatches}
+use Rattle.stores.specs.declared.node_store.NodeStore.{Ghosts as StoreGhosts}
+use Rattle.inputs.specs.Faults.{exit_status}
+use Rattle.inputs.specs.declared.fault.OpFault.{OpFault}
+use Rattle.inputs.specs.declared.fault.OpFault.TheVariants.{NoMemory}
+use Rattle.operator.specs.Words.{IsUsageFault, NamesAction, kyoto_link}
+use Rattle.operator.specs.declared.command_line.Action.{Action}
+use Rattle.operator.specs.declared.command_line.UsageFault.TheVariants.{Help, Usage}
+use Rattle.commands.specs.Commands.{FailsToPerform, Performs}
+use Rattle.commands.specs.declared.archive.Archive.{Ghosts}
+use Rattle.commands.specs.declared.obeying.Ended.{Ended}
+use Rattle.commands.specs.declared.obeying.Ended.TheVariants.{Done, Failed, NoAction, WrongWords}
+
+-- 0: done; 2: the words are wrong; else that of the fault
+abbrev pub status_of : Ended → ℕ
+status_of Done = 0
+status_of (Failed action fault) = exit_status fault
+status_of (NoAction fault) = exit_status fault
+status_of (WrongWords error) = 2
+
+-- the words have matches, whose subcommand names the action
+abbrev pub IsNamedBy : List (List ℕ) → Action → Type 0
+IsNamedBy words action = (m : ArgMatches) × HasMatchesOf kyoto_link words m × NamesAction m action
+
+-- the words ask for help or for the version
+abbrev pub AskForHelp : List (List ℕ) → Type 0
+AskForHelp words = (error : Error) × IsUsageFault words (Help error)
+
+module _ {A F S : Type 0} (g : Ghosts A F S) (archive : A) (remaining : F → Option (List ℕ)) (of : StoreGhosts S) where
+  -- what standard input has left, before and after, and the output
+  abbrev pub Obeys : List (List ℕ) → Ended → (r s before after : Option (List ℕ)) → Type 0
+  Obeys words Done r s v w = ((action : Action) × IsNamedBy words action × Performs g archive remaining of action r s v w) ⊎ AskForHelp words
+  Obeys words (Failed action fault) r s v w = IsNamedBy words action × FailsToPerform g archive remaining of action fault r s v w
+  Obeys words (NoAction fault) r s v w = ((fault ≡ NoMemory) × Keeps v w) ⊎ AskForHelp words
+  Obeys words (WrongWords error) r s v w = IsUsageFault words (Usage error) × Keeps v w

@@ -1,5 +1,5 @@
 -- Stores that are closed one after another, and what came of a run before that.
-use Rattle.std.proofs.Common.{◌≡◌, ◌∙◌, ◌∷◌, ◌++◌, ℕ, List, [], Some, Result, Ok, Err, IfOk, append-nil, append_assoc, arith, ap, length, refl, sym}
+use Rattle.std.proofs.Common.{◌≡◌, ◌∙◌, ◌∷◌, ◌++◌, ℕ, List, [], Some, Result, Ok, Err, IfOk, append-nil, append_assoc, arith, ap, length, refl, sym, take}
 use Rattle.std.specs.Prelude.{slice_get}
 
 -- the first of those that are left is done
@@ -13,6 +13,14 @@ after_done (y ∷ ys) rest x = after_done ys rest x
 -- where it stands
 pub at_next : {X : Type 0} (all done left rest : List X) (x : X) → all ≡ done ++ left → left ≡ x ∷ rest → slice_get all (length done) ≡ Some x
 at_next {X} all done left rest x split is = ap (λ (xs : List X). slice_get xs (length done)) (split ∙ ap (λ (xs : List X). done ++ xs) is) ∙ after_done done rest x
+
+-- what is done is the first part
+pub part_done : {X : Type 0} (all done left : List X) → all ≡ done ++ left → take (length done) all ≡ done
+part_done {X} all done left split = ap (λ (xs : List X). take (length done) xs) split ∙ cut done left
+  where
+    cut : (xs ys : List X) → take (length xs) (xs ++ ys) ≡ xs
+    cut [] ys = refl
+    cut (x ∷ xs) ys = ap (λ (zs : List X). x ∷ zs) (cut xs ys)
 
 -- none is left
 pub all_done : {X : Type 0} (all done left : List X) → all ≡ done ++ left → length left ≡ 0 → all ≡ done

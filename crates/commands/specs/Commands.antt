@@ -1,5 +1,5 @@
 -- What each command does with what its words name, and why it doesn't.
-use Rattle.std.specs.Prelude.{◌≡◌, ◌⊎◌, ℕ, true, All, List, Option, Some, map, slice_get, string_bytes}
+use Rattle.std.specs.Prelude.{◌≡◌, ◌⊎◌, ℕ, true, All, List, Option, Some, map, slice_get, string_bytes, take}
 use Rattle.std.specs.Io.KnownBytes.{Appends, Keeps}
 use Rattle.units.specs.Code.{node_text}
 use Rattle.units.specs.declared.code.Node.{Node}
@@ -43,12 +43,14 @@ IsPortFault fault = (fault ≡ Read) ⊎ (fault ≡ NoMemory)
 abbrev pub AreClosed : {S : Type 0} → (S → Type 0) → List (Keeping S) → Type 0
 AreClosed {S} closes ended = All (λ (k : Keeping S). closes k.store) ended
 
--- the store of one of the nodes failed to close
-pub record HasClosingFault {S : Type 0} (ended : List (Keeping S)) (fault : OpFault) : Type 0 where
+-- the store of one of the nodes failed to close, the first that did
+pub record HasClosingFault {S : Type 0} (closes : S → Type 0) (unclosed : S → StoreFault → Type 0) (ended : List (Keeping S)) (fault : OpFault) : Type 0 where
   pub at : ℕ
   pub kept : Keeping S
   pub is : slice_get ended at ≡ Some kept
+  pub before : AreClosed closes (take at ended)
   pub cause : StoreFault
+  pub failed : unclosed kept.store cause
   pub told : fault ≡ of_store kept.state.node cause
 
 module _ {S : Type 0} (of : StoreGhosts S) where
@@ -64,10 +66,10 @@ module _ {S : Type 0} (of : StoreGhosts S) where
   RunsLoaded closes scheme lines loaded v w = (ended : List (Keeping S)) × HasReported scheme lines loaded ended v w × AreClosed closes ended
 
   -- no port could be had; or the run failed; or it was reported, and a store failed to close
-  abbrev pub FailsToRunLoaded : Scheme → List ScriptLine → List (Keeping S) → OpFault → (before after : Option (List ℕ)) → Type 0
-  FailsToRunLoaded scheme lines loaded fault v w =
+  abbrev pub FailsToRunLoaded : (closes : S → Type 0) (unclosed : S → StoreFault → Type 0) → Scheme → List ScriptLine → List (Keeping S) → OpFault → (before after : Option (List ℕ)) → Type 0
+  FailsToRunLoaded closes unclosed scheme lines loaded fault v w =
       (IsPortFault fault × Keeps v w)
-      ⊎ (FailsToRun of (IsLoadedAmong of scheme loaded) fault scheme lines v w ⊎ ((ended : List (Keeping S)) × HasReported scheme lines loaded ended v w × HasClosingFault ended fault))
+      ⊎ (FailsToRun of (IsLoadedAmong of scheme loaded) fault scheme lines v w ⊎ ((ended : List (Keeping S)) × HasReported scheme lines loaded ended v w × HasClosingFault closes unclosed ended fault))
 
 -- ---- nodes that are loaded
 
@@ -184,7 +186,7 @@ module _ {A F S : Type 0} (g : Ghosts A F S) (archive : A) (remaining : F → Op
   -- the first fault of the scheme, the script, the folder, the stores and their records, the ports and the run
   abbrev pub FailsToRunFolder : (path folder script : List ℕ) → Failing
   FailsToRunFolder path folder script =
-      FailsFromScheme path (λ scheme. FailsFromScript script (λ lines. FailsFromFolder folder (FailsFromRecords folder scheme (λ loaded. FailsToRunLoaded of scheme lines loaded))))
+      FailsFromScheme path (λ scheme. FailsFromScript script (λ lines. FailsFromFolder folder (FailsFromRecords folder scheme (λ loaded. FailsToRunLoaded of (g.closes archive) (g.unclosed archive) scheme lines loaded))))
 
   -- ---- all commands
 

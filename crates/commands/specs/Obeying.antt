@@ -1,13 +1,13 @@
 -- How a command line ends.
-use Rattle.std.specs.Prelude.{◌≡◌, ◌⊎◌, ℕ, List, Option}
-use Rattle.std.specs.Io.KnownBytes.{Keeps}
+use Rattle.std.specs.Prelude.{◌≡◌, ◌⊎◌, ◌<◌, ℕ, List, Option, length, take}
+use Rattle.std.specs.Io.KnownBytes.{Appends, Keeps}
 use Rattle.clap.specs.Words.{HasMatchesOf}
 use Rattle.clap.specs.declared.error.Error.{Error}
 use Rattle.clap.specs.declared.parser.matches.ArgMatches.{ArgMatches}
 use Rattle.stores.specs.declared.node_store.NodeStore.{Ghosts as StoreGhosts}
 use Rattle.inputs.specs.Faults.{exit_status}
 use Rattle.inputs.specs.declared.fault.OpFault.{OpFault}
-use Rattle.inputs.specs.declared.fault.OpFault.TheVariants.{NoMemory}
+use Rattle.inputs.specs.declared.fault.OpFault.TheVariants.{NoMemory, Write}
 use Rattle.operator.specs.Words.{IsUsageFault, NamesAction, kyoto_link}
 use Rattle.operator.specs.declared.command_line.Action.{Action}
 use Rattle.operator.specs.declared.command_line.UsageFault.TheVariants.{Help, Usage}
@@ -31,10 +31,18 @@ IsNamedBy words action = (m : ArgMatches) × HasMatchesOf kyoto_link words m × 
 abbrev pub AskForHelp : List (List ℕ) → Type 0
 AskForHelp words = (error : Error) × IsUsageFault words (Help error)
 
+-- a text was written; no clause of clap says which
+abbrev pub IsHelped : (before after : Option (List ℕ)) → Type 0
+IsHelped v w = (text : List ℕ) × Appends v w text
+
+-- the first bytes of a text were written, fewer than all
+abbrev pub IsHelpedInPart : OpFault → (before after : Option (List ℕ)) → Type 0
+IsHelpedInPart fault v w = (text : List ℕ) × (count : ℕ) × (fault ≡ Write count) × (count < length text) × Appends v w (take count text)
+
 module _ {A F S : Type 0} (g : Ghosts A F S) (archive : A) (remaining : F → Option (List ℕ)) (of : StoreGhosts S) where
   -- what standard input has left, before and after, and the output
   abbrev pub Obeys : List (List ℕ) → Ended → (r s before after : Option (List ℕ)) → Type 0
-  Obeys words Done r s v w = ((action : Action) × IsNamedBy words action × Performs g archive remaining of action r s v w) ⊎ AskForHelp words
+  Obeys words Done r s v w = ((action : Action) × IsNamedBy words action × Performs g archive remaining of action r s v w) ⊎ (AskForHelp words × IsHelped v w)
   Obeys words (Failed action fault) r s v w = IsNamedBy words action × FailsToPerform g archive remaining of action fault r s v w
-  Obeys words (NoAction fault) r s v w = ((fault ≡ NoMemory) × Keeps v w) ⊎ AskForHelp words
+  Obeys words (NoAction fault) r s v w = ((fault ≡ NoMemory) × Keeps v w) ⊎ (AskForHelp words × IsHelpedInPart fault v w)
   Obeys words (WrongWords error) r s v w = IsUsageFault words (Usage error) × Keeps v w

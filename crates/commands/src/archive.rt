@@ -32,6 +32,9 @@ pub trait Archive {
     /// The store was closed, and what it holds is in its database file by itself.
     ghost closes: { Self → Self.Store → Type 0 };
 
+    /// Closing the store failed, for that fault.
+    ghost unclosed: { Self → Self.Store → AFault → Type 0 };
+
     /// Opens the file at the path, to be read. `None` where it can't be opened.
     fn open(&self, path: &str) -> Option<Self::File>
         ensures some { IfSome result (opens self.now path.now) }
@@ -59,5 +62,6 @@ pub trait Archive {
     ///
     /// Fails with the store's fault. Its records are there all the same, in its file and its log.
     fn close(&self, store: Self::Store) -> Result<(), StoreFault>
-        ensures { OnOk result (closes self.now store) };
+        ensures closes { OnOk result (closes self.now store) }
+        ensures unclosed { IfErr result (unclosed self.now store) };
 }

@@ -11,5 +11,4 @@ mod running;
 pub use archive::Archive;
 pub use obeying::{Ended, obey};
 pub use opening::scheme_at;
-pub use performing::perform;
 pub use progress::Progress;

@@ -1,6 +1,7 @@
 //! The words of a command line, obeyed.
-ghost use Rattle.std.specs.Prelude.{◌≡◌, map, string_bytes};
-ghost use Rattle.commands.specs.Obeying.{Obeys, status_of};
+ghost use Rattle.std.specs.Prelude.{◌≡◌, ◌⊎◌, IfErr, OnOk, map, string_bytes};
+ghost use Rattle.std.specs.Io.KnownBytes.{Keeps};
+ghost use Rattle.commands.specs.Obeying.{IsHelped, IsHelpedInPart, Obeys, status_of};
 
 use crate::archive::Archive;
 use crate::performing::perform;
@@ -46,7 +47,10 @@ impl Ended {
 }
 
 /// Writes help or the version.
-fn write_help<W: Write>(alloc: Global, writer: &mut W, error: &Error) -> Result<(), OpFault> {
+fn write_help<W: Write>(alloc: Global, writer: &mut W, error: &Error) -> Result<(), OpFault>
+    ensures ok { OnOk result (IsHelped (W.contents writer.old) (W.contents writer.new)) }
+    ensures err { IfErr result (λ e. ((e ≡ OpFault.NoMemory) × Keeps (W.contents writer.old) (W.contents writer.new)) ⊎ IsHelpedInPart e (W.contents writer.old) (W.contents writer.new)) }
+{
     match format!(in alloc; "{error}") {
         Ok(text) => write_out(writer, text.as_str()),
         Err(_) => Err(OpFault::NoMemory),

@@ -65,7 +65,7 @@ fn audit_folder<A: Archive, W: Write, P: Progress>(
 /// Fails with the first fault, in the order in which the command looks at what its words name. Nothing is written then,
 /// but where the output failed, and but for the answers of a script and a table that were written before a store failed
 /// to close.
-pub fn perform<A, I, W, P, R>(
+pub(crate) fn perform<A, I, W, P, R>(
     rt: &R,
     alloc: Global,
     archive: &A,

@@ -78,7 +78,7 @@ fn open_all<R: Net<Listener = TcpListener, Stream = TcpStream>>(
 /// Fails with the first fault of a store, after all of them were closed.
 fn close_stores<A: Archive>(archive: &A, nodes: Vec<Stored<Core, A::Store>>) -> Result<(), OpFault>
     ensures ok { OnOk result (AreClosed (A.closes archive.now) nodes.items) }
-    ensures err { IfErr result (HasClosingFault nodes.items) }
+    ensures err { IfErr result (HasClosingFault (A.closes archive.now) (A.unclosed archive.now) nodes.items) }
 {
     let mut first = Ok(());
     for stored in nodes {
@@ -150,7 +150,7 @@ where
     R: Threads + Wait + SystemClock + Net<Listener = TcpListener, Stream = TcpStream> + Sync,
     requires opened { AreOpened scheme.now loaded.items }
     ensures ok { OnOk result (RunsLoaded A.Store.NodeStore (A.closes archive.now) scheme.now lines.now loaded.items (W.contents writer.old) (W.contents writer.new)) }
-    ensures err { IfErr result (λ e. FailsToRunLoaded A.Store.NodeStore scheme.now lines.now loaded.items e (W.contents writer.old) (W.contents writer.new)) }
+    ensures err { IfErr result (λ e. FailsToRunLoaded A.Store.NodeStore (A.closes archive.now) (A.unclosed archive.now) scheme.now lines.now loaded.items e (W.contents writer.old) (W.contents writer.new)) }
 {
     let nodes = nodes_of(alloc, scheme)?;
     let listeners = open_all(rt, alloc, nodes.as_slice())?;

@@ -46,6 +46,8 @@ impl<'a> Archive for SystemFiles<'a> {
 
     ghost closes = { λ _ store. Unit {0} };
 
+    ghost unclosed = { λ _ store fault. Unit {0} };
+
     fn open(&self, path: &str) -> Option<File> {
         fs::open(self.rt, path).ok()
     }

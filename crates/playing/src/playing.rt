@@ -83,8 +83,9 @@ fn push(answers: &mut Vec<Answer>, answer: Answer) -> Result<(), NoMemory>
     Ok(())
 }
 
-/// What the lines come to, one after another, told with new seats. Tells of each that was answered. Fails with `NoMemory` where memory ran
-/// out for the answers, before the first line.
+/// Plays the lines one after another and returns what each of them was answered. Each seat is replaced by that after the
+/// last line, and the watch hears of each line after it was played. Fails with `NoMemory` if memory runs out for the
+/// answers, before the first line.
 pub(crate) fn play_all<
     O: Opening,
     C: NodeCore,

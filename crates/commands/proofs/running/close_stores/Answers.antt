@@ -4,20 +4,24 @@ use Rattle.desk.specs.Keeping.{Keeping}
 use Rattle.inputs.specs.Faults.{of_store}
 use Rattle.runs.proofs.Written.{on_ok}
 use Rattle.commands.specs.Commands.{AreClosed}
-use Rattle.commands.proofs.Closing.{all_done, at_next, one_done}
+use Rattle.commands.proofs.Closing.{all_done, at_next, one_done, part_done}
 use Rattle.commands.proofs.running.close_stores.Goals as goal
 
 pub loop-stored-preserved-in-Ok : goal.loop-stored-preserved-in-Ok
 loop-stored-preserved-in-Ok g c =
     let closed = c.loop-stored.invariant.closed in
     let step = c.in-Some.ensures.steps.0 in
+    let closes = g.A.Archive.closes c.args.archive.now in
+    let first : AreClosed closes closed.0 = subst (λ r. OnOk r (AreClosed closes closed.0)) c.in-Ok.is closed.2 in
     record {
       closed = (closed.0 ++ c.in-Some.stored ∷ [], one_done c.args.nodes.items closed.0 c.loop-stored.stored-iterator.rest.items c.next.new.self.rest.items c.in-Some.stored closed.1 step, tt);
       first = record {
         at = length closed.0;
         kept = c.in-Some.stored;
         is = at_next c.args.nodes.items closed.0 c.loop-stored.stored-iterator.rest.items c.next.new.self.rest.items c.in-Some.stored closed.1 step;
+        before = subst (AreClosed closes) (sym (part_done c.args.nodes.items closed.0 c.loop-stored.stored-iterator.rest.items closed.1)) first;
         cause = c.in-Err.fault;
+        failed = subst (λ s. g.A.Archive.unclosed c.args.archive.now s c.in-Err.fault) c.into_parts-state.ensures.store c.in-Err.ensures.unclosed;
         told = c.store_fault.ensures ∙ ap (λ n. of_store n c.in-Err.fault) (c.node-node.ensures ∙ ap (λ s. s.node) c.into_parts-state.ensures.state);
       };
     }
@@ -43,7 +47,7 @@ loop-stored-preserved g c =
       closed = (
         closed.0 ++ c.in-Some.stored ∷ [],
         one_done c.args.nodes.items closed.0 c.loop-stored.stored-iterator.rest.items c.next.new.self.rest.items c.in-Some.stored closed.1 c.in-Some.ensures.steps.0,
-        on_ok c.loop-stored.first (λ done. All-push (λ (k : Keeping g.row.A-Store.Denot). closes k.store) closed.0 c.in-Some.stored done (subst closes c.into_parts-state.ensures.store c.in_default.ensures)) closed.2,
+        on_ok c.loop-stored.first (λ done. All-push (λ (k : Keeping g.row.A-Store.Denot). closes k.store) closed.0 c.in-Some.stored done (subst closes c.into_parts-state.ensures.store c.in_default.ensures.closes)) closed.2,
       );
       first = c.loop-stored.invariant.first;
     }

@@ -6,5 +6,5 @@ use Rattle.commands.proofs.running.close_stores.Given as goal
 abbrev pub invariant-loop-stored : goal.invariant-loop-stored
 invariant-loop-stored g l = record {
   closed : (done : List (Keeping g.row.A-Store.Denot)) × (l.fn.nodes.items ≡ done ++ l.stored-iterator.rest.items) × OnOk l.first (AreClosed (g.A.Archive.closes l.archive) done);
-  first : IfErr l.first (HasClosingFault l.fn.nodes.items);
+  first : IfErr l.first (HasClosingFault (g.A.Archive.closes l.archive) (g.A.Archive.unclosed l.archive) l.fn.nodes.items);
 }

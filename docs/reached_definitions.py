@@ -17,17 +17,16 @@ GHOST = re.compile(r"(?:pub )?ghost (?!use|invariant)[\w-]+(?: =|:) \{|\}\s*by \
 
 
 def lines_of(path):
-    """The lines of a file of definitions, those of a module with parameters as if they stood outside it."""
-    inside = False
+    """The lines of a file of definitions, those of modules with parameters as if they stood outside these."""
+    depth = 0
     with open(path, encoding="utf-8") as file:
         for line in file.read().split("\n"):
+            if line.strip():
+                depth = min(depth, (len(line) - len(line.lstrip(" "))) // 2)
+            line = line.removeprefix("  " * depth)
             if line.startswith("module "):
-                inside = True
+                depth += 1
                 continue
-            if inside and line.startswith("  "):
-                line = line[2:]
-            elif line and not line.startswith(" "):
-                inside = False
             yield line
 
 

@@ -1,8 +1,14 @@
 -- Which nodes send to which; lists that grow by an element, seen by a part of each.
-use Rattle.std.proofs.Common.{◌≡◌, ℕ, zero, suc, ◌+◌, ◌<◌, List, [], ◌∷◌, ◌++◌, length, take, drop, map, get_or, refl, ap, sym, ◌∙◌, arith, length-append}
-use Rattle.std.specs.Prelude.{slice_get, Some}
+use Rattle.std.proofs.Common.{◌≡◌, ℕ, zero, suc, ◌+◌, ◌<◌, List, [], ◌∷◌, ◌++◌, length, take, drop, map, get_or, refl, ap, subst, sym, ◌∙◌, arith, length-append, All, Vec, Global, Result, Ok, Err, vec_len}
+use Rattle.std.specs.Prelude.{slice_get, IfOk, Some}
 use Rattle.std.proofs.lemmas.List.{length-map, map-append, take_all, take_more}
+use Rattle.std.proofs.lemmas.List.Elements.{All-push, All-weaker}
+use Rattle.std.proofs.lemmas.Option.{slice_get_within, get_or_from_slice_get}
+use Rattle.lemmas.proofs.Positions.{some_at}
+use Rattle.units.specs.declared.memory.NoMemory.{NoMemory}
 use Rattle.units.specs.declared.code.Node.{Node}
+use Rattle.desk.specs.Views.{Heard}
+use Rattle.sessions.specs.Orders.{AreAll}
 use Rattle.playing.specs.Wiring.{peers_of}
 
 pub log_peers : (names : List Node) → 0 < length names → slice_get (peers_of names) 0 ≡ Some (drop 1 names)
@@ -28,6 +34,9 @@ part_more f xs x zs ys k more low same item =
 pub pushed_count : {X : Type 0} (xs : List X) (x : X) (zs : List X) (k : ℕ) → zs ≡ xs ++ x ∷ [] → length xs ≡ k → length zs ≡ k + 1
 pushed_count xs x zs k more same = ap (λ l. length l) more ∙ length-append xs (x ∷ []) ∙ ap (λ n. n + 1) same
 
+pub all_pushed : {X : Type 0} (xs : List X) (x : X) (zs : List X) (P : X → Type 0) → zs ≡ xs ++ x ∷ [] → All P xs → P x → All P zs
+all_pushed xs x zs P more all is = subst (All P) (sym more) (All-push P xs x all is)
+
 -- ---- at the end
 
 -- each node has its peers
@@ -37,3 +46,20 @@ peers_count (log ∷ registries) = ap suc (length-map registries (λ r. log ∷ 
 
 pub part_whole : {X Y : Type 0} (f : X → Y) (xs : List X) (ys : List Y) (k : ℕ) → map f xs ≡ take k ys → length ys ≡ k → map f xs ≡ ys
 part_whole f xs ys k same whole = same ∙ take_all k ys (omega (arith, whole))
+
+-- ---- what the threads of all nodes took
+
+-- where each node has what is known of all, what is known of the seats of each is so of all
+pub all_taken : {N : Type 0} (nodes : List N) (IsAlike : N → Type 0) (Of : N → Heard → Type 0) (IsSuch : Heard → Type 0) → ((n : N) → IsAlike n → (s : Heard) → Of n s → IsSuch s) → All IsAlike nodes
+    → (ends : List (Result (Vec Heard Global) NoMemory)) → length ends ≡ length nodes
+    → ((k : ℕ) (n : N) (seats : Vec Heard Global) → slice_get nodes k ≡ Some n → slice_get ends k ≡ Some (Ok seats) → All (Of n) seats.items) → AreAll IsSuch ends
+all_taken nodes IsAlike Of IsSuch same alike ends count each k seats at =
+    let n = some_at nodes k (omega (arith, count, slice_get_within ends k (Ok seats) at)) in
+    let is : IsAlike n.0 = subst IsAlike (get_or_from_slice_get nodes k n.0 n.0 n.1) (alike k n.0 (slice_get_within nodes k n.0 n.1)) in
+    All-weaker (Of n.0) IsSuch (same n.0 is) seats.items (each k n.0 seats n.1 at)
+
+pub ends_taken : {N : Type 0} (nodes : List N) (IsAlike : N → Type 0) (Of : N → Heard → Type 0) (IsSuch : Heard → Type 0) → ((n : N) → IsAlike n → (s : Heard) → Of n s → IsSuch s) → All IsAlike nodes → (count : ℕ) → count ≡ length nodes
+    → (ends : Result (Vec (Result (Vec Heard Global) NoMemory) Global) NoMemory) → IfOk ends (λ v. vec_len v ≡ count)
+    → IfOk ends (λ v. (k : ℕ) (n : N) (seats : Vec Heard Global) → slice_get nodes k ≡ Some n → slice_get v.items k ≡ Some (Ok seats) → All (Of n) seats.items) → IfOk ends (λ v. AreAll IsSuch v.items)
+ends_taken nodes IsAlike Of IsSuch same alike count all (Ok v) len each = all_taken nodes IsAlike Of IsSuch same alike v.items (sym v.ok.0 ∙ len ∙ all) each
+ends_taken nodes IsAlike Of IsSuch same alike count all (Err e) len each = tt

@@ -1,9 +1,10 @@
 //! The threads of all nodes, and the one that plays a script.
-ghost use Rattle.std.specs.Prelude.{◌≡◌, [], All, length, vec_len, IfOk};
+ghost use Rattle.std.specs.Prelude.{◌≡◌, ℕ, All, length, slice_get, vec_len, IfOk, Ok, Some};
 ghost use Rattle.std.specs.Thread.{IsSync};
 ghost use Rattle.desk.specs.Keeping.{MayOpen};
 ghost use Rattle.protocol.specs.Registries.{nodes};
-ghost use Rattle.sessions.specs.Orders.{HaveNoOrders};
+ghost use Rattle.sessions.specs.Orders.{AreAll};
+ghost use Rattle.sessions.specs.Threads.{AreOfThread};
 ghost use Rattle.playing.specs.Orders.{IsPlayed};
 
 use crate::answer::Answer;
@@ -15,7 +16,9 @@ use desk::{Desk, Gate, Opening, RoomBell, Seat, Stored};
 use protocol::nodes_of;
 use scheme::Scheme;
 use scripts::ScriptLine;
-use sessions::{Dial, LONGEST_MUSTER, Listen, Muster, Mustered, NodeParts, run_all, threads_of};
+use sessions::{
+    Dial, LONGEST_MUSTER, Listen, Muster, Mustered, NodeParts, new_seats, run_all, threads_of,
+};
 use std::alloc::Global;
 use std::rt::Clock as SystemClock;
 use std::sync::Wait;
@@ -69,25 +72,16 @@ where
     G: Gate + Sync,
     R: Threads + Wait + SystemClock + Sync,
     ensures len { IfOk result (λ v. vec_len v ≡ vec_len stations.entry) }
-    ensures none { IfOk result (λ v. HaveNoOrders v.items) }
+    ensures taken { IfOk result
+        (λ v. (k : ℕ) (parts : _) (seats : _) → slice_get stations.entry.items k ≡ Some parts
+        → slice_get v.items k ≡ Some (Ok seats)
+        → All (AreOfThread (D.leads parts.dial.now) D.Reader.remaining D.Writer.contents S.NodeStore O.opened (K.tells parts.clock.now)) seats.items) }
 {
     let ends = run_all(rt, alloc, stations);
     if ends.is_err() {
         stop_all(rt, desks);
     }
     ends
-}
-
-/// That many seats that were told nothing.
-fn new_seats(alloc: Global, count: usize) -> Result<Vec<Seat>, NoMemory>
-    ensures len { IfOk result (λ v. vec_len v ≡ count) }
-    ensures none { IfOk result (λ v. All (λ s. (s.tickets ≡ []) × (s.notes ≡ [])) v.items) }
-{
-    let mut seats = Vec::new(alloc);
-    for made in 0..count {
-        seats.push(Seat::new(alloc))?;
-    }
-    Ok(seats)
 }
 
 /// Plays the script with new seats.
@@ -188,7 +182,10 @@ where
     R: Threads + Wait + SystemClock + Sync,
     requires { length desks.now ≡ length (nodes scheme.now) }
     ensures ends { IfOk result.0 (λ v. vec_len v ≡ vec_len stations.entry) }
-    ensures none { IfOk result.0 (λ v. HaveNoOrders v.items) }
+    ensures taken { IfOk result.0
+        (λ v. (k : ℕ) (parts : _) (seats : _) → slice_get stations.entry.items k ≡ Some parts
+        → slice_get v.items k ≡ Some (Ok seats)
+        → All (AreOfThread (D.leads parts.dial.now) D.Reader.remaining D.Writer.contents S.NodeStore O.opened (K.tells parts.clock.now)) seats.items) }
     ensures played { IfOk result.1 (λ p. IsPlayed scheme.now lines.now p.answers.items p.seats.items) }
     ensures seats { IfOk result.1 (λ p. vec_len p.seats ≡ length (nodes scheme.now)) }
 {
@@ -198,7 +195,10 @@ where
         move || -> Ends
             requires { IsSync R.row }
             ensures len { IfOk result (λ v. vec_len v ≡ vec_len stations.entry) }
-            ensures none { IfOk result (λ v. HaveNoOrders v.items) }
+            ensures taken { IfOk result
+                (λ v. (k : ℕ) (parts : _) (seats : _) → slice_get stations.entry.items k ≡ Some parts
+                → slice_get v.items k ≡ Some (Ok seats)
+                → All (AreOfThread (D.leads parts.dial.now) D.Reader.remaining D.Writer.contents S.NodeStore O.opened (K.tells parts.clock.now)) seats.items) }
         { run_or_stop(rt, alloc, desks, stations) },
         move || -> Result<Played, NoMemory>
             requires { length desks.now ≡ length (nodes scheme.now) }
@@ -240,7 +240,7 @@ where
     requires desks { vec_len all.now.desks ≡ length (nodes scheme.now) }
     requires listeners { length network.now.listeners.now ≡ length (nodes scheme.now) }
     ensures ends { IfOk result (λ r. IfOk r.0 (λ v. vec_len v ≡ length (nodes scheme.now))) }
-    ensures none { IfOk result (λ r. IfOk r.0 (λ v. HaveNoOrders v.items)) }
+    ensures taken { IfOk result (λ r. IfOk r.0 (λ v. AreAll (AreOfThread (D.leads network.now.dial.now) D.Reader.remaining D.Writer.contents S.NodeStore O.opened (K.tells network.now.clock.now)) v.items)) }
     ensures played { IfOk result (λ r. IfOk r.1 (λ p. IsPlayed scheme.now lines.now p.answers.items p.seats.items)) }
     ensures seats { IfOk result (λ r. IfOk r.1 (λ p. vec_len p.seats ≡ length (nodes scheme.now))) }
 {
@@ -284,7 +284,7 @@ where
     requires listeners { length network.now.listeners.now ≡ length (nodes scheme.now) }
     ensures desks { IfOk result (λ r. vec_len r.desks ≡ length (nodes scheme.now)) }
     ensures ends { IfOk result (λ r. IfOk r.ends (λ v. vec_len v ≡ length (nodes scheme.now))) }
-    ensures none { IfOk result (λ r. IfOk r.ends (λ v. HaveNoOrders v.items)) }
+    ensures taken { IfOk result (λ r. IfOk r.ends (λ v. AreAll (AreOfThread (D.leads network.now.dial.now) D.Reader.remaining D.Writer.contents S.NodeStore O.opened (K.tells network.now.clock.now)) v.items)) }
     ensures played { IfOk result (λ r. IfOk r.played (λ p. IsPlayed scheme.now lines.now p.answers.items p.seats.items)) }
     ensures seats { IfOk result (λ r. IfOk r.played (λ p. vec_len p.seats ≡ length (nodes scheme.now))) }
 {

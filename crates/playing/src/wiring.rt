@@ -72,6 +72,7 @@ where
     ensures desks { IfOk result (λ v. map (λ n. n.desk.now) v.items ≡ desks.now) }
     ensures listeners { IfOk result (λ v. map (λ n. n.listen.now) v.items ≡ network.now.listeners.now) }
     ensures peers { IfOk result (λ v. map (λ n. n.peers.now) v.items ≡ peers_of names.now) }
+    ensures alike { IfOk result (λ v. All (λ n. (n.dial.now ≡ network.now.dial.now) × (n.clock.now ≡ network.now.clock.now)) v.items) }
 {
     let mut nodes = Vec::with_capacity(alloc, names.len())?;
     for at in 0..names.len() {

@@ -7,7 +7,8 @@ use Rattle.std.proofs.lemmas.Option.{slice_get_within}
 use Rattle.lemmas.proofs.OneValue.{one_some}
 use Rattle.units.specs.declared.memory.NoMemory.{NoMemory}
 use Rattle.desk.specs.Views.{Heard}
-use Rattle.sessions.specs.Orders.{HasNoOrder, HaveNoOrders}
+use Rattle.wire.specs.declared.input.Input.{Input}
+use Rattle.sessions.specs.Orders.{AreAll}
 use Rattle.runs.specs.Gathered.{AreGatheredTo, IsGathered}
 use Rattle.playing.proofs.HeardLines.{last_or_before}
 
@@ -17,22 +18,22 @@ drop_at (suc k) [] x ys e = absurd (cc (e))
 drop_at zero (z ∷ zs) x ys e = (cc (e), cc (e))
 drop_at (suc k) (z ∷ zs) x ys e = drop_at k zs x ys e
 
-module _ {V : Type 0} (f : V → List Heard) (own : List Heard) (all : List V) (v : V) (seat : Heard) (rest next : List Heard) (left : rest ≡ drop (length all) own) (taken : rest ≡ seat ∷ next) where
+module _ (Takes : Input → Type 0) {V : Type 0} (f : V → List Heard) (own : List Heard) (all : List V) (v : V) (seat : Heard) (rest next : List Heard) (left : rest ≡ drop (length all) own) (taken : rest ≡ seat ∷ next) where
   pub own_at : (slice_get own (length all) ≡ Some seat) × (drop (suc (length all)) own ≡ next)
   own_at = drop_at (length all) own seat next (sym left ∙ taken)
 
-  gathered_last : IsGathered (f v) seat → AreGatheredTo (length all) own (map f all) → AreGatheredTo (length (all ++ v ∷ [])) own (map f (all ++ v ∷ []))
+  gathered_last : IsGathered Takes (f v) seat → AreGatheredTo Takes (length all) own (map f all) → AreGatheredTo Takes (length (all ++ v ∷ [])) own (map f (all ++ v ∷ []))
   gathered_last among before = λ k s h under at_own at_all.
       elim (last_or_before (map f all) (f v) h k (ap (λ (l : List (List Heard)). slice_get l k) (sym (map-append f all (v ∷ []))) ∙ at_all)) [
         | inl early ↦ before k s h (omega (arith, slice_get_within (map f all) k h early, length-map all f)) at_own early
         | inr last ↦
             let k_is : k ≡ length all = omega (arith, last.0, length-map all f) in
             let same : seat ≡ s = one_some seat s (sym own_at.0 ∙ ap (slice_get own) (sym k_is) ∙ at_own) in
-            subst (IsGathered h) same (subst (λ (x : List Heard). IsGathered x seat) (sym last.1) among)
+            subst (IsGathered Takes h) same (subst (λ (x : List Heard). IsGathered Takes x seat) (sym last.1) among)
       ]
 
-  pub gathered_more : (new : List V) → new ≡ all ++ v ∷ [] → IsGathered (f v) seat → AreGatheredTo (length all) own (map f all) → AreGatheredTo (length new) own (map f new)
-  gathered_more new is among before = subst (λ (xs : List V). AreGatheredTo (length xs) own (map f xs)) (sym is) (gathered_last among before)
+  pub gathered_more : (new : List V) → new ≡ all ++ v ∷ [] → IsGathered Takes (f v) seat → AreGatheredTo Takes (length all) own (map f all) → AreGatheredTo Takes (length new) own (map f new)
+  gathered_more new is among before = subst (λ (xs : List V). AreGatheredTo Takes (length xs) own (map f xs)) (sym is) (gathered_last among before)
 
   pub rest_more : (new : List V) → new ≡ all ++ v ∷ [] → next ≡ drop (length new) own
   rest_more new is =
@@ -42,20 +43,21 @@ module _ {V : Type 0} (f : V → List Heard) (own : List Heard) (all : List V) (
   pub count_more : (new : List V) → new ≡ all ++ v ∷ [] → length new ≤ length own
   count_more new is = omega (arith, ap (λ (xs : List V). length xs) is, length-append all (v ∷ []), slice_get_within own (length all) seat own_at.0)
 
--- ---- the seats of threads, which have no orders
+-- ---- the seats of threads
 
-abbrev pub HasNone : Option (Result (Vec Heard Global) NoMemory) → Type 0
-HasNone found = IfSome found (λ ended. IfOk ended (λ seats. All HasNoOrder seats.items))
+module _ (IsSuch : Heard → Type 0) where
+  abbrev pub HasSuch : Option (Result (Vec Heard Global) NoMemory) → Type 0
+  HasSuch found = IfSome found (λ ended. IfOk ended (λ seats. All IsSuch seats.items))
 
-pub has_seats : (seats : Vec Heard Global) (e : Result (Vec Heard Global) NoMemory) → e ≡ Ok seats → HasNone (Some e) → All HasNoOrder seats.items
-has_seats seats e is none = subst (λ (r : Result (Vec Heard Global) NoMemory). HasNone (Some r)) is none
+  pub has_seats : (seats : Vec Heard Global) (e : Result (Vec Heard Global) NoMemory) → e ≡ Ok seats → HasSuch (Some e) → All IsSuch seats.items
+  has_seats seats e is such = subst (λ (r : Result (Vec Heard Global) NoMemory). HasSuch (Some r)) is such
 
-has_none : (e : Result (Vec Heard Global) NoMemory) (more : List (Result (Vec Heard Global) NoMemory)) → HaveNoOrders (e ∷ more) → HasNone (Some e)
-has_none (Ok seats) more none = none 0 seats refl
-has_none (Err e) more none = tt
+  has_such : (e : Result (Vec Heard Global) NoMemory) (more : List (Result (Vec Heard Global) NoMemory)) → AreAll IsSuch (e ∷ more) → HasSuch (Some e)
+  has_such (Ok seats) more such = such 0 seats refl
+  has_such (Err e) more such = tt
 
-pub none_left : (old new : List (Result (Vec Heard Global) NoMemory)) (found : Option (Result (Vec Heard Global) NoMemory)) → old ≡ option_to_list found ++ new → HaveNoOrders old → HasNone found × HaveNoOrders new
-none_left old new None is none = (tt, subst HaveNoOrders is none)
-none_left old new (Some e) is none =
-    let all : HaveNoOrders (e ∷ new) = subst HaveNoOrders is none in
-    (has_none e new all, λ k seats at. all (suc k) seats at)
+  pub such_left : (old new : List (Result (Vec Heard Global) NoMemory)) (found : Option (Result (Vec Heard Global) NoMemory)) → old ≡ option_to_list found ++ new → AreAll IsSuch old → HasSuch found × AreAll IsSuch new
+  such_left old new None is such = (tt, subst (AreAll IsSuch) is such)
+  such_left old new (Some e) is such =
+      let all : AreAll IsSuch (e ∷ new) = subst (AreAll IsSuch) is such in
+      (has_such e new all, λ k seats at. all (suc k) seats at)

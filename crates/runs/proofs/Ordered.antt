@@ -1,11 +1,11 @@
 -- The records of a settled node that were ordered are those of the script's seat, in its order.
 use Rattle.std.proofs.Common.{◌≡◌, ◌≢◌, ◌⊎◌, ◌∙◌, ◌<◌, ◌≤◌, ◌+◌, ◌-◌, ℕ, zero, suc, Bool, true, false, cond, List, [], ◌∷◌, ◌++◌, length, take, drop, Some, inl, inr, refl, sym, ap, subst, arith, All, count_by}
-use Rattle.std.specs.Prelude.{◌==◌, filter, nat_lt, slice_get, sum_by}
+use Rattle.std.specs.Prelude.{◌==◌, filter, get_or, nat_lt, slice_get, sum_by}
 use Rattle.std.proofs.lemmas.Bool.{cases_eq, cases_lt, cases_order, eq-eqb, le-ltb, lt-ltb, ne_eqb, true≢false}
 use Rattle.std.proofs.lemmas.List.Elements.{All-cons, All-head, All-nil, All-tail, All-weaker, filter-append}
 use Rattle.std.proofs.lemmas.List.{drop-take}
 use Rattle.std.proofs.lemmas.List.Sums.{sum_by-append}
-use Rattle.std.proofs.lemmas.Option.{slice_get_within}
+use Rattle.std.proofs.lemmas.Option.{get_or_from_slice_get, slice_get-get_or, slice_get_within}
 use Rattle.lemmas.proofs.OneValue.{one_some}
 use Rattle.units.specs.declared.code.Node.{Node}
 use Rattle.wire.specs.declared.input.Input.{Input}
@@ -18,14 +18,14 @@ use Rattle.desk.specs.declared.notes.Lengths.TheVariants.{Grew}
 use Rattle.desk.specs.declared.notes.Ticket.{Ticket}
 use Rattle.desk.specs.declared.notes.Told.{Told}
 use Rattle.desk.specs.declared.notes.Told.TheVariants.{Step, Status, Refused}
-use Rattle.sessions.specs.Orders.{HasNoOrder, was_ordered}
+use Rattle.sessions.specs.Orders.{HasNoOrder, HasOnly, was_ordered}
 use Rattle.scripts.specs.declared.line.ScriptLine.{ScriptLine}
 use Rattle.playing.specs.Answers.{asked_by, node_of}
 use Rattle.playing.specs.Notes.{IsOfLine}
 use Rattle.playing.specs.Orders.{AreOrders, Ascend, HasOrders, IsRecordOf}
 use Rattle.playing.specs.declared.answer.Answer.{Answer}
 use Rattle.playing.specs.declared.answer.Answer.TheVariants.{NotPossible, Told as Answered}
-use Rattle.runs.specs.Runs.{ordered_from, orders_of}
+use Rattle.runs.specs.Runs.{ordered_from, orders_of, since}
 
 abbrev IsOrdered : Ticket → Type 0
 IsOrdered t = was_ordered t.input ≡ true
@@ -157,29 +157,18 @@ get_after zero xs k = ap (slice_get xs) (omega arith)
 get_after (suc n) [] k = refl
 get_after (suc n) (x ∷ xs) k = get_after n xs k ∙ ap (slice_get (x ∷ xs)) {x = suc (n + k)} (omega arith)
 
-module _ (held : Held) (heard threads : List Heard) (seat : Heard) (covers : Covers held heard) (is : heard ≡ threads ++ seat ∷ []) (none : All HasNoOrder threads) where
+all_at : {X : Type 0} (P : X → Type 0) (xs : List X) (k : ℕ) (x : X) → All P xs → slice_get xs k ≡ Some x → P x
+all_at P xs k x all is = subst P (get_or_from_slice_get xs k x x is) (all k x (slice_get_within xs k x is))
+
+-- no ticket whose input is such names the place of another input
+unnamed : (held : Held) (IsSuch : Input → Type 0) (place : ℕ) (x : Input) → slice_get held.journal place ≡ Some x → (IsSuch x → ⊥) → (ts : List Ticket) → All (Fits held) ts → All (λ (t : Ticket). IsSuch t.input) ts → All (λ (t : Ticket). t.place ≢ place) ts
+unnamed held IsSuch place x at other ts fit such = λ k d low same.
+    let x_is : x ≡ (get_or ts k d).input = one_some x (get_or ts k d).input (sym at ∙ (sym (ap (slice_get held.journal) same) ∙ (fit k d low).1)) in
+    other (subst IsSuch (sym x_is) (such k d low))
+
+module _ (held : Held) (heard threads : List Heard) (seat : Heard) (covers : Covers held heard) (is : heard ≡ threads ++ seat ∷ []) where
   fits : All (λ (s : Heard). All (Fits held) s.tickets) (threads ++ seat ∷ [])
   fits = subst (All (λ (s : Heard). All (Fits held) s.tickets)) is covers.fits
-
-  -- a ticket of a seat without orders doesn't name the place of one
-  no_thread : (place : ℕ) (x : Input) → slice_get held.journal place ≡ Some x → was_ordered x ≡ true → (s : Heard) → All (Fits held) s.tickets → HasNoOrder s → All (λ (t : Ticket). t.place ≢ place) s.tickets
-  no_thread place x at ordered s fit without = others s.tickets fit without
-    where
-      others : (ts : List Ticket) → All (Fits held) ts → All (λ (t : Ticket). was_ordered t.input ≡ false) ts → All (λ (t : Ticket). t.place ≢ place) ts
-      others [] f w = All-nil (λ (t : Ticket). t.place ≢ place)
-      others (t ∷ ts) f w =
-          All-cons (λ (u : Ticket). u.place ≢ place) t ts
-          (λ same.
-          let x_is : x ≡ t.input = one_some x t.input (sym at ∙ (sym (ap (slice_get held.journal) same) ∙ (All-head (Fits held) t ts f).1)) in
-          absurd (true≢false (sym ordered ∙ (ap was_ordered x_is ∙ All-head (λ (u : Ticket). was_ordered u.input ≡ false) t ts w))))
-          (others ts (All-tail (Fits held) t ts f) (All-tail (λ (u : Ticket). was_ordered u.input ≡ false) t ts w))
-
-  no_threads : (place : ℕ) (x : Input) → slice_get held.journal place ≡ Some x → was_ordered x ≡ true → (ss : List Heard) → All (λ (s : Heard). All (Fits held) s.tickets) ss → All HasNoOrder ss → times_named ss place ≡ 0
-  no_threads place x at ordered [] fit without = refl
-  no_threads place x at ordered (s ∷ ss) fit without =
-      let rest = no_threads place x at ordered ss (All-tail (λ (h : Heard). All (Fits held) h.tickets) s ss fit) (All-tail HasNoOrder s ss without) in
-      let here = none_of place s.tickets (no_thread place x at ordered s (All-head (λ (h : Heard). All (Fits held) h.tickets) s ss fit) (All-head HasNoOrder s ss without)) in
-      omega (arith, sum_by-append (λ (h : Heard). count_by (is_at place) h.tickets) (s ∷ []) ss, rest, here)
 
   front : (ss : List Heard) (s : Heard) → All (λ (h : Heard). All (Fits held) h.tickets) (ss ++ s ∷ []) → All (λ (h : Heard). All (Fits held) h.tickets) ss × All (Fits held) s.tickets
   front [] s all = (All-nil (λ (h : Heard). All (Fits held) h.tickets), All-head (λ (h : Heard). All (Fits held) h.tickets) s [] all)
@@ -187,22 +176,73 @@ module _ (held : Held) (heard threads : List Heard) (seat : Heard) (covers : Cov
       let rest = front ss s (All-tail (λ (h : Heard). All (Fits held) h.tickets) h (ss ++ s ∷ []) all) in
       (All-cons (λ (h : Heard). All (Fits held) h.tickets) h ss (All-head (λ (h : Heard). All (Fits held) h.tickets) h (ss ++ s ∷ []) all) rest.0, rest.1)
 
-  -- the place of an order is named by just one ticket of the script's seat
-  named_once : (place : ℕ) (x : Input) → held.opening ≤ place → slice_get held.journal place ≡ Some x → was_ordered x ≡ true → count_by (is_at place) seat.tickets ≡ 1
-  named_once place x low at ordered =
+  -- one ticket of all names the place of a record since the opening
+  named : (place : ℕ) (x : Input) → held.opening ≤ place → slice_get held.journal place ≡ Some x → times_named threads place + count_by (is_at place) seat.tickets ≡ 1
+  named place x low at =
       let all : times_named (threads ++ seat ∷ []) place ≡ 1 = subst (λ (ss : List Heard). times_named ss place ≡ 1) is (covers.once place (low, slice_get_within held.journal place x at)) in
-      omega (arith, all, sum_by-append (λ (h : Heard). count_by (is_at place) h.tickets) threads (seat ∷ []), no_threads place x at ordered threads (front threads seat fits).0 none)
+      omega (arith, all, sum_by-append (λ (h : Heard). count_by (is_at place) h.tickets) threads (seat ∷ []))
 
-  -- the script's seat has the records that were ordered, in the order of their places
-  orders_in_turn : All IsOrdered seat.tickets → Ascend seat.tickets → seat.tickets ≡ ordered_from held.opening (drop held.opening held.journal)
-  orders_in_turn ordered ascend =
-      ordered_are (drop held.opening held.journal) held.opening seat.tickets
-      (All-weaker (Fits held) (IsFrom held.opening (drop held.opening held.journal)) (λ t fit.
-      let same : held.opening + (t.place - held.opening) ≡ t.place = omega (arith, fit.0) in
-      (fit.0, get_after held.opening held.journal (t.place - held.opening) ∙ (ap (slice_get held.journal) same ∙ fit.1)))
-      seat.tickets (front threads seat fits).1)
-      ordered ascend
-      (λ k x at is. named_once (held.opening + k) x (omega arith) (sym (get_after held.opening held.journal k) ∙ at) is)
+  module _ (none : All HasNoOrder threads) where
+    no_threads : (place : ℕ) (x : Input) → slice_get held.journal place ≡ Some x → was_ordered x ≡ true → (ss : List Heard) → All (λ (s : Heard). All (Fits held) s.tickets) ss → All HasNoOrder ss → times_named ss place ≡ 0
+    no_threads place x at ordered [] fit without = refl
+    no_threads place x at ordered (s ∷ ss) fit without =
+        let rest = no_threads place x at ordered ss (All-tail (λ (h : Heard). All (Fits held) h.tickets) s ss fit) (All-tail HasNoOrder s ss without) in
+        let unfit = unnamed held (λ i. was_ordered i ≡ false) place x at (λ no. true≢false (sym ordered ∙ no)) s.tickets (All-head (λ (h : Heard). All (Fits held) h.tickets) s ss fit) (All-head HasNoOrder s ss without) in
+        omega (arith, sum_by-append (λ (h : Heard). count_by (is_at place) h.tickets) (s ∷ []) ss, rest, none_of place s.tickets unfit)
+
+    -- the place of an order is named by just one ticket of the script's seat
+    named_once : (place : ℕ) (x : Input) → held.opening ≤ place → slice_get held.journal place ≡ Some x → was_ordered x ≡ true → count_by (is_at place) seat.tickets ≡ 1
+    named_once place x low at ordered = omega (arith, named place x low at, no_threads place x at ordered threads (front threads seat fits).0 none)
+
+    -- the script's seat has the records that were ordered, in the order of their places
+    orders_in_turn : All IsOrdered seat.tickets → Ascend seat.tickets → seat.tickets ≡ ordered_from held.opening (drop held.opening held.journal)
+    orders_in_turn ordered ascend =
+        ordered_are (drop held.opening held.journal) held.opening seat.tickets
+        (All-weaker (Fits held) (IsFrom held.opening (drop held.opening held.journal)) (λ t fit.
+        let same : held.opening + (t.place - held.opening) ≡ t.place = omega (arith, fit.0) in
+        (fit.0, get_after held.opening held.journal (t.place - held.opening) ∙ (ap (slice_get held.journal) same ∙ fit.1)))
+        seat.tickets (front threads seat fits).1)
+        ordered ascend
+        (λ k x at is. named_once (held.opening + k) x (omega arith) (sym (get_after held.opening held.journal k) ∙ at) is)
+
+  -- ---- the records of threads
+
+  module _ (Takes : Input → Type 0) (took : All (HasOnly Takes) threads) (ordered : All IsOrdered seat.tickets) where
+    -- some thread's seat names the place
+    named_by : (place : ℕ) (ss : List Heard) → 0 < times_named ss place → (j : ℕ) × (s : Heard) × (slice_get ss j ≡ Some s) × (0 < count_by (is_at place) s.tickets)
+    named_by place [] some = absurd (omega (arith, some))
+    named_by place (s ∷ ss) some =
+        elim (cases_lt 0 (count_by (is_at place) s.tickets)) [
+          | inl here ↦ (zero, s, refl, here)
+          | inr none ↦
+              let more = named_by place ss (omega (arith, some, none, sum_by-append (λ (h : Heard). count_by (is_at place) h.tickets) (s ∷ []) ss)) in
+              (suc more.0, more.1, more.2, more.3)
+        ]
+
+    -- a record since the opening that was not ordered is one that a thread took
+    taken_at : (place : ℕ) (x : Input) → held.opening ≤ place → slice_get held.journal place ≡ Some x → was_ordered x ≡ false → Takes x
+    taken_at place x low at other =
+        let unfit = unnamed held (λ i. was_ordered i ≡ true) place x at (λ yes. true≢false (sym yes ∙ other)) seat.tickets (front threads seat fits).1 ordered in
+        let s = named_by place threads (omega (arith, named place x low at, none_of place seat.tickets unfit)) in
+        let t = found_one place s.1.tickets s.3 in
+        let fit : Fits held t.1 = all_at (Fits held) s.1.tickets t.0 t.1 (all_at (λ (h : Heard). All (Fits held) h.tickets) threads s.0 s.1 (front threads seat fits).0 s.2) t.2 in
+        let x_is : x ≡ t.1.input = one_some x t.1.input (sym at ∙ (sym (ap (slice_get held.journal) t.3) ∙ fit.1)) in
+        subst Takes (sym x_is) (all_at (λ (u : Ticket). Takes u.input) s.1.tickets t.0 t.1 (all_at (HasOnly Takes) threads s.0 s.1 took s.2) t.2)
+
+    in_front : (n : ℕ) (xs : List Input) (k : ℕ) (x : Input) → slice_get (take n xs) k ≡ Some x → slice_get xs k ≡ Some x
+    in_front zero xs k x is = absurd (cc (is))
+    in_front (suc n) [] k x is = absurd (cc (is))
+    in_front (suc n) (y ∷ ys) zero x is = is
+    in_front (suc n) (y ∷ ys) (suc k) x is = in_front n ys k x is
+
+    -- also of those that are committed
+    pub others_taken : All (λ input. was_ordered input ≡ false → Takes input) (since held)
+    others_taken = λ k d low other.
+        let x = get_or (since held) k d in
+        let at : slice_get (since held) k ≡ Some x = slice_get-get_or (since held) k d low in
+        taken_at (held.opening + k) x (omega arith)
+        (in_front held.committed held.journal (held.opening + k) x (sym (get_after held.opening (take held.committed held.journal) k) ∙ at))
+        other
 
 -- ---- those that are committed
 

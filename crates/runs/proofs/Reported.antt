@@ -1,7 +1,7 @@
 -- What a script heard is borne by the committed records of settled nodes.
-use Rattle.std.proofs.Common.{◌≡◌, ◌∙◌, ◌<◌, ◌≤◌, ℕ, zero, suc, List, [], ◌∷◌, ◌++◌, length, map, take, Some, sym, ap, subst, arith}
+use Rattle.std.proofs.Common.{◌≡◌, ◌∙◌, ◌<◌, ◌≤◌, ℕ, zero, suc, false, All, List, [], ◌∷◌, ◌++◌, length, map, take, Some, sym, ap, subst, arith}
 use Rattle.std.specs.Prelude.{Contains, slice_get, slice_index_or}
-use Rattle.std.proofs.lemmas.List.Elements.{All-contains, Contains-push}
+use Rattle.std.proofs.lemmas.List.Elements.{All-contains, All-weaker, Contains-push}
 use Rattle.std.proofs.lemmas.Option.{slice_get_within}
 use Rattle.units.specs.declared.code.Node.{Node}
 use Rattle.wire.specs.declared.input.Input.{Input}
@@ -13,7 +13,9 @@ use Rattle.protocol.specs.declared.node_core.Stepped.TheVariants.{Recorded}
 use Rattle.desk.specs.Settling.{IsSettled, Stood}
 use Rattle.desk.specs.Views.{Held, Heard, committed_records}
 use Rattle.desk.specs.declared.notes.Asked.TheVariants.{Take}
+use Rattle.desk.specs.declared.notes.Ticket.{Ticket}
 use Rattle.desk.specs.declared.notes.Told.TheVariants.{Step}
+use Rattle.sessions.specs.Orders.{HasNoOrder, HasOnly, was_ordered}
 use Rattle.weave.specs.Following.{journal_of}
 use Rattle.protocol.proofs.NodePlaces.{node_of_place, place_within}
 use Rattle.weave.proofs.NodePlaces.{journal_is}
@@ -22,11 +24,11 @@ use Rattle.playing.specs.Answers.{IsAnswer, IsBorne, IsRecordAt, answer_lines, a
 use Rattle.runs.specs.Gathered.{AreGathered, IsGathered}
 use Rattle.playing.specs.Heard.{IsHeard}
 use Rattle.playing.specs.Orders.{IsPlayed}
-use Rattle.runs.specs.Runs.{IsReported, IsRunReport, committed_by_all}
+use Rattle.runs.specs.Runs.{HaveOthers, IsReported, IsRunReport, committed_by_all}
 use Rattle.playing.specs.declared.answer.Answer.{Answer}
 use Rattle.playing.specs.declared.answer.Answer.TheVariants.{NotPossible, Told as Answered}
 use Rattle.runs.proofs.Borne.{borne}
-use Rattle.runs.proofs.Ordered.{committed_orders}
+use Rattle.runs.proofs.Ordered.{committed_orders, others_taken}
 
 image_or : {X Y : Type 0} (f : X → Y) (xs : List X) (k : ℕ) (x : X) (d : Y) → slice_get xs k ≡ Some x → slice_index_or (map f xs) k d ≡ f x
 image_or f [] zero x d e = absurd (cc (e))
@@ -40,7 +42,7 @@ short (suc count) [] = omega arith
 short (suc count) (x ∷ xs) = let rest = short count xs in omega (arith, rest)
 
 module _ (scheme : Scheme) (helds : List Held) (own : List Heard) (seats : List (List Heard)) (table : List ℕ)
-    (all : length helds ≡ length (nodes scheme)) (gathered : AreGathered own seats) (each : length own ≡ length (nodes scheme)) (r : IsReported scheme helds seats table) where
+    (all : length helds ≡ length (nodes scheme)) (Takes : Input → Type 0) (unordered : (input : Input) → Takes input → was_ordered input ≡ false) (gathered : AreGathered Takes own seats) (each : length own ≡ length (nodes scheme)) (r : IsReported scheme helds seats table) where
   journal_at : (n : Node) (at : ℕ) (held : Held) → place_of scheme n ≡ Some at → slice_get helds at ≡ Some held → journal_of scheme (committed_by_all helds) n ≡ committed_records held
   journal_at n at held place is = journal_is scheme n at place (committed_by_all helds) ∙ image_or committed_records helds at held [] is
 
@@ -48,7 +50,7 @@ module _ (scheme : Scheme) (helds : List Held) (own : List Heard) (seats : List 
   record IsSeated (n : Node) (held : Held) (seat : Heard) : Type 0 where
     heard : List Heard
     settled : IsSettled scheme n held heard
-    gathers : IsGathered heard seat
+    gathers : IsGathered Takes heard seat
 
   seated : (n : Node) (at : ℕ) (held : Held) (seat : Heard) → place_of scheme n ≡ Some at → slice_get helds at ≡ Some held → slice_get own at ≡ Some seat → IsSeated n held seat
   seated n at held seat place is at_own =
@@ -60,7 +62,7 @@ module _ (scheme : Scheme) (helds : List Held) (own : List Heard) (seats : List 
         gathers = gathered.each at seat heard.0 (omega (arith, low, each)) at_own heard.1;
       }
 
-  among : (heard : List Heard) (seat : Heard) → IsGathered heard seat → Contains heard seat
+  among : (heard : List Heard) (seat : Heard) → IsGathered Takes heard seat → Contains heard seat
   among heard seat g = subst (λ (xs : List Heard). Contains xs seat) (sym g.1) (Contains-push g.0 seat)
 
   is_answer : (l : ScriptLine) (answer : Answer) → IsHeard scheme own l answer → IsAnswer scheme (journal_of scheme (committed_by_all helds)) l answer
@@ -82,6 +84,18 @@ module _ (scheme : Scheme) (helds : List Held) (own : List Heard) (seats : List 
       let low = slice_get_within (committed_records held) place input at in
       omega (arith, low, short held.committed held.journal)
 
+  -- no thread has an order
+  no_orders : (threads : List Heard) → All (HasOnly Takes) threads → All HasNoOrder threads
+  no_orders threads took = All-weaker (HasOnly Takes) HasNoOrder (λ s only. All-weaker (λ (t : Ticket). Takes t.input) (λ (t : Ticket). was_ordered t.input ≡ false) (λ t. unordered t.input) s.tickets only) threads took
+
+  -- the records of each node that were not ordered are those of its threads
+  pub other_records : (lines : List ScriptLine) (answers : List Answer) → IsPlayed scheme lines answers own → HaveOthers Takes scheme helds
+  other_records lines answers played n at held place is =
+      let low : at < length (nodes scheme) = place_within scheme n at place in
+      let seat = some_at own at (omega (arith, low, each)) in
+      let s = seated n at held seat.0 place is seat.1 in
+      others_taken held s.heard s.gathers.0 seat.0 s.settled.covers s.gathers.1 Takes s.gathers.2 (played.orders n at seat.0 place seat.1).ordered
+
   pub run_report : (lines : List ScriptLine) (answers : List Answer) (first text : List ℕ) → IsPlayed scheme lines answers own → first ≡ answer_lines 1 answers → text ≡ first ++ table → IsRunReport scheme lines helds text
   run_report lines answers first text played first_is text_is = record {
     answers = answers;
@@ -92,7 +106,7 @@ module _ (scheme : Scheme) (helds : List Held) (own : List Heard) (seats : List 
         let seat = some_at own at (omega (arith, low, each)) in
         let s = seated n at held seat.0 place is seat.1 in
         committed_orders n held s.heard s.gathers.0 seat.0 lines answers s.settled.covers
-        (All-contains Stood s.heard seat.0 s.settled.stood (among s.heard seat.0 s.gathers)) s.gathers.1 s.gathers.2
+        (All-contains Stood s.heard seat.0 s.settled.stood (among s.heard seat.0 s.gathers)) s.gathers.1 (no_orders s.gathers.0 s.gathers.2)
         (played.orders n at seat.0 place seat.1)
         (λ k l input at_place at_l at_a here asked. recorded_within n held l input at_place (journal_at n at held place is) here asked (borne_each k l (Answered (Step (Recorded at_place))) at_l at_a));
     is_table = r.is_table;

@@ -1,16 +1,19 @@
 -- The seats of all that were told something by the nodes' desks. No public contract cites it.
 use Rattle.std.specs.Prelude.{◌≡◌, ◌<◌, ℕ, All, List, [], ◌∷◌, ◌++◌, length, slice_get, Some}
+use Rattle.wire.specs.declared.input.Input.{Input}
 use Rattle.desk.specs.Views.{Heard}
-use Rattle.sessions.specs.Orders.{HasNoOrder}
+use Rattle.sessions.specs.Orders.{HasOnly}
 
--- the script's seat stands after those of the node's threads, which have no orders
-abbrev pub IsGathered : List Heard → Heard → Type 0
-IsGathered heard seat = (threads : List Heard) × (heard ≡ threads ++ seat ∷ []) × All HasNoOrder threads
+-- what the threads of a run have recorded
+module _ (Takes : Input → Type 0) where
+  -- the script's seat stands after those of the node's threads, which have such records alone
+  abbrev pub IsGathered : List Heard → Heard → Type 0
+  IsGathered heard seat = (threads : List Heard) × (heard ≡ threads ++ seat ∷ []) × All (HasOnly Takes) threads
 
--- the seat of the script at each of the first nodes' desks stands among those of the node
-abbrev pub AreGatheredTo : ℕ → List Heard → List (List Heard) → Type 0
-AreGatheredTo at own all = (k : ℕ) (seat : Heard) (heard : List Heard) → k < at → slice_get own k ≡ Some seat → slice_get all k ≡ Some heard → IsGathered heard seat
+  -- the seat of the script at each of the first nodes' desks stands among those of the node
+  abbrev pub AreGatheredTo : ℕ → List Heard → List (List Heard) → Type 0
+  AreGatheredTo at own all = (k : ℕ) (seat : Heard) (heard : List Heard) → k < at → slice_get own k ≡ Some seat → slice_get all k ≡ Some heard → IsGathered heard seat
 
-pub record AreGathered (own : List Heard) (all : List (List Heard)) : Type 0 where
-  pub count : length all ≡ length own
-  pub each : AreGatheredTo (length own) own all
+  pub record AreGathered (own : List Heard) (all : List (List Heard)) : Type 0 where
+    pub count : length all ≡ length own
+    pub each : AreGatheredTo (length own) own all

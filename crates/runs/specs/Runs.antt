@@ -1,5 +1,5 @@
 -- What a run with threads reports.
-use Rattle.std.specs.Prelude.{◌≡◌, ◌≢◌, ◌⊎◌, ◌<◌, ◌+◌, ℕ, cond, All, List, [], ◌∷◌, ◌++◌, Option, None, Some, drop, length, map, slice_get, take}
+use Rattle.std.specs.Prelude.{◌≡◌, ◌≢◌, ◌⊎◌, ◌<◌, ◌+◌, ℕ, cond, All, List, [], ◌∷◌, ◌++◌, Option, None, Some, false, drop, length, map, slice_get, take}
 use Rattle.std.specs.Io.KnownBytes.{Appends, Keeps}
 use Rattle.units.specs.declared.code.Node.{Node}
 use Rattle.wire.specs.declared.input.Input.{Input}
@@ -113,9 +113,17 @@ abbrev pub ordered_from : ℕ → List Input → List Ticket
 ordered_from place [] = []
 ordered_from place (input ∷ inputs) = cond (was_ordered input) (record { place = place; input = input } ∷ ordered_from (place + 1) inputs) (ordered_from (place + 1) inputs)
 
--- the committed records since the opening that were ordered
+-- the committed records since the opening
+abbrev pub since : Held → List Input
+since held = drop held.opening (committed_records held)
+
+-- those of them that were ordered
 abbrev pub orders_of : Held → List Ticket
-orders_of held = ordered_from held.opening (drop held.opening (committed_records held))
+orders_of held = ordered_from held.opening (since held)
+
+-- the others are, at each node, such as its threads have recorded
+abbrev pub HaveOthers : (Input → Type 0) → Scheme → List Held → Type 0
+HaveOthers Takes scheme helds = (n : Node) (at : ℕ) (held : Held) → place_of scheme n ≡ Some at → slice_get helds at ≡ Some held → All (λ input. was_ordered input ≡ false → Takes input) (since held)
 
 -- the answers to the script's lines, and then the table of the world that a run leads to, whose committed journals are
 -- those of these nodes; they bear the answers, and since the opening they have the script's orders and no others

@@ -3,10 +3,11 @@ ghost use Rattle.std.specs.Prelude.{◌≡◌, ◌+◌, ◌<◌, ◌++◌, ◌�
 ghost use Rattle.std.specs.Global.{Global};
 ghost use Rattle.desk.specs.Views.{Heard};
 ghost use Rattle.protocol.specs.Registries.{nodes};
-ghost use Rattle.sessions.specs.Orders.{HasNoOrder, HaveNoOrders};
+ghost use Rattle.sessions.specs.Orders.{AreAll, HasOnly};
 ghost use Rattle.runs.specs.Gathered.{AreGathered, IsGathered};
 ghost use Rattle.runs.specs.Runs.{EndsWell, HaveEnded, IsLateFault};
 
+use crate::taking::Taking;
 use desk::{Desk, Ended, Opening, RoomBell, Seat, Stored};
 use inputs::{OpFault, store_fault};
 use protocol::node_at;
@@ -29,13 +30,13 @@ fn make_room(all: &mut Vec<Vec<Seat>>, next: &mut Vec<Seat>) -> Result<(), NoMem
 }
 
 /// Adds the seats of a node's threads, with the script's seat at the node after them.
-fn add(
+fn add<T: Taking>(
     all: &mut Vec<Vec<Seat>>,
     end: Option<Result<Vec<Seat>, NoMemory>>,
     seat: Seat,
 ) -> Result<(), NoMemory>
-    requires { IfSome end (λ ended. IfOk ended (λ seats. All HasNoOrder seats.items)) }
-    ensures { OnOk result ((v : Vec Heard Global) × (all.new.items ≡ all.old.items ++ v ∷ []) × IsGathered v.items seat) }
+    requires { IfSome end (λ ended. IfOk ended (λ seats. All (HasOnly T.takes) seats.items)) }
+    ensures { OnOk result ((v : Vec Heard Global) × (all.new.items ≡ all.old.items ++ v ∷ []) × IsGathered T.takes v.items seat) }
 {
     let Some(Ok(mut seats)) = end else {
         drop(seat);
@@ -53,18 +54,18 @@ fn add(
 
 /// The seats of each node's threads with that of the script at its desk, in the order of the nodes. Fails with
 /// `NoMemory` where memory ran out, also for the threads of a node.
-pub(crate) fn gather(
+pub(crate) fn gather<T: Taking>(
     alloc: Global,
     ends: Vec<Result<Vec<Seat>, NoMemory>>,
     seats: Vec<Seat>,
 ) -> Result<Vec<Vec<Seat>>, NoMemory>
-    requires { HaveNoOrders ends.items }
-    ensures { IfOk result (λ all. AreGathered seats.items (map (λ v. v.items) all.items)) }
+    requires { AreAll (HasOnly T.takes) ends.items }
+    ensures { IfOk result (λ all. AreGathered T.takes seats.items (map (λ v. v.items) all.items)) }
 {
     let mut all = Vec::new(alloc);
     let mut ends = ends.into_iter();
     for seat in seats {
-        if let Err(NoMemory) = add(&mut all, ends.next(), seat) {
+        if let Err(NoMemory) = add::<T>(&mut all, ends.next(), seat) {
             drop(ends);
             drop(all);
             return Err(NoMemory);

@@ -4,6 +4,7 @@
 mod gathering;
 mod reporting;
 mod running;
+mod taking;
 mod watch;
 
 pub use playing::{Network, Watch};

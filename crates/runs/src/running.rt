@@ -1,19 +1,22 @@
 //! A script, played while all nodes run in threads of their own.
-ghost use Rattle.std.specs.Prelude.{◌≡◌, ◌<◌, ◌++◌, ℕ, All, List, length, map, vec_len, IfErr, IfOk, string_bytes};
+ghost use Rattle.std.specs.Prelude.{◌≡◌, ◌<◌, ◌++◌, ℕ, false, All, List, length, map, vec_len, IfErr, IfOk, string_bytes};
 ghost use Rattle.std.specs.Io.KnownBytes.{Appends};
 ghost use Rattle.protocol.specs.Registries.{nodes};
+ghost use Rattle.wire.specs.declared.input.Input.{Input as AnInput};
 ghost use Rattle.desk.specs.Keeping.{MayOpen};
 ghost use Rattle.desk.specs.Views.{Heard, opened_with};
 ghost use Rattle.scripts.specs.declared.line.ScriptLine.{ScriptLine as ALine};
 ghost use Rattle.playing.specs.Answers.{answer_lines};
 ghost use Rattle.playing.specs.Orders.{IsPlayed};
-ghost use Rattle.sessions.specs.Orders.{HaveNoOrders};
+ghost use Rattle.sessions.specs.Orders.{AreAll, HasOnly, was_ordered};
+ghost use Rattle.sessions.specs.Threads.{IsOfThread};
 ghost use Rattle.runs.specs.Gathered.{AreGathered};
-ghost use Rattle.runs.specs.Runs.{FailsToRun, HaveEnded, IsLateFault, IsLoadedAmong, IsRunReport, IsTableFault, states_of};
+ghost use Rattle.runs.specs.Runs.{FailsToRun, HaveEnded, HaveOthers, IsLateFault, IsLoadedAmong, IsRunReport, IsTableFault, states_of};
 ghost use Rattle.playing.specs.declared.answer.Answer.{Answer as AnAnswer};
 
 use crate::gathering::{end_all, gather};
 use crate::reporting::report_of;
+use crate::taking::Taking;
 use answers::Clock;
 use desk::{Desk, Gate, Opening, RoomBell, Seat, Stored};
 use inputs::{OpFault, write_out};
@@ -47,7 +50,7 @@ struct Left<S: NodeStore> {
 }
 
 /// What a run leaves, where no store failed.
-fn gather_all<O: Opening, S: NodeStore + Drop>(
+fn gather_all<O: Opening, T: Taking, S: NodeStore + Drop>(
     alloc: Global,
     scheme: &Scheme,
     desks: Vec<Desk<O, Core, S, RoomBell>>,
@@ -55,9 +58,9 @@ fn gather_all<O: Opening, S: NodeStore + Drop>(
     seats: Vec<Seat>,
 ) -> Result<Left<S>, OpFault>
     requires desks { vec_len desks ≡ length (nodes scheme.now) }
-    requires none { IfOk ends (λ v. HaveNoOrders v.items) }
+    requires taken { IfOk ends (λ v. AreAll (HasOnly T.takes) v.items) }
     ensures ended { IfOk result (λ left. HaveEnded S.NodeStore O.opened scheme.now left.nodes.items) }
-    ensures seats { IfOk result (λ left. AreGathered seats.items (map (λ v. v.items) left.seats.items)) }
+    ensures seats { IfOk result (λ left. AreGathered T.takes seats.items (map (λ v. v.items) left.seats.items)) }
     ensures err { IfErr result (IsLateFault S.NodeStore O.opened scheme.now) }
 {
     let nodes = match end_all(alloc, scheme, desks) {
@@ -73,7 +76,7 @@ fn gather_all<O: Opening, S: NodeStore + Drop>(
         drop(seats);
         return Err(OpFault::NoMemory);
     };
-    match gather(alloc, ends, seats) {
+    match gather::<T>(alloc, ends, seats) {
         Ok(seats) => Ok(Left { nodes, seats }),
         Err(NoMemory) => {
             drop(nodes);
@@ -83,7 +86,7 @@ fn gather_all<O: Opening, S: NodeStore + Drop>(
 }
 
 /// The answers, and then the table of what these nodes have committed.
-fn with_table<S: NodeStore, P: weave::Watch>(
+fn with_table<T: Taking, S: NodeStore, P: weave::Watch>(
     alloc: Global,
     scheme: &Scheme,
     stored: &[Stored<Core, S>],
@@ -93,10 +96,12 @@ fn with_table<S: NodeStore, P: weave::Watch>(
 ) -> Result<String, OpFault>
     requires states { length stored.now ≡ length (nodes scheme.now) }
     requires seats { length seats.now ≡ length (nodes scheme.now) }
+    requires unordered { (input : AnInput) → T.takes input → was_ordered input ≡ false }
     ensures ok { IfOk result
-        (λ s. (own : List Heard) → length own ≡ length (nodes scheme.now) → AreGathered own (map (λ v. v.items) seats.now)
+        (λ s. (own : List Heard) → length own ≡ length (nodes scheme.now) → AreGathered T.takes own (map (λ v. v.items) seats.now)
         → (lines : List ALine) (told : List AnAnswer) → IsPlayed scheme.now lines told own
-        → answers.now ≡ answer_lines 1 told → IsRunReport scheme.now lines (states_of stored.now) (string_bytes s)) }
+        → answers.now ≡ answer_lines 1 told
+        → IsRunReport scheme.now lines (states_of stored.now) (string_bytes s) × HaveOthers T.takes scheme.now (states_of stored.now)) }
     ensures err { IfErr result (IsTableFault scheme.now (states_of stored.now) (map (λ v. v.items) seats.now)) }
 {
     match report_of(alloc, scheme, stored, seats, watch) {
@@ -113,7 +118,7 @@ struct Whole<S: NodeStore> {
 }
 
 /// The answers, and then the table of what the nodes have committed.
-fn whole_of<O: Opening, S: NodeStore + Drop, P: weave::Watch>(
+fn whole_of<O: Opening, T: Taking, S: NodeStore + Drop, P: weave::Watch>(
     alloc: Global,
     scheme: &Scheme,
     desks: Vec<Desk<O, Core, S, RoomBell>>,
@@ -123,16 +128,18 @@ fn whole_of<O: Opening, S: NodeStore + Drop, P: weave::Watch>(
     watch: &mut P,
 ) -> Result<Whole<S>, OpFault>
     requires desks { vec_len desks ≡ length (nodes scheme.now) }
-    requires none { IfOk ends (λ v. HaveNoOrders v.items) }
+    requires taken { IfOk ends (λ v. AreAll (HasOnly T.takes) v.items) }
     requires seats { vec_len seats ≡ length (nodes scheme.now) }
+    requires unordered { (input : AnInput) → T.takes input → was_ordered input ≡ false }
     ensures ok { IfOk result
         (λ w. (lines : List ALine) (told : List AnAnswer) → IsPlayed scheme.now lines told seats.items
-        → answers.now ≡ answer_lines 1 told → IsRunReport scheme.now lines (states_of w.nodes.items) (string_bytes w.text)) }
+        → answers.now ≡ answer_lines 1 told
+        → IsRunReport scheme.now lines (states_of w.nodes.items) (string_bytes w.text) × HaveOthers T.takes scheme.now (states_of w.nodes.items)) }
     ensures ended { IfOk result (λ w. HaveEnded S.NodeStore O.opened scheme.now w.nodes.items) }
     ensures err { IfErr result (IsLateFault S.NodeStore O.opened scheme.now) }
 {
-    let Left { nodes, seats } = gather_all(alloc, scheme, desks, ends, seats)?;
-    let text = with_table(
+    let Left { nodes, seats } = gather_all::<O, T, S>(alloc, scheme, desks, ends, seats)?;
+    let text = with_table::<T, S, P>(
         alloc,
         scheme,
         nodes.as_slice(),
@@ -153,7 +160,7 @@ fn whole_of<O: Opening, S: NodeStore + Drop, P: weave::Watch>(
 
 /// Writes the results of a run: the answers in any case, and then the table or the fault. Returns the nodes' states with
 /// their stores.
-fn write_run<O: Opening, S: NodeStore + Drop, W: Write, P: weave::Watch>(
+fn write_run<O: Opening, T: Taking, S: NodeStore + Drop, W: Write, P: weave::Watch>(
     alloc: Global,
     scheme: &Scheme,
     desks: Vec<Desk<O, Core, S, RoomBell>>,
@@ -165,9 +172,11 @@ fn write_run<O: Opening, S: NodeStore + Drop, W: Write, P: weave::Watch>(
 ) -> Result<Vec<Stored<Core, S>>, OpFault>
     requires desks { vec_len desks ≡ length (nodes scheme.now) }
     requires seats { vec_len played.seats ≡ length (nodes scheme.now) }
-    requires none { IfOk ends (λ v. HaveNoOrders v.items) }
+    requires taken { IfOk ends (λ v. AreAll (HasOnly T.takes) v.items) }
     requires played { IsPlayed scheme.now lines.now played.answers.items played.seats.items }
+    requires unordered { (input : AnInput) → T.takes input → was_ordered input ≡ false }
     ensures ok { IfOk result (λ v. (text : List ℕ) × IsRunReport scheme.now lines.now (states_of v.items) text × Appends (W.contents writer.old) (W.contents writer.new) text) }
+    ensures others { IfOk result (λ v. HaveOthers T.takes scheme.now (states_of v.items)) }
     ensures ended { IfOk result (λ v. HaveEnded S.NodeStore O.opened scheme.now v.items) }
     ensures err { IfErr result (λ e. FailsToRun S.NodeStore O.opened e scheme.now lines.now (W.contents writer.old) (W.contents writer.new)) }
 {
@@ -175,7 +184,7 @@ fn write_run<O: Opening, S: NodeStore + Drop, W: Write, P: weave::Watch>(
     let Ok(text) = lines_of(alloc, answers.as_slice()) else {
         return Err(OpFault::NoMemory);
     };
-    match whole_of(alloc, scheme, desks, ends, seats, text.as_str(), watch) {
+    match whole_of::<O, T, S, P>(alloc, scheme, desks, ends, seats, text.as_str(), watch) {
         Ok(Whole { text, nodes }) => match write_out(writer, text.as_str()) {
             Ok(()) => Ok(nodes),
             Err(unwritten) => {
@@ -190,8 +199,8 @@ fn write_run<O: Opening, S: NodeStore + Drop, W: Write, P: weave::Watch>(
     }
 }
 
-/// As `run_script`, where that is known of the nodes when their desks open.
-fn run_opened<O, S, L, D, K, G, W, P, R>(
+/// As `run_script`, where that is known of the nodes when their desks open, and of what their threads take.
+fn run_opened<O, T, S, L, D, K, G, W, P, R>(
     rt: &R,
     alloc: Global,
     scheme: &Scheme,
@@ -203,6 +212,7 @@ fn run_opened<O, S, L, D, K, G, W, P, R>(
 ) -> Result<Vec<Stored<Core, S>>, OpFault>
 where
     O: Opening + Send,
+    T: Taking,
     S: NodeStore + Send + Drop,
     L: Listen + Sync,
     D: Dial + Sync,
@@ -214,7 +224,10 @@ where
     requires count { vec_len loaded ≡ length (nodes scheme.now) }
     requires may_open { All (MayOpen S.NodeStore O.opened) loaded.items }
     requires listeners { length network.now.listeners.now ≡ length (nodes scheme.now) }
+    requires takes { (input : AnInput) → IsOfThread (D.leads network.now.dial.now) D.Reader.remaining D.Writer.contents S.NodeStore O.opened (K.tells network.now.clock.now) input → T.takes input }
+    requires unordered { (input : AnInput) → T.takes input → was_ordered input ≡ false }
     ensures ok { IfOk result (λ v. (text : List ℕ) × IsRunReport scheme.now lines.now (states_of v.items) text × Appends (W.contents writer.old) (W.contents writer.new) text) }
+    ensures others { IfOk result (λ v. HaveOthers T.takes scheme.now (states_of v.items)) }
     ensures ended { IfOk result (λ v. HaveEnded S.NodeStore O.opened scheme.now v.items) }
     ensures err { IfErr result (λ e. FailsToRun S.NodeStore O.opened e scheme.now lines.now (W.contents writer.old) (W.contents writer.new)) }
 {
@@ -232,7 +245,7 @@ where
             return Err(OpFault::NoMemory);
         }
     };
-    write_run(alloc, scheme, desks, ends, played, lines, writer, watch)
+    write_run::<O, T, S, W, P>(alloc, scheme, desks, ends, played, lines, writer, watch)
 }
 
 /// Runs all nodes, each in threads of its own, while the script's lines are ordered and asked one after another; then
@@ -245,7 +258,8 @@ where
 /// and woven. Returns the nodes as they ended: no store has failed, each has the committed records of its node, which
 /// the table is of, and these begin with those that it was loaded with. Since then each has the script's orders that were
 /// answered as recorded, in the script's order, each once. It has no others but for those that it had taken when it
-/// stopped.
+/// stopped. What else it has is a message, at a moment that the clock told, or the acknowledgement of a message that a
+/// store had as a committed record's, and that its peer replied over a connection that it received.
 ///
 /// # Errors
 ///
@@ -280,10 +294,11 @@ where
     requires opened { All (λ s. s.state ≡ opened_with scheme.now s.state.node s.state.journal) loaded.items }
     requires listeners { length network.now.listeners.now ≡ length (nodes scheme.now) }
     ensures ok { IfOk result (λ v. (text : List ℕ) × IsRunReport scheme.now lines.now (states_of v.items) text × Appends (W.contents writer.old) (W.contents writer.new) text) }
+    ensures others { IfOk result (λ v. HaveOthers (IsOfThread (D.leads network.now.dial.now) D.Reader.remaining D.Writer.contents S.NodeStore (IsLoadedAmong S.NodeStore scheme.now loaded.items) (K.tells network.now.clock.now)) scheme.now (states_of v.items)) }
     ensures ended { IfOk result (λ v. HaveEnded S.NodeStore (IsLoadedAmong S.NodeStore scheme.now loaded.items) scheme.now v.items) }
     ensures err { IfErr result (λ e. FailsToRun S.NodeStore (IsLoadedAmong S.NodeStore scheme.now loaded.items) e scheme.now lines.now (W.contents writer.old) (W.contents writer.new)) }
 {
-    run_opened::<Brand, S, L, D, K, G, W, P, R>(
+    run_opened::<Brand, Brand, S, L, D, K, G, W, P, R>(
         rt, alloc, scheme, lines, loaded, network, writer, watch,
     )
 }

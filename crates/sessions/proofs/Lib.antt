@@ -1,2 +1,2 @@
 mod SentMessages
-mod Taking
+pub mod Taking

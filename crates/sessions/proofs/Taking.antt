@@ -1,14 +1,16 @@
--- A seat that has no order takes a message or an acknowledgement, and has none.
-use Rattle.std.proofs.Common.{◌≡◌, ℕ, Bool, true, false, All, List, Option, inl, inr, sym, subst, refl}
-use Rattle.std.proofs.lemmas.List.Elements.{All-push}
+-- What a seat has as recorded once it took a message or an acknowledgement.
+use Rattle.std.proofs.Common.{◌≡◌, ℕ, Bool, true, false, All, List, [], Option, Vec, Global, Result, inl, inr, sym, subst, refl}
+use Rattle.std.proofs.lemmas.List.Elements.{All-nil, All-push, All-weaker}
 use Rattle.units.specs.declared.code.Node.{Node}
+use Rattle.units.specs.declared.memory.NoMemory.{NoMemory}
+use Rattle.status.specs.declared.moment.Moment.{Moment}
 use Rattle.wire.specs.declared.input.Input.{Input}
-use Rattle.wire.specs.declared.input.Input.TheVariants.{Ack}
-use Rattle.wire.specs.declared.input.Input.TheVariants as inputs
+use Rattle.wire.specs.declared.input.Input.TheVariants.{Propose, Request, OpenAccount, CloseAccount, Ack, CleanUp, Eligible, Received}
 use Rattle.wire.specs.declared.message.Message.{Message}
 use Rattle.scheme.specs.declared.registries.Scheme.{Scheme}
 use Rattle.protocol.specs.declared.node_core.Stepped.TheVariants.{Recorded, Repeat, Late}
 use Rattle.stores.specs.declared.node_store.NodeStore.{Ghosts}
+use Rattle.desk.specs.Keeping.{IsToSend}
 use Rattle.desk.specs.Telling.{kept, tickets_after}
 use Rattle.desk.specs.Views.{Heard}
 use Rattle.desk.specs.declared.notes.Asked.{Asked}
@@ -18,46 +20,84 @@ use Rattle.desk.specs.declared.notes.Ticket.{Ticket}
 use Rattle.desk.specs.declared.notes.Told.{Told}
 use Rattle.desk.specs.declared.notes.Told.TheVariants.{Step, Status, Refused}
 use Rattle.answers.specs.Answers.{Answered, Asks, is_without_journal}
-use Rattle.sessions.specs.Orders.{HasNoOrder, was_ordered}
-use Rattle.sessions.specs.Sending.{Acknowledges, Sends}
+use Rattle.sessions.specs.Orders.{AreAll, HasNoOrder, HasOnly, was_ordered}
+use Rattle.sessions.specs.Sending.{Acknowledges, IsReceivedBy, Sends}
+use Rattle.sessions.specs.Threads.{AreOfThread, IsDelivered, IsOfThread}
 use Rattle.sessions.specs.declared.sending.Sent.{Sent}
-use Rattle.sessions.specs.declared.sending.Sent.TheVariants.{Nothing, Received, NotReceived, NoMemory}
+use Rattle.sessions.specs.declared.sending.Sent.TheVariants as sent
 
-abbrev IsNoOrder : Ticket → Type 0
-IsNoOrder t = was_ordered t.input ≡ false
+-- records that all are of one sort, and one more of it
+module _ (P : Input → Type 0) where
+  abbrev AreSuch : List Ticket → Type 0
+  AreSuch tickets = All (λ (t : Ticket). P t.input) tickets
 
-none_after : (tickets : List Ticket) (told : Told) (input : Input) → was_ordered input ≡ false → All IsNoOrder tickets → All IsNoOrder (tickets_after tickets told (Take input))
-none_after tickets (Step (Recorded place)) input none all = All-push IsNoOrder tickets (record { place = place; input = input }) all none
-none_after tickets (Step Repeat) input none all = all
-none_after tickets (Step Late) input none all = all
-none_after tickets (Status status) input none all = all
-none_after tickets (Refused refusal) input none all = all
+  such_after : (tickets : List Ticket) (told : Told) (input : Input) → P input → AreSuch tickets → AreSuch (tickets_after tickets told (Take input))
+  such_after tickets (Step (Recorded place)) input is all = All-push (λ (t : Ticket). P t.input) tickets (record { place = place; input = input }) all is
+  such_after tickets (Step Repeat) input is all = all
+  such_after tickets (Step Late) input is all = all
+  such_after tickets (Status status) input is all = all
+  such_after tickets (Refused refusal) input is all = all
 
-pub none_kept : (seat : Heard) (note : Note) (input : Input) → note.asked ≡ Take input → was_ordered input ≡ false → HasNoOrder seat → HasNoOrder (kept seat note)
-none_kept seat note input asked none all =
-    subst (λ (a : Asked). All IsNoOrder (tickets_after seat.tickets note.told a)) (sym asked) (none_after seat.tickets note.told input none all)
+  such_kept : (seat : Heard) (note : Note) (input : Input) → note.asked ≡ Take input → P input → AreSuch seat.tickets → AreSuch (kept seat note).tickets
+  such_kept seat note input asked is all =
+      subst (λ (a : Asked). AreSuch (tickets_after seat.tickets note.told a)) (sym asked) (such_after seat.tickets note.told input is all)
 
-none_asked : (tells : _) (old new : Heard) (m : Message) (answer : Answered) (a : Asks tells old new m answer) (b : Bool) → is_without_journal a.note.told ≡ b → HasNoOrder (kept old a.note)
-    → HasNoOrder new
-none_asked tells old new m answer a true is all = subst HasNoOrder (sym (a.ends.at_once is).0) all
-none_asked tells old new m answer a false is all =
-    elim (a.ends.later is) [
-      | inl told ↦ subst HasNoOrder (sym told.0) all
-      | inr told ↦ subst HasNoOrder (sym told.0) all
-    ]
+  such_asked : (tells : Moment → Type 0) (old new : Heard) (m : Message) (answer : Answered) (a : Asks tells old new m answer) (b : Bool) → is_without_journal a.note.told ≡ b → AreSuch (kept old a.note).tickets → AreSuch new.tickets
+  such_asked tells old new m answer a true is all = subst (λ (s : Heard). AreSuch s.tickets) (sym (a.ends.at_once is).0) all
+  such_asked tells old new m answer a false is all =
+      elim (a.ends.later is) [
+        | inl told ↦ subst (λ (s : Heard). AreSuch s.tickets) (sym told.0) all
+        | inr told ↦ subst (λ (s : Heard). AreSuch s.tickets) (sym told.0) all
+      ]
 
--- the answer to a message
-pub none_after_answer : (tells : _) (old new : Heard) (m : Message) (answer : Answered) → Asks tells old new m answer → HasNoOrder old → HasNoOrder new
-none_after_answer tells old new m answer a all =
-    none_asked tells old new m answer a (is_without_journal a.note.told) refl (none_kept old a.note (inputs.Received m a.moment) a.asked refl all)
+module _ {R W S : Type 0} (leads : Node → R → W → Type 0) (remaining : R → Option (List ℕ)) (contents : W → Option (List ℕ)) (g : Ghosts S) (opened : Scheme → Node → List Input → ℕ → Type 0) (tells : Moment → Type 0) where
+  abbrev Is : Input → Type 0
+  Is = IsOfThread leads remaining contents g opened tells
 
-acknowledged : (old new : Heard) (key : ℕ) → Acknowledges old new key → HasNoOrder old → HasNoOrder new
-acknowledged old new key a all = subst HasNoOrder (sym a.seat) (none_kept old a.note (Ack a.number) a.asked refl all)
+  abbrev Are : Heard → Type 0
+  Are = AreOfThread leads remaining contents g opened tells
 
--- what became of a message to send
-module _ {R W S : Type 0} (leads : Node → R → W → Type 0) (remaining : R → Option (List ℕ)) (contents : W → Option (List ℕ)) (g : Ghosts S) (opened : Scheme → Node → List Input → ℕ → Type 0) where
-  pub none_after_sending : (peer : Node) (from : ℕ) (old new : Heard) (sent : Sent) → Sends leads remaining contents g opened peer from old new sent → HasNoOrder old → HasNoOrder new
-  none_after_sending peer from old new Nothing s all = subst HasNoOrder (sym s.1) all
-  none_after_sending peer from old new (Received key) s all = acknowledged old new key s.1 all
-  none_after_sending peer from old new (NotReceived key) s all = subst HasNoOrder (sym s.1) all
-  none_after_sending peer from old new NoMemory s all = subst HasNoOrder (sym s) all
+  -- the answer to a message
+  pub after_answer : (old new : Heard) (m : Message) (answer : Answered) → Asks tells old new m answer → Are old → Are new
+  after_answer old new m answer a all = such_asked Is tells old new m answer a (is_without_journal a.note.told) refl (such_kept Is old a.note (Received m a.moment) a.asked a.time all)
+
+  acknowledged : (old new : Heard) (key : ℕ) → IsDelivered leads remaining contents g opened key → Acknowledges old new key → Are old → Are new
+  acknowledged old new key is a all =
+      subst Are (sym a.seat) (such_kept Is old a.note (Ack a.number) a.asked (subst (IsDelivered leads remaining contents g opened) (sym a.value) is) all)
+
+  -- what became of a message to send
+  pub after_sending : (peer : Node) (from : ℕ) (old new : Heard) (became : Sent) → Sends leads remaining contents g opened peer from old new became → Are old → Are new
+  after_sending peer from old new sent.Nothing s all = subst Are (sym s.1) all
+  after_sending peer from old new (sent.Received key) s all =
+      acknowledged old new key (record { peer = peer; from = from; message = s.0.0; sent = s.0.1; received = s.0.2 }) s.1 all
+  after_sending peer from old new (sent.NotReceived key) s all = subst Are (sym s.1) all
+  after_sending peer from old new sent.NoMemory s all = subst Are (sym s) all
+
+  -- seats that were told nothing
+  pub none_yet : (seats : List Heard) → All (λ (s : Heard). (s.tickets ≡ []) × (s.notes ≡ [])) seats → All Are seats
+  none_yet seats none =
+      All-weaker (λ (s : Heard). (s.tickets ≡ []) × (s.notes ≡ [])) Are
+      (λ s is. subst (All (λ (t : Ticket). Is t.input)) (sym is.0) (All-nil (λ (t : Ticket). Is t.input))) seats none
+
+  -- such records were not ordered
+  pub not_ordered : (input : Input) → Is input → was_ordered input ≡ false
+  not_ordered (Propose o) is = absurd is
+  not_ordered (Request t) is = absurd is
+  not_ordered (OpenAccount account) is = absurd is
+  not_ordered (CloseAccount account) is = absurd is
+  not_ordered (CleanUp moment) is = absurd is
+  not_ordered (Eligible c may) is = absurd is
+  not_ordered (Ack number) is = refl
+  not_ordered (Received m moment) is = refl
+
+  no_order : (seat : Heard) → Are seat → HasNoOrder seat
+  no_order seat all = All-weaker (λ (t : Ticket). Is t.input) (λ (t : Ticket). was_ordered t.input ≡ false) (λ t is. not_ordered t.input is) seat.tickets all
+
+  -- and none of the seats has an order
+  pub no_orders : (seats : List Heard) → All Are seats → All HasNoOrder seats
+  no_orders seats all = All-weaker Are HasNoOrder no_order seats all
+
+  -- what the threads of all nodes took, by another name
+  pub taken_so : (IsSuch : Input → Type 0) → ((input : Input) → Is input → IsSuch input) → (ends : List (Result (Vec Heard Global) NoMemory)) → AreAll Are ends → AreAll (HasOnly IsSuch) ends
+  taken_so IsSuch so ends all k seats at =
+      All-weaker Are (HasOnly IsSuch) (λ s only. All-weaker (λ (t : Ticket). Is t.input) (λ (t : Ticket). IsSuch t.input) (λ t. so t.input) s.tickets only) seats.items (all k seats at)

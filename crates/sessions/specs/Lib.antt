@@ -1,3 +1,4 @@
 pub mod Delivering
 pub mod Orders
 pub mod Sending
+pub mod Threads

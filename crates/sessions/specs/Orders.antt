@@ -18,10 +18,18 @@ was_ordered (Eligible c may) = true
 was_ordered (Ack key) = false
 was_ordered (Received m moment) = false
 
+-- each record of the seat is such a one
+abbrev pub HasOnly : (Input → Type 0) → Heard → Type 0
+HasOnly IsSuch seat = All (λ (t : Ticket). IsSuch t.input) seat.tickets
+
 -- no record of the seat was ordered
 abbrev pub HasNoOrder : Heard → Type 0
-HasNoOrder seat = All (λ (t : Ticket). was_ordered t.input ≡ false) seat.tickets
+HasNoOrder = HasOnly (λ input. was_ordered input ≡ false)
 
--- the same of each seat of each node whose threads ended
+-- of each node whose threads ended, each seat is such a one
+abbrev pub AreAll : (Heard → Type 0) → List (Result (Vec Heard Global) NoMemory) → Type 0
+AreAll IsSuch ends = (k : ℕ) (seats : Vec Heard Global) → slice_get ends k ≡ Some (Ok seats) → All IsSuch seats.items
+
+-- none of them has an order
 abbrev pub HaveNoOrders : List (Result (Vec Heard Global) NoMemory) → Type 0
-HaveNoOrders ends = (k : ℕ) (seats : Vec Heard Global) → slice_get ends k ≡ Some (Ok seats) → All HasNoOrder seats.items
+HaveNoOrders = AreAll HasNoOrder

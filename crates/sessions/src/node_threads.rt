@@ -1,13 +1,14 @@
 //! The threads of a node, and those of several nodes.
-ghost use Rattle.std.specs.Prelude.{◌≡◌, ◌<◌, ◌≤◌, ◌+◌, ◌^◌, [], ℕ, All, length, vec_capacity, vec_len, slice_get, IfOk, Ok, Some};
+ghost use Rattle.std.specs.Prelude.{◌≡◌, ◌<◌, ◌+◌, ◌^◌, [], ℕ, All, length, vec_len, slice_get, IfOk, Ok, Some};
 ghost use Rattle.std.specs.Thread.{IsSync};
 ghost use Rattle.sessions.specs.Orders.{HasNoOrder, HaveNoOrders};
+ghost use Rattle.sessions.specs.Threads.{AreOfThread};
 
 use crate::connections::{Dial, Listen};
 use crate::mustering::Muster;
+use crate::node_parts::NodeParts;
 use crate::senders::send_all;
 use crate::session_threads::{SESSION_THREADS, serve_sessions};
-use crate::thread_seat::ThreadSeat;
 use crate::workers::{Errand, work};
 use answers::Clock;
 use crossbeam_channel::{Receiver, Sender};
@@ -19,7 +20,7 @@ use std::sync::Wait;
 use std::thread;
 use std::thread::Threads;
 use stores::NodeStore;
-use units::{NoMemory, Node};
+use units::NoMemory;
 
 /// How many threads of a node have its desk take jobs.
 pub const WORKERS: usize = 2;
@@ -36,20 +37,6 @@ pub fn threads_of(peers: usize) -> usize
     ensures { peers < 2 ^ 32 → result ≡ 1 + SESSION_THREADS + WORKERS + peers }
 {
     peers.saturating_add(1 + SESSION_THREADS + WORKERS)
-}
-
-/// What the threads of a node share: its name, its desk, what accepts and makes its connections, the nodes that it
-/// sends to, its clock, the gate that its workers pass, and where each reports once when it begins.
-#[derive(Drop)]
-pub struct NodeParts<'a, O: Opening, C: NodeCore, S: NodeStore, B: Bell, L, D, K, G> {
-    pub node: Node,
-    pub desk: &'a Desk<O, C, S, B>,
-    pub listen: &'a L,
-    pub dial: &'a D,
-    pub peers: &'a [Node],
-    pub clock: &'a K,
-    pub gate: &'a G,
-    pub muster: &'a Muster,
 }
 
 /// Commits the desk's records to its store until the desk stops, also where the store has a fault.
@@ -91,7 +78,7 @@ fn take_part<O, C, S, B, L, D, K, G, R>(
     parts: &NodeParts<'_, O, C, S, B, L, D, K, G>,
     errands: &Receiver<Errand>,
     place: usize,
-    seat: &mut ThreadSeat,
+    seat: &mut Seat,
 )
 where
     O: Opening,
@@ -102,30 +89,25 @@ where
     K: Clock,
     G: Gate,
     R: Wait + SystemClock,
+    requires { AreOfThread (D.leads parts.now.dial.now) D.Reader.remaining D.Writer.contents S.NodeStore O.opened (K.tells parts.now.clock.now) seat.old }
+    ensures { AreOfThread (D.leads parts.now.dial.now) D.Reader.remaining D.Writer.contents S.NodeStore O.opened (K.tells parts.now.clock.now) seat.new }
 {
     parts.muster.report(rt);
     if place < WORKERS {
-        work(
-            rt,
-            parts.desk,
-            parts.clock,
-            parts.gate,
-            errands,
-            &mut seat.seat,
-        );
+        work(rt, parts, errands, seat);
     } else if let Some(peer) = parts.peers.get(place - WORKERS) {
-        send_all(rt, alloc, parts.desk, parts.dial, *peer, &mut seat.seat);
+        send_all(rt, alloc, parts, *peer, seat);
     }
 }
 
-/// Works and sends in a thread for each seat, until the desk stops.
+/// Works and sends in a thread for each seat, until the desk stops, and returns the seats.
 fn take_all<O, C, S, B, L, D, K, G, R>(
     rt: &R,
     alloc: Global,
     parts: &NodeParts<'_, O, C, S, B, L, D, K, G>,
     errands: &Receiver<Errand>,
-    seats: &mut [ThreadSeat],
-)
+    mut seats: Vec<Seat>,
+) -> Vec<Seat>
 where
     O: Opening + Send,
     C: NodeCore + Send,
@@ -136,26 +118,30 @@ where
     K: Clock + Sync,
     G: Gate + Sync,
     R: Threads + Wait + SystemClock + Sync,
+    requires { All (AreOfThread (D.leads parts.now.dial.now) D.Reader.remaining D.Writer.contents S.NodeStore O.opened (K.tells parts.now.clock.now)) seats.items }
+    ensures len { vec_len result ≡ vec_len seats }
+    ensures taken { All (AreOfThread (D.leads parts.now.dial.now) D.Reader.remaining D.Writer.contents S.NodeStore O.opened (K.tells parts.now.clock.now)) result.items }
 {
     let threads = seats.len().max(1);
     thread::for_each_mut(
         rt,
-        seats,
+        seats.as_mut_slice(),
         threads,
-        &|place: usize, seat: &mut ThreadSeat|
-            requires { IsSync R.row }
+        &|place: usize, seat: &mut Seat|
+            requires sync { IsSync R.row }
+            requires taken { AreOfThread (D.leads parts.now.dial.now) D.Reader.remaining D.Writer.contents S.NodeStore O.opened (K.tells parts.now.clock.now) seat.old }
+            ensures { AreOfThread (D.leads parts.entry.now.dial.now) D.Reader.remaining D.Writer.contents S.NodeStore O.opened (K.tells parts.entry.now.clock.now) seat.new }
         { take_part(rt, alloc, parts, errands, place, seat) },
     );
+    seats
 }
 
-/// The threads that take something at the desk, and those that serve sessions, whose end ends the job workers.
-fn serve_and_take<O, C, S, B, L, D, K, G, R>(
+/// The thread that commits, and those that serve sessions, whose end ends the job workers.
+fn commit_and_serve<O, C, S, B, L, D, K, G, R>(
     rt: &R,
     alloc: Global,
     parts: &NodeParts<'_, O, C, S, B, L, D, K, G>,
     errands: Sender<Errand>,
-    handed: &Receiver<Errand>,
-    seats: &mut [ThreadSeat],
 )
 where
     O: Opening + Send,
@@ -173,33 +159,34 @@ where
         rt,
         move ||
             requires { IsSync R.row }
-        { take_all(rt, alloc, parts, handed, seats) },
+        { report_and_commit(rt, parts.desk, parts.muster) },
         move ||
             requires { IsSync R.row }
         { serve_sessions(rt, alloc, parts.desk, parts.listen, parts.muster, errands) },
     );
 }
 
-/// That many seats that were told nothing.
-fn new_seats(alloc: Global, count: usize) -> Result<Vec<ThreadSeat>, NoMemory>
-    ensures { IfOk result (λ seats. vec_len seats ≡ count) }
+/// That many seats that were told nothing. Fails with `NoMemory` if memory runs out.
+pub fn new_seats(alloc: Global, count: usize) -> Result<Vec<Seat>, NoMemory>
+    ensures len { IfOk result (λ seats. vec_len seats ≡ count) }
+    ensures none { IfOk result (λ seats. All (λ s. (s.tickets ≡ []) × (s.notes ≡ [])) seats.items) }
 {
     let mut seats = Vec::new(alloc);
     for made in 0..count {
-        seats.push(ThreadSeat::new(alloc))?;
+        seats.push(Seat::new(alloc))?;
     }
     Ok(seats)
 }
 
-/// All threads of a node, until the desk stops.
+/// All threads of a node, until the desk stops. Returns the seats of those that take something at the desk.
 fn run_threads<O, C, S, B, L, D, K, G, R>(
     rt: &R,
     alloc: Global,
     parts: &NodeParts<'_, O, C, S, B, L, D, K, G>,
     errands: Sender<Errand>,
     handed: &Receiver<Errand>,
-    mut seats: Vec<ThreadSeat>,
-) -> Vec<ThreadSeat>
+    seats: Vec<Seat>,
+) -> Vec<Seat>
 where
     O: Opening + Send,
     C: NodeCore + Send,
@@ -210,37 +197,52 @@ where
     K: Clock + Sync,
     G: Gate + Sync,
     R: Threads + Wait + SystemClock + Sync,
-    ensures { vec_len result ≡ vec_len seats }
+    requires { All (AreOfThread (D.leads parts.now.dial.now) D.Reader.remaining D.Writer.contents S.NodeStore O.opened (K.tells parts.now.clock.now)) seats.items }
+    ensures len { vec_len result ≡ vec_len seats }
+    ensures taken { All (AreOfThread (D.leads parts.now.dial.now) D.Reader.remaining D.Writer.contents S.NodeStore O.opened (K.tells parts.now.clock.now)) result.items }
 {
-    let taking = seats.as_mut_slice();
-    thread::join(
+    // What a closure returns is known of one that holds plain references, and of none that holds the parts.
+    let NodeParts {
+        node,
+        desk,
+        listen,
+        dial,
+        peers,
+        clock,
+        gate,
+        muster,
+    } = *parts;
+    let (taken, _) = thread::join(
         rt,
+        move || -> Vec<Seat>
+            requires { IsSync R.row × All (AreOfThread (D.leads dial.now) D.Reader.remaining D.Writer.contents S.NodeStore O.opened (K.tells clock.now)) seats.items }
+            ensures len { vec_len result ≡ vec_len seats }
+            ensures taken { All (AreOfThread (D.leads dial.entry.now) D.Reader.remaining D.Writer.contents S.NodeStore O.opened (K.tells clock.entry.now)) result.items }
+        {
+            let parts = NodeParts {
+                node,
+                desk,
+                listen,
+                dial,
+                peers,
+                clock,
+                gate,
+                muster,
+            };
+            take_all(rt, alloc, &parts, handed, seats)
+        },
         move ||
             requires { IsSync R.row }
-        { report_and_commit(rt, parts.desk, parts.muster) },
-        move ||
-            requires { IsSync R.row }
-        { serve_and_take(rt, alloc, parts, errands, handed, taking) },
+        { commit_and_serve(rt, alloc, parts, errands) },
     );
-    seats
-}
-
-/// Adds the seats to those, for which there is room.
-fn add_seats(all: &mut Vec<Seat>, seats: Vec<ThreadSeat>)
-    requires empty { all.old.items ≡ [] }
-    requires room { vec_len seats ≤ vec_capacity all.old }
-    ensures len { vec_len all.new ≡ vec_len seats }
-    ensures none { All HasNoOrder all.new.items }
-{
-    for seat in seats {
-        all.push_reserved(seat.into_seat());
-    }
+    taken
 }
 
 /// Runs a node's threads until its desk stops: one commits the desk's records to its store, `SESSION_THREADS` serve
 /// the connections that others make, `WORKERS` have the desk take their jobs, and one for each peer sends it the
 /// messages that are due, again every `LONGEST_QUIET` seconds while they aren't received. `MOST_JOBS` jobs wait at
-/// most. Returns the seats of those that took something at the desk: messages and acknowledgements, and no orders.
+/// most. Returns the seats of those that took something at the desk: messages, at moments that the clock told, and
+/// acknowledgements of messages that their peers received, and no orders.
 ///
 /// The desk stops when it is told to, where the store has a fault, and where 100 accepts in a row failed. Then each
 /// thread ends by itself: one that waits at the bell, for a worker or for a connection looks at the desk again after a
@@ -266,16 +268,12 @@ where
     G: Gate + Sync,
     R: Threads + Wait + SystemClock + Sync,
     ensures len { IfOk result (λ seats. vec_len seats ≡ WORKERS + length parts.now.peers.now) }
+    ensures taken { IfOk result (λ seats. All (AreOfThread (D.leads parts.now.dial.now) D.Reader.remaining D.Writer.contents S.NodeStore O.opened (K.tells parts.now.clock.now)) seats.items) }
     ensures none { IfOk result (λ seats. All HasNoOrder seats.items) }
 {
     let seats = new_seats(alloc, WORKERS + parts.peers.len())?;
-    let mut all = Vec::with_capacity(alloc, seats.len())?;
     let (errands, handed) = crossbeam_channel::bounded(alloc, MOST_JOBS)?;
-    add_seats(
-        &mut all,
-        run_threads(rt, alloc, parts, errands, &handed, seats),
-    );
-    Ok(all)
+    Ok(run_threads(rt, alloc, parts, errands, &handed, seats))
 }
 
 /// As `run_node`. Where memory ran out, the desk has stopped.
@@ -295,6 +293,7 @@ where
     G: Gate + Sync,
     R: Threads + Wait + SystemClock + Sync,
     ensures len { IfOk result (λ seats. vec_len seats ≡ WORKERS + length parts.entry.peers.now) }
+    ensures taken { IfOk result (λ seats. All (AreOfThread (D.leads parts.entry.dial.now) D.Reader.remaining D.Writer.contents S.NodeStore O.opened (K.tells parts.entry.clock.now)) seats.items) }
     ensures none { IfOk result (λ seats. All HasNoOrder seats.items) }
 {
     let seats = run_node(rt, alloc, &parts);
@@ -329,6 +328,10 @@ where
         (λ ends. (k : ℕ) (parts : _) (seats : _) → slice_get nodes.entry.items k ≡ Some parts
         → slice_get ends.items k ≡ Some (Ok seats)
         → vec_len seats ≡ WORKERS + length parts.peers.now) }
+    ensures taken { IfOk result
+        (λ ends. (k : ℕ) (parts : _) (seats : _) → slice_get nodes.entry.items k ≡ Some parts
+        → slice_get ends.items k ≡ Some (Ok seats)
+        → All (AreOfThread (D.leads parts.dial.now) D.Reader.remaining D.Writer.contents S.NodeStore O.opened (K.tells parts.clock.now)) seats.items) }
     ensures none { IfOk result (λ ends. HaveNoOrders ends.items) }
 {
     let ends = thread::map_vec(
@@ -337,6 +340,7 @@ where
         &|parts: NodeParts<'_, O, C, S, B, L, D, K, G>| -> Result<Vec<Seat>, NoMemory>
             requires { IsSync R.row }
             ensures len { IfOk result (λ seats. vec_len seats ≡ WORKERS + length parts.entry.peers.now) }
+            ensures taken { IfOk result (λ seats. All (AreOfThread (D.leads parts.entry.dial.now) D.Reader.remaining D.Writer.contents S.NodeStore O.opened (K.tells parts.entry.clock.now)) seats.items) }
             ensures none { IfOk result (λ seats. All HasNoOrder seats.items) }
         { run_one(rt, alloc, parts) },
     )?;

@@ -3,8 +3,10 @@ ghost use Rattle.std.specs.Prelude.{◌≡◌, ◌⊎◌, [], IfOk};
 ghost use Rattle.units.specs.RefusalCodes.{not_a_message, out_of_memory};
 ghost use Rattle.answers.specs.Answers.{IsRefusedBy};
 ghost use Rattle.answers.specs.Lines.{IsNoLine};
-ghost use Rattle.sessions.specs.Orders.{HasNoOrder};
+ghost use Rattle.sessions.specs.Threads.{AreOfThread};
 
+use crate::connections::Dial;
+use crate::node_parts::NodeParts;
 use answers::{Answer, Clock, Job, answer_job};
 use crossbeam_channel::{Receiver, RecvTimeoutError, Sender};
 use desk::{Bell, Desk, Gate, LONGEST_QUIET, Opening, Seat};
@@ -155,24 +157,30 @@ impl<'a, O: Opening, C: NodeCore, S: NodeStore, B: Bell, R: Wait + SystemClock> 
 }
 
 /// Has the desk take the jobs of errands with this seat, and hands their answers back, until no session is left.
-pub(crate) fn work<
+pub(crate) fn work<O, C, S, B, L, D, K, G, R>(
+    rt: &R,
+    parts: &NodeParts<'_, O, C, S, B, L, D, K, G>,
+    errands: &Receiver<Errand>,
+    seat: &mut Seat,
+)
+where
     O: Opening,
     C: NodeCore,
     S: NodeStore,
     B: Bell,
+    D: Dial,
     K: Clock,
     G: Gate,
     R: Wait + SystemClock,
->(rt: &R, desk: &Desk<O, C, S, B>, clock: &K, gate: &G, errands: &Receiver<Errand>, seat: &mut Seat)
-    requires { HasNoOrder seat.old }
-    ensures { HasNoOrder seat.new }
+    requires { AreOfThread (D.leads parts.now.dial.now) D.Reader.remaining D.Writer.contents S.NodeStore O.opened (K.tells parts.now.clock.now) seat.old }
+    ensures { AreOfThread (D.leads parts.now.dial.now) D.Reader.remaining D.Writer.contents S.NodeStore O.opened (K.tells parts.now.clock.now) seat.new }
 {
     for _ in rt.forever() {
         let Ok(errand) = errands.recv(rt) else {
             break;
         };
         let Errand { job, back } = errand;
-        let answer = answer_job(rt, desk, seat, clock, gate, job);
+        let answer = answer_job(rt, parts.desk, seat, parts.clock, parts.gate, job);
         drop(back.send(rt, answer));
         drop(back);
     }

@@ -1,7 +1,7 @@
-use Rattle.std.proofs.Common.{◌≡◌, ◌<◌, ◌∙◌, length, get_or, ap, sym, arith}
+use Rattle.std.proofs.Common.{◌≡◌, ◌<◌, ◌∙◌, length, get_or, ap, refl, sym, arith}
 use Rattle.std.proofs.lemmas.Option.{slice_get_within, get_or_from_slice_get}
 use Rattle.playing.specs.Wiring.{peers_of}
-use Rattle.playing.proofs.Wired.{part_more, part_whole, peers_count, pushed_count}
+use Rattle.playing.proofs.Wired.{all_pushed, part_more, part_whole, peers_count, pushed_count}
 use Rattle.playing.proofs.wiring.nodes_to_run.Goals as goal
 
 pub loop-at-preserved : goal.loop-at-preserved
@@ -19,6 +19,7 @@ loop-at-preserved g c =
       desks = part_more _ c.loop-at.nodes.items _ c.push.new.self.items c.args.desks.now at pushed (omega (arith, low, c.requires.desks)) kept.desks c.index-desks-at.is;
       listeners = part_more _ c.loop-at.nodes.items _ c.push.new.self.items c.args.network.now.listeners.now at pushed (omega (arith, low, c.requires.listeners)) kept.listeners (ap (λ d. get_or c.args.network.now.listeners.now at d) c.index-network-at.is);
       peers = part_more _ c.loop-at.nodes.items _ c.push.new.self.items (peers_of c.args.names.now) at pushed within kept.peers (sym peers);
+      alike = all_pushed c.loop-at.nodes.items _ c.push.new.self.items (λ n. (n.dial.now ≡ c.args.network.now.dial.now) × (n.clock.now ≡ c.args.network.now.clock.now)) pushed kept.alike (refl, refl);
     }
 
 pub returns : goal.returns
@@ -31,4 +32,5 @@ returns g c =
       desks = part_whole _ c.loop-at.nodes.items c.args.desks.now c.loop-at.at kept.desks (c.requires.desks ∙ sym all);
       listeners = part_whole _ c.loop-at.nodes.items c.args.network.now.listeners.now c.loop-at.at kept.listeners (c.requires.listeners ∙ sym all);
       peers = part_whole _ c.loop-at.nodes.items (peers_of c.args.names.now) c.loop-at.at kept.peers (peers_count c.args.names.now ∙ sym all);
+      alike = kept.alike;
     }

@@ -1,4 +1,4 @@
-use Rattle.std.proofs.Common.{◌≡◌, length, map, take}
+use Rattle.std.proofs.Common.{◌≡◌, All, length, map, take}
 use Rattle.playing.specs.Wiring.{peers_of}
 use Rattle.playing.proofs.wiring.nodes_to_run.Given as goal
 
@@ -9,4 +9,5 @@ invariant-loop-at g l = record {
   desks : map (λ n. n.desk.now) l.nodes.items ≡ take l.at l.desks;
   listeners : map (λ n. n.listen.now) l.nodes.items ≡ take l.at l.network.listeners.now;
   peers : map (λ n. n.peers.now) l.nodes.items ≡ take l.at (peers_of l.names);
+  alike : All (λ n. (n.dial.now ≡ l.network.dial.now) × (n.clock.now ≡ l.network.clock.now)) l.nodes.items;
 }

@@ -3,7 +3,7 @@ use Rattle.std.proofs.lemmas.List.{length-map}
 use Rattle.units.specs.declared.code.Node.{Node}
 use Rattle.desk.specs.Keeping.{Keeping}
 use Rattle.runs.specs.Gathered.{AreGathered}
-use Rattle.runs.specs.Runs.{HaveEnded, IsRunReport, states_of}
+use Rattle.runs.specs.Runs.{HaveEnded, HaveOthers, IsRunReport, states_of}
 use Rattle.runs.proofs.Written.{late_fault}
 use Rattle.runs.proofs.running.whole_of.Goals as goal
 
@@ -18,9 +18,9 @@ returns-in-Ok-clause-ok g c =
     let scheme = c.args.scheme.now in
     let value : c.as_slice.result.now ≡ c.in_ok-nodes.field-0.nodes.items = c.as_slice.ensures.value in
     let seats : c.as_slice-2.result.now ≡ c.in_ok-nodes.field-0.seats.items = c.as_slice-2.ensures.value in
-    let gathered : AreGathered c.args.seats.items (map (λ v. v.items) c.as_slice-2.result.now) = rw seats c.in_ok-nodes.ensures.seats in
+    let gathered : AreGathered g.T.Taking.takes c.args.seats.items (map (λ v. v.items) c.as_slice-2.result.now) = rw seats c.in_ok-nodes.ensures.seats in
     let each : length c.args.seats.items ≡ _ = sym c.args.seats.ok.0 ∙ c.requires.seats in
-    λ lines told played answers. subst (λ (ns : List (Keeping g.row.S.Denot)). IsRunReport scheme lines (states_of ns) (string_bytes c.in-Ok.text)) value
+    λ lines told played answers. subst (λ (ns : List (Keeping g.row.S.Denot)). IsRunReport scheme lines (states_of ns) (string_bytes c.in-Ok.text) × HaveOthers g.T.Taking.takes scheme (states_of ns)) value
     (c.in-Ok.ensures.ok c.args.seats.items each gathered lines told played answers)
 
 pub returns-in-Err-clause-err : goal.returns-in-Err-clause-err

@@ -1,0 +1,40 @@
+-- What a node's threads have its desk record: messages that come, and acknowledgements of those that were delivered.
+use Rattle.std.specs.Prelude.{ℕ, List, Option, Some}
+use Rattle.units.specs.declared.code.Node.{Node}
+use Rattle.status.specs.declared.moment.Moment.{Moment}
+use Rattle.wire.specs.declared.input.Input.{Input}
+use Rattle.wire.specs.declared.input.Input.TheVariants.{Propose, Request, OpenAccount, CloseAccount, Ack, CleanUp, Eligible, Received}
+use Rattle.wire.specs.declared.message.Message.{Message}
+use Rattle.scheme.specs.declared.registries.Scheme.{Scheme}
+use Rattle.stores.specs.declared.node_store.NodeStore.{Ghosts}
+use Rattle.desk.specs.Keeping.{IsToSend}
+use Rattle.desk.specs.Views.{Heard}
+use Rattle.sessions.specs.Orders.{HasOnly}
+use Rattle.sessions.specs.Sending.{IsReceivedBy}
+
+-- which connections lead to a node, what a reader has left, and what a writer holds; a store's calls, and what is known of
+-- the nodes of the run when their desks open
+module _ {R W S : Type 0} (leads : Node → R → W → Type 0) (remaining : R → Option (List ℕ)) (contents : W → Option (List ℕ)) (g : Ghosts S) (opened : Scheme → Node → List Input → ℕ → Type 0) where
+  -- the committed message with that key was delivered: its peer replied that it was received
+  pub record IsDelivered (key : ℕ) : Type 0 where
+    pub peer : Node
+    pub from : ℕ
+    pub message : Message
+    pub sent : IsToSend g opened peer from (Some (key, message))
+    pub received : IsReceivedBy leads remaining contents peer message
+
+  -- the same; and which moments a clock told
+  module _ (tells : Moment → Type 0) where
+    -- a message, at a moment that the clock told, or the acknowledgement of one that was delivered
+    abbrev pub IsOfThread : Input → Type 0
+    IsOfThread (Propose o) = ⊥
+    IsOfThread (Request t) = ⊥
+    IsOfThread (OpenAccount account) = ⊥
+    IsOfThread (CloseAccount account) = ⊥
+    IsOfThread (CleanUp moment) = ⊥
+    IsOfThread (Eligible c may) = ⊥
+    IsOfThread (Ack number) = IsDelivered number.value
+    IsOfThread (Received m moment) = tells moment
+
+    abbrev pub AreOfThread : Heard → Type 0
+    AreOfThread = HasOnly IsOfThread

@@ -17,7 +17,7 @@ use Rattle.store_tables.specs.Migrating.{IsOpenedAs}
 use Rattle.stores.specs.Faults.{is_device_fault}
 use Rattle.stores.specs.Records.{Places}
 use Rattle.stores.specs.declared.fault.StoreFault.{StoreFault}
-use Rattle.stores.specs.declared.fault.StoreFault.TheVariants.{Reopen, NoMemory}
+use Rattle.stores.specs.declared.fault.StoreFault.TheVariants.{Damaged, Reopen, NoMemory}
 
 module _ {D : Type 0} (g : Ghosts D) (k : Connected (FileStore D g)) (conn : Held (FileStore D g)) (is : conn ≡ k.conn) (files : Files D)
     (early : AreClean g files.log files.db → HasCleanDisk (file_state conn)) where
@@ -57,3 +57,8 @@ module _ {D : Type 0} (g : Ghosts D) (k : Connected (FileStore D g)) (conn : Hel
 pub is-no-reopen : (e : StoreFault) → (e ≡ NoMemory) ⊎ IsTrue (is_device_fault e) → e ≡ Reopen → ⊥
 is-no-reopen e (inl memory) is = let clash : NoMemory ≡ Reopen = sym memory ∙ is in cc (clash)
 is-no-reopen e (inr device) is = let clash = subst (λ f. IsTrue (is_device_fault f)) is device in cc (clash)
+
+-- and so is a fault of files that were not opened
+pub not-reopen : (e : StoreFault) → (e ≡ Damaged 0) ⊎ ((e ≡ NoMemory) ⊎ IsTrue (is_device_fault e)) → e ≡ Reopen → ⊥
+not-reopen e (inl damaged) is = let clash : Damaged 0 ≡ Reopen = sym damaged ∙ is in cc (clash)
+not-reopen e (inr other) is = is-no-reopen e other is

@@ -1,12 +1,12 @@
 -- What a refusal leaves of files.
-use Rattle.std.proofs.Common.{◌≡◌, inl, ap}
+use Rattle.std.proofs.Common.{◌⊎◌, ℕ, List, inl, inr, ap}
 use Rattle.std.proofs.Math.Logic.{∥∥₁_map}
 use Rattle.sqlite_disk.specs.declared.Disk.{Ghosts}
 use Rattle.sqlite_disk.specs.declared.Files.{Files}
 use Rattle.sqlite_wal.specs.Reads.{AreClean}
 use Rattle.sqlite.specs.Tree.{Trees}
 use Rattle.durable.specs.Backing.{Hold}
-use Rattle.durable.specs.Refusals.{IsFileFault, IsUnharmed}
+use Rattle.durable.specs.Refusals.{IsFileFault, IsUnharmed, AreUntouched, AreGivenBack, AreSpared}
 use Rattle.stores.specs.declared.fault.StoreFault.{StoreFault}
 use Rattle.stores.specs.declared.fault.StoreFault.TheVariants.{Device, Full, Damaged, WrongNode, WrongVersion, Reopen, NoMemory}
 
@@ -23,3 +23,8 @@ not-looked-at {D} g files left Device why judged = absurd (cc (judged))
 not-looked-at {D} g files left Full why judged = absurd (cc (judged))
 not-looked-at {D} g files left Reopen why judged = absurd (cc (judged))
 not-looked-at {D} g files left NoMemory why judged = absurd (cc (judged))
+
+-- files that were not opened are among what an opening leaves
+pub not-opened-spared : {D : Type 0} (g : Ghosts D) (name : List ℕ) (files left : Files D) (fault : StoreFault) → AreUntouched g files left fault ⊎ AreGivenBack g files left fault → AreSpared g name files left fault
+not-opened-spared {D} g name files left fault (inl untouched) = inl untouched
+not-opened-spared {D} g name files left fault (inr given) = inr (inl given)

@@ -1,18 +1,29 @@
 -- Why files are not opened as a store of a node, and what is left of them then.
-use Rattle.std.specs.Prelude.{◌≡◌, ◌⊎◌, ℕ, List, IsTrue}
+use Rattle.std.specs.Prelude.{◌≡◌, ◌⊎◌, ◌&&◌, ℕ, List, false, IsTrue}
 use Rattle.sqlite.specs.Closing.{files_left}
 use Rattle.sqlite.specs.Effect.{Database, IsDatabase}
-use Rattle.sqlite.specs.Files.{LeavesFiles}
+use Rattle.sqlite.specs.Files.{FailsToOpenFiles, LeavesFiles}
 use Rattle.sqlite.specs.Tree.{Trees}
+use Rattle.sqlite.specs.declared.error.Error.{Error}
+use Rattle.sqlite.specs.declared.error.Error.TheVariants.{SqliteFailure}
+use Rattle.sqlite.specs.declared.error.ErrorCode.TheVariants as code
 use Rattle.sqlite.specs.declared.file.Leftover.{Leftover}
 use Rattle.sqlite_disk.specs.declared.Disk.{Ghosts}
 use Rattle.sqlite_disk.specs.declared.Files.{Files}
-use Rattle.sqlite_wal.specs.Reads.{AreClean}
+use Rattle.sqlite_disk.specs.declared.tally.Tally.{Tally}
+use Rattle.sqlite_wal.specs.Reads.{AreClean, tally_of_files}
 use Rattle.durable.specs.Backing.{IsFound, IsNoDatabase, Hold}
+use Rattle.store_tables.specs.SqlFaults.{store_fault_of}
 use Rattle.stores.specs.Faults.{is_judgement}
 use Rattle.durable.specs.Opening.{IsOpeningFault, MayComeOf}
 use Rattle.stores.specs.declared.fault.StoreFault.{StoreFault}
 use Rattle.stores.specs.declared.fault.StoreFault.TheVariants.{Device, Full, Damaged, NoMemory}
+
+-- the fault that is told of an error of SQLite's opening, by what the failed calls of the files had met before it and
+-- since: SQLite calls a file corrupt where it is no database, and where a read was found wrong
+abbrev pub IsToldOf : Tally → Tally → Error → StoreFault → Type 0
+IsToldOf before now error fault =
+    ((fault ≡ Damaged 0) × ((error ≡ SqliteFailure code.NotADatabase) ⊎ ((error ≡ SqliteFailure code.DatabaseCorrupt) × (now.caught ≡ before.caught)))) ⊎ (fault ≡ store_fault_of error)
 
 module _ {D : Type 0} (g : Ghosts D) where
   -- a fault of files that are not opened at all
@@ -31,10 +42,17 @@ module _ {D : Type 0} (g : Ghosts D) where
   abbrev pub IsUnharmed : Files D → StoreFault → Files D → Type 0
   IsUnharmed files fault left = IsTrue (is_judgement fault) → ((fault ≡ Damaged 0) × IsNoDatabase g files) ⊎ ((db : Trees) × IsFound g files db × Hold g left (λ next. next ≡ db))
 
-  -- SQLite did not open the files, and gave them back as it says of an opening that fails
-  pub record AreGivenBack (files left : Files D) : Type 0 where
+  -- the files weren't opened, as memory ran out or a sync had failed, and are as they were
+  abbrev pub AreUntouched : Files D → Files D → StoreFault → Type 0
+  AreUntouched files left fault = (left ≡ files) × ((fault ≡ NoMemory) ⊎ ((fault ≡ Device) × ((g.is_usable files.log && g.is_usable files.db) ≡ false)))
+
+  -- SQLite did not open the files: it says why, the fault is told of that, and it says what it gave back
+  pub record AreGivenBack (files left : Files D) (fault : StoreFault) : Type 0 where
     pub rest : Leftover D g
     pub same : (left.log, left.db) ≡ files_left rest
+    pub error : Error
+    pub fails : AreClean g left.log left.db → FailsToOpenFiles files rest error
+    pub told : IsToldOf (tally_of_files g (files.log, files.db)) (tally_of_files g (left.log, left.db)) error fault
     pub leaves : AreClean g left.log left.db → LeavesFiles files rest
 
   -- SQLite opened the files, and then they held that database, or hold what an opening for that node makes of it
@@ -44,6 +62,6 @@ module _ {D : Type 0} (g : Ghosts D) where
     pub found : IsFound g files db.trees
     pub holds : Hold g left (MayComeOf name db)
 
-  -- what an opening for that node that failed leaves of files: the very files, or what is given back, or what was opened
-  abbrev pub AreSpared : List ℕ → Files D → Files D → Type 0
-  AreSpared name files left = (left ≡ files) ⊎ (AreGivenBack files left ⊎ (AreClean g left.log left.db → AreOfOpened name files left))
+  -- what an opening for that node that failed leaves of files
+  abbrev pub AreSpared : List ℕ → Files D → Files D → StoreFault → Type 0
+  AreSpared name files left fault = AreUntouched files left fault ⊎ (AreGivenBack files left fault ⊎ (AreClean g left.log left.db → AreOfOpened name files left))

@@ -52,10 +52,10 @@ module _ {D : Type 0} (g : Ghosts D) where
   abbrev pub IsReopeningFault : SqlStore D g → StoreFault → Type 0
   IsReopeningFault s fault = (files : Files D) × HadFiles s files × IsRefusal g files (node_text (node_of s)) fault
 
-  -- its files were opened again in vain, and it has those that were left of them
-  pub record HasSpared (old new : SqlStore D g) : Type 0 where
+  -- its files were opened again in vain, with that fault, and it has those that were left of them
+  pub record HasSpared (old new : SqlStore D g) (fault : StoreFault) : Type 0 where
     pub files : Files D
     pub left : Files D
     pub had : HadFiles old files
     pub has : kept.AreFilesOf g new.store_state left
-    pub spared : AreSpared g (node_text (node_of old)) files left
+    pub spared : AreSpared g (node_text (node_of old)) files left fault

@@ -9,7 +9,7 @@ ghost use Rattle.sqlite_wal.specs.Reads.{AreClean};
 ghost use Rattle.durable.specs.Backing.{IsFound, MayFind, Hold};
 ghost use Rattle.stores.specs.Faults.{is_device_fault};
 ghost use Rattle.store_tables.specs.SqlFaults.{store_fault_of};
-ghost use Rattle.durable.specs.Refusals.{IsFileFault, AreGivenBack};
+ghost use Rattle.durable.specs.Refusals.{IsFileFault, IsToldOf, AreUntouched, AreGivenBack};
 
 use crate::fault::fault_of_copying;
 use sqlite::{Connection, Error as SqlError, ErrorCode, FileStore, Options};
@@ -58,6 +58,7 @@ pub(crate) fn copied_files<D: Disk + Drop>(
 /// a file corrupt where it can't be a database and where a read was found wrong; only the first is a fault of what is
 /// written.
 pub(crate) fn opening_fault(error: SqlError, before: Tally, now: Tally) -> StoreFault
+    ensures told { IsToldOf before now error result }
     ensures named { (result ≡ StoreFault.Damaged 0) ⊎ ((result ≡ StoreFault.NoMemory) ⊎ IsTrue (is_device_fault result)) }
     ensures no_database { error ≡ SqlError.SqliteFailure ErrorCode.NotADatabase → result ≡ StoreFault.Damaged 0 }
     ensures corrupt { error ≡ SqlError.SqliteFailure ErrorCode.DatabaseCorrupt → now.caught ≡ before.caught → result ≡ StoreFault.Damaged 0 }
@@ -89,7 +90,7 @@ pub(crate) fn open_again<D: Disk + Drop>(
     ensures found { IfOk result (λ conn. HasCleanDisk (file_state conn) → IsFound D.Disk files (file_state conn).committed.trees) }
     ensures named { IfErr result (λ e. (e.0 ≡ StoreFault.Damaged 0) ⊎ ((e.0 ≡ StoreFault.NoMemory) ⊎ IsTrue (is_device_fault e.0))) }
     ensures fault { IfErr result (λ e. AreClean D.Disk e.1.log e.1.db → IsFileFault D.Disk files e.0) }
-    ensures spared { IfErr result (λ e. (e.1 ≡ files) ⊎ AreGivenBack D.Disk files e.1) }
+    ensures spared { IfErr result (λ e. AreUntouched D.Disk files e.1 e.0 ⊎ AreGivenBack D.Disk files e.1 e.0) }
 {
     if !files.may_be_used() {
         return Err((StoreFault::Device, files));

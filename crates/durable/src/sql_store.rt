@@ -41,9 +41,9 @@ impl<D: Disk + Drop> SqlStore<D> {
     /// Fails with the first that is so of `Damaged(0)`, where the files hold no store, `WrongVersion`, `WrongNode`, and
     /// `Damaged(p)`, where `p` is the first place without a record in a store of format One; the database that they
     /// hold stays as it was. Fails with `Device`, `Full` or `NoMemory` at any call of the database, and with `Device`
-    /// where the files can't be used since a sync failed. Then the files are as they were; or as SQLite gave them back,
-    /// where it couldn't open them; or, where it could, they hold the database that it found, or a store that was
-    /// made of new files, or that a store of format One was migrated to.
+    /// where the files can't be used since a sync failed. Then the files are as they were, and no call of them was made;
+    /// or SQLite couldn't open them, for a cause that it tells, and gave them back; or it could, and they hold the
+    /// database that it found, or a store that was made of new files, or that a store of format One was migrated to.
     pub fn open_files(
         alloc: Global,
         files: Files<D>,
@@ -59,7 +59,7 @@ impl<D: Disk + Drop> SqlStore<D> {
         ensures named { IfErr result (λ e. e.0 ≢ StoreFault.Reopen) }
         ensures fault { IfErr result (λ e. AreClean D.Disk e.1.log e.1.db → IsRefusal D.Disk files (node_text node) e.0) }
         ensures unharmed { IfErr result (λ e. AreClean D.Disk e.1.log e.1.db → IsUnharmed D.Disk files e.0 e.1) }
-        ensures spared { IfErr result (λ e. AreSpared D.Disk (node_text node) files e.1) }
+        ensures spared { IfErr result (λ e. AreSpared D.Disk (node_text node) files e.1 e.0) }
     {
         SqlStore::open_files_watched(alloc, files, options, node, &mut Nobody)
     }
@@ -83,7 +83,7 @@ impl<D: Disk + Drop> SqlStore<D> {
         ensures named { IfErr result (λ e. e.0 ≢ StoreFault.Reopen) }
         ensures fault { IfErr result (λ e. AreClean D.Disk e.1.log e.1.db → IsRefusal D.Disk files (node_text node) e.0) }
         ensures unharmed { IfErr result (λ e. AreClean D.Disk e.1.log e.1.db → IsUnharmed D.Disk files e.0 e.1) }
-        ensures spared { IfErr result (λ e. AreSpared D.Disk (node_text node) files e.1) }
+        ensures spared { IfErr result (λ e. AreSpared D.Disk (node_text node) files e.1 e.0) }
     {
         let store = store_from_files(alloc, files, options, node, watch)?;
         Ok(SqlStore {
@@ -174,7 +174,7 @@ impl SqlStore<File> {
 }
 
 impl<D: Disk + Drop> NodeStore for SqlStore<D> {
-    ghost use Rattle.std.specs.Prelude.{◌≡◌, ◌≢◌, ◌⊎◌, ℕ, false, Ok, Err, OnOk, OnErr, IfErr, IsTrue};
+    ghost use Rattle.std.specs.Prelude.{◌≡◌, ◌≢◌, ◌⊎◌, ℕ, false, Ok, Err, OnOk, IfErr, IsTrue};
     ghost use Rattle.stores.specs.Calls.{Appends, Reopens};
     ghost use Rattle.stores.specs.Faults.{faults_after};
     ghost use Rattle.stores.specs.Records.{Places};
@@ -243,7 +243,7 @@ impl<D: Disk + Drop> NodeStore for SqlStore<D> {
         ensures node { node_of D.Disk self.new ≡ node_of D.Disk self.old }
         ensures owner { IsHonest D.Disk self.new → OnOk result (owner D.Disk self.new ≡ node_text (node_of D.Disk self.new)) }
         ensures fault { IsHonest D.Disk self.new → IfErr result (IsReopeningFault D.Disk self.old) }
-        ensures spared { OnErr result (HasSpared D.Disk self.old self.new) }
+        ensures spared { IfErr result (HasSpared D.Disk self.old self.new) }
     {
         let files = mem::replace(&mut self.store_state, StoreState::Absent).into_files();
         match store_from_files(self.alloc, files, self.options, self.node, &mut Nobody) {

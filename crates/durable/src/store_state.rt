@@ -184,7 +184,7 @@ pub(crate) fn store_from_files<D: Disk + Drop, W: Watch>(
     ensures named { IfErr result (λ e. e.0 ≢ Reopen) }
     ensures fault { IfErr result (λ e. AreClean D.Disk e.1.log e.1.db → IsRefusal D.Disk files (node_text node) e.0) }
     ensures unharmed { IfErr result (λ e. AreClean D.Disk e.1.log e.1.db → IsUnharmed D.Disk files e.0 e.1) }
-    ensures spared { IfErr result (λ e. AreSpared D.Disk (node_text node) files e.1) }
+    ensures spared { IfErr result (λ e. AreSpared D.Disk (node_text node) files e.1 e.0) }
 {
     let Ok(name) = format!(in alloc; "{node}") else {
         return Err((StoreFault::NoMemory, files));

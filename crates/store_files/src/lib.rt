@@ -2,7 +2,7 @@
 //! to what is opened, so that this crate is to be read, and has nothing else.
 #![tactic(auto)]
 
-ghost use Rattle.std.specs.Prelude.{◌≡◌, ◌≢◌, true, false, IfOk, IfErr};
+ghost use Rattle.std.specs.Prelude.{◌≡◌, ◌≢◌, ◌⊎◌, true, false, IfOk, IfErr};
 ghost use Rattle.sqlite_std_file.specs.File.{IsFresh};
 ghost use Rattle.units.specs.Code.{node_text};
 ghost use Rattle.stores.specs.Records.{Places};
@@ -21,7 +21,7 @@ use units::Node;
 /// Fails with `NoMemory` where memory ran out, and else with `Device`.
 fn files_at(rt: &HostRuntime, path: &str) -> Result<Files<File>, StoreFault>
     ensures fresh { IfOk result (λ files. IsFresh true files.log × IsFresh false files.db) }
-    ensures named { IfErr result (λ e. e ≢ StoreFault.Reopen) }
+    ensures named { IfErr result (λ e. (e ≡ StoreFault.NoMemory) ⊎ (e ≡ StoreFault.Device)) }
 {
     match sqlite_std_file::open(rt, path, Unknown) {
         Ok(files) => Ok(files),
@@ -69,10 +69,7 @@ pub fn open_path_watched<W: Watch>(
         return Err(StoreFault::Device);
     };
     let options = Options::new(seeds.hash_one(&0u8));
-    let files = match files_at(rt, path) {
-        Ok(files) => files,
-        Err(fault) => return Err(fault),
-    };
+    let files = files_at(rt, path)?;
     match SqlStore::open_files_watched(rt.alloc(), files, options, node, watch) {
         Ok(store) => Ok(store),
         Err((fault, _)) => Err(fault),

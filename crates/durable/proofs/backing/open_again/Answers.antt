@@ -1,4 +1,6 @@
-use Rattle.std.proofs.Common.{inr}
+use Rattle.std.proofs.Common.{inl, inr, refl, sym, subst₂, ◌∙◌}
+use Rattle.sqlite_wal.specs.Reads.{AreClean}
+use Rattle.durable.specs.Refusals.{IsToldOf}
 use Rattle.durable.proofs.Refusing.{clean-left, not-opened}
 use Rattle.durable.proofs.backing.open_again.Goals as goal
 
@@ -17,8 +19,16 @@ returns-in-Err-clause-fault g c honest =
     c.tally-before.ensures c.tally.ensures c.opening_fault-fault.ensures.named c.opening_fault-fault.ensures.damaged
 
 pub returns-in-Err-clause-spared : goal.returns-in-Err-clause-spared
-returns-in-Err-clause-spared g c = inr (record {
-  rest = c.in-Err.left;
-  same = c.into_files-files.ensures;
-  leaves = λ honest. c.in-Err.ensures.unharmed (clean-left c.in-Err.left c.into_files-files.result c.into_files-files.ensures honest);
-})
+returns-in-Err-clause-spared g c =
+    let early = λ (honest : AreClean g.D.Disk c.into_files-files.result.log c.into_files-files.result.db). clean-left c.in-Err.left c.into_files-files.result c.into_files-files.ensures honest in
+    inr (record {
+      rest = c.in-Err.left;
+      same = c.into_files-files.ensures;
+      error = c.in-Err.error;
+      fails = λ honest. c.in-Err.ensures.cause (early honest);
+      told = subst₂ (λ before now. IsToldOf before now c.in-Err.error c.opening_fault-fault.result) c.tally-before.ensures c.tally.ensures c.opening_fault-fault.ensures.told;
+      leaves = λ honest. c.in-Err.ensures.unharmed (early honest);
+    })
+
+pub returns-then-not-may_be_used-clause-spared : goal.returns-then-not-may_be_used-clause-spared
+returns-then-not-may_be_used-clause-spared g c = inl (refl, inr (refl, sym c.may_be_used.ensures ∙ c.if-not-may_be_used.true))

@@ -1,4 +1,5 @@
-use Rattle.std.proofs.Common.{◌≡◌, ◌⊎◌, Result, Ok, Err, IfOk, IfErr, IsTrue, List, ℕ, inl, inr, sym, subst, rules}
+use Rattle.std.proofs.Common.{◌≡◌, Result, Ok, Err, IfOk, IfErr, IsTrue, List, ℕ, inr, subst, rules}
+use Rattle.std.proofs.lemmas.Result.{err_from_is_err_and}
 use Rattle.sqlite.specs.Files.{over_files, file_state}
 use Rattle.sqlite.specs.State.{HasCleanDisk}
 use Rattle.sqlite.specs.Tree.{Trees}
@@ -9,9 +10,10 @@ use Rattle.durable.specs.Connected as connected
 use Rattle.store_tables.specs.Held.{node_in}
 use Rattle.store_tables.specs.Migrating.{IsOpenedAs}
 use Rattle.durable.specs.Opening.{IsOpeningFault, MayComeOf}
-use Rattle.durable.specs.Refusals.{IsRefusal, IsUnharmed, AreSpared, AreGivenBack}
+use Rattle.durable.specs.Refusals.{IsRefusal, IsUnharmed, AreSpared}
 use Rattle.stores.specs.Faults.{is_judgement}
-use Rattle.durable.proofs.Sparing.{not-looked-at}
+use Rattle.durable.proofs.Closed.{not-reopen}
+use Rattle.durable.proofs.Sparing.{not-looked-at, not-opened-spared}
 use Rattle.durable.proofs.store_state.store_from_files.Goals as goal
 
 both : {A B : Type 0} (P Q R : A → Type 0) (r : Result A B) → ((k : A) → P k → Q k → R k) → IfOk r P → IfOk r Q → IfOk r R
@@ -51,16 +53,21 @@ returns-clause-unharmed g c =
     (λ e refused held honest judged. inr ((file_state c.in_ok-conn.conn).committed.trees, c.in_ok-conn.ensures.found (refused honest), held judged))
     c.store_over.ensures.refused c.store_over.ensures.unharmed
 
+pub returns-in_err-conn-clause-named : goal.returns-in_err-conn-clause-named
+returns-in_err-conn-clause-named g c =
+    let p = err_from_is_err_and c.from_residual.result c.from_residual.ensures.1 in
+    rw (p.1, p.2) (not-reopen c.in_err-conn.field-0.0.0 c.in_err-conn.ensures.named)
+
 pub returns-in_err-conn-clause-unharmed : goal.returns-in_err-conn-clause-unharmed
 returns-in_err-conn-clause-unharmed g c =
-    let same : c.from_residual.result ≡ Err c.in_err-conn.field-0.0 = search rules in
+    let p = err_from_is_err_and c.from_residual.result c.from_residual.ensures.1 in
     let e = c.in_err-conn.field-0.0 in
-    subst (λ r. IfErr r (λ e. AreClean g.D.Disk e.1.log e.1.db → IsUnharmed g.D.Disk c.args.files e.0 e.1)) (sym same) (λ honest. not-looked-at g.D.Disk c.args.files e.1 e.0 (c.in_err-conn.ensures.fault honest))
+    rw (p.1, p.2) (λ honest. not-looked-at g.D.Disk c.args.files e.1 e.0 (c.in_err-conn.ensures.fault honest))
 
 pub returns-clause-spared : goal.returns-clause-spared
 returns-clause-spared g c =
     let conn = file_state c.in_ok-conn.conn in
-    both-err (λ e. AreClean g.D.Disk e.1.log e.1.db → HasCleanDisk conn) (λ e. Hold g.D.Disk e.1 (MayComeOf c.deref.result.now conn.committed)) (λ e. AreSpared g.D.Disk (node_text c.args.node) c.args.files e.1) c.store_over.result
+    both-err (λ e. AreClean g.D.Disk e.1.log e.1.db → HasCleanDisk conn) (λ e. Hold g.D.Disk e.1 (MayComeOf c.deref.result.now conn.committed)) (λ e. AreSpared g.D.Disk (node_text c.args.node) c.args.files e.1 e.0) c.store_over.result
     (λ e refused held. inr (inr (λ clean. let early = refused clean in record {
       db = conn.committed;
       sound = c.in_ok-conn.ensures.sound early;
@@ -68,8 +75,8 @@ returns-clause-spared g c =
       holds = subst (λ (n : List ℕ). Hold g.D.Disk e.1 (MayComeOf n conn.committed)) (name-is g c) held;
     }))) c.store_over.ensures.refused c.store_over.ensures.spared
 
--- what an opening in vain left, among all that may be left
 pub returns-in_err-conn-clause-spared : goal.returns-in_err-conn-clause-spared
 returns-in_err-conn-clause-spared g c =
-    let same : c.from_residual.result ≡ Err c.in_err-conn.field-0.0 = search rules in
-    subst (λ r. IfErr r (λ e. AreSpared g.D.Disk (node_text c.args.node) c.args.files e.1)) (sym same) (elim (c.in_err-conn.ensures.spared) [ inl untouched ↦ inl untouched | inr given ↦ inr (inl given) ])
+    let p = err_from_is_err_and c.from_residual.result c.from_residual.ensures.1 in
+    let e = c.in_err-conn.field-0.0 in
+    rw (p.1, p.2) (not-opened-spared g.D.Disk (node_text c.args.node) c.args.files e.1 e.0 c.in_err-conn.ensures.spared)

@@ -135,6 +135,12 @@ pub fn store_of<S: Alter + Drop>(conn: Connection<S>) -> S {
     conn.into_store()
 }
 
+/// Has the database do these statements, and gives the connection up for its store.
+fn changed_by<S: Alter + Drop>(rt: &impl Abort, mut conn: Connection<S>, statements: &[&str]) -> S {
+    execute_all(rt, &mut conn, statements);
+    store_of(conn)
+}
+
 /// The files after statements that no store makes.
 pub fn changed<D: Disk + Drop>(
     rt: &impl Abort,
@@ -142,7 +148,5 @@ pub fn changed<D: Disk + Drop>(
     files: Files<D>,
     statements: &[&str],
 ) -> Files<D> {
-    let mut conn = open_database(rt, alloc, files);
-    execute_all(rt, &mut conn, statements);
-    store_of(conn).close()
+    changed_by(rt, open_database(rt, alloc, files), statements).close()
 }

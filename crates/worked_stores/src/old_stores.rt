@@ -39,21 +39,31 @@ fn put_all<S: Alter>(rt: &impl Abort, conn: &mut Connection<S>, texts: &[&str]) 
     assert!(rt; tx.commit().is_ok());
 }
 
-/// The files of a store that these statements make, with these records.
-fn files_made_by(rt: &impl Abort, alloc: Global, statements: &[&str], texts: &[&str]) -> Stored {
-    let mut conn = open_database(rt, alloc, new_files(alloc, FOREVER, FOREVER));
+// These are generic, as a connection over files whose type is known costs half a minute of proof for each call.
+
+/// Has the database do these statements, and puts the records. Gives the connection up for its store.
+fn made_by<S: Alter + Drop>(
+    rt: &impl Abort,
+    mut conn: Connection<S>,
+    statements: &[&str],
+    texts: &[&str],
+) -> S {
     execute_all(rt, &mut conn, statements);
     put_all(rt, &mut conn, texts);
-    store_of(conn).close()
+    store_of(conn)
+}
+
+/// The files of a store that these statements make, with these records.
+fn files_made_by(rt: &impl Abort, alloc: Global, statements: &[&str], texts: &[&str]) -> Stored {
+    let conn = open_database(rt, alloc, new_files(alloc, FOREVER, FOREVER));
+    made_by(rt, conn, statements, texts).close()
 }
 
 /// Makes NZ's store of format 1 with these records at the path in these files.
 pub fn make_old_store_at(rt: &impl Abort, files: &HostRuntime, path: &str, texts: &[&str]) {
     let opened = Connection::open(files, path);
-    let mut conn = opened.ok().expect(rt, "a database");
-    execute_all(rt, &mut conn, &[ABOUT, ENTRIES, OWNER]);
-    put_all(rt, &mut conn, texts);
-    drop(store_of(conn));
+    let conn = opened.ok().expect(rt, "a database");
+    drop(made_by(rt, conn, &[ABOUT, ENTRIES, OWNER], texts));
 }
 
 /// The files of NZ's store of format 1 with these records.
@@ -75,9 +85,13 @@ fn format_of<S: Alter>(rt: &impl Abort, conn: &mut Connection<S>) -> i64 {
     format
 }
 
+/// Asserts that the store that the connection has open has that format. Gives the connection up for it.
+fn with_format<S: Alter + Drop>(rt: &impl Abort, mut conn: Connection<S>, wanted: i64) -> S {
+    assert!(rt; format_of(rt, &mut conn) == wanted);
+    store_of(conn)
+}
+
 /// Asserts that the store in the files has that format. Gives them back.
 pub fn assert_format(rt: &impl Abort, alloc: Global, files: Stored, wanted: i64) -> Stored {
-    let mut conn = open_database(rt, alloc, files);
-    assert!(rt; format_of(rt, &mut conn) == wanted);
-    store_of(conn).close()
+    with_format(rt, open_database(rt, alloc, files), wanted).close()
 }

@@ -97,7 +97,13 @@ fn exchange_all<L: Listen + Sync, D: Dial + Sync, R: Threads + Wait + Clock + Sy
     desk: &NzDesk,
     message: &Message,
     count: u32,
-) -> u32 {
+) -> u32
+where
+    L::Reader: Send,
+    L::Writer: Send,
+    D::Reader: Send,
+    D::Writer: Send,
+{
     let ((), refused) = thread::join(
         rt,
         move || serve(rt, alloc, desk, listen, count),
@@ -116,7 +122,13 @@ fn time_between<L: Listen + Sync, D: Dial + Sync, R: Threads + Wait + Clock + Sy
     desk: &NzDesk,
     message: &Message,
     count: u32,
-) -> Option<Duration> {
+) -> Option<Duration>
+where
+    L::Reader: Send,
+    L::Writer: Send,
+    D::Reader: Send,
+    D::Writer: Send,
+{
     let start = Instant::now(rt).ok()?;
     let refused = exchange_all(rt, alloc, listen, dial, node, desk, message, count);
     let passed = start.elapsed(rt).ok()?;

@@ -1,4 +1,5 @@
 -- What an opening makes of a file, from what its last call leaves.
+use Rattle.store_tables.specs.Within.{HasStore}
 use Rattle.std.proofs.Common.{◌≡◌, ◌⊎◌, inl, inr, ℕ, Ok, Err, IsTrue, length, refl, sym, ap, subst, ◌∙◌}
 use Rattle.sqlite.specs.Tree.{Trees}
 use Rattle.sqlite.specs.Effect.{Database}
@@ -12,7 +13,7 @@ use Rattle.stores.proofs.Fronts.{records-length}
 use Rattle.store_tables.specs.Tables.{order_in}
 use Rattle.store_tables.specs.Held.{slots_in, node_in, IsReadyIn}
 use Rattle.durable.specs.Opening.{IsOpeningFault, BecomesStore}
-use Rattle.store_tables.specs.Migrating.{HasStore, IsMigrated}
+use Rattle.store_migration.specs.Migrating.{IsMigrated}
 
 -- as many places as before
 pub as_long : (old new : Trees) → IsMigrated old new → length (slots_in new) ≡ length (slots_in old)

@@ -13,7 +13,7 @@ use Rattle.sqlite.specs.Tree.{Trees}
 use Rattle.durable.specs.Backing.{MayFind, Hold, HoldAlone}
 use Rattle.durable.specs.Connected.{Connected, IsHonest, MayHold, content, owner}
 use Rattle.store_tables.specs.Held.{slots_in, node_in, IsStore}
-use Rattle.store_tables.specs.Migrating.{IsOpenedAs}
+use Rattle.store_migration.specs.Migrating.{IsOpenedAs}
 use Rattle.stores.specs.Faults.{is_device_fault}
 use Rattle.stores.specs.Records.{Places}
 use Rattle.stores.specs.declared.fault.StoreFault.{StoreFault}

@@ -13,7 +13,7 @@ use Rattle.store_tables.specs.Tables.{TableOrder, AboutFirst, order_of, about_tr
 use Rattle.store_tables.specs.Slots.{slots_from}
 use Rattle.store_tables.specs.Held.{slots_in, IsStore, IsStoreIn}
 use Rattle.durable.specs.Opening.{IsOpened, IsBare, IsNew, BecomesStore}
-use Rattle.store_tables.specs.Migrating.{IsOpenedAs}
+use Rattle.store_migration.specs.Migrating.{IsOpenedAs}
 
 -- no store has both formats
 two_formats : (db : Trees) → IsStore db → IsStoreIn One db → ⊥

@@ -7,7 +7,7 @@ use Rattle.sqlite_disk.specs.declared.Disk.{Ghosts}
 use Rattle.sqlite_disk.specs.declared.Files.{Files}
 use Rattle.sqlite.specs.Tree.{Trees}
 use Rattle.durable.specs.Backing.{IsFound, IsNoDatabase, MayFind, Hold}
-use Rattle.store_tables.specs.Migrating.{IsOpenedAs}
+use Rattle.store_migration.specs.Migrating.{IsOpenedAs}
 use Rattle.durable.specs.Kept.{MayHold, is_there}
 use Rattle.durable.specs.Refusals.{IsUnharmed}
 use Rattle.stores.specs.Faults.{is_judgement, refuses_a_store}

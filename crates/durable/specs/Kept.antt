@@ -7,7 +7,7 @@ use Rattle.sqlite_disk.specs.declared.Files.{Files}
 use Rattle.sqlite_wal.specs.Reads.{AreClean}
 use Rattle.durable.specs.Backing.{MayFind, Hold}
 use Rattle.durable.specs.Connected as connected
-use Rattle.store_tables.specs.Migrating.{IsOpenedAs}
+use Rattle.store_migration.specs.Migrating.{IsOpenedAs}
 use Rattle.stores.specs.Records.{Places}
 use Rattle.durable.specs.declared.store_state.StoreState.{StoreState}
 use Rattle.durable.specs.declared.store_state.StoreState.TheVariants.{Open, Shut, Absent}

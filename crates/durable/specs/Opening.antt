@@ -1,4 +1,5 @@
 -- What an opening finds in a file, and what it makes of a new one.
+use Rattle.store_tables.specs.Within.{HasStore}
 use Rattle.std.specs.Prelude.{◌≡◌, ◌⊎◌, ℕ, ℤ, pos, negsuc, Bool, true, false, ◌<ℤ◌, List, [], ◌∷◌, map, Option, Some, None, Result, Ok, Err, OnOk, IfOk, IfErr, length, All, IsTrue, Any}
 use Rattle.std.specs.List.{Contains}
 use Rattle.sqlite.specs.declared.types.Value.TheVariants.{Int, Text as Words}
@@ -17,7 +18,7 @@ use Rattle.durable.specs.declared.opening.Contents.TheVariants.{NoRow, OwnStore}
 use Rattle.store_tables.specs.Tables.{TableOrder, AboutFirst, about_tree, entries_tree, about, about_table, store_schema, no_schema, IsStoreSchema, order_in}
 use Rattle.store_tables.specs.Rows.{HoldsRows}
 use Rattle.store_tables.specs.Held.{slots_in, node_in, IsStore, IsReady}
-use Rattle.store_tables.specs.Migrating.{HasStore, IsMigrated}
+use Rattle.store_migration.specs.Migrating.{IsMigrated}
 use Rattle.stores.specs.Faults.{is_judgement}
 use Rattle.stores.specs.Records.{IsDamagedIn}
 use Rattle.wire.specs.Records.{number_of}

@@ -6,7 +6,7 @@ use Rattle.sqlite_disk.specs.declared.Files.{Files}
 use Rattle.units.specs.Code.{node_text}
 use Rattle.units.specs.declared.code.Node.{Node}
 use Rattle.durable.specs.Backing.{MayFind}
-use Rattle.store_tables.specs.Migrating.{IsOpenedAs}
+use Rattle.store_migration.specs.Migrating.{IsOpenedAs}
 use Rattle.durable.specs.Kept as kept
 use Rattle.stores.specs.Records.{Places}
 use Rattle.durable.specs.Refusals.{IsRefusal, AreSpared}

@@ -4,7 +4,7 @@ ghost use Rattle.sqlite.specs.Tree.{Trees};
 ghost use Rattle.sqlite_disk.specs.declared.Files.{Files};
 ghost use Rattle.durable.specs.Backing.{IsFound, Hold};
 ghost use Rattle.store_tables.specs.Held.{slots_in, node_in, IsStore};
-ghost use Rattle.store_tables.specs.Migrating.{IsOpenedAs};
+ghost use Rattle.store_migration.specs.Migrating.{IsOpenedAs};
 ghost use Rattle.durable.specs.Stores.{content, owner};
 ghost use Rattle.durable.specs.declared.sql_store.SqlStore.{SqlStore};
 

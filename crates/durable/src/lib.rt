@@ -11,4 +11,4 @@ mod store_state;
 
 pub use laws::closed_files_open_as_they_were;
 pub use sql_store::SqlStore;
-pub use store_tables::{Nobody, Watch};
+pub use store_migration::{Nobody, Watch};

@@ -8,18 +8,19 @@ ghost use Rattle.stores.specs.Faults.{is_device_fault};
 ghost use Rattle.wire.specs.declared.record_format.RecordFormat.{RecordFormat};
 ghost use Rattle.wire.specs.declared.record_format.RecordFormat.TheVariants.{One};
 ghost use Rattle.store_tables.specs.Held.{slots_in, node_in, IsStoreIn};
-ghost use Rattle.store_tables.specs.Migrating.{HasStore, IsOpenedAs};
+ghost use Rattle.store_migration.specs.Migrating.{IsOpenedAs};
 ghost use Rattle.sqlite.specs.Held.{state};
 ghost use Rattle.sqlite.specs.Tree.{Trees};
 ghost use Rattle.store_tables.specs.Tables.{TableOrder, AboutFirst, store_schema, IsStoreSchema};
 ghost use Rattle.store_tables.specs.Layout.{AreTables};
 ghost use Rattle.durable.specs.Opening.{IsOpened, IsBare, HasAbout, IsEmpty, HasFresh, IsMade, HasRows, IsOwner, HasLeastOrGreatest, IsVerdict, IsNegative, IsFresh, BecomesStore};
-ghost use Rattle.store_tables.specs.Within.{IsWithin};
+ghost use Rattle.store_tables.specs.Within.{IsWithin, HasStore};
 
 use sqlite::types::ValueRef;
 use sqlite::{Alter, Connection, Error as SqlError, Row, Transaction};
 use std::alloc::Global;
-use store_tables::{Owner, Tables, Watch, fault_of, migrate, owner_in, place_in, tables_of};
+use store_migration::{Watch, migrate};
+use store_tables::{Owner, Tables, fault_of, owner_in, place_in, tables_of};
 use stores::StoreFault;
 use wire::RecordFormat;
 

@@ -30,6 +30,10 @@ pub part_more : {X Y : Type 0} (f : X → Y) (xs : List X) (x : X) (zs : List X)
 part_more f xs x zs ys k more low same item =
     ap (map f) more ∙ map-append f xs (x ∷ []) ∙ ap (λ t. t ++ f x ∷ []) same ∙ ap (λ y. take k ys ++ y ∷ []) item ∙ sym (take_more ys k (f x) low)
 
+-- what a value is made of is the next of the list, and so is its part
+pub part_is : {Y : Type 0} (ys : List Y) (k : ℕ) (own given : Y) → own ≡ given → given ≡ get_or ys k given → own ≡ get_or ys k own
+part_is ys k own given same item = subst (λ y. y ≡ get_or ys k y) (sym same) item
+
 -- as many
 pub pushed_count : {X : Type 0} (xs : List X) (x : X) (zs : List X) (k : ℕ) → zs ≡ xs ++ x ∷ [] → length xs ≡ k → length zs ≡ k + 1
 pushed_count xs x zs k more same = ap (λ l. length l) more ∙ length-append xs (x ∷ []) ∙ ap (λ n. n + 1) same

@@ -3,7 +3,7 @@ ghost use Rattle.std.specs.Prelude.{◌≡◌, ℕ, All, length, slice_get, vec_
 ghost use Rattle.std.specs.Thread.{IsSync};
 ghost use Rattle.desk.specs.Keeping.{MayOpen};
 ghost use Rattle.protocol.specs.Registries.{nodes};
-ghost use Rattle.sessions.specs.Orders.{AreAll};
+ghost use Rattle.sessions.specs.Orders.{AreAll, HasOnly};
 ghost use Rattle.sessions.specs.Threads.{AreOfThread};
 ghost use Rattle.playing.specs.Orders.{IsPlayed};
 
@@ -16,9 +16,7 @@ use desk::{Desk, Gate, Opening, RoomBell, Seat, Stored};
 use protocol::nodes_of;
 use scheme::Scheme;
 use scripts::ScriptLine;
-use sessions::{
-    Dial, LONGEST_MUSTER, Listen, Muster, Mustered, NodeParts, new_seats, run_all, threads_of,
-};
+use sessions::{Dial, LONGEST_MUSTER, Listen, Muster, Mustered, Threaded, new_seats, run_all};
 use std::alloc::Global;
 use std::rt::Clock as SystemClock;
 use std::sync::Wait;
@@ -57,27 +55,24 @@ fn stop_all<O: Opening, S: NodeStore, R: Wait>(rt: &R, desks: &[Desk<O, Core, S,
 }
 
 /// Runs the nodes. Where no thread was started, all desks stop, so that nobody waits for a commit.
-fn run_or_stop<O, S, L, D, K, G, R>(
+fn run_or_stop<N, O, S, R>(
     rt: &R,
     alloc: Global,
     desks: &[Desk<O, Core, S, RoomBell>],
-    stations: Vec<NodeParts<'_, O, Core, S, RoomBell, L, D, K, G>>,
+    threaded: Vec<N>,
 ) -> Ends
 where
-    O: Opening + Send,
-    S: NodeStore + Send + Drop,
-    L: Listen + Sync,
-    D: Dial + Sync,
-    K: Clock + Sync,
-    G: Gate + Sync,
+    N: Threaded + Send + Sync + Drop,
+    O: Opening,
+    S: NodeStore,
     R: Threads + Wait + SystemClock + Sync,
-    ensures len { IfOk result (λ v. vec_len v ≡ vec_len stations.entry) }
+    ensures len { IfOk result (λ v. vec_len v ≡ vec_len threaded) }
     ensures taken { IfOk result
-        (λ v. (k : ℕ) (parts : _) (seats : _) → slice_get stations.entry.items k ≡ Some parts
+        (λ v. (k : ℕ) (node : _) (seats : _) → slice_get threaded.items k ≡ Some node
         → slice_get v.items k ≡ Some (Ok seats)
-        → All (AreOfThread (D.leads parts.dial.now) D.Reader.remaining D.Writer.contents S.NodeStore O.opened (K.tells parts.clock.now)) seats.items) }
+        → All (HasOnly (N.takes node)) seats.items) }
 {
-    let ends = run_all(rt, alloc, stations);
+    let ends = run_all(rt, alloc, threaded);
     if ends.is_err() {
         stop_all(rt, desks);
     }
@@ -103,12 +98,10 @@ fn play_with_seats<O: Opening, S: NodeStore, P: Watch, R: Wait + SystemClock>(
 }
 
 /// How many threads those nodes have.
-fn threads_of_all<O: Opening, S: NodeStore, L, D, K, G>(
-    stations: &[NodeParts<'_, O, Core, S, RoomBell, L, D, K, G>],
-) -> usize {
+fn threads_of_all<N: Threaded>(threaded: &[N]) -> usize {
     let mut threads: usize = 0;
-    for station in stations {
-        threads = threads.saturating_add(threads_of(station.peers.len()));
+    for node in threaded {
+        threads = threads.saturating_add(node.threads());
     }
     threads
 }
@@ -161,45 +154,42 @@ fn play_and_stop<O: Opening, S: NodeStore, P: Watch, R: Wait + SystemClock>(
 ///
 /// Where the system has no thread for the nodes, they begin when the script has ended: it was not played, since no
 /// thread reported, and all desks have stopped, so that they end at once.
-fn run_beside_script<O, S, L, D, K, G, P, R>(
+fn run_beside_script<N, O, S, P, R>(
     rt: &R,
     alloc: Global,
     scheme: &Scheme,
     desks: &[Desk<O, Core, S, RoomBell>],
     lines: &[ScriptLine],
     muster: &Muster,
-    stations: Vec<NodeParts<'_, O, Core, S, RoomBell, L, D, K, G>>,
+    threaded: Vec<N>,
     watch: &mut P,
 ) -> (Ends, Result<Played, NoMemory>)
 where
+    N: Threaded + Send + Sync + Drop,
     O: Opening + Send,
-    S: NodeStore + Send + Drop,
-    L: Listen + Sync,
-    D: Dial + Sync,
-    K: Clock + Sync,
-    G: Gate + Sync,
+    S: NodeStore + Send,
     P: Watch,
     R: Threads + Wait + SystemClock + Sync,
     requires { length desks.now ≡ length (nodes scheme.now) }
-    ensures ends { IfOk result.0 (λ v. vec_len v ≡ vec_len stations.entry) }
+    ensures ends { IfOk result.0 (λ v. vec_len v ≡ vec_len threaded) }
     ensures taken { IfOk result.0
-        (λ v. (k : ℕ) (parts : _) (seats : _) → slice_get stations.entry.items k ≡ Some parts
+        (λ v. (k : ℕ) (node : _) (seats : _) → slice_get threaded.items k ≡ Some node
         → slice_get v.items k ≡ Some (Ok seats)
-        → All (AreOfThread (D.leads parts.dial.now) D.Reader.remaining D.Writer.contents S.NodeStore O.opened (K.tells parts.clock.now)) seats.items) }
+        → All (HasOnly (N.takes node)) seats.items) }
     ensures played { IfOk result.1 (λ p. IsPlayed scheme.now lines.now p.answers.items p.seats.items) }
     ensures seats { IfOk result.1 (λ p. vec_len p.seats ≡ length (nodes scheme.now)) }
 {
-    let threads = threads_of_all(stations.as_slice());
+    let threads = threads_of_all(threaded.as_slice());
     thread::join(
         rt,
         move || -> Ends
             requires { IsSync R.row }
-            ensures len { IfOk result (λ v. vec_len v ≡ vec_len stations.entry) }
+            ensures len { IfOk result (λ v. vec_len v ≡ vec_len threaded) }
             ensures taken { IfOk result
-                (λ v. (k : ℕ) (parts : _) (seats : _) → slice_get stations.entry.items k ≡ Some parts
+                (λ v. (k : ℕ) (node : _) (seats : _) → slice_get threaded.items k ≡ Some node
                 → slice_get v.items k ≡ Some (Ok seats)
-                → All (AreOfThread (D.leads parts.dial.now) D.Reader.remaining D.Writer.contents S.NodeStore O.opened (K.tells parts.clock.now)) seats.items) }
-        { run_or_stop(rt, alloc, desks, stations) },
+                → All (HasOnly (N.takes node)) seats.items) }
+        { run_or_stop(rt, alloc, desks, threaded) },
         move || -> Result<Played, NoMemory>
             requires { length desks.now ≡ length (nodes scheme.now) }
             ensures played { IfOk result (λ p. IsPlayed scheme.entry.now lines.entry.now p.answers.items p.seats.items) }
@@ -231,7 +221,11 @@ where
     O: Opening + Send,
     S: NodeStore + Send + Drop,
     L: Listen + Sync,
+    L::Reader: Send,
+    L::Writer: Send,
     D: Dial + Sync,
+    D::Reader: Send,
+    D::Writer: Send,
     K: Clock + Sync,
     G: Gate + Sync,
     P: Watch,
@@ -274,7 +268,11 @@ where
     O: Opening + Send,
     S: NodeStore + Send + Drop,
     L: Listen + Sync,
+    L::Reader: Send,
+    L::Writer: Send,
     D: Dial + Sync,
+    D::Reader: Send,
+    D::Writer: Send,
     K: Clock + Sync,
     G: Gate + Sync,
     P: Watch,

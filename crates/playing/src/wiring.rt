@@ -4,7 +4,7 @@ ghost use Rattle.desk.specs.Keeping.{MayOpen};
 ghost use Rattle.playing.specs.Wiring.{peers_of};
 
 use desk::{Desk, Opening, RoomBell, Stored};
-use sessions::{Muster, NodeParts};
+use sessions::{Muster, NodeParts, NodeThreads};
 use std::alloc::Global;
 use stores::NodeStore;
 use units::{NoMemory, Node};
@@ -61,22 +61,22 @@ pub(crate) fn nodes_to_run<'a, O, S, L, D, K, G>(
     desks: &'a [Desk<O, Core, S, RoomBell>],
     network: &Network<'a, L, D, K, G>,
     muster: &'a Muster,
-) -> Result<Vec<NodeParts<'a, O, Core, S, RoomBell, L, D, K, G>>, NoMemory>
+) -> Result<Vec<NodeThreads<'a, O, Core, S, RoomBell, L, D, K, G>>, NoMemory>
 where
     O: Opening,
     S: NodeStore,
     requires desks { length desks.now ≡ length names.now }
     requires listeners { length network.now.listeners.now ≡ length names.now }
     ensures count { IfOk result (λ v. vec_len v ≡ length names.now) }
-    ensures names { IfOk result (λ v. map (λ n. n.node) v.items ≡ names.now) }
-    ensures desks { IfOk result (λ v. map (λ n. n.desk.now) v.items ≡ desks.now) }
-    ensures listeners { IfOk result (λ v. map (λ n. n.listen.now) v.items ≡ network.now.listeners.now) }
-    ensures peers { IfOk result (λ v. map (λ n. n.peers.now) v.items ≡ peers_of names.now) }
-    ensures alike { IfOk result (λ v. All (λ n. (n.dial.now ≡ network.now.dial.now) × (n.clock.now ≡ network.now.clock.now)) v.items) }
+    ensures names { IfOk result (λ v. map (λ n. n.parts.node) v.items ≡ names.now) }
+    ensures desks { IfOk result (λ v. map (λ n. n.parts.desk.now) v.items ≡ desks.now) }
+    ensures listeners { IfOk result (λ v. map (λ n. n.parts.listen.now) v.items ≡ network.now.listeners.now) }
+    ensures peers { IfOk result (λ v. map (λ n. n.parts.peers.now) v.items ≡ peers_of names.now) }
+    ensures alike { IfOk result (λ v. All (λ n. (n.parts.dial.now ≡ network.now.dial.now) × (n.parts.clock.now ≡ network.now.clock.now)) v.items) }
 {
     let mut nodes = Vec::with_capacity(alloc, names.len())?;
     for at in 0..names.len() {
-        nodes.push(NodeParts {
+        let parts = NodeParts {
             node: names[at],
             desk: &desks[at],
             listen: &network.listeners[at],
@@ -85,7 +85,8 @@ where
             clock: network.clock,
             gate: network.gate,
             muster,
-        })?;
+        };
+        nodes.push(NodeThreads::new(alloc, parts)?)?;
     }
     Ok(nodes)
 }

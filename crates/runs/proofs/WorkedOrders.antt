@@ -1,5 +1,6 @@
 -- Which records of a node are a script's orders: journals, scripts and answers as values.
-use Rattle.std.proofs.Common.{◌≡◌, ◌≢◌, ◌∙◌, ◌+◌, ℕ, List, [], ◌∷◌, ◌++◌, true, None, length, inl, inr, refl, ap, arith, lit<}
+use Rattle.std.proofs.Common.{◌≡◌, ◌≢◌, ◌<◌, ◌∙◌, ◌+◌, ℕ, zero, suc, All, List, [], ◌∷◌, ◌++◌, true, false, None, length, inl, inr, refl, ap, subst, arith, lit<, true≢false}
+use Rattle.std.proofs.lemmas.Option.{slice_get_within}
 use Rattle.units.specs.declared.code.Node.{Node}
 use Rattle.units.specs.declared.code.Node.TheVariants.{Itl, Registry}
 use Rattle.units.specs.declared.refusal.Refusal.{Refusal}
@@ -16,7 +17,8 @@ use Rattle.scripts.specs.declared.line.ScriptLine.TheVariants.{Order, Status as 
 use Rattle.playing.specs.Orders.{AreOrders}
 use Rattle.playing.specs.declared.answer.Answer.{Answer}
 use Rattle.playing.specs.declared.answer.Answer.TheVariants.{NotPossible, Told}
-use Rattle.runs.specs.Runs.{orders_of}
+use Rattle.sessions.specs.Orders.{was_ordered}
+use Rattle.runs.specs.Runs.{HaveOthers, orders_of, since}
 
 abbrev close : Input
 close = input.CloseAccount (number 2 (lit< tt))
@@ -46,6 +48,45 @@ ordered_since_opening = refl
 pub kinds_of_orders : orders_of (record held { journal = transfer ∷ input.Request nz1 ∷ input.OpenAccount (number 2 (lit< tt)) ∷ input.CleanUp first_of_may ∷ input.Eligible nz true ∷ []; opening = 0 })
     ≡ at 0 transfer ∷ at 1 (input.Request nz1) ∷ at 2 (input.OpenAccount (number 2 (lit< tt))) ∷ at 3 (input.CleanUp first_of_may) ∷ at 4 (input.Eligible nz true) ∷ []
 kinds_of_orders = refl
+
+-- ---- the records of a node that were not ordered
+
+pub since_opening : since held ≡ transfer ∷ acknowledgement ∷ message ∷ close ∷ []
+since_opening = refl
+
+abbrev log : Held
+log = record { scheme = scheme_s; node = Itl; journal = message ∷ []; committed = 0; opening = 0; runs = true }
+
+abbrev jp_state : Held
+jp_state = record { scheme = scheme_s; node = jp_node; journal = message ∷ []; committed = 1; opening = 1; runs = true }
+
+abbrev all_states : List Held
+all_states = log ∷ jp_state ∷ held ∷ []
+
+-- the acknowledgement and the message since NZ's opening have to be such as threads record
+pub others_are_taken : (Takes : Input → Type 0) → HaveOthers Takes scheme_s all_states → Takes acknowledgement × Takes message
+others_are_taken Takes have = let nz = have nz_node 2 held refl refl in (nz 1 close (lit< tt) refl, nz 2 close (lit< tt) refl)
+
+-- and nothing else has: not what was recorded before, is not committed yet, or was ordered
+module _ (Takes : Input → Type 0) where
+  abbrev Such : Input → Type 0
+  Such i = was_ordered i ≡ false → Takes i
+
+  none : All Such []
+  none k d low = absurd (omega (arith, low))
+
+  of_nz : Takes acknowledgement → Takes message → All Such (since held)
+  of_nz acknowledged received zero d low is = absurd (true≢false is)
+  of_nz acknowledged received (suc zero) d low is = acknowledged
+  of_nz acknowledged received (suc (suc zero)) d low is = received
+  of_nz acknowledged received (suc (suc (suc zero))) d low is = absurd (true≢false is)
+  of_nz acknowledged received (suc (suc (suc (suc k)))) d low is = absurd (omega (arith, low))
+
+  pub taken_are_all : Takes acknowledgement → Takes message → HaveOthers Takes scheme_s all_states
+  taken_are_all acknowledged received n zero h place is = let same : log ≡ h = cc (is) in subst (λ s. All Such (since s)) same none
+  taken_are_all acknowledged received n (suc zero) h place is = let same : jp_state ≡ h = cc (is) in subst (λ s. All Such (since s)) same none
+  taken_are_all acknowledged received n (suc (suc zero)) h place is = let same : held ≡ h = cc (is) in subst (λ s. All Such (since s)) same (of_nz acknowledged received)
+  taken_are_all acknowledged received n (suc (suc (suc k))) h place is = absurd (omega (arith, slice_get_within all_states (suc (suc (suc k))) h is))
 
 -- ---- scripts
 

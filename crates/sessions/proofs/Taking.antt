@@ -10,7 +10,6 @@ use Rattle.wire.specs.declared.message.Message.{Message}
 use Rattle.scheme.specs.declared.registries.Scheme.{Scheme}
 use Rattle.protocol.specs.declared.node_core.Stepped.TheVariants.{Recorded, Repeat, Late}
 use Rattle.stores.specs.declared.node_store.NodeStore.{Ghosts}
-use Rattle.desk.specs.Keeping.{IsToSend}
 use Rattle.desk.specs.Telling.{kept, tickets_after}
 use Rattle.desk.specs.Views.{Heard}
 use Rattle.desk.specs.declared.notes.Asked.{Asked}
@@ -21,7 +20,7 @@ use Rattle.desk.specs.declared.notes.Told.{Told}
 use Rattle.desk.specs.declared.notes.Told.TheVariants.{Step, Status, Refused}
 use Rattle.answers.specs.Answers.{Answered, Asks, is_without_journal}
 use Rattle.sessions.specs.Orders.{AreAll, HasNoOrder, HasOnly, was_ordered}
-use Rattle.sessions.specs.Sending.{Acknowledges, IsReceivedBy, Sends}
+use Rattle.sessions.specs.Sending.{Acknowledges, Sends}
 use Rattle.sessions.specs.Threads.{AreOfThread, IsDelivered, IsOfThread}
 use Rattle.sessions.specs.declared.sending.Sent.{Sent}
 use Rattle.sessions.specs.declared.sending.Sent.TheVariants as sent
@@ -90,7 +89,7 @@ module _ {R W S : Type 0} (leads : Node → R → W → Type 0) (remaining : R �
   not_ordered (Ack number) is = refl
   not_ordered (Received m moment) is = refl
 
-  no_order : (seat : Heard) → Are seat → HasNoOrder seat
+  pub no_order : (seat : Heard) → Are seat → HasNoOrder seat
   no_order seat all = All-weaker (λ (t : Ticket). Is t.input) (λ (t : Ticket). was_ordered t.input ≡ false) (λ t is. not_ordered t.input is) seat.tickets all
 
   -- and none of the seats has an order

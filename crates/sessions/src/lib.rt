@@ -9,12 +9,14 @@ mod node_threads;
 mod senders;
 mod sending;
 mod session_threads;
+mod threaded;
 mod watched_reader;
 mod workers;
 
 pub use connections::{Accepted, Dial, Listen};
 pub use mustering::{LONGEST_MUSTER, Muster, Mustered};
 pub use node_parts::NodeParts;
-pub use node_threads::{WORKERS, new_seats, run_all, run_node, threads_of};
+pub use node_threads::{NodeThreads, WORKERS};
 pub use sending::{Sent, send_next};
 pub use session_threads::SESSION_THREADS;
+pub use threaded::{Threaded, new_seats, run_all, run_node};

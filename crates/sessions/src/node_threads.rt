@@ -1,14 +1,12 @@
-//! The threads of a node, and those of several nodes.
-ghost use Rattle.std.specs.Prelude.{◌≡◌, ◌<◌, ◌+◌, ◌^◌, [], ℕ, All, length, vec_len, slice_get, IfOk, Ok, Some};
-ghost use Rattle.std.specs.Thread.{IsSync};
-ghost use Rattle.sessions.specs.Orders.{HasNoOrder, HaveNoOrders};
-ghost use Rattle.sessions.specs.Threads.{AreOfThread};
+//! The threads of a node.
+ghost use Rattle.std.specs.Prelude.{◌≡◌, ◌+◌, length, IfOk};
+ghost use Rattle.sessions.specs.Threads.{IsOfThread};
 
 use crate::connections::{Dial, Listen};
-use crate::mustering::Muster;
 use crate::node_parts::NodeParts;
 use crate::senders::send_all;
-use crate::session_threads::{SESSION_THREADS, serve_sessions};
+use crate::session_threads::{SESSION_THREADS, serve_all};
+use crate::threaded::Threaded;
 use crate::workers::{Errand, work};
 use answers::Clock;
 use crossbeam_channel::{Receiver, Sender};
@@ -16,9 +14,7 @@ use desk::{Bell, Desk, Gate, Opening, Seat};
 use protocol::NodeCore;
 use std::alloc::Global;
 use std::rt::Clock as SystemClock;
-use std::sync::Wait;
-use std::thread;
-use std::thread::Threads;
+use std::sync::{Mutex, Wait};
 use stores::NodeStore;
 use units::NoMemory;
 
@@ -28,15 +24,32 @@ pub const WORKERS: usize = 2;
 /// How many jobs wait at most.
 const MOST_JOBS: usize = 16;
 
-// A session thread hands over a job at a time, so that none waits to hand over one, also where no worker takes any.
+// A session thread leaves one job at most in the channel, so that none waits to hand over one, also where no worker takes
+// any.
 const _: () = prove!(SESSION_THREADS <= MOST_JOBS);
 
-/// How many threads a node has that sends to that many peers: one that commits, `SESSION_THREADS` that serve sessions,
-/// `WORKERS` that have its desk take jobs, and one for each peer.
-pub fn threads_of(peers: usize) -> usize
-    ensures { peers < 2 ^ 32 → result ≡ 1 + SESSION_THREADS + WORKERS + peers }
-{
-    peers.saturating_add(1 + SESSION_THREADS + WORKERS)
+/// What a thread of a node does.
+#[derive(Clone, Copy, Debug, PartialEq, Eq)]
+enum Post {
+    /// It commits the desk's records to its store.
+    Commit,
+    /// It serves sessions, as the session thread of that number.
+    Serve(usize),
+    /// It has the desk take jobs.
+    Work,
+    /// It sends messages to the peer at that place.
+    Send(usize),
+}
+
+/// What the thread at that place does: the first commits, then `SESSION_THREADS` serve sessions, then come `WORKERS`
+/// workers, and then a sender for each peer.
+fn post_at(place: usize) -> Post {
+    match place {
+        0 => Post::Commit,
+        _ if place <= SESSION_THREADS => Post::Serve(place - 1),
+        _ if place <= SESSION_THREADS + WORKERS => Post::Work,
+        _ => Post::Send(place - (1 + SESSION_THREADS + WORKERS)),
+    }
 }
 
 /// Commits the desk's records to its store until the desk stops, also where the store has a fault.
@@ -60,289 +73,118 @@ fn commit_all<O: Opening, C: NodeCore, S: NodeStore, B: Bell, R: Wait + SystemCl
     }
 }
 
-/// Reports that it has begun. Then it commits the desk's records until the desk stops.
-fn report_and_commit<O: Opening, C: NodeCore, S: NodeStore, B: Bell, R: Wait + SystemClock>(
-    rt: &R,
-    desk: &Desk<O, C, S, B>,
-    muster: &Muster,
-) {
-    muster.report(rt);
-    commit_all(rt, desk);
+/// Where a session thread finds its end of the channel by which it hands jobs to workers.
+type Handing = Mutex<Option<Sender<Errand>>>;
+
+/// An end of the channel for each session thread. Fails with `NoMemory` where memory ran out.
+fn handings_of(alloc: Global, sender: &Sender<Errand>) -> Result<Vec<Handing>, NoMemory> {
+    let mut handings = Vec::new(alloc);
+    for _ in 0..SESSION_THREADS {
+        handings.push(Mutex::new(Some(sender.clone()?)))?;
+    }
+    Ok(handings)
 }
 
-/// Reports that it has begun. Then it works or sends with one seat, until the desk stops: the first `WORKERS` places
-/// are those of the job workers, and each place after these is that of a peer's sender.
-fn take_part<O, C, S, B, L, D, K, G, R>(
-    rt: &R,
+/// The end of the channel for the session thread of that number, once. When the last one is let go, no more jobs come.
+fn take_handing<R: Wait>(rt: &R, handings: &[Handing], number: usize) -> Option<Sender<Errand>> {
+    let taken = handings.get(number)?.lock(rt).take();
+    taken
+}
+
+/// A node's threads: what they share, and how sessions hand jobs to workers.
+///
+/// One commits the desk's records to its store, `SESSION_THREADS` serve the connections that others make, `WORKERS` have
+/// the desk take their jobs, of which `MOST_JOBS` wait at most, and one for each peer sends it the messages that are due,
+/// again every `LONGEST_QUIET` seconds while they aren't received. What their seats were told are messages, at moments
+/// that the clock told, and acknowledgements of messages that their peers received, and no orders.
+///
+/// The desk stops when it is told to, where the store has a fault, and where 100 accepts in a row failed. Then each
+/// thread ends by itself: one that waits at the bell, for a worker or for a connection looks at the desk again after a
+/// limited time, a session ends at its next read, and the workers end once all session threads have, or once no job has come
+/// for a while.
+#[derive(Drop)]
+pub struct NodeThreads<'a, O: Opening, C: NodeCore, S: NodeStore, B: Bell, L, D, K, G> {
+    pub parts: NodeParts<'a, O, C, S, B, L, D, K, G>,
     alloc: Global,
-    parts: &NodeParts<'_, O, C, S, B, L, D, K, G>,
-    errands: &Receiver<Errand>,
-    place: usize,
-    seat: &mut Seat,
-)
+    handings: Vec<Handing>,
+    errands: Receiver<Errand>,
+    /// How many accepts in a row have failed, at all session threads together.
+    failures: Mutex<u32>,
+}
+
+impl<'a, O: Opening, C: NodeCore, S: NodeStore, B: Bell, L, D, K, G> NodeThreads<
+    'a,
+    O,
+    C,
+    S,
+    B,
+    L,
+    D,
+    K,
+    G,
+> {
+    /// The threads that share these parts, none of which has begun. Fails with `NoMemory` where memory ran out.
+    pub fn new(
+        alloc: Global,
+        parts: NodeParts<'a, O, C, S, B, L, D, K, G>,
+    ) -> Result<NodeThreads<'a, O, C, S, B, L, D, K, G>, NoMemory>
+        ensures { IfOk result (λ node. node.parts ≡ parts.entry) }
+    {
+        let (sender, errands) = crossbeam_channel::bounded(alloc, MOST_JOBS)?;
+        let handings = handings_of(alloc, &sender)?;
+        Ok(NodeThreads {
+            parts,
+            alloc,
+            handings,
+            errands,
+            failures: Mutex::new(0),
+        })
+    }
+}
+
+impl<'a, O, C, S, B, L, D, K, G> Threaded for NodeThreads<'a, O, C, S, B, L, D, K, G>
 where
     O: Opening,
     C: NodeCore,
     S: NodeStore,
     B: Bell,
+    L: Listen,
     D: Dial,
     K: Clock,
     G: Gate,
-    R: Wait + SystemClock,
-    requires { AreOfThread (D.leads parts.now.dial.now) D.Reader.remaining D.Writer.contents S.NodeStore O.opened (K.tells parts.now.clock.now) seat.old }
-    ensures { AreOfThread (D.leads parts.now.dial.now) D.Reader.remaining D.Writer.contents S.NodeStore O.opened (K.tells parts.now.clock.now) seat.new }
 {
-    parts.muster.report(rt);
-    if place < WORKERS {
-        work(rt, parts, errands, seat);
-    } else if let Some(peer) = parts.peers.get(place - WORKERS) {
-        send_all(rt, alloc, parts, *peer, seat);
+    ghost use Rattle.sessions.specs.declared.node_threads.TheConstants.{WORKERS};
+    ghost use Rattle.sessions.specs.declared.session_threads.TheConstants.{SESSION_THREADS};
+
+    ghost takes = { λ node. IsOfThread (D.leads node.parts.dial.now) D.Reader.remaining D.Writer.contents S.NodeStore O.opened (K.tells node.parts.clock.now) };
+
+    ghost thread_count = { λ node. 1 + SESSION_THREADS + WORKERS + length node.parts.peers.now };
+
+    fn threads(&self) -> usize {
+        1 + SESSION_THREADS + WORKERS + self.parts.peers.len()
     }
-}
 
-/// Works and sends in a thread for each seat, until the desk stops, and returns the seats.
-fn take_all<O, C, S, B, L, D, K, G, R>(
-    rt: &R,
-    alloc: Global,
-    parts: &NodeParts<'_, O, C, S, B, L, D, K, G>,
-    errands: &Receiver<Errand>,
-    mut seats: Vec<Seat>,
-) -> Vec<Seat>
-where
-    O: Opening + Send,
-    C: NodeCore + Send,
-    S: NodeStore + Send,
-    B: Bell + Sync,
-    L: Sync,
-    D: Dial + Sync,
-    K: Clock + Sync,
-    G: Gate + Sync,
-    R: Threads + Wait + SystemClock + Sync,
-    requires { All (AreOfThread (D.leads parts.now.dial.now) D.Reader.remaining D.Writer.contents S.NodeStore O.opened (K.tells parts.now.clock.now)) seats.items }
-    ensures len { vec_len result ≡ vec_len seats }
-    ensures taken { All (AreOfThread (D.leads parts.now.dial.now) D.Reader.remaining D.Writer.contents S.NodeStore O.opened (K.tells parts.now.clock.now)) result.items }
-{
-    let threads = seats.len().max(1);
-    thread::for_each_mut(
-        rt,
-        seats.as_mut_slice(),
-        threads,
-        &|place: usize, seat: &mut Seat|
-            requires sync { IsSync R.row }
-            requires taken { AreOfThread (D.leads parts.now.dial.now) D.Reader.remaining D.Writer.contents S.NodeStore O.opened (K.tells parts.now.clock.now) seat.old }
-            ensures { AreOfThread (D.leads parts.entry.now.dial.now) D.Reader.remaining D.Writer.contents S.NodeStore O.opened (K.tells parts.entry.now.clock.now) seat.new }
-        { take_part(rt, alloc, parts, errands, place, seat) },
-    );
-    seats
-}
-
-/// The thread that commits, and those that serve sessions, whose end ends the job workers.
-fn commit_and_serve<O, C, S, B, L, D, K, G, R>(
-    rt: &R,
-    alloc: Global,
-    parts: &NodeParts<'_, O, C, S, B, L, D, K, G>,
-    errands: Sender<Errand>,
-)
-where
-    O: Opening + Send,
-    C: NodeCore + Send,
-    S: NodeStore + Send,
-    B: Bell + Sync,
-    L: Listen + Sync,
-    D: Dial + Sync,
-    K: Clock + Sync,
-    G: Gate + Sync,
-    R: Threads + Wait + SystemClock + Sync,
-{
-    // That `rt` may be shared is said at each closure, since it isn't inferred there.
-    thread::join(
-        rt,
-        move ||
-            requires { IsSync R.row }
-        { report_and_commit(rt, parts.desk, parts.muster) },
-        move ||
-            requires { IsSync R.row }
-        { serve_sessions(rt, alloc, parts.desk, parts.listen, parts.muster, errands) },
-    );
-}
-
-/// That many seats that were told nothing. Fails with `NoMemory` if memory runs out.
-pub fn new_seats(alloc: Global, count: usize) -> Result<Vec<Seat>, NoMemory>
-    ensures len { IfOk result (λ seats. vec_len seats ≡ count) }
-    ensures none { IfOk result (λ seats. All (λ s. (s.tickets ≡ []) × (s.notes ≡ [])) seats.items) }
-{
-    let mut seats = Vec::new(alloc);
-    for made in 0..count {
-        seats.push(Seat::new(alloc))?;
+    /// It reports at the muster first.
+    fn run_thread<R: Wait + SystemClock>(&self, rt: &R, place: usize, seat: &mut Seat) {
+        self.parts.muster.report(rt);
+        match post_at(place) {
+            Post::Commit => commit_all(rt, self.parts.desk),
+            Post::Serve(number) => {
+                if let Some(errands) = take_handing(rt, self.handings.as_slice(), number) {
+                    let (desk, listen) = (self.parts.desk, self.parts.listen);
+                    serve_all(rt, self.alloc, desk, listen, &self.failures, &errands);
+                }
+            }
+            Post::Work => work(rt, &self.parts, &self.errands, seat),
+            Post::Send(at) => {
+                if let Some(peer) = self.parts.peers.get(at) {
+                    send_all(rt, self.alloc, &self.parts, *peer, seat);
+                }
+            }
+        }
     }
-    Ok(seats)
-}
 
-/// All threads of a node, until the desk stops. Returns the seats of those that take something at the desk.
-fn run_threads<O, C, S, B, L, D, K, G, R>(
-    rt: &R,
-    alloc: Global,
-    parts: &NodeParts<'_, O, C, S, B, L, D, K, G>,
-    errands: Sender<Errand>,
-    handed: &Receiver<Errand>,
-    seats: Vec<Seat>,
-) -> Vec<Seat>
-where
-    O: Opening + Send,
-    C: NodeCore + Send,
-    S: NodeStore + Send,
-    B: Bell + Sync,
-    L: Listen + Sync,
-    D: Dial + Sync,
-    K: Clock + Sync,
-    G: Gate + Sync,
-    R: Threads + Wait + SystemClock + Sync,
-    requires { All (AreOfThread (D.leads parts.now.dial.now) D.Reader.remaining D.Writer.contents S.NodeStore O.opened (K.tells parts.now.clock.now)) seats.items }
-    ensures len { vec_len result ≡ vec_len seats }
-    ensures taken { All (AreOfThread (D.leads parts.now.dial.now) D.Reader.remaining D.Writer.contents S.NodeStore O.opened (K.tells parts.now.clock.now)) result.items }
-{
-    // What a closure returns is known of one that holds plain references, and of none that holds the parts.
-    let NodeParts {
-        node,
-        desk,
-        listen,
-        dial,
-        peers,
-        clock,
-        gate,
-        muster,
-    } = *parts;
-    let (taken, _) = thread::join(
-        rt,
-        move || -> Vec<Seat>
-            requires { IsSync R.row × All (AreOfThread (D.leads dial.now) D.Reader.remaining D.Writer.contents S.NodeStore O.opened (K.tells clock.now)) seats.items }
-            ensures len { vec_len result ≡ vec_len seats }
-            ensures taken { All (AreOfThread (D.leads dial.entry.now) D.Reader.remaining D.Writer.contents S.NodeStore O.opened (K.tells clock.entry.now)) result.items }
-        {
-            let parts = NodeParts {
-                node,
-                desk,
-                listen,
-                dial,
-                peers,
-                clock,
-                gate,
-                muster,
-            };
-            take_all(rt, alloc, &parts, handed, seats)
-        },
-        move ||
-            requires { IsSync R.row }
-        { commit_and_serve(rt, alloc, parts, errands) },
-    );
-    taken
-}
-
-/// Runs a node's threads until its desk stops: one commits the desk's records to its store, `SESSION_THREADS` serve
-/// the connections that others make, `WORKERS` have the desk take their jobs, and one for each peer sends it the
-/// messages that are due, again every `LONGEST_QUIET` seconds while they aren't received. `MOST_JOBS` jobs wait at
-/// most. Returns the seats of those that took something at the desk: messages, at moments that the clock told, and
-/// acknowledgements of messages that their peers received, and no orders.
-///
-/// The desk stops when it is told to, where the store has a fault, and where 100 accepts in a row failed. Then each
-/// thread ends by itself: one that waits at the bell, for a worker or for a connection looks at the desk again after a
-/// limited time, and a session ends at its next read. Fails with `NoMemory` where memory ran out, and no thread was
-/// started.
-///
-/// Each of these `threads_of` threads reports once at the muster when it begins. Where the system has no thread for
-/// one, another does its work once it has ended its own, and until then nobody does. So whoever gives orders at the
-/// desk waits for all reports first, and stops the desk where one is missing.
-pub fn run_node<O, C, S, B, L, D, K, G, R>(
-    rt: &R,
-    alloc: Global,
-    parts: &NodeParts<'_, O, C, S, B, L, D, K, G>,
-) -> Result<Vec<Seat>, NoMemory>
-where
-    O: Opening + Send,
-    C: NodeCore + Send,
-    S: NodeStore + Send,
-    B: Bell + Sync,
-    L: Listen + Sync,
-    D: Dial + Sync,
-    K: Clock + Sync,
-    G: Gate + Sync,
-    R: Threads + Wait + SystemClock + Sync,
-    ensures len { IfOk result (λ seats. vec_len seats ≡ WORKERS + length parts.now.peers.now) }
-    ensures taken { IfOk result (λ seats. All (AreOfThread (D.leads parts.now.dial.now) D.Reader.remaining D.Writer.contents S.NodeStore O.opened (K.tells parts.now.clock.now)) seats.items) }
-    ensures none { IfOk result (λ seats. All HasNoOrder seats.items) }
-{
-    let seats = new_seats(alloc, WORKERS + parts.peers.len())?;
-    let (errands, handed) = crossbeam_channel::bounded(alloc, MOST_JOBS)?;
-    Ok(run_threads(rt, alloc, parts, errands, &handed, seats))
-}
-
-/// As `run_node`. Where memory ran out, the desk has stopped.
-fn run_one<O, C, S, B, L, D, K, G, R>(
-    rt: &R,
-    alloc: Global,
-    parts: NodeParts<'_, O, C, S, B, L, D, K, G>,
-) -> Result<Vec<Seat>, NoMemory>
-where
-    O: Opening + Send,
-    C: NodeCore + Send,
-    S: NodeStore + Send,
-    B: Bell + Sync,
-    L: Listen + Sync,
-    D: Dial + Sync,
-    K: Clock + Sync,
-    G: Gate + Sync,
-    R: Threads + Wait + SystemClock + Sync,
-    ensures len { IfOk result (λ seats. vec_len seats ≡ WORKERS + length parts.entry.peers.now) }
-    ensures taken { IfOk result (λ seats. All (AreOfThread (D.leads parts.entry.dial.now) D.Reader.remaining D.Writer.contents S.NodeStore O.opened (K.tells parts.entry.clock.now)) seats.items) }
-    ensures none { IfOk result (λ seats. All HasNoOrder seats.items) }
-{
-    let seats = run_node(rt, alloc, &parts);
-    if seats.is_err() {
-        // No thread of it commits, so that whoever waits for a commit has to be told.
-        parts.desk.stop(rt);
+    fn give_up<R: Wait>(&self, rt: &R) {
+        self.parts.desk.stop(rt);
     }
-    seats
-}
-
-/// Runs several nodes, each as `run_node` does, until the desk of each has stopped, and returns the seats of each in the
-/// order of the nodes. What happens at one node stops no other one; where memory ran out for a node's threads, it has
-/// `NoMemory` in place of seats, and its desk has stopped. Fails with `NoMemory` where memory ran out: then nothing is
-/// told of what the threads did.
-pub fn run_all<O, C, S, B, L, D, K, G, R>(
-    rt: &R,
-    alloc: Global,
-    nodes: Vec<NodeParts<'_, O, C, S, B, L, D, K, G>>,
-) -> Result<Vec<Result<Vec<Seat>, NoMemory>>, NoMemory>
-where
-    O: Opening + Send,
-    C: NodeCore + Send,
-    S: NodeStore + Send,
-    B: Bell + Sync,
-    L: Listen + Sync,
-    D: Dial + Sync,
-    K: Clock + Sync,
-    G: Gate + Sync,
-    R: Threads + Wait + SystemClock + Sync,
-    ensures count { IfOk result (λ ends. vec_len ends ≡ vec_len nodes.entry) }
-    ensures seats { IfOk result
-        (λ ends. (k : ℕ) (parts : _) (seats : _) → slice_get nodes.entry.items k ≡ Some parts
-        → slice_get ends.items k ≡ Some (Ok seats)
-        → vec_len seats ≡ WORKERS + length parts.peers.now) }
-    ensures taken { IfOk result
-        (λ ends. (k : ℕ) (parts : _) (seats : _) → slice_get nodes.entry.items k ≡ Some parts
-        → slice_get ends.items k ≡ Some (Ok seats)
-        → All (AreOfThread (D.leads parts.dial.now) D.Reader.remaining D.Writer.contents S.NodeStore O.opened (K.tells parts.clock.now)) seats.items) }
-    ensures none { IfOk result (λ ends. HaveNoOrders ends.items) }
-{
-    let ends = thread::map_vec(
-        rt,
-        nodes,
-        &|parts: NodeParts<'_, O, C, S, B, L, D, K, G>| -> Result<Vec<Seat>, NoMemory>
-            requires { IsSync R.row }
-            ensures len { IfOk result (λ seats. vec_len seats ≡ WORKERS + length parts.entry.peers.now) }
-            ensures taken { IfOk result (λ seats. All (AreOfThread (D.leads parts.entry.dial.now) D.Reader.remaining D.Writer.contents S.NodeStore O.opened (K.tells parts.entry.clock.now)) seats.items) }
-            ensures none { IfOk result (λ seats. All HasNoOrder seats.items) }
-        { run_one(rt, alloc, parts) },
-    )?;
-    Ok(ends)
 }

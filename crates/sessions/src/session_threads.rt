@@ -1,7 +1,6 @@
 //! The threads of a node that serve sessions.
 
 use crate::connections::{Accepted, Listen};
-use crate::mustering::Muster;
 use crate::watched_reader::WatchedReader;
 use crate::workers::{Errand, WorkersAnswerer};
 use crossbeam_channel::Sender;
@@ -13,7 +12,6 @@ use std::io::{Read, Write};
 use std::rt::Clock as SystemClock;
 use std::sync::{Mutex, Wait};
 use std::thread;
-use std::thread::Threads;
 use std::time::Duration;
 use stores::NodeStore;
 
@@ -81,19 +79,27 @@ fn serve_one<
     let _end = serve_session(alloc, &mut reader, &mut writer, &mut answerer);
 }
 
-/// Reports that it has begun. Then it accepts connections and serves each to its end, until the desk stops. It stops
-/// the desk where `MOST_FAILED_ACCEPTS` accepts in a row failed, at all session threads together. One to which nobody
-/// came is none of them, and doesn't end the row.
-fn serve_all<O: Opening, C: NodeCore, S: NodeStore, B: Bell, L: Listen, R: Wait + SystemClock>(
+/// Accepts connections and serves each to its end, until the desk stops. It stops the desk where `MOST_FAILED_ACCEPTS`
+/// accepts in a row failed, at all session threads together. One to which nobody came is none of them, and doesn't end the
+/// row.
+///
+/// A node has `SESSION_THREADS` threads that do so. Where the system has no thread for some of them, fewer sessions are
+/// served at a time, but always one.
+pub(crate) fn serve_all<
+    O: Opening,
+    C: NodeCore,
+    S: NodeStore,
+    B: Bell,
+    L: Listen,
+    R: Wait + SystemClock,
+>(
     rt: &R,
     alloc: Global,
     desk: &Desk<O, C, S, B>,
     listen: &L,
-    muster: &Muster,
     failures: &Mutex<u32>,
     errands: &Sender<Errand>,
 ) {
-    muster.report(rt);
     for _ in rt.forever() {
         if !desk.is_running(rt) {
             break;
@@ -107,32 +113,4 @@ fn serve_all<O: Opening, C: NodeCore, S: NodeStore, B: Bell, L: Listen, R: Wait 
             Accepted::Failed => stop_or_pause(rt, desk, failures),
         }
     }
-}
-
-/// Serves sessions in `SESSION_THREADS` threads until the desk stops. When it returns, no more errands come.
-///
-/// Where the system has no thread for some of them, these begin after the others have ended: the desk has stopped then,
-/// so that they serve nothing. Until then fewer sessions are served at a time, but always one.
-pub(crate) fn serve_sessions<
-    O: Opening + Send,
-    C: NodeCore + Send,
-    S: NodeStore + Send,
-    B: Bell + Sync,
-    L: Listen + Sync,
-    R: Threads + Wait + SystemClock + Sync,
->(
-    rt: &R,
-    alloc: Global,
-    desk: &Desk<O, C, S, B>,
-    listen: &L,
-    muster: &Muster,
-    errands: Sender<Errand>,
-) {
-    let failures = Mutex::new(0);
-    thread::for_each_mut(
-        rt,
-        &mut [(); SESSION_THREADS],
-        SESSION_THREADS,
-        &|_place, _thread| { serve_all(rt, alloc, desk, listen, muster, &failures, &errands) },
-    );
 }

@@ -64,15 +64,16 @@ impl<'a, O: Opening, C: NodeCore, S: NodeStore, B: Bell, R: Wait> WorkersAnswere
     }
 }
 
-/// Waits for the answer of a worker. `None` where the workers are gone, and where the desk has stopped before one came.
-fn wait_for_answer<O: Opening, C: NodeCore, S: NodeStore, B: Bell, R: Wait + SystemClock>(
+/// Waits for the next value that comes by the channel. `None` where nobody is left who sends one, and where the desk has
+/// stopped and none has come for `LONGEST_QUIET` seconds.
+fn receive<T: Drop, O: Opening, C: NodeCore, S: NodeStore, B: Bell, R: Wait + SystemClock>(
     rt: &R,
     desk: &Desk<O, C, S, B>,
-    answers: &Receiver<Answer>,
-) -> Option<Answer> {
+    channel: &Receiver<T>,
+) -> Option<T> {
     for _ in rt.forever() {
-        match answers.recv_timeout(rt, Duration::from_secs(LONGEST_QUIET)) {
-            Ok(answer) => return Some(answer),
+        match channel.recv_timeout(rt, Duration::from_secs(LONGEST_QUIET)) {
+            Ok(value) => return Some(value),
             Err(RecvTimeoutError::Disconnected) => return None,
             Err(RecvTimeoutError::Timeout) => {
                 if !desk.is_running(rt) {
@@ -84,8 +85,8 @@ fn wait_for_answer<O: Opening, C: NodeCore, S: NodeStore, B: Bell, R: Wait + Sys
     unreachable!()
 }
 
-/// Hands a job to a worker, and waits for its answer. `None` where the workers are gone, and where the desk has stopped
-/// before one answered. Fails with `NoMemory` where memory ran out, and the job was handed to none.
+/// Hands a job to a worker, and waits for its answer. `None` where the desk has stopped, and the job was handed to none or
+/// answered by none; the workers may have ended then. So a session thread leaves at most one job in the channel. Fails with `NoMemory` where memory ran out, and the job was handed to none.
 fn ask<O: Opening, C: NodeCore, S: NodeStore, B: Bell, R: Wait + SystemClock>(
     rt: &R,
     alloc: Global,
@@ -93,6 +94,10 @@ fn ask<O: Opening, C: NodeCore, S: NodeStore, B: Bell, R: Wait + SystemClock>(
     errands: &Sender<Errand>,
     job: Job,
 ) -> Result<Option<Answer>, NoMemory> {
+    if !desk.is_running(rt) {
+        drop(job);
+        return Ok(None);
+    }
     let Ok((back, answers)) = crossbeam_channel::bounded(alloc, 1) else {
         drop(job);
         return Err(NoMemory);
@@ -101,7 +106,7 @@ fn ask<O: Opening, C: NodeCore, S: NodeStore, B: Bell, R: Wait + SystemClock>(
     let is_handed = handed.is_ok();
     drop(handed);
     let answer = if is_handed {
-        wait_for_answer(rt, desk, &answers)
+        receive(rt, desk, &answers)
     } else {
         None
     };
@@ -156,7 +161,8 @@ impl<'a, O: Opening, C: NodeCore, S: NodeStore, B: Bell, R: Wait + SystemClock> 
     }
 }
 
-/// Has the desk take the jobs of errands with this seat, and hands their answers back, until no session is left.
+/// Has the desk take the jobs of errands with this seat, and hands their answers back, until no session thread is left. It
+/// ends also where the desk has stopped and no job comes, since a session thread may not have begun yet.
 pub(crate) fn work<O, C, S, B, L, D, K, G, R>(
     rt: &R,
     parts: &NodeParts<'_, O, C, S, B, L, D, K, G>,
@@ -176,7 +182,7 @@ where
     ensures { AreOfThread (D.leads parts.now.dial.now) D.Reader.remaining D.Writer.contents S.NodeStore O.opened (K.tells parts.now.clock.now) seat.new }
 {
     for _ in rt.forever() {
-        let Ok(errand) = errands.recv(rt) else {
+        let Some(errand) = receive(rt, parts.desk, errands) else {
             break;
         };
         let Errand { job, back } = errand;

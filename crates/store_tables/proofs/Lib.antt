@@ -4,10 +4,6 @@ pub mod Orders
 pub mod Places
 pub mod Inserting
 pub mod Steps
-pub mod MigratingTexts
-pub mod Rewritten
-pub mod Rewriting
-pub mod MigratingSteps
 pub mod PageTexts
 pub mod InOrder
 pub mod Stretches

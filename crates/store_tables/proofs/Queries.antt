@@ -11,8 +11,7 @@ use Rattle.store_tables.specs.Tables.{store_schema, order_in, entries_tree, entr
 use Rattle.store_tables.specs.Pages.{rows_within}
 use Rattle.wire.specs.declared.record_format.RecordFormat.{RecordFormat}
 use Rattle.store_tables.specs.Held.{IsReady}
-use Rattle.store_tables.specs.Within.{IsWithin}
-use Rattle.store_tables.specs.Migrating.{HasStore}
+use Rattle.store_tables.specs.Within.{IsWithin, HasStore}
 use Rattle.store_tables.proofs.Answering.{between, page-shows}
 use Rattle.store_tables.proofs.Orders.{own_rows}
 use Rattle.store_tables.proofs.PageTexts.{page_text, page_command, page_is, page_plain}

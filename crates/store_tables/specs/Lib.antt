@@ -9,4 +9,3 @@ pub mod Layout
 pub mod OwnerRow
 pub mod Rows
 pub mod Within
-pub mod Migrating

@@ -2,11 +2,13 @@
 ghost use Rattle.std.specs.Prelude.{◌≡◌, ◌<◌, ◌^◌, ◌==◌, ◌⊎◌, IfOk, IfErr, OnOk, IsTrue, false, map, cond, Some, None};
 ghost use Rattle.std.specs.Option.{option_copied};
 ghost use Rattle.sqlite.specs.Order.{column, bytes};
-ghost use Rattle.sqlite.specs.State.{HasCleanDisk};
+ghost use Rattle.sqlite.specs.State.{HasCleanDisk, KeepsCommit, Survives};
 ghost use Rattle.sqlite.specs.Held.{state};
 ghost use Rattle.sqlite.specs.Tree.{Trees};
+ghost use Rattle.wire.specs.declared.record_format.RecordFormat.TheVariants.{One};
 ghost use Rattle.stores.specs.Faults.{is_device_fault};
 ghost use Rattle.store_tables.specs.Held.{IsReady};
+ghost use Rattle.store_tables.specs.Within.{IsWithin, HasStore};
 ghost use Rattle.store_tables.specs.Slots.{place_of};
 ghost use Rattle.store_tables.specs.Tables.{entry_rows};
 ghost use Rattle.store_tables.specs.Pages.{rows_within, bodies_from};
@@ -14,12 +16,12 @@ ghost use Rattle.store_tables.specs.Pages.{rows_within, bodies_from};
 use crate::batch::is_still_open;
 use crate::fault::fault_of;
 use sqlite::types::ValueRef;
-use sqlite::{Alter, Connection, Error as SqlError, Row};
+use sqlite::{Alter, Connection, Error as SqlError, Row, Transaction};
 use std::alloc::Global;
 use stores::StoreFault;
 
 /// The query for the entries from one place to another, each with its place and its body, in their order.
-pub const PAGE_QUERY: &str =
+const PAGE_QUERY: &str =
     "SELECT place, body FROM entries WHERE place >= ?1 AND place <= ?2 ORDER BY place";
 
 /// The entries from the first place to the last one, each with its place and its body, in their order.
@@ -71,6 +73,29 @@ pub fn rows_of<S: Alter>(
         return Err(StoreFault::Device);
     }
     Err(fault)
+}
+
+/// The entries from the first place to the last one, as the transaction sees them, each with its place and its body,
+/// in their order.
+pub fn rows_inside<S: Alter>(
+    tx: &mut Transaction<'_, S>,
+    first: u64,
+    last: u64,
+) -> Result<Vec<Row>, SqlError>
+    requires first { first < 2 ^ 63 }
+    requires last { last < 2 ^ 63 }
+    requires inside { HasCleanDisk (state S.Store tx.old.conn.now) → IsWithin (state S.Store tx.old.conn.now) (HasStore One) }
+    ensures same_reference { tx.new.conn.ghost_name ≡ tx.old.conn.ghost_name }
+    ensures inside { HasCleanDisk (state S.Store tx.new.conn.now) → OnOk result (IsWithin (state S.Store tx.new.conn.now) (HasStore One)) }
+    ensures rows { HasCleanDisk (state S.Store tx.new.conn.now) → IfOk result (λ rows. rows.items ≡ rows_within first last (entry_rows (state S.Store tx.old.conn.now).now.trees)) }
+    ensures same { HasCleanDisk (state S.Store tx.new.conn.now) → OnOk result ((state S.Store tx.new.conn.now).now ≡ (state S.Store tx.old.conn.now).now) }
+    ensures kept { HasCleanDisk (state S.Store tx.new.conn.now) → KeepsCommit (state S.Store tx.old.conn.now) (state S.Store tx.new.conn.now) }
+    ensures survives { Survives (state S.Store tx.old.conn.now) (state S.Store tx.new.conn.now) (λ _. ⊥) }
+{
+    tx.query_all(
+        PAGE_QUERY,
+        &[ValueRef::Int(first as i64), ValueRef::Int(last as i64)],
+    )
 }
 
 /// The body of a row, where the row is at that place: `None` where it is at another. Fails with `Device` where the

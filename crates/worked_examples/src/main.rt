@@ -4,15 +4,12 @@
 //! the line of its fault, and for some also `chart.mmd`, what `chart` writes of it; where all records are committed in
 //! the end, stores with the journals are audited to the table of that output. Or it is a folder with the file `words`,
 //! words of a command line, and beside it `output`, the help or the version that they ask for, or `error`, what is
-//! written of wrong words, before each line gets the program's name. Or it is a folder with the file `scheme`, the
-//! folder `stores` with a store for each node, and `output`, what `audit` writes of them.
+//! written of wrong words, before each line gets the program's name.
 #![tactic(auto)]
 
 mod audited;
-mod stored;
 
 use crate::audited::{Audited, audit_journals};
-use crate::stored::audit_stores;
 use inputs::OpFault;
 use operator::{UsageFault, chart, parse_words};
 use rehearsals::rehearse;
@@ -106,25 +103,12 @@ fn is_told(rt: &HostRuntime, folder: &str, lines: &str) -> io::Result<bool> {
     are_told(rt, folder, words.as_slice())
 }
 
-/// Whether the stores of the folder are audited to the folder's output, under the scheme with these bytes.
-fn is_stored(rt: &HostRuntime, folder: &str, scheme: &[u8]) -> io::Result<bool> {
-    let wanted = file_in(rt, folder, "output")?;
-    let stores = format!(in rt.alloc(); "{folder}/stores")?;
-    match audit_stores(rt, scheme, stores.as_str()) {
-        Some(table) => Ok(table.as_slice() == wanted.as_slice()),
-        None => Ok(false),
-    }
-}
-
 fn is_as_written(rt: &HostRuntime, folder: &str) -> io::Result<bool> {
-    if let Ok(bytes) = file_in(rt, folder, "words") {
-        return match str::from_utf8(bytes.as_slice()) {
+    match file_in(rt, folder, "words") {
+        Ok(bytes) => match str::from_utf8(bytes.as_slice()) {
             Ok(lines) => is_told(rt, folder, lines),
             Err(_) => Ok(false),
-        };
-    }
-    match file_in(rt, folder, "scheme") {
-        Ok(scheme) => is_stored(rt, folder, scheme.as_slice()),
+        },
         Err(_) => is_so(rt, folder),
     }
 }

@@ -50,7 +50,11 @@ fn run_and_drip<D: Dial + Sync, R: Threads + Wait + Clock + Sync>(
     alloc: Global,
     station: &Station,
     dial: &D,
-) -> (Ended, bool) {
+) -> (Ended, bool)
+where
+    D::Reader: Send,
+    D::Writer: Send,
+{
     thread::join(
         rt,
         move || run_alone(rt, alloc, station, dial),

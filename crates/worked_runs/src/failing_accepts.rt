@@ -100,6 +100,8 @@ fn run_and_stop<D, R>(
 ) -> (Result<Vec<Ended>, NoMemory>, After)
 where
     D: Dial + Sync,
+    D::Reader: Send,
+    D::Writer: Send,
     R: Threads + Wait + Clock + Sync,
 {
     thread::join(

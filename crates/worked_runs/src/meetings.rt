@@ -134,7 +134,11 @@ fn meet<D: Dial + Sync, R: Threads + Wait + Clock + Sync>(
     pair: &Pair,
     plan: &Plan,
     signals: &Signals,
-) -> (bool, Option<Exchange>) {
+) -> (bool, Option<Exchange>)
+where
+    D::Reader: Send,
+    D::Writer: Send,
+{
     let both = thread::join(
         rt,
         move || send_first(rt, alloc, dial, plan, signals),
@@ -157,6 +161,8 @@ fn run_and_meet<D, G, R>(
 ) -> (Result<Vec<Ended>, NoMemory>, (bool, Option<Exchange>))
 where
     D: Dial + Sync,
+    D::Reader: Send,
+    D::Writer: Send,
     G: Gate + Sync,
     R: Threads + Wait + Clock + Sync,
 {

@@ -1,8 +1,8 @@
 use crate::registries::registry;
 use crate::same::assert_same;
 use crate::stations::{
-    COMPLETED, Ended, Station, UNKNOWN, add_port, call, message, open_station, parts_of,
-    records_of, refused,
+    COMPLETED, Ended, Station, UNKNOWN, add_port, call, message, open_station, records_of, refused,
+    threads_of,
 };
 use desk::OpenGate;
 use exchanges::Exchange;
@@ -21,8 +21,12 @@ pub fn run_alone<D: Dial + Sync, R: Threads + Wait + Clock + Sync>(
     alloc: Global,
     station: &Station,
     dial: &D,
-) -> Ended {
-    run_node(rt, alloc, &parts_of(station, dial, &OpenGate))
+) -> Ended
+where
+    D::Reader: Send,
+    D::Writer: Send,
+{
+    run_node(rt, alloc, &threads_of(alloc, station, dial, &OpenGate)?)
 }
 
 /// One exchange with the node. Then it stops.
@@ -45,7 +49,11 @@ fn run_and_call<D: Dial + Sync, R: Threads + Wait + Clock + Sync>(
     station: &Station,
     dial: &D,
     message: &Message,
-) -> (Ended, Option<Exchange>) {
+) -> (Ended, Option<Exchange>)
+where
+    D::Reader: Send,
+    D::Writer: Send,
+{
     thread::join(
         rt,
         move || run_alone(rt, alloc, station, dial),

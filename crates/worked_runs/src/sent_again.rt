@@ -10,7 +10,7 @@ use crate::stations::{Ended, NodeDesk, Station, StillClock, desk_of, open_statio
 use crate::streams::Full;
 use crate::waits::TURNS;
 use desk::{OpenGate, Seat};
-use sessions::{Dial, NodeParts, Sent, run_node, send_next};
+use sessions::{Dial, NodeParts, NodeThreads, Sent, run_node, send_next};
 use std::alloc::Global;
 use std::net::{Net, TcpListener, TcpStream};
 use std::process::Abort;
@@ -64,7 +64,7 @@ fn run_sending<R: Threads + Wait + Clock + Sync>(
         gate: &OpenGate,
         muster: &station.muster,
     };
-    run_node(rt, alloc, &parts)
+    run_node(rt, alloc, &NodeThreads::new(alloc, parts)?)
 }
 
 /// Waits until that many connections were asked for, at most `TURNS` turns of one millisecond, and stops the node.

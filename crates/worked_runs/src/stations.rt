@@ -7,7 +7,7 @@ use answers::Clock;
 use desk::{Desk, Gate, RoomBell, Seat, State, Stored, settle};
 use exchanges::{Counted, Exchange, exchange};
 use protocol::NodeCore;
-use sessions::{Accepted, Dial, Listen, Muster, NodeParts, run_all};
+use sessions::{Accepted, Dial, Listen, Muster, NodeParts, NodeThreads, run_all};
 use sockets::{Port, Ports};
 use status::Moment;
 use std::alloc::Global;
@@ -166,13 +166,17 @@ pub fn call<D: Dial>(alloc: Global, dial: &D, peer: Node, message: &Message) -> 
     Some(exchange_over(alloc, reader, writer, message))
 }
 
-/// What the threads of a node share that sends to none.
-pub fn parts_of<'a, D, G>(
+/// The threads of a node that sends to none.
+pub fn threads_of<'a, D, G>(
+    alloc: Global,
     station: &'a Station,
     dial: &'a D,
     gate: &'a G,
-) -> NodeParts<'a, Brand, Core, MemoryStore, RoomBell, FailingPort, D, StillClock, G> {
-    NodeParts {
+) -> Result<
+    NodeThreads<'a, Brand, Core, MemoryStore, RoomBell, FailingPort, D, StillClock, G>,
+    NoMemory,
+> {
+    let parts = NodeParts {
         node: station.node,
         desk: &station.desk,
         listen: &station.listen,
@@ -181,7 +185,8 @@ pub fn parts_of<'a, D, G>(
         clock: &StillClock,
         gate,
         muster: &station.muster,
-    }
+    };
+    NodeThreads::new(alloc, parts)
 }
 
 /// Runs two nodes that send to none.
@@ -195,11 +200,15 @@ pub fn run_both<D, G, R>(
 ) -> Result<Vec<Ended>, NoMemory>
 where
     D: Dial + Sync,
+    D::Reader: Send,
+    D::Writer: Send,
     G: Gate + Sync,
     R: Threads + Wait + SystemClock + Sync,
 {
-    let nodes = [parts_of(one, dial, gate), parts_of(other, dial, gate)];
-    run_all(rt, alloc, Vec::from_array(alloc, nodes)?)
+    let mut nodes = Vec::new(alloc);
+    nodes.push(threads_of(alloc, one, dial, gate)?)?;
+    nodes.push(threads_of(alloc, other, dial, gate)?)?;
+    run_all(rt, alloc, nodes)
 }
 
 /// The seats of a node's threads, and that other one.

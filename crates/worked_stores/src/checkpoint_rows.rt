@@ -1,7 +1,7 @@
 use crate::file_store_rows::{append_two, assert_two, assert_two_in, count};
 use crate::fused_files::{
-    FOREVER, MemoryFiles, Stored, after_a_crash, assert_refused, new_files, open_as, opened,
-    registry, with_bytes,
+    FOREVER, MemoryFiles, Stored, after_a_crash, assert_refused, closed, copied, new_files,
+    open_as, opened, registry, with_bytes,
 };
 use crate::records::two;
 use sqlite::Files;
@@ -28,39 +28,37 @@ fn without_log(alloc: Global, files: Stored) -> Stored {
     }
 }
 
-/// The files of the store, once its log was copied.
-fn copied(rt: &impl Abort, store: MemoryFiles) -> Stored {
-    store
-        .checkpoint_files()
-        .ok()
-        .expect(rt, "no fault of the store")
+/// The files of NZ's store of two records, once its log was copied.
+fn copied_two(rt: &impl Abort, alloc: Global) -> Stored {
+    let copied = copied(store_of_two(rt, alloc));
+    copied.ok().expect(rt, "no fault of the store")
 }
 
 #[test]
 fn a_copied_database_has_the_records_without_its_log(rt: HostRuntime) {
     let alloc = rt.alloc();
-    let files = copied(&rt, store_of_two(&rt, alloc));
+    let files = copied_two(&rt, alloc);
     assert_two_in(&rt, alloc, without_log(alloc, files));
 }
 
 #[test]
 fn a_copied_database_has_the_owner_without_its_log(rt: HostRuntime) {
     let alloc = rt.alloc();
-    let files = without_log(alloc, copied(&rt, store_of_two(&rt, alloc)));
+    let files = without_log(alloc, copied_two(&rt, alloc));
     assert_refused(&rt, alloc, files, "JP", StoreFault::WrongNode);
 }
 
 #[test]
 fn a_copied_database_has_the_records_with_its_log(rt: HostRuntime) {
     let alloc = rt.alloc();
-    let files = copied(&rt, store_of_two(&rt, alloc));
+    let files = copied_two(&rt, alloc);
     assert_two_in(&rt, alloc, after_a_crash(files));
 }
 
 #[test]
 fn a_database_that_was_not_copied_has_nothing_without_its_log(rt: HostRuntime) {
     let alloc = rt.alloc();
-    let files = without_log(alloc, store_of_two(&rt, alloc).close_files());
+    let files = without_log(alloc, closed(store_of_two(&rt, alloc)));
     let mut store = open_as(&rt, alloc, files, "JP");
     assert!(rt; count(&rt, &mut store) == 0);
     drop(store);
@@ -77,7 +75,7 @@ enum Failed {
 /// Copies the log of NZ's store of two records. After a crash it has them without its log then or, where a call failed,
 /// in the files that are given back.
 fn copy(rt: &impl Abort, alloc: Global, store: MemoryFiles) -> Failed {
-    match store.checkpoint_files() {
+    match copied(store) {
         Ok(files) => {
             // After a crash all calls may be made again.
             assert_two_in(rt, alloc, without_log(alloc, after_a_crash(files)));
@@ -113,7 +111,7 @@ enum Fused {
 /// The calls of one file fail from the first on, then from the second on, until none does. Some of them are calls of
 /// the copying.
 fn cut_everywhere(rt: &impl Abort, alloc: Global, fused: Fused) {
-    let files = store_of_two(rt, alloc).close_files();
+    let files = closed(store_of_two(rt, alloc));
     let mut some = false;
     for calls in 0..200 {
         let (log_calls, db_calls) = match fused {
@@ -143,12 +141,18 @@ fn copying_cut_in_the_database(rt: HostRuntime) {
     cut_everywhere(&rt, rt.alloc(), Fused::Database);
 }
 
+/// Whether an append of the two records fails.
+fn append_fails<S: NodeStore>(rt: &impl Abort, alloc: Global, store: &mut S) -> bool {
+    let batch = two(rt, alloc);
+    let failed = store.append(&batch).is_err();
+    drop(batch);
+    failed
+}
+
 /// Whether an append stops the store. Exactly then its log isn't copied.
 fn stops(rt: &impl Abort, alloc: Global, mut store: MemoryFiles) -> bool {
-    let batch = two(rt, alloc);
-    let stopped = store.append(&batch).is_err();
-    drop(batch);
-    match store.checkpoint_files() {
+    let stopped = append_fails(rt, alloc, &mut store);
+    match copied(store) {
         Ok(files) => {
             drop(files);
             assert!(rt; !stopped);

@@ -1,4 +1,4 @@
-use crate::fused_files::{FOREVER, Stored, changed, new_files, open_as, registry};
+use crate::fused_files::{FOREVER, Stored, changed, closed, new_files, open_as, registry};
 use crate::links::new_core;
 use crate::migration_cut::{CLOSE, OPEN};
 use crate::records::record;
@@ -19,17 +19,28 @@ const UNREADABLE_AT_3: &str = "UPDATE entries SET body = 'x' WHERE place = 3";
 
 const UNREADABLE_AT_256: &str = "UPDATE entries SET body = 'x' WHERE place = 256";
 
-/// The files of NZ's store of that many records, by which an account is closed and opened in turn.
-fn files_of_turns(rt: &impl Abort, alloc: Global, records: usize) -> Stored {
+/// Appends that many records, by which an account is closed and opened in turn.
+fn append_turns<S: NodeStore>(rt: &impl Abort, alloc: Global, store: &mut S, records: usize) {
     let mut batch = Vec::new(alloc);
     for place in 0..records {
         let text = if place % 2 == 0 { CLOSE } else { OPEN };
         batch.push(record(rt, alloc, text)).expect(rt, "memory");
     }
-    let mut store = open_as(rt, alloc, new_files(alloc, FOREVER, FOREVER), "NZ");
     assert!(rt; store.append(&batch).is_ok());
     drop(batch);
-    store.close_files()
+}
+
+/// The files of NZ's store of that many such records.
+fn files_of_turns(rt: &impl Abort, alloc: Global, records: usize) -> Stored {
+    let mut store = open_as(rt, alloc, new_files(alloc, FOREVER, FOREVER), "NZ");
+    append_turns(rt, alloc, &mut store, records);
+    closed(store)
+}
+
+/// The fault for which no state of NZ can be loaded from the store, if there is one.
+fn load_fault<S: NodeStore>(rt: &impl Abort, alloc: Global, store: &mut S) -> Option<StoreFault> {
+    let core = new_core(rt, alloc, registry(rt, "NZ"));
+    State::load_from(alloc, core, store).err()
 }
 
 /// Asserts that a state can't be loaded from a store of that many records, once these statements were done, for the
@@ -43,8 +54,7 @@ fn assert_named(
 ) {
     let files = changed(rt, alloc, files_of_turns(rt, alloc, records), statements);
     let mut store = open_as(rt, alloc, files, "NZ");
-    let core = new_core(rt, alloc, registry(rt, "NZ"));
-    let fault = State::load_from(alloc, core, &mut store).err();
+    let fault = load_fault(rt, alloc, &mut store);
     assert!(rt; fault == place.map(StoreFault::Damaged));
     drop(store);
 }

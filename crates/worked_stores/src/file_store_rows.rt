@@ -1,6 +1,6 @@
 use crate::fused_files::{
-    FOREVER, MemoryFiles, Stored, after_a_crash, assert_refused, changed, new_files, open_as,
-    opened, refused, registry,
+    FOREVER, MemoryFiles, Stored, after_a_crash, assert_refused, changed, closed, new_files,
+    open_as, opened, refused, registry,
 };
 use crate::records::{ACCEPTED, PROPOSE, are_two, has_text, two};
 use durable::SqlStore;
@@ -37,7 +37,7 @@ pub fn append_two<S: NodeStore>(rt: &impl Abort, alloc: Global, store: &mut S) {
 fn with_two(rt: &impl Abort, alloc: Global, files: Stored) -> Stored {
     let mut store = open_as(rt, alloc, files, "NZ");
     append_two(rt, alloc, &mut store);
-    store.close_files()
+    closed(store)
 }
 
 /// The files of NZ's store of two records.
@@ -70,10 +70,10 @@ fn records_are_kept_in_files(rt: HostRuntime) {
 }
 
 /// Asserts that the store has that one record, or none, at the places from `from` on.
-fn assert_page(
+fn assert_page<S: NodeStore>(
     rt: &impl Abort,
     alloc: Global,
-    store: &mut MemoryFiles,
+    store: &mut S,
     from: u64,
     wanted: Option<&str>,
 ) {
@@ -149,16 +149,21 @@ fn a_file_that_is_no_database_is_refused(rt: HostRuntime) {
     assert_refused(&rt, alloc, files, "NZ", StoreFault::Damaged(0));
 }
 
+/// Asserts that the whole store has that damage.
+fn assert_damaged<S: NodeStore>(rt: &impl Abort, store: &mut S, place: u64) {
+    assert!(rt; store.load().err() == Some(StoreFault::Damaged(place)));
+}
+
 /// Asserts that after the statement the whole store has that damage. Gives the store.
 fn damaged(rt: &impl Abort, alloc: Global, statement: &str, place: u64) -> MemoryFiles {
     let files = changed(rt, alloc, files_of_two(rt, alloc), &[statement]);
     let mut store = open_as(rt, alloc, files, "NZ");
-    assert!(rt; store.load().err() == Some(StoreFault::Damaged(place)));
+    assert_damaged(rt, &mut store, place);
     store
 }
 
 /// Asserts that the page of that one place has that damage.
-fn assert_damaged_page(rt: &impl Abort, store: &mut MemoryFiles, place: u64) {
+fn assert_damaged_page<S: NodeStore>(rt: &impl Abort, store: &mut S, place: u64) {
     let page = store.load_page(place, 1);
     assert!(rt; page.err() == Some(StoreFault::Damaged(place)));
 }
@@ -224,7 +229,7 @@ fn run_over(rt: &impl Abort, alloc: Global, log_calls: u64, db_calls: u64) -> (R
     match opened(rt, alloc, files, "NZ") {
         Ok(mut store) => {
             let run = drive(rt, alloc, &mut store);
-            (run, store.close_files())
+            (run, closed(store))
         }
         Err((fault, files)) => {
             assert!(rt; fault == StoreFault::Device);

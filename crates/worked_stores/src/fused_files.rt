@@ -72,29 +72,47 @@ pub fn after_a_crash(mut files: Stored) -> Stored {
 /// A store in such files.
 pub type MemoryFiles = SqlStore<Fuse<Memory>>;
 
+// A call of a store or a connection over files whose type is known costs half a minute of proof. So these are over any
+// files, and tests call a store by functions over any.
+
 /// Opens the files as the store of that registry.
-pub fn opened(
+pub fn opened<D: Disk + Drop>(
     rt: &impl Abort,
     alloc: Global,
-    files: Stored,
+    files: Files<D>,
     code: &str,
-) -> Result<MemoryFiles, (StoreFault, Stored)> {
+) -> Result<SqlStore<D>, (StoreFault, Files<D>)> {
     SqlStore::open_files(alloc, files, options(), registry(rt, code))
 }
 
 /// The same, where nothing fails.
-pub fn open_as(rt: &impl Abort, alloc: Global, files: Stored, code: &str) -> MemoryFiles {
+pub fn open_as<D: Disk + Drop>(
+    rt: &impl Abort,
+    alloc: Global,
+    files: Files<D>,
+    code: &str,
+) -> SqlStore<D> {
     opened(rt, alloc, files, code).ok().expect(rt, "a store")
 }
 
+/// The files of the store, which is closed.
+pub fn closed<D: Disk + Drop>(store: SqlStore<D>) -> Files<D> {
+    store.close_files()
+}
+
+/// The files of the store, which is closed once its log was copied.
+pub fn copied<D: Disk + Drop>(store: SqlStore<D>) -> Result<Files<D>, (StoreFault, Files<D>)> {
+    store.checkpoint_files()
+}
+
 /// Asserts that the files are refused as the store of that registry, for that cause. Gives them back.
-pub fn refused(
+pub fn refused<D: Disk + Drop>(
     rt: &impl Abort,
     alloc: Global,
-    files: Stored,
+    files: Files<D>,
     code: &str,
     wanted: StoreFault,
-) -> Stored {
+) -> Files<D> {
     let opened = opened(rt, alloc, files, code);
     let (fault, files) = opened.err().expect(rt, "a refusal");
     assert!(rt; fault == wanted);
@@ -102,10 +120,10 @@ pub fn refused(
 }
 
 /// Asserts the same, and lets the files go.
-pub fn assert_refused(
+pub fn assert_refused<D: Disk + Drop>(
     rt: &impl Abort,
     alloc: Global,
-    files: Stored,
+    files: Files<D>,
     code: &str,
     wanted: StoreFault,
 ) {

@@ -3,18 +3,18 @@ ghost use Rattle.std.specs.Prelude.{◌≡◌, [], length};
 ghost use Rattle.protocol.specs.Registries.{nodes};
 ghost use Rattle.world.specs.Cores.{journal_of};
 
-use crate::fused_files::{Stored, after_a_crash, registry};
+use crate::fused_files::{MemoryFiles, Stored, after_a_crash, closed, options, registry};
 use crate::same::assert_same;
 use audit::audit;
 use desk::{State, Told};
 use durable::SqlStore;
 use scheme::Scheme;
-use sqlite::{Files, Options};
-use sqlite_disk::{Fuse, Memory};
+use sqlite::Files;
+use sqlite_disk::{Disk, Fuse, Memory};
 use std::alloc::Global;
 use std::mem;
 use std::process::Abort;
-use stores::StoreFault;
+use stores::{NodeStore, StoreFault};
 use units::Node;
 use wire::Input;
 use world::Core;
@@ -24,8 +24,6 @@ const SCHEME: &str =
 
 /// How many records are committed at once, at most.
 const BATCH: usize = 64;
-
-type Store = SqlStore<Fuse<Memory>>;
 
 /// So many calls that none fails.
 const NEVER: u64 = u64::MAX;
@@ -50,7 +48,7 @@ pub struct Cut {
 pub struct Link {
     alloc: Global,
     states: Vec<State<Core>>,
-    stores: Vec<Store>,
+    stores: Vec<MemoryFiles>,
     pub stops: u64,
 }
 
@@ -67,14 +65,19 @@ fn files_of(alloc: Global, node: Node, cut: Cut) -> Stored {
     }
 }
 
-fn opened(rt: &impl Abort, alloc: Global, files: Stored, node: Node) -> Store {
-    let opened = SqlStore::open_files(alloc, files, Options::new(7), node);
-    opened.ok().expect(rt, "a store")
+/// Opens the files as the node's store.
+fn opened<D: Disk + Drop>(
+    alloc: Global,
+    files: Files<D>,
+    node: Node,
+) -> Result<SqlStore<D>, (StoreFault, Files<D>)> {
+    SqlStore::open_files(alloc, files, options(), node)
 }
 
 /// The store in files after a crash of their device, whose calls don't fail then.
-fn open_again(rt: &impl Abort, alloc: Global, files: Stored, node: Node) -> Store {
-    opened(rt, alloc, after_a_crash(files), node)
+fn open_again(rt: &impl Abort, alloc: Global, files: Stored, node: Node) -> MemoryFiles {
+    let opened = opened(alloc, after_a_crash(files), node);
+    opened.ok().expect(rt, "a store")
 }
 
 fn worked_scheme(rt: &impl Abort, alloc: Global) -> Scheme
@@ -96,11 +99,32 @@ pub fn new_core(rt: &impl Abort, alloc: Global, node: Node) -> Core
 }
 
 /// The state that the store's records lead to.
-fn state_of(rt: &impl Abort, alloc: Global, node: Node, store: &mut Store) -> State<Core> {
+fn state_of<S: NodeStore>(
+    rt: &impl Abort,
+    alloc: Global,
+    node: Node,
+    store: &mut S,
+) -> State<Core> {
     let core = new_core(rt, alloc, node);
     State::load_from(alloc, core, store)
         .ok()
         .expect(rt, "a state")
+}
+
+/// Commits to the store what the state has that isn't committed.
+fn commit_to<S: NodeStore>(state: &mut State<Core>, store: &mut S) -> Result<usize, StoreFault> {
+    state.commit(store, BATCH)
+}
+
+/// The table of a run that leads to the records of the stores of the worked scheme's nodes.
+fn table_of<S: NodeStore>(rt: &impl Abort, alloc: Global, stores: &mut [S]) -> Vec<u8> {
+    let scheme = worked_scheme(rt, alloc);
+    assert!(rt; stores.len() == 3);
+    let mut written = Vec::new(alloc);
+    let done = audit(alloc, &scheme, stores, &mut written);
+    assert_same(rt, done, Ok(()));
+    drop(scheme);
+    written
 }
 
 impl Link {
@@ -120,7 +144,7 @@ impl Link {
 
     /// Adds a node with an empty store in these files.
     fn add(&mut self, rt: &impl Abort, node: Node, files: Stored) {
-        let store = match SqlStore::open_files(self.alloc, files, Options::new(7), node) {
+        let store = match opened(self.alloc, files, node) {
             Ok(store) => store,
             Err((fault, files)) => {
                 assert!(rt; fault == StoreFault::Device);
@@ -163,7 +187,7 @@ impl Link {
         let counts = self.counts(rt, place);
         let state = self.states.get_mut(place).expect(rt, "a state");
         let store = self.stores.get_mut(place).expect(rt, "a store");
-        if let Err(fault) = state.commit(store, BATCH) {
+        if let Err(fault) = commit_to(state, store) {
             assert!(rt; fault == StoreFault::Device);
             self.restart(rt, place, counts);
             let _table = self.table(rt);
@@ -176,7 +200,7 @@ impl Link {
         if place >= self.stores.len() || place >= self.states.len() {
             return;
         }
-        let files = self.stores.remove(place).close_files();
+        let files = closed(self.stores.remove(place));
         let node = self.state(rt, place).node();
         let mut store = open_again(rt, self.alloc, files, node);
         let state = state_of(rt, self.alloc, node, &mut store);
@@ -190,17 +214,6 @@ impl Link {
 
     /// The table of a run that leads to the records of all stores.
     pub fn table(&mut self, rt: &impl Abort) -> Vec<u8> {
-        let scheme = worked_scheme(rt, self.alloc);
-        assert!(rt; self.stores.len() == 3);
-        let mut written = Vec::new(self.alloc);
-        let done = audit(
-            self.alloc,
-            &scheme,
-            self.stores.as_mut_slice(),
-            &mut written,
-        );
-        assert_same(rt, done, Ok(()));
-        drop(scheme);
-        written
+        table_of(rt, self.alloc, self.stores.as_mut_slice())
     }
 }

@@ -1,6 +1,4 @@
-use crate::fused_files::{
-    FOREVER, MemoryFiles, Stored, after_a_crash, open_as, opened, registry, with_bytes,
-};
+use crate::fused_files::{FOREVER, Stored, after_a_crash, open_as, opened, registry, with_bytes};
 use crate::links::new_core;
 use crate::old_stores::{PROPOSE_ONE, old_files};
 use crate::records::{PROPOSE, has_text};
@@ -76,7 +74,7 @@ fn send_alike(rt: &impl Abort, alloc: Global, one: &Core, other: &Core, key: usi
 }
 
 /// Asserts that the store has the records, and that they lead to the core that they led to before.
-fn assert_whole(rt: &impl Abort, alloc: Global, store: &mut MemoryFiles, before: &Core) {
+fn assert_whole<S: NodeStore>(rt: &impl Abort, alloc: Global, store: &mut S, before: &Core) {
     let records = store.load().expect(rt, "no fault of the store");
     assert!(rt; records.len() == RECORDS);
     for (place, record) in records.iter().enumerate() {

@@ -1,6 +1,4 @@
-use crate::fused_files::{
-    MemoryFiles, Stored, assert_refused, changed, open_as, refused, registry,
-};
+use crate::fused_files::{Stored, assert_refused, changed, closed, open_as, refused, registry};
 use crate::old_stores::{
     ACCEPTED_ONE, PROPOSE_ONE, assert_format, old_files, old_files_entries_first,
 };
@@ -8,7 +6,7 @@ use crate::records::{ACCEPTED, PROPOSE};
 use operator::show;
 use std::alloc::Global;
 use std::process::Abort;
-use stores::StoreFault;
+use stores::{NodeStore, StoreFault};
 
 /// A message whose unit has a number of 13 digits, as format 1 would have it: format 1 has no such number.
 const RECEIVED_OF_13_DIGITS: &str =
@@ -28,7 +26,7 @@ fn two_in_format_one(rt: &impl Abort, alloc: Global) -> Stored {
 }
 
 /// Asserts that the store of NZ is shown with these records.
-fn assert_shown(rt: &impl Abort, alloc: Global, store: &mut MemoryFiles, records: &[&str]) {
+fn assert_shown<S: NodeStore>(rt: &impl Abort, alloc: Global, store: &mut S, records: &[&str]) {
     let mut wanted = String::new(alloc);
     for (place, record) in records.iter().enumerate() {
         let line = format!(in alloc; "{place} {record}\n").expect(rt, "memory");
@@ -47,7 +45,7 @@ fn assert_shown(rt: &impl Abort, alloc: Global, store: &mut MemoryFiles, records
 fn reopened(rt: &impl Abort, alloc: Global, files: Stored, records: &[&str]) -> Stored {
     let mut store = open_as(rt, alloc, files, "NZ");
     assert_shown(rt, alloc, &mut store, records);
-    assert_format(rt, alloc, store.close_files(), 2)
+    assert_format(rt, alloc, closed(store), 2)
 }
 
 /// Asserts that an opening of the files makes a store of format 2 with these records, and that another one finds it.
@@ -80,7 +78,7 @@ fn the_greatest_number_of_format_one_is_migrated(rt: HostRuntime) {
         &[RECEIVED_OF_12_DIGITS],
     );
     let store = open_as(&rt, alloc, files, "NZ");
-    drop(assert_format(&rt, alloc, store.close_files(), 2));
+    drop(assert_format(&rt, alloc, closed(store), 2));
 }
 
 /// Asserts that the store of format 1, once it is changed by the statement, has that damage, and that it has format 1

@@ -1,9 +1,9 @@
 use crate::file_store_rows::{append_two, assert_two};
-use crate::fused_files::{FOREVER, Stored, memory_with, new_files, open_as, options, registry};
+use crate::fused_files::{FOREVER, Stored, closed, memory_with, new_files, open_as, opened};
 use crate::stumble::Stumble;
 use durable::SqlStore;
 use sqlite::Files;
-use sqlite_disk::Memory;
+use sqlite_disk::{Disk, Memory};
 use std::alloc::Global;
 use std::process::Abort;
 use stores::{NodeStore, StoreFault};
@@ -11,14 +11,11 @@ use stores::{NodeStore, StoreFault};
 /// The two files of a store, in memory, of each of which one call may fail.
 type Stumbling = Files<Stumble<Memory>>;
 
-/// A store in such files.
-type StumblingStore = SqlStore<Stumble<Memory>>;
-
 /// The files of NZ's store of two records.
 fn files_of_two(rt: &impl Abort, alloc: Global) -> Stored {
     let mut store = open_as(rt, alloc, new_files(alloc, FOREVER, FOREVER), "NZ");
     append_two(rt, alloc, &mut store);
-    store.close_files()
+    closed(store)
 }
 
 /// A copy of the files, of which that call fails of each.
@@ -48,25 +45,36 @@ enum Outcome {
     Passed,
 }
 
+/// Whether the store of two records, of which a reopening failed, can be opened once more. It has its records then.
+fn reopens<S: NodeStore>(rt: &impl Abort, alloc: Global, store: &mut S) -> bool {
+    assert!(rt; store.load().err() == Some(StoreFault::Reopen));
+    if store.reopen().is_err() {
+        return false;
+    }
+    assert_two(rt, alloc, store);
+    true
+}
+
 /// Opens the store of two records once more, after a reopening that failed. It has its records then, where its files
 /// can still be used.
-fn reopen_once_more(rt: &impl Abort, alloc: Global, mut store: StumblingStore) -> Outcome {
-    assert!(rt; store.load().err() == Some(StoreFault::Reopen));
-    if store.reopen().is_ok() {
-        assert_two(rt, alloc, &mut store);
+fn reopen_once_more<D: Disk + Drop>(
+    rt: &impl Abort,
+    alloc: Global,
+    mut store: SqlStore<D>,
+) -> Outcome {
+    if reopens(rt, alloc, &mut store) {
         drop(store);
         return Outcome::OpenedAgain;
     }
-    let files = store.close_files();
+    let files = closed(store);
     assert!(rt; !files.may_be_used());
     drop(files);
     Outcome::Unusable
 }
 
 /// Opens NZ's store of two records in these files, and opens it again.
-fn reopen_in(rt: &impl Abort, alloc: Global, files: Stumbling) -> Outcome {
-    let opened = SqlStore::open_files(alloc, files, options(), registry(rt, "NZ"));
-    let Ok(mut store) = opened else {
+fn reopen_in<D: Disk + Drop>(rt: &impl Abort, alloc: Global, files: Files<D>) -> Outcome {
+    let Ok(mut store) = opened(rt, alloc, files, "NZ") else {
         return Outcome::Unopened;
     };
     match store.reopen() {

@@ -8,7 +8,7 @@ use Rattle.units.specs.Code.{node_text}
 use Rattle.durable.specs.Backing.{IsFound, Hold}
 use Rattle.durable.specs.Connected as connected
 use Rattle.store_tables.specs.Held.{node_in}
-use Rattle.store_tables.specs.Migrating.{IsOpenedAs}
+use Rattle.store_migration.specs.Migrating.{IsOpenedAs}
 use Rattle.durable.specs.Opening.{IsOpeningFault, MayComeOf}
 use Rattle.durable.specs.Refusals.{IsRefusal, IsUnharmed, AreSpared}
 use Rattle.stores.specs.Faults.{is_judgement}

@@ -2,7 +2,7 @@ use Rattle.std.proofs.Common.{◌≡◌, sym, subst}
 use Rattle.sqlite.specs.Files.{over_files, file_state}
 use Rattle.durable.specs.Connected as connected
 use Rattle.durable.specs.Opening.{MayComeOf}
-use Rattle.store_tables.specs.Migrating.{IsOpenedAs}
+use Rattle.store_migration.specs.Migrating.{IsOpenedAs}
 use Rattle.durable.proofs.Sparing.{spared}
 use Rattle.durable.proofs.store_state.store_over.Goals as goal
 

@@ -8,18 +8,15 @@ ghost use Rattle.wire.specs.declared.input.Input.{Input};
 ghost use Rattle.wire.specs.declared.record_format.RecordFormat.TheVariants.{One, Two};
 ghost use Rattle.stores.specs.Faults.{is_judgement, IsReadFault};
 ghost use Rattle.stores.specs.Records.{Places, IsDamagedIn};
-ghost use Rattle.store_tables.specs.Tables.{entry_rows};
-ghost use Rattle.store_tables.specs.Pages.{rows_within};
 ghost use Rattle.store_tables.specs.Held.{slots_in, IsReadyIn};
-ghost use Rattle.store_tables.specs.Within.{IsWithin};
-ghost use Rattle.store_tables.specs.Migrating.{HasStore, HasPlaces, IsMigrating, IsMigrated, with_body};
+ghost use Rattle.store_tables.specs.Within.{IsWithin, HasStore};
+ghost use Rattle.store_migration.specs.Migrating.{HasPlaces, IsMigrating, IsMigrated, with_body};
 
-use crate::fault::fault_of;
-use crate::reading::{PAGE_QUERY, bodies};
 use crate::watch::Watch;
 use sqlite::types::ValueRef;
-use sqlite::{Alter, Connection, Error as SqlError, Row, Transaction};
+use sqlite::{Alter, Connection, Error as SqlError, Transaction};
 use std::alloc::Global;
+use store_tables::{bodies, fault_of, rows_inside};
 use stores::StoreFault;
 use wire::{ReadFault, RecordFormat, decode_input_v1, encode_input};
 
@@ -61,29 +58,6 @@ fn put_format<S: Alter>(tx: &mut Transaction<'_, S>) -> Result<(), SqlError>
         &[ValueRef::Int(i64::from(RecordFormat::Two.number()))],
     )?;
     Ok(())
-}
-
-/// The entries from the first place to the last one, as the transaction sees them, each with its place and its body,
-/// in their order.
-fn rows_inside<S: Alter>(
-    tx: &mut Transaction<'_, S>,
-    first: u64,
-    last: u64,
-) -> Result<Vec<Row>, SqlError>
-    requires first { first < 2 ^ 63 }
-    requires last { last < 2 ^ 63 }
-    requires inside { HasCleanDisk (state S.Store tx.old.conn.now) → IsWithin (state S.Store tx.old.conn.now) (HasStore One) }
-    ensures same_reference { tx.new.conn.ghost_name ≡ tx.old.conn.ghost_name }
-    ensures inside { HasCleanDisk (state S.Store tx.new.conn.now) → OnOk result (IsWithin (state S.Store tx.new.conn.now) (HasStore One)) }
-    ensures rows { HasCleanDisk (state S.Store tx.new.conn.now) → IfOk result (λ rows. rows.items ≡ rows_within first last (entry_rows (state S.Store tx.old.conn.now).now.trees)) }
-    ensures same { HasCleanDisk (state S.Store tx.new.conn.now) → OnOk result ((state S.Store tx.new.conn.now).now ≡ (state S.Store tx.old.conn.now).now) }
-    ensures kept { HasCleanDisk (state S.Store tx.new.conn.now) → KeepsCommit (state S.Store tx.old.conn.now) (state S.Store tx.new.conn.now) }
-    ensures survives { Survives (state S.Store tx.old.conn.now) (state S.Store tx.new.conn.now) (λ _. ⊥) }
-{
-    tx.query_all(
-        PAGE_QUERY,
-        &[ValueRef::Int(first as i64), ValueRef::Int(last as i64)],
-    )
 }
 
 /// The text in format Two of the input that the text writes in format One. `Shape`: it writes none.

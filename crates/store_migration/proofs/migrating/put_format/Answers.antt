@@ -5,8 +5,8 @@ use Rattle.sqlite.specs.declared.types.Value.TheVariants.{Int}
 use Rattle.wire.specs.declared.record_format.RecordFormat.TheVariants.{One, Two}
 use Rattle.wire.specs.Records.{number_of}
 use Rattle.store_tables.specs.Held.{slots_in}
-use Rattle.store_tables.proofs.MigratingSteps.{Rewrites, rewritten_inside, format_ok}
-use Rattle.store_tables.proofs.migrating.put_format.Goals as goal
+use Rattle.store_migration.proofs.MigratingSteps.{Rewrites, rewritten_inside, format_ok}
+use Rattle.store_migration.proofs.migrating.put_format.Goals as goal
 
 abbrev old : (g : _) → goal.In_ok-execute g → State
 old g c = state g.S.Store c.args.tx.now.conn.now

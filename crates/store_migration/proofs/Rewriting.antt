@@ -27,14 +27,15 @@ use Rattle.sqlite_rules.specs.Calls.{ids_of}
 use Rattle.sqlite.proofs.Callers.{one_step, one_permutation}
 use Rattle.wire.specs.declared.record_format.RecordFormat.{RecordFormat}
 use Rattle.wire.specs.Records.{number_of}
+use Rattle.store_tables.specs.Within.{HasStore}
 use Rattle.store_tables.specs.Tables.{TableOrder, AboutFirst, EntriesFirst, about_tree, entries_tree, about_table, entries_table, store_schema, about, entry, equality, order_in, entry_rows}
 use Rattle.store_tables.specs.Slots.{AreEntries, place_of, body_of}
 use Rattle.store_tables.specs.Held.{slots_in, node_in}
-use Rattle.store_tables.specs.Migrating.{with_body, HasStore, HasPlaces}
+use Rattle.store_migration.specs.Migrating.{with_body, HasPlaces}
 use Rattle.store_tables.proofs.Inserting.{enforced, given, went, same_value, cast_null, cast_int}
-use Rattle.store_tables.proofs.MigratingTexts.{body_query, body_command, format_query, format_command}
+use Rattle.store_migration.proofs.MigratingTexts.{body_query, body_command, format_query, format_command}
 use Rattle.store_tables.proofs.Orders.{own_rows, own_row, store-of}
-use Rattle.store_tables.proofs.Rewritten.{rewritten, cmp_is, is_at, row_id, found_in, rewritten_entries, rewritten_slots}
+use Rattle.store_migration.proofs.Rewritten.{rewritten, cmp_is, is_at, row_id, found_in, rewritten_entries, rewritten_slots}
 
 -- an UPDATE found some rows, and edited the tree of its table by them
 record HasEdited (order : TableOrder) (table : Table) (query : Query) (params : Row) (db after : Database) : Type 0 where

@@ -2,9 +2,9 @@ use Rattle.std.proofs.Common.{◌≡◌, ◌≤◌, ◌-◌}
 use Rattle.sqlite.specs.State.{HasCleanDisk, Survives, KeepsCommit}
 use Rattle.sqlite.specs.Held.{state}
 use Rattle.wire.specs.declared.record_format.RecordFormat.TheVariants.{One}
-use Rattle.store_tables.specs.Within.{IsWithin}
-use Rattle.store_tables.specs.Migrating.{HasStore, IsMigrating}
-use Rattle.store_tables.proofs.migrating.migrate_records.Given as goal
+use Rattle.store_tables.specs.Within.{IsWithin, HasStore}
+use Rattle.store_migration.specs.Migrating.{IsMigrating}
+use Rattle.store_migration.proofs.migrating.migrate_records.Given as goal
 
 abbrev pub invariant-loop-done : goal.invariant-loop-done
 invariant-loop-done g l =

@@ -5,9 +5,9 @@ use Rattle.sqlite.specs.Tree.{Trees}
 use Rattle.wire.specs.declared.record_format.RecordFormat.TheVariants.{One}
 use Rattle.stores.specs.Records.{unbroken}
 use Rattle.store_tables.specs.Held.{slots_in}
-use Rattle.store_tables.specs.Within.{IsWithin}
-use Rattle.store_tables.specs.Migrating.{HasStore, IsMigrating}
-use Rattle.store_tables.proofs.migrating.migrate_page.Given as goal
+use Rattle.store_tables.specs.Within.{IsWithin, HasStore}
+use Rattle.store_migration.specs.Migrating.{IsMigrating}
+use Rattle.store_migration.proofs.migrating.migrate_page.Given as goal
 
 abbrev pub invariant-loop-at : goal.invariant-loop-at
 invariant-loop-at g l =

@@ -2,8 +2,8 @@ use Rattle.std.proofs.Common.{◌≡◌, sym, subst, rules}
 use Rattle.sqlite.specs.Held.{state}
 use Rattle.wire.specs.declared.record_format.RecordFormat.TheVariants.{Two}
 use Rattle.wire.specs.Records.{IsRecordText}
-use Rattle.store_tables.proofs.MigratingSteps.{migrating_next}
-use Rattle.store_tables.proofs.migrating.migrate_record.Goals as goal
+use Rattle.store_migration.proofs.MigratingSteps.{migrating_next}
+use Rattle.store_migration.proofs.migrating.migrate_record.Goals as goal
 
 pub returns-in-Err-Shape-clause-damaged : goal.returns-in-Err-Shape-clause-damaged
 returns-in-Err-Shape-clause-damaged g c = λ p is.

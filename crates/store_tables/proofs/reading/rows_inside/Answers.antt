@@ -7,15 +7,14 @@ use Rattle.sqlite.specs.declared.types.Value.TheVariants.{Int}
 use Rattle.sqlite.specs.declared.error.Error.{Error}
 use Rattle.sqlite.specs.declared.rows.Row.{Row as Answer}
 use Rattle.wire.specs.declared.record_format.RecordFormat.TheVariants.{One}
-use Rattle.store_tables.specs.Within.{IsWithin}
-use Rattle.store_tables.specs.Migrating.{HasStore}
+use Rattle.store_tables.specs.Within.{IsWithin, HasStore}
 use Rattle.store_tables.specs.Pages.{rows_within}
 use Rattle.store_tables.specs.Tables.{entry_rows}
 use Rattle.store_tables.proofs.Answering.{between}
 use Rattle.store_tables.proofs.PageTexts.{page_text}
 use Rattle.store_tables.proofs.Queries.{query-inside}
 use Rattle.store_tables.proofs.Steps.{left_by_query, moved_keeps, was_clean}
-use Rattle.store_tables.proofs.migrating.rows_inside.Goals as goal
+use Rattle.store_tables.proofs.reading.rows_inside.Goals as goal
 
 abbrev old : (g : _) → goal.After-query_all g → State
 old g c = state g.S.Store c.args.tx.now.conn.now

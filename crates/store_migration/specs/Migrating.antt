@@ -1,12 +1,10 @@
 -- How a store of format One becomes one of format Two.
 use Rattle.std.specs.Prelude.{◌≡◌, ◌⊎◌, ℕ, zero, suc, List, [], ◌∷◌, ◌++◌, take, drop, Some, None}
 use Rattle.sqlite.specs.Tree.{Trees}
-use Rattle.sqlite.specs.Effect.{Database}
 use Rattle.wire.specs.declared.input.Input.{Input}
 use Rattle.wire.specs.declared.record_format.RecordFormat.{RecordFormat}
 use Rattle.wire.specs.declared.record_format.RecordFormat.TheVariants.{One, Two}
 use Rattle.stores.specs.Records.{Places, AreRecordsIn}
-use Rattle.store_tables.specs.Tables.{store_schema, order_in}
 use Rattle.store_tables.specs.Held.{slots_in, node_in, IsStoreIn}
 
 -- both have the records of the same inputs, the old places in format One and the new ones in format Two
@@ -23,12 +21,6 @@ pub record IsMigrated (old new : Trees) : Type 0 where
 -- what an opening makes of a database: the places that it has or, of a store of format One, those that are migrated
 abbrev pub IsOpenedAs : Trees → Places → Type 0
 IsOpenedAs db places = ((IsStoreIn One db → ⊥) × (places ≡ slots_in db)) ⊎ (IsStoreIn One db × AreMigrated (slots_in db) places)
-
--- ---- while it is migrated
-
--- a store of that format, with its tables
-abbrev pub HasStore : RecordFormat → Database → Type 0
-HasStore format db = (db.schema ≡ store_schema (order_in db.trees)) × IsStoreIn format db.trees
 
 -- ---- what the code follows; no public contract cites what stands below
 

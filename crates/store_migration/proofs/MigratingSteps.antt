@@ -16,12 +16,12 @@ use Rattle.stores.specs.Records.{Places, AreRecordsIn, HasNoRecordIn, IsDamagedI
 use Rattle.stores.proofs.Fronts.{records-length, records-snoc, damaged-place}
 use Rattle.store_tables.specs.Tables.{store_schema, order_in, about_tree, entries_tree}
 use Rattle.store_tables.specs.Held.{slots_in}
-use Rattle.store_tables.specs.Within.{IsWithin}
-use Rattle.store_tables.specs.Migrating.{with_body, HasStore, HasPlaces, IsMigrating}
+use Rattle.store_tables.specs.Within.{IsWithin, HasStore}
+use Rattle.store_migration.specs.Migrating.{with_body, HasPlaces, IsMigrating}
 use Rattle.store_tables.proofs.Inserting.{given}
-use Rattle.store_tables.proofs.MigratingTexts.{body_text, body_command, body_is, body_plain, format_text, format_command, format_is, format_plain}
+use Rattle.store_migration.proofs.MigratingTexts.{body_text, body_command, body_is, body_plain, format_text, format_command, format_is, format_plain}
 use Rattle.store_tables.proofs.PlacesRead.{body-at, gap-at}
-use Rattle.store_tables.proofs.Rewriting.{body_put, format_put}
+use Rattle.store_migration.proofs.Rewriting.{body_put, format_put}
 use Rattle.store_tables.proofs.Steps.{was_clean, inside_keeps}
 
 -- the transaction sees a store of that format and of the same node, with such places, in the same tables

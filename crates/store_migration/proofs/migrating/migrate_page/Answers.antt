@@ -9,11 +9,11 @@ use Rattle.wire.specs.declared.record_format.RecordFormat.TheVariants.{One}
 use Rattle.stores.specs.declared.fault.StoreFault.TheVariants.{Damaged}
 use Rattle.stores.specs.Records.{IsDamagedIn}
 use Rattle.store_tables.specs.Held.{slots_in}
-use Rattle.store_tables.specs.Migrating.{IsMigrating}
+use Rattle.store_migration.specs.Migrating.{IsMigrating}
 use Rattle.store_tables.proofs.PlacesRead.{front}
 use Rattle.store_tables.proofs.Steps.{was_clean}
-use Rattle.store_tables.proofs.MigratingSteps.{nows, damaged_next, page_body, page_gap}
-use Rattle.store_tables.proofs.migrating.migrate_page.Goals as goal
+use Rattle.store_migration.proofs.MigratingSteps.{nows, damaged_next, page_body, page_gap}
+use Rattle.store_migration.proofs.migrating.migrate_page.Goals as goal
 
 pub loop-at-init : goal.loop-at-init
 loop-at-init g c =

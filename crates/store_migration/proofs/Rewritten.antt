@@ -14,7 +14,7 @@ use Rattle.sqlite.specs.Tree.{put_row}
 use Rattle.sqlite_trees.specs.Tree.{without_rowid, has_rowid}
 use Rattle.store_tables.specs.Tables.{entry}
 use Rattle.store_tables.specs.Slots.{place_of, body_of, missing, slots_from, AreEntries}
-use Rattle.store_tables.specs.Migrating.{with_body}
+use Rattle.store_migration.specs.Migrating.{with_body}
 use Rattle.store_tables.proofs.Places.{before}
 
 -- the row at that place has the other body, and the others stay

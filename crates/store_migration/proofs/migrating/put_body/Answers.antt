@@ -5,9 +5,9 @@ use Rattle.sqlite.specs.Held.{state}
 use Rattle.sqlite.specs.declared.types.Value.TheVariants.{Int, Text}
 use Rattle.wire.specs.declared.record_format.RecordFormat.TheVariants.{One}
 use Rattle.store_tables.specs.Held.{slots_in}
-use Rattle.store_tables.specs.Migrating.{with_body}
-use Rattle.store_tables.proofs.MigratingSteps.{Rewrites, rewritten_inside, body_ok}
-use Rattle.store_tables.proofs.migrating.put_body.Goals as goal
+use Rattle.store_migration.specs.Migrating.{with_body}
+use Rattle.store_migration.proofs.MigratingSteps.{Rewrites, rewritten_inside, body_ok}
+use Rattle.store_migration.proofs.migrating.put_body.Goals as goal
 
 abbrev old : (g : _) → goal.In_ok-execute g → State
 old g c = state g.S.Store c.args.tx.now.conn.now

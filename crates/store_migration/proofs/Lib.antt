@@ -1,0 +1,4 @@
+pub mod MigratingTexts
+pub mod Rewritten
+pub mod Rewriting
+pub mod MigratingSteps

@@ -1,2 +1,3 @@
 mod SentMessages
 pub mod Taking
+pub mod WorkedThreads

@@ -24,8 +24,7 @@ pub const WORKERS: usize = 2;
 /// How many jobs wait at most.
 const MOST_JOBS: usize = 16;
 
-// A session thread leaves one job at most in the channel, so that none waits to hand over one, also where no worker takes
-// any.
+// A session thread waits for one answer at a time, so that there is room for the job of each while workers take them.
 const _: () = prove!(SESSION_THREADS <= MOST_JOBS);
 
 /// What a thread of a node does.

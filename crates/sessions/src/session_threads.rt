@@ -84,7 +84,7 @@ fn serve_one<
 /// row.
 ///
 /// A node has `SESSION_THREADS` threads that do so. Where the system has no thread for some of them, fewer sessions are
-/// served at a time, but always one.
+/// served at a time, or none.
 pub(crate) fn serve_all<
     O: Opening,
     C: NodeCore,

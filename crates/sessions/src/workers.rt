@@ -85,8 +85,9 @@ fn receive<T: Drop, O: Opening, C: NodeCore, S: NodeStore, B: Bell, R: Wait + Sy
     unreachable!()
 }
 
-/// Hands a job to a worker, and waits for its answer. `None` where the desk has stopped, and the job was handed to none or
-/// answered by none; the workers may have ended then. So a session thread leaves at most one job in the channel. Fails with `NoMemory` where memory ran out, and the job was handed to none.
+/// Hands a job to a worker, and waits for its answer. `None` where the desk has stopped before one answered, and where
+/// nobody takes jobs any more, as the channel is full then. Fails with `NoMemory` where memory ran out, and the job was
+/// handed to none.
 fn ask<O: Opening, C: NodeCore, S: NodeStore, B: Bell, R: Wait + SystemClock>(
     rt: &R,
     alloc: Global,
@@ -94,15 +95,11 @@ fn ask<O: Opening, C: NodeCore, S: NodeStore, B: Bell, R: Wait + SystemClock>(
     errands: &Sender<Errand>,
     job: Job,
 ) -> Result<Option<Answer>, NoMemory> {
-    if !desk.is_running(rt) {
-        drop(job);
-        return Ok(None);
-    }
     let Ok((back, answers)) = crossbeam_channel::bounded(alloc, 1) else {
         drop(job);
         return Err(NoMemory);
     };
-    let handed = errands.send(rt, Errand { job, back });
+    let handed = errands.try_send(rt, Errand { job, back });
     let is_handed = handed.is_ok();
     drop(handed);
     let answer = if is_handed {

@@ -76,7 +76,7 @@ pub fn rows_of<S: Alter>(
 }
 
 /// The entries from the first place to the last one, as the transaction sees them, each with its place and its body,
-/// in their order.
+/// in their order. Fails with the error of the query, which leaves the last commit as it was.
 pub fn rows_inside<S: Alter>(
     tx: &mut Transaction<'_, S>,
     first: u64,

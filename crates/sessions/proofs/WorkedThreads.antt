@@ -1,0 +1,66 @@
+-- Which inputs a thread may have recorded: moments, clocks and connections as values.
+use Rattle.std.proofs.Common.{◌≡◌, ◌≢◌, ℕ, List, [], ◌∷◌, Option, true, refl, ap, arith, lit<}
+use Rattle.units.specs.declared.code.Node.{Node}
+use Rattle.units.specs.declared.code.Node.TheVariants.{Itl}
+use Rattle.status.specs.declared.moment.Moment.{Moment}
+use Rattle.wire.specs.declared.input.Input.{Input}
+use Rattle.wire.specs.declared.input.Input.TheVariants as input
+use Rattle.wire.specs.declared.notified.NotifiedStatus.TheVariants as notified
+use Rattle.scheme.specs.declared.registries.Scheme.{Scheme}
+use Rattle.protocol.proofs.WorkedScheme.{nz, jp, nz_node, block, nz1, first_of_may, number, notification}
+use Rattle.stores.specs.declared.node_store.NodeStore.{Ghosts}
+use Rattle.sessions.specs.Threads.{IsOfThread}
+
+abbrev second : Moment
+second = record { seconds = 1335830401; in_range = lit< tt }
+
+abbrev message : Moment → Input
+message moment = input.Received (notification Itl nz_node nz1 notified.Accepted) moment
+
+-- the clock told the first of May, and nothing else
+abbrev told : Moment → Type 0
+told moment = moment ≡ first_of_may
+
+later : second ≢ first_of_may
+later e = let same : ◌≡◌ {A = ℕ} 1335830401 1335830400 = ap (λ (m : Moment). m.seconds) e in omega arith
+
+module _ {R W S : Type 0} (remaining : R → Option (List ℕ)) (contents : W → Option (List ℕ)) (g : Ghosts S) (opened : Scheme → Node → List Input → ℕ → Type 0) where
+  -- no connection leads anywhere
+  abbrev alone : Input → Type 0
+  alone = IsOfThread (λ (n : Node) (r : R) (w : W). ⊥) remaining contents g opened told
+
+  pub at_a_moment_that_was_told : alone (message first_of_may)
+  at_a_moment_that_was_told = refl
+
+  pub not_at_another : alone (message second) → ⊥
+  not_at_another = later
+
+  -- what no peer was reached with is not acknowledged
+  pub not_unless_received : alone (input.Ack (number 0 (lit< tt))) → ⊥
+  not_unless_received is = is.received.led
+
+  pub no_transfer : alone (input.Propose (record { account = 1; to_registry = jp; to_account = 7; units = block 1 1 ∷ [] })) → ⊥
+  no_transfer is = is
+
+  pub no_request : alone (input.Request nz1) → ⊥
+  no_request is = is
+
+  pub no_opening : alone (input.OpenAccount (number 2 (lit< tt))) → ⊥
+  no_opening is = is
+
+  pub no_closing : alone (input.CloseAccount (number 2 (lit< tt))) → ⊥
+  no_closing is = is
+
+  pub no_clean_up : alone (input.CleanUp first_of_may) → ⊥
+  no_clean_up is = is
+
+  pub no_eligibility : alone (input.Eligible nz true) → ⊥
+  no_eligibility is = is
+
+-- nothing is known of any node, so that no message is one that a store of the run has
+module _ {R W S : Type 0} (leads : Node → R → W → Type 0) (remaining : R → Option (List ℕ)) (contents : W → Option (List ℕ)) (g : Ghosts S) where
+  abbrev unknown : Input → Type 0
+  unknown = IsOfThread leads remaining contents g (λ (s : Scheme) (n : Node) (journal : List Input) (faults : ℕ). ⊥) told
+
+  pub not_unless_stored : unknown (input.Ack (number 0 (lit< tt))) → ⊥
+  not_unless_stored is = is.sent.1.at.began

@@ -2,7 +2,7 @@
 """Wrong definitions, each of which a worked equation must refuse.
 
 A definition that nothing pins can be wrong unnoticed, and take code and laws with it. Each change below is planted, alone, in a copy
-of the crate `worked_definitions` to which the definitions are copied too, and the checker must then find that the equation that the
+of the crate `test_definitions` to which the definitions are copied too, and the checker must then find that the equation that the
 list names fails by its value. Nothing else is proved: the laws and the code above a wrong definition don't count. Printed is a line
 for each change; the exit status is 1 where one isn't refused. With --stack changes of one list are planted at once where their texts
 don't touch, which is quicker and says less: one may make the equation of another fail. The libraries have to be built: `rt lib` in
@@ -19,7 +19,7 @@ import sys
 import tempfile
 
 ROOT = pathlib.Path(__file__).resolve().parent.parent
-CRATE = "worked_definitions"
+CRATE = "test_definitions"
 FILES = [it for it in (ROOT / "crates" / CRATE / "proofs").glob("*.antt") if it.name != "Lib.antt"]
 SHARED = ("ShortNames", "ThreeRegistries")
 WORKED_SCHEME = ROOT / "crates" / "protocol" / "proofs" / "WorkedScheme.antt"

@@ -3,7 +3,7 @@
 one, each alone, and lists those that no worked equation refuses.
 
 The places are found in crates/protocol/specs and in the status tables. A change that the checker doesn't take as a definition (its
-types differ) is none, and is counted apart. The others are tried on the equations of `worked_definitions`, and those that stand there
+types differ) is none, and is counted apart. The others are tried on the equations of `test_definitions`, and those that stand there
 also on the worked runs of `protocol`. Printed is a line for each change, and at the end those that nothing refuses, which
 docs/MUTATIONS.md explains one by one. The exit status is 1 where one stands that isn't listed there, or where one that is listed is
 refused. The libraries have to be built: `rt lib` in crates/protocol. With --list nothing is checked.

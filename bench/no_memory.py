@@ -1,7 +1,7 @@
 #!/usr/bin/env python3
 """Refuses each allocation of a test and of whole commands in turn: a command writes all or nothing, and no store changes.
 
-The test `stale_proposal` of `worked_runs` reads three journals and has `weave` follow them; a call that found no memory is
+The test `stale_proposal` of `test_runs` reads three journals and has `weave` follow them; a call that found no memory is
 made again. With each of its allocations refused it must pass, or stop in reading.
 
 `rehearse` reads the input of each example named, and `audit` the stores of a whole transfer and of the one whose proposal
@@ -33,7 +33,7 @@ from rehearse import program
 TOP = pathlib.Path(__file__).resolve().parent.parent
 SOURCE = TOP / "bench" / "no_memory.c"
 OUT_OF_MEMORY = (5, b"", b"kyoto-link: out of memory\n")
-TESTS = TOP / "crates" / "worked_runs"
+TESTS = TOP / "crates" / "test_runs"
 TEST = "weave_rows::stale_proposal"
 # How a test ends that fails, and what this one says where it has no memory to read its scheme and its journals.
 FAILED = -signal.SIGABRT
@@ -169,7 +169,7 @@ def refuse_each(name, refusing, words, text, folder, status=0):
 def refuse_each_of_test(refusing):
     """Whether the test passed, or stopped in reading, each time."""
     run_to_end(["rt", "test"], cwd=TESTS, stdout=subprocess.DEVNULL)
-    test = TESTS / "out" / "worked_runs_tests"
+    test = TESTS / "out" / "test_runs_tests"
     number, passed, unread = 1, 0, 0
     while True:
         (status, _, said), refused = refusing.run([TEST], b"", number, test)

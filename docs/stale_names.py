@@ -11,7 +11,7 @@ import sys
 
 TOP = pathlib.Path(__file__).resolve().parent.parent
 SOURCES = ("crates/*/src/**/*.rt", "crates/*/specs/**/*.antt", "crates/*/proofs/**/*.antt", "crates/*/must-fail/*.edit",
-           "crates/worked_examples/data/**/*", "bench/*.py", "bench/*.c", "docs/*.py")
+           "crates/test_examples/data/**/*", "bench/*.py", "bench/*.c", "docs/*.py")
 OTHERS = ("crates.txt", "kyoto-link", ".ci/run", "HANDLES")
 # Names of other programs, and of the language and its prover.
 FOREIGN = {"auto_vacuum", "call_once", "db-journal", "jq", "libsqlite3-dev", "retain", "retain_mut", "x-iterator"}
@@ -34,7 +34,7 @@ def known_words():
 
 def main():
     known, stale = known_words(), []
-    for path in sorted([TOP / "README.md", *TOP.glob("docs/*.md"), *TOP.glob("bench/*.md"), TOP / "crates/worked_examples/data/README.md"]):
+    for path in sorted([TOP / "README.md", *TOP.glob("docs/*.md"), *TOP.glob("bench/*.md"), TOP / "crates/test_examples/data/README.md"]):
         fenced = False
         for number, line in enumerate(path.read_text(encoding="utf-8").splitlines(), 1):
             fenced ^= line.startswith("```")

@@ -6,7 +6,7 @@ use Rattle.units.specs.declared.block.Block.{Block}
 use Rattle.units.specs.declared.block.Kind.{Kind}
 use Rattle.units.specs.declared.block.Unit.{Unit as Serial}
 use Rattle.status.specs.declared.id.TransactionId.{TransactionId}
-use Rattle.accounts.specs.Holdings.{Held, kind_in, reserved}
+use Rattle.accounts.specs.Holdings.{HoldingsView, kind_in, reserved}
 use Rattle.accounts.specs.Refusals.{IsUnitOf, MayReserve}
 use Rattle.accounts.specs.Tables.{unit_holding_in}
 use Rattle.accounts.specs.declared.unit_holding.UnitHolding.{UnitHolding}
@@ -15,7 +15,7 @@ use Rattle.accounts.proofs.Parts.{kind_found}
 use Rattle.accounts.proofs.OneUnit.{put}
 
 -- the units of blocks that may be reserved are free, also where other blocks have them
-pub free_unit_holdings : (held : Held) (account : ℕ) (blocks parts : List Block) → MayReserve held account blocks → ((p : Block) (s : Serial) → IsUnitOf parts p s → (b : Block) × IsUnitOf blocks b s × (b.raw.kind ≡ p.raw.kind))
+pub free_unit_holdings : (held : HoldingsView) (account : ℕ) (blocks parts : List Block) → MayReserve held account blocks → ((p : Block) (s : Serial) → IsUnitOf parts p s → (b : Block) × IsUnitOf blocks b s × (b.raw.kind ≡ p.raw.kind))
     → (s : Serial) (k : Kind) → kind_in parts s ≡ Some k → get held.unit_holdings s ≡ Some (unit_holding_in account None k)
 free_unit_holdings held account blocks parts may kinds s k e =
     let part = kind_found parts s k e in

@@ -15,7 +15,7 @@ use Rattle.accounts.specs.declared.unit_holding.AccountStatus.{AccountStatus}
 use Rattle.accounts.specs.declared.unit_holding.AccountStatus.TheVariants.{Open, Closed}
 
 -- the accounts, each open or closed, and what each unit that is held is held as
-pub record Held : Type 0 where
+pub record HoldingsView : Type 0 where
   pub accounts : map.FinMap nat_cmp AccountStatus
   pub unit_holdings : map.FinMap unit_cmp UnitHolding
 

@@ -5,7 +5,7 @@ use Rattle.units.specs.Canonical.{AreCanonical}
 use Rattle.units.specs.Intervals.{label_at, AreKept}
 use Rattle.units.specs.declared.block.Unit.{Unit as Serial}
 use Rattle.units.specs.declared.interval.Interval.{Interval}
-use Rattle.accounts.specs.Holdings.{Held}
+use Rattle.accounts.specs.Holdings.{HoldingsView}
 use Rattle.accounts.specs.declared.unit_holding.UnitHolding.{UnitHolding}
 use Rattle.accounts.specs.declared.unit_holding.HeldBlock.{HeldBlock}
 
@@ -21,7 +21,7 @@ unit_holding_interval l = record {
 
 -- by account and then in the order of units, neighbours with one account, kind and label joined; each unit that is
 -- held is in one line, which says how
-pub record AreLines (held : Held) (lines : List HeldBlock) : Type 0 where
+pub record AreLines (held : HoldingsView) (lines : List HeldBlock) : Type 0 where
   pub ordered : AreCanonical (λ (unit_holding : UnitHolding). unit_holding.account) (map unit_holding_interval lines)
   pub apart : AreKept (map unit_holding_interval lines)
   pub same : (unit : Serial) → label_at (map unit_holding_interval lines) unit ≡ get held.unit_holdings unit

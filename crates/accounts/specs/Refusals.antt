@@ -7,16 +7,16 @@ use Rattle.units.specs.Unit.{has_unit, covers}
 use Rattle.units.specs.declared.block.Block.{Block}
 use Rattle.units.specs.declared.block.Kind.{Kind}
 use Rattle.units.specs.declared.block.Unit.{Unit as Serial}
-use Rattle.accounts.specs.Holdings.{Held}
+use Rattle.accounts.specs.Holdings.{HoldingsView}
 use Rattle.accounts.specs.declared.unit_holding.UnitHolding.{UnitHolding}
 use Rattle.accounts.specs.declared.unit_holding.AccountStatus.TheVariants.{Open, Closed}
 
 -- an account of the registry that is open
-abbrev pub IsOpen : Held → ℕ → Type 0
+abbrev pub IsOpen : HoldingsView → ℕ → Type 0
 IsOpen held account = map.get held.accounts account ≡ Some Open
 
 -- the unit is held in that account with that kind
-pub record IsHeldAs (held : Held) (account : ℕ) (kind : Kind) (unit : Serial) : Type 0 where
+pub record IsHeldAs (held : HoldingsView) (account : ℕ) (kind : Kind) (unit : Serial) : Type 0 where
   pub unit_holding : UnitHolding
   pub is : map.get held.unit_holdings unit ≡ Some unit_holding
   pub account_is : unit_holding.account ≡ account
@@ -28,22 +28,22 @@ pub record IsUnitOf (blocks : List Block) (block : Block) (unit : Serial) : Type
   pub has : IsTrue (has_unit block.raw unit)
 
 -- each unit of each block is held in that account with the block's kind
-abbrev pub AreHeld : Held → ℕ → List Block → Type 0
+abbrev pub AreHeld : HoldingsView → ℕ → List Block → Type 0
 AreHeld held account blocks = (b : Block) (s : Serial) → IsUnitOf blocks b s → IsHeldAs held account b.raw.kind s
 
 -- no unit of the blocks is reserved
-abbrev pub AreFree : Held → List Block → Type 0
+abbrev pub AreFree : HoldingsView → List Block → Type 0
 AreFree held blocks = (s : Serial) (unit_holding : UnitHolding) → IsTrue (covers blocks s) → map.get held.unit_holdings s ≡ Some unit_holding → unit_holding.reserving ≡ None
 
 -- a unit of a block that isn't held so
-pub record IsLacking (held : Held) (account : ℕ) (blocks : List Block) : Type 0 where
+pub record IsLacking (held : HoldingsView) (account : ℕ) (blocks : List Block) : Type 0 where
   pub block : Block
   pub unit : Serial
   pub of : IsUnitOf blocks block unit
   pub lacks : IsHeldAs held account block.raw.kind unit → ⊥
 
 -- a unit of the blocks that is reserved
-pub record IsReserved (held : Held) (blocks : List Block) : Type 0 where
+pub record IsReserved (held : HoldingsView) (blocks : List Block) : Type 0 where
   pub unit : Serial
   pub unit_holding : UnitHolding
   pub of : IsTrue (covers blocks unit)
@@ -51,33 +51,33 @@ pub record IsReserved (held : Held) (blocks : List Block) : Type 0 where
   pub reserved : IsSome unit_holding.reserving
 
 -- what may be reserved
-pub record MayReserve (held : Held) (account : ℕ) (blocks : List Block) : Type 0 where
+pub record MayReserve (held : HoldingsView) (account : ℕ) (blocks : List Block) : Type 0 where
   pub open_account : IsOpen held account
   pub held_so : AreHeld held account blocks
   pub free : AreFree held blocks
 
 -- the account isn't open; a unit isn't held in it with that kind; a unit is reserved
-abbrev pub IsReserveRefusal : Held → ℕ → List Block → ℕ → Type 0
+abbrev pub IsReserveRefusal : HoldingsView → ℕ → List Block → ℕ → Type 0
 IsReserveRefusal held account blocks code =
     ((code ≡ account_not_open) × (IsOpen held account → ⊥))
     ⊎ (((code ≡ unit_not_held) × IsOpen held account × IsLacking held account blocks)
     ⊎ ((code ≡ unit_reserved) × IsOpen held account × AreHeld held account blocks × IsReserved held blocks))
 
 -- the registry has no such account; it is open already
-abbrev pub IsOpenRefusal : Held → ℕ → ℕ → Type 0
+abbrev pub IsOpenRefusal : HoldingsView → ℕ → ℕ → Type 0
 IsOpenRefusal held account code =
     ((code ≡ unknown_account) × (map.get held.accounts account ≡ None))
     ⊎ ((code ≡ already_so) × (map.get held.accounts account ≡ Some Open))
 
 -- a unit in the account
-pub record HasUnits (held : Held) (account : ℕ) : Type 0 where
+pub record HasUnits (held : HoldingsView) (account : ℕ) : Type 0 where
   pub unit : Serial
   pub unit_holding : UnitHolding
   pub is : map.get held.unit_holdings unit ≡ Some unit_holding
   pub account_is : unit_holding.account ≡ account
 
 -- the registry has no such account; it is closed already; it holds units
-abbrev pub IsCloseRefusal : Held → ℕ → ℕ → Type 0
+abbrev pub IsCloseRefusal : HoldingsView → ℕ → ℕ → Type 0
 IsCloseRefusal held account code =
     ((code ≡ unknown_account) × (map.get held.accounts account ≡ None))
     ⊎ (((code ≡ already_so) × (map.get held.accounts account ≡ Some Closed))

@@ -25,7 +25,8 @@ pub(crate) fn open_accounts(
     alloc: Global,
     numbers: &[u64],
 ) -> Result<BTreeMap<u64, Account>, NoMemory>
-    ensures { IfOk result (λ m. (n : ℕ) → tree.get nat_cmp m n ≡ (if list_any (λ a. a == n) numbers.now then Some opened else None)) }
+    ensures { IfOk result (λ m. (n : ℕ)
+        → tree.get nat_cmp m n ≡ (if list_any (λ a. a == n) numbers.now then Some opened else None)) }
 {
     let mut accounts = BTreeMap::new(alloc);
     for number in numbers {
@@ -45,7 +46,9 @@ pub(crate) fn set_account_status(
     number: u64,
     account_status: AccountStatus,
 )
-    ensures { (n : ℕ) → tree.get nat_cmp accounts.new n ≡ (if n == number then option_map (with_account_status account_status) (tree.get nat_cmp accounts.old n) else tree.get nat_cmp accounts.old n) }
+    ensures { (n : ℕ) → tree.get nat_cmp accounts.new n
+        ≡ (if n == number then option_map (with_account_status account_status)
+        (tree.get nat_cmp accounts.old n) else tree.get nat_cmp accounts.old n) }
 {
     if let Some(account) = accounts.get_mut(&number) {
         account.account_status = account_status;
@@ -56,7 +59,9 @@ pub(crate) fn set_account_status(
 pub(crate) fn put_in(accounts: &mut BTreeMap<u64, Account>, number: u64, count: u64)
     requires held { held_at accounts.old number + count < 2 ^ 64 }
     requires free { free_at accounts.old number + count < 2 ^ 64 }
-    ensures { (n : ℕ) → tree.get nat_cmp accounts.new n ≡ (if n == number then option_map (with_units count) (tree.get nat_cmp accounts.old n) else tree.get nat_cmp accounts.old n) }
+    ensures { (n : ℕ) → tree.get nat_cmp accounts.new n
+        ≡ (if n == number then option_map (with_units count)
+        (tree.get nat_cmp accounts.old n) else tree.get nat_cmp accounts.old n) }
 {
     if let Some(account) = accounts.get_mut(&number) {
         account.held += count;
@@ -67,7 +72,9 @@ pub(crate) fn put_in(accounts: &mut BTreeMap<u64, Account>, number: u64, count: 
 /// `count` of the account's free units are free no more.
 pub(crate) fn reserve(accounts: &mut BTreeMap<u64, Account>, number: u64, count: u64)
     requires { count ≤ free_at accounts.old number }
-    ensures { (n : ℕ) → tree.get nat_cmp accounts.new n ≡ (if n == number then option_map (with_fewer_free count) (tree.get nat_cmp accounts.old n) else tree.get nat_cmp accounts.old n) }
+    ensures { (n : ℕ) → tree.get nat_cmp accounts.new n
+        ≡ (if n == number then option_map (with_fewer_free count)
+        (tree.get nat_cmp accounts.old n) else tree.get nat_cmp accounts.old n) }
 {
     if let Some(account) = accounts.get_mut(&number) {
         account.free -= count;
@@ -77,7 +84,9 @@ pub(crate) fn reserve(accounts: &mut BTreeMap<u64, Account>, number: u64, count:
 /// `count` more of the account's units are free.
 fn release(accounts: &mut BTreeMap<u64, Account>, number: u64, count: u64)
     requires { free_at accounts.old number + count < 2 ^ 64 }
-    ensures { (n : ℕ) → tree.get nat_cmp accounts.new n ≡ (if n == number then option_map (with_more_free count) (tree.get nat_cmp accounts.old n) else tree.get nat_cmp accounts.old n) }
+    ensures { (n : ℕ) → tree.get nat_cmp accounts.new n
+        ≡ (if n == number then option_map (with_more_free count)
+        (tree.get nat_cmp accounts.old n) else tree.get nat_cmp accounts.old n) }
 {
     if let Some(account) = accounts.get_mut(&number) {
         account.free += count;
@@ -87,7 +96,9 @@ fn release(accounts: &mut BTreeMap<u64, Account>, number: u64, count: u64)
 /// The account has `count` fewer units.
 fn take_out(accounts: &mut BTreeMap<u64, Account>, number: u64, count: u64)
     requires { count ≤ held_at accounts.old number }
-    ensures { (n : ℕ) → tree.get nat_cmp accounts.new n ≡ (if n == number then option_map (with_fewer count) (tree.get nat_cmp accounts.old n) else tree.get nat_cmp accounts.old n) }
+    ensures { (n : ℕ) → tree.get nat_cmp accounts.new n
+        ≡ (if n == number then option_map (with_fewer count)
+        (tree.get nat_cmp accounts.old n) else tree.get nat_cmp accounts.old n) }
 {
     if let Some(account) = accounts.get_mut(&number) {
         account.held -= count;
@@ -97,7 +108,8 @@ fn take_out(accounts: &mut BTreeMap<u64, Account>, number: u64, count: u64)
 /// The shares' units, which were reserved, are free.
 pub(crate) fn release_all(accounts: &mut BTreeMap<u64, Account>, shares: &[Share])
     requires { (n : ℕ) → free_at accounts.old n + share_of shares.now n < 2 ^ 64 }
-    ensures { (n : ℕ) → tree.get nat_cmp accounts.new n ≡ option_map (with_more_free (share_of shares.now n)) (tree.get nat_cmp accounts.old n) }
+    ensures { (n : ℕ) → tree.get nat_cmp accounts.new n
+        ≡ option_map (with_more_free (share_of shares.now n)) (tree.get nat_cmp accounts.old n) }
 {
     for share in shares {
         release(accounts, share.account, share.count);
@@ -107,7 +119,8 @@ pub(crate) fn release_all(accounts: &mut BTreeMap<u64, Account>, shares: &[Share
 /// The shares' units, which were reserved, are in their accounts no more.
 pub(crate) fn take_out_all(accounts: &mut BTreeMap<u64, Account>, shares: &[Share])
     requires { (n : ℕ) → share_of shares.now n ≤ held_at accounts.old n }
-    ensures { (n : ℕ) → tree.get nat_cmp accounts.new n ≡ option_map (with_fewer (share_of shares.now n)) (tree.get nat_cmp accounts.old n) }
+    ensures { (n : ℕ) → tree.get nat_cmp accounts.new n
+        ≡ option_map (with_fewer (share_of shares.now n)) (tree.get nat_cmp accounts.old n) }
 {
     for share in shares {
         take_out(accounts, share.account, share.count);

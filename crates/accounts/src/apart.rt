@@ -14,7 +14,8 @@ use units::{Block, NoMemory, UnitMap, blocks_of};
 pub(crate) fn apart(alloc: Global, blocks: &[Block]) -> Result<Vec<Block>, NoMemory>
     ensures apart { IfOk result (λ v. AllApart v.items) }
     ensures same { IfOk result (λ v. (s : Serial) → covers v.items s ≡ covers blocks.now s) }
-    ensures kinds { IfOk result (λ v. (p : Block) (s : Serial) → IsUnitOf v.items p s → (b : Block) × IsUnitOf blocks.now b s × (b.raw.kind ≡ p.raw.kind)) }
+    ensures kinds { IfOk result (λ v. (p : Block) (s : Serial) → IsUnitOf v.items p s → (b : Block)
+        × IsUnitOf blocks.now b s × (b.raw.kind ≡ p.raw.kind)) }
 {
     let mut kinds = UnitMap::new(alloc);
     for block in blocks {

@@ -43,12 +43,12 @@ pub struct Holdings {
 }
 
 impl Model for Holdings {
-    ghost use Rattle.accounts.specs.Holdings.{Held};
+    ghost use Rattle.accounts.specs.Holdings.{HoldingsView};
     ghost use Rattle.accounts.specs.Accounts.{account_statuses};
     ghost use Rattle.accounts.specs.Coding.{held_code};
     ghost use Rattle.accounts.specs.Tables.{AreInStep};
 
-    ghost Value = { Held };
+    ghost Value = { HoldingsView };
 
     ghost coded = { held_code };
 
@@ -86,7 +86,10 @@ fn set_unit_holdings(
     reserving: Option<TransactionId>,
 ) -> Result<(), NoMemory>
     requires { AllApart blocks.now }
-    ensures ok { OnOk result ((s : Serial) → map.get unit_holdings.new s ≡ option_or (option_map (unit_holding_in account reserving) (kind_in blocks.now s)) (map.get unit_holdings.old s)) }
+    ensures ok { OnOk result ((s : Serial)
+        → map.get unit_holdings.new s
+        ≡ option_or (option_map (unit_holding_in account reserving) (kind_in blocks.now s))
+        (map.get unit_holdings.old s)) }
     ensures err { OnErr result (unit_holdings.new ≡ unit_holdings.old) }
 {
     unit_holdings.set_all(blocks, |block| {
@@ -102,7 +105,8 @@ impl Holdings {
     /// Open accounts of these numbers, which hold nothing. A number that stands twice is one
     /// account. Or `NoMemory`.
     pub fn new(alloc: Global, accounts: &[u64]) -> Result<Holdings, NoMemory>
-        ensures accounts { IfOk result (λ h. (n : ℕ) → map.get h.accounts n ≡ (if list_any (λ a. a == n) accounts.now then Some Open else None)) }
+        ensures accounts { IfOk result (λ h. (n : ℕ)
+            → map.get h.accounts n ≡ (if list_any (λ a. a == n) accounts.now then Some Open else None)) }
         ensures unit_holdings { IfOk result (λ h. h.unit_holdings ≡ map.empty) }
     {
         let accounts = open_accounts(alloc, accounts)?;
@@ -133,7 +137,8 @@ impl Holdings {
     /// Gives an account of the registry the status.
     fn set_account_status(&mut self, account: u64, account_status: AccountStatus)
         requires { IsSome (map.get self.old.accounts account) }
-        ensures accounts { (n : ℕ) → map.get self.new.accounts n ≡ (if n == account then Some account_status else map.get self.old.accounts n) }
+        ensures accounts { (n : ℕ) → map.get self.new.accounts n
+            ≡ (if n == account then Some account_status else map.get self.old.accounts n) }
         ensures unit_holdings { self.new.unit_holdings ≡ self.old.unit_holdings }
     {
         set_account_status(&mut self.accounts, account, account_status);
@@ -141,8 +146,10 @@ impl Holdings {
 
     /// Whether each of the block's units is in the account, with the block's kind.
     fn holds(&self, account: u64, block: &Block) -> bool
-        ensures all { OnTrue result ((s : Serial) → IsTrue (has_unit block.now.raw s) → IsHeldAs self.now account block.now.raw.kind s) }
-        ensures lacking { OnFalse result ((s : Serial) × IsTrue (has_unit block.now.raw s) × (IsHeldAs self.now account block.now.raw.kind s → ⊥)) }
+        ensures all { OnTrue result ((s : Serial) → IsTrue (has_unit block.now.raw s)
+            → IsHeldAs self.now account block.now.raw.kind s) }
+        ensures lacking { OnFalse result ((s : Serial) × IsTrue (has_unit block.now.raw s)
+            × (IsHeldAs self.now account block.now.raw.kind s → ⊥)) }
     {
         let kind = block.raw.kind;
         self.unit_holdings.has_all_of(
@@ -161,8 +168,12 @@ impl Holdings {
 
     /// Whether each of the block's units is there, reserved by none.
     fn is_free(&self, block: &Block) -> bool
-        ensures all { OnTrue result ((s : Serial) → IsTrue (has_unit block.now.raw s) → option_map (λ unit_holding. is_none unit_holding.reserving) (map.get self.now.unit_holdings s) ≡ Some true) }
-        ensures lacking { OnFalse result ((s : Serial) × IsTrue (has_unit block.now.raw s) × (option_map (λ unit_holding. is_none unit_holding.reserving) (map.get self.now.unit_holdings s) ≢ Some true)) }
+        ensures all { OnTrue result ((s : Serial) → IsTrue (has_unit block.now.raw s)
+            → option_map (λ unit_holding. is_none unit_holding.reserving) (map.get self.now.unit_holdings s)
+            ≡ Some true) }
+        ensures lacking { OnFalse result ((s : Serial) × IsTrue (has_unit block.now.raw s)
+            × (option_map (λ unit_holding. is_none unit_holding.reserving)
+            (map.get self.now.unit_holdings s) ≢ Some true)) }
     {
         self.unit_holdings
             .has_all_of(block, |unit_holding| unit_holding.reserving.is_none())
@@ -171,7 +182,9 @@ impl Holdings {
     /// Whether each unit of the blocks is there, reserved by none.
     fn is_each_free(&self, blocks: &[Block]) -> bool
         ensures all { OnTrue result (AreFree self.now blocks.now) }
-        ensures lacking { OnFalse result ((s : Serial) × IsTrue (covers blocks.now s) × (option_map (λ unit_holding. is_none unit_holding.reserving) (map.get self.now.unit_holdings s) ≢ Some true)) }
+        ensures lacking { OnFalse result ((s : Serial) × IsTrue (covers blocks.now s)
+            × (option_map (λ unit_holding. is_none unit_holding.reserving)
+            (map.get self.now.unit_holdings s) ≢ Some true)) }
     {
         blocks.iter().all(|block| self.is_free(block))
     }
@@ -210,8 +223,11 @@ impl Holdings {
         id: TransactionId,
     ) -> Result<(), Refusal>
         ensures may { OnOk result (MayReserve self.old account blocks.now) }
-        ensures ok { OnOk result ((self.new.accounts ≡ self.old.accounts) × ((s : Serial) → map.get self.new.unit_holdings s ≡ (if covers blocks.now s then option_map (reserved id) (map.get self.old.unit_holdings s) else map.get self.old.unit_holdings s))) }
-        ensures refused { IfErr result (λ r. ((r.code ≡ out_of_memory) × MayReserve self.old account blocks.now) ⊎ IsReserveRefusal self.old account blocks.now r.code) }
+        ensures ok { OnOk result ((self.new.accounts ≡ self.old.accounts)
+            × ((s : Serial) → map.get self.new.unit_holdings s ≡ (if covers blocks.now s then option_map (reserved id)
+            (map.get self.old.unit_holdings s) else map.get self.old.unit_holdings s))) }
+        ensures refused { IfErr result (λ r. ((r.code ≡ out_of_memory) × MayReserve self.old account blocks.now)
+            ⊎ IsReserveRefusal self.old account blocks.now r.code) }
         ensures err { OnErr result (self.new ≡ self.old) }
     {
         self.check(account, blocks)?;
@@ -237,7 +253,8 @@ impl Holdings {
     /// Frees the units that the transaction reserves. Takes no memory.
     pub fn release(&mut self, id: TransactionId)
         ensures accounts { self.new.accounts ≡ self.old.accounts }
-        ensures unit_holdings { (s : Serial) → map.get self.new.unit_holdings s ≡ option_map (released id) (map.get self.old.unit_holdings s) }
+        ensures unit_holdings { (s : Serial)
+            → map.get self.new.unit_holdings s ≡ option_map (released id) (map.get self.old.unit_holdings s) }
     {
         let Some(reservation) = take(&mut self.reservations, id) else {
             return;
@@ -254,7 +271,9 @@ impl Holdings {
     /// Takes out what the transaction reserves. Takes no memory.
     pub fn remove(&mut self, id: TransactionId)
         ensures accounts { self.new.accounts ≡ self.old.accounts }
-        ensures unit_holdings { (s : Serial) → map.get self.new.unit_holdings s ≡ labels_that (λ unit_holding. not (is_reserved_by id unit_holding)) (map.get self.old.unit_holdings s) }
+        ensures unit_holdings { (s : Serial)
+            → map.get self.new.unit_holdings s
+            ≡ labels_that (λ unit_holding. not (is_reserved_by id unit_holding)) (map.get self.old.unit_holdings s) }
     {
         let Some(reservation) = take(&mut self.reservations, id) else {
             return;
@@ -274,7 +293,9 @@ impl Holdings {
         requires open_account { IsOpen self.old account }
         requires apart { AllApart blocks.now }
         requires absent { (s : Serial) → IsTrue (covers blocks.now s) → map.get self.old.unit_holdings s ≡ None }
-        ensures ok { OnOk result ((self.new.accounts ≡ self.old.accounts) × ((s : Serial) → map.get self.new.unit_holdings s ≡ option_or (option_map (free_unit_holding account) (kind_in blocks.now s)) (map.get self.old.unit_holdings s))) }
+        ensures ok { OnOk result ((self.new.accounts ≡ self.old.accounts)
+            × ((s : Serial) → map.get self.new.unit_holdings s ≡ option_or (option_map (free_unit_holding account)
+            (kind_in blocks.now s)) (map.get self.old.unit_holdings s))) }
         ensures err { OnErr result (self.new ≡ self.old) }
     {
         set_unit_holdings(&mut self.unit_holdings, account, blocks, None)?;
@@ -298,7 +319,10 @@ impl Holdings {
     /// Opens a closed account. Refused with `UNKNOWN_ACCOUNT`: the registry has no such account;
     /// `ALREADY_SO`: it is open already. After a refusal nothing has changed. Takes no memory.
     pub fn open_account(&mut self, account: u64) -> Result<(), Refusal>
-        ensures ok { OnOk result ((map.get self.old.accounts account ≡ Some Closed) × (self.new.unit_holdings ≡ self.old.unit_holdings) × ((n : ℕ) → map.get self.new.accounts n ≡ (if n == account then Some Open else map.get self.old.accounts n))) }
+        ensures ok { OnOk result ((map.get self.old.accounts account ≡ Some Closed)
+            × (self.new.unit_holdings ≡ self.old.unit_holdings)
+            × ((n : ℕ) → map.get self.new.accounts n ≡
+            (if n == account then Some Open else map.get self.old.accounts n))) }
         ensures refused { IfErr result (λ r. IsOpenRefusal self.old account r.code) }
         ensures err { OnErr result (self.new ≡ self.old) }
     {
@@ -346,7 +370,10 @@ impl Holdings {
     /// no such account; `ALREADY_SO`: it is closed already; `HOLDS_UNITS`. After a refusal nothing
     /// has changed. Takes no memory.
     pub fn close_account(&mut self, account: u64) -> Result<(), Refusal>
-        ensures ok { OnOk result ((map.get self.old.accounts account ≡ Some Open) × (HasUnits self.old account → ⊥) × (self.new.unit_holdings ≡ self.old.unit_holdings) × ((n : ℕ) → map.get self.new.accounts n ≡ (if n == account then Some Closed else map.get self.old.accounts n))) }
+        ensures ok { OnOk result ((map.get self.old.accounts account ≡ Some Open) × (HasUnits self.old account → ⊥)
+            × (self.new.unit_holdings ≡ self.old.unit_holdings)
+            × ((n : ℕ) → map.get self.new.accounts n ≡
+            (if n == account then Some Closed else map.get self.old.accounts n))) }
         ensures refused { IfErr result (λ r. IsCloseRefusal self.old account r.code) }
         ensures err { OnErr result (self.new ≡ self.old) }
     {
@@ -374,16 +401,20 @@ impl Holdings {
 
     /// Whether one of the block's units is held.
     fn holds_some_of(&self, block: &Block) -> bool
-        ensures some { OnTrue result ((s : Serial) × IsTrue (has_unit block.now.raw s) × IsSome (map.get self.now.unit_holdings s)) }
-        ensures none { OnFalse result ((s : Serial) → IsTrue (has_unit block.now.raw s) → map.get self.now.unit_holdings s ≡ None) }
+        ensures some { OnTrue result ((s : Serial) × IsTrue (has_unit block.now.raw s)
+            × IsSome (map.get self.now.unit_holdings s)) }
+        ensures none { OnFalse result ((s : Serial) → IsTrue (has_unit block.now.raw s)
+            → map.get self.now.unit_holdings s ≡ None) }
     {
         !self.unit_holdings.has_none_of(block)
     }
 
     /// Whether one of the blocks' units is held. Takes no memory.
     pub fn holds_any(&self, blocks: &[Block]) -> bool
-        ensures some { OnTrue result ((s : Serial) × IsTrue (covers blocks.now s) × IsSome (map.get self.now.unit_holdings s)) }
-        ensures none { OnFalse result ((s : Serial) → IsTrue (covers blocks.now s) → map.get self.now.unit_holdings s ≡ None) }
+        ensures some { OnTrue result ((s : Serial) × IsTrue (covers blocks.now s)
+            × IsSome (map.get self.now.unit_holdings s)) }
+        ensures none { OnFalse result ((s : Serial) → IsTrue (covers blocks.now s)
+            → map.get self.now.unit_holdings s ≡ None) }
     {
         blocks.iter().any(|block| self.holds_some_of(block))
     }

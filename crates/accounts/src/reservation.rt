@@ -30,8 +30,10 @@ pub(crate) struct Reservation {
 impl Reservation {
     /// More blocks and one more share. After `NoMemory` nothing has changed.
     fn extend(&mut self, blocks: &[Block], share: Share) -> Result<(), NoMemory>
-        ensures ok { OnOk result ((self.new.blocks.items ≡ self.old.blocks.items ++ blocks.now) × (self.new.shares.items ≡ self.old.shares.items ++ share ∷ [])) }
-        ensures err { OnErr result ((self.new.blocks.items ≡ self.old.blocks.items) × (self.new.shares.items ≡ self.old.shares.items)) }
+        ensures ok { OnOk result ((self.new.blocks.items ≡ self.old.blocks.items ++ blocks.now)
+            × (self.new.shares.items ≡ self.old.shares.items ++ share ∷ [])) }
+        ensures err { OnErr result ((self.new.blocks.items ≡ self.old.blocks.items)
+            × (self.new.shares.items ≡ self.old.shares.items)) }
     {
         self.shares.reserve(1)?;
         self.blocks.extend_from_slice(blocks)?;
@@ -59,8 +61,11 @@ pub(crate) fn extend(
     blocks: &[Block],
     share: Share,
 ) -> Result<(), NoMemory>
-    ensures ok { OnOk result (AreGiven id (blocks_of reservations.old id ++ blocks.now) (shares_of reservations.old id ++ share ∷ []) reservations.old reservations.new) }
-    ensures err { OnErr result (AreGiven id (blocks_of reservations.old id) (shares_of reservations.old id) reservations.old reservations.new) }
+    ensures ok { OnOk result (AreGiven id (blocks_of reservations.old id ++ blocks.now)
+        (shares_of reservations.old id ++ share ∷ []) reservations.old reservations.new) }
+    ensures err { OnErr result
+        (AreGiven id (blocks_of reservations.old id)
+        (shares_of reservations.old id) reservations.old reservations.new) }
 {
     if let Some(reservation) = reservations.get_mut(&id) {
         return reservation.extend(blocks, share);
@@ -80,7 +85,8 @@ pub(crate) fn take(
     id: TransactionId,
 ) -> Option<Reservation>
     ensures was { result ≡ tree.get id_cmp reservations.old id }
-    ensures left { (q : TransactionId) → tree.get id_cmp reservations.new q ≡ (if same_id id q then None else tree.get id_cmp reservations.old q) }
+    ensures left { (q : TransactionId)
+        → tree.get id_cmp reservations.new q ≡ (if same_id id q then None else tree.get id_cmp reservations.old q) }
 {
     reservations.remove(&id)
 }
@@ -91,7 +97,9 @@ pub(crate) fn shorten(
     id: TransactionId,
     blocks: &[Block],
 )
-    ensures { (before : List Block) (earlier : List Share) (last : Share) → blocks_of reservations.old id ≡ before ++ blocks.now → shares_of reservations.old id ≡ earlier ++ last ∷ [] → AreGiven id before earlier reservations.old reservations.new }
+    ensures { (before : List Block) (earlier : List Share) (last : Share)
+        → blocks_of reservations.old id ≡ before ++ blocks.now → shares_of reservations.old id ≡ earlier ++ last ∷ []
+        → AreGiven id before earlier reservations.old reservations.new }
 {
     if let Some(reservation) = reservations.get_mut(&id) {
         reservation.shorten(blocks.len());

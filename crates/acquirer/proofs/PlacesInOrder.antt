@@ -5,7 +5,7 @@ use Rattle.std.specs.Ordering.{is_gt, nat_cmp, ordering_then}
 use Rattle.std.specs.declared.cmp.Ordering.{Ordering}
 use Rattle.std.specs.declared.cmp.Ordering.TheVariants.{Less, Equal, Greater}
 use Rattle.std.specs.declared.ops.Bound.TheVariants.{Included, Unbounded}
-use Rattle.lemmas.proofs.Comparisons.{compared, compared_then}
+use Rattle.units.proofs.Lists.Comparisons.{compared, compared_then}
 use Rattle.status.specs.Id.{id_cmp}
 use Rattle.status.specs.declared.id.TransactionId.{TransactionId}
 use Rattle.acquirer.specs.Awaiting.{awaited_cmp}

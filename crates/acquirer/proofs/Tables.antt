@@ -8,7 +8,7 @@ use Rattle.status.specs.Id.{id_cmp}
 use Rattle.status.specs.declared.id.TransactionId.{TransactionId}
 use Rattle.acquirer.specs.Transfers.{transfers_by_id}
 use Rattle.acquirer.specs.declared.transfer.Transfer.{Transfer}
-use Rattle.lemmas.proofs.OrderedMaps.{get_entries, same_entries}
+use Rattle.units.proofs.Lists.OrderedMaps.{get_entries, same_entries}
 
 pub get_by_id : (m : BTreeMap TransactionId Transfer) (t : TransactionId) → get (transfers_by_id m) t ≡ tree.get id_cmp m t
 unfolding transfers_by_id

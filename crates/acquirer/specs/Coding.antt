@@ -6,11 +6,11 @@ use Rattle.units.specs.contracts.code.Code as code
 use Rattle.units.specs.declared.code.Code.{Code}
 use Rattle.status.specs.Id.{id_cmp}
 use Rattle.status.specs.contracts.id.TransactionId as id
-use Rattle.acquirer.specs.Transfers.{Acquiring}
+use Rattle.acquirer.specs.Transfers.{AcquirerView}
 use Rattle.acquirer.specs.contracts.transfer.Transfer as transfer
 use Rattle.acquirer.specs.declared.transfer.Transfer.{Transfer}
 
 -- as the registry and the map
-abbrev pub acquiring_code : Coded Acquiring
+abbrev pub acquiring_code : Coded AcquirerView
 acquiring_code =
     code_by (Code × map.FinMap id_cmp Transfer) (coded× code.the_row.coded (map.code id.the_row.coded transfer.the_row.coded)) (λ a. (a.code, a.transfers)) (λ p. record { code = p.0; transfers = p.1 }) (λ _. refl)

@@ -15,7 +15,7 @@ use Rattle.status.specs.declared.status.Status.TheVariants.{Accepted}
 use Rattle.acquirer.specs.declared.transfer.Transfer.{Transfer}
 
 -- the registry, and the transfers to it
-pub record Acquiring : Type 0 where
+pub record AcquirerView : Type 0 where
   pub code : Code
   pub transfers : FinMap id_cmp Transfer
 

@@ -17,7 +17,7 @@ ghost use Rattle.status.specs.declared.rows.RowInput.TheVariants as column;
 ghost use Rattle.status.specs.declared.status.Status.TheVariants as words;
 ghost use Rattle.accounts.specs.Holdings as held;
 ghost use Rattle.accounts.specs.Holdings.{kind_in};
-ghost use Rattle.scheme.specs.declared.registries.Scheme.{Scheme};
+ghost use Rattle.protocol.specs.Scheme.{Scheme};
 ghost use Rattle.protocol.specs.AtRegistry.{unless_held};
 ghost use Rattle.protocol.specs.Checks.{Holding, acquirer_findings};
 ghost use Rattle.protocol.specs.Cores.{IsDueOrNoMemory};
@@ -37,7 +37,7 @@ use crate::transfer::Transfer;
 use accounts::Holdings;
 use checks::{acquirer_findings, holds_some};
 use protocol::Decision;
-use scheme::Scheme;
+use protocol::scheme::Scheme;
 use status::{Content, RecordedStatus, Role, Row, RowInput, Status, TransactionId, row};
 use std::alloc::Global;
 use std::collections::{BTreeMap, BTreeSet};
@@ -58,9 +58,9 @@ pub struct Acquirer {
 impl Model for Acquirer {
     ghost use Rattle.acquirer.specs.Awaiting.{AreAwaited};
     ghost use Rattle.acquirer.specs.Coding.{acquiring_code};
-    ghost use Rattle.acquirer.specs.Transfers.{Acquiring, transfers_by_id};
+    ghost use Rattle.acquirer.specs.Transfers.{AcquirerView, transfers_by_id};
 
-    ghost Value = { Acquiring };
+    ghost Value = { AcquirerView };
 
     ghost view = { λ s. record { code = s.code; transfers = transfers_by_id s.transfers } };
 
@@ -145,7 +145,13 @@ impl Acquirer {
         id: TransactionId,
         content: &Content,
     ) -> Result<Decision, Refusal>
-        ensures { (known_so : Holding) (found : List ℕ) → Knows scheme.now self.now.code holdings.now known_so → found ≡ acquirer_findings scheme.now self.now.code known_so content.now → IsDueOrNoMemory result (decided (acquirer_row (known_transfer (map.get self.now.transfers id)) (column_of_proposal (kept_content (map.get self.now.transfers id)) found)) (acquirer_sends self.now.code id found (column_of_proposal (kept_content (map.get self.now.transfers id)) found))) }
+        ensures { (known_so : Holding) (found : List ℕ) → Knows scheme.now self.now.code holdings.now known_so
+            → found ≡ acquirer_findings scheme.now self.now.code known_so content.now
+            → IsDueOrNoMemory result
+            (decided (acquirer_row (known_transfer (map.get self.now.transfers id))
+            (column_of_proposal (kept_content (map.get self.now.transfers id)) found))
+            (acquirer_sends self.now.code id found
+            (column_of_proposal (kept_content (map.get self.now.transfers id)) found))) }
     {
         if self.content(id).is_some() {
             return self.equal_proposal(alloc, id);
@@ -168,7 +174,8 @@ impl Acquirer {
 
     /// What the table says to a proposal equal to the one that is recorded.
     fn equal_proposal(&self, alloc: Global, id: TransactionId) -> Result<Decision, Refusal>
-        ensures { result ≡ decided (acquirer_row (known_transfer (map.get self.now.transfers id)) column.EqualProposal) [] }
+        ensures { result ≡ decided (acquirer_row (known_transfer (map.get self.now.transfers id)) column.EqualProposal)
+            [] }
     {
         match row(Role::Acquirer, self.known(id), RowInput::EqualProposal) {
             Row::Move(new) => Ok(Decision::Moves {
@@ -183,7 +190,9 @@ impl Acquirer {
 
     /// Whether one of the transfer's units is held.
     fn holds_some_of(&self, holdings: &Holdings, id: TransactionId) -> bool
-        ensures { (scheme : Scheme) (known_so : Holding) → Knows scheme self.now.code holdings.now known_so → result ≡ option_map_or (λ k. list_any (λ p. known_so.is_held p.unit) (pieces k.units)) (kept_content (map.get self.now.transfers id)) false }
+        ensures { (scheme : Scheme) (known_so : Holding) → Knows scheme self.now.code holdings.now known_so
+            → result ≡ option_map_or (λ k. list_any (λ p. known_so.is_held p.unit) (pieces k.units))
+            (kept_content (map.get self.now.transfers id)) false }
     {
         match self.content(id) {
             Some(content) => holds_some(holdings, content.units()),
@@ -200,7 +209,11 @@ impl Acquirer {
         id: TransactionId,
         told: Status,
     ) -> Result<Decision, Refusal>
-        ensures { (scheme : Scheme) (known_so : Holding) → Knows scheme self.now.code holdings.now known_so → result ≡ decided (unless_held (option_map_or (λ k. list_any (λ p. known_so.is_held p.unit) (pieces k.units)) (kept_content (map.get self.now.transfers id)) false) (acquirer_row (known_transfer (map.get self.now.transfers id)) (column.Notified told))) [] }
+        ensures { (scheme : Scheme) (known_so : Holding) → Knows scheme self.now.code holdings.now known_so
+            → result ≡ decided
+            (unless_held (option_map_or (λ k. list_any (λ p. known_so.is_held p.unit) (pieces k.units)) (kept_content
+            (map.get self.now.transfers id)) false)
+            (acquirer_row (known_transfer (map.get self.now.transfers id)) (column.Notified told))) [] }
     {
         match row(Role::Acquirer, self.known(id), RowInput::Notified(told)) {
             Row::Move(Status::Completed) if self.holds_some_of(holdings, id) => {
@@ -220,7 +233,8 @@ impl Acquirer {
     /// accepted and hasn't ended. Takes no memory.
     pub fn may_close(&self, account: u64) -> Result<(), Refusal>
         ensures ok { OnOk result ((t : TransactionId) → is_awaited_by account (map.get self.now.transfers t) ≡ false) }
-        ensures err { IfErr result (λ r. (r.code ≡ transfer_accepted) × ((t : TransactionId) × (is_awaited_by account (map.get self.now.transfers t) ≡ true))) }
+        ensures err { IfErr result (λ r. (r.code ≡ transfer_accepted)
+            × ((t : TransactionId) × (is_awaited_by account (map.get self.now.transfers t) ≡ true))) }
     {
         match first_awaited(&self.awaited, account) {
             None => Ok(()),
@@ -238,7 +252,11 @@ impl Acquirer {
         content: Content,
     ) -> Result<(), NoMemory>
         requires { map.get self.old.transfers id ≡ None }
-        ensures ok { OnOk result ((self.new.code ≡ self.old.code) × ((t : TransactionId) → map.get self.new.transfers t ≡ (if same_id id t then Some (record { status = new; content = Some content }) else map.get self.old.transfers t))) }
+        ensures ok { OnOk result ((self.new.code ≡ self.old.code)
+            × ((t : TransactionId)
+            → map.get self.new.transfers t
+            ≡ (if same_id id t then Some
+            (record { status = new; content = Some content }) else map.get self.old.transfers t))) }
         ensures err { OnErr result (self.new ≡ self.old) }
     {
         let transfer = Transfer {
@@ -251,7 +269,11 @@ impl Acquirer {
     /// A transfer that was cancelled before its proposal came. After `NoMemory` nothing has changed.
     pub fn forestall(&mut self, id: TransactionId) -> Result<(), NoMemory>
         requires { map.get self.old.transfers id ≡ None }
-        ensures ok { OnOk result ((self.new.code ≡ self.old.code) × ((t : TransactionId) → map.get self.new.transfers t ≡ (if same_id id t then Some (record { status = words.Cancelled; content = None }) else map.get self.old.transfers t))) }
+        ensures ok { OnOk result ((self.new.code ≡ self.old.code)
+            × ((t : TransactionId)
+            → map.get self.new.transfers t
+            ≡ (if same_id id t then Some
+            (record { status = words.Cancelled; content = None }) else map.get self.old.transfers t))) }
         ensures err { OnErr result (self.new ≡ self.old) }
     {
         let transfer = Transfer {
@@ -264,9 +286,16 @@ impl Acquirer {
     /// The transfer is Completed: its units are in the account that it goes to. After `NoMemory` nothing has changed.
     pub fn complete(&mut self, holdings: &mut Holdings, id: TransactionId) -> Result<(), NoMemory>
         requires { (k : Terms) → kept_content (map.get self.old.transfers id) ≡ Some k → MayCredit holdings.old k }
-        ensures transfers { OnOk result ((self.new.code ≡ self.old.code) × ((t : TransactionId) → map.get self.new.transfers t ≡ (if same_id id t then option_map (finished words.Completed) (map.get self.old.transfers t) else map.get self.old.transfers t))) }
+        ensures transfers { OnOk result ((self.new.code ≡ self.old.code)
+            × ((t : TransactionId)
+            → map.get self.new.transfers t
+            ≡ (if same_id id t then option_map (finished words.Completed)
+            (map.get self.old.transfers t) else map.get self.old.transfers t))) }
         ensures accounts { holdings.new.accounts ≡ holdings.old.accounts }
-        ensures unit_holdings { (k : Terms) → kept_content (map.get self.old.transfers id) ≡ Some k → OnOk result ((blocks : List Block) × (raws blocks ≡ k.units) × ((s : Serial) → map.get holdings.new.unit_holdings s ≡ option_or (option_map (held.free_unit_holding k.to_account) (kind_in blocks s)) (map.get holdings.old.unit_holdings s))) }
+        ensures unit_holdings { (k : Terms) → kept_content (map.get self.old.transfers id) ≡ Some k
+            → OnOk result ((blocks : List Block) × (raws blocks ≡ k.units)
+            × ((s : Serial) → map.get holdings.new.unit_holdings s ≡ option_or (option_map
+            (held.free_unit_holding k.to_account) (kind_in blocks s)) (map.get holdings.old.unit_holdings s))) }
         ensures none { kept_content (map.get self.old.transfers id) ≡ None → holdings.new ≡ holdings.old }
         ensures err { OnErr result ((self.new ≡ self.old) × (holdings.new ≡ holdings.old)) }
     {
@@ -285,7 +314,10 @@ impl Acquirer {
     /// The transfer is Cancelled, and its account awaits it no longer. Takes no memory.
     pub fn cancel(&mut self, id: TransactionId)
         ensures code { self.new.code ≡ self.old.code }
-        ensures transfers { (t : TransactionId) → map.get self.new.transfers t ≡ (if same_id id t then option_map (finished words.Cancelled) (map.get self.old.transfers t) else map.get self.old.transfers t) }
+        ensures transfers { (t : TransactionId)
+            → map.get self.new.transfers t
+            ≡ (if same_id id t then option_map (finished words.Cancelled)
+            (map.get self.old.transfers t) else map.get self.old.transfers t) }
     {
         finish(
             &mut self.transfers,

@@ -22,7 +22,8 @@ pub(crate) struct Awaited {
 
 /// The place of a transfer among those that are awaited, or `None` where it isn't.
 pub(crate) fn awaited_of(id: TransactionId, transfer: &Transfer) -> Option<Awaited>
-    ensures { (q : Awaited) → is_awaited_place q result ≡ (same_id id q.id && is_awaited_by q.account (Some transfer.now)) }
+    ensures { (q : Awaited) → is_awaited_place q result ≡ (same_id id q.id && is_awaited_by q.account
+        (Some transfer.now)) }
 {
     let content = transfer.content.as_ref()?;
     if transfer.status != Status::Accepted {
@@ -39,8 +40,10 @@ pub(crate) fn remember(
     awaited: &mut BTreeSet<Awaited>,
     place: Option<Awaited>,
 ) -> Result<(), NoMemory>
-    ensures ok { OnOk result ((q : Awaited) → contains awaited_cmp awaited.new q ≡ (contains awaited_cmp awaited.old q || is_awaited_place q place)) }
-    ensures err { OnErr result ((q : Awaited) → contains awaited_cmp awaited.new q ≡ contains awaited_cmp awaited.old q) }
+    ensures ok { OnOk result ((q : Awaited)
+        → contains awaited_cmp awaited.new q ≡ (contains awaited_cmp awaited.old q || is_awaited_place q place)) }
+    ensures err { OnErr result ((q : Awaited)
+        → contains awaited_cmp awaited.new q ≡ contains awaited_cmp awaited.old q) }
 {
     if let Some(place) = place {
         awaited.insert(place)?;
@@ -50,7 +53,8 @@ pub(crate) fn remember(
 
 /// The place isn't there any more.
 pub(crate) fn forget(awaited: &mut BTreeSet<Awaited>, place: Option<Awaited>)
-    ensures { (q : Awaited) → contains awaited_cmp awaited.new q ≡ (contains awaited_cmp awaited.old q && not (is_awaited_place q place)) }
+    ensures { (q : Awaited) → contains awaited_cmp awaited.new q ≡ (contains awaited_cmp awaited.old q && not
+        (is_awaited_place q place)) }
 {
     if let Some(place) = place {
         awaited.remove(&place);

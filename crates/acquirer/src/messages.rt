@@ -17,7 +17,8 @@ pub(crate) fn on_proposal(
     id: TransactionId,
     found: Option<AcquirerCodes>,
 ) -> Result<Items<Message>, NoMemory>
-    ensures { IfOk result (λ messages. messages ≡ acquirer_sends code id (codes_in found) (column_of_proposal None (codes_in found))) }
+    ensures { IfOk result (λ messages. messages ≡ acquirer_sends code id (codes_in found) (column_of_proposal None
+        (codes_in found))) }
 {
     let notified = match found {
         None => NotifiedStatus::Accepted,

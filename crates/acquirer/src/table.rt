@@ -21,7 +21,8 @@ fn insert(
     id: TransactionId,
     transfer: Transfer,
 ) -> Result<(), NoMemory>
-    ensures ok { OnOk result ((t : TransactionId) → tree.get id_cmp transfers.new t ≡ (if same_id id t then Some transfer else tree.get id_cmp transfers.old t)) }
+    ensures ok { OnOk result ((t : TransactionId)
+        → tree.get id_cmp transfers.new t ≡ (if same_id id t then Some transfer else tree.get id_cmp transfers.old t)) }
     ensures err { OnErr result (transfers.new.entries ≡ transfers.old.entries) }
 {
     transfers.insert(id, transfer)?;
@@ -37,7 +38,8 @@ pub(crate) fn put(
 ) -> Result<(), NoMemory>
     requires absent { tree.get id_cmp transfers.old id ≡ None }
     requires kept { AreAwaited transfers.old awaited.old }
-    ensures ok { OnOk result ((t : TransactionId) → tree.get id_cmp transfers.new t ≡ (if same_id id t then Some transfer else tree.get id_cmp transfers.old t)) }
+    ensures ok { OnOk result ((t : TransactionId)
+        → tree.get id_cmp transfers.new t ≡ (if same_id id t then Some transfer else tree.get id_cmp transfers.old t)) }
     ensures err { OnErr result (transfers.new.entries ≡ transfers.old.entries) }
     ensures kept { AreAwaited transfers.new awaited.new }
 {
@@ -52,7 +54,8 @@ pub(crate) fn put(
 
 /// The place of the transfer with that identifier among those that are awaited, or `None` where it isn't.
 fn place_in(transfers: &BTreeMap<TransactionId, Transfer>, id: TransactionId) -> Option<Awaited>
-    ensures { (q : Awaited) → is_awaited_place q result ≡ (same_id id q.id && is_awaited_by q.account (tree.get id_cmp transfers.now id)) }
+    ensures { (q : Awaited) → is_awaited_place q result ≡ (same_id id q.id && is_awaited_by q.account
+        (tree.get id_cmp transfers.now id)) }
 {
     match transfers.get(&id) {
         Some(transfer) => awaited_of(id, transfer),
@@ -62,7 +65,10 @@ fn place_in(transfers: &BTreeMap<TransactionId, Transfer>, id: TransactionId) ->
 
 /// The transfer has that status.
 fn set_status(transfers: &mut BTreeMap<TransactionId, Transfer>, id: TransactionId, new: Status)
-    ensures { (t : TransactionId) → tree.get id_cmp transfers.new t ≡ (if same_id id t then option_map (finished new) (tree.get id_cmp transfers.old t) else tree.get id_cmp transfers.old t) }
+    ensures { (t : TransactionId)
+        → tree.get id_cmp transfers.new t
+        ≡ (if same_id id t then option_map (finished new)
+        (tree.get id_cmp transfers.old t) else tree.get id_cmp transfers.old t) }
 {
     if let Some(transfer) = transfers.get_mut(&id) {
         transfer.status = new;
@@ -78,7 +84,10 @@ pub(crate) fn finish(
 )
     requires over { same_status new words.Accepted ≡ false }
     requires kept { AreAwaited transfers.old awaited.old }
-    ensures transfers { (t : TransactionId) → tree.get id_cmp transfers.new t ≡ (if same_id id t then option_map (finished new) (tree.get id_cmp transfers.old t) else tree.get id_cmp transfers.old t) }
+    ensures transfers { (t : TransactionId)
+        → tree.get id_cmp transfers.new t
+        ≡ (if same_id id t then option_map (finished new)
+        (tree.get id_cmp transfers.old t) else tree.get id_cmp transfers.old t) }
     ensures kept { AreAwaited transfers.new awaited.new }
 {
     forget(awaited, place_in(transfers, id));

@@ -1,22 +1,21 @@
 -- Stores that are read one after another: what is known of them after one more.
-use Rattle.std.proofs.Common.{◌≡◌, ◌≢◌, ℕ, ◌+◌, ◌<◌, Bool, List, [], ◌∷◌, ◌++◌, Some, Result, Err, inl, inr, refl, sym, ap, subst, ◌∙◌, length, arith}
+use Rattle.std.proofs.Common.{◌≡◌, ◌≢◌, ℕ, ◌+◌, ◌<◌, List, [], ◌∷◌, ◌++◌, Some, Result, Err, inl, inr, refl, sym, ap, subst, ◌∙◌, length, arith}
 use Rattle.std.specs.Prelude.{slice_get, ◌⊎◌, ◌==◌}
 use Rattle.std.proofs.Math.ListN.{set}
 use Rattle.std.proofs.lemmas.Bool.{cases_Bool, eqb-true, eqb-false}
 use Rattle.units.specs.declared.code.Node.{Node}
-use Rattle.wire.specs.declared.input.Input.{Input}
-use Rattle.scheme.specs.declared.registries.Scheme.{Scheme}
-use Rattle.lemmas.proofs.OneValue.{one_some}
-use Rattle.lemmas.proofs.Positions.{last_at}
-use Rattle.stores.specs.Records.{Places}
+use Rattle.protocol.specs.Input.{Input}
+use Rattle.protocol.specs.Scheme.{Scheme}
+use Rattle.units.proofs.Lists.OneValue.{one_some}
+use Rattle.units.proofs.Lists.Positions.{last_at}
 use Rattle.stores.specs.declared.fault.StoreFault.{StoreFault}
 use Rattle.stores.specs.declared.fault.StoreFault.TheVariants.{Device, Full, Damaged, WrongNode, WrongVersion, Reopen, NoMemory}
 use Rattle.desk.specs.Loading.{IsLoaded}
-use Rattle.inputs.specs.Faults.{of_store}
+use Rattle.command_faults.specs.Faults.{of_store}
 use Rattle.weave.proofs.Lists.{front_get}
-use Rattle.inputs.specs.declared.fault.OpFault.{OpFault}
-use Rattle.inputs.specs.declared.fault.OpFault.TheVariants.{Input as Line, Read, Write, Store, Stuck, Unsettled}
-use Rattle.inputs.specs.declared.fault.OpFault.TheVariants as op
+use Rattle.command_faults.specs.declared.fault.OpFault.{OpFault}
+use Rattle.command_faults.specs.declared.fault.OpFault.TheVariants.{Input as Line, Read, Write, Store, Stuck, Unsettled}
+use Rattle.command_faults.specs.declared.fault.OpFault.TheVariants as op
 use Rattle.stores.specs.declared.node_store.NodeStore.{Ghosts}
 use Rattle.audit.specs.Stores.{AreLoadedTo, AreUnwritten, FailsToLoad, FailsToLoadAt, IsLoadedAs, IsUnwritten}
 use Rattle.weave.proofs.Lists.{set_here, set_other}
@@ -43,8 +42,8 @@ module _ {S : Type 0} (g : Ghosts S) where
         | inr apart ↦ all k o w iso (sym (set_other news at k new apart) ∙ isw)
       ]
 
-module _ {S : Type 0} (is_honest : S → Type 0) (content : S → Places) (may_hold : S → Places → Type 0) (must_reopen : S → Bool) (scheme : Scheme) where
-  pub fails_at : (n : Node) (old new : S) (fault : StoreFault) → IsLoaded is_honest content may_hold must_reopen scheme n old new (Err fault) → FailsToLoadAt is_honest content may_hold must_reopen scheme n old new (of_store n fault)
+module _ {S : Type 0} (g : Ghosts S) (scheme : Scheme) where
+  pub fails_at : (n : Node) (old new : S) (fault : StoreFault) → IsLoaded g scheme n old new (Err fault) → FailsToLoadAt g scheme n old new (of_store n fault)
   fails_at n old new Device l = (refl, (λ e. cc (e)), l)
   fails_at n old new Full l = (refl, (λ e. cc (e)), l)
   fails_at n old new (Damaged p) l = (refl, (λ e. cc (e)), l)
@@ -54,8 +53,8 @@ module _ {S : Type 0} (is_honest : S → Type 0) (content : S → Places) (may_h
   fails_at n old new NoMemory l = tt
 
   pub loaded_more : (ns : List Node) (olds news : List S) (journals : List (List Input)) (at : ℕ) (n : Node) (old new : S) (journal : List Input) → length journals ≡ at → at < length news → slice_get ns at ≡ Some n → slice_get olds at ≡ Some old
-      → IsLoadedAs is_honest content may_hold must_reopen scheme n old new journal → AreLoadedTo is_honest content may_hold must_reopen at scheme ns olds news journals
-      → AreLoadedTo is_honest content may_hold must_reopen (at + 1) scheme ns olds (set news at new) (journals ++ journal ∷ [])
+      → IsLoadedAs g scheme n old new journal → AreLoadedTo g at scheme ns olds news journals
+      → AreLoadedTo g (at + 1) scheme ns olds (set news at new) (journals ++ journal ∷ [])
   loaded_more ns olds news journals at n old new journal count below isn was loaded all k m o w j under ism iso isw isj =
       elim (same_or_not k at) [
         | inl e ↦
@@ -63,10 +62,10 @@ module _ {S : Type 0} (is_honest : S → Type 0) (content : S → Places) (may_h
             let here : Some old ≡ Some o = sym was ∙ subst (λ z. slice_get olds z ≡ Some o) e iso in
             let there : Some new ≡ Some w = sym (set_here news at new below) ∙ subst (λ z. slice_get (set news at new) z ≡ Some w) e isw in
             let last : Some journal ≡ Some j = sym (last_at journals journal) ∙ subst (λ z. slice_get (journals ++ journal ∷ []) z ≡ Some j) (e ∙ sym count) isj in
-            subst (λ z. IsLoadedAs is_honest content may_hold must_reopen scheme z o w j) (one_some n m node)
-            (subst (λ z. IsLoadedAs is_honest content may_hold must_reopen scheme n z w j) (one_some old o here)
-            (subst (λ z. IsLoadedAs is_honest content may_hold must_reopen scheme n old z j) (one_some new w there)
-            (subst (IsLoadedAs is_honest content may_hold must_reopen scheme n old new) (one_some journal j last) loaded)))
+            subst (λ z. IsLoadedAs g scheme z o w j) (one_some n m node)
+            (subst (λ z. IsLoadedAs g scheme n z w j) (one_some old o here)
+            (subst (λ z. IsLoadedAs g scheme n old z j) (one_some new w there)
+            (subst (IsLoadedAs g scheme n old new) (one_some journal j last) loaded)))
         | inr apart ↦
             let before : k < at = omega (arith, under, apart) in
             all k m o w j before ism iso (sym (set_other news at k new apart) ∙ isw) (sym (front_get journals (journal ∷ []) k (omega (arith, before, count))) ∙ isj)
@@ -74,8 +73,8 @@ module _ {S : Type 0} (is_honest : S → Type 0) (content : S → Places) (may_h
 
   -- the store at a place was not read
   pub fails_first : (ns : List Node) (olds news : List S) (journals : List (List Input)) (at : ℕ) (n : Node) (old new : S) → length journals ≡ at → at < length news → slice_get ns at ≡ Some n → slice_get olds at ≡ Some old
-      → AreLoadedTo is_honest content may_hold must_reopen at scheme ns olds news journals → (e : OpFault) → FailsToLoadAt is_honest content may_hold must_reopen scheme n old new e
-      → FailsToLoad is_honest content may_hold must_reopen scheme ns olds (set news at new) e
+      → AreLoadedTo g at scheme ns olds news journals → (e : OpFault) → FailsToLoadAt g scheme n old new e
+      → FailsToLoad g scheme ns olds (set news at new) e
   fails_first ns olds news journals at n old new count below isn was all (Store told fault) f = record {
     at = at;
     old = old;
@@ -86,7 +85,7 @@ module _ {S : Type 0} (is_honest : S → Type 0) (content : S → Places) (may_h
     left = set_here news at new below;
     before = λ k m o w j under ism iso isw isj. all k m o w j under ism iso (sym (set_other news at k new (λ e. omega (arith, under, e))) ∙ isw) isj;
     count = count;
-    cause = (refl, f.1, subst (λ (m : Node). IsLoaded is_honest content may_hold must_reopen scheme m old new (Err fault)) (sym f.0) f.2);
+    cause = (refl, f.1, subst (λ (m : Node). IsLoaded g scheme m old new (Err fault)) (sym f.0) f.2);
   }
   fails_first ns olds news journals at n old new count below isn was all op.NoMemory f = tt
   fails_first ns olds news journals at n old new count below isn was all (Line line cause) f = absurd f

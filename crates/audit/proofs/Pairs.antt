@@ -5,20 +5,20 @@ use Rattle.std.proofs.lemmas.List.{drop_all, map-append, take_all}
 use Rattle.std.proofs.lemmas.List.Elements.{All-cons, All-contains, All-head, All-nil, All-tail}
 use Rattle.std.proofs.lemmas.Option.{slice_get_within}
 use Rattle.units.specs.declared.code.Node.{Node}
-use Rattle.wire.specs.declared.input.Input.{Input}
-use Rattle.scheme.specs.declared.registries.Scheme.{Scheme}
-use Rattle.lemmas.proofs.Membership.{In_slice_get}
-use Rattle.lemmas.proofs.OneValue.{one_some}
-use Rattle.lemmas.proofs.Positions.{contains_in, some_at}
+use Rattle.protocol.specs.Input.{Input}
+use Rattle.protocol.specs.Scheme.{Scheme}
+use Rattle.units.proofs.Lists.Membership.{In_slice_get}
+use Rattle.units.proofs.Lists.OneValue.{one_some}
+use Rattle.units.proofs.Lists.Positions.{contains_in, some_at}
 use Rattle.protocol.specs.Registries.{nodes}
 use Rattle.stores.specs.declared.node_store.NodeStore.{Ghosts}
-use Rattle.desk.specs.Keeping.{IsKept, Keeping}
-use Rattle.desk.specs.Views.{Held, opened_with}
+use Rattle.desk.specs.Keeping.{IsKept, StoredView}
+use Rattle.desk.specs.Views.{StateView, opened_with}
 use Rattle.desk.proofs.Keepings.{kept_loaded}
 use Rattle.world.specs.Cores.{journal_of, node_of, scheme_of}
 use Rattle.world.specs.declared.any_core.Core.{Core}
-use Rattle.inputs.specs.declared.fault.OpFault.{OpFault}
-use Rattle.inputs.specs.declared.fault.OpFault.TheVariants.{Input as Line, Read, Write, Store, Stuck, Unsettled, NoMemory}
+use Rattle.command_faults.specs.declared.fault.OpFault.{OpFault}
+use Rattle.command_faults.specs.declared.fault.OpFault.TheVariants.{Input as Line, Read, Write, Store, Stuck, Unsettled, NoMemory}
 use Rattle.audit.specs.Audits.{FailsToFindRun, FailsToWeave}
 use Rattle.audit.specs.Opened.{opened_core}
 use Rattle.audit.specs.Stores.{AreLoaded, AreUnwritten, FailsToLoad}
@@ -54,7 +54,7 @@ written_back {X} len new items same whole =
 -- ---- faults
 
 module _ {S : Type 0} (g : Ghosts S) (scheme : Scheme) (olds news : List S) where
-  pub load_fault : (e : OpFault) → FailsToLoad g.is_honest g.content g.may_hold g.must_reopen scheme (nodes scheme) olds news e → FailsToFindRun g.is_honest g.content g.may_hold g.must_reopen e scheme olds news
+  pub load_fault : (e : OpFault) → FailsToLoad g scheme (nodes scheme) olds news e → FailsToFindRun g e scheme olds news
   load_fault (Store told fault) h = h
   load_fault NoMemory h = tt
   load_fault (Line line cause) h = absurd h
@@ -63,8 +63,8 @@ module _ {S : Type 0} (g : Ghosts S) (scheme : Scheme) (olds news : List S) wher
   load_fault (Stuck n place) h = absurd h
   load_fault (Unsettled n) h = absurd h
 
-  pub run_fault : (journals : List (List Input)) → AreLoaded g.is_honest g.content g.may_hold g.must_reopen scheme (nodes scheme) olds news journals → (e : OpFault) → FailsToWeave scheme journals e
-      → FailsToFindRun g.is_honest g.content g.may_hold g.must_reopen e scheme olds news
+  pub run_fault : (journals : List (List Input)) → AreLoaded g scheme (nodes scheme) olds news journals → (e : OpFault) → FailsToWeave scheme journals e
+      → FailsToFindRun g e scheme olds news
   run_fault journals loaded (Stuck n place) h = record { journals = journals; loaded = loaded; fault = h }
   run_fault journals loaded NoMemory h = tt
   run_fault journals loaded (Store told fault) h = absurd h
@@ -79,7 +79,7 @@ module _ {S : Type 0} (g : Ghosts S) (scheme : Scheme) (olds news : List S) (bef
   abbrev IsOwn : S → Type 0
   IsOwn s = g.is_honest s → g.must_reopen s ≡ false → g.is_own s
 
-  pub paired : AreLoaded g.is_honest g.content g.may_hold g.must_reopen scheme (nodes scheme) olds news (map journal_of before) → AreUnwritten g olds news
+  pub paired : AreLoaded g scheme (nodes scheme) olds news (map journal_of before) → AreUnwritten g olds news
       → map node_of after ≡ nodes scheme → All (λ core. scheme_of core ≡ scheme) after → map journal_of after ≡ map journal_of before
       → map g.whose olds ≡ nodes scheme → All IsOwn olds → length news ≡ length olds
       → (k : ℕ) (core : Core) (store : S) → slice_get after k ≡ Some core → slice_get news k ≡ Some store → IsKept g (record { state = opened_core core; store = store })
@@ -99,8 +99,8 @@ module _ {S : Type 0} (g : Ghosts S) (scheme : Scheme) (olds news : List S) (bef
 
 -- ---- what the pairs are, by what the cores are
 
-module _ {S : Type 0} (scheme : Scheme) (cores : List Core) (pairs : List (Keeping S)) (are : map (λ p. p.state) pairs ≡ map opened_core cores) where
-  images : {Y : Type 0} (f : Held → Y) (h : Core → Y) → ((c : Core) → f (opened_core c) ≡ h c) → (ps : List (Keeping S)) (cs : List Core) → map (λ p. p.state) ps ≡ map opened_core cs → map (λ p. f p.state) ps ≡ map h cs
+module _ {S : Type 0} (scheme : Scheme) (cores : List Core) (pairs : List (StoredView S)) (are : map (λ p. p.state) pairs ≡ map opened_core cores) where
+  images : {Y : Type 0} (f : StateView → Y) (h : Core → Y) → ((c : Core) → f (opened_core c) ≡ h c) → (ps : List (StoredView S)) (cs : List Core) → map (λ p. p.state) ps ≡ map opened_core cs → map (λ p. f p.state) ps ≡ map h cs
   images f h same [] [] is = refl
   images f h same [] (c ∷ cs) is = absurd (cc (is))
   images f h same (p ∷ ps) [] is = absurd (cc (is))
@@ -115,18 +115,18 @@ module _ {S : Type 0} (scheme : Scheme) (cores : List Core) (pairs : List (Keepi
   pub journals_paired : map (λ p. p.state.journal) pairs ≡ map journal_of cores
   journals_paired = images (λ h. h.journal) journal_of (λ c. refl) pairs cores are
 
-  abbrev IsOpened : Held → Type 0
+  abbrev IsOpened : StateView → Type 0
   IsOpened h = h ≡ opened_with scheme h.node h.journal
 
-  each_opened : (ps : List (Keeping S)) (cs : List Core) → map (λ p. p.state) ps ≡ map opened_core cs → All (λ core. scheme_of core ≡ scheme) cs → All (λ p. IsOpened p.state) ps
-  each_opened [] cs is all = All-nil (λ (p : Keeping S). IsOpened p.state)
+  each_opened : (ps : List (StoredView S)) (cs : List Core) → map (λ p. p.state) ps ≡ map opened_core cs → All (λ core. scheme_of core ≡ scheme) cs → All (λ p. IsOpened p.state) ps
+  each_opened [] cs is all = All-nil (λ (p : StoredView S). IsOpened p.state)
   each_opened (p ∷ ps) [] is all = absurd (cc (is))
   each_opened (p ∷ ps) (c ∷ cs) is all =
       let first : p.state ≡ opened_core c = cc (is) in
       let rest : map (λ q. q.state) ps ≡ map opened_core cs = cc (is) in
       let goes_by = All-head (λ (k : Core). scheme_of k ≡ scheme) c cs all in
       let here : IsOpened p.state = subst IsOpened (sym first) (ap (λ (s : Scheme). opened_with s (node_of c) (journal_of c)) goes_by) in
-      All-cons (λ (q : Keeping S). IsOpened q.state) p ps here (each_opened ps cs rest (All-tail (λ (k : Core). scheme_of k ≡ scheme) c cs all))
+      All-cons (λ (q : StoredView S). IsOpened q.state) p ps here (each_opened ps cs rest (All-tail (λ (k : Core). scheme_of k ≡ scheme) c cs all))
 
   pub opened_paired : All (λ core. scheme_of core ≡ scheme) cores → All (λ p. IsOpened p.state) pairs
   opened_paired all = each_opened pairs cores are all

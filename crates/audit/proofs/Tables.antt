@@ -1,13 +1,13 @@
 -- The table of a woven world, and why there is none.
 use Rattle.std.proofs.Common.{◌≡◌, ◌∙◌, ◌++◌, ℕ, List, [], ap, sym, subst}
-use Rattle.wire.specs.declared.input.Input.{Input}
-use Rattle.scheme.specs.declared.registries.Scheme.{Scheme}
+use Rattle.protocol.specs.Input.{Input}
+use Rattle.protocol.specs.Scheme.{Scheme}
 use Rattle.protocol.specs.Weave.{Projects}
 use Rattle.protocol.specs.declared.event.WorldEvent.{WorldEvent}
 use Rattle.weave.specs.Following.{IsWeaveFault, journal_of}
 use Rattle.weave.specs.declared.fault.WeaveFault.{WeaveFault}
 use Rattle.weave.specs.declared.fault.WeaveFault.TheVariants.{Stuck, NoMemory}
-use Rattle.tables.specs.Table.{IsSafeTable}
+use Rattle.report.specs.Table.{IsSafeTable}
 use Rattle.audit.specs.Audits.{FailsToWeave, IsAuditTable, of_weaving}
 
 -- the table of the world that the events lead to, added to an empty text

@@ -9,9 +9,9 @@ use Rattle.units.proofs.Same.{node_of_same, same_node-refl}
 use Rattle.units.specs.Apart.{Pairwise}
 use Rattle.units.specs.Code.{same_node}
 use Rattle.units.specs.declared.code.Node.{Node}
-use Rattle.wire.specs.declared.input.Input.{Input}
-use Rattle.scheme.specs.declared.registries.Scheme.{Scheme}
-use Rattle.lemmas.proofs.FirstPlaces.{place_later}
+use Rattle.protocol.specs.Input.{Input}
+use Rattle.protocol.specs.Scheme.{Scheme}
+use Rattle.units.proofs.Lists.FirstPlaces.{place_later}
 use Rattle.protocol.specs.Claims.{committed_part, whole}
 use Rattle.protocol.specs.Registries.{nodes}
 use Rattle.protocol.specs.Weave.{Projects, uncommitted}

@@ -1,19 +1,19 @@
 -- What an audit finds.
-use Rattle.std.specs.Prelude.{◌<◌, ℕ, Bool, List, Option, length, take}
+use Rattle.std.specs.Prelude.{◌<◌, ℕ, List, Option, length, take}
 use Rattle.std.specs.Io.KnownBytes.{Appends, Keeps}
 use Rattle.units.specs.declared.code.Node.{Node}
-use Rattle.wire.specs.declared.input.Input.{Input}
-use Rattle.scheme.specs.declared.registries.Scheme.{Scheme}
+use Rattle.protocol.specs.Input.{Input}
+use Rattle.protocol.specs.Scheme.{Scheme}
 use Rattle.protocol.specs.Registries.{nodes}
 use Rattle.protocol.specs.Weave.{Projects}
 use Rattle.protocol.specs.declared.event.WorldEvent.{WorldEvent}
-use Rattle.stores.specs.Records.{Places}
+use Rattle.stores.specs.declared.node_store.NodeStore.{Ghosts}
 use Rattle.weave.specs.Following.{IsWeaveFault, journal_of}
 use Rattle.weave.specs.declared.fault.WeaveFault.{WeaveFault}
 use Rattle.weave.specs.declared.fault.WeaveFault.TheVariants as weaving
-use Rattle.tables.specs.Table.{IsSafeTable}
-use Rattle.inputs.specs.declared.fault.OpFault.{OpFault}
-use Rattle.inputs.specs.declared.fault.OpFault.TheVariants.{Write, Store, Stuck, NoMemory}
+use Rattle.report.specs.Table.{IsSafeTable}
+use Rattle.command_faults.specs.declared.fault.OpFault.{OpFault}
+use Rattle.command_faults.specs.declared.fault.OpFault.TheVariants.{Write, Store, Stuck, NoMemory}
 use Rattle.audit.specs.Stores.{AreLoaded, FailsToLoad}
 
 -- the text is the table of the world that some events lead to, whose committed journals are these
@@ -38,30 +38,30 @@ FailsToWeave scheme journals (Stuck n place) = IsWeaveFault scheme (journal_of s
 FailsToWeave scheme journals NoMemory = Unit {0}
 FailsToWeave scheme journals _ = ⊥
 
-module _ {S : Type 0} (is_honest : S → Type 0) (content : S → Places) (may_hold : S → Places → Type 0) (must_reopen : S → Bool) where
+module _ {S : Type 0} (g : Ghosts S) where
   -- the stores were read, and the table is that of a run that leads to their records
   pub record Audits (scheme : Scheme) (olds news : List S) (table : List ℕ) : Type 0 where
     pub journals : List (List Input)
-    pub loaded : AreLoaded is_honest content may_hold must_reopen scheme (nodes scheme) olds news journals
+    pub loaded : AreLoaded g scheme (nodes scheme) olds news journals
     pub is_table : IsAuditTable scheme journals table
 
   -- the stores were read, and no run leads to their records
   pub record FindsNoRun (scheme : Scheme) (olds news : List S) (n : Node) (place : ℕ) : Type 0 where
     pub journals : List (List Input)
-    pub loaded : AreLoaded is_honest content may_hold must_reopen scheme (nodes scheme) olds news journals
+    pub loaded : AreLoaded g scheme (nodes scheme) olds news journals
     pub fault : IsWeaveFault scheme (journal_of scheme journals) (weaving.Stuck n place)
 
   -- the stores were not read, or no run leads to their records
   abbrev pub FailsToFindRun : OpFault → Scheme → List S → List S → Type 0
   FailsToFindRun (Stuck n place) scheme olds news = FindsNoRun scheme olds news n place
-  FailsToFindRun (Store told fault) scheme olds news = FailsToLoad is_honest content may_hold must_reopen scheme (nodes scheme) olds news (Store told fault)
+  FailsToFindRun (Store told fault) scheme olds news = FailsToLoad g scheme (nodes scheme) olds news (Store told fault)
   FailsToFindRun NoMemory scheme olds news = Unit {0}
   FailsToFindRun _ scheme olds news = ⊥
 
   -- nothing was written, or the first bytes of the table, fewer than all
   abbrev pub FailsToAudit : OpFault → Scheme → List S → List S → (before after : Option (List ℕ)) → Type 0
   FailsToAudit (Stuck n place) scheme olds news v w = FindsNoRun scheme olds news n place × Keeps v w
-  FailsToAudit (Store told fault) scheme olds news v w = FailsToLoad is_honest content may_hold must_reopen scheme (nodes scheme) olds news (Store told fault) × Keeps v w
+  FailsToAudit (Store told fault) scheme olds news v w = FailsToLoad g scheme (nodes scheme) olds news (Store told fault) × Keeps v w
   FailsToAudit (Write count) scheme olds news v w = (table : List ℕ) × Audits scheme olds news table × (count < length table) × Appends v w (take count table)
   FailsToAudit NoMemory scheme olds news v w = Keeps v w
   FailsToAudit _ scheme olds news v w = ⊥

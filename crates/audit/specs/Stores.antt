@@ -1,16 +1,15 @@
 -- The stores of all nodes, read.
-use Rattle.std.specs.Prelude.{◌≡◌, ◌≢◌, ◌<◌, ℕ, Bool, false, List, Ok, Err, Some, length, slice_get}
+use Rattle.std.specs.Prelude.{◌≡◌, ◌≢◌, ◌<◌, ℕ, false, List, Ok, Err, Some, length, slice_get}
 use Rattle.units.specs.declared.code.Node.{Node}
-use Rattle.wire.specs.declared.input.Input.{Input}
-use Rattle.scheme.specs.declared.registries.Scheme.{Scheme}
+use Rattle.protocol.specs.Input.{Input}
+use Rattle.protocol.specs.Scheme.{Scheme}
 use Rattle.protocol.specs.Cores.{Replays}
-use Rattle.stores.specs.Records.{Places}
 use Rattle.stores.specs.declared.fault.StoreFault.{StoreFault}
 use Rattle.stores.specs.declared.node_store.NodeStore.{Ghosts}
 use Rattle.stores.specs.declared.fault.StoreFault.TheVariants as store_fault
 use Rattle.desk.specs.Loading.{IsLoaded}
-use Rattle.inputs.specs.declared.fault.OpFault.{OpFault}
-use Rattle.inputs.specs.declared.fault.OpFault.TheVariants.{Store, NoMemory}
+use Rattle.command_faults.specs.declared.fault.OpFault.{OpFault}
+use Rattle.command_faults.specs.declared.fault.OpFault.TheVariants.{Store, NoMemory}
 
 -- nothing was written to the store
 pub record IsUnwritten {S : Type 0} (g : Ghosts S) (old new : S) : Type 0 where
@@ -24,10 +23,10 @@ AreUnwritten {S} g olds news = (k : ℕ) (old new : S) → slice_get olds k ≡ 
 
 -- the store is honest; what each place has while it runs; what a crash or a reopening may find; a fault stopped it, and
 -- it must be reopened first
-module _ {S : Type 0} (is_honest : S → Type 0) (content : S → Places) (may_hold : S → Places → Type 0) (must_reopen : S → Bool) where
+module _ {S : Type 0} (g : Ghosts S) where
   -- the node's store was read, its records are that journal, and the node records each after those before it
   abbrev pub IsLoadedAs : Scheme → Node → S → S → List Input → Type 0
-  IsLoadedAs scheme n old new journal = Replays scheme n journal × IsLoaded is_honest content may_hold must_reopen scheme n old new (Ok journal)
+  IsLoadedAs scheme n old new journal = Replays scheme n journal × IsLoaded g scheme n old new (Ok journal)
 
   -- the stores of the first nodes were read, and their records are these journals
   abbrev pub AreLoadedTo : ℕ → Scheme → List Node → List S → List S → List (List Input) → Type 0
@@ -42,7 +41,7 @@ module _ {S : Type 0} (is_honest : S → Type 0) (content : S → Places) (may_h
 
   -- why the node's store was not read
   abbrev pub FailsToLoadAt : Scheme → Node → S → S → OpFault → Type 0
-  FailsToLoadAt scheme n old new (Store told fault) = (told ≡ n) × (fault ≢ store_fault.NoMemory) × IsLoaded is_honest content may_hold must_reopen scheme n old new (Err fault)
+  FailsToLoadAt scheme n old new (Store told fault) = (told ≡ n) × (fault ≢ store_fault.NoMemory) × IsLoaded g scheme n old new (Err fault)
   FailsToLoadAt scheme n old new NoMemory = Unit {0}
   FailsToLoadAt scheme n old new _ = ⊥
 

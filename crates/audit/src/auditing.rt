@@ -5,19 +5,19 @@ ghost use Rattle.world.specs.Cores as node_cores;
 ghost use Rattle.audit.specs.Audits.{Audits, FailsToAudit, FailsToFindRun, FailsToWeave, HasRun, IsAuditTable, of_weaving};
 ghost use Rattle.audit.specs.Stores.{AreLoaded, AreUnwritten, FailsToLoad};
 ghost use Rattle.desk.specs.Views.{opened_with};
-ghost use Rattle.scheme.specs.declared.registries.Scheme.{Scheme};
+ghost use Rattle.protocol.specs.Scheme.{Scheme};
 ghost use Rattle.weave.specs.Following.{IsWeaveFault, IsWoven, journal_of};
-ghost use Rattle.wire.specs.declared.input.Input.{Input};
+ghost use Rattle.protocol.specs.Input.{Input};
 ghost use Rattle.protocol.specs.Registries.{nodes};
 
 use crate::loading::{load_cores, pair_up};
+use command_faults::{OpFault, write_out};
 use desk::Stored;
-use inputs::{OpFault, write_out};
-use scheme::Scheme;
+use protocol::scheme::Scheme;
+use report::push_table;
 use std::alloc::Global;
 use std::io::Write;
 use stores::NodeStore;
-use tables::push_table;
 use weave::{Nobody, Watch, WeaveFault, Woven, weave_cores};
 use world::Core;
 
@@ -33,8 +33,11 @@ fn fault_of(fault: WeaveFault) -> OpFault
 
 /// The table of what was woven, or what its fault is to the command.
 fn table_of_woven(alloc: Global, woven: Result<Woven, WeaveFault>) -> Result<String, OpFault>
-    ensures ok { (scheme : Scheme) (journals : List (List Input)) → IfOk woven (λ w. IsWoven scheme (journal_of scheme journals) w.events.items w.world) → IfOk result (λ s. IsAuditTable scheme journals (string_bytes s)) }
-    ensures err { (scheme : Scheme) (journals : List (List Input)) → IfErr woven (IsWeaveFault scheme (journal_of scheme journals)) → IfErr result (FailsToWeave scheme journals) }
+    ensures ok { (scheme : Scheme) (journals : List (List Input))
+        → IfOk woven (λ w. IsWoven scheme (journal_of scheme journals) w.events.items w.world)
+        → IfOk result (λ s. IsAuditTable scheme journals (string_bytes s)) }
+    ensures err { (scheme : Scheme) (journals : List (List Input))
+        → IfErr woven (IsWeaveFault scheme (journal_of scheme journals)) → IfErr result (FailsToWeave scheme journals) }
 {
     match woven {
         Ok(woven) => {
@@ -68,11 +71,20 @@ pub fn table_of_cores<P: Watch>(
 
 /// The cores of the world that was woven of these journals, each with its journal, or what the fault is to the command.
 fn cores_of_woven(woven: Result<Woven, WeaveFault>) -> Result<Vec<Core>, OpFault>
-    ensures run { (scheme : Scheme) (journals : List (List Input)) → length journals ≡ length (nodes scheme) → IfOk woven (λ w. IsWoven scheme (journal_of scheme journals) w.events.items w.world) → OnOk result (HasRun scheme journals) }
-    ensures nodes { (scheme : Scheme) (journals : List (List Input)) → IfOk woven (λ w. IsWoven scheme (journal_of scheme journals) w.events.items w.world) → IfOk result (λ v. map node_cores.node_of v.items ≡ nodes scheme) }
-    ensures schemes { (scheme : Scheme) (journals : List (List Input)) → IfOk woven (λ w. IsWoven scheme (journal_of scheme journals) w.events.items w.world) → IfOk result (λ v. All (λ core. node_cores.scheme_of core ≡ scheme) v.items) }
-    ensures journals { (scheme : Scheme) (journals : List (List Input)) → length journals ≡ length (nodes scheme) → IfOk woven (λ w. IsWoven scheme (journal_of scheme journals) w.events.items w.world) → IfOk result (λ v. map node_cores.journal_of v.items ≡ journals) }
-    ensures err { (scheme : Scheme) (journals : List (List Input)) → IfErr woven (IsWeaveFault scheme (journal_of scheme journals)) → IfErr result (FailsToWeave scheme journals) }
+    ensures run { (scheme : Scheme) (journals : List (List Input)) → length journals ≡ length (nodes scheme)
+        → IfOk woven (λ w. IsWoven scheme (journal_of scheme journals) w.events.items w.world)
+        → OnOk result (HasRun scheme journals) }
+    ensures nodes { (scheme : Scheme) (journals : List (List Input))
+        → IfOk woven (λ w. IsWoven scheme (journal_of scheme journals) w.events.items w.world)
+        → IfOk result (λ v. map node_cores.node_of v.items ≡ nodes scheme) }
+    ensures schemes { (scheme : Scheme) (journals : List (List Input))
+        → IfOk woven (λ w. IsWoven scheme (journal_of scheme journals) w.events.items w.world)
+        → IfOk result (λ v. All (λ core. node_cores.scheme_of core ≡ scheme) v.items) }
+    ensures journals { (scheme : Scheme) (journals : List (List Input)) → length journals ≡ length (nodes scheme)
+        → IfOk woven (λ w. IsWoven scheme (journal_of scheme journals) w.events.items w.world)
+        → IfOk result (λ v. map node_cores.journal_of v.items ≡ journals) }
+    ensures err { (scheme : Scheme) (journals : List (List Input))
+        → IfErr woven (IsWeaveFault scheme (journal_of scheme journals)) → IfErr result (FailsToWeave scheme journals) }
 {
     match woven {
         Ok(woven) => {
@@ -104,8 +116,8 @@ fn find_run<P: Watch>(
 }
 
 /// Reads the stores, one for each node: the log's, then those of the registries in the scheme's order. Where a run
-/// leads to all their records, returns each with the state that its records lead to, which runs. Tells of the records as
-/// they are read and woven.
+/// leads to all their records, returns each with the state that its records lead to, which runs. Tells of the records
+/// as they are read and woven.
 ///
 /// The stores are read by pages, and nothing is written to them. Each record is taken once.
 ///
@@ -122,11 +134,15 @@ pub fn load_run<S: NodeStore + Drop, P: Watch>(
     requires whose { map S.whose stores.items ≡ nodes scheme.now }
     requires own { All (λ s. S.is_honest s → S.must_reopen s ≡ false → S.is_own s) stores.items }
     ensures nodes { IfOk result (λ v. map (λ s. s.state.node) v.items ≡ nodes scheme.now) }
-    ensures opened { IfOk result (λ v. All (λ s. s.state ≡ opened_with scheme.now s.state.node s.state.journal) v.items) }
-    ensures loaded { IfOk result (λ v. AreLoaded S.is_honest S.content S.may_hold S.must_reopen scheme.now (nodes scheme.now) stores.items (map (λ s. s.store) v.items) (map (λ s. s.state.journal) v.items)) }
+    ensures opened { IfOk result
+        (λ v. All (λ s. s.state ≡ opened_with scheme.now s.state.node s.state.journal) v.items) }
+    ensures loaded { IfOk result
+        (λ v. AreLoaded S.NodeStore scheme.now (nodes scheme.now) stores.items (map (λ s. s.store) v.items)
+        (map (λ s. s.state.journal) v.items)) }
     ensures unwritten { IfOk result (λ v. AreUnwritten S.NodeStore stores.items (map (λ s. s.store) v.items)) }
     ensures run { IfOk result (λ v. HasRun scheme.now (map (λ s. s.state.journal) v.items)) }
-    ensures err { IfErr result (λ e. (left : List S) × FailsToFindRun S.is_honest S.content S.may_hold S.must_reopen e scheme.now stores.items left × AreUnwritten S.NodeStore stores.items left) }
+    ensures err { IfErr result (λ e. (left : List S) × FailsToFindRun S.NodeStore e scheme.now stores.items left
+        × AreUnwritten S.NodeStore stores.items left) }
 {
     let cores = match load_cores(alloc, scheme, stores.as_mut_slice(), watch) {
         Ok(cores) => cores,
@@ -160,8 +176,9 @@ pub fn read_first<S: NodeStore>(
     stores: &mut [S],
 ) -> Result<(), OpFault>
     requires { length stores.old ≤ length (nodes scheme.now) }
-    ensures ok { OnOk result ((journals : List (List Input)) × AreLoaded S.is_honest S.content S.may_hold S.must_reopen scheme.now (nodes scheme.now) stores.old stores.new journals) }
-    ensures err { IfErr result (FailsToLoad S.is_honest S.content S.may_hold S.must_reopen scheme.now (nodes scheme.now) stores.old stores.new) }
+    ensures ok { OnOk result ((journals : List (List Input))
+        × AreLoaded S.NodeStore scheme.now (nodes scheme.now) stores.old stores.new journals) }
+    ensures err { IfErr result (FailsToLoad S.NodeStore scheme.now (nodes scheme.now) stores.old stores.new) }
     ensures unwritten { AreUnwritten S.NodeStore stores.old stores.new }
 {
     let _cores = load_cores(alloc, scheme, stores, &mut Nobody)?;
@@ -190,8 +207,11 @@ pub fn audit<S: NodeStore, W: Write>(
     writer: &mut W,
 ) -> Result<(), OpFault>
     requires { length stores.old ≡ length (nodes scheme.now) }
-    ensures ok { OnOk result ((table : List ℕ) × Audits S.is_honest S.content S.may_hold S.must_reopen scheme.now stores.old stores.new table × Appends (W.contents writer.old) (W.contents writer.new) table) }
-    ensures err { IfErr result (λ e. FailsToAudit S.is_honest S.content S.may_hold S.must_reopen e scheme.now stores.old stores.new (W.contents writer.old) (W.contents writer.new)) }
+    ensures ok { OnOk result ((table : List ℕ) × Audits S.NodeStore scheme.now stores.old stores.new table
+        × Appends (W.contents writer.old) (W.contents writer.new) table) }
+    ensures err { IfErr result
+        (λ e. FailsToAudit S.NodeStore e scheme.now stores.old stores.new (W.contents writer.old)
+        (W.contents writer.new)) }
     ensures unwritten { AreUnwritten S.NodeStore stores.old stores.new }
 {
     audit_watched(alloc, scheme, stores, writer, &mut Nobody)
@@ -210,8 +230,11 @@ pub fn audit_watched<S: NodeStore, W: Write, P: Watch>(
     watch: &mut P,
 ) -> Result<(), OpFault>
     requires { length stores.old ≡ length (nodes scheme.now) }
-    ensures ok { OnOk result ((table : List ℕ) × Audits S.is_honest S.content S.may_hold S.must_reopen scheme.now stores.old stores.new table × Appends (W.contents writer.old) (W.contents writer.new) table) }
-    ensures err { IfErr result (λ e. FailsToAudit S.is_honest S.content S.may_hold S.must_reopen e scheme.now stores.old stores.new (W.contents writer.old) (W.contents writer.new)) }
+    ensures ok { OnOk result ((table : List ℕ) × Audits S.NodeStore scheme.now stores.old stores.new table
+        × Appends (W.contents writer.old) (W.contents writer.new) table) }
+    ensures err { IfErr result
+        (λ e. FailsToAudit S.NodeStore e scheme.now stores.old stores.new (W.contents writer.old)
+        (W.contents writer.new)) }
     ensures unwritten { AreUnwritten S.NodeStore stores.old stores.new }
 {
     let cores = load_cores(alloc, scheme, stores, watch)?;

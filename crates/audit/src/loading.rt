@@ -6,10 +6,10 @@ ghost use Rattle.audit.specs.Opened.{opened_core};
 ghost use Rattle.desk.specs.Keeping.{IsKept};
 ghost use Rattle.world.specs.Cores.{journal_of, node_of, scheme_of};
 
+use command_faults::{OpFault, store_fault};
 use desk::{State, Stored};
-use inputs::{OpFault, store_fault};
+use protocol::scheme::Scheme;
 use protocol::{NodeCore, node_at};
-use scheme::Scheme;
 use std::alloc::Global;
 use stores::NodeStore;
 use units::{NoMemory, Node};
@@ -23,10 +23,10 @@ fn load_one<S: NodeStore>(
     node: Node,
     store: &mut S,
 ) -> Result<Core, OpFault>
-    ensures ok { IfOk result (λ core. IsLoadedAs S.is_honest S.content S.may_hold S.must_reopen scheme.now node store.old store.new (journal_of core)) }
+    ensures ok { IfOk result (λ core. IsLoadedAs S.NodeStore scheme.now node store.old store.new (journal_of core)) }
     ensures scheme { IfOk result (λ core. scheme_of core ≡ scheme.now) }
     ensures node { IfOk result (λ core. node_of core ≡ node) }
-    ensures err { IfErr result (FailsToLoadAt S.is_honest S.content S.may_hold S.must_reopen scheme.now node store.old store.new) }
+    ensures err { IfErr result (FailsToLoadAt S.NodeStore scheme.now node store.old store.new) }
     ensures unwritten { IsUnwritten S.NodeStore store.old store.new }
 {
     let core = Core::new(alloc, scheme, node)?;
@@ -57,10 +57,11 @@ pub(crate) fn load_cores<S: NodeStore, P: Watch>(
     watch: &mut P,
 ) -> Result<Vec<Core>, OpFault>
     requires { length stores.old ≤ length (nodes scheme.now) }
-    ensures ok { IfOk result (λ v. AreLoaded S.is_honest S.content S.may_hold S.must_reopen scheme.now (nodes scheme.now) stores.old stores.new (map journal_of v.items)) }
+    ensures ok { IfOk result (λ v. AreLoaded S.NodeStore scheme.now (nodes scheme.now) stores.old stores.new
+        (map journal_of v.items)) }
     ensures nodes { IfOk result (λ v. map node_of v.items ≡ take (length stores.old) (nodes scheme.now)) }
     ensures schemes { IfOk result (λ v. All (λ core. scheme_of core ≡ scheme.now) v.items) }
-    ensures err { IfErr result (FailsToLoad S.is_honest S.content S.may_hold S.must_reopen scheme.now (nodes scheme.now) stores.old stores.new) }
+    ensures err { IfErr result (FailsToLoad S.NodeStore scheme.now (nodes scheme.now) stores.old stores.new) }
     ensures unwritten { AreUnwritten S.NodeStore stores.old stores.new }
 {
     let mut cores = Vec::new(alloc);
@@ -84,7 +85,9 @@ pub(crate) fn pair_up<S: NodeStore + Drop>(
     stores: Vec<S>,
 ) -> Result<Vec<Stored<Core, S>>, NoMemory>
     requires count { length stores.items ≡ length cores.items }
-    requires kept { (k : ℕ) (core : Core) (store : S) → slice_get cores.items k ≡ Some core → slice_get stores.items k ≡ Some store → IsKept S.NodeStore (record { state = opened_core core; store = store }) }
+    requires kept { (k : ℕ) (core : Core) (store : S) → slice_get cores.items k ≡ Some core
+        → slice_get stores.items k ≡ Some store
+        → IsKept S.NodeStore (record { state = opened_core core; store = store }) }
     ensures states { IfOk result (λ v. map (λ s. s.state) v.items ≡ map opened_core cores.items) }
     ensures stores { IfOk result (λ v. map (λ s. s.store) v.items ≡ stores.items) }
 {

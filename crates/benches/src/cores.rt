@@ -9,14 +9,14 @@ use crate::log_rounds::{
 use crate::rounds::{Nodes, account_orders, rounds_of};
 use crate::work::{Inputs, Taken};
 use log_core::LogCore;
+use protocol::scheme::Scheme;
+use protocol::units::Code;
+use protocol::wire::Input;
 use protocol::{NodeCore, Stepped};
 use registry_core::RegistryCore;
-use scheme::Scheme;
 use std::alloc::Global;
 use std::rt::Clock;
 use std::time::Instant;
-use units::Code;
-use wire::Input;
 
 /// As many records as a scheme allows. All units are in account 2 of NZ.
 const SCHEME: &str =

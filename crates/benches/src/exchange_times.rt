@@ -3,10 +3,13 @@
 use crate::fault::Fault;
 use crate::nz::{code, in_memory};
 use crate::work::one;
-use answers::{DeskAnswerer, WallClock};
-use desk::{Desk, RoomBell, Seat};
+use desk::stores::MemoryStore;
+use desk::{Desk, RoomBell, Seat, WallClock};
 use exchanges::{Counted, Exchange, exchange, serve_session};
+use protocol::units::Node;
+use protocol::wire::{Message, Reply, decode};
 use registry_core::RegistryCore;
+use replies::DeskAnswerer;
 use sessions::{Accepted, Dial, Listen};
 use sockets::{Port, Ports};
 use std::alloc::Global;
@@ -18,9 +21,6 @@ use std::sync::Wait;
 use std::thread;
 use std::thread::Threads;
 use std::time::{Duration, Instant};
-use stores::MemoryStore;
-use units::Node;
-use wire::{Message, Reply, decode};
 
 /// A message about a transfer that the registry never proposed.
 const COMPLETED: &str =

@@ -1,12 +1,12 @@
 //! Why nothing is measured, or no more.
 
 use desk::Unsettled;
-use scheme::SchemeFault;
+use desk::stores::StoreFault;
+use protocol::scheme::SchemeFault;
+use protocol::units::{BlockFault, NoMemory, Refusal};
 use std::alloc::{AllocError, AllocFailed};
 use std::io;
-use stores::StoreFault;
 use thiserror::Error;
-use units::{BlockFault, NoMemory, Refusal};
 
 /// Why nothing is measured, or no more.
 #[derive(Debug, Drop, Error)]

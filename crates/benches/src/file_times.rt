@@ -4,12 +4,12 @@ ghost use Rattle.std.specs.Prelude.{◌<◌};
 
 use crate::fault::Fault;
 use crate::nz::{code, file_store, order_of};
+use desk::stores::NodeStore;
+use protocol::units::RawBlock;
+use protocol::wire::Input;
 use std::alloc::Global;
 use std::rt::Clock;
 use std::time::{Duration, Instant};
-use stores::NodeStore;
-use units::RawBlock;
-use wire::Input;
 
 /// The block of the order that each record is.
 const BLOCK: &str = "NZ:1:1-100:AAU";

@@ -2,10 +2,10 @@
 
 use crate::fault::Fault;
 use crate::rounds::{MOMENT, ack_of, block_of, received};
-use status::{Content, Moment, TransactionId};
+use protocol::status::{Content, Moment, TransactionId};
+use protocol::units::{Code, Items, Node};
+use protocol::wire::{Input, Message, Notification, NotifiedStatus, Proposal, ProposalStatus};
 use std::alloc::Global;
-use units::{Code, Items, Node};
-use wire::{Input, Message, Notification, NotifiedStatus, Proposal, ProposalStatus};
 
 /// How many registries the scheme has.
 pub const REGISTRIES: u32 = 31;

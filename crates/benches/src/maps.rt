@@ -2,10 +2,10 @@
 
 use crate::fault::Fault;
 use crate::work::Taken;
+use protocol::units::{Block, Code, Kind, Period, UnitMap, overlaps};
 use std::alloc::Global;
 use std::rt::Clock;
 use std::time::Instant;
-use units::{Block, Code, Kind, Period, UnitMap, overlaps};
 
 /// How often the blocks of a call are given another kind.
 const CALLS: u32 = 10_000;

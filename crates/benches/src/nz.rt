@@ -4,16 +4,16 @@ ghost use Rattle.std.specs.Prelude.{◌≡◌, [], true, false, IfOk};
 
 use crate::fault::Fault;
 use desk::Stored;
-use durable::SqlStore;
+use desk::stores::{MemoryStore, NodeStore};
 use protocol::NodeCore;
+use protocol::scheme::Scheme;
+use protocol::status::Order;
+use protocol::units::{Code, Items, Node, RawBlock};
+use protocol::wire::Input;
 use registry_core::RegistryCore;
-use scheme::Scheme;
 use sqlite::File;
-use status::Order;
 use std::alloc::Global;
-use stores::{MemoryStore, NodeStore};
-use units::{Code, Items, Node, RawBlock};
-use wire::Input;
+use store_files::durable::SqlStore;
 
 /// A scheme of NZ and JP.
 const SCHEME: &str =

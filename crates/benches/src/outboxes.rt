@@ -3,12 +3,12 @@
 use crate::fault::Fault;
 use crate::work::Taken;
 use outbox::Outbox;
-use status::TransactionId;
+use protocol::status::TransactionId;
+use protocol::units::{Code, Node};
+use protocol::wire::{Message, Request};
 use std::alloc::Global;
 use std::rt::Clock;
 use std::time::Instant;
-use units::{Code, Node};
-use wire::{Message, Request};
 
 /// How often the next message that waits is looked for.
 const CALLS: u32 = 10_000;

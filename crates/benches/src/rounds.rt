@@ -1,10 +1,12 @@
 //! The inputs that a registry is given.
 
 use crate::fault::Fault;
-use status::{Content, Moment, Order, TransactionId};
+use protocol::status::{Content, Moment, Order, TransactionId};
+use protocol::units::{Block, Code, Items, Kind, Node, Period, RawBlock};
+use protocol::wire::{
+    Input, Message, Notification, NotifiedStatus, Number, Proposal, ProposalStatus,
+};
 use std::alloc::Global;
-use units::{Block, Code, Items, Kind, Node, Period, RawBlock};
-use wire::{Input, Message, Notification, NotifiedStatus, Number, Proposal, ProposalStatus};
 
 /// The account that is closed and opened.
 const EMPTY_ACCOUNT: u64 = 1;

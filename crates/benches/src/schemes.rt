@@ -1,7 +1,7 @@
 //! What reading a scheme takes, beside reading its text as JSON alone.
 
 use crate::fault::Fault;
-use scheme::Scheme;
+use protocol::scheme::Scheme;
 use serde_json::Value;
 use std::alloc::Global;
 use std::io::Read;

@@ -6,16 +6,16 @@ use crate::cores::log_of;
 use crate::fault::Fault;
 use crate::log_rounds::{REGISTRIES, codes, proposals_of};
 use crate::nz::stored_over;
+use desk::stores::MemoryStore;
 use desk::{State, Stored, Told};
 use log_core::LogCore;
+use protocol::units::{Code, Node};
+use protocol::wire::Input;
 use protocol::{NodeCore, Stepped};
 use std::alloc::Global;
 use std::collections::BTreeMap;
 use std::rt::Clock;
 use std::time::{Duration, Instant};
-use stores::MemoryStore;
-use units::{Code, Node};
-use wire::Input;
 
 /// How many calls are measured.
 const CALLS: u32 = 10_000;

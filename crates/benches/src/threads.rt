@@ -5,8 +5,11 @@ ghost use Rattle.std.specs.Prelude.{◌≡◌, true, IfOk};
 use crate::fault::Fault;
 use crate::nz::{code, in_memory, order_of};
 use crate::work::one;
+use desk::stores::{MemoryStore, NodeStore, StoreFault};
 use desk::{BATCH, Bell, Desk, Ended, RoomBell, Seat, State, Stored, Taken, Told, settle};
 use protocol::Stepped;
+use protocol::units::{Code, Kind, Period, RawBlock};
+use protocol::wire::Input;
 use registry_core::RegistryCore;
 use std::alloc::Global;
 use std::marker::Brand;
@@ -15,9 +18,6 @@ use std::sync::Wait;
 use std::thread;
 use std::thread::Threads;
 use std::time::{Duration, Instant};
-use stores::{MemoryStore, NodeStore, StoreFault};
-use units::{Code, Kind, Period, RawBlock};
-use wire::Input;
 
 type NzDesk<S> = Desk<Brand, RegistryCore, S, RoomBell>;
 

@@ -13,7 +13,7 @@ use Rattle.units.specs.declared.block.Unit.{Unit as Serial}
 use Rattle.units.specs.declared.code.Code.{Code}
 use Rattle.status.specs.Content.{Content, raws}
 use Rattle.accounts.proofs.Blocks.{covered, covers_from}
-use Rattle.accounts.specs.Holdings.{Held, is_open}
+use Rattle.accounts.specs.Holdings.{HoldingsView, is_open}
 use Rattle.accounts.specs.declared.unit_holding.AccountStatus.{AccountStatus}
 use Rattle.accounts.specs.declared.unit_holding.AccountStatus.TheVariants.{Open, Closed}
 use Rattle.scheme.specs.declared.registries.Scheme.{Scheme}
@@ -47,7 +47,7 @@ is_closed o has closed e = ap (λ p. is_shut (option_map is_open p)) e ∙ shut_
 
 -- ---- units that are held
 
-module _ (scheme : Scheme) (c : Code) (held : Held) (known : Holding) (knows : Knows scheme c held known) (blocks : List Block) where
+module _ (scheme : Scheme) (c : Code) (held : HoldingsView) (known : Holding) (knows : Knows scheme c held known) (blocks : List Block) where
   pub held_told : (b : Bool) → OnTrue b ((s : Serial) × IsTrue (covers blocks s) × IsSome (get held.unit_holdings s)) → OnFalse b ((s : Serial) → IsTrue (covers blocks s) → get held.unit_holdings s ≡ None)
       → b ≡ list_any (λ p. known.is_held p.unit) (pieces (raws blocks))
   held_told true some none =

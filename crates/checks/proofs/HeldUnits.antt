@@ -14,7 +14,7 @@ use Rattle.units.specs.declared.code.Code.{Code}
 use Rattle.status.specs.Content.{raws}
 use Rattle.status.specs.declared.id.TransactionId.{TransactionId}
 use Rattle.accounts.proofs.Blocks.{covered, covers_from}
-use Rattle.accounts.specs.Holdings.{Held}
+use Rattle.accounts.specs.Holdings.{HoldingsView}
 use Rattle.accounts.specs.Refusals.{IsOpen, IsHeldAs, IsUnitOf, AreHeld, AreFree, IsLacking, IsReserved, MayReserve, IsReserveRefusal}
 use Rattle.accounts.specs.declared.unit_holding.UnitHolding.{UnitHolding}
 use Rattle.accounts.specs.declared.unit_holding.AccountStatus.{AccountStatus}
@@ -24,7 +24,7 @@ use Rattle.protocol.specs.Checks.{Holding}
 use Rattle.protocol.specs.Pieces.{pieces}
 use Rattle.protocol.specs.Registries.{has_account}
 use Rattle.protocol.proofs.CanonicalBlocks.{canonical_from}
-use Rattle.lemmas.proofs.Membership.{In}
+use Rattle.units.proofs.Lists.Membership.{In}
 use Rattle.checks.proofs.PiecesOfBlocks.{unit_as, block_with, piece_in, some_passes, none_passes, raws_in_range}
 use Rattle.checks.specs.Following.{holding_refusals}
 use Rattle.checks.specs.Knowing.{Knows}
@@ -80,20 +80,20 @@ some_some : (o : Option TransactionId) → IsSome o → is_some o ≡ true
 some_some None h = absurd (cc)
 some_some (Some t) h = refl
 
-held_as : (held : Held) (account : ℕ) (k : Kind) (s : Serial) → option_map_or (is_as account k) (get held.unit_holdings s) false ≡ true → IsHeldAs held account k s
+held_as : (held : HoldingsView) (account : ℕ) (k : Kind) (s : Serial) → option_map_or (is_as account k) (get held.unit_holdings s) false ≡ true → IsHeldAs held account k s
 held_as held account k s e =
     let h = passing (is_as account k) (get held.unit_holdings s) e in
     let two = and_parts (h.0.account == account) (same_kind h.0.kind k) h.2 in
     record { unit_holding = h.0; is = h.1; account_is = eqb-true h.0.account account two.0; kind_is = kind_of_same h.0.kind k two.1 }
 
-as_held : (held : Held) (account : ℕ) (k : Kind) (s : Serial) → IsHeldAs held account k s → option_map_or (is_as account k) (get held.unit_holdings s) false ≡ true
+as_held : (held : HoldingsView) (account : ℕ) (k : Kind) (s : Serial) → IsHeldAs held account k s → option_map_or (is_as account k) (get held.unit_holdings s) false ≡ true
 as_held held account k s h =
     ap (λ o. option_map_or (is_as account k) o false) h.is
     ∙ and_from (h.unit_holding.account == account) (same_kind h.unit_holding.kind k) (eq-eqb h.unit_holding.account account h.account_is) (eq-eqb (kind_index h.unit_holding.kind) (kind_index k) (ap kind_index h.kind_is))
 
 -- ---- the causes
 
-module _ (scheme : Scheme) (c : Code) (held : Held) (known : Holding) (knows : Knows scheme c held known) (account : ℕ) (blocks : List Block) where
+module _ (scheme : Scheme) (c : Code) (held : HoldingsView) (known : Holding) (knows : Knows scheme c held known) (account : ℕ) (blocks : List Block) where
   open_cause : IsOpen held account → (not (has_account scheme c account) || known.is_closed account) ≡ false
   open_cause is = not_open (get held.accounts account) (has_account scheme c account) (known.is_closed account) (knows.accounts account) ∙ opened (get held.accounts account) is
 
@@ -144,7 +144,7 @@ canonical_unit blocks canon e b s is =
     block_with blocks (unit_as s b) (canonical_from (raws blocks) (raws_in_range blocks) (unit_as s b) i)
 
 -- where blocks may be reserved, so may their canonical form
-pub may_canonical : (held : Held) (account : ℕ) (blocks canon : List Block) → raws canon ≡ canonical (raws blocks) → MayReserve held account blocks → MayReserve held account canon
+pub may_canonical : (held : HoldingsView) (account : ℕ) (blocks canon : List Block) → raws canon ≡ canonical (raws blocks) → MayReserve held account blocks → MayReserve held account canon
 may_canonical held account blocks canon e may = record {
   open_account = may.open_account;
   held_so = λ b s is. let w = canonical_unit blocks canon e b s is in subst (λ k. IsHeldAs held account k s) (sym w.2) (may.held_so w.0 s w.1);

@@ -15,7 +15,7 @@ use Rattle.units.specs.declared.block.Unit.{Unit as Serial}
 use Rattle.status.specs.Content.{raws}
 use Rattle.protocol.proofs.UnitsOfBlocks.{block_of_piece, piece_of_block}
 use Rattle.protocol.specs.Pieces.{Piece, pieces, pieces_of}
-use Rattle.lemmas.proofs.SomePass.{list_any_in, list_any_not}
+use Rattle.units.proofs.Lists.SomePass.{list_any_in, list_any_not}
 
 -- ---- one block
 

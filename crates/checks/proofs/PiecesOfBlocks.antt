@@ -16,8 +16,8 @@ use Rattle.protocol.specs.Checks.{is_out_of_range}
 use Rattle.protocol.specs.Pieces.{Piece, pieces, pieces_of, repeats}
 use Rattle.protocol.proofs.RepeatedUnits.{repeats_apart, apart_repeats}
 use Rattle.protocol.proofs.UnitsOfBlocks.{block_of_piece, piece_of_block}
-use Rattle.lemmas.proofs.Membership.{In, In_cases, In_left, In_right}
-use Rattle.lemmas.proofs.SomePass.{list_any_in, list_any_not}
+use Rattle.units.proofs.Lists.Membership.{In, In_cases, In_left, In_right}
+use Rattle.units.proofs.Lists.SomePass.{list_any_in, list_any_not}
 
 -- a unit with a kind
 abbrev pub unit_as : Serial → Block → Piece

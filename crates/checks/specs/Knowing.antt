@@ -7,7 +7,7 @@ use Rattle.units.specs.Keys.{code_cmp}
 use Rattle.units.specs.Unit.{same_kind}
 use Rattle.units.specs.declared.block.Unit.{Unit as Serial}
 use Rattle.units.specs.declared.code.Code.{Code}
-use Rattle.accounts.specs.Holdings.{Held}
+use Rattle.accounts.specs.Holdings.{HoldingsView}
 use Rattle.accounts.specs.declared.unit_holding.AccountStatus.TheVariants.{Open, Closed}
 use Rattle.scheme.specs.declared.registries.Scheme.{Scheme}
 use Rattle.protocol.specs.Checks.{Holding, Ledger}
@@ -16,7 +16,7 @@ use Rattle.protocol.specs.Registries.{allotted, has_account, member}
 use Rattle.checks.specs.declared.register.Register.{Register}
 
 -- the accounts are the registry's, each closed or open, and each unit's holding says how it is held
-pub record Knows (scheme : Scheme) (c : Code) (held : Held) (known : Holding) : Type 0 where
+pub record Knows (scheme : Scheme) (c : Code) (held : HoldingsView) (known : Holding) : Type 0 where
   pub accounts : (n : ℕ) → map.get held.accounts n ≡ cond (has_account scheme c n) (Some (cond (known.is_closed n) Closed Open)) None
   pub has : (n : ℕ) (p : Piece) → known.has n p ≡ option_map_or (λ unit_holding. (unit_holding.account == n) && same_kind unit_holding.kind p.kind) (map.get held.unit_holdings p.unit) false
   pub is_held : (s : Serial) → known.is_held s ≡ is_some (map.get held.unit_holdings s)

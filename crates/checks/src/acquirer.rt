@@ -24,14 +24,16 @@ use wire::AcquirerCodes;
 
 /// Whether the registry has no such account.
 fn is_unknown(holdings: &Holdings, account: u64) -> bool
-    ensures { (scheme : Scheme) (code : Code) (known : Holding) → Knows scheme code holdings.now known → result ≡ not (has_account scheme code account) }
+    ensures { (scheme : Scheme) (code : Code) (known : Holding) → Knows scheme code holdings.now known
+        → result ≡ not (has_account scheme code account) }
 {
     holdings.is_open(account).is_none()
 }
 
 /// Whether the registry has the account, and it is closed.
 fn is_closed(holdings: &Holdings, account: u64) -> bool
-    ensures { (scheme : Scheme) (code : Code) (known : Holding) → Knows scheme code holdings.now known → result ≡ (has_account scheme code account && known.is_closed account) }
+    ensures { (scheme : Scheme) (code : Code) (known : Holding) → Knows scheme code holdings.now known
+        → result ≡ (has_account scheme code account && known.is_closed account) }
 {
     match holdings.is_open(account) {
         Some(open) => !open,
@@ -41,7 +43,8 @@ fn is_closed(holdings: &Holdings, account: u64) -> bool
 
 /// Whether the registry holds one of the blocks' units. Takes no memory.
 pub fn holds_some(holdings: &Holdings, blocks: &[Block]) -> bool
-    ensures { (scheme : Scheme) (code : Code) (known : Holding) → Knows scheme code holdings.now known → result ≡ list_any (λ p. known.is_held p.unit) (pieces (raws blocks.now)) }
+    ensures { (scheme : Scheme) (code : Code) (known : Holding) → Knows scheme code holdings.now known
+        → result ≡ list_any (λ p. known.is_held p.unit) (pieces (raws blocks.now)) }
 {
     holdings.holds_any(blocks)
 }
@@ -91,7 +94,8 @@ pub fn acquirer_findings(
     holdings: &Holdings,
     content: &Content,
 ) -> Result<Option<AcquirerCodes>, NoMemory>
-    ensures { (known : Holding) → Knows scheme.now code holdings.now known → IfOk result (λ found. codes_in found ≡ acquirer_findings scheme.now code known content.now) }
+    ensures { (known : Holding) → Knows scheme.now code holdings.now known
+        → IfOk result (λ found. codes_in found ≡ acquirer_findings scheme.now code known content.now) }
 {
     let account = content.to_account();
     let blocks = content.units();

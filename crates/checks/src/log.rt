@@ -60,14 +60,16 @@ fn is_of_other_kind(allotments: &UnitMap<Holder>, block: &Block) -> bool
 
 /// Whether one of the blocks' units isn't allotted.
 fn has_unallotted(allotments: &UnitMap<Holder>, blocks: &[Block]) -> bool
-    ensures { result ≡ list_any (λ b. list_any (λ p. is_none (map.get allotments.now p.unit)) (pieces_of b.raw)) blocks.now }
+    ensures { result ≡ list_any
+        (λ b. list_any (λ p. is_none (map.get allotments.now p.unit)) (pieces_of b.raw)) blocks.now }
 {
     blocks.iter().any(|block| is_unallotted(allotments, block))
 }
 
 /// Whether another registry owns one of the blocks' units.
 fn has_other_owner(book: &UnitMap<Owner>, registry: Code, blocks: &[Block]) -> bool
-    ensures { result ≡ list_any (λ b. list_any (λ p. is_of_other registry (map.get book.now p.unit)) (pieces_of b.raw)) blocks.now }
+    ensures { result ≡ list_any
+        (λ b. list_any (λ p. is_of_other registry (map.get book.now p.unit)) (pieces_of b.raw)) blocks.now }
 {
     blocks
         .iter()
@@ -76,14 +78,16 @@ fn has_other_owner(book: &UnitMap<Owner>, registry: Code, blocks: &[Block]) -> b
 
 /// Whether one of the blocks' units is in a transfer.
 fn has_busy(under_way: &UnitMap<UnderWay>, blocks: &[Block]) -> bool
-    ensures { result ≡ list_any (λ b. list_any (λ p. is_some (map.get under_way.now p.unit)) (pieces_of b.raw)) blocks.now }
+    ensures { result ≡ list_any
+        (λ b. list_any (λ p. is_some (map.get under_way.now p.unit)) (pieces_of b.raw)) blocks.now }
 {
     blocks.iter().any(|block| is_busy(under_way, block))
 }
 
 /// Whether one of the blocks' units is allotted with another kind.
 fn has_other_kind(allotments: &UnitMap<Holder>, blocks: &[Block]) -> bool
-    ensures { result ≡ list_any (λ b. list_any (λ p. has_other_kind (map.get allotments.now p.unit) p.kind) (pieces_of b.raw)) blocks.now }
+    ensures { result ≡ list_any
+        (λ b. list_any (λ p. has_other_kind (map.get allotments.now p.unit) p.kind) (pieces_of b.raw)) blocks.now }
 {
     blocks
         .iter()
@@ -112,7 +116,8 @@ fn is_eligible(scheme: &Scheme, orders: &BTreeMap<Code, bool>, code: Code) -> bo
 
 /// Whether a registry of the scheme may not take part in transfers.
 fn is_barred(scheme: &Scheme, orders: &BTreeMap<Code, bool>, code: Code) -> bool
-    ensures { result ≡ (has_member scheme.now code && not (unwrap_or (tree.get code_cmp orders.now code) (starts_eligible scheme.now code))) }
+    ensures { result ≡ (has_member scheme.now code && not
+        (unwrap_or (tree.get code_cmp orders.now code) (starts_eligible scheme.now code))) }
 {
     scheme.member(code).is_some() && !is_eligible(scheme, orders, code)
 }
@@ -124,7 +129,8 @@ fn note_units(
     initiator: Code,
     blocks: &[Block],
 ) -> Result<(), NoMemory>
-    ensures { OnOk result (found.new.items ≡ found.old.items ++ codes_of (unit_causes register.now initiator (raws blocks.now))) }
+    ensures { OnOk result (found.new.items ≡ found.old.items ++ codes_of (unit_causes register.now initiator
+        (raws blocks.now))) }
 {
     let allotments = &register.allotments;
     note(found, has_repeats(blocks), UNIT_REPEATED)?;
@@ -159,7 +165,8 @@ pub fn log_findings(
     initiator: Code,
     content: &Content,
 ) -> Result<Option<LogCodes>, NoMemory>
-    ensures { (known : Ledger) → Registers scheme.now register.now known → IfOk result (λ found. codes_in found ≡ log_findings scheme.now known initiator content.now) }
+    ensures { (known : Ledger) → Registers scheme.now register.now known
+        → IfOk result (λ found. codes_in found ≡ log_findings scheme.now known initiator content.now) }
 {
     let acquirer = content.acquirer();
     let orders = &register.orders;

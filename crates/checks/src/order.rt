@@ -67,7 +67,8 @@ fn block_of(raw: RawBlock) -> Block
 /// The blocks, where the numbers of each are in range.
 fn blocks_of(alloc: Global, raw_blocks: &[RawBlock]) -> Result<Vec<Block>, Refusal>
     ensures ok { IfOk result (λ v. raws v.items ≡ raw_blocks.now) }
-    ensures refused { IfErr result (λ r. (r.code ≡ out_of_memory) ⊎ ((r.code ≡ block_out_of_range) × (list_any is_out_of_range raw_blocks.now ≡ true))) }
+    ensures refused { IfErr result (λ r. (r.code ≡ out_of_memory)
+        ⊎ ((r.code ≡ block_out_of_range) × (list_any is_out_of_range raw_blocks.now ≡ true))) }
 {
     let mut blocks = Vec::new(alloc);
     for raw in raw_blocks {
@@ -87,7 +88,8 @@ fn blocks_of(alloc: Global, raw_blocks: &[RawBlock]) -> Result<Vec<Block>, Refus
 fn checked_blocks(alloc: Global, raw_blocks: &[RawBlock]) -> Result<Vec<Block>, Refusal>
     ensures blocks { IfOk result (λ v. raws v.items ≡ raw_blocks.now) }
     ensures ok { OnOk result (first_of (block_refusals raw_blocks.now) ≡ None) }
-    ensures refused { IfErr result (λ r. (r.code ≡ out_of_memory) ⊎ (first_of (block_refusals raw_blocks.now) ≡ Some r.code)) }
+    ensures refused { IfErr result (λ r. (r.code ≡ out_of_memory)
+        ⊎ (first_of (block_refusals raw_blocks.now) ≡ Some r.code)) }
 {
     if is_wrong_count(raw_blocks) {
         return Err(Refusal {
@@ -116,8 +118,11 @@ fn check_holdings(holdings: &Holdings, order: &Order, blocks: &[Block]) -> Resul
     requires { raws blocks.now ≡ order.now.units }
     ensures may { OnOk result (MayReserve holdings.now order.now.account blocks.now) }
     ensures number { OnOk result (IsAccountNumber order.now.account) }
-    ensures ok { (scheme : Scheme) (code : Code) (known : Holding) → Knows scheme code holdings.now known → OnOk result (first_of (holding_refusals scheme code known order.now.account order.now.units) ≡ None) }
-    ensures refused { (scheme : Scheme) (code : Code) (known : Holding) → Knows scheme code holdings.now known → IfErr result (λ r. first_of (holding_refusals scheme code known order.now.account order.now.units) ≡ Some r.code) }
+    ensures ok { (scheme : Scheme) (code : Code) (known : Holding) → Knows scheme code holdings.now known
+        → OnOk result (first_of (holding_refusals scheme code known order.now.account order.now.units) ≡ None) }
+    ensures refused { (scheme : Scheme) (code : Code) (known : Holding) → Knows scheme code holdings.now known
+        → IfErr result (λ r. first_of (holding_refusals scheme code known order.now.account order.now.units)
+        ≡ Some r.code) }
 {
     if is_no_account(order.account()) {
         return Err(Refusal {
@@ -157,7 +162,8 @@ fn next_id(code: Code, last: u32) -> Option<TransactionId>
 fn order_blocks(alloc: Global, order: &Order) -> Result<Vec<Block>, Refusal>
     ensures blocks { IfOk result (λ v. raws v.items ≡ order.now.units) }
     ensures ok { OnOk result (first_of (block_refusals order.now.units) ≡ None) }
-    ensures refused { IfErr result (λ r. (r.code ≡ out_of_memory) ⊎ (first_of (block_refusals order.now.units) ≡ Some r.code)) }
+    ensures refused { IfErr result (λ r. (r.code ≡ out_of_memory)
+        ⊎ (first_of (block_refusals order.now.units) ≡ Some r.code)) }
 {
     checked_blocks(alloc, order.units())
 }
@@ -206,11 +212,15 @@ pub fn propose_check(
     last: u32,
     order: &Order,
 ) -> Result<NewTransfer, Refusal>
-    ensures ok { (known : Holding) → Knows scheme.now code holdings.now known → IfOk result (λ new_transfer. first_of (order_refusals scheme.now code known last order.now) ≡ None) }
+    ensures ok { (known : Holding) → Knows scheme.now code holdings.now known
+        → IfOk result (λ new_transfer. first_of (order_refusals scheme.now code known last order.now) ≡ None) }
     ensures id { IfOk result (λ new_transfer. id_at code (last + 1) ≡ Some new_transfer.id) }
     ensures content { IfOk result (λ new_transfer. new_transfer.content ≡ content_of order.now) }
-    ensures reservable { IfOk result (λ new_transfer. (blocks : List Block) → raws blocks ≡ new_transfer.content.units → MayReserve holdings.now new_transfer.content.account blocks) }
-    ensures refused { (known : Holding) → Knows scheme.now code holdings.now known → IfErr result (λ r. (r.code ≡ out_of_memory) ⊎ (first_of (order_refusals scheme.now code known last order.now) ≡ Some r.code)) }
+    ensures reservable { IfOk result (λ new_transfer. (blocks : List Block) → raws blocks ≡ new_transfer.content.units
+        → MayReserve holdings.now new_transfer.content.account blocks) }
+    ensures refused { (known : Holding) → Knows scheme.now code holdings.now known
+        → IfErr result (λ r. (r.code ≡ out_of_memory)
+        ⊎ (first_of (order_refusals scheme.now code known last order.now) ≡ Some r.code)) }
 {
     let blocks = order_blocks(alloc, order)?;
     check_holdings(holdings, order, &blocks)?;

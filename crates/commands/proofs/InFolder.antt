@@ -6,9 +6,9 @@ use Rattle.std.proofs.lemmas.List.Elements.{All-cons, All-nil}
 use Rattle.std.proofs.lemmas.Option.{slice_get-get_or}
 use Rattle.units.specs.declared.code.Node.{Node}
 use Rattle.stores.specs.declared.node_store.NodeStore.{Ghosts as StoreGhosts}
-use Rattle.scheme.specs.declared.registries.Scheme.{Scheme}
+use Rattle.protocol.specs.Scheme.{Scheme}
 use Rattle.protocol.specs.Registries.{nodes}
-use Rattle.inputs.specs.declared.fault.OpFault.{OpFault}
+use Rattle.command_faults.specs.declared.fault.OpFault.{OpFault}
 use Rattle.commands.specs.Opened.{AreFirstIn, AreStoresIn, IsShut, IsStoreIn}
 use Rattle.commands.specs.declared.archive.Archive.{Ghosts}
 

@@ -3,50 +3,50 @@ use Rattle.std.specs.Prelude.{◌≡◌, ◌⊎◌, ℕ, true, All, List, Option
 use Rattle.std.specs.Io.KnownBytes.{Appends, Keeps}
 use Rattle.units.specs.Code.{node_text}
 use Rattle.units.specs.declared.code.Node.{Node}
-use Rattle.wire.specs.declared.input.Input.{Input}
-use Rattle.scheme.specs.declared.registries.Scheme.{Scheme}
+use Rattle.protocol.specs.Input.{Input}
+use Rattle.protocol.specs.Scheme.{Scheme}
 use Rattle.protocol.specs.Registries.{is_node, nodes}
 use Rattle.stores.specs.Records.{AreRecords}
 use Rattle.stores.specs.declared.fault.StoreFault.{StoreFault}
 use Rattle.stores.specs.declared.node_store.NodeStore.{Ghosts as StoreGhosts}
-use Rattle.desk.specs.Keeping.{Keeping}
+use Rattle.desk.specs.Keeping.{StoredView}
 use Rattle.desk.specs.Views.{opened_with}
-use Rattle.inputs.specs.Faults.{of_store}
-use Rattle.inputs.specs.declared.fault.Cause.TheVariants.{Order}
-use Rattle.inputs.specs.declared.fault.OpFault.{OpFault}
-use Rattle.inputs.specs.declared.fault.OpFault.TheVariants.{Input as InputFault, Read, NoMemory}
-use Rattle.rehearsals.specs.Rehearsal.{FailsSo, Reports}
-use Rattle.rehearsals.specs.Report.{IsReport}
-use Rattle.operator.specs.Chart.{IsChart}
+use Rattle.command_faults.specs.Faults.{of_store}
+use Rattle.command_faults.specs.declared.fault.Cause.TheVariants.{Order}
+use Rattle.command_faults.specs.declared.fault.OpFault.{OpFault}
+use Rattle.command_faults.specs.declared.fault.OpFault.TheVariants.{Input as InputFault, Read, NoMemory}
+use Rattle.rehearse.specs.Rehearsal.{FailsSo, Reports}
+use Rattle.rehearse.specs.Report.{IsReport}
+use Rattle.chart.specs.Chart.{IsChart}
 use Rattle.operator.specs.Show.{FailsToShow, shown}
 use Rattle.operator.specs.declared.command_line.Action.{Action}
 use Rattle.operator.specs.declared.command_line.Action.TheVariants.{Rehearse, Chart, Show, Audit, Run}
 use Rattle.audit.specs.Audits.{Audits, FailsToAudit, FailsToFindRun, HasRun}
 use Rattle.audit.specs.Stores.{AreLoaded, AreUnwritten}
-use Rattle.scripts.specs.declared.line.ScriptLine.{ScriptLine}
-use Rattle.runs.specs.Runs.{FailsToRun, HaveEnded, IsLoadedAmong, IsRunReport, states_of}
+use Rattle.input_lines.specs.declared.script_line.ScriptLine.{ScriptLine}
+use Rattle.run.specs.Runs.{FailsToRun, HaveEnded, IsLoadedAmong, IsRunReport, states_of}
 use Rattle.commands.specs.Opened.{AreStoresIn, FailsToOpen, HasScheme, HasScript, IsShut, IsStoreIn, LacksFolder, LacksScheme, LacksScript}
 use Rattle.commands.specs.declared.archive.Archive.{Ghosts}
 
 -- ---- a run of loaded nodes
 
 -- the states go by the scheme, one for each of its nodes, and each has its whole journal from its opening
-pub record AreOpened {S : Type 0} (scheme : Scheme) (loaded : List (Keeping S)) : Type 0 where
-  pub nodes_are : map (λ (k : Keeping S). k.state.node) loaded ≡ nodes scheme
-  pub opened : All (λ (k : Keeping S). k.state ≡ opened_with scheme k.state.node k.state.journal) loaded
+pub record AreOpened {S : Type 0} (scheme : Scheme) (loaded : List (StoredView S)) : Type 0 where
+  pub nodes_are : map (λ (k : StoredView S). k.state.node) loaded ≡ nodes scheme
+  pub opened : All (λ (k : StoredView S). k.state ≡ opened_with scheme k.state.node k.state.journal) loaded
 
 -- no port could be had, or memory ran out
 abbrev pub IsPortFault : OpFault → Type 0
 IsPortFault fault = (fault ≡ Read) ⊎ (fault ≡ NoMemory)
 
 -- the store of each node was closed
-abbrev pub AreClosed : {S : Type 0} → (S → Type 0) → List (Keeping S) → Type 0
-AreClosed {S} closes ended = All (λ (k : Keeping S). closes k.store) ended
+abbrev pub AreClosed : {S : Type 0} → (S → Type 0) → List (StoredView S) → Type 0
+AreClosed {S} closes ended = All (λ (k : StoredView S). closes k.store) ended
 
 -- the store of one of the nodes failed to close, the first that did
-pub record HasClosingFault {S : Type 0} (closes : S → Type 0) (unclosed : S → StoreFault → Type 0) (ended : List (Keeping S)) (fault : OpFault) : Type 0 where
+pub record HasClosingFault {S : Type 0} (closes : S → Type 0) (unclosed : S → StoreFault → Type 0) (ended : List (StoredView S)) (fault : OpFault) : Type 0 where
   pub at : ℕ
-  pub kept : Keeping S
+  pub kept : StoredView S
   pub is : slice_get ended at ≡ Some kept
   pub before : AreClosed closes (take at ended)
   pub cause : StoreFault
@@ -55,39 +55,39 @@ pub record HasClosingFault {S : Type 0} (closes : S → Type 0) (unclosed : S �
 
 module _ {S : Type 0} (of : StoreGhosts S) where
   -- the nodes ended well, and the script's report of them was written
-  pub record HasReported (scheme : Scheme) (lines : List ScriptLine) (loaded ended : List (Keeping S)) (before after : Option (List ℕ)) : Type 0 where
+  pub record HasReported (scheme : Scheme) (lines : List ScriptLine) (loaded ended : List (StoredView S)) (before after : Option (List ℕ)) : Type 0 where
     pub well : HaveEnded of (IsLoadedAmong of scheme loaded) scheme ended
     pub text : List ℕ
     pub report : IsRunReport scheme lines (states_of ended) text
     pub written : Appends before after text
 
   -- and their stores were closed
-  abbrev pub RunsLoaded : (closes : S → Type 0) → Scheme → List ScriptLine → List (Keeping S) → (before after : Option (List ℕ)) → Type 0
-  RunsLoaded closes scheme lines loaded v w = (ended : List (Keeping S)) × HasReported scheme lines loaded ended v w × AreClosed closes ended
+  abbrev pub RunsLoaded : (closes : S → Type 0) → Scheme → List ScriptLine → List (StoredView S) → (before after : Option (List ℕ)) → Type 0
+  RunsLoaded closes scheme lines loaded v w = (ended : List (StoredView S)) × HasReported scheme lines loaded ended v w × AreClosed closes ended
 
   -- no port could be had; or the run failed; or it was reported, and a store failed to close
-  abbrev pub FailsToRunLoaded : (closes : S → Type 0) (unclosed : S → StoreFault → Type 0) → Scheme → List ScriptLine → List (Keeping S) → OpFault → (before after : Option (List ℕ)) → Type 0
+  abbrev pub FailsToRunLoaded : (closes : S → Type 0) (unclosed : S → StoreFault → Type 0) → Scheme → List ScriptLine → List (StoredView S) → OpFault → (before after : Option (List ℕ)) → Type 0
   FailsToRunLoaded closes unclosed scheme lines loaded fault v w =
       (IsPortFault fault × Keeps v w)
-      ⊎ (FailsToRun of (IsLoadedAmong of scheme loaded) fault scheme lines v w ⊎ ((ended : List (Keeping S)) × HasReported scheme lines loaded ended v w × HasClosingFault closes unclosed ended fault))
+      ⊎ (FailsToRun of (IsLoadedAmong of scheme loaded) fault scheme lines v w ⊎ ((ended : List (StoredView S)) × HasReported scheme lines loaded ended v w × HasClosingFault closes unclosed ended fault))
 
 -- ---- nodes that are loaded
 
 -- an archive, and what is known of its stores
 module _ {A F S : Type 0} (g : Ghosts A F S) (archive : A) (of : StoreGhosts S) where
   -- the nodes were loaded from the stores in the folder, and a run leads to their records
-  pub record LoadsFolder (folder : List ℕ) (scheme : Scheme) (loaded : List (Keeping S)) : Type 0 where
+  pub record LoadsFolder (folder : List ℕ) (scheme : Scheme) (loaded : List (StoredView S)) : Type 0 where
     pub stores : List S
     pub opened : AreStoresIn g archive of folder (nodes scheme) stores
     pub are : AreOpened scheme loaded
-    pub read : AreLoaded of.is_honest of.content of.may_hold of.must_reopen scheme (nodes scheme) stores (map (λ (k : Keeping S). k.store) loaded) (map (λ (k : Keeping S). k.state.journal) loaded)
-    pub unwritten : AreUnwritten of stores (map (λ (k : Keeping S). k.store) loaded)
-    pub run : HasRun scheme (map (λ (k : Keeping S). k.state.journal) loaded)
+    pub read : AreLoaded of scheme (nodes scheme) stores (map (λ (k : StoredView S). k.store) loaded) (map (λ (k : StoredView S). k.state.journal) loaded)
+    pub unwritten : AreUnwritten of stores (map (λ (k : StoredView S). k.store) loaded)
+    pub run : HasRun scheme (map (λ (k : StoredView S). k.state.journal) loaded)
 
   abbrev pub FailsToLoadFolder : List ℕ → Scheme → OpFault → Type 0
   FailsToLoadFolder folder scheme fault =
       FailsToOpen g archive of folder scheme fault
-      ⊎ ((stores left : List S) × AreStoresIn g archive of folder (nodes scheme) stores × FailsToFindRun of.is_honest of.content of.may_hold of.must_reopen fault scheme stores left × AreUnwritten of stores left)
+      ⊎ ((stores left : List S) × AreStoresIn g archive of folder (nodes scheme) stores × FailsToFindRun of fault scheme stores left × AreUnwritten of stores left)
 
 -- ---- what the words of a command name
 
@@ -154,14 +154,14 @@ module _ {A F S : Type 0} (g : Ghosts A F S) (archive : A) (remaining : F → Op
     pub left : List S
     pub opened : AreStoresIn g archive of folder (nodes scheme) stores
     pub table : List ℕ
-    pub audits : Audits of.is_honest of.content of.may_hold of.must_reopen scheme stores left table
+    pub audits : Audits of scheme stores left table
     pub unwritten : AreUnwritten of stores left
     pub written : Appends before after table
 
   abbrev pub FailsFromStores : List ℕ → Scheme → Failing
   FailsFromStores folder scheme fault v w =
       (FailsToOpen g archive of folder scheme fault × Keeps v w)
-      ⊎ ((stores left : List S) × AreStoresIn g archive of folder (nodes scheme) stores × FailsToAudit of.is_honest of.content of.may_hold of.must_reopen fault scheme stores left v w × AreUnwritten of stores left)
+      ⊎ ((stores left : List S) × AreStoresIn g archive of folder (nodes scheme) stores × FailsToAudit of fault scheme stores left v w × AreUnwritten of stores left)
 
   -- the first fault of the scheme, the folder, the stores and their records
   abbrev pub FailsToAuditFolder : (path folder : List ℕ) → Failing
@@ -176,12 +176,12 @@ module _ {A F S : Type 0} (g : Ghosts A F S) (archive : A) (remaining : F → Op
     pub lines : List ScriptLine
     pub has_script : HasScript g archive remaining script lines
     pub in_folder : g.is_folder archive folder
-    pub loaded : List (Keeping S)
+    pub loaded : List (StoredView S)
     pub loads : LoadsFolder g archive of folder scheme loaded
     pub runs : RunsLoaded of (g.closes archive) scheme lines loaded before after
 
-  abbrev pub FailsFromRecords : List ℕ → Scheme → (List (Keeping S) → Failing) → Failing
-  FailsFromRecords folder scheme Later fault v w = (FailsToLoadFolder g archive of folder scheme fault × Keeps v w) ⊎ ((loaded : List (Keeping S)) × LoadsFolder g archive of folder scheme loaded × Later loaded fault v w)
+  abbrev pub FailsFromRecords : List ℕ → Scheme → (List (StoredView S) → Failing) → Failing
+  FailsFromRecords folder scheme Later fault v w = (FailsToLoadFolder g archive of folder scheme fault × Keeps v w) ⊎ ((loaded : List (StoredView S)) × LoadsFolder g archive of folder scheme loaded × Later loaded fault v w)
 
   -- the first fault of the scheme, the script, the folder, the stores and their records, the ports and the run
   abbrev pub FailsToRunFolder : (path folder script : List ℕ) → Failing

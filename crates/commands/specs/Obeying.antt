@@ -5,9 +5,9 @@ use Rattle.clap.specs.Words.{HasMatchesOf}
 use Rattle.clap.specs.declared.error.Error.{Error}
 use Rattle.clap.specs.declared.parser.matches.ArgMatches.{ArgMatches}
 use Rattle.stores.specs.declared.node_store.NodeStore.{Ghosts as StoreGhosts}
-use Rattle.inputs.specs.Faults.{exit_status}
-use Rattle.inputs.specs.declared.fault.OpFault.{OpFault}
-use Rattle.inputs.specs.declared.fault.OpFault.TheVariants.{NoMemory, Write}
+use Rattle.command_faults.specs.Faults.{exit_status}
+use Rattle.command_faults.specs.declared.fault.OpFault.{OpFault}
+use Rattle.command_faults.specs.declared.fault.OpFault.TheVariants.{NoMemory, Write}
 use Rattle.operator.specs.Words.{IsUsageFault, NamesAction, kyoto_link}
 use Rattle.operator.specs.declared.command_line.Action.{Action}
 use Rattle.operator.specs.declared.command_line.UsageFault.TheVariants.{Help, Usage}

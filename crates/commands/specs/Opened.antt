@@ -1,18 +1,18 @@
 -- What a command's words name, opened and read.
 use Rattle.std.specs.Prelude.{◌≡◌, ◌⊎◌, ℕ, false, List, [], ◌∷◌, Option, Some, slice_get, take}
 use Rattle.units.specs.declared.code.Node.{Node}
-use Rattle.wire.specs.declared.input.Input.{Input}
-use Rattle.scheme.specs.declared.registries.Scheme.{Scheme}
+use Rattle.protocol.specs.Input.{Input}
+use Rattle.protocol.specs.Scheme.{Scheme}
 use Rattle.protocol.specs.Registries.{nodes}
 use Rattle.stores.specs.declared.fault.StoreFault.{StoreFault}
 use Rattle.stores.specs.declared.node_store.NodeStore.{Ghosts as StoreGhosts}
-use Rattle.inputs.specs.Faults.{of_store}
-use Rattle.inputs.specs.SchemeFile.{FailsToRead, ReadsScheme}
-use Rattle.inputs.specs.declared.fault.OpFault.{OpFault}
-use Rattle.inputs.specs.declared.fault.OpFault.TheVariants.{Read, NoMemory}
+use Rattle.command_faults.specs.Faults.{of_store}
+use Rattle.command_faults.specs.SchemeFile.{FailsToRead, ReadsScheme}
+use Rattle.command_faults.specs.declared.fault.OpFault.{OpFault}
+use Rattle.command_faults.specs.declared.fault.OpFault.TheVariants.{Read, NoMemory}
 use Rattle.audit.specs.Stores.{AreLoaded, FailsToLoad}
-use Rattle.scripts.specs.Scripts.{FailsToReadScript, ReadsScript}
-use Rattle.scripts.specs.declared.line.ScriptLine.{ScriptLine}
+use Rattle.input_lines.specs.Scripts.{FailsToReadScript, ReadsScript}
+use Rattle.input_lines.specs.declared.script_line.ScriptLine.{ScriptLine}
 use Rattle.commands.specs.declared.archive.Archive.{Ghosts}
 
 -- ---- files and folders
@@ -82,7 +82,7 @@ module _ {A F S : Type 0} (g : Ghosts A F S) (archive : A) (of : StoreGhosts S) 
     pub left : List S
     pub journals : List (List Input)
     pub firsts : AreFirstIn folder scheme stores fault
-    pub read : AreLoaded of.is_honest of.content of.may_hold of.must_reopen scheme (nodes scheme) stores left journals
+    pub read : AreLoaded of scheme (nodes scheme) stores left journals
 
   -- one of them has that fault
   pub record IsFaultBefore (folder : List ℕ) (scheme : Scheme) (fault : OpFault) : Type 0 where
@@ -90,7 +90,7 @@ module _ {A F S : Type 0} (g : Ghosts A F S) (archive : A) (of : StoreGhosts S) 
     pub left : List S
     pub later : OpFault
     pub firsts : AreFirstIn folder scheme stores later
-    pub fails : FailsToLoad of.is_honest of.content of.may_hold of.must_reopen scheme (nodes scheme) stores left fault
+    pub fails : FailsToLoad of scheme (nodes scheme) stores left fault
 
   -- why the stores of a scheme's nodes aren't all open: the first that can't be opened, or a fault in the records of those
   -- before it

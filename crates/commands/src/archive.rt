@@ -53,7 +53,8 @@ pub trait Archive {
     fn open_store(&self, folder: &str, node: Node) -> Result<Self::Store, StoreFault>
         ensures keeps { IfOk result (keeps self.now folder.now node) }
         ensures whose { IfOk result (λ s. Self.Store.whose s ≡ node) }
-        ensures own { IfOk result (λ s. Self.Store.is_honest s → Self.Store.must_reopen s ≡ false → Self.Store.is_own s) }
+        ensures own { IfOk result (λ s. Self.Store.is_honest s → Self.Store.must_reopen s ≡ false
+            → Self.Store.is_own s) }
         ensures fails { IfErr result (fails self.now folder.now node) };
 
     /// Closes the store. What it holds is in its database file by itself afterwards.

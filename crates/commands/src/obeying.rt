@@ -7,7 +7,7 @@ use crate::archive::Archive;
 use crate::performing::perform;
 use crate::progress::Progress;
 use clap::Error;
-use inputs::{OpFault, write_out};
+use command_faults::{OpFault, write_out};
 use operator::{Action, UsageFault, parse_words};
 use std::alloc::Global;
 use std::io::{Read, Write};
@@ -49,7 +49,8 @@ impl Ended {
 /// Writes help or the version.
 fn write_help<W: Write>(alloc: Global, writer: &mut W, error: &Error) -> Result<(), OpFault>
     ensures ok { OnOk result (IsHelped (W.contents writer.old) (W.contents writer.new)) }
-    ensures err { IfErr result (λ e. ((e ≡ OpFault.NoMemory) × Keeps (W.contents writer.old) (W.contents writer.new)) ⊎ IsHelpedInPart e (W.contents writer.old) (W.contents writer.new)) }
+    ensures err { IfErr result (λ e. ((e ≡ OpFault.NoMemory) × Keeps (W.contents writer.old) (W.contents writer.new))
+        ⊎ IsHelpedInPart e (W.contents writer.old) (W.contents writer.new)) }
 {
     match format!(in alloc; "{error}") {
         Ok(text) => write_out(writer, text.as_str()),
@@ -74,7 +75,8 @@ where
     W: Write,
     P: Progress,
     R: Threads + Wait + SystemClock + Net<Listener = TcpListener, Stream = TcpStream> + Sync,
-    ensures { Obeys A.Archive archive.now A.File.remaining A.Store.NodeStore (map string_bytes words.now) result (I.remaining reader.old) (I.remaining reader.new) (W.contents writer.old) (W.contents writer.new) }
+    ensures { Obeys A.Archive archive.now A.File.remaining A.Store.NodeStore (map string_bytes words.now) result
+        (I.remaining reader.old) (I.remaining reader.new) (W.contents writer.old) (W.contents writer.new) }
 {
     match parse_words(alloc, words) {
         Ok(action) => match perform(rt, alloc, archive, &action, reader, writer, progress) {

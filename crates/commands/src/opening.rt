@@ -5,10 +5,10 @@ ghost use Rattle.commands.specs.Opened.{AreStoresIn, FailsToOpen, HasScheme, Has
 
 use crate::archive::Archive;
 use audit::read_first;
-use inputs::{OpFault, read_scheme, store_fault};
+use command_faults::{OpFault, read_scheme, store_fault};
+use input_lines::{ScriptLine, read_script};
 use protocol::nodes_of;
-use scheme::Scheme;
-use scripts::{ScriptLine, read_script};
+use protocol::scheme::Scheme;
 use std::alloc::Global;
 use units::Node;
 
@@ -77,8 +77,8 @@ pub(crate) fn open_store<A: Archive>(
     }
 }
 
-/// The stores of all nodes in the folder: the log's, then those of the registries in the scheme's order. Where one can't
-/// be opened, a fault in the records of those before it comes first.
+/// The stores of all nodes in the folder: the log's, then those of the registries in the scheme's order. Where one
+/// can't be opened, a fault in the records of those before it comes first.
 ///
 /// # Errors
 ///
@@ -89,7 +89,8 @@ pub(crate) fn open_stores<A: Archive>(
     scheme: &Scheme,
     folder: &str,
 ) -> Result<Vec<A::Store>, OpFault>
-    ensures ok { IfOk result (λ v. AreStoresIn A.Archive archive.now A.Store.NodeStore folder.now (nodes scheme.now) v.items) }
+    ensures ok { IfOk result (λ v. AreStoresIn A.Archive archive.now A.Store.NodeStore folder.now
+        (nodes scheme.now) v.items) }
     ensures err { IfErr result (FailsToOpen A.Archive archive.now A.Store.NodeStore folder.now scheme.now) }
 {
     let names = nodes_of(alloc, scheme)?;

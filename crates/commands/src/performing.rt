@@ -7,9 +7,10 @@ use crate::opening::{find_folder, open_store, open_stores, scheme_at};
 use crate::progress::Progress;
 use crate::running::run_folder;
 use audit::audit_watched;
-use inputs::{OpFault, node_of};
-use operator::{Action, chart, show};
-use rehearsals::rehearse;
+use chart::chart;
+use command_faults::{OpFault, node_of};
+use operator::{Action, show};
+use rehearse::rehearse;
 use std::alloc::Global;
 use std::io::{Read, Write};
 use std::net::{Net, TcpListener, TcpStream};
@@ -27,8 +28,12 @@ fn show_node<A: Archive, W: Write>(
     word: &str,
     writer: &mut W,
 ) -> Result<(), OpFault>
-    ensures ok { OnOk result (ShowsNode A.Archive archive.now A.File.remaining A.Store.NodeStore scheme.now folder.now word.now (W.contents writer.old) (W.contents writer.new)) }
-    ensures err { IfErr result (λ e. FailsToShowNode A.Archive archive.now A.File.remaining A.Store.NodeStore scheme.now folder.now word.now e (W.contents writer.old) (W.contents writer.new)) }
+    ensures ok { OnOk result
+        (ShowsNode A.Archive archive.now A.File.remaining A.Store.NodeStore scheme.now folder.now word.now
+        (W.contents writer.old) (W.contents writer.new)) }
+    ensures err { IfErr result
+        (λ e. FailsToShowNode A.Archive archive.now A.File.remaining A.Store.NodeStore scheme.now folder.now word.now e
+        (W.contents writer.old) (W.contents writer.new)) }
 {
     let scheme = scheme_at(alloc, archive, scheme)?;
     let node = node_of(&scheme, word)?;
@@ -46,8 +51,12 @@ fn audit_folder<A: Archive, W: Write, P: Progress>(
     writer: &mut W,
     progress: &P,
 ) -> Result<(), OpFault>
-    ensures ok { OnOk result (AuditsFolder A.Archive archive.now A.File.remaining A.Store.NodeStore scheme.now folder.now (W.contents writer.old) (W.contents writer.new)) }
-    ensures err { IfErr result (λ e. FailsToAuditFolder A.Archive archive.now A.File.remaining A.Store.NodeStore scheme.now folder.now e (W.contents writer.old) (W.contents writer.new)) }
+    ensures ok { OnOk result
+        (AuditsFolder A.Archive archive.now A.File.remaining A.Store.NodeStore scheme.now folder.now
+        (W.contents writer.old) (W.contents writer.new)) }
+    ensures err { IfErr result
+        (λ e. FailsToAuditFolder A.Archive archive.now A.File.remaining A.Store.NodeStore scheme.now folder.now e
+        (W.contents writer.old) (W.contents writer.new)) }
 {
     let scheme = scheme_at(alloc, archive, scheme)?;
     find_folder(archive, folder)?;
@@ -80,8 +89,11 @@ where
     W: Write,
     P: Progress,
     R: Threads + Wait + SystemClock + Net<Listener = TcpListener, Stream = TcpStream> + Sync,
-    ensures ok { OnOk result (Performs A.Archive archive.now A.File.remaining A.Store.NodeStore action.now (I.remaining reader.old) (I.remaining reader.new) (W.contents writer.old) (W.contents writer.new)) }
-    ensures err { IfErr result (λ e. FailsToPerform A.Archive archive.now A.File.remaining A.Store.NodeStore action.now e (I.remaining reader.old) (I.remaining reader.new) (W.contents writer.old) (W.contents writer.new)) }
+    ensures ok { OnOk result (Performs A.Archive archive.now A.File.remaining A.Store.NodeStore action.now
+        (I.remaining reader.old) (I.remaining reader.new) (W.contents writer.old) (W.contents writer.new)) }
+    ensures err { IfErr result
+        (λ e. FailsToPerform A.Archive archive.now A.File.remaining A.Store.NodeStore action.now e
+        (I.remaining reader.old) (I.remaining reader.new) (W.contents writer.old) (W.contents writer.new)) }
 {
     match action {
         Action::Rehearse => rehearse(alloc, reader, writer),

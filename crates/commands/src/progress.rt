@@ -5,7 +5,7 @@ pub trait Progress {
     /// Who is told of the records that an audit reads and weaves.
     type OfAudit: weave::Watch + Drop;
     /// Who is told of a script's lines, and of the records that a run settles and weaves.
-    type OfRun: runs::Watch + weave::Watch + Drop;
+    type OfRun: run::Watch + weave::Watch + Drop;
 
     /// An audit begins.
     fn of_audit(&self) -> Self::OfAudit;

@@ -2,20 +2,20 @@
 ghost use Rattle.std.specs.Prelude.{◌≡◌, All, IfErr, IfOk, OnErr, OnOk, length, map, vec_len};
 ghost use Rattle.desk.specs.Views.{opened_with};
 ghost use Rattle.protocol.specs.Registries.{nodes};
-ghost use Rattle.runs.specs.Runs.{FailsToRun, IsLoadedAmong};
+ghost use Rattle.run.specs.Runs.{FailsToRun, IsLoadedAmong};
 ghost use Rattle.commands.specs.Commands.{AreClosed, AreOpened, FailsToLoadFolder, FailsToRunFolder, FailsToRunLoaded, HasClosingFault, HasReported, IsPortFault, LoadsFolder, RunsFolder, RunsLoaded};
 
 use crate::archive::Archive;
 use crate::opening::{find_folder, open_stores, scheme_at, script_at};
 use crate::progress::Progress;
-use answers::WallClock;
 use audit::load_run;
-use desk::{OpenGate, Stored};
-use inputs::{OpFault, store_fault};
+use command_faults::{OpFault, store_fault};
+use desk::{OpenGate, Stored, WallClock};
+use input_lines::ScriptLine;
 use protocol::nodes_of;
-use runs::{Network, run_script};
-use scheme::Scheme;
-use scripts::ScriptLine;
+use protocol::scheme::Scheme;
+use run::world::Core;
+use run::{Network, run_script};
 use sockets::{Port, Ports, open_ports};
 use std::alloc::Global;
 use std::io::{ErrorKind, Write};
@@ -26,7 +26,6 @@ use std::thread::Threads;
 use stores::NodeStore;
 use units::Node;
 use weave::Watch;
-use world::Core;
 
 /// The stores of all nodes in the folder, each with the state that its records lead to.
 ///
@@ -95,7 +94,8 @@ fn close_stores<A: Archive>(archive: &A, nodes: Vec<Stored<Core, A::Store>>) -> 
     first
 }
 
-/// Runs the nodes in threads, over connections that are made to these listeners, while the script is played, and reports.
+/// Runs the nodes in threads, over connections that are made to these listeners, while the script is played, and
+/// reports.
 fn run_connected<S, W, P, R>(
     rt: &R,
     alloc: Global,
@@ -114,8 +114,11 @@ where
     R: Threads + Wait + SystemClock + Net<Listener = TcpListener, Stream = TcpStream> + Sync,
     requires opened { AreOpened scheme.now loaded.items }
     requires listeners { length listeners.now ≡ length (nodes scheme.now) }
-    ensures ok { IfOk result (λ v. HasReported S.NodeStore scheme.now lines.now loaded.items v.items (W.contents writer.old) (W.contents writer.new)) }
-    ensures err { IfErr result (λ e. FailsToRun S.NodeStore (IsLoadedAmong S.NodeStore scheme.now loaded.items) e scheme.now lines.now (W.contents writer.old) (W.contents writer.new)) }
+    ensures ok { IfOk result (λ v. HasReported S.NodeStore scheme.now lines.now loaded.items v.items
+        (W.contents writer.old) (W.contents writer.new)) }
+    ensures err { IfErr result
+        (λ e. FailsToRun S.NodeStore (IsLoadedAmong S.NodeStore scheme.now loaded.items) e scheme.now lines.now
+        (W.contents writer.old) (W.contents writer.new)) }
 {
     let network = Network {
         listeners,
@@ -149,8 +152,11 @@ where
     P: Progress,
     R: Threads + Wait + SystemClock + Net<Listener = TcpListener, Stream = TcpStream> + Sync,
     requires opened { AreOpened scheme.now loaded.items }
-    ensures ok { OnOk result (RunsLoaded A.Store.NodeStore (A.closes archive.now) scheme.now lines.now loaded.items (W.contents writer.old) (W.contents writer.new)) }
-    ensures err { IfErr result (λ e. FailsToRunLoaded A.Store.NodeStore (A.closes archive.now) (A.unclosed archive.now) scheme.now lines.now loaded.items e (W.contents writer.old) (W.contents writer.new)) }
+    ensures ok { OnOk result (RunsLoaded A.Store.NodeStore (A.closes archive.now) scheme.now lines.now loaded.items
+        (W.contents writer.old) (W.contents writer.new)) }
+    ensures err { IfErr result
+        (λ e. FailsToRunLoaded A.Store.NodeStore (A.closes archive.now)
+        (A.unclosed archive.now) scheme.now lines.now loaded.items e (W.contents writer.old) (W.contents writer.new)) }
 {
     let nodes = nodes_of(alloc, scheme)?;
     let listeners = open_all(rt, alloc, nodes.as_slice())?;
@@ -169,8 +175,8 @@ where
 ///
 /// # Errors
 ///
-/// Fails with the first fault of these, and as `run_script` does. Where all was written, with the first fault of a store
-/// that is closed.
+/// Fails with the first fault of these, and as `run_script` does. Where all was written, with the first fault of a
+/// store that is closed.
 pub(crate) fn run_folder<A, W, P, R>(
     rt: &R,
     alloc: Global,
@@ -186,8 +192,12 @@ where
     W: Write,
     P: Progress,
     R: Threads + Wait + SystemClock + Net<Listener = TcpListener, Stream = TcpStream> + Sync,
-    ensures ok { OnOk result (RunsFolder A.Archive archive.now A.File.remaining A.Store.NodeStore scheme.now folder.now script.now (W.contents writer.old) (W.contents writer.new)) }
-    ensures err { IfErr result (λ e. FailsToRunFolder A.Archive archive.now A.File.remaining A.Store.NodeStore scheme.now folder.now script.now e (W.contents writer.old) (W.contents writer.new)) }
+    ensures ok { OnOk result
+        (RunsFolder A.Archive archive.now A.File.remaining A.Store.NodeStore scheme.now folder.now script.now
+        (W.contents writer.old) (W.contents writer.new)) }
+    ensures err { IfErr result
+        (λ e. FailsToRunFolder A.Archive archive.now A.File.remaining A.Store.NodeStore scheme.now folder.now script.now e
+        (W.contents writer.old) (W.contents writer.new)) }
 {
     let scheme = scheme_at(alloc, archive, scheme)?;
     let lines = script_at(alloc, archive, script)?;

@@ -12,54 +12,54 @@ use Rattle.stores.specs.Faults.{count_after, faults_after}
 use Rattle.stores.specs.declared.fault.StoreFault.{StoreFault}
 use Rattle.stores.specs.declared.node_store.NodeStore.{Ghosts}
 use Rattle.desk.specs.Calls.{Takes, Tells, batch_of, committed_by, done}
-use Rattle.desk.specs.Keeping.{Commits, IsAtDesk, IsKept, Keeping, count_with, fault_after}
-use Rattle.desk.specs.Views.{Held, tail}
+use Rattle.desk.specs.Keeping.{Commits, IsAtDesk, IsKept, StoredView, count_with, fault_after}
+use Rattle.desk.specs.Views.{StateView, tail}
 use Rattle.desk.specs.declared.notes.Told.{Told}
 use Rattle.desk.proofs.Keepings.{after_more}
 
 -- what no call changes of a state; and none makes it run again
-record IsSame (old new : Held) : Type 0 where
+record IsSame (old new : StateView) : Type 0 where
   pub scheme : new.scheme ≡ old.scheme
   pub node : new.node ≡ old.node
   pub first : take new.opening new.journal ≡ take old.opening old.journal
   pub runs : new.runs ≡ true → old.runs ≡ true
 
-same_as : (old new : Held) → new ≡ old → IsSame old new
+same_as : (old new : StateView) → new ≡ old → IsSame old new
 same_as old new e = record {
-  scheme = ap (λ (h : Held). h.scheme) e;
-  node = ap (λ (h : Held). h.node) e;
-  first = ap (λ (h : Held). take h.opening h.journal) e;
-  runs = λ r. sym (ap (λ (h : Held). h.runs) e) ∙ r;
+  scheme = ap (λ (h : StateView). h.scheme) e;
+  node = ap (λ (h : StateView). h.node) e;
+  first = ap (λ (h : StateView). take h.opening h.journal) e;
+  runs = λ r. sym (ap (λ (h : StateView). h.runs) e) ∙ r;
 }
 
-same_after : (old new : Held) (more journal : List Input) → old.opening ≤ length old.journal → journal ≡ old.journal ++ more → new ≡ record old { journal = journal } → IsSame old new
+same_after : (old new : StateView) (more journal : List Input) → old.opening ≤ length old.journal → journal ≡ old.journal ++ more → new ≡ record old { journal = journal } → IsSame old new
 same_after old new more journal early is e = record {
-  scheme = ap (λ (h : Held). h.scheme) e;
-  node = ap (λ (h : Held). h.node) e;
-  first = ap (λ (h : Held). take h.opening h.journal) e ∙ (ap (take old.opening) is ∙ take-append-le old.opening old.journal more early);
-  runs = λ r. sym (ap (λ (h : Held). h.runs) e) ∙ r;
+  scheme = ap (λ (h : StateView). h.scheme) e;
+  node = ap (λ (h : StateView). h.node) e;
+  first = ap (λ (h : StateView). take h.opening h.journal) e ∙ (ap (take old.opening) is ∙ take-append-le old.opening old.journal more early);
+  runs = λ r. sym (ap (λ (h : StateView). h.runs) e) ∙ r;
 }
 
-takes_same : (old new : Held) (input : Input) (result : Result Stepped Refusal) (runs : Bool) → old.opening ≤ length old.journal → old.runs ≡ runs → Takes old input result new → IsSame old new
+takes_same : (old new : StateView) (input : Input) (result : Result Stepped Refusal) (runs : Bool) → old.opening ≤ length old.journal → old.runs ≡ runs → Takes old input result new → IsSame old new
 takes_same old new input result false early is takes = same_as old new (takes.0 is).1
 takes_same old new input result true early is takes =
     let more = after_more old.journal input result in
     same_after old new more.0 (after old.journal input result) early more.1 (takes.1 is).1
 
-tells_same : (old new : Held) (input : Input) (told : Told) → old.opening ≤ length old.journal → Tells old input told new → IsSame old new
+tells_same : (old new : StateView) (input : Input) (told : Told) → old.opening ≤ length old.journal → Tells old input told new → IsSame old new
 tells_same old new input told early tells = takes_same old new input tells.0 old.runs early refl tells.2
 
 module _ {S : Type 0} (g : Ghosts S) (opened : Scheme → Node → List Input → ℕ → Type 0) where
-  abbrev At : Held → S → Option StoreFault → Type 0
+  abbrev At : StateView → S → Option StoreFault → Type 0
   At held store fault = IsAtDesk g opened (record { state = held; store = store }) fault
 
-  began_still : (old new : Held) (before : ℕ) → IsSame old new → opened old.scheme old.node (take old.opening old.journal) before → opened new.scheme new.node (take new.opening new.journal) before
+  began_still : (old new : StateView) (before : ℕ) → IsSame old new → opened old.scheme old.node (take old.opening old.journal) before → opened new.scheme new.node (take new.opening new.journal) before
   began_still old new before same began =
       subst (λ (s : Scheme). opened s new.node (take new.opening new.journal) before) (sym same.scheme)
       (subst (λ (n : Node). opened old.scheme n (take new.opening new.journal) before) (sym same.node)
       (subst (λ (first : List Input). opened old.scheme old.node first before) (sym same.first) began))
 
-  at_same : (old new : Held) (store : S) (fault : Option StoreFault) → IsSame old new → At old store fault → At new store fault
+  at_same : (old new : StateView) (store : S) (fault : Option StoreFault) → IsSame old new → At old store fault → At new store fault
   at_same old new store fault same at = record {
     before = at.before;
     began = began_still old new at.before same at.began;
@@ -68,16 +68,16 @@ module _ {S : Type 0} (g : Ghosts S) (opened : Scheme → Node → List Input �
     running = λ runs. at.running (same.runs runs);
   }
 
-  pub at_taken : (old new : Held) (old_store new_store : S) (input : Input) (told : Told) (fault : Option StoreFault) → IsKept g (record { state = old; store = old_store })
+  pub at_taken : (old new : StateView) (old_store new_store : S) (input : Input) (told : Told) (fault : Option StoreFault) → IsKept g (record { state = old; store = old_store })
       → Tells old input told new → new_store ≡ old_store → At old old_store fault → At new new_store fault
   at_taken old new old_store new_store input told fault kept tells store at =
       let early = kept.opening in
       let within = kept.committed in
       subst (λ (s : S). At new s fault) (sym store) (at_same old new old_store fault (tells_same old new input told (omega (arith, early, within)) tells) at)
 
-  pub at_stopped : (old new : Held) (old_store new_store : S) (fault : Option StoreFault) → new ≡ record old { runs = false } → new_store ≡ old_store → At old old_store fault → At new new_store fault
+  pub at_stopped : (old new : StateView) (old_store new_store : S) (fault : Option StoreFault) → new ≡ record old { runs = false } → new_store ≡ old_store → At old old_store fault → At new new_store fault
   at_stopped old new old_store new_store fault is store at =
-      subst (λ (h : Held). At h new_store fault) (sym is) (subst (λ (s : S). At (record old { runs = false }) s fault) (sym store) (record {
+      subst (λ (h : StateView). At h new_store fault) (sym is) (subst (λ (s : S). At (record old { runs = false }) s fault) (sym store) (record {
         before = at.before;
         began = at.began;
         counted = at.counted;
@@ -92,7 +92,7 @@ module _ {S : Type 0} (g : Ghosts S) (opened : Scheme → Node → List Input �
   ok_zero count e = cc (e)
 
   -- nothing was to be committed
-  at_nothing : (old : Held) (old_store new_store : S) (result : Result ℕ StoreFault) (fault : Option StoreFault) → result ≡ Ok 0 → new_store ≡ old_store → At old old_store fault → At (committed_by old result) new_store (fault_after fault result)
+  at_nothing : (old : StateView) (old_store new_store : S) (result : Result ℕ StoreFault) (fault : Option StoreFault) → result ≡ Ok 0 → new_store ≡ old_store → At old old_store fault → At (committed_by old result) new_store (fault_after fault result)
   at_nothing old old_store new_store (Err told) fault none store at = absurd (never_ok told none)
   at_nothing old old_store new_store (Ok count) fault none store at = subst (λ (s : S). At (record old { committed = old.committed + count }) s fault) (sym store) (record {
     before = at.before;
@@ -103,7 +103,7 @@ module _ {S : Type 0} (g : Ghosts S) (opened : Scheme → Node → List Input �
   })
 
   -- a batch was to be committed
-  at_batch : (old : Held) (old_store new_store : S) (batch : List Input) (result : Result ℕ StoreFault) (fault : Option StoreFault) → old.runs ≡ true
+  at_batch : (old : StateView) (old_store new_store : S) (batch : List Input) (result : Result ℕ StoreFault) (fault : Option StoreFault) → old.runs ≡ true
       → Appends g.is_honest g.content g.may_hold g.must_reopen old_store new_store batch (done result) → g.faults new_store ≡ faults_after (g.faults old_store) result
       → At old old_store fault → At (committed_by old result) new_store (fault_after fault result)
   at_batch old old_store new_store batch (Ok count) fault running appends counts at = record {
@@ -121,14 +121,14 @@ module _ {S : Type 0} (g : Ghosts S) (opened : Scheme → Node → List Input �
     running = λ never. absurd (cc (never));
   }
 
-  at_cases : (old : Held) (old_store new_store : S) (most : ℕ) (batch : List Input) (result : Result ℕ StoreFault) (fault : Option StoreFault) → old.runs ≡ true
+  at_cases : (old : StateView) (old_store new_store : S) (most : ℕ) (batch : List Input) (result : Result ℕ StoreFault) (fault : Option StoreFault) → old.runs ≡ true
       → (length batch ≡ 0 → (result ≡ Ok 0) × (new_store ≡ old_store))
       → (0 < length batch → Appends g.is_honest g.content g.may_hold g.must_reopen old_store new_store batch (done result)) → g.faults new_store ≡ faults_after (g.faults old_store) result
       → At old old_store fault → At (committed_by old result) new_store (fault_after fault result)
   at_cases old old_store new_store most [] result fault running none some counts at = let nothing = none refl in at_nothing old old_store new_store result fault nothing.0 nothing.1 at
   at_cases old old_store new_store most (input ∷ rest) result fault running none some counts at = at_batch old old_store new_store (input ∷ rest) result fault running (some (omega arith)) counts at
 
-  at_runs : (old : Held) (old_store new_store : S) (most : ℕ) (result : Result ℕ StoreFault) (fault : Option StoreFault) (runs : Bool) → old.runs ≡ runs
+  at_runs : (old : StateView) (old_store new_store : S) (most : ℕ) (result : Result ℕ StoreFault) (fault : Option StoreFault) (runs : Bool) → old.runs ≡ runs
       → (length (if runs then take most (tail old) else []) ≡ 0 → (result ≡ Ok 0) × (new_store ≡ old_store))
       → (0 < length (if runs then take most (tail old) else []) → Appends g.is_honest g.content g.may_hold g.must_reopen old_store new_store (if runs then take most (tail old) else []) (done result))
       → g.faults new_store ≡ faults_after (g.faults old_store) result → At old old_store fault → At (committed_by old result) new_store (fault_after fault result)
@@ -136,8 +136,8 @@ module _ {S : Type 0} (g : Ghosts S) (opened : Scheme → Node → List Input �
   at_runs old old_store new_store most result fault false is none some counts at = let nothing = none refl in at_nothing old old_store new_store result fault nothing.0 nothing.1 at
 
   -- a commit of that many at most
-  pub at_committed : (old new : Keeping S) (most : ℕ) (result : Result ℕ StoreFault) (fault : Option StoreFault) → Commits g old new most result
+  pub at_committed : (old new : StoredView S) (most : ℕ) (result : Result ℕ StoreFault) (fault : Option StoreFault) → Commits g old new most result
       → g.faults new.store ≡ faults_after (g.faults old.store) result → IsAtDesk g opened old fault → IsAtDesk g opened new (fault_after fault result)
   at_committed old new most result fault commits counts at =
-      subst (λ (h : Held). At h new.store (fault_after fault result)) (sym commits.state)
-      (at_runs old.state old.store new.store most result fault old.state.runs refl (λ none. let nothing = commits.none none in (nothing.0, ap (λ (k : Keeping S). k.store) nothing.1)) commits.some counts at)
+      subst (λ (h : StateView). At h new.store (fault_after fault result)) (sym commits.state)
+      (at_runs old.state old.store new.store most result fault old.state.runs refl (λ none. let nothing = commits.none none in (nothing.0, ap (λ (k : StoredView S). k.store) nothing.1)) commits.some counts at)

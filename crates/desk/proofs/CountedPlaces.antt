@@ -8,7 +8,7 @@ use Rattle.std.proofs.lemmas.List.{drop_all, take_all, get_or-replicate, length-
 use Rattle.wire.specs.declared.input.Input.{Input}
 use Rattle.desk.specs.Counts.{CountsFrom}
 use Rattle.desk.specs.Covering.{IsPlace}
-use Rattle.desk.specs.Views.{Held, Heard}
+use Rattle.desk.specs.Views.{StateView, SeatView}
 
 -- the same counts, of times that are the same
 pub counts_same : (opening : ℕ) (f g : ℕ → ℕ) (counts : List ℕ) → ((p : ℕ) → f p ≡ g p) → CountsFrom opening f counts → CountsFrom opening g counts
@@ -55,7 +55,7 @@ none_counted opening n k below = get_or-replicate n k 0 0 (let size : length (re
 
 -- ---- counts of all places since the opening
 
-module _ (held : Held) (seats : List Heard) (opening : ℕ) (counts : List ℕ) (journal : List Input) (opens : opening ≡ held.opening) (within : held.opening ≤ length held.journal) (whole : journal ≡ held.journal)
+module _ (held : StateView) (seats : List SeatView) (opening : ℕ) (counts : List ℕ) (journal : List Input) (opens : opening ≡ held.opening) (within : held.opening ≤ length held.journal) (whole : journal ≡ held.journal)
     (all : length counts ≡ length journal - opening) where
   last : opening + length counts ≡ length held.journal
   last = let long : length journal ≡ length held.journal = ap length whole in omega (arith, opens, within, all, long)

@@ -16,9 +16,9 @@ use Rattle.stores.specs.declared.fault.StoreFault.{StoreFault}
 use Rattle.stores.specs.declared.node_store.NodeStore.{Ghosts}
 use Rattle.stores.specs.declared.fault.StoreFault.TheVariants.{Reopen}
 use Rattle.desk.specs.Calls.{Takes, Tells, batch_of, committed_by, done}
-use Rattle.desk.specs.Keeping.{Commits, HaveFirst, HaveCommitted, HaveSome, IsKept, Keeping}
+use Rattle.desk.specs.Keeping.{Commits, HaveFirst, HaveCommitted, HaveSome, IsKept, StoredView}
 use Rattle.desk.specs.Loading.{IsLoaded}
-use Rattle.desk.specs.Views.{Held, opened_with, tail}
+use Rattle.desk.specs.Views.{StateView, opened_with, tail}
 use Rattle.desk.specs.declared.notes.Told.{Told}
 use Rattle.desk.proofs.JournalFronts.{front_more}
 
@@ -136,10 +136,10 @@ after_more journal input (Err refusal) = ([], sym (append-nil journal))
 -- ---- a state and its store
 
 module _ {S : Type 0} (g : Ghosts S) where
-  abbrev Kept : Held → S → Type 0
+  abbrev Kept : StateView → S → Type 0
   Kept held store = IsKept g (record { state = held; store = store })
 
-  kept_longer : (held : Held) (more : List Input) (store : S) → Kept held store → Kept (record held { journal = held.journal ++ more }) store
+  kept_longer : (held : StateView) (more : List Input) (store : S) → Kept held store → Kept (record held { journal = held.journal ++ more }) store
   kept_longer held more store kept =
       let within = kept.committed in
       let early = kept.opening in
@@ -163,21 +163,21 @@ module _ {S : Type 0} (g : Ghosts S) where
             };
       }
 
-  kept_after : (held : Held) (input : Input) (result : Result Stepped Refusal) (store : S) → Kept held store → Kept (record held { journal = after held.journal input result }) store
+  kept_after : (held : StateView) (input : Input) (result : Result Stepped Refusal) (store : S) → Kept held store → Kept (record held { journal = after held.journal input result }) store
   kept_after held input result store kept =
       let is = after_more held.journal input result in
       subst (λ (journal : List Input). Kept (record held { journal = journal }) store) (sym is.1) (kept_longer held is.0 store kept)
 
-  takes_cases : (old new : Held) (input : Input) (result : Result Stepped Refusal) (store : S) (runs : Bool) → old.runs ≡ runs → Takes old input result new → Kept old store → Kept new store
-  takes_cases old new input result store false is takes kept = subst (λ (h : Held). Kept h store) (sym (takes.0 is).1) kept
-  takes_cases old new input result store true is takes kept = subst (λ (h : Held). Kept h store) (sym (takes.1 is).1) (kept_after old input result store kept)
+  takes_cases : (old new : StateView) (input : Input) (result : Result Stepped Refusal) (store : S) (runs : Bool) → old.runs ≡ runs → Takes old input result new → Kept old store → Kept new store
+  takes_cases old new input result store false is takes kept = subst (λ (h : StateView). Kept h store) (sym (takes.0 is).1) kept
+  takes_cases old new input result store true is takes kept = subst (λ (h : StateView). Kept h store) (sym (takes.1 is).1) (kept_after old input result store kept)
 
   -- an input was taken, or it wasn't
-  pub kept_taken : (old new : Held) (input : Input) (told : Told) (store : S) → Tells old input told new → Kept old store → Kept new store
+  pub kept_taken : (old new : StateView) (input : Input) (told : Told) (store : S) → Tells old input told new → Kept old store → Kept new store
   kept_taken old new input told store tells kept = takes_cases old new input tells.0 store old.runs refl tells.2 kept
 
   -- the state was stopped
-  pub kept_stopped : (held : Held) (store : S) → Kept held store → Kept (record held { runs = false }) store
+  pub kept_stopped : (held : StateView) (store : S) → Kept held store → Kept (record held { runs = false }) store
   kept_stopped held store kept = record {
     opening = kept.opening;
     committed = kept.committed;
@@ -196,7 +196,7 @@ module _ {S : Type 0} (g : Ghosts S) where
     pub own : g.is_honest new → g.must_reopen new ≡ false → g.is_own old → g.is_own new
 
   -- the batch was appended
-  kept_appended : (held : Held) (old new : S) (most : ℕ) (batch : List Input) → held.runs ≡ true → batch ≡ take most (tail held) → Owns old new
+  kept_appended : (held : StateView) (old new : S) (most : ℕ) (batch : List Input) → held.runs ≡ true → batch ≡ take most (tail held) → Owns old new
       → Appends g.is_honest g.content g.may_hold g.must_reopen old new batch (Ok tt) → Kept held old → Kept (record held { committed = held.committed + length batch }) new
   kept_appended held old new most batch running is owns appends kept =
       let within = kept.committed in
@@ -221,7 +221,7 @@ module _ {S : Type 0} (g : Ghosts S) where
       }
 
   -- it wasn't
-  kept_failed : (held : Held) (old new : S) (most : ℕ) (batch : List Input) (fault : StoreFault) → held.runs ≡ true → batch ≡ take most (tail held) → Owns old new
+  kept_failed : (held : StateView) (old new : S) (most : ℕ) (batch : List Input) (fault : StoreFault) → held.runs ≡ true → batch ≡ take most (tail held) → Owns old new
       → Appends g.is_honest g.content g.may_hold g.must_reopen old new batch (Err fault) → Kept held old → Kept (record held { runs = false }) new
   kept_failed held old new most batch fault running is owns appends kept =
       let within = kept.committed in
@@ -254,7 +254,7 @@ module _ {S : Type 0} (g : Ghosts S) where
       }
 
   -- what a commit says of what it returned
-  abbrev Committing : Held → S → S → Result ℕ StoreFault → List Input → Type 0
+  abbrev Committing : StateView → S → S → Result ℕ StoreFault → List Input → Type 0
   Committing held old new result batch =
       IfOk result (λ count. count ≡ length batch)
       × (length batch ≡ 0 → (result ≡ Ok 0) × (new ≡ old))
@@ -266,42 +266,42 @@ module _ {S : Type 0} (g : Ghosts S) where
   ok_zero : (count : ℕ) → let told : Result ℕ StoreFault = Ok count in told ≡ Ok 0 → count ≡ 0
   ok_zero count e = cc (e)
 
-  kept_nothing : (held : Held) (old new : S) (result : Result ℕ StoreFault) → result ≡ Ok 0 → new ≡ old → Kept held old → Kept (committed_by held result) new
+  kept_nothing : (held : StateView) (old new : S) (result : Result ℕ StoreFault) → result ≡ Ok 0 → new ≡ old → Kept held old → Kept (committed_by held result) new
   kept_nothing held old new (Err fault) none same kept = absurd (never_ok fault none)
   kept_nothing held old new (Ok count) none same kept =
       let zero_more : held.committed ≡ held.committed + count = omega (arith, ok_zero count none) in
       subst (λ (n : ℕ). Kept (record held { committed = n }) new) zero_more (subst (λ (s : S). Kept held s) (sym same) kept)
 
-  kept_batch : (held : Held) (old new : S) (most : ℕ) (result : Result ℕ StoreFault) (batch : List Input) → held.runs ≡ true → batch ≡ take most (tail held) → Owns old new
+  kept_batch : (held : StateView) (old new : S) (most : ℕ) (result : Result ℕ StoreFault) (batch : List Input) → held.runs ≡ true → batch ≡ take most (tail held) → Owns old new
       → IfOk result (λ count. count ≡ length batch) → Appends g.is_honest g.content g.may_hold g.must_reopen old new batch (done result) → Kept held old → Kept (committed_by held result) new
   kept_batch held old new most (Ok count) batch running is owns counts appends kept =
       subst (λ (n : ℕ). Kept (record held { committed = held.committed + n }) new) (sym counts) (kept_appended held old new most batch running is owns appends kept)
   kept_batch held old new most (Err fault) batch running is owns counts appends kept = kept_failed held old new most batch fault running is owns appends kept
 
-  kept_some : (held : Held) (old new : S) (most : ℕ) (result : Result ℕ StoreFault) (batch : List Input) → held.runs ≡ true → batch ≡ take most (tail held) → Owns old new
+  kept_some : (held : StateView) (old new : S) (most : ℕ) (result : Result ℕ StoreFault) (batch : List Input) → held.runs ≡ true → batch ≡ take most (tail held) → Owns old new
       → Committing held old new result batch → Kept held old → Kept (committed_by held result) new
   kept_some held old new most result [] running is owns commits kept = let none = commits.1 refl in kept_nothing held old new result none.0 none.1 kept
   kept_some held old new most result (input ∷ rest) running is owns commits kept =
       kept_batch held old new most result (input ∷ rest) running is owns commits.0 (commits.2 (omega arith)) kept
 
-  commit_cases : (held : Held) (old new : S) (most : ℕ) (result : Result ℕ StoreFault) (runs : Bool) → held.runs ≡ runs → Owns old new
+  commit_cases : (held : StateView) (old new : S) (most : ℕ) (result : Result ℕ StoreFault) (runs : Bool) → held.runs ≡ runs → Owns old new
       → Committing held old new result (if runs then take most (tail held) else []) → Kept held old → Kept (committed_by held result) new
   commit_cases held old new most result true is owns commits kept = kept_some held old new most result (take most (tail held)) is refl owns commits kept
   commit_cases held old new most result false is owns commits kept = let none = commits.1 refl in kept_nothing held old new result none.0 none.1 kept
 
   -- a commit of that many at most
-  pub kept_committed : (held : Held) (old new : S) (most : ℕ) (result : Result ℕ StoreFault) → g.whose new ≡ g.whose old → (g.is_honest new → g.must_reopen new ≡ false → g.is_own old → g.is_own new)
+  pub kept_committed : (held : StateView) (old new : S) (most : ℕ) (result : Result ℕ StoreFault) → g.whose new ≡ g.whose old → (g.is_honest new → g.must_reopen new ≡ false → g.is_own old → g.is_own new)
       → Committing held old new result (batch_of held most) → Kept held old → Kept (committed_by held result) new
   kept_committed held old new most result whose own commits kept = commit_cases held old new most result held.runs refl (record { whose = whose; own = own }) commits kept
 
   -- ---- the opening
 
-  waits_no : (old new : S) (scheme : Scheme) (n : Node) (journal : List Input) (waits : Bool) → g.must_reopen old ≡ waits → IsLoaded g.is_honest g.content g.may_hold g.must_reopen scheme n old new (Ok journal) → g.must_reopen old ≡ false
+  waits_no : (old new : S) (scheme : Scheme) (n : Node) (journal : List Input) (waits : Bool) → g.must_reopen old ≡ waits → IsLoaded g scheme n old new (Ok journal) → g.must_reopen old ≡ false
   waits_no old new scheme n journal true is loaded = absurd (cc ((loaded.reopen is).0))
   waits_no old new scheme n journal false is loaded = is
 
   -- all records of the store were loaded
-  pub kept_loaded : (scheme : Scheme) (n : Node) (journal : List Input) (old new : S) → IsLoaded g.is_honest g.content g.may_hold g.must_reopen scheme n old new (Ok journal)
+  pub kept_loaded : (scheme : Scheme) (n : Node) (journal : List Input) (old new : S) → IsLoaded g scheme n old new (Ok journal)
       → g.whose new ≡ g.whose old → (g.is_honest new → g.must_reopen new ≡ false → g.is_own old → g.is_own new) → g.whose old ≡ n → (g.is_honest old → g.must_reopen old ≡ false → g.is_own old)
       → Kept (opened_with scheme n journal) new
   kept_loaded scheme n journal old new loaded same keeps_own whose own =

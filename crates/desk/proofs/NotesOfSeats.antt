@@ -6,14 +6,14 @@ use Rattle.std.proofs.lemmas.Grind.{flat_map-append}
 use Rattle.std.proofs.lemmas.List.{append_assoc, append-nil, map_push, take_more}
 use Rattle.std.proofs.lemmas.List.Elements.{All-from_recursion, recursion_from_All}
 use Rattle.std.proofs.lemmas.List.Sorted.{All-permutation, IsPermutation-sym}
-use Rattle.lemmas.proofs.Membership.{In, In_flat_map, map_In}
-use Rattle.lemmas.proofs.Positions.{In_contains, contains_in}
+use Rattle.units.proofs.Lists.Membership.{In, In_flat_map, map_In}
+use Rattle.units.proofs.Lists.Positions.{In_contains, contains_in}
 use Rattle.units.specs.declared.code.Node.{Node}
 use Rattle.wire.specs.declared.input.Input.{Input}
 use Rattle.scheme.specs.declared.registries.Scheme.{Scheme}
 use Rattle.desk.specs.declared.notes.Note.{Note}
 use Rattle.desk.specs.Settling.{AllBorne, Bears, SomeUnborne}
-use Rattle.desk.specs.Views.{Heard}
+use Rattle.desk.specs.Views.{SeatView}
 
 -- ---- in another order
 
@@ -79,22 +79,22 @@ some_after : {X Y : Type 0} (g : X → Y) (P : Y → Type 0) (xs : List X) → A
 some_after g P xs some = any_at P (map g xs) (g some.1) (map_In g some.1 xs (In_contains xs some.1 (some.0, some.2, some.3))) some.4
 
 -- what was found among the notes in their order is so of the notes of the seats
-module _ {X : Type 0} (seen : X → Note) (scheme : Scheme) (n : Node) (seats : List Heard) (notes : List X) where
+module _ {X : Type 0} (seen : X → Note) (scheme : Scheme) (n : Node) (seats : List SeatView) (notes : List X) where
   abbrev Found : List Input → Option ℕ → Type 0
   Found journal found = MatchOption found (All (λ x. Bears scheme n journal (seen x)) notes) (λ len. Any (λ x. ((seen x).length ≡ len) × (Bears scheme n journal (seen x) → ⊥)) notes)
 
   abbrev FoundInSeats : List Input → Option ℕ → Type 0
   FoundInSeats journal found = MatchOption found (All (AllBorne scheme n journal) seats) (λ len. Any (SomeUnborne scheme n journal len) seats)
 
-  found_among : {E : Type 0} (journal : List Input) → IsPermutation (flat_map (λ (s : Heard). s.notes) seats) (map seen notes) → (result : Result (Option ℕ) E) → IfOk result (Found journal) → IfOk result (FoundInSeats journal)
+  found_among : {E : Type 0} (journal : List Input) → IsPermutation (flat_map (λ (s : SeatView). s.notes) seats) (map seen notes) → (result : Result (Option ℕ) E) → IfOk result (Found journal) → IfOk result (FoundInSeats journal)
   found_among journal moved (Err e) h = tt
   found_among journal moved (Ok None) h =
-      all_of_each (λ (s : Heard). s.notes) (Bears scheme n journal) seats (map seen notes) moved (all_after seen (Bears scheme n journal) notes h)
+      all_of_each (λ (s : SeatView). s.notes) (Bears scheme n journal) seats (map seen notes) moved (all_after seen (Bears scheme n journal) notes h)
   found_among journal moved (Ok (Some len)) h =
       let P : Note → Type 0 = λ note. (note.length ≡ len) × (Bears scheme n journal note → ⊥) in
-      some_of_one (λ (s : Heard). s.notes) P seats (map seen notes) moved (some_after seen P notes h)
+      some_of_one (λ (s : SeatView). s.notes) P seats (map seen notes) moved (some_after seen P notes h)
 
-  pub found_in_seats : {E : Type 0} (lent journal : List Input) → lent ≡ journal → IsPermutation (flat_map (λ (s : Heard). s.notes) seats) (map seen notes)
+  pub found_in_seats : {E : Type 0} (lent journal : List Input) → lent ≡ journal → IsPermutation (flat_map (λ (s : SeatView). s.notes) seats) (map seen notes)
       → (result : Result (Option ℕ) E) → IfOk result (Found lent) → IfOk result (FoundInSeats journal)
   found_in_seats lent journal journals moved result h = found_among journal moved result (subst (λ (j : List Input). IfOk result (Found j)) journals h)
 

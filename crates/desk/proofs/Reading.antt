@@ -10,10 +10,11 @@ use Rattle.protocol.specs.declared.replay_fault.ReplayFault.{ReplayFault}
 use Rattle.protocol.specs.declared.replay_fault.ReplayFault.TheVariants as replay
 use Rattle.stores.specs.Calls.{Loads}
 use Rattle.stores.specs.Faults.{is_device_fault, IsReadFault}
-use Rattle.stores.specs.Records.{Places, AreRecords, IsDamagedAt}
+use Rattle.stores.specs.Records.{Places, AreRecords, IsDamagedAt, page_size}
 use Rattle.stores.specs.declared.fault.StoreFault.{StoreFault}
 use Rattle.stores.specs.declared.fault.StoreFault.TheVariants.{Reopen, Damaged, NoMemory}
-use Rattle.desk.specs.Loading.{IsInPage, IsLoaded, IsReadTo, damage_of, page_size}
+use Rattle.stores.specs.declared.node_store.NodeStore.{Ghosts}
+use Rattle.desk.specs.Loading.{IsInPage, IsLoaded, IsReadTo, damage_of}
 
 -- ---- places
 
@@ -101,45 +102,45 @@ reopen_only fault e = cc (e)
 never_reopen : {X : Type 0} (x : X) → let told : Result X StoreFault = Ok x in told ≡ Err Reopen → ⊥
 never_reopen x e = cc (e)
 
-module _ {S : Type 0} (is_honest : S → Type 0) (content : S → Places) (may_hold : S → Places → Type 0) (must_reopen : S → Bool) where
+module _ {S : Type 0} (g : Ghosts S) where
   abbrev ReadTo : S → S → List Input → Type 0
-  ReadTo old new journal = IsReadTo is_honest content may_hold must_reopen old new journal
+  ReadTo old new journal = IsReadTo g old new journal
 
   abbrev Loaded : Scheme → Node → S → S → Result (List Input) StoreFault → Type 0
-  Loaded scheme n old new result = IsLoaded is_honest content may_hold must_reopen scheme n old new result
+  Loaded scheme n old new result = IsLoaded g scheme n old new result
 
   -- the page after the journal was asked for
   abbrev LoadsPage : S → S → List Input → Result (Vec Input Global) StoreFault → Type 0
-  LoadsPage old new journal result = Loads is_honest content may_hold must_reopen old new (length journal) (take page_size (drop (length journal) (content old))) result
+  LoadsPage old new journal result = Loads g.is_honest g.content g.may_hold g.must_reopen old new (length journal) (take page_size (drop (length journal) (g.content old))) result
 
   -- the same, where the place is a number that is told
   pub page_after : (old new : S) (from : ℕ) (journal : List Input) (result : Result (Vec Input Global) StoreFault) → from ≡ length journal
-      → Loads is_honest content may_hold must_reopen old new from (take page_size (drop from (content old))) result → LoadsPage old new journal result
-  page_after old new from journal result is loads = subst (λ (k : ℕ). Loads is_honest content may_hold must_reopen old new k (take page_size (drop k (content old))) result) is loads
+      → Loads g.is_honest g.content g.may_hold g.must_reopen old new from (take page_size (drop from (g.content old))) result → LoadsPage old new journal result
+  page_after old new from journal result is loads = subst (λ (k : ℕ). Loads g.is_honest g.content g.may_hold g.must_reopen old new k (take page_size (drop k (g.content old))) result) is loads
 
-  ran_as : (old new : S) (waits : Bool) → must_reopen old ≡ waits → (IsTrue (must_reopen old) → new ≡ old) → must_reopen new ≡ false → must_reopen old ≡ false
-  ran_as old new true was same runs = ap must_reopen (sym (same was)) ∙ runs
+  ran_as : (old new : S) (waits : Bool) → g.must_reopen old ≡ waits → (IsTrue (g.must_reopen old) → new ≡ old) → g.must_reopen new ≡ false → g.must_reopen old ≡ false
+  ran_as old new true was same runs = ap g.must_reopen (sym (same was)) ∙ runs
   ran_as old new false was same runs = was
 
   -- a store that runs after a call ran before it
-  pub ran_before : (old new : S) → (IsTrue (must_reopen old) → new ≡ old) → must_reopen new ≡ false → must_reopen old ≡ false
-  ran_before old new same runs = ran_as old new (must_reopen old) refl same runs
+  pub ran_before : (old new : S) → (IsTrue (g.must_reopen old) → new ≡ old) → g.must_reopen new ≡ false → g.must_reopen old ≡ false
+  ran_before old new same runs = ran_as old new (g.must_reopen old) refl same runs
 
   -- nothing was read yet
   pub opened : (store : S) → ReadTo store store []
   opened store = record { same = inl refl; honest = λ h. h; kept = λ h. refl; records = λ h. tt; whole = λ h. (0, refl) }
 
-  runs_on : (old mid : S) (journal : List Input) → ReadTo old mid journal → must_reopen old ≡ false → must_reopen mid ≡ false
-  runs_on old mid journal read runs = elim read.same [ inl same ↦ ap must_reopen same ∙ runs | inr both ↦ both.1 ]
+  runs_on : (old mid : S) (journal : List Input) → ReadTo old mid journal → g.must_reopen old ≡ false → g.must_reopen mid ≡ false
+  runs_on old mid journal read runs = elim read.same [ inl same ↦ ap g.must_reopen same ∙ runs | inr both ↦ both.1 ]
 
-  waits_on : (old mid : S) (journal : List Input) → ReadTo old mid journal → IsTrue (must_reopen old) → mid ≡ old
+  waits_on : (old mid : S) (journal : List Input) → ReadTo old mid journal → IsTrue (g.must_reopen old) → mid ≡ old
   waits_on old mid journal read waits = elim read.same [ inl same ↦ same | inr both ↦ let never : true ≡ false = sym waits ∙ both.0 in absurd (cc (never)) ]
 
   pub page_failed : (scheme : Scheme) (n : Node) (old mid new : S) (journal : List Input) (fault : StoreFault) → Replays scheme n journal → ReadTo old mid journal → LoadsPage mid new journal (Err fault) → Loaded scheme n old new (Err fault)
   page_failed scheme n old mid new journal fault recorded read loads = record {
     reopen = λ waits.
         let same = waits_on old mid journal read waits in
-        let told = loads.reopen (subst (λ (s : S). IsTrue (must_reopen s)) (sym same) waits) in
+        let told = loads.reopen (subst (λ (s : S). IsTrue (g.must_reopen s)) (sym same) waits) in
         (ap Err (reopen_only fault told.0), told.1 ∙ same);
     honest = λ h. read.honest (loads.honest h);
     ok = λ h. tt;
@@ -147,14 +148,14 @@ module _ {S : Type 0} (is_honest : S → Type 0) (content : S → Places) (may_h
         let found = loads.damaged h place is in
         let early = loads.honest h in
         let whole = read.whole early in
-        let below = damaged_within (place - length journal) page_size (drop (length journal) (content mid)) found.1 in
+        let below = damaged_within (place - length journal) page_size (drop (length journal) (g.content mid)) found.1 in
         inl (record {
           pages = whole.0;
           here = in_page whole.0 (length journal) place whole.1 found.0 (omega (arith, below));
           records = journal;
-          before = subst (λ (k : ℕ). AreRecords (take k (content old)) journal) whole.1 (read.records early);
+          before = subst (λ (k : ℕ). AreRecords (take k (g.content old)) journal) whole.1 (read.records early);
           recorded = recorded;
-          damaged = damaged_after journal place (place - length journal) page_size (content old) (omega (arith, found.0)) (read.records early)
+          damaged = damaged_after journal place (place - length journal) page_size (g.content old) (omega (arith, found.0)) (read.records early)
               (subst (λ (places : Places). IsDamagedAt (place - length journal) (take page_size (drop (length journal) places))) (read.kept early) found.1);
         });
     named = λ runs. loads.named (runs_on old mid journal read runs);
@@ -165,18 +166,18 @@ module _ {S : Type 0} (is_honest : S → Type 0) (content : S → Places) (may_h
   }
 
   -- a store that waits returns no page
-  ran : (mid new : S) (journal : List Input) (page : Vec Input Global) (waits : Bool) → must_reopen mid ≡ waits → LoadsPage mid new journal (Ok page) → must_reopen mid ≡ false
+  ran : (mid new : S) (journal : List Input) (page : Vec Input Global) (waits : Bool) → g.must_reopen mid ≡ waits → LoadsPage mid new journal (Ok page) → g.must_reopen mid ≡ false
   ran mid new journal page true was loads = absurd (never_reopen page (loads.reopen was).0)
   ran mid new journal page false was loads = was
 
-  ran_first : (old mid : S) (journal : List Input) → ReadTo old mid journal → must_reopen mid ≡ false → must_reopen old ≡ false
-  ran_first old mid journal read runs = elim read.same [ inl same ↦ ap must_reopen (sym same) ∙ runs | inr both ↦ both.0 ]
+  ran_first : (old mid : S) (journal : List Input) → ReadTo old mid journal → g.must_reopen mid ≡ false → g.must_reopen old ≡ false
+  ran_first old mid journal read runs = elim read.same [ inl same ↦ ap g.must_reopen (sym same) ∙ runs | inr both ↦ both.0 ]
 
-  was_running : (old mid new : S) (journal : List Input) (page : Vec Input Global) → ReadTo old mid journal → LoadsPage mid new journal (Ok page) → must_reopen old ≡ false
-  was_running old mid new journal page read loads = ran_first old mid journal read (ran mid new journal page (must_reopen mid) refl loads)
+  was_running : (old mid new : S) (journal : List Input) (page : Vec Input Global) → ReadTo old mid journal → LoadsPage mid new journal (Ok page) → g.must_reopen old ≡ false
+  was_running old mid new journal page read loads = ran_first old mid journal read (ran mid new journal page (g.must_reopen mid) refl loads)
 
   -- the records of the page, among the places of the store as it was first
-  page_of : (old mid new : S) (journal : List Input) (page : Vec Input Global) → ReadTo old mid journal → LoadsPage mid new journal (Ok page) → is_honest new → AreRecords (take page_size (drop (length journal) (content old))) page.items
+  page_of : (old mid new : S) (journal : List Input) (page : Vec Input Global) → ReadTo old mid journal → LoadsPage mid new journal (Ok page) → g.is_honest new → AreRecords (take page_size (drop (length journal) (g.content old))) page.items
   page_of old mid new journal page read loads h = subst (λ (places : Places). AreRecords (take page_size (drop (length journal) places)) page.items) (read.kept (loads.honest h)) (loads.ok h)
 
   -- one whole page more
@@ -185,10 +186,10 @@ module _ {S : Type 0} (is_honest : S → Type 0) (content : S → Places) (may_h
     same = inr (was_running old mid new journal page read loads, loads.runs);
     honest = λ h. read.honest (loads.honest h);
     kept = λ h. loads.kept h loads.runs ∙ read.kept (loads.honest h);
-    records = λ h. more_read journal page.items page_size (content old) (read.records (loads.honest h)) (page_of old mid new journal page read loads h);
+    records = λ h. more_read journal page.items page_size (g.content old) (read.records (loads.honest h)) (page_of old mid new journal page read loads h);
     whole = λ h.
         let before = read.whole (loads.honest h) in
-        let most = count_within page_size (drop (length journal) (content old)) page.items (page_of old mid new journal page read loads h) in
+        let most = count_within page_size (drop (length journal) (g.content old)) page.items (page_of old mid new journal page read loads h) in
         (before.0 + 1, length-append journal page.items ∙ omega (arith, before.1, most, full));
   }
 
@@ -200,7 +201,7 @@ module _ {S : Type 0} (is_honest : S → Type 0) (content : S → Places) (may_h
       record {
         reopen = λ waits. let never : true ≡ false = sym waits ∙ runs in absurd (cc (never));
         honest = λ h. read.honest (loads.honest h);
-        ok = λ h. all_read journal page.items page_size (content old) few (read.records (loads.honest h)) (page_of old mid new journal page read loads h);
+        ok = λ h. all_read journal page.items page_size (g.content old) few (read.records (loads.honest h)) (page_of old mid new journal page read loads h);
         damaged = λ h. tt;
         named = λ r. tt;
         stops = λ r. tt;
@@ -222,14 +223,14 @@ module _ {S : Type 0} (is_honest : S → Type 0) (content : S → Places) (may_h
             let early = loads.honest h in
             let whole = read.whole early in
             let here = page_of old mid new journal page read loads h in
-            let most = count_within page_size (drop (length journal) (content old)) page.items here in
+            let most = count_within page_size (drop (length journal) (g.content old)) page.items here in
             let found = bad place is in
             let below = slice_get_within (journal ++ page.items) place found.1.input found.1.is in
             inr (record {
               pages = whole.0;
               here = in_page whole.0 (length journal) place whole.1 found.0 (omega (arith, below, length-append journal page.items, most));
               records = journal ++ page.items;
-              through = through_page journal page.items page_size ((whole.0 + 1) * page_size) (content old) (omega (arith, whole.1)) (read.records early) here;
+              through = through_page journal page.items page_size ((whole.0 + 1) * page_size) (g.content old) (omega (arith, whole.1)) (read.records early) here;
               unrecorded = found.1;
             });
         named = λ r. named;

@@ -7,21 +7,21 @@ use Rattle.protocol.specs.declared.node_core.Stepped.{Stepped}
 use Rattle.stores.specs.declared.fault.StoreFault.{StoreFault}
 use Rattle.desk.specs.declared.notes.Told.{Told}
 use Rattle.desk.specs.Due.{stopped, told_of}
-use Rattle.desk.specs.Views.{Held, tail}
+use Rattle.desk.specs.Views.{StateView, tail}
 
 -- the state takes an input: it is refused where the state has stopped, else the journal is what the core's result
 -- makes it
-abbrev pub Takes : Held → Input → Result Stepped Refusal → Held → Type 0
+abbrev pub Takes : StateView → Input → Result Stepped Refusal → StateView → Type 0
 Takes old input result new =
     (old.runs ≡ false → (result ≡ Err stopped) × (new ≡ old))
     × (old.runs ≡ true → IsDueOrNoMemory result (answer old.scheme old.node old.journal input) × (new ≡ record old { journal = after old.journal input result }))
 
 -- the same, where what the core returns is told in that way
-abbrev pub Tells : Held → Input → Told → Held → Type 0
+abbrev pub Tells : StateView → Input → Told → StateView → Type 0
 Tells old input told new = (result : Result Stepped Refusal) × (told ≡ told_of result) × Takes old input result new
 
 -- the records that a commit of that many at most appends: none where the state has stopped
-abbrev pub batch_of : Held → ℕ → List Input
+abbrev pub batch_of : StateView → ℕ → List Input
 batch_of held max = if held.runs then take max (tail held) else []
 
 -- what a store returns, where the count is left away
@@ -30,6 +30,6 @@ done (Ok count) = Ok tt
 done (Err fault) = Err fault
 
 -- the state after a commit: that many records more are committed, or it has stopped
-abbrev pub committed_by : Held → Result ℕ StoreFault → Held
+abbrev pub committed_by : StateView → Result ℕ StoreFault → StateView
 committed_by held (Ok count) = record held { committed = held.committed + count }
 committed_by held (Err fault) = record held { runs = false }

@@ -15,7 +15,7 @@ use Rattle.desk.specs.declared.progress.Progress.{Progress}
 use Rattle.desk.specs.declared.progress.Progress.TheVariants.{Committed, Awaited, Stopped}
 use Rattle.desk.specs.Calls.{Tells}
 use Rattle.desk.specs.Due.{status_told}
-use Rattle.desk.specs.Views.{Held, committed_past, past}
+use Rattle.desk.specs.Views.{StateView, committed_past, past}
 
 -- memory ran out before the state was asked
 abbrev pub lacking : Told
@@ -23,15 +23,15 @@ lacking = Refused (record { code = out_of_memory })
 
 -- some state took the input and told this, and its journal then had this length; or memory ran out
 abbrev pub IsTakeOf : Input → Note → Type 0
-IsTakeOf input taken = (taken.told ≡ lacking) ⊎ ((old : Held) × (new : Held) × Tells old input (taken.told) new × (taken.length ≡ length new.journal))
+IsTakeOf input taken = (taken.told ≡ lacking) ⊎ ((old : StateView) × (new : StateView) × Tells old input (taken.told) new × (taken.length ≡ length new.journal))
 
 -- some state told this of the transaction, and its journal had this length; or memory ran out
 abbrev pub IsQueryOf : TransactionId → Note → Type 0
-IsQueryOf id taken = (taken.told ≡ lacking) ⊎ ((held : Held) × (taken.told ≡ status_told held id) × (taken.length ≡ length held.journal))
+IsQueryOf id taken = (taken.told ≡ lacking) ⊎ ((held : StateView) × (taken.told ≡ status_told held id) × (taken.length ≡ length held.journal))
 
 -- the state has this to send to the peer from that key on: the least key of a committed record's message that no record
 -- acknowledges, with the message
-pub record HasToSend (held : Held) (peer : Node) (from : ℕ) (found : Option (ℕ × Message)) : Type 0 where
+pub record HasToSend (held : StateView) (peer : Node) (from : ℕ) (found : Option (ℕ × Message)) : Type 0 where
   pub stopped : held.runs ≡ false → found ≡ None
   pub key : held.runs ≡ true → IsLeastFrom (awaits (sends (committed_past held)) (is_acknowledged (past held)) peer) from (option_map (λ sent. sent.0) found)
   pub message : IfSome found (λ sent. slice_get (sends (committed_past held)) sent.0 ≡ Some sent.1)
@@ -45,7 +45,7 @@ IsOf taken (Awaited back) = back ≡ taken
 IsOf taken Stopped = Unit {0}
 
 -- how far the first records of the state are committed, as many as `count` says
-abbrev pub IsProgress : Held → ℕ → Progress → Type 0
+abbrev pub IsProgress : StateView → ℕ → Progress → Type 0
 IsProgress held count (Committed receipt) = count ≤ held.committed
 IsProgress held count (Awaited back) = (held.committed < count) × (held.runs ≡ true)
 IsProgress held count Stopped = (held.committed < count) × (held.runs ≡ false)

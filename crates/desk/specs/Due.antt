@@ -14,7 +14,7 @@ use Rattle.desk.specs.declared.notes.Asked.{Asked}
 use Rattle.desk.specs.declared.notes.Asked.TheVariants.{Take, Query}
 use Rattle.desk.specs.declared.notes.Told.{Told}
 use Rattle.desk.specs.declared.notes.Told.TheVariants.{Step, Status, Refused}
-use Rattle.desk.specs.Views.{Held, past}
+use Rattle.desk.specs.Views.{StateView, past}
 
 -- what a core returns, as it is told
 abbrev pub told_of : Result Stepped Refusal → Told
@@ -31,5 +31,5 @@ abbrev pub stopped : Refusal
 stopped = record { code = node_stopped }
 
 -- what is told of a transaction
-abbrev pub status_told : Held → TransactionId → Told
+abbrev pub status_told : StateView → TransactionId → Told
 status_told held id = if held.runs then Status (stands (transitions_of (past held)) id) else Refused stopped

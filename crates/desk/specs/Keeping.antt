@@ -11,7 +11,7 @@ use Rattle.stores.specs.declared.node_store.NodeStore.{Ghosts}
 use Rattle.wire.specs.declared.message.Message.{Message}
 use Rattle.desk.specs.Calls.{batch_of, committed_by, done}
 use Rattle.desk.specs.Desks.{HasToSend, IsProgress}
-use Rattle.desk.specs.Views.{Held}
+use Rattle.desk.specs.Views.{StateView}
 use Rattle.desk.specs.declared.progress.Progress.{Progress}
 
 -- ---- what the places of a store have
@@ -23,11 +23,11 @@ pub record HaveFirst (opening : ℕ) (journal : List Input) (count : ℕ) (place
   pub since : drop opening places ≡ written (drop opening (take count journal))
 
 -- the committed records, and no others
-abbrev pub HaveCommitted : Held → Places → Type 0
+abbrev pub HaveCommitted : StateView → Places → Type 0
 HaveCommitted held places = HaveFirst held.opening held.journal held.committed places
 
 -- the committed records, and maybe some of the tail
-pub record HaveSome (held : Held) (places : Places) : Type 0 where
+pub record HaveSome (held : StateView) (places : Places) : Type 0 where
   pub count : ℕ
   pub least : held.committed ≤ count
   pub most : count ≤ length held.journal
@@ -35,14 +35,14 @@ pub record HaveSome (held : Held) (places : Places) : Type 0 where
 
 -- ---- a state and its store
 
-pub record Keeping (S : Type 0) : Type 0 where
-  pub state : Held
+pub record StoredView (S : Type 0) : Type 0 where
+  pub state : StateView
   pub store : S
 
 module _ {S : Type 0} (g : Ghosts S) where
   -- the store is the state's, and has just the committed records while it runs. After a crash it may hold these, and
   -- maybe some of the tail with them. While the state runs, so does the store
-  pub record IsKept (kept : Keeping S) : Type 0 where
+  pub record IsKept (kept : StoredView S) : Type 0 where
     pub opening : kept.state.opening ≤ kept.state.committed
     pub committed : kept.state.committed ≤ length kept.state.journal
     pub whose : g.whose kept.store ≡ kept.state.node
@@ -52,7 +52,7 @@ module _ {S : Type 0} (g : Ghosts S) where
     pub found : g.is_honest kept.store → (next : Places) → g.may_hold kept.store next → HaveSome kept.state next
 
   -- what a commit of at most `max` records makes of a state and its store, and returns
-  pub record Commits (old new : Keeping S) (max : ℕ) (result : Result ℕ StoreFault) : Type 0 where
+  pub record Commits (old new : StoredView S) (max : ℕ) (result : Result ℕ StoreFault) : Type 0 where
     pub state : new.state ≡ committed_by old.state result
     pub count : IfOk result (λ count. count ≡ length (batch_of old.state max))
     pub none : length (batch_of old.state max) ≡ 0 → (result ≡ Ok 0) × (new ≡ old)
@@ -68,7 +68,7 @@ count_with n (Some fault) = count_after n fault
 -- the state goes by a scheme, is a node's, and had records at its opening, as is known of the desks of its run; and the
 -- fault is that which stopped the store, if one did
 module _ {S : Type 0} (g : Ghosts S) (opened : Scheme → Node → List Input → ℕ → Type 0) where
-  pub record IsAtDesk (kept : Keeping S) (fault : Option StoreFault) : Type 0 where
+  pub record IsAtDesk (kept : StoredView S) (fault : Option StoreFault) : Type 0 where
     pub before : ℕ
     pub began : opened kept.state.scheme kept.state.node (take kept.state.opening kept.state.journal) before
     pub counted : g.faults kept.store ≡ count_with before fault
@@ -76,28 +76,28 @@ module _ {S : Type 0} (g : Ghosts S) (opened : Scheme → Node → List Input �
     pub running : kept.state.runs ≡ true → fault ≡ None
 
   -- a state that runs, with its store, is of this run
-  pub record MayOpen (kept : Keeping S) : Type 0 where
+  pub record MayOpen (kept : StoredView S) : Type 0 where
     pub begins : opened kept.state.scheme kept.state.node (take kept.state.opening kept.state.journal) (g.faults kept.store)
     pub runs : kept.state.runs ≡ true
 
   -- No clause can name what lies under a desk's lock, so each says of some state and its store that they are of this
   -- run, and that this is what they committed or had to send.
-  pub record IsOfRun (kept : Keeping S) : Type 0 where
+  pub record IsOfRun (kept : StoredView S) : Type 0 where
     pub keeps : IsKept g kept
     pub fault : Option StoreFault
     pub at : IsAtDesk kept fault
 
   -- a commit of at most `max` records
   abbrev pub IsCommit : ℕ → Result ℕ StoreFault → Type 0
-  IsCommit max result = (old : Keeping S) × (new : Keeping S) × IsOfRun old × IsOfRun new × Commits g old new max result
+  IsCommit max result = (old : StoredView S) × (new : StoredView S) × IsOfRun old × IsOfRun new × Commits g old new max result
 
   -- a message to send, which a store has as a committed record's
   abbrev pub IsToSend : Node → ℕ → Option (ℕ × Message) → Type 0
-  IsToSend peer from found = (kept : Keeping S) × IsOfRun kept × HasToSend kept.state peer from found
+  IsToSend peer from found = (kept : StoredView S) × IsOfRun kept × HasToSend kept.state peer from found
 
   -- as many records as that are committed, and a store has them
   abbrev pub AreStored : ℕ → Type 0
-  AreStored count = (kept : Keeping S) × IsOfRun kept × (count ≤ kept.state.committed)
+  AreStored count = (kept : StoredView S) × IsOfRun kept × (count ≤ kept.state.committed)
 
 -- ---- what the code follows; no public contract cites what stands below
 
@@ -108,4 +108,4 @@ fault_after fault (Err told) = Some told
 
 -- as many records as `count` are committed, or they aren't, at some state of the run
 abbrev pub IsProgressOfRun : {S : Type 0} → Ghosts S → (Scheme → Node → List Input → ℕ → Type 0) → ℕ → Progress → Type 0
-IsProgressOfRun {S} g opened count progress = (kept : Keeping S) × IsOfRun g opened kept × IsProgress kept.state count progress
+IsProgressOfRun {S} g opened count progress = (kept : StoredView S) × IsOfRun g opened kept × IsProgress kept.state count progress

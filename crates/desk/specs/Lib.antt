@@ -9,3 +9,5 @@ pub mod Settling
 pub mod Counts
 pub mod Desks
 pub mod Keeping
+pub use Rattle.stores.specs.declared.fault.StoreFault
+pub use Rattle.stores.specs.declared.node_store.NodeStore

@@ -1,23 +1,20 @@
 -- What loading a store into a core finds.
-use Rattle.std.specs.Prelude.{◌≡◌, ◌⊎◌, ◌+◌, ◌*◌, ◌<◌, ◌≤◌, ℕ, Bool, false, List, length, take, Result, Ok, Err, IfOk, IfErr, OnOk, IsTrue}
+use Rattle.std.specs.Prelude.{◌≡◌, ◌⊎◌, ◌+◌, ◌*◌, ◌<◌, ◌≤◌, ℕ, false, List, length, take, Result, Ok, Err, IfOk, IfErr, OnOk, IsTrue}
 use Rattle.units.specs.declared.code.Node.{Node}
 use Rattle.wire.specs.declared.input.Input.{Input}
 use Rattle.scheme.specs.declared.registries.Scheme.{Scheme}
 use Rattle.protocol.specs.Cores.{IsFirstNotRecorded, Replays}
 use Rattle.stores.specs.Faults.{is_device_fault, IsReadFault}
-use Rattle.stores.specs.Records.{Places, AreRecords, IsDamagedAt}
+use Rattle.stores.specs.Records.{Places, AreRecords, IsDamagedAt, page_size}
 use Rattle.stores.specs.declared.fault.StoreFault.{StoreFault}
 use Rattle.protocol.specs.declared.replay_fault.ReplayFault.{ReplayFault}
 use Rattle.protocol.specs.declared.replay_fault.ReplayFault.TheVariants.{NotRecorded}
 use Rattle.protocol.specs.declared.replay_fault.ReplayFault.TheVariants as replay
 use Rattle.stores.specs.declared.fault.StoreFault.TheVariants.{Reopen, Damaged, NoMemory}
+use Rattle.stores.specs.declared.node_store.NodeStore.{Ghosts}
 use Rattle.desk.specs.declared.loading.Page.{Page}
 use Rattle.desk.specs.declared.loading.Page.TheVariants.{Full, Last}
-use Rattle.desk.specs.Views.{Held}
-
--- how many places are read at once: a page
-abbrev pub page_size : ℕ
-page_size = 256
+use Rattle.desk.specs.Views.{StateView}
 
 -- the place is in the page that comes after that many pages
 abbrev pub IsInPage : ℕ → ℕ → Type 0
@@ -48,34 +45,34 @@ damage_of (NotRecorded place) = Damaged place
 damage_of replay.NoMemory = NoMemory
 
 -- the journal of the state that was returned
-abbrev pub journal_in : Result Held StoreFault → Result (List Input) StoreFault
+abbrev pub journal_in : Result StateView StoreFault → Result (List Input) StoreFault
 journal_in (Ok held) = Ok held.journal
 journal_in (Err fault) = Err fault
 
 -- the store is honest; what each place has while it runs; what a crash or a reopening may find; a fault waits for a
 -- reopening
-module _ {S : Type 0} (is_honest : S → Type 0) (content : S → Places) (may_hold : S → Places → Type 0) (must_reopen : S → Bool) where
+module _ {S : Type 0} (g : Ghosts S) where
   -- the store was read as far as this journal goes, page by page; no public contract cites it
   pub record IsReadTo (old new : S) (journal : List Input) : Type 0 where
-    pub same : (new ≡ old) ⊎ ((must_reopen old ≡ false) × (must_reopen new ≡ false))
-    pub honest : is_honest new → is_honest old
-    pub kept : is_honest new → content new ≡ content old
-    pub records : is_honest new → AreRecords (take (length journal) (content old)) journal
-    pub whole : is_honest new → (pages : ℕ) × (length journal ≡ pages * page_size)
+    pub same : (new ≡ old) ⊎ ((g.must_reopen old ≡ false) × (g.must_reopen new ≡ false))
+    pub honest : g.is_honest new → g.is_honest old
+    pub kept : g.is_honest new → g.content new ≡ g.content old
+    pub records : g.is_honest new → AreRecords (take (length journal) (g.content old)) journal
+    pub whole : g.is_honest new → (pages : ℕ) × (length journal ≡ pages * page_size)
 
   -- all records were read and recorded, at that node under that scheme; or a place is damaged, in the first page that
   -- has such a place: the first that can't be read or, where all of the page can, the first that isn't recorded; or
   -- reading failed
   pub record IsLoaded (scheme : Scheme) (n : Node) (old new : S) (result : Result (List Input) StoreFault) : Type 0 where
-    pub reopen : IsTrue (must_reopen old) → (result ≡ Err Reopen) × (new ≡ old)
-    pub honest : is_honest new → is_honest old
-    pub ok : is_honest new → IfOk result (λ journal. AreRecords (content old) journal)
-    pub damaged : is_honest new → IfErr result (λ e. (place : ℕ) → e ≡ Damaged place → IsUnreadableAt scheme n (content old) place ⊎ IsUnrecordedAt scheme n (content old) place)
-    pub named : must_reopen old ≡ false → IfErr result IsReadFault
-    pub stops : must_reopen old ≡ false → IfErr result (λ e. must_reopen new ≡ is_device_fault e)
-    pub runs : OnOk result (must_reopen new ≡ false)
-    pub kept : is_honest new → must_reopen new ≡ false → content new ≡ content old
-    pub crash : is_honest new → must_reopen old ≡ false → (next : Places) → may_hold new next → next ≡ content old
+    pub reopen : IsTrue (g.must_reopen old) → (result ≡ Err Reopen) × (new ≡ old)
+    pub honest : g.is_honest new → g.is_honest old
+    pub ok : g.is_honest new → IfOk result (λ journal. AreRecords (g.content old) journal)
+    pub damaged : g.is_honest new → IfErr result (λ e. (place : ℕ) → e ≡ Damaged place → IsUnreadableAt scheme n (g.content old) place ⊎ IsUnrecordedAt scheme n (g.content old) place)
+    pub named : g.must_reopen old ≡ false → IfErr result IsReadFault
+    pub stops : g.must_reopen old ≡ false → IfErr result (λ e. g.must_reopen new ≡ is_device_fault e)
+    pub runs : OnOk result (g.must_reopen new ≡ false)
+    pub kept : g.is_honest new → g.must_reopen new ≡ false → g.content new ≡ g.content old
+    pub crash : g.is_honest new → g.must_reopen old ≡ false → (next : Places) → g.may_hold new next → next ≡ g.content old
 
   -- after one page more; no public contract cites it
   abbrev pub IsReadOn : Scheme → Node → S → S → List Input → Result Page StoreFault → Type 0

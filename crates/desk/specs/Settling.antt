@@ -12,53 +12,53 @@ use Rattle.desk.specs.declared.notes.Lengths.TheVariants as lengths
 use Rattle.desk.specs.declared.notes.Note.{Note}
 use Rattle.desk.specs.Covering.{Covers, IsMissing, IsTwice, NoneMissing, NoneTwice, SomeDiffers}
 use Rattle.desk.specs.Due.{due}
-use Rattle.desk.specs.Views.{Held, Heard}
+use Rattle.desk.specs.Views.{StateView, SeatView}
 
 -- the journal bears a note: after the first of its records, as many as the note says, what is due is what was told
 abbrev pub Bears : Scheme → Node → List Input → Note → Type 0
 Bears scheme n journal note = (note.length ≤ length journal) × (due scheme n (take note.length journal) note.asked ≡ note.told)
 
-abbrev pub AllBorne : Scheme → Node → List Input → Heard → Type 0
+abbrev pub AllBorne : Scheme → Node → List Input → SeatView → Type 0
 AllBorne scheme n journal seat = All (Bears scheme n journal) seat.notes
 
 -- a note of that length that the journal doesn't bear
-abbrev pub SomeUnborne : Scheme → Node → List Input → ℕ → Heard → Type 0
+abbrev pub SomeUnborne : Scheme → Node → List Input → ℕ → SeatView → Type 0
 SomeUnborne scheme n journal len seat = Any (λ (note : Note). (note.length ≡ len) × (Bears scheme n journal note → ⊥)) seat.notes
 
 -- all that was confirmed is committed
-abbrev pub IsWithin : ℕ → Heard → Type 0
+abbrev pub IsWithin : ℕ → SeatView → Type 0
 IsWithin committed seat = seat.confirmed ≤ committed
 
-abbrev pub IsBeyond : ℕ → ℕ → Heard → Type 0
+abbrev pub IsBeyond : ℕ → ℕ → SeatView → Type 0
 IsBeyond committed len seat = (seat.confirmed ≡ len) × (committed < len)
 
 -- the seat was never told of a shorter journal than before
-abbrev pub Stood : Heard → Type 0
+abbrev pub Stood : SeatView → Type 0
 Stood seat = seat.lengths ≡ lengths.Grew
 
 -- what the seats were told is what that node alone would have told under that scheme
-pub record IsSettled (scheme : Scheme) (n : Node) (held : Held) (seats : List Heard) : Type 0 where
+pub record IsSettled (scheme : Scheme) (n : Node) (held : StateView) (seats : List SeatView) : Type 0 where
   pub covers : Covers held seats
   pub within : All (IsWithin held.committed) seats
   pub stood : All Stood seats
   pub borne : All (AllBorne scheme n held.journal) seats
 
 -- the tickets aren't the records since the opening: each fault with its cause, where no fault before it has a cause
-abbrev pub IsUncovered : Held → List Heard → Unsettled → Type 0
+abbrev pub IsUncovered : StateView → List SeatView → Unsettled → Type 0
 IsUncovered held seats (Missing place) = IsMissing held seats place
 IsUncovered held seats (Twice place) = NoneMissing held seats × IsTwice held seats place
 IsUncovered held seats (Differs place) = NoneMissing held seats × NoneTwice held seats × SomeDiffers held seats place
 IsUncovered held seats NoMemory = Unit {0}
 IsUncovered held seats _ = ⊥
 
-abbrev pub IsFaultOf : Scheme → Node → Held → List Heard → Unsettled → Type 0
+abbrev pub IsFaultOf : Scheme → Node → StateView → List SeatView → Unsettled → Type 0
 IsFaultOf scheme n held seats (NotCommitted len) = Covers held seats × Any (IsBeyond held.committed len) seats
-IsFaultOf scheme n held seats Fell = Covers held seats × All (IsWithin held.committed) seats × Any (λ (s : Heard). s.lengths ≡ lengths.Fell) seats
+IsFaultOf scheme n held seats Fell = Covers held seats × All (IsWithin held.committed) seats × Any (λ (s : SeatView). s.lengths ≡ lengths.Fell) seats
 IsFaultOf scheme n held seats (Untrue len) = Covers held seats × All (IsWithin held.committed) seats × All Stood seats × Any (SomeUnborne scheme n held.journal len) seats
 IsFaultOf scheme n held seats (NotRecorded place) = Covers held seats × All (IsWithin held.committed) seats × All Stood seats × IsFirstNotRecorded scheme n held.journal place
 IsFaultOf scheme n held seats fault = IsUncovered held seats fault
 
-abbrev pub Settles : Scheme → Node → Held → List Heard → Result Life Unsettled → Type 0
+abbrev pub Settles : Scheme → Node → StateView → List SeatView → Result Life Unsettled → Type 0
 Settles scheme n held seats (Ok life) = IsSettled scheme n held seats × (life ≡ record { opening = held.opening; records = length held.journal; committed = held.committed })
 Settles scheme n held seats (Err fault) = IsFaultOf scheme n held seats fault
 

@@ -9,7 +9,7 @@ use Rattle.desk.specs.declared.notes.Note.{Note}
 use Rattle.desk.specs.declared.notes.Ticket.{Ticket}
 use Rattle.desk.specs.declared.notes.Told.{Told}
 use Rattle.desk.specs.declared.notes.Told.TheVariants.{Step, Status, Refused}
-use Rattle.desk.specs.Views.{Heard}
+use Rattle.desk.specs.Views.{SeatView}
 
 -- an input that was recorded is one ticket more
 abbrev pub tickets_after : List Ticket → Told → Asked → List Ticket
@@ -33,7 +33,7 @@ notes_after notes (Status status) note = notes ++ note ∷ []
 notes_after notes (Refused refusal) note = if is_unjudged refusal.code then notes else notes ++ note ∷ []
 
 -- what a seat has kept when it was told this
-abbrev pub kept : Heard → Note → Heard
+abbrev pub kept : SeatView → Note → SeatView
 kept seat note = record seat {
   tickets = tickets_after seat.tickets note.told note.asked;
   notes = notes_after seat.notes note.told note;

@@ -11,7 +11,7 @@ use Rattle.desk.specs.declared.notes.Ticket.{Ticket}
 use Rattle.desk.specs.declared.notes.Lengths.{Lengths}
 
 -- a node's journal, how many of its records are committed, and how many were there when the state opened
-pub record Held : Type 0 where
+pub record StateView : Type 0 where
   pub scheme : Scheme
   pub node : Node
   pub journal : List Input
@@ -20,26 +20,26 @@ pub record Held : Type 0 where
   pub runs : Bool
 
 -- a state that runs, with that journal, which was there at its opening and is committed as a whole
-abbrev pub opened_with : Scheme → Node → List Input → Held
+abbrev pub opened_with : Scheme → Node → List Input → StateView
 opened_with scheme n journal = record { scheme = scheme; node = n; journal = journal; committed = length journal; opening = length journal; runs = true }
 
 -- what the whole journal says
-abbrev pub past : Held → List Entry
+abbrev pub past : StateView → List Entry
 past held = history held.scheme held.node held.journal
 
 -- the records that are committed, and those that aren't yet
-abbrev pub committed_records : Held → List Input
+abbrev pub committed_records : StateView → List Input
 committed_records held = take held.committed held.journal
 
-abbrev pub tail : Held → List Input
+abbrev pub tail : StateView → List Input
 tail held = drop held.committed held.journal
 
 -- what the committed records say
-abbrev pub committed_past : Held → List Entry
+abbrev pub committed_past : StateView → List Entry
 committed_past held = history held.scheme held.node (committed_records held)
 
 -- what a seat was told
-pub record Heard : Type 0 where
+pub record SeatView : Type 0 where
   -- the inputs that were recorded, and their places
   pub tickets : List Ticket
   -- what else it was told

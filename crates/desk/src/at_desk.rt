@@ -42,9 +42,9 @@ pub(crate) struct AtDesk<O: Opening, C: NodeCore, S: NodeStore> {
 impl<O: Opening, C: NodeCore, S: NodeStore> Model for AtDesk<O, C, S> {
     ghost use Rattle.std.specs.Coded.{codes};
     ghost use Rattle.scheme.specs.contracts.registries.Scheme as kept_scheme;
-    ghost use Rattle.desk.specs.Keeping.{IsAtDesk, Keeping};
+    ghost use Rattle.desk.specs.Keeping.{IsAtDesk, StoredView};
 
-    ghost Value = { Keeping S };
+    ghost Value = { StoredView S };
 
     ghost coded = { Prim.hlevel (codes, kept_scheme.the_row.coded, S.code) };
 

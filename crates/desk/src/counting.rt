@@ -11,7 +11,8 @@ use units::NoMemory;
 /// Counts a place, if it is one of those from the opening on.
 fn count_place(counts: &mut [usize], opening: usize, place: usize)
     ensures len { length counts.new ≡ length counts.old }
-    ensures counts { (times : ℕ → ℕ) → CountsFrom opening times counts.old → CountsFrom opening (λ p. times p + cond (place == p) 1 0) counts.new }
+    ensures counts { (times : ℕ → ℕ) → CountsFrom opening times counts.old
+        → CountsFrom opening (λ p. times p + cond (place == p) 1 0) counts.new }
 {
     if opening <= place && place - opening < counts.len() {
         let at = place - opening;
@@ -24,7 +25,8 @@ fn count_place(counts: &mut [usize], opening: usize, place: usize)
 /// Counts the places that these tickets name.
 fn count_tickets(counts: &mut [usize], opening: usize, tickets: &[Ticket])
     ensures len { length counts.new ≡ length counts.old }
-    ensures counts { (times : ℕ → ℕ) → CountsFrom opening times counts.old → CountsFrom opening (λ p. times p + count_by (λ t. t.place == p) tickets.now) counts.new }
+    ensures counts { (times : ℕ → ℕ) → CountsFrom opening times counts.old
+        → CountsFrom opening (λ p. times p + count_by (λ t. t.place == p) tickets.now) counts.new }
 {
     for ticket in tickets {
         count_place(counts, opening, ticket.place);
@@ -34,7 +36,8 @@ fn count_tickets(counts: &mut [usize], opening: usize, tickets: &[Ticket])
 /// Counts the places that the tickets of these seats name.
 fn count_seats(counts: &mut [usize], opening: usize, seats: &[Seat])
     ensures len { length counts.new ≡ length counts.old }
-    ensures counts { (times : ℕ → ℕ) → CountsFrom opening times counts.old → CountsFrom opening (λ p. times p + times_named seats.now p) counts.new }
+    ensures counts { (times : ℕ → ℕ) → CountsFrom opening times counts.old
+        → CountsFrom opening (λ p. times p + times_named seats.now p) counts.new }
 {
     for seat in seats {
         count_tickets(counts, opening, seat.tickets());

@@ -175,7 +175,9 @@ impl<O: Opening, C: NodeCore, S: NodeStore, B: Bell> Desk<O, C, S, B> {
         taken: Taken,
     ) -> Result<Receipt, Refusal>
         ensures { MatchResult result
-            (λ receipt. (receipt ≡ taken) × (seat.new ≡ record seat.old { confirmed = max seat.old.confirmed taken.length }) × AreStored S.NodeStore O.opened taken.length)
+            (λ receipt. (receipt ≡ taken)
+            × (seat.new ≡ record seat.old { confirmed = max seat.old.confirmed taken.length })
+            × AreStored S.NodeStore O.opened taken.length)
             (λ refusal. (refusal ≡ stopped) × (seat.new ≡ seat.old)) }
     {
         match self.wait_for_receipt(rt, taken) {

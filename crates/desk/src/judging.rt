@@ -29,7 +29,8 @@ fn lacks_memory(returned: &Result<Stepped, Refusal>) -> bool
 fn ask<C: NodeCore>(core: &mut C, asked: &Asked) -> Result<Told, NoMemory>
     ensures scheme { C.scheme_of core.new ≡ C.scheme_of core.old }
     ensures node { C.node_of core.new ≡ C.node_of core.old }
-    ensures told { IfOk result (λ told. told ≡ due (C.scheme_of core.old) (C.node_of core.old) (C.journal_of core.old) asked.now) }
+    ensures told { IfOk result
+        (λ told. told ≡ due (C.scheme_of core.old) (C.node_of core.old) (C.journal_of core.old) asked.now) }
     ensures journal { IfOk result (λ told. IsNoRecord told → C.journal_of core.new ≡ C.journal_of core.old) }
 {
     match asked {
@@ -49,7 +50,9 @@ fn is_due<C: NodeCore>(core: &mut C, note: &Note) -> Result<bool, NoMemory>
     requires { IsNoRecord note.now.told }
     ensures scheme { C.scheme_of core.new ≡ C.scheme_of core.old }
     ensures node { C.node_of core.new ≡ C.node_of core.old }
-    ensures due { IfOk result (λ b. IsTrue b ↔ (due (C.scheme_of core.old) (C.node_of core.old) (C.journal_of core.old) note.now.asked ≡ note.now.told)) }
+    ensures due { IfOk result
+        (λ b. IsTrue b ↔ (due (C.scheme_of core.old) (C.node_of core.old) (C.journal_of core.old) note.now.asked
+        ≡ note.now.told)) }
     ensures journal { IfOk result (λ b. IsTrue b → C.journal_of core.new ≡ C.journal_of core.old) }
 {
     let told = ask(core, &note.asked)?;
@@ -93,8 +96,10 @@ fn is_borne<C: NodeCore>(core: &mut C, journal: &[Input], note: &Note) -> Result
     requires front { C.journal_of core.old ≡ take (length (C.journal_of core.old)) journal.now }
     ensures scheme { C.scheme_of core.new ≡ C.scheme_of core.old }
     ensures node { C.node_of core.new ≡ C.node_of core.old }
-    ensures borne { IfOk result (λ b. IsTrue b ↔ Bears (C.scheme_of core.old) (C.node_of core.old) journal.now note.now) }
-    ensures front { IfOk result (λ b. IsTrue b → C.journal_of core.new ≡ take (length (C.journal_of core.new)) journal.now) }
+    ensures borne { IfOk result
+        (λ b. IsTrue b ↔ Bears (C.scheme_of core.old) (C.node_of core.old) journal.now note.now) }
+    ensures front { IfOk result (λ b. IsTrue b
+        → C.journal_of core.new ≡ take (length (C.journal_of core.new)) journal.now) }
     ensures fault { IfErr result (HasFault (C.scheme_of core.old) (C.node_of core.old) journal.now) }
 {
     if note.length > journal.len() {
@@ -118,10 +123,12 @@ fn unborne_of<C: NodeCore>(
     requires no_record { All (λ note. IsNoRecord note.now.told) notes.now }
     ensures found { IfOk result (λ found. MatchOption found
         (All (λ note. Bears (C.scheme_of core.old) (C.node_of core.old) journal.now note.now) notes.now)
-        (λ len. Any (λ note. (note.now.length ≡ len) × (Bears (C.scheme_of core.old) (C.node_of core.old) journal.now note.now → ⊥)) notes.now)) }
+        (λ len. Any (λ note. (note.now.length ≡ len)
+        × (Bears (C.scheme_of core.old) (C.node_of core.old) journal.now note.now → ⊥)) notes.now)) }
     ensures scheme { C.scheme_of core.new ≡ C.scheme_of core.old }
     ensures node { C.node_of core.new ≡ C.node_of core.old }
-    ensures front { IfOk result (λ found. found ≡ None → C.journal_of core.new ≡ take (length (C.journal_of core.new)) journal.now) }
+    ensures front { IfOk result (λ found. found ≡ None
+        → C.journal_of core.new ≡ take (length (C.journal_of core.new)) journal.now) }
     ensures fault { IfErr result (HasFault (C.scheme_of core.old) (C.node_of core.old) journal.now) }
 {
     for note in notes {
@@ -155,7 +162,8 @@ fn notes_of(alloc: Global, seats: &[Seat]) -> Result<Vec<&Note>, NoMemory>
 
 /// The same, from the lowest length to the greatest.
 fn notes_by_length(alloc: Global, seats: &[Seat]) -> Result<Vec<&Note>, NoMemory>
-    ensures notes { IfOk result (λ all. IsPermutation (flat_map (λ seat. seat.notes) seats.now) (map (λ note. note.now) all.items)) }
+    ensures notes { IfOk result
+        (λ all. IsPermutation (flat_map (λ seat. seat.notes) seats.now) (map (λ note. note.now) all.items)) }
     ensures no_record { IfOk result (λ all. TellNoRecord (map (λ note. note.now) all.items)) }
 {
     let mut all = notes_of(alloc, seats)?;
@@ -177,7 +185,8 @@ fn judge<C: NodeCore>(
         (λ len. Any (SomeUnborne (C.scheme_of core.old) (C.node_of core.old) state.now.journal len) seats.now)) }
     ensures scheme { C.scheme_of core.new ≡ C.scheme_of core.old }
     ensures node { C.node_of core.new ≡ C.node_of core.old }
-    ensures front { IfOk result (λ found. found ≡ None → C.journal_of core.new ≡ take (length (C.journal_of core.new)) state.now.journal) }
+    ensures front { IfOk result (λ found. found ≡ None
+        → C.journal_of core.new ≡ take (length (C.journal_of core.new)) state.now.journal) }
     ensures fault { IfErr result (HasFault (C.scheme_of core.old) (C.node_of core.old) state.now.journal) }
 {
     let notes = notes_by_length(state.alloc(), seats)?;

@@ -4,6 +4,7 @@
 
 mod at_desk;
 mod bell;
+mod clock;
 mod counting;
 mod desk;
 mod gate;
@@ -21,6 +22,7 @@ mod stored;
 
 pub use at_desk::BATCH;
 pub use bell::{Bell, LONGEST_QUIET, RoomBell};
+pub use clock::{Clock, WallClock};
 pub use desk::{Desk, Ended};
 pub use gate::{Gate, OpenGate, Spot};
 pub use life::{Life, Settled, Unsettled};
@@ -30,3 +32,6 @@ pub use seat::Seat;
 pub use settling::{settle, settle_with};
 pub use state::{Receipt, State, Taken};
 pub use stored::Stored;
+
+// A desk owns a store.
+pub use stores;

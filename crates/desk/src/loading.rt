@@ -3,17 +3,15 @@ ghost use Rattle.std.specs.Prelude.{◌≡◌, ◌<◌, ◌^◌, [], false, true
 ghost use Rattle.stores.specs.Calls.{Loads};
 ghost use Rattle.stores.specs.Faults.{faults_after};
 ghost use Rattle.protocol.specs.Cores.{Replays};
-ghost use Rattle.desk.specs.Loading.{IsLoaded, IsReadOn, IsReadTo, damage_of, journal_in, page_size};
+ghost use Rattle.stores.specs.Records.{page_size};
+ghost use Rattle.desk.specs.Loading.{IsLoaded, IsReadOn, IsReadTo, damage_of, journal_in};
 ghost use Rattle.desk.specs.Views.{opened_with};
 
 use crate::state::State;
 use protocol::{NodeCore, ReplayFault, resume};
 use std::alloc::Global;
-use stores::{NodeStore, StoreFault};
+use stores::{NodeStore, PAGE, StoreFault};
 use wire::Input;
-
-/// How many records are read at once.
-const PAGE: u64 = 256;
 
 /// A page that was read.
 #[derive(Clone, Copy, PartialEq)]
@@ -26,7 +24,8 @@ pub(crate) enum Page {
 
 /// The records of the store from that place on, at most `PAGE`.
 fn next_page<S: NodeStore>(store: &mut S, from: u64) -> Result<Vec<Input>, StoreFault>
-    ensures loads { Loads S.is_honest S.content S.may_hold S.must_reopen store.old store.new from (take page_size (drop from (S.content store.old))) result }
+    ensures loads { Loads S.is_honest S.content S.may_hold S.must_reopen store.old store.new from
+        (take page_size (drop from (S.content store.old))) result }
     ensures faults { S.faults store.new ≡ faults_after (S.faults store.old) result }
     ensures whose { S.whose store.new ≡ S.whose store.old }
     ensures own { S.is_honest store.new → S.must_reopen store.new ≡ false → S.is_own store.old → S.is_own store.new }
@@ -50,9 +49,11 @@ fn damage_of(fault: ReplayFault) -> StoreFault
 fn read_on<C: NodeCore, S: NodeStore>(core: &mut C, store: &mut S) -> Result<Page, StoreFault>
     ensures scheme { C.scheme_of core.new ≡ C.scheme_of core.old }
     ensures node { C.node_of core.new ≡ C.node_of core.old }
-    ensures read { (first : S) → IsReadTo S.is_honest S.content S.may_hold S.must_reopen first store.old (C.journal_of core.old)
-        → IsReadOn S.is_honest S.content S.may_hold S.must_reopen (C.scheme_of core.old) (C.node_of core.old) first store.new (C.journal_of core.new) result }
-    ensures grows { result ≡ Ok Page.Full → (length (C.journal_of core.old) < length (C.journal_of core.new)) × (length (C.journal_of core.old) < 2 ^ 64) }
+    ensures read { (first : S) → IsReadTo S.NodeStore first store.old (C.journal_of core.old)
+        → IsReadOn S.NodeStore (C.scheme_of core.old) (C.node_of core.old) first store.new
+        (C.journal_of core.new) result }
+    ensures grows { result ≡ Ok Page.Full → (length (C.journal_of core.old) < length (C.journal_of core.new))
+        × (length (C.journal_of core.old) < 2 ^ 64) }
     ensures faults { S.faults store.new ≡ faults_after (S.faults store.old) result }
     ensures whose { S.whose store.new ≡ S.whose store.old }
     ensures own { S.is_honest store.new → S.must_reopen store.new ≡ false → S.is_own store.old → S.is_own store.new }
@@ -93,10 +94,12 @@ impl<C: NodeCore> State<C> {
         requires { C.journal_of core ≡ [] }
         ensures state { IfOk result (λ s. s ≡ opened_with (C.scheme_of core) (C.node_of core) s.journal) }
         ensures replays { IfOk result (λ s. Replays s.scheme s.node s.journal) }
-        ensures loaded { IsLoaded S.is_honest S.content S.may_hold S.must_reopen (C.scheme_of core) (C.node_of core) store.old store.new (journal_in result) }
+        ensures loaded { IsLoaded S.NodeStore (C.scheme_of core) (C.node_of core) store.old store.new
+            (journal_in result) }
         ensures faults { S.faults store.new ≡ faults_after (S.faults store.old) result }
         ensures whose { S.whose store.new ≡ S.whose store.old }
-        ensures own { S.is_honest store.new → S.must_reopen store.new ≡ false → S.is_own store.old → S.is_own store.new }
+        ensures own { S.is_honest store.new → S.must_reopen store.new ≡ false → S.is_own store.old
+            → S.is_own store.new }
     {
         while read_on(&mut core, store)? == Page::Full {}
         Ok(State::new(alloc, core))

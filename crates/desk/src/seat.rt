@@ -29,19 +29,28 @@ pub struct Seat {
 impl Model for Seat {
     ghost use Rattle.std.specs.Prelude.{vec_capacity, vec_len};
     ghost use Rattle.desk.specs.Rooms.{HasRoom, TellNoRecord};
-    ghost use Rattle.desk.specs.Views.{Heard};
+    ghost use Rattle.desk.specs.Views.{SeatView};
 
-    ghost Value = { Heard };
+    ghost Value = { SeatView };
 
-    ghost view = { λ s. record { tickets = s.tickets.items; notes = s.notes.items; seen = s.seen; lengths = s.lengths; confirmed = s.confirmed; prepared = s.prepared } };
+    ghost view = { λ s. record {
+      tickets = s.tickets.items;
+      notes = s.notes.items;
+      seen = s.seen;
+      lengths = s.lengths;
+      confirmed = s.confirmed;
+      prepared = s.prepared;
+    } };
 
-    ghost invariant = { λ s. HasRoom s.prepared (vec_len s.tickets) (vec_capacity s.tickets) (vec_len s.notes) (vec_capacity s.notes) × TellNoRecord s.notes.items };
+    ghost invariant = { λ s. HasRoom s.prepared (vec_len s.tickets) (vec_capacity s.tickets) (vec_len s.notes)
+        (vec_capacity s.notes) × TellNoRecord s.notes.items };
 }
 
 impl Seat {
     /// A seat that was told nothing. Takes no memory.
     pub fn new(alloc: Global) -> Seat
-        ensures { result ≡ record { tickets = []; notes = []; seen = 0; lengths = Lengths.Grew; confirmed = 0; prepared = None } }
+        ensures { result ≡ record
+            { tickets = []; notes = []; seen = 0; lengths = Lengths.Grew; confirmed = 0; prepared = None } }
     {
         Seat {
             tickets: Vec::new(alloc),
@@ -127,7 +136,10 @@ impl Seat {
 
     /// The journal had this length.
     fn see(&mut self, length: usize)
-        ensures { self.new ≡ record self.old { seen = max self.old.seen length; lengths = if nat_lt length self.old.seen then Lengths.Fell else self.old.lengths } }
+        ensures { self.new ≡ record self.old {
+          seen = max self.old.seen length;
+          lengths = if nat_lt length self.old.seen then Lengths.Fell else self.old.lengths;
+        } }
     {
         if length < self.seen {
             self.lengths = Lengths::Fell;

@@ -14,7 +14,8 @@ use protocol::{NodeCore, ReplayFault};
 
 /// Each place since the opening is named by one ticket.
 fn check_places<C: NodeCore>(state: &State<C>, seats: &[Seat]) -> Result<(), Unsettled>
-    ensures { MatchResult result (λ _. NoneMissing state.now seats.now × NoneTwice state.now seats.now) (IsUncovered state.now seats.now) }
+    ensures { MatchResult result (λ _. NoneMissing state.now seats.now × NoneTwice state.now seats.now)
+        (IsUncovered state.now seats.now) }
 {
     let opening = state.opening();
     let counts = counts_of(state.alloc(), seats, opening, state.journal().len())?;
@@ -38,7 +39,8 @@ fn fits<C: NodeCore>(state: &State<C>, ticket: &Ticket) -> bool
 
 /// Fails with the place of a ticket that doesn't fit.
 fn check_tickets<C: NodeCore>(state: &State<C>, tickets: &[Ticket]) -> Result<(), usize>
-    ensures { MatchResult result (λ _. All (Fits state.now) tickets.now) (λ place. Any (λ t. (t.place ≡ place) × (Fits state.now t → ⊥)) tickets.now) }
+    ensures { MatchResult result (λ _. All (Fits state.now) tickets.now)
+        (λ place. Any (λ t. (t.place ≡ place) × (Fits state.now t → ⊥)) tickets.now) }
 {
     for ticket in tickets {
         if !fits(state, ticket) {
@@ -71,7 +73,8 @@ fn check_cover<C: NodeCore>(state: &State<C>, seats: &[Seat]) -> Result<(), Unse
 
 /// Fails with a length that was confirmed and isn't committed.
 fn check_confirmed(seats: &[Seat], committed: usize) -> Result<(), usize>
-    ensures { MatchResult result (λ _. All (IsWithin committed) seats.now) (λ len. Any (IsBeyond committed len) seats.now) }
+    ensures { MatchResult result (λ _. All (IsWithin committed) seats.now)
+        (λ len. Any (IsBeyond committed len) seats.now) }
 {
     for seat in seats {
         if seat.confirmed() > committed {
@@ -106,7 +109,8 @@ pub fn settle_with<C: NodeCore>(
 ) -> Result<Settled<C>, Unsettled>
     requires { C.journal_of core ≡ [] }
     ensures settles { Settles (C.scheme_of core) (C.node_of core) state.now seats.now (life_of result) }
-    ensures core { IfOk result (λ s. (C.scheme_of s.core ≡ C.scheme_of core) × (C.node_of s.core ≡ C.node_of core) × (C.journal_of s.core ≡ committed_records state.now)) }
+    ensures core { IfOk result (λ s. (C.scheme_of s.core ≡ C.scheme_of core) × (C.node_of s.core ≡ C.node_of core)
+        × (C.journal_of s.core ≡ committed_records state.now)) }
 {
     check_cover(state, seats)?;
     let committed = state.committed_count();

@@ -99,13 +99,20 @@ impl<C: NodeCore> Model for State<C> {
     ghost use Rattle.std.specs.Coded.{codes};
     ghost use Rattle.std.specs.Prelude.{◌≤◌, length};
     ghost use Rattle.scheme.specs.contracts.registries.Scheme as kept_scheme;
-    ghost use Rattle.desk.specs.Views.{Held};
+    ghost use Rattle.desk.specs.Views.{StateView};
 
-    ghost Value = { Held };
+    ghost Value = { StateView };
 
     ghost coded = { Prim.hlevel (codes, kept_scheme.the_row.coded) };
 
-    ghost view = { λ s. record { scheme = C.scheme_of s.core; node = C.node_of s.core; journal = C.journal_of s.core; committed = s.committed; opening = s.opening; runs = s.runs } };
+    ghost view = { λ s. record {
+      scheme = C.scheme_of s.core;
+      node = C.node_of s.core;
+      journal = C.journal_of s.core;
+      committed = s.committed;
+      opening = s.opening;
+      runs = s.runs;
+    } };
 
     ghost invariant = { λ s. (s.opening ≤ s.committed) × (s.committed ≤ length (C.journal_of s.core)) };
 }
@@ -165,7 +172,8 @@ impl<C: NodeCore> State<C> {
     /// Tells where a transaction stands after the whole journal, or refusal `NODE_STOPPED` where the state was
     /// stopped. The length is that of the journal.
     pub fn query(&self, id: TransactionId) -> Taken
-        ensures { result ≡ record { asked = Asked.Query id; told = status_told self.now id; length = length self.now.journal } }
+        ensures { result ≡ record
+            { asked = Asked.Query id; told = status_told self.now id; length = length self.now.journal } }
     {
         let told = if self.runs {
             Told::Status(self.core.status_of(id))
@@ -181,7 +189,8 @@ impl<C: NodeCore> State<C> {
 
     /// Tells refusal `OUT_OF_MEMORY` of what the state couldn't be asked. The length is that of the journal.
     pub fn refuse_for_memory(&self, asked: Asked) -> Taken
-        ensures { result ≡ record { asked = asked; told = Told.Refused (record { code = out_of_memory }); length = length self.now.journal } }
+        ensures { result ≡ record
+            { asked = asked; told = Told.Refused (record { code = out_of_memory }); length = length self.now.journal } }
     {
         Taken {
             asked,
@@ -226,11 +235,15 @@ impl<C: NodeCore> State<C> {
     pub fn commit<S: NodeStore>(&mut self, store: &mut S, max: usize) -> Result<usize, StoreFault>
         ensures state { self.new ≡ committed_by self.old result }
         ensures count { IfOk result (λ count. count ≡ length (batch_of self.old max)) }
-        ensures none { length (batch_of self.old max) ≡ 0 → (result ≡ Ok 0) × (self.new ≡ self.old) × (store.new ≡ store.old) }
-        ensures some { 0 < length (batch_of self.old max) → Appends S.is_honest S.content S.may_hold S.must_reopen store.old store.new (batch_of self.old max) (done result) }
+        ensures none { length (batch_of self.old max) ≡ 0 → (result ≡ Ok 0) × (self.new ≡ self.old)
+            × (store.new ≡ store.old) }
+        ensures some { 0 < length (batch_of self.old max)
+            → Appends S.is_honest S.content S.may_hold S.must_reopen store.old store.new (batch_of self.old max)
+            (done result) }
         ensures faults { S.faults store.new ≡ faults_after (S.faults store.old) result }
         ensures whose { S.whose store.new ≡ S.whose store.old }
-        ensures own { S.is_honest store.new → S.must_reopen store.new ≡ false → S.is_own store.old → S.is_own store.new }
+        ensures own { S.is_honest store.new → S.must_reopen store.new ≡ false → S.is_own store.old
+            → S.is_own store.new }
     {
         let count = if self.runs { self.tail_within(max) } else { 0 };
         if count == 0 {
@@ -254,7 +267,9 @@ impl<C: NodeCore> State<C> {
     /// stopped.
     pub fn next_send(&self, peer: Node, from: usize) -> Option<(usize, &Message)>
         ensures stopped { self.now.runs ≡ false → option_map (λ sent. sent.0) result ≡ None }
-        ensures key { self.now.runs ≡ true → IsLeastFrom (awaits (sends (committed_past self.now)) (is_acknowledged (past self.now)) peer) from (option_map (λ sent. sent.0) result) }
+        ensures key { self.now.runs ≡ true
+            → IsLeastFrom (awaits (sends (committed_past self.now)) (is_acknowledged (past self.now)) peer) from
+            (option_map (λ sent. sent.0) result) }
         ensures message { IfSome result (λ sent. slice_get (sends (committed_past self.now)) sent.0 ≡ Some sent.1.now) }
     {
         if !self.runs {
@@ -279,7 +294,8 @@ impl<C: NodeCore> State<C> {
     /// A receipt of what was taken, where all records that the journal had then are committed; or what was taken
     /// back.
     pub fn receipt(&self, taken: Taken) -> Result<Receipt, Taken>
-        ensures { MatchResult result (λ receipt. (receipt ≡ taken) × (taken.length ≤ self.now.committed)) (λ back. (back ≡ taken) × (self.now.committed < taken.length)) }
+        ensures { MatchResult result (λ receipt. (receipt ≡ taken) × (taken.length ≤ self.now.committed))
+            (λ back. (back ≡ taken) × (self.now.committed < taken.length)) }
     {
         if taken.length <= self.committed {
             Ok(Receipt { taken })

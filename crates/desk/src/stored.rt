@@ -24,9 +24,9 @@ pub struct Stored<C: NodeCore, S: NodeStore> {
 impl<C: NodeCore, S: NodeStore> Model for Stored<C, S> {
     ghost use Rattle.std.specs.Coded.{codes};
     ghost use Rattle.scheme.specs.contracts.registries.Scheme as kept_scheme;
-    ghost use Rattle.desk.specs.Keeping.{IsKept, Keeping};
+    ghost use Rattle.desk.specs.Keeping.{IsKept, StoredView};
 
-    ghost Value = { Keeping S };
+    ghost Value = { StoredView S };
 
     ghost coded = { Prim.hlevel (codes, kept_scheme.the_row.coded, S.code) };
 
@@ -52,8 +52,10 @@ impl<C: NodeCore, S: NodeStore> Stored<C, S> {
         requires whose { S.whose store ≡ C.node_of core }
         requires own { S.is_honest store → S.must_reopen store ≡ false → S.is_own store }
         ensures state { IfOk result (λ s. s.state ≡ opened_with (C.scheme_of core) (C.node_of core) s.state.journal) }
-        ensures loaded { IfOk result (λ s. IsLoaded S.is_honest S.content S.may_hold S.must_reopen (C.scheme_of core) (C.node_of core) store s.store (Ok s.state.journal)) }
-        ensures failed { IfErr result (λ e. IsLoaded S.is_honest S.content S.may_hold S.must_reopen (C.scheme_of core) (C.node_of core) store e.1 (Err e.0)) }
+        ensures loaded { IfOk result
+            (λ s. IsLoaded S.NodeStore (C.scheme_of core) (C.node_of core) store s.store (Ok s.state.journal)) }
+        ensures failed { IfErr result
+            (λ e. IsLoaded S.NodeStore (C.scheme_of core) (C.node_of core) store e.1 (Err e.0)) }
         ensures keeps { IfOk result (IsKept S.NodeStore) }
     {
         match State::load_from(alloc, core, &mut store) {

@@ -3,7 +3,7 @@ use Rattle.std.proofs.Common.{◌≡◌, ◌⊎◌, inl, inr, false, IsTrue, ref
 use Rattle.std.proofs.Math.Logic.{∥∥₁_map}
 use Rattle.sqlite_disk.specs.declared.Disk.{Ghosts}
 use Rattle.sqlite_disk.specs.declared.Files.{Files}
-use Rattle.sqlite_wal.specs.Reads.{AreClean}
+use Rattle.sqlite.specs.WalReads.{AreClean}
 use Rattle.sqlite_store.specs.declared.store.FileStore.{FileStore}
 use Rattle.sqlite.specs.Closing.{HoldsAlone, IsCopied}
 use Rattle.sqlite.specs.Files.{over_files, file_state}
@@ -11,7 +11,7 @@ use Rattle.sqlite.specs.Held.{Held}
 use Rattle.sqlite.specs.State.{HasCleanDisk}
 use Rattle.sqlite.specs.Tree.{Trees}
 use Rattle.durable.specs.Backing.{MayFind, Hold, HoldAlone}
-use Rattle.durable.specs.Connected.{Connected, IsHonest, MayHold, content, owner}
+use Rattle.durable.specs.Connected.{OpenStoreView, IsHonest, MayHold, content, owner}
 use Rattle.store_tables.specs.Held.{slots_in, node_in, IsStore}
 use Rattle.store_migration.specs.Migrating.{IsOpenedAs}
 use Rattle.stores.specs.Faults.{is_device_fault}
@@ -19,7 +19,7 @@ use Rattle.stores.specs.Records.{Places}
 use Rattle.stores.specs.declared.fault.StoreFault.{StoreFault}
 use Rattle.stores.specs.declared.fault.StoreFault.TheVariants.{Damaged, Reopen, NoMemory}
 
-module _ {D : Type 0} (g : Ghosts D) (k : Connected (FileStore D g)) (conn : Held (FileStore D g)) (is : conn ≡ k.conn) (files : Files D)
+module _ {D : Type 0} (g : Ghosts D) (k : OpenStoreView (FileStore D g)) (conn : Held (FileStore D g)) (is : conn ≡ k.conn) (files : Files D)
     (early : AreClean g files.log files.db → HasCleanDisk (file_state conn)) where
   honest-closed : AreClean g files.log files.db → IsHonest over_files k
   honest-closed clean = subst (λ c. HasCleanDisk (file_state c)) is (early clean)

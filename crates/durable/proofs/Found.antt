@@ -7,18 +7,18 @@ use Rattle.sqlite.specs.declared.types.Value.TheVariants.{Null, Int, Real, Text,
 use Rattle.sqlite.specs.Order.{Row, value_cmp}
 use Rattle.sqlite.specs.Schema.{Schema}
 use Rattle.sqlite.specs.Tree.{Trees}
-use Rattle.sqlite_trees.specs.Tree.{IsTable, rowid}
-use Rattle.sqlite_trees.specs.View.{View, is_int, IsOrdered, IsShaped}
+use Rattle.sqlite.specs.Tree.{IsTable, rowid}
+use Rattle.sqlite.specs.View.{View, is_int, IsOrdered, IsShaped}
 use Rattle.sqlite_trees.specs.Objects.{catalog_tree, IsListed}
-use Rattle.sqlite_sql.specs.Ops.{is_null, is_false, from_truth, binary}
-use Rattle.sqlite_value.proofs.OrderLemmas.{value_cmp-Int}
+use Rattle.sqlite.specs.Ops.{is_null, is_false, from_truth, binary}
+use Rattle.store_tables.proofs.OrderLemmas.{value_cmp-Int}
 use Rattle.std.specs.Cmp.{int_ranks}
 use Rattle.std.specs.Ordering.{is_eq, int_cmp, MatchOrdering}
 use Rattle.std.specs.declared.cmp.Ordering.{Ordering}
 use Rattle.std.specs.declared.cmp.Ordering.TheVariants.{Less, Equal, Greater}
 use Rattle.sqlite.specs.Kind.TheVariants as kind
-use Rattle.sqlite_schema.specs.Rules.{is_of, passes}
-use Rattle.sqlite_schema.specs.declared.schema.Constraint.TheVariants.{Datatype, NotNull, Check}
+use Rattle.store_tables.specs.Rules.{is_of, passes}
+use Rattle.store_tables.specs.Constraint.TheVariants.{Datatype, NotNull, Check}
 use Rattle.sqlite_catalog.specs.Listing.{IsSound}
 use Rattle.sqlite_catalog.proofs.LayoutLemmas.{laid_out, objects_rise, named_tree}
 use Rattle.store_tables.specs.Tables.{TableOrder, AboutFirst, EntriesFirst, store_schema, no_schema, about_table, entries_table}

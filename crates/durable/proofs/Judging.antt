@@ -10,11 +10,11 @@ use Rattle.std.specs.declared.cmp.Ordering.TheVariants.{Less}
 use Rattle.std.specs.Cmp.{int_ranks}
 use Rattle.std.specs.Ordering.{MatchOrdering}
 use Rattle.std.proofs.lemmas.Int.{ints}
-use Rattle.sqlite_value.proofs.OrderLemmas.{value_cmp-Int}
+use Rattle.store_tables.proofs.OrderLemmas.{value_cmp-Int}
 use Rattle.sqlite.specs.declared.types.Value.TheVariants.{Null, Int, Text as Words}
 use Rattle.sqlite.specs.Order.{Row, column, value_cmp}
-use Rattle.sqlite_trees.specs.Tree.{IsTable, rowid}
-use Rattle.sqlite_rules.specs.Edit.{id_in}
+use Rattle.sqlite.specs.Tree.{IsTable, rowid}
+use Rattle.sqlite.specs.Edit.{id_in}
 use Rattle.std.proofs.lemmas.Bool.{cases_lt}
 use Rattle.sqlite.specs.Query.{IsAnswer, Output, output}
 use Rattle.sqlite.specs.Term.{Env}

@@ -5,7 +5,7 @@ use Rattle.sqlite_disk.specs.declared.Disk.{Ghosts}
 use Rattle.sqlite_store.specs.declared.store.FileStore.{FileStore}
 use Rattle.wire.specs.declared.input.Input.{Input}
 use Rattle.stores.specs.Calls.{Appends, Loads}
-use Rattle.durable.specs.Connected.{Connected}
+use Rattle.durable.specs.Connected.{OpenStoreView}
 use Rattle.durable.specs.Connected as connected
 use Rattle.durable.specs.Kept.{IsHonest, MayHold, content, must_reopen}
 use Rattle.stores.specs.Records.{Places}
@@ -13,7 +13,7 @@ use Rattle.stores.specs.declared.fault.StoreFault.{StoreFault}
 use Rattle.durable.specs.declared.store_state.StoreState.{StoreState}
 use Rattle.durable.specs.declared.store_state.StoreState.TheVariants.{Open}
 
-module _ {D : Type 0} (g : Ghosts D) (store_state : StoreState D g) (old new : Connected (FileStore D g)) (is : store_state ≡ Open old) where
+module _ {D : Type 0} (g : Ghosts D) (store_state : StoreState D g) (old new : OpenStoreView (FileStore D g)) (is : store_state ≡ Open old) where
   pub linked_appends : (batch : List Input) (r : Result Unit StoreFault) → Appends (connected.IsHonest over_files) (connected.content over_files) (connected.MayHold over_files) (λ k. k.must_reopen) old new batch r
       → Appends (IsHonest g) (content g) (MayHold g) (must_reopen g) store_state (Open new) batch r
   linked_appends batch r h =

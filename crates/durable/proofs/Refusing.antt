@@ -4,7 +4,7 @@ use Rattle.std.proofs.lemmas.Bool.{eq-eqb}
 use Rattle.sqlite_disk.specs.declared.Disk.{Ghosts}
 use Rattle.sqlite_disk.specs.declared.Files.{Files}
 use Rattle.sqlite_disk.specs.declared.tally.Tally.{Tally}
-use Rattle.sqlite_wal.specs.Reads.{AreClean, tally_of_files}
+use Rattle.sqlite.specs.WalReads.{AreClean, tally_of_files}
 use Rattle.sqlite_trees.specs.declared.error.StoreError.TheVariants.{Io, Corrupt, Full}
 use Rattle.sqlite_store.specs.Report.{named}
 use Rattle.sqlite.specs.Closing.{files_left}

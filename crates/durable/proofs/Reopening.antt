@@ -3,15 +3,15 @@ use Rattle.std.proofs.Common.{◌≡◌, IsTrue, sym, subst, true}
 use Rattle.std.proofs.Math.Logic.{∥∥₁_map}
 use Rattle.sqlite_disk.specs.declared.Disk.{Ghosts}
 use Rattle.sqlite_disk.specs.declared.Files.{Files}
-use Rattle.sqlite_wal.specs.Files.{outcomes}
-use Rattle.sqlite_wal.specs.Recovery.{Image}
-use Rattle.sqlite_wal.specs.Reads.{AreClean}
+use Rattle.sqlite.specs.WalFiles.{outcomes}
+use Rattle.sqlite.specs.Recovery.{Image}
+use Rattle.sqlite.specs.WalReads.{AreClean}
 use Rattle.sqlite_pool.specs.declared.pool.Pool.{Pool}
 use Rattle.sqlite_pool.specs.Pool.{state, files}
-use Rattle.sqlite_trees.specs.Tree.{Trees}
-use Rattle.sqlite_trees.specs.View.{IsClean}
+use Rattle.sqlite.specs.Tree.{Trees}
+use Rattle.sqlite.specs.View.{IsClean}
 use Rattle.sqlite_store.specs.declared.store.FileStore.{FileStore}
-use Rattle.sqlite_store.specs.FileStore.{view, recovers, files as store_files, state as store_state}
+use Rattle.sqlite.specs.FileStore.{view, recovers, files as store_files, state as store_state}
 use Rattle.sqlite.specs.Held.{AreDatabases}
 use Rattle.sqlite.specs.Files.{image_of}
 use Rattle.sqlite_trees.proofs.Doubt.{no_doubt}

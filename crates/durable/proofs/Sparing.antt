@@ -3,7 +3,7 @@ use Rattle.std.proofs.Common.{◌⊎◌, ℕ, List, inl, inr, ap}
 use Rattle.std.proofs.Math.Logic.{∥∥₁_map}
 use Rattle.sqlite_disk.specs.declared.Disk.{Ghosts}
 use Rattle.sqlite_disk.specs.declared.Files.{Files}
-use Rattle.sqlite_wal.specs.Reads.{AreClean}
+use Rattle.sqlite.specs.WalReads.{AreClean}
 use Rattle.sqlite.specs.Tree.{Trees}
 use Rattle.durable.specs.Backing.{Hold}
 use Rattle.durable.specs.Refusals.{IsFileFault, IsUnharmed, AreUntouched, AreGivenBack, AreSpared}

@@ -5,7 +5,7 @@ use Rattle.std.proofs.lemmas.Int.{ints}
 use Rattle.std.proofs.lemmas.List.Elements.{recursion_from_All}
 use Rattle.sqlite.specs.Order.{Row, column}
 use Rattle.sqlite.specs.Effect.{Database}
-use Rattle.sqlite_rules.specs.Edit.{id_in}
+use Rattle.sqlite.specs.Edit.{id_in}
 use Rattle.stores.specs.declared.fault.StoreFault.TheVariants.{Damaged, WrongNode, WrongVersion}
 use Rattle.wire.specs.Records.{number_of}
 use Rattle.wire.specs.declared.record_format.RecordFormat.{RecordFormat}

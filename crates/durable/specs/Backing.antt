@@ -5,9 +5,9 @@ use Rattle.sqlite.specs.Closing.{HoldsAlone}
 use Rattle.sqlite.specs.Files.{AreFoundIn, HoldsDatabase, IsNothing, image_of}
 use Rattle.sqlite_disk.specs.declared.Disk.{Ghosts}
 use Rattle.sqlite_disk.specs.declared.Files.{Files}
-use Rattle.sqlite_wal.specs.Files.{outcomes}
-use Rattle.sqlite_wal.specs.Reads.{AreClean}
-use Rattle.sqlite_wal.specs.Recovery.{Image}
+use Rattle.sqlite.specs.WalFiles.{outcomes}
+use Rattle.sqlite.specs.WalReads.{AreClean}
+use Rattle.sqlite.specs.Recovery.{Image}
 
 -- these are the trees of what the two files hold
 pub record AreHeld (image : Image) (db : Trees) : Type 0 where

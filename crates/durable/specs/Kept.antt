@@ -4,7 +4,7 @@ use Rattle.sqlite.specs.Tree.{Trees}
 use Rattle.sqlite.specs.Files.{over_files, file_state}
 use Rattle.sqlite_disk.specs.declared.Disk.{Ghosts}
 use Rattle.sqlite_disk.specs.declared.Files.{Files}
-use Rattle.sqlite_wal.specs.Reads.{AreClean}
+use Rattle.sqlite.specs.WalReads.{AreClean}
 use Rattle.durable.specs.Backing.{MayFind, Hold}
 use Rattle.durable.specs.Connected as connected
 use Rattle.store_migration.specs.Migrating.{IsOpenedAs}

@@ -11,7 +11,7 @@ use Rattle.sqlite.specs.declared.file.Leftover.{Leftover}
 use Rattle.sqlite_disk.specs.declared.Disk.{Ghosts}
 use Rattle.sqlite_disk.specs.declared.Files.{Files}
 use Rattle.sqlite_disk.specs.declared.tally.Tally.{Tally}
-use Rattle.sqlite_wal.specs.Reads.{AreClean, tally_of_files}
+use Rattle.sqlite.specs.WalReads.{AreClean, tally_of_files}
 use Rattle.durable.specs.Backing.{IsFound, IsNoDatabase, Hold}
 use Rattle.store_tables.specs.SqlFaults.{store_fault_of}
 use Rattle.stores.specs.Faults.{is_judgement}

@@ -5,7 +5,7 @@ ghost use Rattle.sqlite.specs.Tree.{Trees};
 ghost use Rattle.sqlite.specs.State.{HasCleanDisk, Opens};
 ghost use Rattle.sqlite.specs.Files.{file_state};
 ghost use Rattle.sqlite.specs.Closing.{IsCopied};
-ghost use Rattle.sqlite_wal.specs.Reads.{AreClean};
+ghost use Rattle.sqlite.specs.WalReads.{AreClean};
 ghost use Rattle.durable.specs.Backing.{IsFound, MayFind, Hold};
 ghost use Rattle.stores.specs.Faults.{is_device_fault};
 ghost use Rattle.store_tables.specs.SqlFaults.{store_fault_of};
@@ -39,7 +39,8 @@ pub(crate) fn copied_files<D: Disk + Drop>(
     ensures copied { IfOk result (λ files. AreClean D.Disk files.log files.db → IsCopied conn files) }
     ensures named { IfErr result (λ e. (e.0 ≡ StoreFault.NoMemory) ⊎ IsTrue (is_device_fault e.0)) }
     ensures honest { IfErr result (λ e. AreClean D.Disk e.1.log e.1.db → HasCleanDisk (file_state conn)) }
-    ensures left { IfErr result (λ e. e.0 ≢ StoreFault.Device → (db : Trees) → MayFind D.Disk e.1 db → ∥ (file_state conn).may_leave db ∥₁) }
+    ensures left { IfErr result (λ e. e.0 ≢ StoreFault.Device → (db : Trees) → MayFind D.Disk e.1 db
+        → ∥ (file_state conn).may_leave db ∥₁) }
     ensures holds { IfErr result (λ e. e.0 ≢ StoreFault.Device → Hold D.Disk e.1 (file_state conn).may_leave) }
 {
     let mut database = conn.into_store();
@@ -59,13 +60,18 @@ pub(crate) fn copied_files<D: Disk + Drop>(
 /// written.
 pub(crate) fn opening_fault(error: SqlError, before: Tally, now: Tally) -> StoreFault
     ensures told { IsToldOf before now error result }
-    ensures named { (result ≡ StoreFault.Damaged 0) ⊎ ((result ≡ StoreFault.NoMemory) ⊎ IsTrue (is_device_fault result)) }
+    ensures named { (result ≡ StoreFault.Damaged 0) ⊎ ((result ≡ StoreFault.NoMemory)
+        ⊎ IsTrue (is_device_fault result)) }
     ensures no_database { error ≡ SqlError.SqliteFailure ErrorCode.NotADatabase → result ≡ StoreFault.Damaged 0 }
-    ensures corrupt { error ≡ SqlError.SqliteFailure ErrorCode.DatabaseCorrupt → now.caught ≡ before.caught → result ≡ StoreFault.Damaged 0 }
-    ensures caught { error ≢ SqlError.SqliteFailure ErrorCode.NotADatabase → now.caught ≢ before.caught → result ≡ store_fault_of error }
-    ensures other { error ≢ SqlError.SqliteFailure ErrorCode.NotADatabase → error ≢ SqlError.SqliteFailure ErrorCode.DatabaseCorrupt → result ≡ store_fault_of error }
+    ensures corrupt { error ≡ SqlError.SqliteFailure ErrorCode.DatabaseCorrupt → now.caught ≡ before.caught
+        → result ≡ StoreFault.Damaged 0 }
+    ensures caught { error ≢ SqlError.SqliteFailure ErrorCode.NotADatabase → now.caught ≢ before.caught
+        → result ≡ store_fault_of error }
+    ensures other { error ≢ SqlError.SqliteFailure ErrorCode.NotADatabase
+        → error ≢ SqlError.SqliteFailure ErrorCode.DatabaseCorrupt → result ≡ store_fault_of error }
     ensures damaged { (p : ℕ) → result ≡ StoreFault.Damaged p
-        → (error ≡ SqlError.SqliteFailure ErrorCode.NotADatabase) ⊎ ((error ≡ SqlError.SqliteFailure ErrorCode.DatabaseCorrupt) × (now.caught ≡ before.caught)) }
+        → (error ≡ SqlError.SqliteFailure ErrorCode.NotADatabase)
+        ⊎ ((error ≡ SqlError.SqliteFailure ErrorCode.DatabaseCorrupt) × (now.caught ≡ before.caught)) }
 {
     match error {
         SqlError::SqliteFailure(ErrorCode::NotADatabase) => StoreFault::Damaged(0),
@@ -87,8 +93,10 @@ pub(crate) fn open_again<D: Disk + Drop>(
     ensures idle { IfOk result (λ conn. conn.in_transaction ≡ false) }
     ensures opened { IfOk result (λ conn. HasCleanDisk (file_state conn) → Opens (file_state conn)) }
     ensures sound { IfOk result (λ conn. HasCleanDisk (file_state conn) → IsDatabase (file_state conn).committed) }
-    ensures found { IfOk result (λ conn. HasCleanDisk (file_state conn) → IsFound D.Disk files (file_state conn).committed.trees) }
-    ensures named { IfErr result (λ e. (e.0 ≡ StoreFault.Damaged 0) ⊎ ((e.0 ≡ StoreFault.NoMemory) ⊎ IsTrue (is_device_fault e.0))) }
+    ensures found { IfOk result (λ conn. HasCleanDisk (file_state conn)
+        → IsFound D.Disk files (file_state conn).committed.trees) }
+    ensures named { IfErr result (λ e. (e.0 ≡ StoreFault.Damaged 0)
+        ⊎ ((e.0 ≡ StoreFault.NoMemory) ⊎ IsTrue (is_device_fault e.0))) }
     ensures fault { IfErr result (λ e. AreClean D.Disk e.1.log e.1.db → IsFileFault D.Disk files e.0) }
     ensures spared { IfErr result (λ e. AreUntouched D.Disk files e.1 e.0 ⊎ AreGivenBack D.Disk files e.1 e.0) }
 {

@@ -1,8 +1,8 @@
 //! What errors of a database mean for a store whose log is copied.
 ghost use Rattle.std.specs.Prelude.{◌≡◌, ◌≢◌, ◌⊎◌, IsTrue};
 ghost use Rattle.sqlite.specs.State.{store_error};
-ghost use Rattle.sqlite_trees.specs.View.{IsClean};
-ghost use Rattle.sqlite_store.specs.FileStore.{view};
+ghost use Rattle.sqlite.specs.View.{IsClean};
+ghost use Rattle.sqlite.specs.FileStore.{view};
 ghost use Rattle.stores.specs.Faults.{is_device_fault};
 ghost use Rattle.store_tables.specs.SqlFaults.{store_fault_of};
 

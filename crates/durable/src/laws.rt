@@ -14,7 +14,8 @@ use sqlite_disk::Disk;
 /// what was written: what `close_files` says of the files, and what `open_files` finds in them.
 pub fn closed_files_open_as_they_were<D: Disk + Drop>()
     ensures { (closed opened : SqlStore D D.Disk) (files : Files D)
-        → Hold D.Disk files (λ db. IsStore db × (slots_in db ≡ content D.Disk closed) × (node_in db ≡ owner D.Disk closed))
+        → Hold D.Disk files
+        (λ db. IsStore db × (slots_in db ≡ content D.Disk closed) × (node_in db ≡ owner D.Disk closed))
         → (found : (db : Trees) × IsFound D.Disk files db × IsOpenedAs db (content D.Disk opened))
         → ∥ (content D.Disk opened ≡ content D.Disk closed) × (node_in found.0 ≡ owner D.Disk closed) ∥₁ }
 {}

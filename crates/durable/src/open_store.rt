@@ -29,16 +29,17 @@ pub(crate) struct OpenStore<S: Alter> {
 }
 
 impl<S: Alter> Model for OpenStore<S> {
-    ghost use Rattle.durable.specs.Connected.{Connected, connected_code, IsSound};
+    ghost use Rattle.durable.specs.Connected.{OpenStoreView, connected_code, IsSound};
     ghost use Rattle.stores.specs.Readiness.{is_stopped};
 
-    ghost Value = { Connected S };
+    ghost Value = { OpenStoreView S };
 
     ghost coded = { connected_code S.code };
 
     ghost view = { λ s. record { conn = s.conn; count = s.count; must_reopen = is_stopped s.readiness } };
 
-    ghost invariant = { λ s. IsSound S.Store (record { conn = s.conn; count = s.count; must_reopen = is_stopped s.readiness }) };
+    ghost invariant = { λ s. IsSound S.Store
+        (record { conn = s.conn; count = s.count; must_reopen = is_stopped s.readiness }) };
 }
 
 /// The count with the batch, if the places fit.
@@ -57,9 +58,11 @@ impl<S: Alter> OpenStore<S> {
         requires idle { conn.in_transaction ≡ false }
         requires small { count ≤ 2 ^ 63 }
         requires ready { HasCleanDisk (state S.Store conn) → IsReady (state S.Store conn) }
-        requires counted { HasCleanDisk (state S.Store conn) → count ≡ length (slots_in (state S.Store conn).committed.trees) }
+        requires counted { HasCleanDisk (state S.Store conn)
+            → count ≡ length (slots_in (state S.Store conn).committed.trees) }
         ensures value { result ≡ record { conn = conn; count = count; must_reopen = false } }
-        ensures durable { IsHonest S.Store result → (next : Places) → MayHold S.Store result next → next ≡ content S.Store result }
+        ensures durable { IsHonest S.Store result → (next : Places) → MayHold S.Store result next
+            → next ≡ content S.Store result }
     {
         OpenStore {
             conn,
@@ -79,9 +82,12 @@ impl<S: Alter> OpenStore<S> {
     /// The connection.
     pub(crate) fn into_connection(self) -> Connection<S>
         ensures connection { result ≡ self.conn }
-        ensures settled { IsHonest S.Store self → self.must_reopen ≡ false → (db : Trees) → (state S.Store self.conn).may_leave db → db ≡ (state S.Store self.conn).committed.trees }
-        ensures store { IsHonest S.Store self → self.must_reopen ≡ false → IsStore (state S.Store self.conn).committed.trees }
-        ensures durable { IsHonest S.Store self → self.must_reopen ≡ false → (next : Places) → MayHold S.Store self next → next ≡ content S.Store self }
+        ensures settled { IsHonest S.Store self → self.must_reopen ≡ false → (db : Trees)
+            → (state S.Store self.conn).may_leave db → db ≡ (state S.Store self.conn).committed.trees }
+        ensures store { IsHonest S.Store self → self.must_reopen ≡ false
+            → IsStore (state S.Store self.conn).committed.trees }
+        ensures durable { IsHonest S.Store self → self.must_reopen ≡ false → (next : Places)
+            → MayHold S.Store self next → next ≡ content S.Store self }
     {
         let OpenStore {
             conn,
@@ -99,14 +105,20 @@ impl<S: Alter> OpenStore<S> {
         ensures stops { OnErr result (IsTrue self.new.must_reopen) }
         ensures runs { OnOk result (self.new.must_reopen ≡ false) }
         ensures honest { IsHonest S.Store self.new → IsHonest S.Store self.old }
-        ensures ok { IsHonest S.Store self.new → OnOk result (content S.Store self.new ≡ followed_by (content S.Store self.old) (map items texts.now)) }
+        ensures ok { IsHonest S.Store self.new
+            → OnOk result (content S.Store self.new ≡ followed_by (content S.Store self.old) (map items texts.now)) }
         ensures owner { IsHonest S.Store self.new → OnOk result (owner S.Store self.new ≡ owner S.Store self.old) }
-        ensures refused { IsHonest S.Store self.new → IfErr result (λ e. is_device_fault e ≡ false → (next : Places) → MayHold S.Store self.new next → next ≡ content S.Store self.old) }
+        ensures refused { IsHonest S.Store self.new → IfErr result (λ e. is_device_fault e ≡ false → (next : Places)
+            → MayHold S.Store self.new next → next ≡ content S.Store self.old) }
         ensures crash { IsHonest S.Store self.new → (next : Places) → MayHold S.Store self.new next
-            → (next ≡ content S.Store self.old) ⊎ (next ≡ followed_by (content S.Store self.old) (map items texts.now)) }
+            → (next ≡ content S.Store self.old)
+            ⊎ (next ≡ followed_by (content S.Store self.old) (map items texts.now)) }
         ensures full { IsHonest S.Store self.new → result ≡ Err Full
-            → (self.old.count + length texts.now < 2 ^ 62 → ⊥) ⊎ HasNoRoom (disk_faults S.Store self.old) (disk_faults S.Store self.new) (map (λ body. Some body) (map items texts.now)) }
-        ensures durable { IsHonest S.Store self.new → self.new.must_reopen ≡ false → (next : Places) → MayHold S.Store self.new next → next ≡ content S.Store self.new }
+            → (self.old.count + length texts.now < 2 ^ 62 → ⊥)
+            ⊎ HasNoRoom (disk_faults S.Store self.old) (disk_faults S.Store self.new)
+            (map (λ body. Some body) (map items texts.now)) }
+        ensures durable { IsHonest S.Store self.new → self.new.must_reopen ≡ false → (next : Places)
+            → MayHold S.Store self.new next → next ≡ content S.Store self.new }
     {
         let Some(total) = total(self.count, texts.len()) else {
             self.readiness = Readiness::MustReopen;
@@ -126,9 +138,13 @@ impl<S: Alter> OpenStore<S> {
 
     /// Appends the whole batch, or nothing of it.
     pub(crate) fn append(&mut self, batch: &[Input]) -> Result<(), StoreFault>
-        ensures appends { Appends (IsHonest S.Store) (content S.Store) (MayHold S.Store) (λ k. k.must_reopen) self.old self.new batch.now result }
-        ensures owner { IsHonest S.Store self.new → self.new.must_reopen ≡ false → owner S.Store self.new ≡ owner S.Store self.old }
-        ensures full { IsHonest S.Store self.new → result ≡ Err Full → LacksRoom (content S.Store self.old) batch.now (disk_faults S.Store self.old) (disk_faults S.Store self.new) }
+        ensures appends { Appends (IsHonest S.Store) (content S.Store) (MayHold S.Store)
+            (λ k. k.must_reopen) self.old self.new batch.now result }
+        ensures owner { IsHonest S.Store self.new → self.new.must_reopen ≡ false
+            → owner S.Store self.new ≡ owner S.Store self.old }
+        ensures full { IsHonest S.Store self.new → result ≡ Err Full
+            → LacksRoom (content S.Store self.old) batch.now (disk_faults S.Store self.old)
+            (disk_faults S.Store self.new) }
     {
         if self.readiness == Readiness::MustReopen {
             return Err(StoreFault::Reopen);
@@ -149,15 +165,21 @@ impl<S: Alter> OpenStore<S> {
         requires some { first < until }
         requires within { until ≤ self.old.count }
         ensures honest { IsHonest S.Store self.new → IsHonest S.Store self.old }
-        ensures ok { IsHonest S.Store self.new → IfOk result (λ inputs. AreRecords (take (until - first) (drop first (content S.Store self.old))) inputs.items) }
-        ensures damaged { IsHonest S.Store self.new → IfErr result (λ e. (p : ℕ) → e ≡ Damaged p → (first ≤ p) × IsDamagedAt (p - first) (take (until - first) (drop first (content S.Store self.old)))) }
+        ensures ok { IsHonest S.Store self.new
+            → IfOk result (λ inputs. AreRecords (take (until - first) (drop first
+            (content S.Store self.old))) inputs.items) }
+        ensures damaged { IsHonest S.Store self.new → IfErr result (λ e. (p : ℕ) → e ≡ Damaged p → (first ≤ p)
+            × IsDamagedAt (p - first) (take (until - first) (drop first (content S.Store self.old)))) }
         ensures named { IfErr result IsReadFault }
         ensures stops { IfErr result (λ e. self.new.must_reopen ≡ is_device_fault e) }
         ensures runs { OnOk result (self.new.must_reopen ≡ false) }
         ensures count { self.new.count ≡ self.old.count }
-        ensures kept { IsHonest S.Store self.new → self.new.must_reopen ≡ false → content S.Store self.new ≡ content S.Store self.old }
-        ensures owner { IsHonest S.Store self.new → self.new.must_reopen ≡ false → owner S.Store self.new ≡ owner S.Store self.old }
-        ensures crash { IsHonest S.Store self.new → (next : Places) → MayHold S.Store self.new next → next ≡ content S.Store self.old }
+        ensures kept { IsHonest S.Store self.new → self.new.must_reopen ≡ false
+            → content S.Store self.new ≡ content S.Store self.old }
+        ensures owner { IsHonest S.Store self.new → self.new.must_reopen ≡ false
+            → owner S.Store self.new ≡ owner S.Store self.old }
+        ensures crash { IsHonest S.Store self.new → (next : Places) → MayHold S.Store self.new next
+            → next ≡ content S.Store self.old }
     {
         let rows = match rows_of(&mut self.conn, first, until - 1) {
             Ok(rows) => rows,
@@ -180,8 +202,10 @@ impl<S: Alter> OpenStore<S> {
 
     /// The records from place `from` on, at most `max`.
     pub(crate) fn load_page(&mut self, from: u64, max: u64) -> Result<Vec<Input>, StoreFault>
-        ensures loads { Loads (IsHonest S.Store) (content S.Store) (MayHold S.Store) (λ k. k.must_reopen) self.old self.new from (take max (drop from (content S.Store self.old))) result }
-        ensures owner { IsHonest S.Store self.new → self.new.must_reopen ≡ false → owner S.Store self.new ≡ owner S.Store self.old }
+        ensures loads { Loads (IsHonest S.Store) (content S.Store) (MayHold S.Store)
+            (λ k. k.must_reopen) self.old self.new from (take max (drop from (content S.Store self.old))) result }
+        ensures owner { IsHonest S.Store self.new → self.new.must_reopen ≡ false
+            → owner S.Store self.new ≡ owner S.Store self.old }
     {
         if self.readiness == Readiness::MustReopen {
             return Err(StoreFault::Reopen);
@@ -195,8 +219,10 @@ impl<S: Alter> OpenStore<S> {
 
     /// All records in their order.
     pub(crate) fn load(&mut self) -> Result<Vec<Input>, StoreFault>
-        ensures loads { Loads (IsHonest S.Store) (content S.Store) (MayHold S.Store) (λ k. k.must_reopen) self.old self.new 0 (content S.Store self.old) result }
-        ensures owner { IsHonest S.Store self.new → self.new.must_reopen ≡ false → owner S.Store self.new ≡ owner S.Store self.old }
+        ensures loads { Loads (IsHonest S.Store) (content S.Store) (MayHold S.Store)
+            (λ k. k.must_reopen) self.old self.new 0 (content S.Store self.old) result }
+        ensures owner { IsHonest S.Store self.new → self.new.must_reopen ≡ false
+            → owner S.Store self.new ≡ owner S.Store self.old }
     {
         self.load_page(0, self.count)
     }

@@ -32,8 +32,10 @@ fn is_whole<S: Alter>(conn: &Connection<S>)
 /// Which tables the database has, and which rows they can hold.
 fn tables_in<S: Alter>(conn: &Connection<S>) -> Tables
     ensures tables { AreTables (state S.Store conn.now).now.schema result }
-    ensures rows { IsTrue (state S.Store conn.now).is_open → IsStoreSchema (state S.Store conn.now).now.schema → HasRows (state S.Store conn.now).now }
-    ensures bare { IsTrue (state S.Store conn.now).is_open → IsBare (state S.Store conn.now).now → ((state S.Store conn.now).now.trees 0 ≡ []) × ((state S.Store conn.now).now.trees 1 ≡ []) }
+    ensures rows { IsTrue (state S.Store conn.now).is_open → IsStoreSchema (state S.Store conn.now).now.schema
+        → HasRows (state S.Store conn.now).now }
+    ensures bare { IsTrue (state S.Store conn.now).is_open → IsBare (state S.Store conn.now).now
+        → ((state S.Store conn.now).now.trees 0 ≡ []) × ((state S.Store conn.now).now.trees 1 ≡ []) }
 {
     is_whole(conn);
     tables_of(conn.schema())
@@ -43,7 +45,8 @@ fn tables_in<S: Alter>(conn: &Connection<S>) -> Tables
 fn create_about<S: Alter>(tx: &mut Transaction<'_, S>) -> Result<(), SqlError>
     requires inside { HasCleanDisk (state S.Store tx.old.conn.now) → IsWithin (state S.Store tx.old.conn.now) IsBare }
     ensures same_reference { tx.new.conn.ghost_name ≡ tx.old.conn.ghost_name }
-    ensures inside { HasCleanDisk (state S.Store tx.new.conn.now) → OnOk result (IsWithin (state S.Store tx.new.conn.now) HasAbout) }
+    ensures inside { HasCleanDisk (state S.Store tx.new.conn.now)
+        → OnOk result (IsWithin (state S.Store tx.new.conn.now) HasAbout) }
     ensures survives { Survives (state S.Store tx.old.conn.now) (state S.Store tx.new.conn.now) (λ _. ⊥) }
 {
     tx.execute(
@@ -57,8 +60,10 @@ fn create_about<S: Alter>(tx: &mut Transaction<'_, S>) -> Result<(), SqlError>
 fn create_entries<S: Alter>(tx: &mut Transaction<'_, S>) -> Result<(), SqlError>
     requires inside { HasCleanDisk (state S.Store tx.old.conn.now) → IsWithin (state S.Store tx.old.conn.now) HasAbout }
     ensures same_reference { tx.new.conn.ghost_name ≡ tx.old.conn.ghost_name }
-    ensures inside { HasCleanDisk (state S.Store tx.new.conn.now) → OnOk result (IsWithin (state S.Store tx.new.conn.now) IsEmpty) }
-    ensures tables { HasCleanDisk (state S.Store tx.new.conn.now) → OnOk result ((state S.Store tx.new.conn.now).now.schema ≡ store_schema AboutFirst) }
+    ensures inside { HasCleanDisk (state S.Store tx.new.conn.now)
+        → OnOk result (IsWithin (state S.Store tx.new.conn.now) IsEmpty) }
+    ensures tables { HasCleanDisk (state S.Store tx.new.conn.now)
+        → OnOk result ((state S.Store tx.new.conn.now).now.schema ≡ store_schema AboutFirst) }
     ensures survives { Survives (state S.Store tx.old.conn.now) (state S.Store tx.new.conn.now) (λ _. ⊥) }
 {
     tx.execute(
@@ -72,8 +77,10 @@ fn create_entries<S: Alter>(tx: &mut Transaction<'_, S>) -> Result<(), SqlError>
 fn put_owner<S: Alter>(tx: &mut Transaction<'_, S>, node: &str) -> Result<(), SqlError>
     requires inside { HasCleanDisk (state S.Store tx.old.conn.now) → IsWithin (state S.Store tx.old.conn.now) IsEmpty }
     ensures same_reference { tx.new.conn.ghost_name ≡ tx.old.conn.ghost_name }
-    ensures inside { HasCleanDisk (state S.Store tx.new.conn.now) → OnOk result (IsWithin (state S.Store tx.new.conn.now) (HasFresh node.now)) }
-    ensures tables { HasCleanDisk (state S.Store tx.new.conn.now) → OnOk result ((state S.Store tx.new.conn.now).now.schema ≡ (state S.Store tx.old.conn.now).now.schema) }
+    ensures inside { HasCleanDisk (state S.Store tx.new.conn.now)
+        → OnOk result (IsWithin (state S.Store tx.new.conn.now) (HasFresh node.now)) }
+    ensures tables { HasCleanDisk (state S.Store tx.new.conn.now)
+        → OnOk result ((state S.Store tx.new.conn.now).now.schema ≡ (state S.Store tx.old.conn.now).now.schema) }
     ensures survives { Survives (state S.Store tx.old.conn.now) (state S.Store tx.new.conn.now) (λ _. ⊥) }
 {
     tx.execute(
@@ -89,13 +96,15 @@ fn put_owner<S: Alter>(tx: &mut Transaction<'_, S>, node: &str) -> Result<(), Sq
 /// Makes the tables and the owner's row in one transaction.
 fn make<S: Alter>(conn: &mut Connection<S>, node: &str) -> Result<(), SqlError>
     requires idle { conn.old.in_transaction ≡ false }
-    requires opened { HasCleanDisk (state S.Store conn.old) → IsOpened (state S.Store conn.old) × IsBare (state S.Store conn.old).committed }
+    requires opened { HasCleanDisk (state S.Store conn.old) → IsOpened (state S.Store conn.old)
+        × IsBare (state S.Store conn.old).committed }
     ensures idle { conn.new.in_transaction ≡ false }
     ensures clean { HasCleanDisk (state S.Store conn.new) → HasCleanDisk (state S.Store conn.old) }
     ensures made { HasCleanDisk (state S.Store conn.new) → OnOk result (IsMade node.now (state S.Store conn.new)) }
     ensures crash { HasCleanDisk (state S.Store conn.new) → (db : Trees) → (state S.Store conn.new).may_leave db
         → (db ≡ (state S.Store conn.old).committed.trees) ⊎ IsFresh node.now db }
-    ensures tables { HasCleanDisk (state S.Store conn.new) → OnOk result ((state S.Store conn.new).committed.schema ≡ store_schema AboutFirst) }
+    ensures tables { HasCleanDisk (state S.Store conn.new)
+        → OnOk result ((state S.Store conn.new).committed.schema ≡ store_schema AboutFirst) }
 {
     let mut tx = conn.transaction();
     create_about(&mut tx)?;
@@ -107,13 +116,15 @@ fn make<S: Alter>(conn: &mut Connection<S>, node: &str) -> Result<(), SqlError>
 /// Puts the owner's row into tables that have no row.
 fn write_owner<S: Alter>(conn: &mut Connection<S>, node: &str) -> Result<(), SqlError>
     requires idle { conn.old.in_transaction ≡ false }
-    requires opened { HasCleanDisk (state S.Store conn.old) → IsOpened (state S.Store conn.old) × IsEmpty (state S.Store conn.old).committed }
+    requires opened { HasCleanDisk (state S.Store conn.old) → IsOpened (state S.Store conn.old)
+        × IsEmpty (state S.Store conn.old).committed }
     ensures idle { conn.new.in_transaction ≡ false }
     ensures clean { HasCleanDisk (state S.Store conn.new) → HasCleanDisk (state S.Store conn.old) }
     ensures made { HasCleanDisk (state S.Store conn.new) → OnOk result (IsMade node.now (state S.Store conn.new)) }
     ensures crash { HasCleanDisk (state S.Store conn.new) → (db : Trees) → (state S.Store conn.new).may_leave db
         → (db ≡ (state S.Store conn.old).committed.trees) ⊎ IsFresh node.now db }
-    ensures tables { HasCleanDisk (state S.Store conn.new) → OnOk result ((state S.Store conn.new).committed.schema ≡ (state S.Store conn.old).committed.schema) }
+    ensures tables { HasCleanDisk (state S.Store conn.new)
+        → OnOk result ((state S.Store conn.new).committed.schema ≡ (state S.Store conn.old).committed.schema) }
 {
     let mut tx = conn.transaction();
     put_owner(&mut tx, node)?;
@@ -122,13 +133,17 @@ fn write_owner<S: Alter>(conn: &mut Connection<S>, node: &str) -> Result<(), Sql
 
 /// The rows that a query on a store shows.
 fn ask<S: Alter>(conn: &mut Connection<S>, sql: &str) -> Result<Vec<Row>, StoreFault>
-    requires opened { HasCleanDisk (state S.Store conn.old) → IsOpened (state S.Store conn.old) × IsStoreSchema (state S.Store conn.old).committed.schema }
+    requires opened { HasCleanDisk (state S.Store conn.old) → IsOpened (state S.Store conn.old)
+        × IsStoreSchema (state S.Store conn.old).committed.schema }
     requires plain { (order : TableOrder) → IsPlain (understood (store_schema order) sql.now) }
     ensures idle { conn.old.in_transaction ≡ false → conn.new.in_transaction ≡ false }
     ensures clean { HasCleanDisk (state S.Store conn.new) → HasCleanDisk (state S.Store conn.old) }
-    ensures same { HasCleanDisk (state S.Store conn.new) → OnOk result (IsUnchanged (state S.Store conn.old) (state S.Store conn.new)) }
-    ensures shown { HasCleanDisk (state S.Store conn.new) → IfOk result (λ rows. Shown sql.now [] (state S.Store conn.old) (state S.Store conn.new) rows.items) }
-    ensures crash { HasCleanDisk (state S.Store conn.new) → (db : Trees) → (state S.Store conn.new).may_leave db → db ≡ (state S.Store conn.old).committed.trees }
+    ensures same { HasCleanDisk (state S.Store conn.new)
+        → OnOk result (IsUnchanged (state S.Store conn.old) (state S.Store conn.new)) }
+    ensures shown { HasCleanDisk (state S.Store conn.new)
+        → IfOk result (λ rows. Shown sql.now [] (state S.Store conn.old) (state S.Store conn.new) rows.items) }
+    ensures crash { HasCleanDisk (state S.Store conn.new) → (db : Trees) → (state S.Store conn.new).may_leave db
+        → db ≡ (state S.Store conn.old).committed.trees }
     ensures named { IfErr result (λ e. (e ≡ StoreFault.NoMemory) ⊎ IsTrue (is_device_fault e)) }
 {
     match conn.query_all(sql, &[]) {
@@ -139,12 +154,16 @@ fn ask<S: Alter>(conn: &mut Connection<S>, sql: &str) -> Result<Vec<Row>, StoreF
 
 /// Whose the file is.
 fn find_owner<S: Alter>(conn: &mut Connection<S>, node: &str) -> Result<Owner, StoreFault>
-    requires opened { HasCleanDisk (state S.Store conn.old) → IsOpened (state S.Store conn.old) × HasRows (state S.Store conn.old).committed }
+    requires opened { HasCleanDisk (state S.Store conn.old) → IsOpened (state S.Store conn.old)
+        × HasRows (state S.Store conn.old).committed }
     ensures idle { conn.old.in_transaction ≡ false → conn.new.in_transaction ≡ false }
     ensures clean { HasCleanDisk (state S.Store conn.new) → HasCleanDisk (state S.Store conn.old) }
-    ensures same { HasCleanDisk (state S.Store conn.new) → OnOk result (IsUnchanged (state S.Store conn.old) (state S.Store conn.new)) }
-    ensures owner { HasCleanDisk (state S.Store conn.new) → IfOk result (IsOwner node.now (state S.Store conn.old).committed) }
-    ensures crash { HasCleanDisk (state S.Store conn.new) → (db : Trees) → (state S.Store conn.new).may_leave db → db ≡ (state S.Store conn.old).committed.trees }
+    ensures same { HasCleanDisk (state S.Store conn.new)
+        → OnOk result (IsUnchanged (state S.Store conn.old) (state S.Store conn.new)) }
+    ensures owner { HasCleanDisk (state S.Store conn.new)
+        → IfOk result (IsOwner node.now (state S.Store conn.old).committed) }
+    ensures crash { HasCleanDisk (state S.Store conn.new) → (db : Trees) → (state S.Store conn.new).may_leave db
+        → db ≡ (state S.Store conn.old).committed.trees }
     ensures named { IfErr result (λ e. (e ≡ StoreFault.NoMemory) ⊎ IsTrue (is_device_fault e)) }
 {
     let rows = ask(conn, "SELECT format, node FROM about")?;
@@ -153,12 +172,16 @@ fn find_owner<S: Alter>(conn: &mut Connection<S>, node: &str) -> Result<Owner, S
 
 /// The least place of a record.
 fn least_place<S: Alter>(conn: &mut Connection<S>) -> Result<Option<i64>, StoreFault>
-    requires opened { HasCleanDisk (state S.Store conn.old) → IsOpened (state S.Store conn.old) × HasRows (state S.Store conn.old).committed }
+    requires opened { HasCleanDisk (state S.Store conn.old) → IsOpened (state S.Store conn.old)
+        × HasRows (state S.Store conn.old).committed }
     ensures idle { conn.old.in_transaction ≡ false → conn.new.in_transaction ≡ false }
     ensures clean { HasCleanDisk (state S.Store conn.new) → HasCleanDisk (state S.Store conn.old) }
-    ensures same { HasCleanDisk (state S.Store conn.new) → OnOk result (IsUnchanged (state S.Store conn.old) (state S.Store conn.new)) }
-    ensures least { HasCleanDisk (state S.Store conn.new) → IfOk result (HasLeastOrGreatest false (state S.Store conn.old).committed) }
-    ensures crash { HasCleanDisk (state S.Store conn.new) → (db : Trees) → (state S.Store conn.new).may_leave db → db ≡ (state S.Store conn.old).committed.trees }
+    ensures same { HasCleanDisk (state S.Store conn.new)
+        → OnOk result (IsUnchanged (state S.Store conn.old) (state S.Store conn.new)) }
+    ensures least { HasCleanDisk (state S.Store conn.new)
+        → IfOk result (HasLeastOrGreatest false (state S.Store conn.old).committed) }
+    ensures crash { HasCleanDisk (state S.Store conn.new) → (db : Trees) → (state S.Store conn.new).may_leave db
+        → db ≡ (state S.Store conn.old).committed.trees }
     ensures named { IfErr result (λ e. (e ≡ StoreFault.NoMemory) ⊎ IsTrue (is_device_fault e)) }
 {
     let rows = ask(conn, "SELECT place FROM entries ORDER BY place LIMIT 1")?;
@@ -167,12 +190,16 @@ fn least_place<S: Alter>(conn: &mut Connection<S>) -> Result<Option<i64>, StoreF
 
 /// The greatest place of a record.
 fn greatest_place<S: Alter>(conn: &mut Connection<S>) -> Result<Option<i64>, StoreFault>
-    requires opened { HasCleanDisk (state S.Store conn.old) → IsOpened (state S.Store conn.old) × HasRows (state S.Store conn.old).committed }
+    requires opened { HasCleanDisk (state S.Store conn.old) → IsOpened (state S.Store conn.old)
+        × HasRows (state S.Store conn.old).committed }
     ensures idle { conn.old.in_transaction ≡ false → conn.new.in_transaction ≡ false }
     ensures clean { HasCleanDisk (state S.Store conn.new) → HasCleanDisk (state S.Store conn.old) }
-    ensures same { HasCleanDisk (state S.Store conn.new) → OnOk result (IsUnchanged (state S.Store conn.old) (state S.Store conn.new)) }
-    ensures greatest { HasCleanDisk (state S.Store conn.new) → IfOk result (HasLeastOrGreatest true (state S.Store conn.old).committed) }
-    ensures crash { HasCleanDisk (state S.Store conn.new) → (db : Trees) → (state S.Store conn.new).may_leave db → db ≡ (state S.Store conn.old).committed.trees }
+    ensures same { HasCleanDisk (state S.Store conn.new)
+        → OnOk result (IsUnchanged (state S.Store conn.old) (state S.Store conn.new)) }
+    ensures greatest { HasCleanDisk (state S.Store conn.new)
+        → IfOk result (HasLeastOrGreatest true (state S.Store conn.old).committed) }
+    ensures crash { HasCleanDisk (state S.Store conn.new) → (db : Trees) → (state S.Store conn.new).may_leave db
+        → db ≡ (state S.Store conn.old).committed.trees }
     ensures named { IfErr result (λ e. (e ≡ StoreFault.NoMemory) ⊎ IsTrue (is_device_fault e)) }
 {
     let rows = ask(
@@ -206,7 +233,8 @@ fn verdict(owner: Owner, least: Option<i64>) -> Result<Contents, StoreFault>
     ensures never { IfErr result (λ e. e ≢ StoreFault.Reopen) }
     ensures places { IfErr result (λ e. (p : ℕ) → e ≡ StoreFault.Damaged p → p ≡ 0) }
     ensures judged { IfErr result (λ e. (e ≢ StoreFault.NoMemory) × (is_device_fault e ≡ false)) }
-    ensures verdict { (node : List ℕ) (db : Database) → HasRows db → IsOwner node db owner → HasLeastOrGreatest false db least → IsVerdict node db result }
+    ensures verdict { (node : List ℕ) (db : Database) → HasRows db → IsOwner node db owner
+        → HasLeastOrGreatest false db least → IsVerdict node db result }
 {
     if is_negative(least) {
         return Err(StoreFault::Damaged(0));
@@ -222,14 +250,18 @@ fn verdict(owner: Owner, least: Option<i64>) -> Result<Contents, StoreFault>
 
 /// What both tables of the file have, or why it is no store of the node.
 fn examine<S: Alter>(conn: &mut Connection<S>, node: &str) -> Result<Contents, StoreFault>
-    requires opened { HasCleanDisk (state S.Store conn.old) → IsOpened (state S.Store conn.old) × HasRows (state S.Store conn.old).committed }
+    requires opened { HasCleanDisk (state S.Store conn.old) → IsOpened (state S.Store conn.old)
+        × HasRows (state S.Store conn.old).committed }
     ensures idle { conn.old.in_transaction ≡ false → conn.new.in_transaction ≡ false }
     ensures clean { HasCleanDisk (state S.Store conn.new) → HasCleanDisk (state S.Store conn.old) }
-    ensures same { HasCleanDisk (state S.Store conn.new) → OnOk result (IsUnchanged (state S.Store conn.old) (state S.Store conn.new)) }
+    ensures same { HasCleanDisk (state S.Store conn.new)
+        → OnOk result (IsUnchanged (state S.Store conn.old) (state S.Store conn.new)) }
     ensures never { IfErr result (λ e. e ≢ StoreFault.Reopen) }
     ensures places { IfErr result (λ e. (p : ℕ) → e ≡ StoreFault.Damaged p → p ≡ 0) }
-    ensures found { HasCleanDisk (state S.Store conn.new) → IsVerdict node.now (state S.Store conn.old).committed result }
-    ensures crash { HasCleanDisk (state S.Store conn.new) → (db : Trees) → (state S.Store conn.new).may_leave db → db ≡ (state S.Store conn.old).committed.trees }
+    ensures found { HasCleanDisk (state S.Store conn.new)
+        → IsVerdict node.now (state S.Store conn.old).committed result }
+    ensures crash { HasCleanDisk (state S.Store conn.new) → (db : Trees) → (state S.Store conn.new).may_leave db
+        → db ≡ (state S.Store conn.old).committed.trees }
 {
     let owner = find_owner(conn, node)?;
     let least = least_place(conn)?;
@@ -248,14 +280,19 @@ const MOST_PLACES: u64 = 1 << 63;
 
 /// How many places the content of a store has, of either format.
 fn count<S: Alter>(conn: &mut Connection<S>) -> Result<u64, StoreFault>
-    requires opened { HasCleanDisk (state S.Store conn.old) → IsOpened (state S.Store conn.old) × HasRows (state S.Store conn.old).committed }
-    requires store { HasCleanDisk (state S.Store conn.old) → (format : RecordFormat) × IsStoreIn format (state S.Store conn.old).committed.trees }
+    requires opened { HasCleanDisk (state S.Store conn.old) → IsOpened (state S.Store conn.old)
+        × HasRows (state S.Store conn.old).committed }
+    requires store { HasCleanDisk (state S.Store conn.old) → (format : RecordFormat)
+        × IsStoreIn format (state S.Store conn.old).committed.trees }
     ensures idle { conn.old.in_transaction ≡ false → conn.new.in_transaction ≡ false }
     ensures clean { HasCleanDisk (state S.Store conn.new) → HasCleanDisk (state S.Store conn.old) }
-    ensures same { HasCleanDisk (state S.Store conn.new) → OnOk result (IsUnchanged (state S.Store conn.old) (state S.Store conn.new)) }
+    ensures same { HasCleanDisk (state S.Store conn.new)
+        → OnOk result (IsUnchanged (state S.Store conn.old) (state S.Store conn.new)) }
     ensures small { IfOk result (λ count. count ≤ 2 ^ 63) }
-    ensures count { HasCleanDisk (state S.Store conn.new) → IfOk result (λ count. count ≡ length (slots_in (state S.Store conn.old).committed.trees)) }
-    ensures crash { HasCleanDisk (state S.Store conn.new) → (db : Trees) → (state S.Store conn.new).may_leave db → db ≡ (state S.Store conn.old).committed.trees }
+    ensures count { HasCleanDisk (state S.Store conn.new)
+        → IfOk result (λ count. count ≡ length (slots_in (state S.Store conn.old).committed.trees)) }
+    ensures crash { HasCleanDisk (state S.Store conn.new) → (db : Trees) → (state S.Store conn.new).may_leave db
+        → db ≡ (state S.Store conn.old).committed.trees }
     ensures named { IfErr result (λ e. (e ≡ StoreFault.NoMemory) ⊎ IsTrue (is_device_fault e)) }
 {
     match greatest_place(conn)? {
@@ -273,12 +310,14 @@ fn count<S: Alter>(conn: &mut Connection<S>) -> Result<u64, StoreFault>
 /// A file without a table becomes a store of the node.
 fn start<S: Alter>(conn: &mut Connection<S>, node: &str) -> Result<u64, StoreFault>
     requires idle { conn.old.in_transaction ≡ false }
-    requires opened { HasCleanDisk (state S.Store conn.old) → IsOpened (state S.Store conn.old) × IsBare (state S.Store conn.old).committed }
+    requires opened { HasCleanDisk (state S.Store conn.old) → IsOpened (state S.Store conn.old)
+        × IsBare (state S.Store conn.old).committed }
     ensures idle { conn.new.in_transaction ≡ false }
     ensures clean { HasCleanDisk (state S.Store conn.new) → HasCleanDisk (state S.Store conn.old) }
     ensures never { IfErr result (λ e. e ≢ StoreFault.Reopen) }
     ensures small { IfOk result (λ count. count ≤ 2 ^ 63) }
-    ensures settled { HasCleanDisk (state S.Store conn.new) → BecomesStore node.now (state S.Store conn.old).committed (state S.Store conn.new) result }
+    ensures settled { HasCleanDisk (state S.Store conn.new)
+        → BecomesStore node.now (state S.Store conn.old).committed (state S.Store conn.new) result }
 {
     match make(conn, node) {
         Ok(()) => Ok(0),
@@ -289,12 +328,14 @@ fn start<S: Alter>(conn: &mut Connection<S>, node: &str) -> Result<u64, StoreFau
 /// A file whose tables have no row becomes a store of the node.
 fn start_in_empty_tables<S: Alter>(conn: &mut Connection<S>, node: &str) -> Result<u64, StoreFault>
     requires idle { conn.old.in_transaction ≡ false }
-    requires opened { HasCleanDisk (state S.Store conn.old) → IsOpened (state S.Store conn.old) × IsEmpty (state S.Store conn.old).committed }
+    requires opened { HasCleanDisk (state S.Store conn.old) → IsOpened (state S.Store conn.old)
+        × IsEmpty (state S.Store conn.old).committed }
     ensures idle { conn.new.in_transaction ≡ false }
     ensures clean { HasCleanDisk (state S.Store conn.new) → HasCleanDisk (state S.Store conn.old) }
     ensures never { IfErr result (λ e. e ≢ StoreFault.Reopen) }
     ensures small { IfOk result (λ count. count ≤ 2 ^ 63) }
-    ensures settled { HasCleanDisk (state S.Store conn.new) → BecomesStore node.now (state S.Store conn.old).committed (state S.Store conn.new) result }
+    ensures settled { HasCleanDisk (state S.Store conn.new)
+        → BecomesStore node.now (state S.Store conn.old).committed (state S.Store conn.new) result }
 {
     match write_owner(conn, node) {
         Ok(()) => Ok(0),
@@ -309,13 +350,16 @@ fn resume_format_one<S: Alter, W: Watch>(
     watch: &mut W,
 ) -> Result<u64, StoreFault>
     requires idle { conn.old.in_transaction ≡ false }
-    requires opened { HasCleanDisk (state S.Store conn.old) → IsOpened (state S.Store conn.old) × HasRows (state S.Store conn.old).committed }
+    requires opened { HasCleanDisk (state S.Store conn.old) → IsOpened (state S.Store conn.old)
+        × HasRows (state S.Store conn.old).committed }
     requires store { HasCleanDisk (state S.Store conn.old) → HasStore One (state S.Store conn.old).committed }
     ensures idle { conn.new.in_transaction ≡ false }
     ensures clean { HasCleanDisk (state S.Store conn.new) → HasCleanDisk (state S.Store conn.old) }
     ensures never { IfErr result (λ e. e ≢ StoreFault.Reopen) }
     ensures small { IfOk result (λ count. count ≤ 2 ^ 63) }
-    ensures settled { HasCleanDisk (state S.Store conn.new) → BecomesStore (node_in (state S.Store conn.old).committed.trees) (state S.Store conn.old).committed (state S.Store conn.new) result }
+    ensures settled { HasCleanDisk (state S.Store conn.new)
+        → BecomesStore (node_in (state S.Store conn.old).committed.trees) (state S.Store conn.old).committed
+        (state S.Store conn.new) result }
 {
     let count = count(conn)?;
     match migrate(conn, alloc, count, watch) {
@@ -332,12 +376,14 @@ fn resume<S: Alter, W: Watch>(
     watch: &mut W,
 ) -> Result<u64, StoreFault>
     requires idle { conn.old.in_transaction ≡ false }
-    requires opened { HasCleanDisk (state S.Store conn.old) → IsOpened (state S.Store conn.old) × HasRows (state S.Store conn.old).committed }
+    requires opened { HasCleanDisk (state S.Store conn.old) → IsOpened (state S.Store conn.old)
+        × HasRows (state S.Store conn.old).committed }
     ensures idle { conn.new.in_transaction ≡ false }
     ensures clean { HasCleanDisk (state S.Store conn.new) → HasCleanDisk (state S.Store conn.old) }
     ensures never { IfErr result (λ e. e ≢ StoreFault.Reopen) }
     ensures small { IfOk result (λ count. count ≤ 2 ^ 63) }
-    ensures settled { HasCleanDisk (state S.Store conn.new) → BecomesStore node.now (state S.Store conn.old).committed (state S.Store conn.new) result }
+    ensures settled { HasCleanDisk (state S.Store conn.new)
+        → BecomesStore node.now (state S.Store conn.old).committed (state S.Store conn.new) result }
 {
     match examine(conn, node)? {
         Contents::NoRow => start_in_empty_tables(conn, node),
@@ -365,8 +411,11 @@ pub(crate) fn open_as_store<S: Alter, W: Watch>(
     ensures clean { HasCleanDisk (state S.Store conn.new) → HasCleanDisk (state S.Store conn.old) }
     ensures never { IfErr result (λ e. e ≢ StoreFault.Reopen) }
     ensures small { IfOk result (λ count. count ≤ 2 ^ 63) }
-    ensures settled { HasCleanDisk (state S.Store conn.new) → BecomesStore node.now (state S.Store conn.old).committed (state S.Store conn.new) result }
-    ensures opened { HasCleanDisk (state S.Store conn.new) → OnOk result (IsOpenedAs (state S.Store conn.old).committed.trees (slots_in (state S.Store conn.new).committed.trees)) }
+    ensures settled { HasCleanDisk (state S.Store conn.new)
+        → BecomesStore node.now (state S.Store conn.old).committed (state S.Store conn.new) result }
+    ensures opened { HasCleanDisk (state S.Store conn.new)
+        → OnOk result (IsOpenedAs (state S.Store conn.old).committed.trees (slots_in
+        (state S.Store conn.new).committed.trees)) }
 {
     match tables_in(conn) {
         Tables::None => start(conn, node),

@@ -1,7 +1,7 @@
 //! A store in a file of SQLite and its log.
 ghost use Rattle.std.specs.Prelude.{◌≡◌, ◌≢◌, ◌⊎◌, ◌↔◌, ℕ, false, None, OnOk, IfOk, IfErr, IsTrue};
 ghost use Rattle.sqlite.specs.Tree.{Trees};
-ghost use Rattle.sqlite_wal.specs.Reads.{AreClean};
+ghost use Rattle.sqlite.specs.WalReads.{AreClean};
 ghost use Rattle.units.specs.Code.{node_text};
 ghost use Rattle.durable.specs.Backing.{IsFound, MayFind, Hold, HoldAlone};
 ghost use Rattle.stores.specs.Faults.{is_device_fault};
@@ -41,9 +41,10 @@ impl<D: Disk + Drop> SqlStore<D> {
     /// Fails with the first that is so of `Damaged(0)`, where the files hold no store, `WrongVersion`, `WrongNode`, and
     /// `Damaged(p)`, where `p` is the first place without a record in a store of format One; the database that they
     /// hold stays as it was. Fails with `Device`, `Full` or `NoMemory` at any call of the database, and with `Device`
-    /// where the files can't be used since a sync failed. Then the files are as they were, and no call of them was made;
-    /// or SQLite couldn't open them, for a cause that it tells, and gave them back; or it could, and they hold the
-    /// database that it found, or a store that was made of new files, or that a store of format One was migrated to.
+    /// where the files can't be used since a sync failed. Then the files are as they were, and no call of them was
+    /// made; or SQLite couldn't open them, for a cause that it tells, and gave them back; or it could, and they hold
+    /// the database that it found, or a store that was made of new files, or that a store of format One was migrated
+    /// to.
     pub fn open_files(
         alloc: Global,
         files: Files<D>,
@@ -54,10 +55,13 @@ impl<D: Disk + Drop> SqlStore<D> {
         ensures node { IfOk result (λ s. node_of D.Disk s ≡ node) }
         ensures faults { IfOk result (λ s. faults D.Disk s ≡ 0) }
         ensures owner { IfOk result (λ s. IsHonest D.Disk s → owner D.Disk s ≡ node_text node) }
-        ensures found { IfOk result (λ s. IsHonest D.Disk s → (db : Trees) × IsFound D.Disk files db × IsOpenedAs db (content D.Disk s)) }
-        ensures durable { IfOk result (λ s. IsHonest D.Disk s → (next : Places) → MayHold D.Disk s next → next ≡ content D.Disk s) }
+        ensures found { IfOk result (λ s. IsHonest D.Disk s → (db : Trees) × IsFound D.Disk files db
+            × IsOpenedAs db (content D.Disk s)) }
+        ensures durable { IfOk result (λ s. IsHonest D.Disk s → (next : Places) → MayHold D.Disk s next
+            → next ≡ content D.Disk s) }
         ensures named { IfErr result (λ e. e.0 ≢ StoreFault.Reopen) }
-        ensures fault { IfErr result (λ e. AreClean D.Disk e.1.log e.1.db → IsRefusal D.Disk files (node_text node) e.0) }
+        ensures fault { IfErr result (λ e. AreClean D.Disk e.1.log e.1.db
+            → IsRefusal D.Disk files (node_text node) e.0) }
         ensures unharmed { IfErr result (λ e. AreClean D.Disk e.1.log e.1.db → IsUnharmed D.Disk files e.0 e.1) }
         ensures spared { IfErr result (λ e. AreSpared D.Disk (node_text node) files e.1 e.0) }
     {
@@ -78,10 +82,13 @@ impl<D: Disk + Drop> SqlStore<D> {
         ensures node { IfOk result (λ s. node_of D.Disk s ≡ node) }
         ensures faults { IfOk result (λ s. faults D.Disk s ≡ 0) }
         ensures owner { IfOk result (λ s. IsHonest D.Disk s → owner D.Disk s ≡ node_text node) }
-        ensures found { IfOk result (λ s. IsHonest D.Disk s → (db : Trees) × IsFound D.Disk files db × IsOpenedAs db (content D.Disk s)) }
-        ensures durable { IfOk result (λ s. IsHonest D.Disk s → (next : Places) → MayHold D.Disk s next → next ≡ content D.Disk s) }
+        ensures found { IfOk result (λ s. IsHonest D.Disk s → (db : Trees) × IsFound D.Disk files db
+            × IsOpenedAs db (content D.Disk s)) }
+        ensures durable { IfOk result (λ s. IsHonest D.Disk s → (next : Places) → MayHold D.Disk s next
+            → next ≡ content D.Disk s) }
         ensures named { IfErr result (λ e. e.0 ≢ StoreFault.Reopen) }
-        ensures fault { IfErr result (λ e. AreClean D.Disk e.1.log e.1.db → IsRefusal D.Disk files (node_text node) e.0) }
+        ensures fault { IfErr result (λ e. AreClean D.Disk e.1.log e.1.db
+            → IsRefusal D.Disk files (node_text node) e.0) }
         ensures unharmed { IfErr result (λ e. AreClean D.Disk e.1.log e.1.db → IsUnharmed D.Disk files e.0 e.1) }
         ensures spared { IfErr result (λ e. AreSpared D.Disk (node_text node) files e.1 e.0) }
     {
@@ -107,9 +114,13 @@ impl<D: Disk + Drop> SqlStore<D> {
     /// these files decides the content.
     pub fn close_files(self) -> Files<D>
         ensures honest { AreClean D.Disk result.log result.db → IsHonest D.Disk self }
-        ensures left { (db : Trees) → MayFind D.Disk result db → (next : Places) → IsOpenedAs db next → ∥ MayHold D.Disk self next ∥₁ }
-        ensures kept { must_reopen D.Disk self ≡ false → (db : Trees) → MayFind D.Disk result db → ∥ slots_in db ≡ content D.Disk self ∥₁ }
-        ensures holds { must_reopen D.Disk self ≡ false → Hold D.Disk result (λ db. IsStore db × (slots_in db ≡ content D.Disk self) × (node_in db ≡ owner D.Disk self)) }
+        ensures left { (db : Trees) → MayFind D.Disk result db → (next : Places) → IsOpenedAs db next
+            → ∥ MayHold D.Disk self next ∥₁ }
+        ensures kept { must_reopen D.Disk self ≡ false → (db : Trees) → MayFind D.Disk result db
+            → ∥ slots_in db ≡ content D.Disk self ∥₁ }
+        ensures holds { must_reopen D.Disk self ≡ false
+            → Hold D.Disk result (λ db. IsStore db × (slots_in db ≡ content D.Disk self)
+            × (node_in db ≡ owner D.Disk self)) }
         ensures files { HadFiles D.Disk self result }
     {
         let SqlStore {
@@ -134,15 +145,21 @@ impl<D: Disk + Drop> SqlStore<D> {
     pub fn checkpoint_files(self) -> Result<Files<D>, (StoreFault, Files<D>)>
         ensures runs { OnOk result (must_reopen D.Disk self ≡ false) }
         ensures honest { IfOk result (λ files. AreClean D.Disk files.log files.db → IsHonest D.Disk self) }
-        ensures alone { IfOk result (λ files. HoldAlone D.Disk files (λ db. IsStore db × (slots_in db ≡ content D.Disk self) × (node_in db ≡ owner D.Disk self))) }
-        ensures named { IfErr result (λ e. (e.0 ≡ StoreFault.Reopen) ⊎ ((e.0 ≡ StoreFault.NoMemory) ⊎ IsTrue (is_device_fault e.0))) }
+        ensures alone { IfOk result
+            (λ files. HoldAlone D.Disk files (λ db. IsStore db × (slots_in db ≡ content D.Disk self)
+            × (node_in db ≡ owner D.Disk self))) }
+        ensures named { IfErr result (λ e. (e.0 ≡ StoreFault.Reopen)
+            ⊎ ((e.0 ≡ StoreFault.NoMemory) ⊎ IsTrue (is_device_fault e.0))) }
         ensures reopen { IfErr result (λ e. (e.0 ≡ StoreFault.Reopen) ↔ IsTrue (must_reopen D.Disk self)) }
         ensures untouched { IfErr result (λ e. e.0 ≡ StoreFault.Reopen → HadFiles D.Disk self e.1) }
         ensures honest_before { IfErr result (λ e. AreClean D.Disk e.1.log e.1.db → IsHonest D.Disk self) }
-        ensures left { IfErr result (λ e. e.0 ≢ StoreFault.Device → (db : Trees) → MayFind D.Disk e.1 db → (next : Places) → IsOpenedAs db next → ∥ MayHold D.Disk self next ∥₁) }
-        ensures kept { IfErr result (λ e. e.0 ≢ StoreFault.Device → must_reopen D.Disk self ≡ false → (db : Trees) → MayFind D.Disk e.1 db → ∥ slots_in db ≡ content D.Disk self ∥₁) }
+        ensures left { IfErr result (λ e. e.0 ≢ StoreFault.Device → (db : Trees) → MayFind D.Disk e.1 db
+            → (next : Places) → IsOpenedAs db next → ∥ MayHold D.Disk self next ∥₁) }
+        ensures kept { IfErr result (λ e. e.0 ≢ StoreFault.Device → must_reopen D.Disk self ≡ false → (db : Trees)
+            → MayFind D.Disk e.1 db → ∥ slots_in db ≡ content D.Disk self ∥₁) }
         ensures holds { IfErr result (λ e. e.0 ≢ StoreFault.Device → must_reopen D.Disk self ≡ false
-            → Hold D.Disk e.1 (λ db. IsStore db × (slots_in db ≡ content D.Disk self) × (node_in db ≡ owner D.Disk self))) }
+            → Hold D.Disk e.1
+            (λ db. IsStore db × (slots_in db ≡ content D.Disk self) × (node_in db ≡ owner D.Disk self))) }
     {
         let SqlStore {
             store_state,
@@ -163,7 +180,8 @@ impl SqlStore<File> {
     /// Fails with `Reopen` exactly when the store must be reopened first, and else with `Device`, `Full` or `NoMemory`.
     pub fn checkpoint(self) -> Result<(), StoreFault>
         ensures runs { OnOk result (must_reopen _ self ≡ false) }
-        ensures named { IfErr result (λ e. (e ≡ StoreFault.Reopen) ⊎ ((e ≡ StoreFault.NoMemory) ⊎ IsTrue (is_device_fault e))) }
+        ensures named { IfErr result (λ e. (e ≡ StoreFault.Reopen)
+            ⊎ ((e ≡ StoreFault.NoMemory) ⊎ IsTrue (is_device_fault e))) }
         ensures reopen { IfErr result (λ e. (e ≡ StoreFault.Reopen) ↔ IsTrue (must_reopen _ self)) }
     {
         match self.checkpoint_files() {
@@ -200,11 +218,15 @@ impl<D: Disk + Drop> NodeStore for SqlStore<D> {
     /// `Full`: a call of the files failed, or the count of the places with the batch is not below 2^62, or SQLite
     /// itself refuses one of the records.
     fn append(&mut self, batch: &[Input]) -> Result<(), StoreFault>
-        ensures appends { Appends (IsHonest D.Disk) (content D.Disk) (MayHold D.Disk) (must_reopen D.Disk) self.old self.new batch.now result }
+        ensures appends { Appends (IsHonest D.Disk) (content D.Disk) (MayHold D.Disk)
+            (must_reopen D.Disk) self.old self.new batch.now result }
         ensures count { faults D.Disk self.new ≡ faults_after (faults D.Disk self.old) result }
         ensures node { node_of D.Disk self.new ≡ node_of D.Disk self.old }
-        ensures owner { IsHonest D.Disk self.new → must_reopen D.Disk self.new ≡ false → owner D.Disk self.new ≡ owner D.Disk self.old }
-        ensures full { IsHonest D.Disk self.new → result ≡ Err Full → LacksRoom (content D.Disk self.old) batch.now (disk_faults D.Disk self.old) (disk_faults D.Disk self.new) }
+        ensures owner { IsHonest D.Disk self.new → must_reopen D.Disk self.new ≡ false
+            → owner D.Disk self.new ≡ owner D.Disk self.old }
+        ensures full { IsHonest D.Disk self.new → result ≡ Err Full
+            → LacksRoom (content D.Disk self.old) batch.now (disk_faults D.Disk self.old)
+            (disk_faults D.Disk self.new) }
     {
         match self.store_state.append(batch) {
             Ok(()) => Ok(()),
@@ -238,10 +260,12 @@ impl<D: Disk + Drop> NodeStore for SqlStore<D> {
     /// Fails with `Damaged(p)`, `WrongVersion` and `WrongNode` as `open_files` does, and leaves of the files what that
     /// leaves. After a sync that failed the same files can't be used again, and every reopening fails with `Device`.
     fn reopen(&mut self) -> Result<(), StoreFault>
-        ensures reopens { Reopens (IsHonest D.Disk) (content D.Disk) (MayHold D.Disk) (must_reopen D.Disk) self.old self.new result }
+        ensures reopens { Reopens (IsHonest D.Disk) (content D.Disk) (MayHold D.Disk)
+            (must_reopen D.Disk) self.old self.new result }
         ensures count { faults D.Disk self.new ≡ faults_after (faults D.Disk self.old) result }
         ensures node { node_of D.Disk self.new ≡ node_of D.Disk self.old }
-        ensures owner { IsHonest D.Disk self.new → OnOk result (owner D.Disk self.new ≡ node_text (node_of D.Disk self.new)) }
+        ensures owner { IsHonest D.Disk self.new
+            → OnOk result (owner D.Disk self.new ≡ node_text (node_of D.Disk self.new)) }
         ensures fault { IsHonest D.Disk self.new → IfErr result (IsReopeningFault D.Disk self.old) }
         ensures spared { IfErr result (HasSpared D.Disk self.old self.new) }
     {

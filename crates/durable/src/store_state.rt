@@ -3,7 +3,7 @@ ghost use Rattle.std.specs.Prelude.{◌≡◌, ◌≢◌, ◌⊎◌, ◌↔◌, 
 ghost use Rattle.sqlite.specs.Files.{over_files, file_state};
 ghost use Rattle.sqlite.specs.State.{HasCleanDisk, Opens};
 ghost use Rattle.sqlite.specs.Tree.{Trees};
-ghost use Rattle.sqlite_wal.specs.Reads.{AreClean};
+ghost use Rattle.sqlite.specs.WalReads.{AreClean};
 ghost use Rattle.units.specs.Code.{node_text};
 ghost use Rattle.stores.specs.Calls.{Appends, Loads};
 ghost use Rattle.durable.specs.Backing.{IsFound, MayFind, Hold, HoldAlone};
@@ -53,10 +53,14 @@ impl<D: Disk + Drop> StoreState<D> {
     pub(crate) fn into_files(self) -> Files<D>
         requires there { IsTrue (is_there D.Disk self) }
         ensures honest { AreClean D.Disk result.log result.db → IsHonest D.Disk self }
-        ensures left { (db : Trees) → MayFind D.Disk result db → (next : Places) → IsOpenedAs db next → ∥ MayHold D.Disk self next ∥₁ }
-        ensures kept { must_reopen D.Disk self ≡ false → (db : Trees) → MayFind D.Disk result db → ∥ slots_in db ≡ content D.Disk self ∥₁ }
+        ensures left { (db : Trees) → MayFind D.Disk result db → (next : Places) → IsOpenedAs db next
+            → ∥ MayHold D.Disk self next ∥₁ }
+        ensures kept { must_reopen D.Disk self ≡ false → (db : Trees) → MayFind D.Disk result db
+            → ∥ slots_in db ≡ content D.Disk self ∥₁ }
         ensures files { AreFilesOf D.Disk self result }
-        ensures holds { must_reopen D.Disk self ≡ false → Hold D.Disk result (λ db. IsStore db × (slots_in db ≡ content D.Disk self) × (node_in db ≡ owner D.Disk self)) }
+        ensures holds { must_reopen D.Disk self ≡ false
+            → Hold D.Disk result (λ db. IsStore db × (slots_in db ≡ content D.Disk self)
+            × (node_in db ≡ owner D.Disk self)) }
     {
         match self {
             StoreState::Open(store) => files_of(store.into_connection()),
@@ -81,15 +85,20 @@ impl<D: Disk + Drop> StoreState<D> {
         requires there { IsTrue (is_there D.Disk self) }
         ensures runs { OnOk result (must_reopen D.Disk self ≡ false) }
         ensures honest { IfOk result (λ files. AreClean D.Disk files.log files.db → IsHonest D.Disk self) }
-        ensures alone { IfOk result (λ files. HoldAlone D.Disk files (λ db. IsStore db × (slots_in db ≡ content D.Disk self) × (node_in db ≡ owner D.Disk self))) }
+        ensures alone { IfOk result
+            (λ files. HoldAlone D.Disk files (λ db. IsStore db × (slots_in db ≡ content D.Disk self)
+            × (node_in db ≡ owner D.Disk self))) }
         ensures named { IfErr result (λ e. (e.0 ≡ Reopen) ⊎ ((e.0 ≡ NoMemory) ⊎ IsTrue (is_device_fault e.0))) }
         ensures reopen { IfErr result (λ e. (e.0 ≡ Reopen) ↔ IsTrue (must_reopen D.Disk self)) }
         ensures untouched { IfErr result (λ e. e.0 ≡ Reopen → AreFilesOf D.Disk self e.1) }
         ensures honest_before { IfErr result (λ e. AreClean D.Disk e.1.log e.1.db → IsHonest D.Disk self) }
-        ensures left { IfErr result (λ e. e.0 ≢ Device → (db : Trees) → MayFind D.Disk e.1 db → (next : Places) → IsOpenedAs db next → ∥ MayHold D.Disk self next ∥₁) }
-        ensures kept { IfErr result (λ e. e.0 ≢ Device → must_reopen D.Disk self ≡ false → (db : Trees) → MayFind D.Disk e.1 db → ∥ slots_in db ≡ content D.Disk self ∥₁) }
+        ensures left { IfErr result (λ e. e.0 ≢ Device → (db : Trees) → MayFind D.Disk e.1 db → (next : Places)
+            → IsOpenedAs db next → ∥ MayHold D.Disk self next ∥₁) }
+        ensures kept { IfErr result (λ e. e.0 ≢ Device → must_reopen D.Disk self ≡ false → (db : Trees)
+            → MayFind D.Disk e.1 db → ∥ slots_in db ≡ content D.Disk self ∥₁) }
         ensures holds { IfErr result (λ e. e.0 ≢ Device → must_reopen D.Disk self ≡ false
-            → Hold D.Disk e.1 (λ db. IsStore db × (slots_in db ≡ content D.Disk self) × (node_in db ≡ owner D.Disk self))) }
+            → Hold D.Disk e.1
+            (λ db. IsStore db × (slots_in db ≡ content D.Disk self) × (node_in db ≡ owner D.Disk self))) }
     {
         if self.must_reopen() {
             return Err((StoreFault::Reopen, self.into_files()));
@@ -106,10 +115,14 @@ impl<D: Disk + Drop> StoreState<D> {
 
     /// Appends the whole batch, or nothing of it.
     pub(crate) fn append(&mut self, batch: &[Input]) -> Result<(), StoreFault>
-        ensures appends { Appends (IsHonest D.Disk) (content D.Disk) (MayHold D.Disk) (must_reopen D.Disk) self.old self.new batch.now result }
+        ensures appends { Appends (IsHonest D.Disk) (content D.Disk) (MayHold D.Disk)
+            (must_reopen D.Disk) self.old self.new batch.now result }
         ensures there { is_there D.Disk self.new ≡ is_there D.Disk self.old }
-        ensures owner { IsHonest D.Disk self.new → must_reopen D.Disk self.new ≡ false → owner D.Disk self.new ≡ owner D.Disk self.old }
-        ensures full { IsHonest D.Disk self.new → result ≡ Err Full → LacksRoom (content D.Disk self.old) batch.now (disk_faults D.Disk self.old) (disk_faults D.Disk self.new) }
+        ensures owner { IsHonest D.Disk self.new → must_reopen D.Disk self.new ≡ false
+            → owner D.Disk self.new ≡ owner D.Disk self.old }
+        ensures full { IsHonest D.Disk self.new → result ≡ Err Full
+            → LacksRoom (content D.Disk self.old) batch.now (disk_faults D.Disk self.old)
+            (disk_faults D.Disk self.new) }
     {
         match self {
             StoreState::Open(store) => store.append(batch),
@@ -119,9 +132,11 @@ impl<D: Disk + Drop> StoreState<D> {
 
     /// The records from place `from` on, at most `max`.
     pub(crate) fn load_page(&mut self, from: u64, max: u64) -> Result<Vec<Input>, StoreFault>
-        ensures loads { Loads (IsHonest D.Disk) (content D.Disk) (MayHold D.Disk) (must_reopen D.Disk) self.old self.new from (take max (drop from (content D.Disk self.old))) result }
+        ensures loads { Loads (IsHonest D.Disk) (content D.Disk) (MayHold D.Disk)
+            (must_reopen D.Disk) self.old self.new from (take max (drop from (content D.Disk self.old))) result }
         ensures there { is_there D.Disk self.new ≡ is_there D.Disk self.old }
-        ensures owner { IsHonest D.Disk self.new → must_reopen D.Disk self.new ≡ false → owner D.Disk self.new ≡ owner D.Disk self.old }
+        ensures owner { IsHonest D.Disk self.new → must_reopen D.Disk self.new ≡ false
+            → owner D.Disk self.new ≡ owner D.Disk self.old }
     {
         match self {
             StoreState::Open(store) => store.load_page(from, max),
@@ -131,9 +146,11 @@ impl<D: Disk + Drop> StoreState<D> {
 
     /// All records in their order.
     pub(crate) fn load(&mut self) -> Result<Vec<Input>, StoreFault>
-        ensures loads { Loads (IsHonest D.Disk) (content D.Disk) (MayHold D.Disk) (must_reopen D.Disk) self.old self.new 0 (content D.Disk self.old) result }
+        ensures loads { Loads (IsHonest D.Disk) (content D.Disk) (MayHold D.Disk)
+            (must_reopen D.Disk) self.old self.new 0 (content D.Disk self.old) result }
         ensures there { is_there D.Disk self.new ≡ is_there D.Disk self.old }
-        ensures owner { IsHonest D.Disk self.new → must_reopen D.Disk self.new ≡ false → owner D.Disk self.new ≡ owner D.Disk self.old }
+        ensures owner { IsHonest D.Disk self.new → must_reopen D.Disk self.new ≡ false
+            → owner D.Disk self.new ≡ owner D.Disk self.old }
     {
         match self {
             StoreState::Open(store) => store.load(),
@@ -153,13 +170,18 @@ pub(crate) fn store_over<D: Disk + Drop, W: Watch>(
     requires opened { HasCleanDisk (file_state conn) → Opens (file_state conn) }
     ensures runs { IfOk result (λ k. k.must_reopen ≡ false) }
     ensures honest { IfOk result (λ k. connected.IsHonest over_files k → HasCleanDisk (file_state conn)) }
-    ensures owner { IfOk result (λ k. connected.IsHonest over_files k → node_in (file_state k.conn).committed.trees ≡ name.now) }
-    ensures opened { IfOk result (λ k. connected.IsHonest over_files k → IsOpenedAs (file_state conn).committed.trees (connected.content over_files k)) }
-    ensures durable { IfOk result (λ k. connected.IsHonest over_files k → (next : Places) → connected.MayHold over_files k next → next ≡ connected.content over_files k) }
+    ensures owner { IfOk result (λ k. connected.IsHonest over_files k
+        → node_in (file_state k.conn).committed.trees ≡ name.now) }
+    ensures opened { IfOk result (λ k. connected.IsHonest over_files k
+        → IsOpenedAs (file_state conn).committed.trees (connected.content over_files k)) }
+    ensures durable { IfOk result (λ k. connected.IsHonest over_files k → (next : Places)
+        → connected.MayHold over_files k next → next ≡ connected.content over_files k) }
     ensures named { IfErr result (λ e. e.0 ≢ Reopen) }
     ensures refused { IfErr result (λ e. AreClean D.Disk e.1.log e.1.db → HasCleanDisk (file_state conn)) }
-    ensures fault { IfErr result (λ e. AreClean D.Disk e.1.log e.1.db → IsOpeningFault name.now (file_state conn).committed e.0) }
-    ensures unharmed { IfErr result (λ e. IsTrue (is_judgement e.0) → Hold D.Disk e.1 (λ next. next ≡ (file_state conn).committed.trees)) }
+    ensures fault { IfErr result (λ e. AreClean D.Disk e.1.log e.1.db
+        → IsOpeningFault name.now (file_state conn).committed e.0) }
+    ensures unharmed { IfErr result (λ e. IsTrue (is_judgement e.0)
+        → Hold D.Disk e.1 (λ next. next ≡ (file_state conn).committed.trees)) }
     ensures spared { IfErr result (λ e. Hold D.Disk e.1 (MayComeOf name.now (file_state conn).committed)) }
 {
     match open_as_store(&mut conn, alloc, name, watch) {
@@ -178,9 +200,12 @@ pub(crate) fn store_from_files<D: Disk + Drop, W: Watch>(
     watch: &mut W,
 ) -> Result<OpenStore<FileStore<D>>, (StoreFault, Files<D>)>
     ensures runs { IfOk result (λ k. k.must_reopen ≡ false) }
-    ensures owner { IfOk result (λ k. connected.IsHonest over_files k → node_in (file_state k.conn).committed.trees ≡ node_text node) }
-    ensures found { IfOk result (λ k. connected.IsHonest over_files k → (db : Trees) × IsFound D.Disk files db × IsOpenedAs db (connected.content over_files k)) }
-    ensures durable { IfOk result (λ k. connected.IsHonest over_files k → (next : Places) → connected.MayHold over_files k next → next ≡ connected.content over_files k) }
+    ensures owner { IfOk result (λ k. connected.IsHonest over_files k
+        → node_in (file_state k.conn).committed.trees ≡ node_text node) }
+    ensures found { IfOk result (λ k. connected.IsHonest over_files k → (db : Trees) × IsFound D.Disk files db
+        × IsOpenedAs db (connected.content over_files k)) }
+    ensures durable { IfOk result (λ k. connected.IsHonest over_files k → (next : Places)
+        → connected.MayHold over_files k next → next ≡ connected.content over_files k) }
     ensures named { IfErr result (λ e. e.0 ≢ Reopen) }
     ensures fault { IfErr result (λ e. AreClean D.Disk e.1.log e.1.db → IsRefusal D.Disk files (node_text node) e.0) }
     ensures unharmed { IfErr result (λ e. AreClean D.Disk e.1.log e.1.db → IsUnharmed D.Disk files e.0 e.1) }

@@ -2,13 +2,13 @@
 use Rattle.std.proofs.Common.{◌≡◌, ℕ, ◌+◌, ◌<◌, ◌≤◌, List, ◌++◌, length, Option, refl, sym, ap, subst, ◌∙◌, arith, append-nil, length-append}
 use Rattle.std.specs.List.{AllByRecursion}
 use Rattle.units.specs.Limits.{longest_line}
-use Rattle.stream_lines.specs.Held.{Held}
-use Rattle.stream_lines.specs.Lines.{stream_of, IsWithin, Splits, IsOver}
-use Rattle.exchanges.specs.Calls.{GoesOn}
+use Rattle.streams.specs.SplitterView.{SplitterView}
+use Rattle.streams.specs.Lines.{stream_of, IsWithin, Splits, IsOver}
+use Rattle.streams.specs.Calls.{GoesOn}
 use Rattle.exchanges.specs.Given.{Given, lines_of}
 use Rattle.exchanges.specs.Pieces.{piece_end, open_with, IsSmall, ServesPiece, most_lines}
 use Rattle.exchanges.specs.Pieces.{ServesLines}
-use Rattle.exchanges.specs.Watched.{Watched}
+use Rattle.exchanges.specs.CountedView.{CountedView}
 use Rattle.exchanges.specs.declared.pieces.PieceEnd.{PieceEnd}
 use Rattle.exchanges.specs.declared.pieces.PieceEnd.TheVariants as piece
 use Rattle.exchanges.specs.declared.replying.LinesEnd.{LinesEnd}
@@ -32,7 +32,7 @@ few_lines held piece rest ls h p e =
 
 module _ {W : Type 0} (contents : W → Option (List ℕ)) where
   -- all lines, or the first of them
-  pub piece_ends : (left left' : ℕ) (w w' : Watched W) (old new : List Given) (bytes rest : List ℕ) (held : Held) (ls : List (List ℕ)) (all : PieceEnd) (end : LinesEnd)
+  pub piece_ends : (left left' : ℕ) (w w' : CountedView W) (old new : List Given) (bytes rest : List ℕ) (held : SplitterView) (ls : List (List ℕ)) (all : PieceEnd) (end : LinesEnd)
       → (ServesLines contents left w w' old new ls AllReplied → end ≡ AllReplied → ServesPiece contents left left' w w' old new bytes held all)
       → bytes ≡ stream_of ls rest → AllByRecursion (IsWithin longest_line) ls → ServesLines contents left w w' old new ls end
       → ServesPiece contents left left' w w' old new bytes held (piece_end all end)
@@ -62,12 +62,12 @@ module _ {W : Type 0} (contents : W → Option (List ℕ)) where
     ends = s.ends;
   }
 
-  all_given : (left : ℕ) (w w' : Watched W) (old new : List Given) (ls : List (List ℕ)) (s : ServesLines contents left w w' old new ls AllReplied) → ls ≡ lines_of s.given
+  all_given : (left : ℕ) (w w' : CountedView W) (old new : List Given) (ls : List (List ℕ)) (s : ServesLines contents left w w' old new ls AllReplied) → ls ≡ lines_of s.given
   all_given left w w' old new ls s = s.first ∙ ap (λ (l : List (List ℕ)). lines_of s.given ++ l) s.ends.1 ∙ append-nil (lines_of s.given)
 
   -- every line of a piece, and bytes that are no line yet
-  pub piece_replied : (left left' : ℕ) (w w' : Watched W) (old new : List Given) (bytes rest : List ℕ) (held : Held) (ls : List (List ℕ)) (n : ℕ) → n ≡ length ls → held ≡ open_with rest
-      → Splits longest_line bytes ls rest → GoesOn left left' w w' → 0 < left' → ServesLines contents left w w' old new ls AllReplied
+  pub piece_replied : (left left' : ℕ) (w w' : CountedView W) (old new : List Given) (bytes rest : List ℕ) (held : SplitterView) (ls : List (List ℕ)) (n : ℕ) → n ≡ length ls → held ≡ open_with rest
+      → Splits longest_line bytes ls rest → GoesOn left left' w.calls w'.calls → 0 < left' → ServesLines contents left w w' old new ls AllReplied
       → ServesPiece contents left left' w w' old new bytes held (piece.Replied n)
   piece_replied left left' w w' old new bytes rest held ls n count open_so splits goes spare s =
       let exact = all_given left w w' old new ls s in
@@ -81,7 +81,7 @@ module _ {W : Type 0} (contents : W → Option (List ℕ)) where
       }
 
   -- every line before one that is too long
-  pub piece_too_long : (left left' : ℕ) (w w' : Watched W) (old new : List Given) (bytes : List ℕ) (held : Held) (ls : List (List ℕ)) → IsOver longest_line bytes ls
+  pub piece_too_long : (left left' : ℕ) (w w' : CountedView W) (old new : List Given) (bytes : List ℕ) (held : SplitterView) (ls : List (List ℕ)) → IsOver longest_line bytes ls
       → ServesLines contents left w w' old new ls AllReplied → ServesPiece contents left left' w w' old new bytes held piece.TooLong
   piece_too_long left left' w w' old new bytes held ls over s =
       let exact = all_given left w w' old new ls s in
@@ -94,7 +94,7 @@ module _ {W : Type 0} (contents : W → Option (List ℕ)) where
         ends = (s.ends.0, over.long, over.no_line);
       }
 
-  pub small_end : (left : ℕ) (w w' : Watched W) (old new : List Given) (ls : List (List ℕ)) (all : PieceEnd) (end : LinesEnd) → length ls ≤ most_lines → IsSmall all
+  pub small_end : (left : ℕ) (w w' : CountedView W) (old new : List Given) (ls : List (List ℕ)) (all : PieceEnd) (end : LinesEnd) → length ls ≤ most_lines → IsSmall all
       → ServesLines contents left w w' old new ls end → IsSmall (piece_end all end)
   small_end left w w' old new ls all AllReplied few small s = small
   small_end left w w' old new ls all Stopped few small s = tt

@@ -4,15 +4,14 @@ use Rattle.std.proofs.KnownBytes.{Appends-nil, Consumes-nil, Consumes-trans, Con
 use Rattle.std.specs.Io.KnownBytes.{Consumes, Keeps}
 use Rattle.std.specs.List.{AllByRecursion}
 use Rattle.units.specs.Limits.{longest_line}
-use Rattle.stream_lines.specs.Held.{Held}
-use Rattle.stream_lines.specs.Lines.{stream_of, IsWithin}
-use Rattle.stream_lines.proofs.Streams.{stream_append}
-use Rattle.exchanges.specs.Calls.{GoesOn}
-use Rattle.exchanges.specs.Counts.{most_interruptions}
+use Rattle.streams.specs.SplitterView.{SplitterView}
+use Rattle.streams.specs.Lines.{stream_of, IsWithin}
+use Rattle.streams.proofs.Streams.{stream_append}
+use Rattle.streams.specs.Calls.{GoesOn, most_interruptions}
 use Rattle.exchanges.specs.Given.{Given, lines_of}
 use Rattle.exchanges.specs.Pieces.{ServesPiece, open_with}
 use Rattle.exchanges.specs.Sessions.{RepliesToAll, EndsBy, Serves}
-use Rattle.exchanges.specs.Watched.{Watched}
+use Rattle.exchanges.specs.CountedView.{CountedView}
 use Rattle.exchanges.specs.declared.ends.SessionEnd.{SessionEnd}
 use Rattle.exchanges.specs.declared.ends.SessionEnd.TheVariants as session
 use Rattle.exchanges.specs.declared.pieces.PieceEnd.{PieceEnd}
@@ -34,7 +33,7 @@ joined_more g0 g1 g2 a b x y = y ∙ ap (λ (t : List Given). t ++ b) x ∙ appe
 
 module _ {R W : Type 0} (remaining : R → Option (List ℕ)) (contents : W → Option (List ℕ)) where
   -- lines were given and replied to, and these bytes followed them
-  pub record Heard (r r' : Watched R) (w w' : Watched W) (old new : List Given) (rest : List ℕ) (written : ℕ) : Type 0 where
+  pub record Heard (r r' : CountedView R) (w w' : CountedView W) (old new : List Given) (rest : List ℕ) (written : ℕ) : Type 0 where
     pub given : List Given
     pub joined : new ≡ old ++ given
     pub read : Consumes (remaining r.inner) (remaining r'.inner) (stream_of (lines_of given) rest)
@@ -42,7 +41,7 @@ module _ {R W : Type 0} (remaining : R → Option (List ℕ)) (contents : W → 
     pub replied : RepliesToAll contents w w' given
     pub count : written ≡ 31 * length given
 
-  pub heard_none : (r : Watched R) (w : Watched W) (old : List Given) → Heard r r w w old old [] 0
+  pub heard_none : (r : CountedView R) (w : CountedView W) (old : List Given) → Heard r r w w old old [] 0
   heard_none r w old = record {
     given = [];
     joined = sym (append-nil old);
@@ -53,7 +52,7 @@ module _ {R W : Type 0} (remaining : R → Option (List ℕ)) (contents : W → 
   }
 
   -- a call read nothing
-  pub heard_kept : (r r0 r1 : Watched R) (w w' : Watched W) (old new : List Given) (rest : List ℕ) (written : ℕ) → Heard r r0 w w' old new rest written
+  pub heard_kept : (r r0 r1 : CountedView R) (w w' : CountedView W) (old new : List Given) (rest : List ℕ) (written : ℕ) → Heard r r0 w w' old new rest written
       → Keeps (remaining r0.inner) (remaining r1.inner) → Heard r r1 w w' old new rest written
   heard_kept r r0 r1 w w' old new rest written h keeps = record {
     given = h.given;
@@ -65,11 +64,11 @@ module _ {R W : Type 0} (remaining : R → Option (List ℕ)) (contents : W → 
   }
 
   -- a call read a piece, and each of its lines was replied to
-  pub heard_more : (left left' : ℕ) (r r0 r1 : Watched R) (w w1 w2 : Watched W) (g0 g1 g2 : List Given) (held piece : List ℕ) (written n : ℕ) (new : Held) → Heard r r0 w w1 g0 g1 held written
+  pub heard_more : (left left' : ℕ) (r r0 r1 : CountedView R) (w w1 w2 : CountedView W) (g0 g1 g2 : List Given) (held piece : List ℕ) (written n : ℕ) (new : SplitterView) → Heard r r0 w w1 g0 g1 held written
       → Consumes (remaining r0.inner) (remaining r1.inner) piece → ServesPiece contents left left' w1 w2 g1 g2 (held ++ piece) new (Replied n)
       → Heard r r1 w w2 g0 g2 new.rest (written + n * 31)
   heard_more left left' r r0 r1 w w1 w2 g0 g1 g2 held piece written n new h read p =
-      let rest : new.rest ≡ p.rest = ap (λ (x : Held). x.rest) p.ends.2 in
+      let rest : new.rest ≡ p.rest = ap (λ (x : SplitterView). x.rest) p.ends.2 in
       let count = p.ends.1 in
       record {
         given = h.given ++ p.given;
@@ -82,7 +81,7 @@ module _ {R W : Type 0} (remaining : R → Option (List ℕ)) (contents : W → 
       }
 
   -- no more is read
-  pub ends_there : (r r' : Watched R) (w w' : Watched W) (old new : List Given) (rest : List ℕ) (written : ℕ) (end : SessionEnd) → (h : Heard r r' w w' old new rest written)
+  pub ends_there : (r r' : CountedView R) (w w' : CountedView W) (old new : List Given) (rest : List ℕ) (written : ℕ) (end : SessionEnd) → (h : Heard r r' w w' old new rest written)
       → (RepliesToAll contents w w' h.given → EndsBy remaining contents r r' w w' h.given rest end) → Serves remaining contents r r' w w' old new end
   ends_there r r' w w' old new rest written end h why = record {
     given = h.given;
@@ -94,7 +93,7 @@ module _ {R W : Type 0} (remaining : R → Option (List ℕ)) (contents : W → 
   }
 
   -- a call read a piece, and the session ended before its end
-  pub ends_within : (left left' : ℕ) (r r0 r1 : Watched R) (w w1 w2 : Watched W) (g0 g1 g2 : List Given) (held piece : List ℕ) (written : ℕ) (new : Held) (end : PieceEnd) (last : SessionEnd)
+  pub ends_within : (left left' : ℕ) (r r0 r1 : CountedView R) (w w1 w2 : CountedView W) (g0 g1 g2 : List Given) (held piece : List ℕ) (written : ℕ) (new : SplitterView) (end : PieceEnd) (last : SessionEnd)
       → (h : Heard r r0 w w1 g0 g1 held written) → Consumes (remaining r0.inner) (remaining r1.inner) piece → (p : ServesPiece contents left left' w1 w2 g1 g2 (held ++ piece) new end)
       → EndsBy remaining contents r r1 w w2 (h.given ++ p.given) p.rest last → Serves remaining contents r r1 w w2 g0 g2 last
   ends_within left left' r r0 r1 w w1 w2 g0 g1 g2 held piece written new end last h read p ends = record {
@@ -106,37 +105,37 @@ module _ {R W : Type 0} (remaining : R → Option (List ℕ)) (contents : W → 
     ends = ends;
   }
 
-  pub ends_too_long : (left left' : ℕ) (r r0 r1 : Watched R) (w w1 w2 : Watched W) (g0 g1 g2 : List Given) (held piece : List ℕ) (written : ℕ) (new : Held) → Heard r r0 w w1 g0 g1 held written
-      → Consumes (remaining r0.inner) (remaining r1.inner) piece → r1.failures ≡ r.failures → ServesPiece contents left left' w1 w2 g1 g2 (held ++ piece) new TooLong
+  pub ends_too_long : (left left' : ℕ) (r r0 r1 : CountedView R) (w w1 w2 : CountedView W) (g0 g1 g2 : List Given) (held piece : List ℕ) (written : ℕ) (new : SplitterView) → Heard r r0 w w1 g0 g1 held written
+      → Consumes (remaining r0.inner) (remaining r1.inner) piece → r1.calls.failures ≡ r.calls.failures → ServesPiece contents left left' w1 w2 g1 g2 (held ++ piece) new TooLong
       → Serves remaining contents r r1 w w2 g0 g2 session.TooLong
   ends_too_long left left' r r0 r1 w w1 w2 g0 g1 g2 held piece written new h read sound p =
       ends_within left left' r r0 r1 w w1 w2 g0 g1 g2 held piece written new TooLong session.TooLong h read p
       (replied_more contents w w1 w2 h.given p.given h.replied p.ends.0, sound, p.ends.1, p.ends.2)
 
-  pub ends_stopped : (left left' : ℕ) (r r0 r1 : Watched R) (w w1 w2 : Watched W) (g0 g1 g2 : List Given) (held piece : List ℕ) (written : ℕ) (new : Held) → Heard r r0 w w1 g0 g1 held written
-      → Consumes (remaining r0.inner) (remaining r1.inner) piece → r1.failures ≡ r.failures → ServesPiece contents left left' w1 w2 g1 g2 (held ++ piece) new Stopped
+  pub ends_stopped : (left left' : ℕ) (r r0 r1 : CountedView R) (w w1 w2 : CountedView W) (g0 g1 g2 : List Given) (held piece : List ℕ) (written : ℕ) (new : SplitterView) → Heard r r0 w w1 g0 g1 held written
+      → Consumes (remaining r0.inner) (remaining r1.inner) piece → r1.calls.failures ≡ r.calls.failures → ServesPiece contents left left' w1 w2 g1 g2 (held ++ piece) new Stopped
       → Serves remaining contents r r1 w w2 g0 g2 session.Stopped
   ends_stopped left left' r r0 r1 w w1 w2 g0 g1 g2 held piece written new h read sound p =
       ends_within left left' r r0 r1 w w1 w2 g0 g1 g2 held piece written new Stopped session.Stopped h read p
       (stops_more contents w w1 w2 h.given p.given h.replied p.ends, sound)
 
-  pub ends_no_memory : (left left' : ℕ) (r r0 r1 : Watched R) (w w1 w2 : Watched W) (g0 g1 g2 : List Given) (held piece : List ℕ) (written : ℕ) (new : Held) → Heard r r0 w w1 g0 g1 held written
-      → Consumes (remaining r0.inner) (remaining r1.inner) piece → r1.failures ≡ r.failures → ServesPiece contents left left' w1 w2 g1 g2 (held ++ piece) new NoMemory
+  pub ends_no_memory : (left left' : ℕ) (r r0 r1 : CountedView R) (w w1 w2 : CountedView W) (g0 g1 g2 : List Given) (held piece : List ℕ) (written : ℕ) (new : SplitterView) → Heard r r0 w w1 g0 g1 held written
+      → Consumes (remaining r0.inner) (remaining r1.inner) piece → r1.calls.failures ≡ r.calls.failures → ServesPiece contents left left' w1 w2 g1 g2 (held ++ piece) new NoMemory
       → Serves remaining contents r r1 w w2 g0 g2 session.NoMemory
   ends_no_memory left left' r r0 r1 w w1 w2 g0 g1 g2 held piece written new h read sound p =
       ends_within left left' r r0 r1 w w1 w2 g0 g1 g2 held piece written new NoMemory session.NoMemory h read p
       (replied_more contents w w1 w2 h.given p.given h.replied p.ends, sound)
 
-  pub ends_cut : (left left' : ℕ) (r r0 r1 : Watched R) (w w1 w2 : Watched W) (g0 g1 g2 : List Given) (held piece : List ℕ) (written n : ℕ) (new : Held) → Heard r r0 w w1 g0 g1 held written
-      → Consumes (remaining r0.inner) (remaining r1.inner) piece → r1.failures ≡ r.failures → GoesOn most_interruptions left w w1
+  pub ends_cut : (left left' : ℕ) (r r0 r1 : CountedView R) (w w1 w2 : CountedView W) (g0 g1 g2 : List Given) (held piece : List ℕ) (written n : ℕ) (new : SplitterView) → Heard r r0 w w1 g0 g1 held written
+      → Consumes (remaining r0.inner) (remaining r1.inner) piece → r1.calls.failures ≡ r.calls.failures → GoesOn most_interruptions left w.calls w1.calls
       → ServesPiece contents left left' w1 w2 g1 g2 (held ++ piece) new (WriteFault n) → Serves remaining contents r r1 w w2 g0 g2 (session.WriteFault (written + n))
   ends_cut left left' r r0 r1 w w1 w2 g0 g1 g2 held piece written n new h read sound goes p =
       ends_within left left' r r0 r1 w w1 w2 g0 g1 g2 held piece written new (WriteFault n) (session.WriteFault (written + n)) h read p
       (cut_more contents most_interruptions left w w1 w2 h.given p.given n (written + n) (omega (arith, h.count, replies_length h.given)) goes h.replied p.ends, sound)
 
 -- a splitter that holds what follows the lines
-pub takes_more : (new : Held) (rest : List ℕ) → new ≡ open_with rest → new ≡ open_with new.rest
-takes_more new rest e = e ∙ ap open_with (sym (ap (λ (h : Held). h.rest) e))
+pub takes_more : (new : SplitterView) (rest : List ℕ) → new ≡ open_with rest → new ≡ open_with new.rest
+takes_more new rest e = e ∙ ap open_with (sym (ap (λ (h : SplitterView). h.rest) e))
 
-pub holds_within : (new : Held) (rest : List ℕ) → new ≡ open_with rest → IsWithin longest_line rest → IsWithin longest_line new.rest
-holds_within new rest e within = subst (λ (t : List ℕ). IsWithin longest_line t) (sym (ap (λ (h : Held). h.rest) e)) within
+pub holds_within : (new : SplitterView) (rest : List ℕ) → new ≡ open_with rest → IsWithin longest_line rest → IsWithin longest_line new.rest
+holds_within new rest e within = subst (λ (t : List ℕ). IsWithin longest_line t) (sym (ap (λ (h : SplitterView). h.rest) e)) within

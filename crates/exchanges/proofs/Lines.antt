@@ -1,7 +1,7 @@
 -- Bytes of a line, one after another.
 use Rattle.std.proofs.Common.{◌≡◌, ◌≢◌, ℕ, ◌+◌, ◌<◌, List, [], ◌∷◌, ◌++◌, length, get_or, take, drop, sym, ap, ◌∙◌}
 use Rattle.std.proofs.lemmas.List.{take_more, drop_more, take-append-drop}
-use Rattle.stream_lines.specs.Lines.{HasNoNewline}
+use Rattle.streams.specs.Lines.{HasNoNewline}
 
 -- a line of one byte more
 pub line_more : (line : List ℕ) (b : ℕ) → HasNoNewline line → b ≢ 10 → HasNoNewline (line ++ b ∷ [])

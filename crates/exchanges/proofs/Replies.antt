@@ -5,17 +5,17 @@ use Rattle.std.proofs.Math.Seq.{take-add, take-append_seam, drop-append_seam}
 use Rattle.std.proofs.KnownBytes.{Appends-trans}
 use Rattle.std.specs.Io.KnownBytes.{Appends}
 use Rattle.std.specs.List.{AllByRecursion}
-use Rattle.stream_lines.specs.Lines.{stream_of}
+use Rattle.streams.specs.Lines.{stream_of}
 use Rattle.wire.specs.Replies.{reply_text}
 use Rattle.wire.specs.declared.reply.Reply.{Reply}
 use Rattle.wire.specs.declared.reply.Reply.TheVariants.{Received, Refused}
-use Rattle.stream_lines.proofs.Streams.{stream_append}
+use Rattle.streams.proofs.Streams.{stream_append}
 use Rattle.wire.proofs.ReplyTexts.{text_received, text_refused}
-use Rattle.exchanges.specs.Calls.{GoesOn}
-use Rattle.exchanges.specs.Counts.{next, FailsAfter}
+use Rattle.streams.specs.Calls.{FailsAfter, GoesOn, next}
+use Rattle.streams.specs.declared.calls.Calls.{Calls}
 use Rattle.exchanges.specs.Given.{Given, lines_of, replies_text, NoneStopped}
 use Rattle.exchanges.specs.Sessions.{RepliesToAll, RepliesToTheStop, RepliesCutShort}
-use Rattle.exchanges.specs.Watched.{Watched}
+use Rattle.exchanges.specs.CountedView.{CountedView}
 
 -- ---- lists of lines
 
@@ -70,27 +70,27 @@ take_over xs ys n = take-add (length xs) n (xs ++ ys) ∙ rw (take-append_seam, 
 
 -- ---- calls one after another
 
-pub goes_more : {T : Type 0} (a b c : ℕ) (t0 t1 t2 : Watched T) → GoesOn a b t0 t1 → GoesOn b c t1 t2 → GoesOn a c t0 t2
+pub goes_more : (a b c : ℕ) (t0 t1 t2 : Calls) → GoesOn a b t0 t1 → GoesOn b c t1 t2 → GoesOn a c t0 t2
 goes_more a b c t0 t1 t2 x y = record { sound = y.sound ∙ x.sound; spared = y.spared ∙ x.spared }
 
-pub fails_more : {T : Type 0} (a b : ℕ) (t0 t1 t2 : Watched T) → GoesOn a b t0 t1 → FailsAfter b t1 t2 → FailsAfter a t0 t2
+pub fails_more : (a b : ℕ) (t0 t1 t2 : Calls) → GoesOn a b t0 t1 → FailsAfter b t1 t2 → FailsAfter a t0 t2
 fails_more a b t0 t1 t2 x (inl failed) = inl (failed ∙ ap next x.sound)
 fails_more a b t0 t1 t2 x (inr cut) = inr (cut.0 ∙ x.sound, cut.1 ∙ x.spared)
 
 module _ {W : Type 0} (contents : W → Option (List ℕ)) where
-  joins : (w0 w1 w2 : Watched W) (a b : List Given) → Appends (contents w0.inner) (contents w1.inner) (replies_text a) → Appends (contents w1.inner) (contents w2.inner) (replies_text b)
+  joins : (w0 w1 w2 : CountedView W) (a b : List Given) → Appends (contents w0.inner) (contents w1.inner) (replies_text a) → Appends (contents w1.inner) (contents w2.inner) (replies_text b)
       → Appends (contents w0.inner) (contents w2.inner) (replies_text (a ++ b))
   joins w0 w1 w2 a b x y =
       subst (λ (t : List ℕ). Appends (contents w0.inner) (contents w2.inner) t) (sym (replies_append a b)) (Appends-trans _ _ _ _ _ x y)
 
-  pub replied_more : (w0 w1 w2 : Watched W) (a b : List Given) → RepliesToAll contents w0 w1 a → RepliesToAll contents w1 w2 b → RepliesToAll contents w0 w2 (a ++ b)
+  pub replied_more : (w0 w1 w2 : CountedView W) (a b : List Given) → RepliesToAll contents w0 w1 a → RepliesToAll contents w1 w2 b → RepliesToAll contents w0 w2 (a ++ b)
   replied_more w0 w1 w2 a b x y = record {
     wrote = joins w0 w1 w2 a b x.wrote y.wrote;
     sound = y.sound ∙ x.sound;
     running = none_append a b x.running y.running;
   }
 
-  pub stops_more : (w0 w1 w2 : Watched W) (a b : List Given) → RepliesToAll contents w0 w1 a → RepliesToTheStop contents w1 w2 b → RepliesToTheStop contents w0 w2 (a ++ b)
+  pub stops_more : (w0 w1 w2 : CountedView W) (a b : List Given) → RepliesToAll contents w0 w1 a → RepliesToTheStop contents w1 w2 b → RepliesToTheStop contents w0 w2 (a ++ b)
   stops_more w0 w1 w2 a b x y = record {
     earlier = a ++ y.earlier;
     last = y.last;
@@ -101,7 +101,7 @@ module _ {W : Type 0} (contents : W → Option (List ℕ)) where
     stopped = y.stopped;
   }
 
-  pub cut_more : (most left : ℕ) (w0 w1 w2 : Watched W) (a b : List Given) (n m : ℕ) → m ≡ length (replies_text a) + n → GoesOn most left w0 w1
+  pub cut_more : (most left : ℕ) (w0 w1 w2 : CountedView W) (a b : List Given) (n m : ℕ) → m ≡ length (replies_text a) + n → GoesOn most left w0.calls w1.calls
       → RepliesToAll contents w0 w1 a → RepliesCutShort contents left w1 w2 b n → RepliesCutShort contents most w0 w2 (a ++ b) m
   cut_more most left w0 w1 w2 a b n m e goes x y =
       let whole : length (replies_text (a ++ b)) ≡ length (replies_text a) + length (replies_text b) = ap length (replies_append a b) ∙ length-append (replies_text a) (replies_text b) in
@@ -120,10 +120,10 @@ module _ {W : Type 0} (contents : W → Option (List ℕ)) where
         wrote = (
           omega (arith, whole, high, e),
           subst (λ (t : List ℕ). Appends (contents w0.inner) (contents w2.inner) t) (sym front) (Appends-trans _ _ _ _ _ x.wrote y.wrote.1),
-          fails_more most left w0 w1 w2 goes y.wrote.2,
+          fails_more most left w0.calls w1.calls w2.calls goes y.wrote.2,
         );
       }
 
   -- a part of the last reply only
-  pub cut_below : (most : ℕ) (w w' : Watched W) (a : List Given) (n : ℕ) → RepliesCutShort contents most w w' a n → n < 31 * length a
+  pub cut_below : (most : ℕ) (w w' : CountedView W) (a : List Given) (n : ℕ) → RepliesCutShort contents most w w' a n → n < 31 * length a
   cut_below most w w' a n x = let high = x.wrote.0 in omega (arith, high, replies_length a)

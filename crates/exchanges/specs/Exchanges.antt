@@ -1,11 +1,11 @@
 -- What an exchange writes and reads.
 use Rattle.std.specs.Prelude.{◌≡◌, ℕ, ◌+◌, List, [], ◌∷◌, ◌++◌, length, Option, ◌⊎◌}
 use Rattle.units.specs.Limits.{longest_line}
-use Rattle.stream_lines.specs.Lines.{HasNoNewline, IsWithin}
+use Rattle.streams.specs.Lines.{HasNoNewline, IsWithin}
 use Rattle.wire.specs.Replies.{IsReply}
 use Rattle.wire.specs.declared.reply.Reply.{Reply}
-use Rattle.exchanges.specs.Counts.{most_interruptions}
-use Rattle.exchanges.specs.Watched.{Watched}
+use Rattle.streams.specs.Calls.{most_interruptions}
+use Rattle.exchanges.specs.CountedView.{CountedView}
 use Rattle.exchanges.specs.Streams.{WritesAll, WritesFirst, Takes, TakesAll, TakesAndFails}
 use Rattle.exchanges.specs.declared.ends.Exchange.{Exchange}
 use Rattle.exchanges.specs.declared.ends.Exchange.TheVariants.{Answered, WriteFault, ReadFault, PeerEnded, BadReply, NoMemory}
@@ -16,7 +16,7 @@ IsNoReply line = (reply : Reply) → IsReply line reply → ⊥
 
 module _ {R W : Type 0} (remaining : R → Option (List ℕ)) (contents : W → Option (List ℕ)) where
   -- what was read where the text was written, and what that came to
-  abbrev pub Hears : Watched R → Watched R → Exchange → Type 0
+  abbrev pub Hears : CountedView R → CountedView R → Exchange → Type 0
   Hears old new (Answered reply) = (line : List ℕ) × IsReply line reply × IsWithin longest_line line × Takes remaining old new (line ++ 10 ∷ [])
   Hears old new ReadFault = (start : List ℕ) × IsWithin longest_line start × TakesAndFails remaining old new start
   Hears old new PeerEnded = (start : List ℕ) × IsWithin longest_line start × TakesAll remaining old new start
@@ -27,7 +27,7 @@ module _ {R W : Type 0} (remaining : R → Option (List ℕ)) (contents : W → 
   Hears old new (WriteFault n) = ⊥
 
   -- what an exchange of a text wrote and read, and why it ended so
-  abbrev pub Exchanges : Watched R → Watched R → Watched W → Watched W → List ℕ → Exchange → Type 0
+  abbrev pub Exchanges : CountedView R → CountedView R → CountedView W → CountedView W → List ℕ → Exchange → Type 0
   Exchanges r r' w w' text (WriteFault n) = (r' ≡ r) × WritesFirst contents most_interruptions w w' text n
   Exchanges r r' w w' text NoMemory = ((r' ≡ r) × (w' ≡ w)) ⊎ (WritesAll contents w w' text × Hears r r' NoMemory)
   Exchanges r r' w w' text (Answered reply) = WritesAll contents w w' text × Hears r r' (Answered reply)

@@ -3,7 +3,7 @@ use Rattle.std.specs.Prelude.{◌≡◌, ℕ, List, [], ◌∷◌, ◌++◌, map
 use Rattle.std.specs.List.{AllByRecursion}
 use Rattle.units.specs.RefusalCodes.{node_stopped}
 use Rattle.units.specs.declared.memory.NoMemory.{NoMemory}
-use Rattle.stream_lines.specs.Lines.{stream_of}
+use Rattle.streams.specs.Lines.{stream_of}
 use Rattle.wire.specs.Replies.{reply_text}
 use Rattle.wire.specs.declared.reply.Reply.{Reply}
 use Rattle.wire.specs.declared.reply.Reply.TheVariants.{Received, Refused}

@@ -1,8 +1,8 @@
-pub mod Watched
-pub mod Counts
+pub mod CountedView
 pub mod Streams
 pub mod Exchanges
 pub mod Given
 pub mod Sessions
-pub mod Calls
+pub mod ReadLines
+pub use Rattle.streams.specs.Calls
 pub mod Pieces

@@ -2,12 +2,12 @@
 use Rattle.std.specs.Prelude.{◌≡◌, ℕ, ◌+◌, ◌*◌, ◌<◌, ◌≤◌, List, [], ◌++◌, length, take, false, Option}
 use Rattle.std.specs.List.{AllByRecursion}
 use Rattle.units.specs.Limits.{longest_line}
-use Rattle.stream_lines.specs.Held.{Held}
-use Rattle.stream_lines.specs.Lines.{stream_of, HasNoNewline, IsWithin}
-use Rattle.exchanges.specs.Calls.{GoesOn}
+use Rattle.streams.specs.SplitterView.{SplitterView}
+use Rattle.streams.specs.Lines.{stream_of, HasNoNewline, IsWithin}
+use Rattle.streams.specs.Calls.{GoesOn}
 use Rattle.exchanges.specs.Given.{Given, lines_of}
 use Rattle.exchanges.specs.Sessions.{RepliesToAll, RepliesToTheStop, RepliesCutShort}
-use Rattle.exchanges.specs.Watched.{Watched}
+use Rattle.exchanges.specs.CountedView.{CountedView}
 use Rattle.exchanges.specs.declared.ends.SessionEnd.{SessionEnd}
 use Rattle.exchanges.specs.declared.ends.SessionEnd.TheVariants as session_end
 use Rattle.exchanges.specs.declared.pieces.PieceEnd.{PieceEnd}
@@ -35,7 +35,7 @@ IsSmall (WriteFault n) = n < 31 * most_lines
 IsSmall NoMemory = Unit {0}
 
 -- a splitter that holds these bytes and takes more
-abbrev pub open_with : List ℕ → Held
+abbrev pub open_with : List ℕ → SplitterView
 open_with rest = record { limit = longest_line; rest = rest; closed = false }
 
 -- the stream ended where a splitter held these bytes
@@ -46,14 +46,14 @@ StreamEnds rest _ = ⊥
 
 module _ {W : Type 0} (contents : W → Option (List ℕ)) where
   -- how some lines were replied to, by what was given of them and by the lines after these
-  abbrev pub LinesEndBy : ℕ → Watched W → Watched W → List Given → List (List ℕ) → LinesEnd → Type 0
+  abbrev pub LinesEndBy : ℕ → CountedView W → CountedView W → List Given → List (List ℕ) → LinesEnd → Type 0
   LinesEndBy most w w' given later lines_end.AllReplied = RepliesToAll contents w w' given × (later ≡ [])
   LinesEndBy most w w' given later lines_end.Stopped = RepliesToTheStop contents w w' given
   LinesEndBy most w w' given later (lines_end.WriteFault n) = RepliesCutShort contents most w w' given n
   LinesEndBy most w w' given later lines_end.NoMemory = RepliesToAll contents w w' given
 
   -- the first of these lines were given in their order, and it ended so
-  pub record ServesLines (most : ℕ) (w w' : Watched W) (old new : List Given) (lines : List (List ℕ)) (end : LinesEnd) : Type 0 where
+  pub record ServesLines (most : ℕ) (w w' : CountedView W) (old new : List Given) (lines : List (List ℕ)) (end : LinesEnd) : Type 0 where
     pub given : List Given
     pub later : List (List ℕ)
     pub joined : new ≡ old ++ given
@@ -61,16 +61,16 @@ module _ {W : Type 0} (contents : W → Option (List ℕ)) where
     pub ends : LinesEndBy most w w' given later end
 
   -- why a piece was left, by what was given and by the bytes after these lines
-  abbrev pub PieceEndsBy : ℕ → ℕ → Watched W → Watched W → List Given → List ℕ → Held → PieceEnd → Type 0
+  abbrev pub PieceEndsBy : ℕ → ℕ → CountedView W → CountedView W → List Given → List ℕ → SplitterView → PieceEnd → Type 0
   PieceEndsBy left left' w w' given rest held (Replied n) =
-      RepliesToAll contents w w' given × (n ≡ length given) × (held ≡ open_with rest) × IsWithin longest_line rest × GoesOn left left' w w' × (0 < left')
+      RepliesToAll contents w w' given × (n ≡ length given) × (held ≡ open_with rest) × IsWithin longest_line rest × GoesOn left left' w.calls w'.calls × (0 < left')
   PieceEndsBy left left' w w' given rest held TooLong = RepliesToAll contents w w' given × (longest_line < length rest) × HasNoNewline (take (longest_line + 1) rest)
   PieceEndsBy left left' w w' given rest held Stopped = RepliesToTheStop contents w w' given
   PieceEndsBy left left' w w' given rest held (WriteFault n) = RepliesCutShort contents left w w' given n
   PieceEndsBy left left' w w' given rest held NoMemory = RepliesToAll contents w w' given
 
   -- the first lines of some bytes were given in their order, and it ended so
-  pub record ServesPiece (left left' : ℕ) (w w' : Watched W) (old new : List Given) (bytes : List ℕ) (held : Held) (end : PieceEnd) : Type 0 where
+  pub record ServesPiece (left left' : ℕ) (w w' : CountedView W) (old new : List Given) (bytes : List ℕ) (held : SplitterView) (end : PieceEnd) : Type 0 where
     pub given : List Given
     pub rest : List ℕ
     pub joined : new ≡ old ++ given

@@ -3,10 +3,10 @@ use Rattle.std.specs.Prelude.{◌≡◌, ℕ, ◌+◌, ◌<◌, ◌≤◌, List,
 use Rattle.std.specs.Io.KnownBytes.{Appends, Consumes, IsAtEnd}
 use Rattle.std.specs.List.{AllByRecursion}
 use Rattle.units.specs.Limits.{longest_line}
-use Rattle.stream_lines.specs.Lines.{stream_of, HasNoNewline, IsWithin}
-use Rattle.exchanges.specs.Counts.{GoesUp, Fails, most_interruptions}
+use Rattle.streams.specs.Lines.{stream_of, HasNoNewline, IsWithin}
+use Rattle.streams.specs.Calls.{GoesUp, Fails, most_interruptions}
 use Rattle.exchanges.specs.Given.{Given, lines_of, replies_text, IsStopped, NoneStopped}
-use Rattle.exchanges.specs.Watched.{Watched}
+use Rattle.exchanges.specs.CountedView.{CountedView}
 use Rattle.exchanges.specs.Streams.{WritesFirst}
 use Rattle.exchanges.specs.declared.ends.SessionEnd.{SessionEnd}
 use Rattle.exchanges.specs.declared.ends.SessionEnd.TheVariants.{PeerEnded, Truncated, TooLong, ReadFault, WriteFault, Stopped, TurnLimit, NoMemory}
@@ -17,23 +17,23 @@ most_reads = 1_000_000
 
 module _ {W : Type 0} (contents : W → Option (List ℕ)) where
   -- the replies to all that was given were written, no call failed, and no reply says that the node has stopped
-  pub record RepliesToAll (old new : Watched W) (given : List Given) : Type 0 where
+  pub record RepliesToAll (old new : CountedView W) (given : List Given) : Type 0 where
     pub wrote : Appends (contents old.inner) (contents new.inner) (replies_text given)
-    pub sound : new.failures ≡ old.failures
+    pub sound : new.calls.failures ≡ old.calls.failures
     pub running : NoneStopped given
 
   -- the same, but that the last reply, and no earlier one, says that the node has stopped
-  pub record RepliesToTheStop (old new : Watched W) (given : List Given) : Type 0 where
+  pub record RepliesToTheStop (old new : CountedView W) (given : List Given) : Type 0 where
     pub earlier : List Given
     pub last : Given
     pub whole : given ≡ earlier ++ last ∷ []
     pub wrote : Appends (contents old.inner) (contents new.inner) (replies_text given)
-    pub sound : new.failures ≡ old.failures
+    pub sound : new.calls.failures ≡ old.calls.failures
     pub running : NoneStopped earlier
     pub stopped : IsStopped last.reply
 
   -- the first n bytes of the replies were written, which are all replies but the last, and a part of that one
-  pub record RepliesCutShort (most : ℕ) (old new : Watched W) (given : List Given) (n : ℕ) : Type 0 where
+  pub record RepliesCutShort (most : ℕ) (old new : CountedView W) (given : List Given) (n : ℕ) : Type 0 where
     pub earlier : List Given
     pub last : Given
     pub whole : given ≡ earlier ++ last ∷ []
@@ -43,20 +43,20 @@ module _ {W : Type 0} (contents : W → Option (List ℕ)) where
 
 module _ {R W : Type 0} (remaining : R → Option (List ℕ)) (contents : W → Option (List ℕ)) where
   -- why a session ended, by what was given and by the bytes that were read after these lines
-  abbrev pub EndsBy : Watched R → Watched R → Watched W → Watched W → List Given → List ℕ → SessionEnd → Type 0
-  EndsBy r r' w w' given rest PeerEnded = RepliesToAll contents w w' given × (r'.failures ≡ r.failures) × (rest ≡ []) × IsAtEnd (remaining r'.inner)
+  abbrev pub EndsBy : CountedView R → CountedView R → CountedView W → CountedView W → List Given → List ℕ → SessionEnd → Type 0
+  EndsBy r r' w w' given rest PeerEnded = RepliesToAll contents w w' given × (r'.calls.failures ≡ r.calls.failures) × (rest ≡ []) × IsAtEnd (remaining r'.inner)
   EndsBy r r' w w' given rest Truncated =
-      RepliesToAll contents w w' given × (r'.failures ≡ r.failures) × (0 < length rest) × IsWithin longest_line rest × IsAtEnd (remaining r'.inner)
+      RepliesToAll contents w w' given × (r'.calls.failures ≡ r.calls.failures) × (0 < length rest) × IsWithin longest_line rest × IsAtEnd (remaining r'.inner)
   EndsBy r r' w w' given rest TooLong =
-      RepliesToAll contents w w' given × (r'.failures ≡ r.failures) × (longest_line < length rest) × HasNoNewline (take (longest_line + 1) rest)
-  EndsBy r r' w w' given rest ReadFault = RepliesToAll contents w w' given × Fails r r' × IsWithin longest_line rest
-  EndsBy r r' w w' given rest (WriteFault n) = RepliesCutShort contents most_interruptions w w' given n × (r'.failures ≡ r.failures)
-  EndsBy r r' w w' given rest Stopped = RepliesToTheStop contents w w' given × (r'.failures ≡ r.failures)
-  EndsBy r r' w w' given rest TurnLimit = RepliesToAll contents w w' given × (r'.failures ≡ r.failures) × IsWithin longest_line rest × GoesUp most_reads r.calls r'.calls
-  EndsBy r r' w w' given rest NoMemory = RepliesToAll contents w w' given × (r'.failures ≡ r.failures)
+      RepliesToAll contents w w' given × (r'.calls.failures ≡ r.calls.failures) × (longest_line < length rest) × HasNoNewline (take (longest_line + 1) rest)
+  EndsBy r r' w w' given rest ReadFault = RepliesToAll contents w w' given × Fails r.calls r'.calls × IsWithin longest_line rest
+  EndsBy r r' w w' given rest (WriteFault n) = RepliesCutShort contents most_interruptions w w' given n × (r'.calls.failures ≡ r.calls.failures)
+  EndsBy r r' w w' given rest Stopped = RepliesToTheStop contents w w' given × (r'.calls.failures ≡ r.calls.failures)
+  EndsBy r r' w w' given rest TurnLimit = RepliesToAll contents w w' given × (r'.calls.failures ≡ r.calls.failures) × IsWithin longest_line rest × GoesUp most_reads r.calls.count r'.calls.count
+  EndsBy r r' w w' given rest NoMemory = RepliesToAll contents w w' given × (r'.calls.failures ≡ r.calls.failures)
 
   -- a session: lines were given in their order, they are the first lines of what was read, and it ended so
-  pub record Serves (r r' : Watched R) (w w' : Watched W) (old new : List Given) (end : SessionEnd) : Type 0 where
+  pub record Serves (r r' : CountedView R) (w w' : CountedView W) (old new : List Given) (end : SessionEnd) : Type 0 where
     pub given : List Given
     pub rest : List ℕ
     pub joined : new ≡ old ++ given

@@ -1,72 +1,46 @@
 //! A reader or a writer whose calls are counted.
-ghost use Rattle.std.specs.Prelude.{◌≡◌, ◌<◌, ◌≤◌, ◌↔◌, length, IfOk};
+ghost use Rattle.std.specs.Prelude.{◌≡◌, ◌<◌, length, MatchResult};
 ghost use Rattle.std.specs.Io.{ReadsAtMost};
-ghost use Rattle.std.specs.Io.KnownBytes.{ReadConsumes, WriteAppends};
-ghost use Rattle.std.specs.IoError.{error_kind};
-ghost use Rattle.exchanges.specs.Calls.{Counts, CountsFault};
+ghost use Rattle.std.specs.Io.KnownBytes.{ReadConsumes};
+ghost use Rattle.streams.specs.Calls.{Counts, GoesOn, no_calls};
+ghost use Rattle.exchanges.specs.Streams.{WritesAll, WritesFirst};
 
-use std::io::{Error, ErrorKind, Read, Write};
+use std::io::{Read, Write};
 use std::marker::Model;
+use streams::{CallFault, Calls, write_all};
 
-/// Why a call moved nothing.
-#[derive(Clone, Copy)]
-pub(crate) enum CallFault {
-    /// It was interrupted, and may be made again.
-    Interrupted,
-    /// It returned another error, or it was given bytes to write and took none.
-    Failed,
-}
-
-/// A reader or a writer, and how the calls went that were made of it here. Each count is a `u64`, and 0 follows the
-/// greatest one.
+/// A reader or a writer, and how the calls went that were made of it here.
 #[derive(Debug, Drop)]
 pub struct Counted<T> {
     inner: T,
-    calls: u64,
-    failures: u64,
-    interruptions: u64,
+    calls: Calls,
 }
 
 impl<T> Model for Counted<T> {
-    ghost use Rattle.exchanges.specs.Watched.{Watched};
+    ghost use Rattle.exchanges.specs.CountedView.{CountedView};
 
-    ghost Value = { Watched T };
+    ghost Value = { CountedView T };
 
-    ghost view = { λ c. record { inner = c.inner; calls = c.calls; failures = c.failures; interruptions = c.interruptions } };
+    ghost view = { λ c. record { inner = c.inner; calls = c.calls } };
 }
 
 impl<T> Counted<T> {
     /// That reader or writer, no call of which was made yet.
     pub fn new(inner: T) -> Counted<T>
-        ensures { result ≡ record { inner = inner; calls = 0; failures = 0; interruptions = 0 } }
+        ensures { result ≡ record { inner = inner; calls = no_calls } }
     {
         Counted {
             inner,
-            calls: 0,
-            failures: 0,
-            interruptions: 0,
+            calls: Calls::none(),
         }
     }
 
-    /// How many calls returned an error other than `Interrupted`, or were given bytes to write and took none.
+    /// How many calls returned an error other than `Interrupted`, or were given bytes to write and took none. 0 follows
+    /// `u64::MAX`.
     pub fn failures(&self) -> u64
-        ensures { result ≡ self.now.failures }
+        ensures { result ≡ self.now.calls.failures }
     {
-        self.failures
-    }
-
-    /// Counts the error of a call, and returns which fault it is.
-    fn count_fault(&mut self, error: &Error) -> CallFault
-        ensures kind { (result ≡ CallFault.Interrupted) ↔ (error_kind error.now ≡ ErrorKind.Interrupted) }
-        ensures counts { CountsFault self.old self.new result }
-    {
-        if error.kind() == ErrorKind::Interrupted {
-            self.interruptions = self.interruptions.wrapping_add(1);
-            CallFault::Interrupted
-        } else {
-            self.failures = self.failures.wrapping_add(1);
-            CallFault::Failed
-        }
+        self.calls.failures()
     }
 }
 
@@ -76,34 +50,24 @@ impl<T: Read> Counted<T> {
         requires { 0 < length piece.old }
         ensures bytes { ReadConsumes (T.remaining self.old.inner) (T.remaining self.new.inner) result piece.new }
         ensures bound { ReadsAtMost result piece.new }
-        ensures counts { Counts self.old self.new result }
+        ensures counts { Counts self.old.calls self.new.calls result }
     {
-        self.calls = self.calls.wrapping_add(1);
-        match self.inner.read(piece) {
-            Ok(n) => Ok(n),
-            Err(error) => Err(self.count_fault(&error)),
-        }
+        self.calls.read(&mut self.inner, piece)
     }
 }
 
 impl<T: Write> Counted<T> {
-    /// Writes once, and returns how many of the first bytes were taken: none only where there are none.
-    pub(crate) fn write_once(&mut self, bytes: &[u8]) -> Result<usize, CallFault>
-        ensures bytes { WriteAppends (T.contents self.old.inner) (T.contents self.new.inner) result bytes.now }
-        ensures bound { IfOk result (λ n. n ≤ length bytes.now) }
-        ensures some { IfOk result (λ n. 0 < length bytes.now → 0 < n) }
-        ensures counts { Counts self.old self.new result }
+    /// Writes the bytes. An interrupted write is made again, and `left` says how many more of them there may be.
+    ///
+    /// The error is how many of the first bytes were written: the writer failed, or the last of the interruptions that
+    /// were left came.
+    pub(crate) fn write_all(&mut self, left: &mut u32, bytes: &[u8]) -> Result<(), usize>
+        requires { 0 < left.old }
+        ensures wrote { MatchResult result (λ _. WritesAll T.contents self.old self.new bytes.now)
+            (λ n. WritesFirst T.contents left.old self.old self.new bytes.now n) }
+        ensures goes { MatchResult result (λ _. GoesOn left.old left.new self.old.calls self.new.calls
+            × (0 < left.new)) (λ _. Unit {0}) }
     {
-        self.calls = self.calls.wrapping_add(1);
-        match self.inner.write(bytes) {
-            Ok(n) => {
-                if n > 0 || bytes.is_empty() {
-                    return Ok(n);
-                }
-                self.failures = self.failures.wrapping_add(1);
-                Err(CallFault::Failed)
-            }
-            Err(error) => Err(self.count_fault(&error)),
-        }
+        write_all(&mut self.inner, &mut self.calls, left, bytes)
     }
 }

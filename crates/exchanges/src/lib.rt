@@ -9,7 +9,6 @@ mod reading;
 mod replying;
 mod serving;
 mod swapping;
-mod writing;
 
 pub use answerer::Answerer;
 pub use counted::Counted;

@@ -1,7 +1,7 @@
 //! Replies to the lines of a stream, piece by piece.
 ghost use Rattle.std.specs.Prelude.{◌≡◌, ◌<◌, ◌≤◌, ◌++◌, length, false};
 ghost use Rattle.units.specs.Limits.{longest_line};
-ghost use Rattle.stream_lines.specs.Lines.{IsWithin};
+ghost use Rattle.streams.specs.Lines.{IsWithin};
 ghost use Rattle.exchanges.specs.Pieces.{piece_end, open_with, IsSmall, ServesPiece, StreamEnds};
 
 use crate::answerer::Answerer;
@@ -9,7 +9,7 @@ use crate::counted::Counted;
 use crate::ends::SessionEnd;
 use crate::replying::{LinesEnd, serve_lines};
 use std::io::Write;
-use stream_lines::{LineFault, Splitter};
+use streams::{LineFault, Splitter};
 
 /// How many bytes are read at once at most.
 pub(crate) const PIECE: usize = 4_096;
@@ -66,7 +66,8 @@ pub(crate) fn serve_piece<W: Write, A: Answerer>(
     requires within { IsWithin longest_line splitter.old.rest }
     requires spare { 0 < left.old }
     requires short { length piece.now ≤ PIECE }
-    ensures serves { ServesPiece W.contents left.old left.new writer.old writer.new (A.given answerer.old) (A.given answerer.new) (splitter.old.rest ++ piece.now) splitter.new result }
+    ensures serves { ServesPiece W.contents left.old left.new writer.old writer.new (A.given answerer.old)
+        (A.given answerer.new) (splitter.old.rest ++ piece.now) splitter.new result }
     ensures small { IsSmall result }
 {
     match splitter.feed(piece) {

@@ -1,11 +1,11 @@
 //! One line from a reader.
 ghost use Rattle.std.specs.Prelude.{◌≡◌, ◌≤◌, ◌<◌, ◌+◌, [], vec_capacity};
 ghost use Rattle.units.specs.Limits.{longest_line};
-ghost use Rattle.exchanges.specs.Calls.{ReadsLine};
+ghost use Rattle.exchanges.specs.ReadLines.{ReadsLine};
 
-use crate::counted::{CallFault, Counted};
-use crate::writing::MOST_INTERRUPTIONS;
+use crate::counted::Counted;
 use std::io::Read;
+use streams::{CallFault, MOST_INTERRUPTIONS};
 use units::limits::LONGEST_LINE;
 
 /// Why the reading of a line ended.

@@ -1,15 +1,14 @@
 //! Replies to the lines that a piece of a stream ends.
 ghost use Rattle.std.specs.Prelude.{◌≡◌, ◌<◌, ◌≤◌, ◌↔◌, ◌++◌, ◌∷◌, [], length, IsTrue};
 ghost use Rattle.wire.specs.Replies.{reply_text};
-ghost use Rattle.exchanges.specs.Calls.{GoesOn};
+ghost use Rattle.streams.specs.Calls.{GoesOn};
 ghost use Rattle.exchanges.specs.Given.{IsStopped};
 ghost use Rattle.exchanges.specs.Pieces.{ServesLines};
 
 use crate::answerer::Answerer;
 use crate::counted::Counted;
-use crate::writing::write_all;
 use std::io::Write;
-use stream_lines::Line;
+use streams::Line;
 use units::NoMemory;
 use units::refusal_code::NODE_STOPPED;
 use wire::Reply;
@@ -55,15 +54,16 @@ fn serve_line<W: Write, A: Answerer>(
     line: &[u8],
 ) -> LinesEnd
     requires { 0 < left.old }
-    ensures serves { ServesLines W.contents left.old writer.old writer.new (A.given answerer.old) (A.given answerer.new) (line.now ∷ []) result }
-    ensures goes { result ≡ LinesEnd.AllReplied → GoesOn left.old left.new writer.old writer.new }
+    ensures serves { ServesLines W.contents left.old writer.old writer.new (A.given answerer.old)
+        (A.given answerer.new) (line.now ∷ []) result }
+    ensures goes { result ≡ LinesEnd.AllReplied → GoesOn left.old left.new writer.old.calls writer.new.calls }
     ensures spare { result ≡ LinesEnd.AllReplied → 0 < left.new }
 {
     let Ok(reply) = answerer.answer(line) else {
         return LinesEnd::NoMemory;
     };
     let text = reply_line(reply);
-    if let Err(count) = write_all(writer, left, &text) {
+    if let Err(count) = writer.write_all(left, &text) {
         return LinesEnd::WriteFault(count);
     }
     if is_stopped(reply) {
@@ -88,8 +88,9 @@ pub(crate) fn serve_lines<W: Write, A: Answerer>(
 ) -> LinesEnd
     requires spare { 0 < left.old }
     requires few { length lines.now ≤ MOST_LINES }
-    ensures serves { ServesLines W.contents left.old writer.old writer.new (A.given answerer.old) (A.given answerer.new) lines.now result }
-    ensures goes { result ≡ LinesEnd.AllReplied → GoesOn left.old left.new writer.old writer.new }
+    ensures serves { ServesLines W.contents left.old writer.old writer.new (A.given answerer.old)
+        (A.given answerer.new) lines.now result }
+    ensures goes { result ≡ LinesEnd.AllReplied → GoesOn left.old left.new writer.old.calls writer.new.calls }
     ensures spare { result ≡ LinesEnd.AllReplied → 0 < left.new }
 {
     let mut written: usize = 0;

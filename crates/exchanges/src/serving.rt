@@ -2,14 +2,13 @@
 ghost use Rattle.exchanges.specs.Sessions.{Serves};
 
 use crate::answerer::Answerer;
-use crate::counted::{CallFault, Counted};
+use crate::counted::Counted;
 use crate::ends::SessionEnd;
 use crate::pieces::{PIECE, PieceEnd, serve_piece, stream_end};
 use crate::replying::REPLY_LINE;
-use crate::writing::MOST_INTERRUPTIONS;
 use std::alloc::Global;
 use std::io::{Read, Write};
-use stream_lines::Splitter;
+use streams::{CallFault, MOST_INTERRUPTIONS, Splitter};
 use units::limits::LONGEST_LINE;
 
 /// How often a session reads at most.
@@ -26,7 +25,8 @@ pub fn serve_session<R: Read, W: Write, A: Answerer>(
     writer: &mut Counted<W>,
     answerer: &mut A,
 ) -> SessionEnd
-    ensures { Serves R.remaining W.contents reader.old reader.new writer.old writer.new (A.given answerer.old) (A.given answerer.new) result }
+    ensures { Serves R.remaining W.contents reader.old reader.new writer.old writer.new (A.given answerer.old)
+        (A.given answerer.new) result }
 {
     let mut splitter = Splitter::new(alloc, LONGEST_LINE);
     let mut piece = [0u8; PIECE];

@@ -7,9 +7,9 @@ ghost use Rattle.exchanges.specs.Exchanges.{Exchanges};
 use crate::counted::Counted;
 use crate::ends::Exchange;
 use crate::reading::{LineEnd, read_line};
-use crate::writing::{MOST_INTERRUPTIONS, write_all};
 use std::alloc::Global;
 use std::io::{Read, Write};
+use streams::MOST_INTERRUPTIONS;
 use units::NoMemory;
 use units::limits::LONGEST_LINE;
 use wire::{Message, Reply, ReplyFault, encode};
@@ -37,13 +37,14 @@ pub fn exchange<R: Read, W: Write>(
     writer: &mut Counted<W>,
     message: &Message,
 ) -> Exchange
-    ensures { Exchanges R.remaining W.contents reader.old reader.new writer.old writer.new (message_text message.now ++ 10 ∷ []) result }
+    ensures { Exchanges R.remaining W.contents reader.old reader.new writer.old writer.new
+        (message_text message.now ++ 10 ∷ []) result }
 {
     let Ok((text, mut line)) = make_room(alloc, message) else {
         return Exchange::NoMemory;
     };
     let mut left = MOST_INTERRUPTIONS;
-    if let Err(count) = write_all(writer, &mut left, text.as_slice()) {
+    if let Err(count) = writer.write_all(&mut left, text.as_slice()) {
         return Exchange::WriteFault(count);
     }
     match read_line(reader, &mut line) {

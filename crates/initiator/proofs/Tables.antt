@@ -4,7 +4,7 @@ use Rattle.std.specs.BTreeMap as tree
 use Rattle.std.specs.BTreeMap.{BTreeMap}
 use Rattle.std.specs.FinMap.{FinMap, get}
 use Rattle.status.proofs.Ids.{id_of_same}
-use Rattle.lemmas.proofs.OrderedMaps.{get_entries, same_entries}
+use Rattle.units.proofs.Lists.OrderedMaps.{get_entries, same_entries}
 use Rattle.status.proofs.IdOrder.{ids_total, exact_ids}
 use Rattle.status.specs.Id.{id_cmp, same_id}
 use Rattle.status.specs.declared.id.TransactionId.{TransactionId}

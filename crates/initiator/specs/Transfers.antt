@@ -21,7 +21,7 @@ use Rattle.initiator.specs.declared.transfer.Cancellation.TheVariants.{NotAsked,
 use Rattle.initiator.specs.declared.transfer.Transfer.{Transfer}
 
 -- the registry, the last transaction number that it gave (0 before the first), and its transfers
-pub record Initiating : Type 0 where
+pub record InitiatorView : Type 0 where
   pub code : Code
   pub last : ℕ
   pub transfers : FinMap id_cmp Transfer
@@ -59,7 +59,7 @@ unfoldable pub transfers_by_id : BTreeMap TransactionId Transfer → FinMap id_c
 transfers_by_id transfers = from_entries transfers.entries
 
 -- why an order to ask for a transfer's cancellation is refused
-abbrev pub cancellation_refusals : Initiating → TransactionId → Causes
+abbrev pub cancellation_refusals : InitiatorView → TransactionId → Causes
 cancellation_refusals i t =
     (not (same_code t.code i.code && is_some (get i.transfers t)), not_proposed_here)
     ∷ (not (is_still_proposed (get i.transfers t)), no_longer_proposed)

@@ -30,7 +30,7 @@ use crate::transfer::{Transfer, is_proposed, known, request_column};
 use accounts::Holdings;
 use checks::{NewTransfer, propose_check};
 use protocol::Decision;
-use scheme::Scheme;
+use protocol::scheme::Scheme;
 use status::{Order, Role, Row, RowInput, Status, TransactionId, row};
 use std::alloc::Global;
 use std::collections::BTreeMap;
@@ -48,9 +48,9 @@ pub struct Initiator {
 }
 
 impl Model for Initiator {
-    ghost use Rattle.initiator.specs.Transfers.{Initiating, transfers_by_id};
+    ghost use Rattle.initiator.specs.Transfers.{InitiatorView, transfers_by_id};
 
-    ghost Value = { Initiating };
+    ghost Value = { InitiatorView };
 
     ghost view = { λ s. record { code = s.code; last = s.last; transfers = transfers_by_id s.transfers } };
 
@@ -94,11 +94,16 @@ impl Initiator {
         holdings: &Holdings,
         order: &Order,
     ) -> Result<NewTransfer, Refusal>
-        ensures ok { (known : Holding) → Knows scheme.now self.now.code holdings.now known → IfOk result (λ new_transfer. first_of (order_refusals scheme.now self.now.code known self.now.last order.now) ≡ None) }
+        ensures ok { (known : Holding) → Knows scheme.now self.now.code holdings.now known
+            → IfOk result (λ new_transfer. first_of
+            (order_refusals scheme.now self.now.code known self.now.last order.now) ≡ None) }
         ensures id { IfOk result (λ new_transfer. id_at self.now.code (self.now.last + 1) ≡ Some new_transfer.id) }
         ensures content { IfOk result (λ new_transfer. new_transfer.content ≡ content_of order.now) }
-        ensures reservable { IfOk result (λ new_transfer. (blocks : List Block) → raws blocks ≡ new_transfer.content.units → MayReserve holdings.now new_transfer.content.account blocks) }
-        ensures refused { (known : Holding) → Knows scheme.now self.now.code holdings.now known → IfErr result (λ r. (r.code ≡ out_of_memory) ⊎ (first_of (order_refusals scheme.now self.now.code known self.now.last order.now) ≡ Some r.code)) }
+        ensures reservable { IfOk result (λ new_transfer. (blocks : List Block)
+            → raws blocks ≡ new_transfer.content.units → MayReserve holdings.now new_transfer.content.account blocks) }
+        ensures refused { (known : Holding) → Knows scheme.now self.now.code holdings.now known
+            → IfErr result (λ r. (r.code ≡ out_of_memory)
+            ⊎ (first_of (order_refusals scheme.now self.now.code known self.now.last order.now) ≡ Some r.code)) }
     {
         propose_check(alloc, scheme, self.code, holdings, self.last, order)
     }
@@ -106,7 +111,9 @@ impl Initiator {
     /// What the table says to a new transfer: a new transfer is to be Proposed to the log. Fails with `NO_ROW` where
     /// the registry has a transfer of that identifier, and with `OUT_OF_MEMORY`.
     pub fn propose(&self, alloc: Global, new_transfer: &NewTransfer) -> Result<Decision, Refusal>
-        ensures { IsDueOrNoMemory result (decided (initiator_row (known_transfer (map.get self.now.transfers new_transfer.now.id)) column.Propose) (initiator_sends self.now.code new_transfer.now.id (Some new_transfer.now.content) column.Propose)) }
+        ensures { IsDueOrNoMemory result
+            (decided (initiator_row (known_transfer (map.get self.now.transfers new_transfer.now.id)) column.Propose)
+            (initiator_sends self.now.code new_transfer.now.id (Some new_transfer.now.content) column.Propose)) }
     {
         match row(
             Role::Initiator,
@@ -132,7 +139,12 @@ impl Initiator {
     /// any other is a repeat. Fails with `NOT_PROPOSED_HERE` where this registry didn't propose the transfer, with
     /// `NO_LONGER_PROPOSED` where it has another status than Proposed, and with `OUT_OF_MEMORY`.
     pub fn request(&self, alloc: Global, id: TransactionId) -> Result<Decision, Refusal>
-        ensures { (content : Option Terms) → IsDueOrNoMemory result (unless (cancellation_refusals self.now id) (decided (initiator_row (known_transfer (map.get self.now.transfers id)) (column_of_request (map.get self.now.transfers id))) (initiator_sends self.now.code id content (column_of_request (map.get self.now.transfers id))))) }
+        ensures { (content : Option Terms)
+            → IsDueOrNoMemory result
+            (unless (cancellation_refusals self.now id)
+            (decided (initiator_row (known_transfer (map.get self.now.transfers id))
+            (column_of_request (map.get self.now.transfers id)))
+            (initiator_sends self.now.code id content (column_of_request (map.get self.now.transfers id))))) }
     {
         let transfer = self.transfer(id);
         if id.code != self.code || transfer.is_none() {
@@ -165,7 +177,10 @@ impl Initiator {
         id: TransactionId,
         told: Status,
     ) -> Result<Decision, Refusal>
-        ensures { (content : Option Terms) → IsDueOrNoMemory result (decided (initiator_row (known_transfer (map.get self.now.transfers id)) (column.Notified told)) (initiator_sends self.now.code id content (column.Notified told))) }
+        ensures { (content : Option Terms)
+            → IsDueOrNoMemory result
+            (decided (initiator_row (known_transfer (map.get self.now.transfers id)) (column.Notified told))
+            (initiator_sends self.now.code id content (column.Notified told))) }
     {
         match row(
             Role::Initiator,
@@ -190,10 +205,17 @@ impl Initiator {
         new_transfer: &NewTransfer,
     ) -> Result<(), Refusal>
         requires absent { map.get self.old.transfers new_transfer.now.id ≡ None }
-        requires reservable { (blocks : List Block) → raws blocks ≡ new_transfer.now.content.units → MayReserve holdings.old new_transfer.now.content.account blocks }
-        ensures ok { OnOk result ((self.new.code ≡ self.old.code) × (self.new.last ≡ new_transfer.now.id.number) × ((t : TransactionId) → map.get self.new.transfers t ≡ (if same_id new_transfer.now.id t then Some opened else map.get self.old.transfers t))) }
+        requires reservable { (blocks : List Block) → raws blocks ≡ new_transfer.now.content.units
+            → MayReserve holdings.old new_transfer.now.content.account blocks }
+        ensures ok { OnOk result ((self.new.code ≡ self.old.code) × (self.new.last ≡ new_transfer.now.id.number)
+            × ((t : TransactionId)
+            → map.get self.new.transfers t
+            ≡ (if same_id new_transfer.now.id t then Some opened else map.get self.old.transfers t))) }
         ensures accounts { holdings.new.accounts ≡ holdings.old.accounts }
-        ensures unit_holdings { OnOk result ((s : Serial) → map.get holdings.new.unit_holdings s ≡ (if have_unit new_transfer.now.content.units s then option_map (held.reserved new_transfer.now.id) (map.get holdings.old.unit_holdings s) else map.get holdings.old.unit_holdings s)) }
+        ensures unit_holdings { OnOk result ((s : Serial)
+            → map.get holdings.new.unit_holdings s
+            ≡ (if have_unit new_transfer.now.content.units s then option_map (held.reserved new_transfer.now.id)
+            (map.get holdings.old.unit_holdings s) else map.get holdings.old.unit_holdings s)) }
         ensures err { OnErr result ((self.new ≡ self.old) × (holdings.new ≡ holdings.old)) }
         ensures refused { IfErr result (λ r. r.code ≡ out_of_memory) }
     {
@@ -209,7 +231,9 @@ impl Initiator {
 
     /// The transfer's cancellation was asked for. Takes no memory.
     pub fn ask(&mut self, id: TransactionId)
-        ensures transfers { (t : TransactionId) → map.get self.new.transfers t ≡ (if same_id id t then option_map asked (map.get self.old.transfers t) else map.get self.old.transfers t) }
+        ensures transfers { (t : TransactionId)
+            → map.get self.new.transfers t
+            ≡ (if same_id id t then option_map asked (map.get self.old.transfers t) else map.get self.old.transfers t) }
         ensures code { self.new.code ≡ self.old.code }
         ensures last { self.new.last ≡ self.old.last }
     {
@@ -219,11 +243,19 @@ impl Initiator {
     /// The transfer has come to that status: its units leave the registry where it is Completed, and are free again
     /// at any other. Takes no memory.
     pub fn settle(&mut self, holdings: &mut Holdings, id: TransactionId, new: Status)
-        ensures transfers { (t : TransactionId) → map.get self.new.transfers t ≡ (if same_id id t then option_map (settled new) (map.get self.old.transfers t) else map.get self.old.transfers t) }
+        ensures transfers { (t : TransactionId)
+            → map.get self.new.transfers t
+            ≡ (if same_id id t then option_map (settled new)
+            (map.get self.old.transfers t) else map.get self.old.transfers t) }
         ensures code { self.new.code ≡ self.old.code }
         ensures last { self.new.last ≡ self.old.last }
         ensures accounts { holdings.new.accounts ≡ holdings.old.accounts }
-        ensures unit_holdings { (s : Serial) → map.get holdings.new.unit_holdings s ≡ (if same_status new status_word.Completed then labels_that (λ unit_holding. not (held.is_reserved_by id unit_holding)) (map.get holdings.old.unit_holdings s) else option_map (held.released id) (map.get holdings.old.unit_holdings s)) }
+        ensures unit_holdings { (s : Serial)
+            → map.get holdings.new.unit_holdings s
+            ≡ (if same_status new status_word.Completed then labels_that
+            (λ unit_holding. not (held.is_reserved_by id unit_holding))
+            (map.get holdings.old.unit_holdings s) else option_map (held.released id)
+            (map.get holdings.old.unit_holdings s)) }
     {
         settle(&mut self.transfers, id, new);
         if new == Status::Completed {

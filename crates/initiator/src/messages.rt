@@ -4,10 +4,10 @@ ghost use Rattle.protocol.specs.Effects.{initiator_sends};
 ghost use Rattle.status.specs.Content.{Content as Terms};
 ghost use Rattle.status.specs.declared.rows.RowInput.TheVariants as words;
 
+use protocol::wire::{Message, Notification, NotifiedStatus, Proposal, ProposalStatus, Request};
 use status::{Content, RowInput, Status, TransactionId};
 use std::alloc::Global;
 use units::{Code, Items, NoMemory, Node};
-use wire::{Message, Notification, NotifiedStatus, Proposal, ProposalStatus, Request};
 
 /// A list of one message.
 fn one(alloc: Global, message: Message) -> Result<Items<Message>, NoMemory>
@@ -65,7 +65,8 @@ pub(crate) fn on_notified(
     id: TransactionId,
     told: Status,
 ) -> Result<Items<Message>, NoMemory>
-    ensures { (content : Option Terms) → IfOk result (λ messages. messages ≡ initiator_sends code id content (words.Notified told)) }
+    ensures { (content : Option Terms)
+        → IfOk result (λ messages. messages ≡ initiator_sends code id content (words.Notified told)) }
 {
     if told != Status::Accepted {
         return Ok(Items::new(alloc));

@@ -15,7 +15,8 @@ pub(crate) fn open(
     transfers: &mut BTreeMap<TransactionId, Transfer>,
     id: TransactionId,
 ) -> Result<(), NoMemory>
-    ensures ok { OnOk result ((t : TransactionId) → tree.get id_cmp transfers.new t ≡ (if same_id id t then Some opened else tree.get id_cmp transfers.old t)) }
+    ensures ok { OnOk result ((t : TransactionId)
+        → tree.get id_cmp transfers.new t ≡ (if same_id id t then Some opened else tree.get id_cmp transfers.old t)) }
     ensures err { OnErr result (transfers.new.entries ≡ transfers.old.entries) }
 {
     let transfer = Transfer {
@@ -28,14 +29,18 @@ pub(crate) fn open(
 
 /// Takes the transfer out.
 pub(crate) fn forget(transfers: &mut BTreeMap<TransactionId, Transfer>, id: TransactionId)
-    ensures { (t : TransactionId) → tree.get id_cmp transfers.new t ≡ (if same_id id t then None else tree.get id_cmp transfers.old t) }
+    ensures { (t : TransactionId)
+        → tree.get id_cmp transfers.new t ≡ (if same_id id t then None else tree.get id_cmp transfers.old t) }
 {
     transfers.remove(&id);
 }
 
 /// The transfer's cancellation was asked for.
 pub(crate) fn ask(transfers: &mut BTreeMap<TransactionId, Transfer>, id: TransactionId)
-    ensures { (t : TransactionId) → tree.get id_cmp transfers.new t ≡ (if same_id id t then option_map asked (tree.get id_cmp transfers.old t) else tree.get id_cmp transfers.old t) }
+    ensures { (t : TransactionId)
+        → tree.get id_cmp transfers.new t
+        ≡ (if same_id id t then option_map asked
+        (tree.get id_cmp transfers.old t) else tree.get id_cmp transfers.old t) }
 {
     if let Some(transfer) = transfers.get_mut(&id) {
         transfer.cancellation = Cancellation::Asked;
@@ -48,7 +53,10 @@ pub(crate) fn settle(
     id: TransactionId,
     new: Status,
 )
-    ensures { (t : TransactionId) → tree.get id_cmp transfers.new t ≡ (if same_id id t then option_map (settled new) (tree.get id_cmp transfers.old t) else tree.get id_cmp transfers.old t) }
+    ensures { (t : TransactionId)
+        → tree.get id_cmp transfers.new t
+        ≡ (if same_id id t then option_map (settled new)
+        (tree.get id_cmp transfers.old t) else tree.get id_cmp transfers.old t) }
 {
     if let Some(transfer) = transfers.get_mut(&id) {
         transfer.status = new;

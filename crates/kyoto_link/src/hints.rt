@@ -2,9 +2,9 @@
 
 use crate::scheme_hints::tell_scheme;
 use crate::system_files::SystemFiles;
+use commands::command_faults::OpFault;
+use commands::operator::Action;
 use commands::{Archive, scheme_at};
-use inputs::OpFault;
-use operator::Action;
 use std::fs;
 use std::io::IsTerminal;
 

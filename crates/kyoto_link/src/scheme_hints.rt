@@ -1,6 +1,6 @@
 //! Where the fault of a scheme's file is, for who waits at a terminal.
 
-use scheme::Scheme;
+use protocol::scheme::Scheme;
 use serde_json::Value;
 use std::alloc::Global;
 use std::fs;

@@ -2,12 +2,12 @@
 
 use crate::watching::MigrationLine;
 use commands::Archive;
-use durable::SqlStore;
 use sqlite::File as StoreFile;
 use std::alloc::{AllocError, Global};
 use std::fs;
 use std::fs::File;
 use std::io::IsTerminal;
+use store_files::durable::SqlStore;
 use stores::StoreFault;
 use units::Node;
 

@@ -1,10 +1,10 @@
 //! How far long work has come, for who waits at a terminal.
 
 use commands::Progress;
+use commands::weave::Watch;
 use std::io::IsTerminal;
 use std::time::Instant;
 use units::Node;
-use weave::Watch;
 
 /// When a line of progress is due: once a second, where standard error is a terminal.
 #[derive(Drop)]
@@ -134,7 +134,7 @@ impl<'a> MigrationLine<'a> {
     }
 }
 
-impl<'a> durable::Watch for MigrationLine<'a> {
+impl<'a> store_files::durable::Watch for MigrationLine<'a> {
     fn migrated(&mut self, records: u64, count: u64) {
         if self.pace.is_due() {
             let _ = eprint!(self.pace.rt;
@@ -167,7 +167,7 @@ impl<'a> RunLine<'a> {
     }
 }
 
-impl<'a> runs::Watch for RunLine<'a> {
+impl<'a> commands::run::Watch for RunLine<'a> {
     fn answered(&mut self) {
         self.answered = self.answered.saturating_add(1);
         if self.answered >= self.count {

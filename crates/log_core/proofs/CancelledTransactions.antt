@@ -11,7 +11,7 @@ use Rattle.status.specs.declared.id.TransactionId.{TransactionId}
 use Rattle.status.specs.declared.moment.Moment.{Moment}
 use Rattle.status.specs.declared.status.Status.TheVariants.{Cancelled}
 use Rattle.checks.specs.declared.register.UnderWay.{UnderWay}
-use Rattle.lemmas.proofs.OneValue.{clash}
+use Rattle.units.proofs.Lists.OneValue.{clash}
 use Rattle.log_core.specs.Effects.{is_among}
 use Rattle.log_core.specs.Transfers.{came_at}
 use Rattle.log_core.specs.declared.transfer.Transfer.{Transfer}

@@ -28,11 +28,11 @@ use Rattle.scheme.specs.declared.registries.Scheme.{Scheme}
 use Rattle.protocol.specs.AtLog as log
 use Rattle.protocol.specs.History.{Entry, Transition, newest, transitions_of}
 use Rattle.protocol.specs.Verdict.{history}
-use Rattle.lemmas.proofs.Comparisons.{compared_then}
-use Rattle.lemmas.proofs.Membership.{In, In_cases, In_left, In_map, map_In}
-use Rattle.lemmas.proofs.OneValue.{clash, one_some}
-use Rattle.lemmas.proofs.Positions.{In_contains, contains_in}
-use Rattle.lemmas.proofs.SomePass.{list_any_in, list_any_some}
+use Rattle.units.proofs.Lists.Comparisons.{compared_then}
+use Rattle.units.proofs.Lists.Membership.{In, In_cases, In_left, In_map, map_In}
+use Rattle.units.proofs.Lists.OneValue.{clash, one_some}
+use Rattle.units.proofs.Lists.Positions.{In_contains, contains_in}
+use Rattle.units.proofs.Lists.SomePass.{list_any_in, list_any_some}
 use Rattle.safety.proofs.MovesAndHistories.LongerHistories.{made_history}
 use Rattle.safety.proofs.MovesAndHistories.NewestTransitions.{Made, newest_id}
 use Rattle.safety.proofs.MovesAndHistories.TableMoves.{LogMove, cancels, checks, forestalls, passes}

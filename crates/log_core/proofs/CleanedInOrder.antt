@@ -12,8 +12,8 @@ use Rattle.status.specs.Id.{id_cmp, same_id}
 use Rattle.status.specs.declared.id.TransactionId.{TransactionId}
 use Rattle.protocol.specs.AtLog.{by_id, newest_of_each, put_transition}
 use Rattle.protocol.specs.History.{Transition, newest}
-use Rattle.lemmas.proofs.Membership.{In, In_cond, In_filter, filter_In}
-use Rattle.lemmas.proofs.OneValue.{clash}
+use Rattle.units.proofs.Lists.Membership.{In, In_cond, In_filter, filter_In}
+use Rattle.units.proofs.Lists.OneValue.{clash}
 use Rattle.safety.proofs.OneRegistry.UnitsCountedOnce.{newest_cons}
 
 -- ---- the order of identifiers

@@ -28,8 +28,8 @@ use Rattle.protocol.specs.AtLog.{by_id, cleaned, due, is_old, newest_of_each}
 use Rattle.protocol.specs.Deciding.{content_in, known, moved, moved_by}
 use Rattle.protocol.specs.Effects.{log_sends}
 use Rattle.protocol.specs.History.{Entry, Transition, messages_of, newest, transitions_of}
-use Rattle.lemmas.proofs.Membership.{In, In_filter, In_flat_map, In_map, filter_In, map_In, In_left, In_right}
-use Rattle.lemmas.proofs.Positions.{In_contains, contains_in}
+use Rattle.units.proofs.Lists.Membership.{In, In_filter, In_flat_map, In_map, filter_In, map_In, In_left, In_right}
+use Rattle.units.proofs.Lists.Positions.{In_contains, contains_in}
 use Rattle.safety.proofs.ListLemmas.TestsOfSameness.{status_of_same}
 use Rattle.safety.proofs.MovesAndHistories.NewestTransitions.{Made, newest_id}
 use Rattle.safety.proofs.MovesAndHistories.TableMoves.{cleaned_made}

@@ -10,7 +10,7 @@ use Rattle.protocol.specs.AtLog as log
 use Rattle.protocol.specs.Deciding.{IsRepeat, recorded_if_room}
 use Rattle.protocol.specs.History.{Entry, Transition, transitions_of}
 use Rattle.protocol.specs.Verdict.{history, verdict}
-use Rattle.lemmas.proofs.Membership.{In, In_map}
+use Rattle.units.proofs.Lists.Membership.{In, In_map}
 use Rattle.safety.proofs.MovesAndHistories.LongerHistories.{made_history}
 use Rattle.safety.proofs.MovesAndHistories.NewestTransitions.{Made}
 use Rattle.log_core.specs.Effects.{IsEffect, transfer_state_in}

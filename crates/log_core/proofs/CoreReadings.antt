@@ -27,12 +27,12 @@ use Rattle.outbox.proofs.OutgoingRecords.{acknowledged_outgoing, messages_outgoi
 use Rattle.safety.proofs.MovesAndHistories.LongerHistories.{made_history}
 use Rattle.safety.proofs.OneLog.OwnersInLog.{IsBusy, ends_stay}
 use Rattle.log_core.specs.Kept.{IsKept}
-use Rattle.log_core.specs.Log.{IsUnderWayWith, Log, moves, past}
+use Rattle.log_core.specs.Log.{IsUnderWayWith, LogCoreView, moves, past}
 use Rattle.log_core.specs.Readings.{under_way}
 use Rattle.log_core.specs.declared.tables.Tables.{Tables}
 use Rattle.log_core.proofs.KnownUnderWay.{busy_under_way, under_way_busy}
 
-abbrev pub seen : Scheme → Tables → Log
+abbrev pub seen : Scheme → Tables → LogCoreView
 seen scheme tables = record { scheme = scheme; journal = tables.journal.items }
 
 busy_from : (s : Status) → IsUnderWay s → IsBusy s
@@ -48,11 +48,11 @@ busy_to Terminated h = absurd h
 busy_to Cancelled h = absurd h
 busy_to Completed h = absurd h
 
-module _ (scheme : Scheme) (tables : Tables) (kept : IsKept scheme tables) (l : Log) (is : seen scheme tables ≡ l) where
+module _ (scheme : Scheme) (tables : Tables) (kept : IsKept scheme tables) (l : LogCoreView) (is : seen scheme tables ≡ l) where
   -- ---- its messages
 
   pub messages_so : sending.messages tables.outbox ≡ sends (past l)
-  messages_so = ap sending.messages kept.kept.sent ∙ messages_outgoing scheme Itl tables.journal.items ∙ ap (λ (q : Log). sends (past q)) is
+  messages_so = ap sending.messages kept.kept.sent ∙ messages_outgoing scheme Itl tables.journal.items ∙ ap (λ (q : LogCoreView). sends (past q)) is
 
   pub message_so : (key : ℕ) → slice_get (sending.messages tables.outbox) key ≡ slice_get (sends (past l)) key
   message_so key = ap (λ (ms : List Message). slice_get ms key) messages_so
@@ -64,14 +64,14 @@ module _ (scheme : Scheme) (tables : Tables) (kept : IsKept scheme tables) (l : 
   acknowledged_so key =
       ap (λ (o : List Sent). sending.is_key_acknowledged o key) kept.kept.sent
       ∙ acknowledged_outgoing (past (seen scheme tables)) key
-      ∙ ap (λ (q : Log). history.is_acknowledged (past q) key) is
+      ∙ ap (λ (q : LogCoreView). history.is_acknowledged (past q) key) is
 
   pub sent_by_so : (count : ℕ) → length (sending.messages (take count tables.outbox)) ≡ length (sends (verdicts.history l.scheme Itl (take count l.journal)))
   sent_by_so count =
       ap (λ (o : List Sent). length (sending.messages (take count o))) kept.kept.sent
       ∙ ap (λ (o : List Sent). length (sending.messages o)) (outgoing_take scheme Itl count tables.journal.items)
       ∙ ap length (messages_outgoing scheme Itl (take count tables.journal.items))
-      ∙ ap (λ (q : Log). length (sends (verdicts.history q.scheme Itl (take count q.journal)))) is
+      ∙ ap (λ (q : LogCoreView). length (sends (verdicts.history q.scheme Itl (take count q.journal)))) is
 
   pub least_so : (peer : Node) (from : ℕ) (key : Option ℕ) → IsLeastFrom (awaits (sending.messages tables.outbox) (sending.is_key_acknowledged tables.outbox) peer) from key
       → IsLeastFrom (awaits (sends (past l)) (history.is_acknowledged (past l)) peer) from key
@@ -80,7 +80,7 @@ module _ (scheme : Scheme) (tables : Tables) (kept : IsKept scheme tables) (l : 
   -- ---- the transfer that a unit is in
 
   under_way_so : (s : Serial) → map.get tables.register.under_way s ≡ under_way (moves l) s
-  under_way_so s = kept.kept.under_way s ∙ ap (λ (q : Log). under_way (moves q) s) is
+  under_way_so s = kept.kept.under_way s ∙ ap (λ (q : LogCoreView). under_way (moves q) s) is
 
   pub transfer_is : (s : Serial) (u : UnderWay) → map.get tables.register.under_way s ≡ Some u → IsUnderWayWith l s u.id
   transfer_is s u e =
@@ -99,8 +99,8 @@ ended_stays scheme journal input (Ok stepped.Repeat) t s end h = h
 ended_stays scheme journal input (Ok stepped.Late) t s end h = h
 ended_stays scheme journal input (Err refusal) t s end h = h
 
-pub ends_after : (scheme : Scheme) (tables tables' : Tables) (l : Log) → seen scheme tables ≡ l → (input : Input) (result : Result Stepped Refusal) → tables'.journal.items ≡ after tables.journal.items input result
+pub ends_after : (scheme : Scheme) (tables tables' : Tables) (l : LogCoreView) → seen scheme tables ≡ l → (input : Input) (result : Result Stepped Refusal) → tables'.journal.items ≡ after tables.journal.items input result
     → (t : TransactionId) (s : Status) → IsEnd s → stands (moves l) t ≡ Some s → stands (moves (seen scheme tables')) t ≡ Some s
 ends_after scheme tables tables' l is input result journal t s end h =
     ap (λ j. stands (transitions_of (verdicts.history scheme Itl j)) t) journal
-    ∙ ended_stays scheme tables.journal.items input result t s end (ap (λ (q : Log). stands (moves q) t) is ∙ h)
+    ∙ ended_stays scheme tables.journal.items input result t s end (ap (λ (q : LogCoreView). stands (moves q) t) is ∙ h)

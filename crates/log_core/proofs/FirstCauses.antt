@@ -3,7 +3,7 @@ use Rattle.std.proofs.Common.{Bool, None, Some, [], ap, cond, false, refl, true,
 use Rattle.protocol.specs.Checks.{Causes}
 use Rattle.protocol.specs.Deciding.{IsRefused, Verdict, refuse}
 use Rattle.checks.specs.Refusing.{first_of}
-use Rattle.lemmas.proofs.OneValue.{one_some}
+use Rattle.units.proofs.Lists.OneValue.{one_some}
 
 pub refuse_first : (cs : Causes) (v : Verdict) (n : ℕ) → first_of cs ≡ Some n → refuse cs v ≡ IsRefused n
 refuse_first [] v n h = absurd (cc (h))

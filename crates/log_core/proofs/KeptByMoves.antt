@@ -32,7 +32,7 @@ use Rattle.protocol.specs.History.{Entry, Transition, allows, has_serial, messag
 use Rattle.protocol.specs.Verdict.{history, transitions_made}
 use Rattle.outbox.specs.Outgoing.{did, outgoing}
 use Rattle.outbox.specs.Sending.{Sends, Sent}
-use Rattle.lemmas.proofs.Membership.{In, map_In}
+use Rattle.units.proofs.Lists.Membership.{In, map_In}
 use Rattle.safety.proofs.ListLemmas.TestsOfSameness.{status_of_same}
 use Rattle.safety.proofs.MovesAndHistories.LongerHistories.{made_history}
 use Rattle.safety.proofs.MovesAndHistories.NewestTransitions.{Made, made_log}

@@ -10,7 +10,7 @@ use Rattle.status.specs.declared.id.TransactionId.{TransactionId}
 use Rattle.status.specs.declared.status.Status.{Status}
 use Rattle.status.specs.declared.status.Status.TheVariants.{Checked}
 use Rattle.protocol.specs.History.{Transition, newest}
-use Rattle.lemmas.proofs.Membership.{In}
+use Rattle.units.proofs.Lists.Membership.{In}
 use Rattle.safety.proofs.MovesAndHistories.NewestTransitions.{newest_append, newest_in}
 use Rattle.log_core.specs.Effects.{came_to}
 use Rattle.log_core.specs.Readings.{TransferState, is_checked_since, of_transition}

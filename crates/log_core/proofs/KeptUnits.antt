@@ -18,8 +18,8 @@ use Rattle.scheme.specs.declared.registries.Scheme.{Scheme}
 use Rattle.checks.specs.declared.register.Owner.{Owner}
 use Rattle.checks.specs.declared.register.UnderWay.{UnderWay}
 use Rattle.protocol.specs.History.{Entry, Transition, book_owner, carries, has_serial, newest, transitions_of}
-use Rattle.lemmas.proofs.Membership.{In}
-use Rattle.lemmas.proofs.OneValue.{clash, one_some}
+use Rattle.units.proofs.Lists.Membership.{In}
+use Rattle.units.proofs.Lists.OneValue.{clash, one_some}
 use Rattle.safety.proofs.MovesAndHistories.NewestTransitions.{Made}
 use Rattle.safety.proofs.OneLog.OwnersInLog.{Busy, IsBusy}
 use Rattle.safety.proofs.OneRegistry.UnitsCountedOnce.{newest_cons}

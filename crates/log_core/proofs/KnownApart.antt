@@ -17,8 +17,8 @@ use Rattle.protocol.specs.Deciding.{IsRecorded}
 use Rattle.protocol.specs.History.{Entry, Transition, newest, transitions_of}
 use Rattle.protocol.specs.Pieces.{pieces, repeats}
 use Rattle.protocol.specs.Verdict.{history, transitions_made}
-use Rattle.lemmas.proofs.Membership.{In}
-use Rattle.lemmas.proofs.OneValue.{one_some}
+use Rattle.units.proofs.Lists.Membership.{In}
+use Rattle.units.proofs.Lists.OneValue.{one_some}
 use Rattle.safety.proofs.ListLemmas.TestsOfSameness.{status_of_same}
 use Rattle.safety.proofs.MovesAndHistories.LongerHistories.{made_history}
 use Rattle.safety.proofs.MovesAndHistories.NewestTransitions.{Made, made_log, newest_id}

@@ -8,8 +8,8 @@ use Rattle.wire.specs.declared.message.Message.TheVariants as message
 use Rattle.units.specs.declared.code.Node.TheVariants.{Itl}
 use Rattle.scheme.specs.declared.registries.Scheme.{Scheme}
 use Rattle.protocol.specs.History.{Entry, Transition, newest, transitions_of}
-use Rattle.lemmas.proofs.Membership.{In, In_cases}
-use Rattle.lemmas.proofs.OneValue.{one_some}
+use Rattle.units.proofs.Lists.Membership.{In, In_cases}
+use Rattle.units.proofs.Lists.OneValue.{one_some}
 use Rattle.safety.proofs.MovesAndHistories.NewestTransitions.{Made, made_log, newest_append, newest_id, newest_in}
 use Rattle.safety.proofs.MovesAndHistories.TableMoves.{LogMove, cancels, checks, forestalls, newest_some, passes}
 

@@ -10,9 +10,9 @@ use Rattle.status.specs.declared.status.Status.TheVariants.{Accepted, Cancelled,
 use Rattle.wire.specs.declared.input.Input.{Input}
 use Rattle.scheme.specs.declared.registries.Scheme.{Scheme}
 use Rattle.protocol.specs.History.{Entry, Transition, newest, transitions_of}
-use Rattle.lemmas.proofs.Membership.{In, In_map, map_In}
-use Rattle.lemmas.proofs.OneValue.{clash}
-use Rattle.lemmas.proofs.SomePass.{list_any_in, list_any_some}
+use Rattle.units.proofs.Lists.Membership.{In, In_map, map_In}
+use Rattle.units.proofs.Lists.OneValue.{clash}
+use Rattle.units.proofs.Lists.SomePass.{list_any_in, list_any_some}
 use Rattle.safety.proofs.MovesAndHistories.NewestTransitions.{newest_id}
 use Rattle.safety.proofs.MovesAndHistories.TableMoves.{LogMove, cancels, checks, forestalls, passes}
 use Rattle.safety.proofs.MovesAndHistories.TransitionForms.{checked_status}

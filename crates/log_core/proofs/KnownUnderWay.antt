@@ -13,8 +13,8 @@ use Rattle.status.specs.declared.status.Status.TheVariants.{Accepted, Cancelled,
 use Rattle.scheme.specs.declared.registries.Scheme.{Scheme}
 use Rattle.checks.specs.declared.register.UnderWay.{UnderWay}
 use Rattle.protocol.specs.History.{Entry, Transition, carries, has_serial, is_status, newest, transitions_of}
-use Rattle.lemmas.proofs.Membership.{In, In_find}
-use Rattle.lemmas.proofs.SomePass.{list_any_in}
+use Rattle.units.proofs.Lists.Membership.{In, In_find}
+use Rattle.units.proofs.Lists.SomePass.{list_any_in}
 use Rattle.safety.proofs.MovesAndHistories.NewestTransitions.{Made, newest_id}
 use Rattle.safety.proofs.MovesAndHistories.TableMoves.{newest_some}
 use Rattle.safety.proofs.OneLog.OwnersInLog.{Busy, IsBusy, in_book}

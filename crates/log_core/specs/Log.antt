@@ -9,18 +9,18 @@ use Rattle.protocol.specs.Claims.{IsUnderWay}
 use Rattle.protocol.specs.History.{Entry, Transition, carries, newest, transitions_of}
 use Rattle.protocol.specs.Verdict.{history}
 
-pub record Log : Type 0 where
+pub record LogCoreView : Type 0 where
   pub scheme : Scheme
   -- the inputs that it recorded, the oldest first
   pub journal : List Input
 
 -- the history of its journal, and the transitions of that
-abbrev pub past : Log → List Entry
+abbrev pub past : LogCoreView → List Entry
 past l = history l.scheme Itl l.journal
 
-abbrev pub moves : Log → List Transition
+abbrev pub moves : LogCoreView → List Transition
 moves l = transitions_of (past l)
 
 -- the transfer stands Checked or Accepted, and has the unit
-abbrev pub IsUnderWayWith : Log → Serial → TransactionId → Type 0
+abbrev pub IsUnderWayWith : LogCoreView → Serial → TransactionId → Type 0
 IsUnderWayWith l s t = (x : Transition) × (newest (moves l) t ≡ Some x) × IsUnderWay x.new × (carries x s ≡ true)

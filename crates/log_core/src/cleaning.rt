@@ -54,7 +54,8 @@ fn due(
     checked: &BTreeSet<Waiting>,
     moment: Moment,
 ) -> Result<Vec<TransactionId>, NoMemory>
-    ensures aged { IfOk result (λ ids. (held : List declared_id.TransactionId) × AreAged moment.seconds checked.now.keys held × IsPermutation held ids.items) }
+    ensures aged { IfOk result (λ ids. (held : List declared_id.TransactionId)
+        × AreAged moment.seconds checked.now.keys held × IsPermutation held ids.items) }
     ensures sorted { IfOk result (λ ids. IsSorted id_cmp ids.items) }
     ensures ordered { IsOrdered waiting_cmp checked.now }
 {
@@ -69,7 +70,8 @@ fn cancellations(
     transfers: &BTreeMap<TransactionId, Transfer>,
     ids: &[TransactionId],
 ) -> Result<Items<Message>, NoMemory>
-    ensures { IfOk result (λ messages. messages ≡ flat_map (λ t. log_sends t (transfer_state_content (transfer_state_of transfers.now t)) [] column.CleanUp) ids.now) }
+    ensures { IfOk result (λ messages. messages ≡ flat_map (λ t. log_sends t (transfer_state_content
+        (transfer_state_of transfers.now t)) [] column.CleanUp) ids.now) }
 {
     let mut messages = Vec::new(alloc);
     for id in ids {

@@ -56,7 +56,13 @@ impl Tables {
         id: TransactionId,
         proposed: &Content,
     ) -> Result<Decision, Refusal>
-        ensures { (known_so : Ledger) (found : List ℕ) → Registers scheme.now self.now.register known_so → found ≡ log_findings scheme.now known_so id.code proposed.now → IsDueOrNoMemory result (decided (log_row (known_transfer_state (transfer_state_in self.now id)) (column_of_proposal (transfer_state_content (transfer_state_in self.now id)) found)) (log_sends id (Some proposed.now) found (column_of_proposal (transfer_state_content (transfer_state_in self.now id)) found))) }
+        ensures { (known_so : Ledger) (found : List ℕ) → Registers scheme.now self.now.register known_so
+            → found ≡ log_findings scheme.now known_so id.code proposed.now
+            → IsDueOrNoMemory result
+            (decided (log_row (known_transfer_state (transfer_state_in self.now id))
+            (column_of_proposal (transfer_state_content (transfer_state_in self.now id)) found))
+            (log_sends id (Some proposed.now) found
+            (column_of_proposal (transfer_state_content (transfer_state_in self.now id)) found))) }
     {
         if content(&self.transfers, id).is_some() {
             return self.on_equal_proposal(alloc, id);
@@ -79,7 +85,8 @@ impl Tables {
 
     /// What the table says to a proposal equal to the one that is recorded.
     fn on_equal_proposal(&self, alloc: Global, id: TransactionId) -> Result<Decision, Refusal>
-        ensures { result ≡ decided (log_row (known_transfer_state (transfer_state_in self.now id)) column.EqualProposal) [] }
+        ensures { result ≡ decided
+            (log_row (known_transfer_state (transfer_state_in self.now id)) column.EqualProposal) [] }
     {
         match row(
             Role::Itl,
@@ -104,7 +111,11 @@ impl Tables {
         id: TransactionId,
         notified: &NotifiedStatus,
     ) -> Result<Decision, Refusal>
-        ensures { IsDueOrNoMemory result (decided (log_row (known_transfer_state (transfer_state_in self.now id)) (column.Notified (notified_status notified.now))) (log_sends id (transfer_state_content (transfer_state_in self.now id)) (notified_codes notified.now) (column.Notified (notified_status notified.now)))) }
+        ensures { IsDueOrNoMemory result
+            (decided (log_row (known_transfer_state (transfer_state_in self.now id))
+            (column.Notified (notified_status notified.now)))
+            (log_sends id (transfer_state_content (transfer_state_in self.now id)) (notified_codes notified.now)
+            (column.Notified (notified_status notified.now)))) }
     {
         match row(
             Role::Itl,
@@ -123,7 +134,9 @@ impl Tables {
 
     /// What the table says to a request. Fails with `NO_ROW` where the table has no such row, and with `OUT_OF_MEMORY`.
     pub(crate) fn on_request(&self, alloc: Global, id: TransactionId) -> Result<Decision, Refusal>
-        ensures { IsDueOrNoMemory result (decided (log_row (known_transfer_state (transfer_state_in self.now id)) column.Request) (log_sends id (transfer_state_content (transfer_state_in self.now id)) [] column.Request)) }
+        ensures { IsDueOrNoMemory result
+            (decided (log_row (known_transfer_state (transfer_state_in self.now id)) column.Request)
+            (log_sends id (transfer_state_content (transfer_state_in self.now id)) [] column.Request)) }
     {
         match row(Role::Itl, known(&self.transfers, id), RowInput::Request) {
             Row::Move(new) => {

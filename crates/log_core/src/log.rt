@@ -35,9 +35,9 @@ impl Model for LogCore {
     ghost use Rattle.std.specs.Coded.{codes};
     ghost use Rattle.scheme.specs.contracts.registries.Scheme as kept_scheme;
     ghost use Rattle.log_core.specs.Kept.{IsKept};
-    ghost use Rattle.log_core.specs.Log.{Log};
+    ghost use Rattle.log_core.specs.Log.{LogCoreView};
 
-    ghost Value = { Log };
+    ghost Value = { LogCoreView };
 
     ghost coded = { Prim.hlevel (codes, kept_scheme.the_row.coded) };
 
@@ -72,7 +72,8 @@ impl LogCore {
     pub fn pieces(&self) -> &BTreeMap<Unit, Span<Owner>>
         ensures kept { AreKept (intervals_of result.now.entries) }
         ensures joined { AreCanonical (λ _. 0) (intervals_of result.now.entries) }
-        ensures means { (u : Serial) → label_at (intervals_of result.now.entries) u ≡ owner self.now.scheme (moves self.now) u }
+        ensures means { (u : Serial)
+            → label_at (intervals_of result.now.entries) u ≡ owner self.now.scheme (moves self.now) u }
     {
         self.tables.register.book.pieces()
     }
@@ -123,8 +124,11 @@ impl NodeCore for LogCore {
         ensures answer { IsDueOrNoMemory result (answer self.old.scheme Itl self.old.journal input.now) }
         ensures journal { self.new.journal ≡ after self.old.journal input.now result }
         ensures scheme { self.new.scheme ≡ self.old.scheme }
-        ensures owned { (xs : List Transition) → verdict self.old.scheme Itl (past self.old) input.now ≡ IsRecorded xs → (x : Transition) → Contains xs x → x.new ≡ words.Completed → (s : Serial) → carries x s ≡ true → book_owner self.old.scheme (moves self.old) s ≡ Some x.id.code }
-        ensures ends_stay { (t : declared_id.TransactionId) (s : words_type.Status) → IsEnd s → stands (moves self.old) t ≡ Some s → stands (moves self.new) t ≡ Some s }
+        ensures owned { (xs : List Transition) → verdict self.old.scheme Itl (past self.old) input.now ≡ IsRecorded xs
+            → (x : Transition) → Contains xs x → x.new ≡ words.Completed → (s : Serial) → carries x s ≡ true
+            → book_owner self.old.scheme (moves self.old) s ≡ Some x.id.code }
+        ensures ends_stay { (t : declared_id.TransactionId) (s : words_type.Status) → IsEnd s
+            → stands (moves self.old) t ≡ Some s → stands (moves self.new) t ≡ Some s }
     {
         self.tables.take(self.alloc, &self.scheme, input)
     }

@@ -41,7 +41,8 @@ pub(crate) fn on_proposal(
     content: &Content,
     found: Option<LogCodes>,
 ) -> Result<Items<Message>, NoMemory>
-    ensures { IfOk result (λ messages. messages ≡ log_sends id (Some content.now) (codes_in found) (column_of_proposal None (codes_in found))) }
+    ensures { IfOk result (λ messages. messages ≡ log_sends id (Some content.now) (codes_in found)
+        (column_of_proposal None (codes_in found))) }
 {
     if let Some(codes) = found {
         return one(
@@ -66,7 +67,8 @@ pub(crate) fn on_notified(
     content: Option<&Content>,
     notified: &NotifiedStatus,
 ) -> Result<Items<Message>, NoMemory>
-    ensures { IfOk result (λ messages. messages ≡ log_sends id (option_copied content.entry) (notified_codes notified.now) (column.Notified (notified_status notified.now))) }
+    ensures { IfOk result (λ messages. messages ≡ log_sends id (option_copied content.entry)
+        (notified_codes notified.now) (column.Notified (notified_status notified.now))) }
 {
     match (notified, content) {
         (NotifiedStatus::Accepted, _) => one(
@@ -91,7 +93,8 @@ pub(crate) fn push_cancelled(
     id: TransactionId,
     content: Option<&Content>,
 ) -> Result<(), NoMemory>
-    ensures { OnOk result (messages.new.items ≡ messages.old.items ++ log_sends id (option_copied content.entry) [] column.CleanUp) }
+    ensures { OnOk result (messages.new.items ≡ messages.old.items ++ log_sends id (option_copied content.entry)
+        [] column.CleanUp) }
 {
     messages.push(notification(id.code, id, NotifiedStatus::Cancelled))?;
     if let Some(content) = content {

@@ -32,10 +32,16 @@ fn start(
     place: Waiting,
 ) -> Result<(), NoMemory>
     requires apart { IsApart (option_copied content) }
-    requires absent { (w : declared.Waiting) → is_waiting_place w place ≡ true → contains waiting_cmp checked.old w ≡ false }
-    ensures units { OnOk result ((s : Serial) → map.get under_way.new s ≡ (if has_serial (option_copied content.entry) s then Some (record { id = place.id }) else map.get under_way.old s)) }
-    ensures waits { OnOk result ((w : declared.Waiting) → contains waiting_cmp checked.new w ≡ (contains waiting_cmp checked.old w || is_waiting_place w place)) }
-    ensures err { OnErr result ((under_way.new ≡ under_way.old) × ((w : declared.Waiting) → contains waiting_cmp checked.new w ≡ contains waiting_cmp checked.old w)) }
+    requires absent { (w : declared.Waiting) → is_waiting_place w place ≡ true
+        → contains waiting_cmp checked.old w ≡ false }
+    ensures units { OnOk result ((s : Serial)
+        → map.get under_way.new s
+        ≡ (if has_serial (option_copied content.entry) s then Some
+        (record { id = place.id }) else map.get under_way.old s)) }
+    ensures waits { OnOk result ((w : declared.Waiting)
+        → contains waiting_cmp checked.new w ≡ (contains waiting_cmp checked.old w || is_waiting_place w place)) }
+    ensures err { OnErr result ((under_way.new ≡ under_way.old)
+        × ((w : declared.Waiting) → contains waiting_cmp checked.new w ≡ contains waiting_cmp checked.old w)) }
 {
     remember(checked, place)?;
     if let Err(refused) = register::begin(under_way, content, place.id) {
@@ -57,10 +63,20 @@ pub(crate) fn begin(
     requires absent { tree.get id_cmp transfers.old id ≡ None }
     requires waiting { AreWaiting transfers.old checked.old }
     requires apart { same_status transfer.status words.Checked ≡ true → IsApart transfer.content }
-    ensures transfers { OnOk result ((t : declared_id.TransactionId) → tree.get id_cmp transfers.new t ≡ (if same_id id t then Some transfer else tree.get id_cmp transfers.old t)) }
-    ensures units { OnOk result ((s : Serial) → map.get under_way.new s ≡ (if same_status transfer.status words.Checked && has_serial transfer.content s then Some (record { id = id }) else map.get under_way.old s)) }
-    ensures waits { OnOk result ((w : declared.Waiting) → contains waiting_cmp checked.new w ≡ (contains waiting_cmp checked.old w || (same_status transfer.status words.Checked && is_waiting_place w (record { since = transfer.since; id = id })))) }
-    ensures err { OnErr result ((under_way.new ≡ under_way.old) × ((t : declared_id.TransactionId) → tree.get id_cmp transfers.new t ≡ tree.get id_cmp transfers.old t) × ((w : declared.Waiting) → contains waiting_cmp checked.new w ≡ contains waiting_cmp checked.old w)) }
+    ensures transfers { OnOk result ((t : declared_id.TransactionId)
+        → tree.get id_cmp transfers.new t ≡ (if same_id id t then Some transfer else tree.get id_cmp transfers.old t)) }
+    ensures units { OnOk result ((s : Serial)
+        → map.get under_way.new s
+        ≡ (if same_status transfer.status words.Checked && has_serial transfer.content s then Some
+        (record { id = id }) else map.get under_way.old s)) }
+    ensures waits { OnOk result ((w : declared.Waiting)
+        → contains waiting_cmp checked.new w
+        ≡ (contains waiting_cmp checked.old w ||
+        (same_status transfer.status words.Checked && is_waiting_place w
+        (record { since = transfer.since; id = id })))) }
+    ensures err { OnErr result ((under_way.new ≡ under_way.old)
+        × ((t : declared_id.TransactionId) → tree.get id_cmp transfers.new t ≡ tree.get id_cmp transfers.old t)
+        × ((w : declared.Waiting) → contains waiting_cmp checked.new w ≡ contains waiting_cmp checked.old w)) }
 {
     let (status, since) = (transfer.status, transfer.since);
     put(transfers, id, transfer)?;
@@ -82,7 +98,8 @@ fn stop_waiting(
     id: TransactionId,
 )
     requires { AreWaiting transfers.now checked.old }
-    ensures { (w : declared.Waiting) → contains waiting_cmp checked.new w ≡ (not (same_id id w.id) && contains waiting_cmp checked.old w) }
+    ensures { (w : declared.Waiting)
+        → contains waiting_cmp checked.new w ≡ (not (same_id id w.id) && contains waiting_cmp checked.old w) }
 {
     if let Some(transfer) = transfers.get(&id) {
         let since = transfer.since;
@@ -100,8 +117,12 @@ fn leave(
 )
     requires over { same_status new words.Checked ≡ false }
     requires waiting { AreWaiting transfers.old checked.old }
-    ensures transfers { (t : declared_id.TransactionId) → tree.get id_cmp transfers.new t ≡ (if same_id id t then option_map (came_at new moment) (tree.get id_cmp transfers.old t) else tree.get id_cmp transfers.old t) }
-    ensures waits { (w : declared.Waiting) → contains waiting_cmp checked.new w ≡ (not (same_id id w.id) && contains waiting_cmp checked.old w) }
+    ensures transfers { (t : declared_id.TransactionId)
+        → tree.get id_cmp transfers.new t
+        ≡ (if same_id id t then option_map (came_at new moment)
+        (tree.get id_cmp transfers.old t) else tree.get id_cmp transfers.old t) }
+    ensures waits { (w : declared.Waiting)
+        → contains waiting_cmp checked.new w ≡ (not (same_id id w.id) && contains waiting_cmp checked.old w) }
     ensures waiting { AreWaiting transfers.new checked.new }
 {
     stop_waiting(transfers, checked, id);
@@ -120,9 +141,14 @@ fn finish(
     requires over { same_status new words.Checked ≡ false }
     requires waiting { AreWaiting transfers.old checked.old }
     requires labelled { AreLabelled transfers.old under_way.old }
-    ensures transfers { (t : declared_id.TransactionId) → tree.get id_cmp transfers.new t ≡ (if same_id id t then option_map (came_at new moment) (tree.get id_cmp transfers.old t) else tree.get id_cmp transfers.old t) }
-    ensures units { (s : Serial) → map.get under_way.new s ≡ labels_that (λ u. not (same_id u.id id)) (map.get under_way.old s) }
-    ensures waits { (w : declared.Waiting) → contains waiting_cmp checked.new w ≡ (not (same_id id w.id) && contains waiting_cmp checked.old w) }
+    ensures transfers { (t : declared_id.TransactionId)
+        → tree.get id_cmp transfers.new t
+        ≡ (if same_id id t then option_map (came_at new moment)
+        (tree.get id_cmp transfers.old t) else tree.get id_cmp transfers.old t) }
+    ensures units { (s : Serial)
+        → map.get under_way.new s ≡ labels_that (λ u. not (same_id u.id id)) (map.get under_way.old s) }
+    ensures waits { (w : declared.Waiting)
+        → contains waiting_cmp checked.new w ≡ (not (same_id id w.id) && contains waiting_cmp checked.old w) }
     ensures waiting { AreWaiting transfers.new checked.new }
     ensures labelled { AreLabelled transfers.new under_way.new }
 {
@@ -142,14 +168,25 @@ pub(crate) fn settle(
     moment: Moment,
 ) -> Result<(), NoMemory>
     requires over { same_status new words.Checked ≡ false }
-    requires apart { same_status new words.Completed ≡ true → IsApart (transfer_state_content (transfer_state_of transfers.old id)) }
+    requires apart { same_status new words.Completed ≡ true
+        → IsApart (transfer_state_content (transfer_state_of transfers.old id)) }
     requires waiting { AreWaiting transfers.old checked.old }
     requires labelled { AreLabelled transfers.old under_way.old }
-    ensures book { OnOk result ((s : Serial) → map.get book.new s ≡ (if same_status new words.Completed then handed_over (transfer_state_content (transfer_state_of transfers.old id)) s (map.get book.old s) else map.get book.old s)) }
-    ensures transfers { OnOk result ((t : declared_id.TransactionId) → tree.get id_cmp transfers.new t ≡ (if same_id id t then option_map (came_at new moment) (tree.get id_cmp transfers.old t) else tree.get id_cmp transfers.old t)) }
-    ensures units { OnOk result ((s : Serial) → map.get under_way.new s ≡ (if same_status new words.Accepted then map.get under_way.old s else labels_that (λ u. not (same_id u.id id)) (map.get under_way.old s))) }
-    ensures waits { OnOk result ((w : declared.Waiting) → contains waiting_cmp checked.new w ≡ (not (same_id id w.id) && contains waiting_cmp checked.old w)) }
-    ensures err { OnErr result ((book.new ≡ book.old) × (under_way.new ≡ under_way.old) × (transfers.new ≡ transfers.old) × (checked.new ≡ checked.old)) }
+    ensures book { OnOk result ((s : Serial)
+        → map.get book.new s ≡ (if same_status new words.Completed then handed_over (transfer_state_content
+        (transfer_state_of transfers.old id)) s (map.get book.old s) else map.get book.old s)) }
+    ensures transfers { OnOk result ((t : declared_id.TransactionId)
+        → tree.get id_cmp transfers.new t
+        ≡ (if same_id id t then option_map (came_at new moment)
+        (tree.get id_cmp transfers.old t) else tree.get id_cmp transfers.old t)) }
+    ensures units { OnOk result ((s : Serial)
+        → map.get under_way.new s
+        ≡ (if same_status new words.Accepted then map.get under_way.old s else labels_that (λ u. not (same_id u.id id))
+        (map.get under_way.old s))) }
+    ensures waits { OnOk result ((w : declared.Waiting)
+        → contains waiting_cmp checked.new w ≡ (not (same_id id w.id) && contains waiting_cmp checked.old w)) }
+    ensures err { OnErr result ((book.new ≡ book.old) × (under_way.new ≡ under_way.old)
+        × (transfers.new ≡ transfers.old) × (checked.new ≡ checked.old)) }
 {
     if new == Status::Completed {
         register::hand_over(book, content(transfers, id))?;
@@ -172,9 +209,14 @@ pub(crate) fn cancel(
 )
     requires waiting { AreWaiting transfers.old checked.old }
     requires labelled { AreLabelled transfers.old under_way.old }
-    ensures transfers { (t : declared_id.TransactionId) → tree.get id_cmp transfers.new t ≡ (if is_among ids.now t then option_map (came_at words.Cancelled moment) (tree.get id_cmp transfers.old t) else tree.get id_cmp transfers.old t) }
-    ensures units { (s : Serial) → map.get under_way.new s ≡ labels_that (λ u. not (is_among ids.now u.id)) (map.get under_way.old s) }
-    ensures waits { (w : declared.Waiting) → contains waiting_cmp checked.new w ≡ (not (is_among ids.now w.id) && contains waiting_cmp checked.old w) }
+    ensures transfers { (t : declared_id.TransactionId)
+        → tree.get id_cmp transfers.new t
+        ≡ (if is_among ids.now t then option_map (came_at words.Cancelled moment)
+        (tree.get id_cmp transfers.old t) else tree.get id_cmp transfers.old t) }
+    ensures units { (s : Serial)
+        → map.get under_way.new s ≡ labels_that (λ u. not (is_among ids.now u.id)) (map.get under_way.old s) }
+    ensures waits { (w : declared.Waiting)
+        → contains waiting_cmp checked.new w ≡ (not (is_among ids.now w.id) && contains waiting_cmp checked.old w) }
 {
     for id in ids {
         finish(

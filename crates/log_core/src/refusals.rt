@@ -65,7 +65,9 @@ fn has_other(
     id: TransactionId,
     other: &Content,
 ) -> bool
-    ensures { (es : List Entry) → transfer_state_of transfers.now id ≡ option_map of_transition (newest (transitions_of es) id) → result ≡ deciding.has_other (newest (transitions_of es) id) other.now }
+    ensures { (es : List Entry)
+        → transfer_state_of transfers.now id ≡ option_map of_transition (newest (transitions_of es) id)
+        → result ≡ deciding.has_other (newest (transitions_of es) id) other.now }
 {
     match content(transfers, id) {
         Some(recorded) => !recorded.same(other),
@@ -75,7 +77,9 @@ fn has_other(
 
 /// Whether a record is about the transaction.
 fn is_known(transfers: &BTreeMap<TransactionId, Transfer>, id: TransactionId) -> bool
-    ensures { (es : List Entry) → transfer_state_of transfers.now id ≡ option_map of_transition (newest (transitions_of es) id) → result ≡ history.is_known (transitions_of es) id }
+    ensures { (es : List Entry)
+        → transfer_state_of transfers.now id ≡ option_map of_transition (newest (transitions_of es) id)
+        → result ≡ history.is_known (transitions_of es) id }
 {
     status(transfers, id).is_some()
 }
@@ -107,7 +111,9 @@ pub(crate) fn proposal_refusal(
     transfers: &BTreeMap<TransactionId, Transfer>,
     proposal: &Proposal,
 ) -> Option<u16>
-    ensures { (es : List Entry) → ((t : Id) → transfer_state_of transfers.now t ≡ option_map of_transition (newest (transitions_of es) t)) → result ≡ first_of (log_refusals scheme.now es (messages.Proposal proposal.now)) }
+    ensures { (es : List Entry) → ((t : Id)
+        → transfer_state_of transfers.now t ≡ option_map of_transition (newest (transitions_of es) t))
+        → result ≡ first_of (log_refusals scheme.now es (messages.Proposal proposal.now)) }
 {
     if !is_log(proposal.to) {
         return Some(OTHER_ADDRESSEE);
@@ -133,7 +139,9 @@ pub(crate) fn notification_refusal(
     transfers: &BTreeMap<TransactionId, Transfer>,
     notification: &Notification,
 ) -> Option<u16>
-    ensures { (es : List Entry) → ((t : Id) → transfer_state_of transfers.now t ≡ option_map of_transition (newest (transitions_of es) t)) → result ≡ first_of (log_refusals scheme.now es (messages.Notification notification.now)) }
+    ensures { (es : List Entry) → ((t : Id)
+        → transfer_state_of transfers.now t ≡ option_map of_transition (newest (transitions_of es) t))
+        → result ≡ first_of (log_refusals scheme.now es (messages.Notification notification.now)) }
 {
     let (from, id) = (notification.from, notification.id);
     if !is_log(notification.to) {
@@ -174,7 +182,9 @@ pub(crate) fn message_refusal(
     transfers: &BTreeMap<TransactionId, Transfer>,
     message: &Message,
 ) -> Option<u16>
-    ensures { (es : List Entry) → ((t : Id) → transfer_state_of transfers.now t ≡ option_map of_transition (newest (transitions_of es) t)) → result ≡ first_of (log_refusals scheme.now es message.now) }
+    ensures { (es : List Entry) → ((t : Id)
+        → transfer_state_of transfers.now t ≡ option_map of_transition (newest (transitions_of es) t))
+        → result ≡ first_of (log_refusals scheme.now es message.now) }
 {
     match message {
         Message::Proposal(proposal) => proposal_refusal(scheme, transfers, proposal),

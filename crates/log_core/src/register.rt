@@ -20,7 +20,9 @@ pub(crate) fn begin(
     id: TransactionId,
 ) -> Result<(), NoMemory>
     requires { IsApart (option_copied content) }
-    ensures ok { OnOk result ((s : Serial) → map.get under_way.new s ≡ (if has_serial (option_copied content.entry) s then Some (record { id = id }) else map.get under_way.old s)) }
+    ensures ok { OnOk result ((s : Serial)
+        → map.get under_way.new s
+        ≡ (if has_serial (option_copied content.entry) s then Some (record { id = id }) else map.get under_way.old s)) }
     ensures err { OnErr result (under_way.new ≡ under_way.old) }
 {
     match content {
@@ -31,8 +33,10 @@ pub(crate) fn begin(
 
 /// The transfer's units, which are those of the content alone, aren't under way any more. Takes no memory.
 pub(crate) fn end(under_way: &mut UnitMap<UnderWay>, content: Option<&Content>, id: TransactionId)
-    requires { (s : Serial) (u : declared.UnderWay) → map.get under_way.old s ≡ Some u → same_id u.id id ≡ true → has_serial (option_copied content) s ≡ true }
-    ensures { (s : Serial) → map.get under_way.new s ≡ labels_that (λ u. not (same_id u.id id)) (map.get under_way.old s) }
+    requires { (s : Serial) (u : declared.UnderWay) → map.get under_way.old s ≡ Some u → same_id u.id id ≡ true
+        → has_serial (option_copied content) s ≡ true }
+    ensures { (s : Serial) → map.get under_way.new s ≡ labels_that (λ u. not (same_id u.id id))
+        (map.get under_way.old s) }
 {
     if let Some(content) = content {
         under_way.remove_in(
@@ -50,7 +54,8 @@ pub(crate) fn hand_over(
     content: Option<&Content>,
 ) -> Result<(), NoMemory>
     requires { IsApart (option_copied content) }
-    ensures ok { OnOk result ((s : Serial) → map.get book.new s ≡ handed_over (option_copied content.entry) s (map.get book.old s)) }
+    ensures ok { OnOk result ((s : Serial)
+        → map.get book.new s ≡ handed_over (option_copied content.entry) s (map.get book.old s)) }
     ensures err { OnErr result (book.new ≡ book.old) }
 {
     let Some(content) = content else {

@@ -35,7 +35,8 @@ pub(crate) fn order(
     code: Code,
     may: bool,
 ) -> Result<(), NoMemory>
-    ensures ok { OnOk result ((d : declared_code.Code) → tree.get code_cmp orders.new d ≡ (if same_code code d then Some may else tree.get code_cmp orders.old d)) }
+    ensures ok { OnOk result ((d : declared_code.Code)
+        → tree.get code_cmp orders.new d ≡ (if same_code code d then Some may else tree.get code_cmp orders.old d)) }
     ensures err { OnErr result (orders.new.entries ≡ orders.old.entries) }
 {
     orders.insert(code, may)?;

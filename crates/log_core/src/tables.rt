@@ -43,7 +43,8 @@ impl Tables {
     fn fitting(&self, scheme: &Scheme, input: &Input) -> Result<Input, Refusal>
         ensures copy { IfOk result (λ i. i ≡ input.now) }
         ensures ok { OnOk result (nat_le scheme.now.records (length self.now.journal.items) ≡ false) }
-        ensures err { IfErr result (λ r. (r.code ≡ out_of_memory) ⊎ ((r.code ≡ journal_full) × (nat_le scheme.now.records (length self.now.journal.items) ≡ true))) }
+        ensures err { IfErr result (λ r. (r.code ≡ out_of_memory)
+            ⊎ ((r.code ≡ journal_full) × (nat_le scheme.now.records (length self.now.journal.items) ≡ true))) }
     {
         if scheme.records() <= self.journal.len() as u64 {
             return Err(Refusal { code: JOURNAL_FULL });
@@ -62,7 +63,10 @@ impl Tables {
     ) -> Result<Stepped, Refusal>
         requires kept { IsKept scheme.now self.old }
         requires input { IsMessageOrCleanUp input.now }
-        requires transitions { (xs : List Transition) × (verdict_due scheme.now self.old input.now ≡ recorded_if_room scheme.now (history scheme.now Itl self.old.journal.items) xs) × (messages ≡ messages_of xs) × IsEffect xs moment.seconds effect }
+        requires transitions { (xs : List Transition)
+            × (verdict_due scheme.now self.old input.now
+            ≡ recorded_if_room scheme.now (history scheme.now Itl self.old.journal.items) xs)
+            × (messages ≡ messages_of xs) × IsEffect xs moment.seconds effect }
         requires known { IsOfKnown (transfer_state_in self.old) effect }
         ensures { Takes scheme.now self.old self.new input.now result }
     {

@@ -86,7 +86,8 @@ impl Tables {
     ) -> Result<Stepped, Refusal>
         requires kept { IsKept scheme.now self.old }
         requires input { input.now ≡ inputs.Received (messages.Proposal proposal.now) moment }
-        requires welcome { first_of (log_refusals scheme.now (history scheme.now Itl self.old.journal.items) (messages.Proposal proposal.now)) ≡ None }
+        requires welcome { first_of (log_refusals scheme.now (history scheme.now Itl self.old.journal.items)
+            (messages.Proposal proposal.now)) ≡ None }
         ensures { Takes scheme.now self.old self.new input.now result }
     {
         let (id, content) = (proposal.id, &proposal.content);
@@ -112,7 +113,8 @@ impl Tables {
     ) -> Result<Stepped, Refusal>
         requires kept { IsKept scheme.now self.old }
         requires input { input.now ≡ inputs.Received (messages.Notification notification.now) moment }
-        requires welcome { first_of (log_refusals scheme.now (history scheme.now Itl self.old.journal.items) (messages.Notification notification.now)) ≡ None }
+        requires welcome { first_of (log_refusals scheme.now (history scheme.now Itl self.old.journal.items)
+            (messages.Notification notification.now)) ≡ None }
         ensures { Takes scheme.now self.old self.new input.now result }
     {
         let id = notification.id;
@@ -137,7 +139,8 @@ impl Tables {
     ) -> Result<Stepped, Refusal>
         requires kept { IsKept scheme.now self.old }
         requires input { input.now ≡ inputs.Received (messages.Request request.now) moment }
-        requires welcome { first_of (log_refusals scheme.now (history scheme.now Itl self.old.journal.items) (messages.Request request.now)) ≡ None }
+        requires welcome { first_of (log_refusals scheme.now (history scheme.now Itl self.old.journal.items)
+            (messages.Request request.now)) ≡ None }
         ensures { Takes scheme.now self.old self.new input.now result }
     {
         let id = request.id;

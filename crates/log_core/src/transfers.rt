@@ -18,7 +18,8 @@ pub(crate) fn put(
     id: TransactionId,
     transfer: Transfer,
 ) -> Result<(), NoMemory>
-    ensures ok { OnOk result ((t : TransactionId) → tree.get id_cmp transfers.new t ≡ (if same_id id t then Some transfer else tree.get id_cmp transfers.old t)) }
+    ensures ok { OnOk result ((t : TransactionId)
+        → tree.get id_cmp transfers.new t ≡ (if same_id id t then Some transfer else tree.get id_cmp transfers.old t)) }
     ensures err { OnErr result (transfers.new.entries ≡ transfers.old.entries) }
 {
     transfers.insert(id, transfer)?;
@@ -27,7 +28,8 @@ pub(crate) fn put(
 
 /// Takes the transaction out.
 pub(crate) fn take_out(transfers: &mut BTreeMap<TransactionId, Transfer>, id: TransactionId)
-    ensures { (t : TransactionId) → tree.get id_cmp transfers.new t ≡ (if same_id id t then None else tree.get id_cmp transfers.old t) }
+    ensures { (t : TransactionId)
+        → tree.get id_cmp transfers.new t ≡ (if same_id id t then None else tree.get id_cmp transfers.old t) }
 {
     transfers.remove(&id);
 }
@@ -39,7 +41,10 @@ pub(crate) fn set_status(
     new: Status,
     moment: Moment,
 )
-    ensures { (t : TransactionId) → tree.get id_cmp transfers.new t ≡ (if same_id id t then option_map (came_at new moment) (tree.get id_cmp transfers.old t) else tree.get id_cmp transfers.old t) }
+    ensures { (t : TransactionId)
+        → tree.get id_cmp transfers.new t
+        ≡ (if same_id id t then option_map (came_at new moment)
+        (tree.get id_cmp transfers.old t) else tree.get id_cmp transfers.old t) }
 {
     if let Some(transfer) = transfers.get_mut(&id) {
         transfer.status = new;

@@ -18,8 +18,10 @@ pub(crate) struct Waiting {
 
 /// The place is there. After `NoMemory` nothing has changed.
 pub(crate) fn remember(checked: &mut BTreeSet<Waiting>, place: Waiting) -> Result<(), NoMemory>
-    ensures ok { OnOk result ((w : declared.Waiting) → contains waiting_cmp checked.new w ≡ (contains waiting_cmp checked.old w || is_waiting_place w place)) }
-    ensures err { OnErr result ((w : declared.Waiting) → contains waiting_cmp checked.new w ≡ contains waiting_cmp checked.old w) }
+    ensures ok { OnOk result ((w : declared.Waiting)
+        → contains waiting_cmp checked.new w ≡ (contains waiting_cmp checked.old w || is_waiting_place w place)) }
+    ensures err { OnErr result ((w : declared.Waiting)
+        → contains waiting_cmp checked.new w ≡ contains waiting_cmp checked.old w) }
 {
     checked.insert(place)?;
     Ok(())
@@ -27,7 +29,8 @@ pub(crate) fn remember(checked: &mut BTreeSet<Waiting>, place: Waiting) -> Resul
 
 /// The place isn't there any more.
 pub(crate) fn forget(checked: &mut BTreeSet<Waiting>, place: Waiting)
-    ensures { (w : declared.Waiting) → contains waiting_cmp checked.new w ≡ (contains waiting_cmp checked.old w && not (is_waiting_place w place)) }
+    ensures { (w : declared.Waiting)
+        → contains waiting_cmp checked.new w ≡ (contains waiting_cmp checked.old w && not (is_waiting_place w place)) }
 {
     checked.remove(&place);
 }

@@ -1,6 +1,3 @@
-pub mod Texts
-pub mod FirstNodes
-pub mod Charts
 pub mod RecordLines
 pub mod ShowWords
 pub mod WorkedWords

@@ -10,6 +10,7 @@ use Rattle.stores.specs.Records.{Places, AreRecords, IsDamagedAt}
 use Rattle.stores.specs.declared.fault.StoreFault.{StoreFault}
 use Rattle.stores.specs.declared.fault.StoreFault.TheVariants.{Damaged}
 use Rattle.stores.proofs.Fronts.{records-append, records-take, records-drop}
+use Rattle.stores.specs.declared.node_store.NodeStore.{Ghosts}
 use Rattle.operator.specs.Pages.{Reads, Stops}
 
 -- ---- places
@@ -72,23 +73,23 @@ true-false b t e = true≢false (sym t ∙ e)
 
 -- ---- a store
 
-module _ {S : Type 0} (is_honest : S → Type 0) (content : S → Places) (must_reopen : S → Bool) (faults : S → ℕ) where
+module _ {S : Type 0} (g : Ghosts S) where
   abbrev Read : S → S → ℕ → List Input → Type 0
-  Read old new from inputs = Reads is_honest content must_reopen faults old new from inputs
+  Read old new from inputs = Reads g old new from inputs
 
   abbrev Ends : S → S → StoreFault → Type 0
-  Ends old new fault = Stops is_honest content must_reopen faults old new fault
+  Ends old new fault = Stops g old new fault
 
   pub reads-more : (old mid new : S) (inputs page : List Input) (from : ℕ) → length inputs ≡ from → Read old mid 0 inputs → Read mid new from page → Read old new 0 (inputs ++ page)
   reads-more old mid new inputs page from many p q =
-      let places = content old in
+      let places = g.content old in
       let k = length inputs in
       let n = length page in
       let joined : take k places ++ take n (drop k places) ≡ take (length (inputs ++ page)) places = sym (take-add k n places) ∙ ap (λ m. take m places) (sym (length-append inputs page)) in
       record {
         are = λ h.
-            let here : AreRecords (take n (drop from (content mid))) page = q.are h in
-            let at : AreRecords (take n (drop k (content mid))) page = subst (λ m. AreRecords (take n (drop m (content mid))) page) (sym many) here in
+            let here : AreRecords (take n (drop from (g.content mid))) page = q.are h in
+            let at : AreRecords (take n (drop k (g.content mid))) page = subst (λ m. AreRecords (take n (drop m (g.content mid))) page) (sym many) here in
             let next : AreRecords (take n (drop k places)) page = subst (λ ps. AreRecords (take n (drop k ps)) page) (p.kept (q.honest h)) at in
             subst (λ ps. AreRecords ps (inputs ++ page)) joined (records-append _ (take k places) inputs (take n (drop k places)) page (p.are (q.honest h)) next);
         honest = λ h. p.honest (q.honest h);
@@ -97,12 +98,12 @@ module _ {S : Type 0} (is_honest : S → Type 0) (content : S → Places) (must_
         runs = λ w. q.runs (p.runs w);
         waits = λ w.
             let first = p.waits w in
-            let next = q.waits (subst (λ s. IsTrue (must_reopen s)) (sym first.0) w) in
+            let next = q.waits (subst (λ s. IsTrue (g.must_reopen s)) (sym first.0) w) in
             (next.0 ∙ first.0, ap (λ l. l ++ page) first.1 ∙ next.1);
       }
 
   -- the reading itself went well, and a fault that is no device's came then
-  pub stops-here : (old new : S) (from : ℕ) (inputs : List Input) (fault : StoreFault) → Read old new from inputs → (IsTrue (must_reopen old) → ⊥) → IsReadFault fault → count_after (faults old) fault ≡ faults old → Ends old new fault
+  pub stops-here : (old new : S) (from : ℕ) (inputs : List Input) (fault : StoreFault) → Read old new from inputs → (IsTrue (g.must_reopen old) → ⊥) → IsReadFault fault → count_after (g.faults old) fault ≡ g.faults old → Ends old new fault
   stops-here old new from inputs fault p running read uncounted = record {
     honest = p.honest;
     kept = λ h w. p.kept h;
@@ -112,17 +113,17 @@ module _ {S : Type 0} (is_honest : S → Type 0) (content : S → Places) (must_
   }
 
   -- all places were read
-  pub reads-all : (old new : S) (inputs : List Input) → Read old new 0 inputs → is_honest new → length (content old) ≤ length inputs → AreRecords (content old) inputs
-  reads-all old new inputs p h most = subst (λ ps. AreRecords ps inputs) (take_all (length inputs) (content old) most) (p.are h)
+  pub reads-all : (old new : S) (inputs : List Input) → Read old new 0 inputs → g.is_honest new → length (g.content old) ≤ length inputs → AreRecords (g.content old) inputs
+  reads-all old new inputs p h most = subst (λ ps. AreRecords ps inputs) (take_all (length inputs) (g.content old) most) (p.are h)
 
-  abbrev LoadsPage : (S → Places → Type 0) → S → S → ℕ → Result (Vec Input Global) StoreFault → Type 0
-  LoadsPage may_hold old new from result = Loads is_honest content may_hold must_reopen old new from (take 256 (drop from (content old))) result
+  abbrev LoadsPage : S → S → ℕ → Result (Vec Input Global) StoreFault → Type 0
+  LoadsPage old new from result = Loads g.is_honest g.content g.may_hold g.must_reopen old new from (take 256 (drop from (g.content old))) result
 
   -- the first records of a page that was read
-  pub page-reads : (may_hold : S → Places → Type 0) (old new : S) (from n : ℕ) (page : Vec Input Global) → n ≤ 256 → n ≤ length page.items
-      → LoadsPage may_hold old new from (Ok page) → faults new ≡ faults old → Read old new from (take n page.items)
-  page-reads may_hold old new from n page few within loads counted =
-      let part = drop from (content old) in
+  pub page-reads : (old new : S) (from n : ℕ) (page : Vec Input Global) → n ≤ 256 → n ≤ length page.items
+      → LoadsPage old new from (Ok page) → g.faults new ≡ g.faults old → Read old new from (take n page.items)
+  page-reads old new from n page few within loads counted =
+      let part = drop from (g.content old) in
       let size : length (take n page.items) ≡ n = length-take-le n page.items within in
       record {
         are = λ h.
@@ -137,55 +138,55 @@ module _ {S : Type 0} (is_honest : S → Type 0) (content : S → Places) (must_
       }
 
   -- a page that isn't full: all places were read
-  all-places : (may_hold : S → Places → Type 0) (old mid new : S) (inputs : List Input) (page : Vec Input Global) (from n : ℕ) → length inputs ≡ from → Read old mid 0 inputs
-      → LoadsPage may_hold mid new from (Ok page) → faults new ≡ faults mid → n ≡ min 256 (length page.items) → n < 256 → is_honest new → AreRecords (content old) (inputs ++ take n page.items)
-  all-places may_hold old mid new inputs page from n many p loads counted few short h =
+  all-places : (old mid new : S) (inputs : List Input) (page : Vec Input Global) (from n : ℕ) → length inputs ≡ from → Read old mid 0 inputs
+      → LoadsPage mid new from (Ok page) → g.faults new ≡ g.faults mid → n ≡ min 256 (length page.items) → n < 256 → g.is_honest new → AreRecords (g.content old) (inputs ++ take n page.items)
+  all-places old mid new inputs page from n many p loads counted few short h =
       let within : n ≤ length page.items = omega arith in
-      let both : Read old new 0 (inputs ++ take n page.items) = reads-more old mid new inputs (take n page.items) from many p (page-reads may_hold mid new from n page (omega arith) within loads counted) in
-      let same : content mid ≡ content old = p.kept (loads.honest h) in
-      let size : length page.items ≡ min 256 (length (content old) - from) = page-length from 256 (content mid) page.items (loads.ok h) ∙ ap (λ ps. min 256 (length ps - from)) same in
+      let both : Read old new 0 (inputs ++ take n page.items) = reads-more old mid new inputs (take n page.items) from many p (page-reads mid new from n page (omega arith) within loads counted) in
+      let same : g.content mid ≡ g.content old = p.kept (loads.honest h) in
+      let size : length page.items ≡ min 256 (length (g.content old) - from) = page-length from 256 (g.content mid) page.items (loads.ok h) ∙ ap (λ ps. min 256 (length ps - from)) same in
       let taken : length (take n page.items) ≡ n = length-take-le n page.items within in
       reads-all old new (inputs ++ take n page.items) both h (omega (arith, length-append inputs (take n page.items)))
 
   -- one page more was read
-  pub next-page : (may_hold : S → Places → Type 0) (old mid new : S) (inputs : List Input) (page : Vec Input Global) (from n : ℕ) → length inputs ≡ from → Read old mid 0 inputs
-      → LoadsPage may_hold mid new from (Ok page) → faults new ≡ faults mid → n ≡ min 256 (length page.items) → (more : List Input) × (length more ≡ from + n) × Read old new 0 more
-  next-page may_hold old mid new inputs page from n many p loads counted few =
+  pub next-page : (old mid new : S) (inputs : List Input) (page : Vec Input Global) (from n : ℕ) → length inputs ≡ from → Read old mid 0 inputs
+      → LoadsPage mid new from (Ok page) → g.faults new ≡ g.faults mid → n ≡ min 256 (length page.items) → (more : List Input) × (length more ≡ from + n) × Read old new 0 more
+  next-page old mid new inputs page from n many p loads counted few =
       let within : n ≤ length page.items = omega arith in
       let taken : length (take n page.items) ≡ n = length-take-le n page.items within in (
         inputs ++ take n page.items,
         omega (arith, length-append inputs (take n page.items)),
-        reads-more old mid new inputs (take n page.items) from many p (page-reads may_hold mid new from n page (omega arith) within loads counted),
+        reads-more old mid new inputs (take n page.items) from many p (page-reads mid new from n page (omega arith) within loads counted),
       )
 
   -- the last page
-  pub last-page : (may_hold : S → Places → Type 0) (old mid new : S) (inputs : List Input) (page : Vec Input Global) (from n : ℕ) → length inputs ≡ from → Read old mid 0 inputs
-      → LoadsPage may_hold mid new from (Ok page) → faults new ≡ faults mid → n ≡ min 256 (length page.items) → n < 256
-      → (all : List Input) × (length all ≡ from + n) × Read old new 0 all × (is_honest new → AreRecords (content old) all)
-  last-page may_hold old mid new inputs page from n many p loads counted few short =
+  pub last-page : (old mid new : S) (inputs : List Input) (page : Vec Input Global) (from n : ℕ) → length inputs ≡ from → Read old mid 0 inputs
+      → LoadsPage mid new from (Ok page) → g.faults new ≡ g.faults mid → n ≡ min 256 (length page.items) → n < 256
+      → (all : List Input) × (length all ≡ from + n) × Read old new 0 all × (g.is_honest new → AreRecords (g.content old) all)
+  last-page old mid new inputs page from n many p loads counted few short =
       let within : n ≤ length page.items = omega arith in
       let taken : length (take n page.items) ≡ n = length-take-le n page.items within in (
         inputs ++ take n page.items,
         omega (arith, length-append inputs (take n page.items)),
-        reads-more old mid new inputs (take n page.items) from many p (page-reads may_hold mid new from n page (omega arith) within loads counted),
-        all-places may_hold old mid new inputs page from n many p loads counted few short,
+        reads-more old mid new inputs (take n page.items) from many p (page-reads mid new from n page (omega arith) within loads counted),
+        all-places old mid new inputs page from n many p loads counted few short,
       )
 
   -- a page of which a record is damaged
-  pub damaged-later : (may_hold : S → Places → Type 0) (old mid new : S) (inputs : List Input) (from : ℕ) (fault : StoreFault) → length inputs ≡ from → Read old mid 0 inputs
-      → LoadsPage may_hold mid new from (Err fault) → is_honest new → (p : ℕ) → fault ≡ Damaged p → IsDamagedAt p (content old)
-  damaged-later may_hold old mid new inputs from fault many q loads h p e =
-      let places = content old in
-      let same : content mid ≡ places = q.kept (loads.honest h) in
+  pub damaged-later : (old mid new : S) (inputs : List Input) (from : ℕ) (fault : StoreFault) → length inputs ≡ from → Read old mid 0 inputs
+      → LoadsPage mid new from (Err fault) → g.is_honest new → (p : ℕ) → fault ≡ Damaged p → IsDamagedAt p (g.content old)
+  damaged-later old mid new inputs from fault many q loads h p e =
+      let places = g.content old in
+      let same : g.content mid ≡ places = q.kept (loads.honest h) in
       let told = loads.damaged h p e in
       let here : IsDamagedAt (p - from) (take 256 (drop from places)) = subst (λ ps. IsDamagedAt (p - from) (take 256 (drop from ps))) same told.1 in
       let front : AreRecords (take from places) inputs = subst (λ k. AreRecords (take k places) inputs) many (q.are (loads.honest h)) in
       damaged-page from 256 p places inputs front told.0 here
 
   -- all records were read, and as many again
-  pub read-twice : (old mid new : S) (all inputs : List Input) → Read old mid 0 all → (is_honest mid → AreRecords (content old) all) → Read mid new 0 inputs → length inputs ≡ length all
-      → is_honest new → AreRecords (content old) inputs
+  pub read-twice : (old mid new : S) (all inputs : List Input) → Read old mid 0 all → (g.is_honest mid → AreRecords (g.content old) all) → Read mid new 0 inputs → length inputs ≡ length all
+      → g.is_honest new → AreRecords (g.content old) inputs
   read-twice old mid new all inputs p are q many h =
-      let same : content mid ≡ content old = p.kept (q.honest h) in
-      let size : length (content mid) ≡ length all = ap length same ∙ records-length (content old) all (are (q.honest h)) in
+      let same : g.content mid ≡ g.content old = p.kept (q.honest h) in
+      let size : length (g.content mid) ≡ length all = ap length same ∙ records-length (g.content old) all (are (q.honest h)) in
       subst (λ ps. AreRecords ps inputs) same (reads-all mid new inputs q h (omega arith))

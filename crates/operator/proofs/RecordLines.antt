@@ -3,7 +3,7 @@ use Rattle.std.proofs.Common.{◌≡◌, ℕ, ◌+◌, ◌<◌, List, [], ◌∷
 use Rattle.std.proofs.lemmas.List.{length-take, take_more}
 use Rattle.wire.specs.declared.input.Input.{Input}
 use Rattle.operator.specs.Show.{record_line, record_lines}
-use Rattle.rehearsals.proofs.NumberedLines.{lines_more}
+use Rattle.rehearse.proofs.NumberedLines.{lines_more}
 
 record_lines-snoc : (n : ℕ) (xs : List Input) (x : Input) → record_lines n (xs ++ x ∷ []) ≡ record_lines n xs ++ record_line (n + length xs) x
 record_lines-snoc n xs x = lines_more record_line record_lines (λ k. refl) (λ k y ys. refl) n xs x

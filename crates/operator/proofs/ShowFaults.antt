@@ -7,8 +7,8 @@ use Rattle.wire.specs.declared.input.Input.{Input}
 use Rattle.stores.specs.Faults.{is_device_fault}
 use Rattle.stores.specs.Records.{Places, AreRecords}
 use Rattle.stores.specs.declared.fault.StoreFault.{StoreFault}
-use Rattle.inputs.specs.declared.fault.OpFault.{OpFault}
-use Rattle.inputs.specs.declared.fault.OpFault.TheVariants as op_fault
+use Rattle.command_faults.specs.declared.fault.OpFault.{OpFault}
+use Rattle.command_faults.specs.declared.fault.OpFault.TheVariants as op_fault
 use Rattle.operator.specs.Pages.{IsBegun, IsWithin, FailsToWrite, FailsWithin}
 use Rattle.operator.specs.Show.{record_lines, FailsToShow}
 use Rattle.operator.proofs.ShownPages.{cut-off, end-cut}

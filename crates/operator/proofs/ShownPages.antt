@@ -1,5 +1,5 @@
 -- What was written when the lines of pages were, page by page.
-use Rattle.std.proofs.Common.{◌≡◌, ◌≤◌, ◌<◌, ◌+◌, ℕ, Bool, List, [], ◌∷◌, ◌++◌, Option, length, take, drop, codes, refl, sym, ap, subst, ◌∙◌, arith, length-append, append_assoc}
+use Rattle.std.proofs.Common.{◌≡◌, ◌≤◌, ◌<◌, ◌+◌, ℕ, List, [], ◌∷◌, ◌++◌, Option, length, take, drop, codes, refl, sym, ap, subst, ◌∙◌, arith, length-append, append_assoc}
 use Rattle.std.specs.Io.KnownBytes.{Appends, Keeps}
 use Rattle.std.proofs.KnownBytes.{Appends-trans, Appends-kept}
 use Rattle.std.proofs.Math.Seq.{take-append-add}
@@ -7,6 +7,7 @@ use Rattle.std.proofs.lemmas.List.{take_all, take-append-le, take-append-drop}
 use Rattle.wire.specs.declared.input.Input.{Input}
 use Rattle.stores.specs.Records.{Places, AreRecords}
 use Rattle.stores.proofs.Fronts.{records-append, records-drop}
+use Rattle.stores.specs.declared.node_store.NodeStore.{Ghosts}
 use Rattle.operator.specs.Pages.{Reads, Shows, IsBegun, IsWithin}
 use Rattle.operator.specs.Show.{record_line, record_lines, shown, IsCutOff}
 use Rattle.operator.proofs.Pages.{reads-more}
@@ -72,16 +73,16 @@ end-cut count written honest places v x w all are size lines b =
       written = subst (Appends v w) front (Appends-trans v x w text (take b.more (codes "end\n")) lines b.appended);
     }
 
-module _ {S : Type 0} (is_honest : S → Type 0) (content : S → Places) (must_reopen : S → Bool) (faults : S → ℕ) where
+module _ {S : Type 0} (g : Ghosts S) where
   abbrev Shown : S → S → (v w : Option (List ℕ)) → ℕ → ℕ → Type 0
-  Shown old new v w records bytes = Shows is_honest content must_reopen faults old new v w records bytes
+  Shown old new v w records bytes = Shows g old new v w records bytes
 
-  pub both : (old mid new : S) (v x : Option (List ℕ)) (place written : ℕ) (page : List Input) (so_far : Shown old mid v x place written) → Reads is_honest content must_reopen faults mid new place page
-      → Reads is_honest content must_reopen faults old new 0 (so_far.inputs ++ page)
-  both old mid new v x place written page so_far next = reads-more is_honest content must_reopen faults old mid new so_far.inputs page place so_far.many so_far.reads next
+  pub both : (old mid new : S) (v x : Option (List ℕ)) (place written : ℕ) (page : List Input) (so_far : Shown old mid v x place written) → Reads g mid new place page
+      → Reads g old new 0 (so_far.inputs ++ page)
+  both old mid new v x place written page so_far next = reads-more g old mid new so_far.inputs page place so_far.many so_far.reads next
 
   pub shows-more : (old mid new : S) (v x w : Option (List ℕ)) (place written few : ℕ) (page : List Input) (text : List ℕ) → Shown old mid v x place written → length page ≡ few → text ≡ record_lines place page
-      → Reads is_honest content must_reopen faults mid new place page → (bytes : ℕ) → bytes ≡ written + length text → Appends x w text → Shown old new v w (place + few) bytes
+      → Reads g mid new place page → (bytes : ℕ) → bytes ≡ written + length text → Appends x w text → Shown old new v w (place + few) bytes
   shows-more old mid new v x w place written few page text so_far short is next bytes is_sum added =
       let before = record_lines 0 so_far.inputs in
       let lines_are : record_lines 0 (so_far.inputs ++ page) ≡ before ++ text = page-after so_far.inputs page place text so_far.many is in
@@ -96,7 +97,7 @@ module _ {S : Type 0} (is_honest : S → Type 0) (content : S → Places) (must_
 
   -- the page was written in part
   pub begun-more : (old mid new : S) (v x w : Option (List ℕ)) (place written : ℕ) (page : List Input) (text : List ℕ) → Shown old mid v x place written → text ≡ record_lines place page
-      → Reads is_honest content must_reopen faults mid new place page → (count : ℕ) → IsWithin count written text x w → IsBegun count (is_honest new) (content old) v w
+      → Reads g mid new place page → (count : ℕ) → IsWithin count written text x w → IsBegun count (g.is_honest new) (g.content old) v w
   begun-more old mid new v x w place written page text so_far is next count b =
       let before = record_lines 0 so_far.inputs in
       let lines_are : record_lines 0 (so_far.inputs ++ page) ≡ before ++ text = page-after so_far.inputs page place text so_far.many is in
@@ -112,7 +113,7 @@ module _ {S : Type 0} (is_honest : S → Type 0) (content : S → Places) (must_
       }
 
   -- nothing was written after the lines so far
-  pub begun-here : (old mid new : S) (v x w : Option (List ℕ)) (place written : ℕ) → Shown old mid v x place written → (is_honest new → is_honest mid) → Keeps x w → IsBegun written (is_honest new) (content old) v w
+  pub begun-here : (old mid new : S) (v x w : Option (List ℕ)) (place written : ℕ) → Shown old mid v x place written → (g.is_honest new → g.is_honest mid) → Keeps x w → IsBegun written (g.is_honest new) (g.content old) v w
   begun-here old mid new v x w place written so_far back kept =
       let lines = record_lines 0 so_far.inputs in
       let most : written ≡ length lines = so_far.size in

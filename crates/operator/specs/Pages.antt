@@ -1,6 +1,6 @@
 -- Going over a store by pages: what reading them leaves, and what writing their lines does. No public contract cites
 -- it.
-use Rattle.std.specs.Prelude.{◌≡◌, ◌≢◌, ◌≤◌, ◌<◌, ◌+◌, ℕ, Bool, false, List, [], length, take, drop, Option, IsTrue}
+use Rattle.std.specs.Prelude.{◌≡◌, ◌≢◌, ◌≤◌, ◌<◌, ◌+◌, ℕ, false, List, [], length, take, drop, Option, IsTrue}
 use Rattle.std.specs.Io.KnownBytes.{Appends, Keeps}
 use Rattle.units.specs.declared.code.Node.{Node}
 use Rattle.wire.specs.declared.input.Input.{Input}
@@ -8,30 +8,31 @@ use Rattle.stores.specs.Faults.{is_device_fault, count_after, IsReadFault}
 use Rattle.stores.specs.Records.{Places, AreRecords}
 use Rattle.stores.specs.declared.fault.StoreFault.{StoreFault}
 use Rattle.stores.specs.declared.fault.StoreFault.TheVariants.{Reopen, NoMemory as OutOfMemory}
-use Rattle.inputs.specs.declared.fault.OpFault.{OpFault}
-use Rattle.inputs.specs.declared.fault.OpFault.TheVariants as op_fault
+use Rattle.stores.specs.declared.node_store.NodeStore.{Ghosts}
+use Rattle.command_faults.specs.declared.fault.OpFault.{OpFault}
+use Rattle.command_faults.specs.declared.fault.OpFault.TheVariants as op_fault
 use Rattle.operator.specs.Show.{record_lines}
 
 -- ---- the store: it is honest; what each place has; a fault waits for a reopening;
 -- how many calls of its device have failed
 
-module _ {S : Type 0} (is_honest : S → Type 0) (content : S → Places) (must_reopen : S → Bool) (faults : S → ℕ) where
+module _ {S : Type 0} (g : Ghosts S) where
   -- these are the records from that place on
   pub record Reads (old new : S) (from : ℕ) (inputs : List Input) : Type 0 where
-    pub are : is_honest new → AreRecords (take (length inputs) (drop from (content old))) inputs
-    pub honest : is_honest new → is_honest old
-    pub kept : is_honest new → content new ≡ content old
-    pub counted : faults new ≡ faults old
-    pub runs : must_reopen old ≡ false → must_reopen new ≡ false
-    pub waits : IsTrue (must_reopen old) → (new ≡ old) × (inputs ≡ [])
+    pub are : g.is_honest new → AreRecords (take (length inputs) (drop from (g.content old))) inputs
+    pub honest : g.is_honest new → g.is_honest old
+    pub kept : g.is_honest new → g.content new ≡ g.content old
+    pub counted : g.faults new ≡ g.faults old
+    pub runs : g.must_reopen old ≡ false → g.must_reopen new ≡ false
+    pub waits : IsTrue (g.must_reopen old) → (new ≡ old) × (inputs ≡ [])
 
   -- reading ended with that fault
   pub record Stops (old new : S) (fault : StoreFault) : Type 0 where
-    pub honest : is_honest new → is_honest old
-    pub kept : is_honest new → must_reopen new ≡ false → content new ≡ content old
-    pub counted : faults new ≡ count_after (faults old) fault
-    pub named : must_reopen old ≡ false → IsReadFault fault
-    pub reopen : IsTrue (must_reopen old) → (fault ≡ Reopen) × (new ≡ old)
+    pub honest : g.is_honest new → g.is_honest old
+    pub kept : g.is_honest new → g.must_reopen new ≡ false → g.content new ≡ g.content old
+    pub counted : g.faults new ≡ count_after (g.faults old) fault
+    pub named : g.must_reopen old ≡ false → IsReadFault fault
+    pub reopen : IsTrue (g.must_reopen old) → (fault ≡ Reopen) × (new ≡ old)
 
   -- that many records were read from the front, and their lines written, of that many bytes
   pub record Shows (old new : S) (before after : Option (List ℕ)) (records bytes : ℕ) : Type 0 where

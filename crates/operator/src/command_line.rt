@@ -252,7 +252,8 @@ impl Subcommand {
 
     /// The program with this subcommand too.
     fn added_to<'a>(&self, alloc: Global, program: Command<'a>) -> Result<Command<'a>, AllocError>
-        ensures { (a : App) → IsCommand a program.entry → IfOk result (IsCommand (with_subcommand a (described self.now))) }
+        ensures { (a : App) → IsCommand a program.entry
+            → IfOk result (IsCommand (with_subcommand a (described self.now))) }
     {
         let command = self.command(alloc)?;
         program.subcommand(command)
@@ -365,7 +366,8 @@ fn fault_of(error: Error) -> UsageFault
 /// `Help`: the words ask for help or for the version. `Usage`: the words are wrong. `NoMemory`: out of memory; where
 /// `clap` takes the words, this is the only fault.
 pub fn parse_words<S: AsStr>(alloc: Global, words: &[S]) -> Result<Action, UsageFault>
-    ensures ok { IfOk result (λ a. (m : ArgMatches) × HasMatchesOf kyoto_link (map S.text words.now) m × NamesAction m a) }
+    ensures ok { IfOk result (λ a. (m : ArgMatches) × HasMatchesOf kyoto_link (map S.text words.now) m
+        × NamesAction m a) }
     ensures right { IfOk result (λ a. faults_in (map S.text words.now) ≡ []) }
     ensures fault { IfErr result (IsUsageFault (map S.text words.now)) }
     ensures taken { takes kyoto_link (map S.text words.now) ≡ true → IfErr result (λ f. f ≡ UsageFault.NoMemory) }

@@ -1,10 +1,8 @@
-//! The program's commands: the words of its command line, `chart`, and `show`.
+//! The words of the command line, and the command `show`.
 #![tactic(auto)]
 
-mod charting;
 mod command_line;
 mod showing;
 
-pub use charting::chart;
 pub use command_line::{Action, UsageFault, parse_words};
 pub use showing::show;

@@ -3,21 +3,19 @@ ghost use Rattle.std.specs.Prelude.{◌≡◌, ◌≢◌, ◌≤◌, ◌<◌, �
 ghost use Rattle.std.specs.Io.KnownBytes.{Appends};
 ghost use Rattle.wire.specs.declared.input.Input.{Input};
 ghost use Rattle.stores.specs.Faults.{is_device_fault, IsReadFault};
-ghost use Rattle.stores.specs.Records.{AreRecords, IsDamagedAt};
+ghost use Rattle.stores.specs.Records.{AreRecords, IsDamagedAt, page_size};
 ghost use Rattle.stores.specs.declared.fault.StoreFault.{StoreFault};
 ghost use Rattle.operator.specs.Pages.{Reads, Stops, Shows, FailsToWrite, FailsWithin};
 ghost use Rattle.operator.specs.Show.{FailsToShow, record_line, record_lines, shown};
 
-use inputs::{OpFault, store_fault, write_text};
+use command_faults::{OpFault, store_fault};
 use itoa::Buffer;
 use std::alloc::Global;
 use std::io::Write;
-use stores::{NodeStore, StoreFault};
+use stores::{NodeStore, PAGE, StoreFault};
+use streams::write_text;
 use units::{NoMemory, Node};
 use wire::{Input, encode_input};
-
-/// How many records are in memory at once.
-const PAGE: u64 = 256;
 
 /// Each record's place is below this number.
 const PLACE_LIMIT: u64 = 9_223_372_036_854_775_808;
@@ -54,11 +52,13 @@ fn lines_of(alloc: Global, first: u64, inputs: &[Input]) -> Result<Vec<u8>, NoMe
 /// Fails as `NodeStore::load` does, and with `NoMemory` where there are `PLACE_LIMIT` records, which no
 /// honest store has.
 fn count_records<S: NodeStore>(store: &mut S) -> Result<u64, StoreFault>
-    ensures ok { IfOk result (λ count. (inputs : List Input) × (length inputs ≡ count) × Reads S.is_honest S.content S.must_reopen S.faults store.old store.new 0 inputs
+    ensures ok { IfOk result (λ count. (inputs : List Input) × (length inputs ≡ count)
+        × Reads S.NodeStore store.old store.new 0 inputs
         × (S.is_honest store.new → AreRecords (S.content store.old) inputs)) }
     ensures runs { OnOk result (S.must_reopen store.new ≡ false) }
-    ensures err { IfErr result (λ fault. Stops S.is_honest S.content S.must_reopen S.faults store.old store.new fault) }
-    ensures damaged { S.is_honest store.new → IfErr result (λ fault. (p : ℕ) → fault ≡ StoreFault.Damaged p → IsDamagedAt p (S.content store.old)) }
+    ensures err { IfErr result (λ fault. Stops S.NodeStore store.old store.new fault) }
+    ensures damaged { S.is_honest store.new → IfErr result (λ fault. (p : ℕ) → fault ≡ StoreFault.Damaged p
+        → IsDamagedAt p (S.content store.old)) }
 {
     let mut count = 0u64;
     // A store that isn't honest may return full pages without end. Each of them counts for 256 records, so the
@@ -86,11 +86,13 @@ fn page_text<S: NodeStore>(
     count: u64,
 ) -> Result<Vec<u8>, StoreFault>
     requires { place < count }
-    ensures ok { IfOk result (λ text. (page : List Input) × (length page ≡ min 256 (count - place)) × (text.items ≡ record_lines place page)
-        × Reads S.is_honest S.content S.must_reopen S.faults store.old store.new place page) }
+    ensures ok { IfOk result (λ text. (page : List Input) × (length page ≡ min page_size (count - place))
+        × (text.items ≡ record_lines place page)
+        × Reads S.NodeStore store.old store.new place page) }
     ensures runs { OnOk result (S.must_reopen store.new ≡ false) }
-    ensures err { IfErr result (λ fault. Stops S.is_honest S.content S.must_reopen S.faults store.old store.new fault) }
-    ensures sound { S.is_honest store.new → (all : List Input) → AreRecords (S.content store.old) all → count ≤ length all
+    ensures err { IfErr result (λ fault. Stops S.NodeStore store.old store.new fault) }
+    ensures sound { S.is_honest store.new → (all : List Input) → AreRecords (S.content store.old) all
+        → count ≤ length all
         → IfErr result (λ fault. (p : ℕ) → fault ≢ StoreFault.Damaged p) }
 {
     let page = store.load_page(place, PAGE)?;
@@ -107,7 +109,8 @@ fn page_text<S: NodeStore>(
 /// `Write`: the writer failed, after the number of bytes that the fault tells, the earlier ones included.
 /// `NoMemory`: the number of all bytes has more than 64 bits; nothing of the text is written.
 fn write_more<W: Write>(writer: &mut W, written: u64, text: &[u8]) -> Result<u64, OpFault>
-    ensures ok { IfOk result (λ sum. (sum ≡ written + length text.now) × Appends (W.contents writer.old) (W.contents writer.new) text.now) }
+    ensures ok { IfOk result (λ sum. (sum ≡ written + length text.now)
+        × Appends (W.contents writer.old) (W.contents writer.new) text.now) }
     ensures err { IfErr result (λ e. FailsWithin e written text.now (W.contents writer.old) (W.contents writer.new)) }
 {
     let Some(sum) = written.checked_add(text.len() as u64) else {
@@ -132,9 +135,12 @@ fn write_records<S: NodeStore, W: Write>(
     count: u64,
 ) -> Result<u64, OpFault>
     requires { S.must_reopen store.old ≡ false }
-    ensures ok { IfOk result (λ written. Shows S.is_honest S.content S.must_reopen S.faults store.old store.new (W.contents writer.old) (W.contents writer.new) count written) }
-    ensures err { IfErr result (λ e. FailsToWrite e node count (S.is_honest store.new) (S.content store.old) (W.contents writer.old) (W.contents writer.new)) }
-    ensures stops { IfErr result (λ e. (fault : StoreFault) × Stops S.is_honest S.content S.must_reopen S.faults store.old store.new fault
+    ensures ok { IfOk result (λ written. Shows S.NodeStore store.old store.new (W.contents writer.old)
+        (W.contents writer.new) count written) }
+    ensures err { IfErr result
+        (λ e. FailsToWrite e node count (S.is_honest store.new) (S.content store.old) (W.contents writer.old)
+        (W.contents writer.new)) }
+    ensures stops { IfErr result (λ e. (fault : StoreFault) × Stops S.NodeStore store.old store.new fault
         × ((f : StoreFault) → e ≡ OpFault.Store node f → f ≡ fault)) }
 {
     let mut place = 0;
@@ -168,10 +174,15 @@ pub fn show<S: NodeStore, W: Write>(
 ) -> Result<(), OpFault>
     ensures ok { OnOk result ((inputs : List Input) × (S.is_honest store.new → AreRecords (S.content store.old) inputs)
         × Appends (W.contents writer.old) (W.contents writer.new) (shown inputs)) }
-    ensures err { IfErr result (λ e. FailsToShow e node (S.is_honest store.new) (S.content store.old) (W.contents writer.old) (W.contents writer.new)) }
-    ensures reopen { IsTrue (S.must_reopen store.old) → (result ≡ Err (OpFault.Store node StoreFault.Reopen)) × (store.new ≡ store.old) }
-    ensures named { S.must_reopen store.old ≡ false → IfErr result (λ e. (f : StoreFault) → e ≡ OpFault.Store node f → IsReadFault f) }
-    ensures cause { IfErr result (λ e. (f : StoreFault) → e ≡ OpFault.Store node f → IsTrue (is_device_fault f) → S.faults store.new ≢ S.faults store.old) }
+    ensures err { IfErr result
+        (λ e. FailsToShow e node (S.is_honest store.new) (S.content store.old) (W.contents writer.old)
+        (W.contents writer.new)) }
+    ensures reopen { IsTrue (S.must_reopen store.old) → (result ≡ Err (OpFault.Store node StoreFault.Reopen))
+        × (store.new ≡ store.old) }
+    ensures named { S.must_reopen store.old ≡ false → IfErr result (λ e. (f : StoreFault) → e ≡ OpFault.Store node f
+        → IsReadFault f) }
+    ensures cause { IfErr result (λ e. (f : StoreFault) → e ≡ OpFault.Store node f → IsTrue (is_device_fault f)
+        → S.faults store.new ≢ S.faults store.old) }
     ensures honest { S.is_honest store.new → S.is_honest store.old }
     ensures kept { S.is_honest store.new → S.must_reopen store.new ≡ false → S.content store.new ≡ S.content store.old }
 {

@@ -11,7 +11,7 @@ use Rattle.units.specs.declared.code.Node.TheVariants.{Itl, Registry}
 use Rattle.wire.specs.declared.input.Input.{Input}
 use Rattle.wire.specs.declared.input.Input.TheVariants.{Propose, Request, OpenAccount, CloseAccount, Ack, CleanUp, Eligible, Received}
 use Rattle.wire.specs.declared.message.Message.{Message}
-use Rattle.scheme.specs.declared.registries.Scheme.{Scheme}
+use Rattle.protocol.specs.Scheme.{Scheme}
 use Rattle.protocol.proofs.Histories.{history_snoc, history_from_append, length_history}
 use Rattle.protocol.specs.Deciding.{IsRecorded, IsRepeat, IsRefused, acknowledge}
 use Rattle.protocol.specs.History as history

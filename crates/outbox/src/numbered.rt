@@ -34,7 +34,8 @@ impl Model for Outbox {
 
     ghost view = { λ s. sent_in 0 s.records.items s.messages.items };
 
-    ghost invariant = { λ s. IsKept (sent_in 0 s.records.items s.messages.items) s.records.items s.messages.items s.places };
+    ghost invariant = { λ s. IsKept
+        (sent_in 0 s.records.items s.messages.items) s.records.items s.messages.items s.places };
 }
 
 /// The message with that key.
@@ -95,7 +96,8 @@ impl Outbox {
     /// Takes the last record back, which sends messages, as if `record` hadn't been called. Takes no memory.
     pub fn take_back(&mut self)
         requires { EndsWithMessages self.old }
-        ensures { (earlier : List Sent) (last : List Message) → self.old ≡ earlier ++ Sends last ∷ [] → self.new ≡ earlier }
+        ensures { (earlier : List Sent) (last : List Message) → self.old ≡ earlier ++ Sends last ∷ []
+            → self.new ≡ earlier }
     {
         self.records.pop();
         let start = sends_after(self.records.as_slice());
@@ -150,7 +152,8 @@ impl Outbox {
     /// The least key, from that one on, of a message that goes to `peer` and isn't acknowledged; or `None` where
     /// there is no such message.
     pub fn next_unacknowledged(&self, peer: Node, from: usize) -> Option<usize>
-        ensures { IsLeastFrom (awaits (sending.messages self.now) (sending.is_key_acknowledged self.now) peer) from result }
+        ensures { IsLeastFrom
+            (awaits (sending.messages self.now) (sending.is_key_acknowledged self.now) peer) from result }
     {
         let first = place(peer, from);
         let found = self.places.range(first..).next()?;

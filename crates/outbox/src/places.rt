@@ -28,7 +28,8 @@ pub(crate) fn place(node: Node, key: usize) -> Place
 /// Takes the places of these messages out, whose keys go up from `start`. Takes no memory.
 pub(crate) fn forget_all(places: &mut BTreeSet<Place>, start: usize, messages: &[Message])
     requires { start + length messages.now < 2 ^ 64 }
-    ensures { (q : Place) → contains place_cmp places.new q ≡ (contains place_cmp places.old q && not (among start messages.now q)) }
+    ensures { (q : Place) → contains place_cmp places.new q ≡ (contains place_cmp places.old q && not
+        (among start messages.now q)) }
 {
     for (i, message) in messages.iter().enumerate() {
         places.remove(&place(message.receiver(), start + i));
@@ -38,7 +39,8 @@ pub(crate) fn forget_all(places: &mut BTreeSet<Place>, start: usize, messages: &
 /// Takes the places of the messages from key `start` on out. Takes no memory.
 pub(crate) fn forget_from(places: &mut BTreeSet<Place>, start: usize, messages: &[Message])
     requires { start ≤ length messages.now }
-    ensures { (q : Place) → contains place_cmp places.new q ≡ (contains place_cmp places.old q && not (among start (drop start messages.now) q)) }
+    ensures { (q : Place) → contains place_cmp places.new q ≡ (contains place_cmp places.old q && not (among start
+        (drop start messages.now) q)) }
 {
     forget_all(places, start, &messages[start..]);
 }
@@ -52,7 +54,8 @@ pub(crate) fn await_all(
 ) -> Result<(), NoMemory>
     requires fits { start + length messages.now < 2 ^ 64 }
     requires above { (q : Place) → start ≤ q.key → contains place_cmp places.old q ≡ false }
-    ensures ok { OnOk result ((q : Place) → contains place_cmp places.new q ≡ (contains place_cmp places.old q || among start messages.now q)) }
+    ensures ok { OnOk result ((q : Place)
+        → contains place_cmp places.new q ≡ (contains place_cmp places.old q || among start messages.now q)) }
     ensures err { OnErr result ((q : Place) → contains place_cmp places.new q ≡ contains place_cmp places.old q) }
 {
     for (i, message) in messages.iter().enumerate() {

@@ -15,9 +15,9 @@ use Rattle.protocol.specs.Checks.{is_out_of_range}
 use Rattle.units.specs.Canonical.{canonical, put_block, join_block, in_order, joined, comes_before, goes_on}
 use Rattle.units.specs.Unit.{have_unit}
 use Rattle.protocol.specs.Pieces.{Piece, piece, pieces, pieces_of, repeats, same_unit, up_from}
-use Rattle.lemmas.proofs.SomePass.{list_any_some, list_any_none, list_any_not}
+use Rattle.units.proofs.Lists.SomePass.{list_any_some, list_any_none, list_any_not}
 use Rattle.protocol.proofs.CountsInLists.{count_yes, count_no, number_none, number_append, number_one, number_some}
-use Rattle.lemmas.proofs.Membership.{In, In_cases, In_left, In_right, In_find}
+use Rattle.units.proofs.Lists.Membership.{In, In_cases, In_left, In_right, In_find}
 use Rattle.protocol.proofs.UnitsOfBlocks.{unit_of_same, same_unit_refl, piece_of}
 
 abbrev is_at : Serial → Piece → Bool

@@ -6,8 +6,8 @@ use Rattle.std.proofs.lemmas.List.Sums.{sum_by-cons}
 use Rattle.std.proofs.lemmas.Bool.{or_parts, cond-true, cond-false, cases_Bool}
 use Rattle.status.specs.declared.id.TransactionId.{TransactionId}
 use Rattle.protocol.specs.History.{Transition}
-use Rattle.lemmas.proofs.Membership.{In, In_cond}
-use Rattle.lemmas.proofs.SomePass.{list_any_some}
+use Rattle.units.proofs.Lists.Membership.{In, In_cond}
+use Rattle.units.proofs.Lists.SomePass.{list_any_some}
 
 -- ---- how many pass
 

@@ -17,7 +17,7 @@ use Rattle.units.proofs.UnitOrder.{code_below}
 use Rattle.scheme.specs.Order.{member}
 use Rattle.scheme.specs.declared.members.SchemeRegistry.{SchemeRegistry}
 use Rattle.scheme.specs.declared.registries.Scheme.{Scheme}
-use Rattle.lemmas.proofs.FirstPlaces.{place_below, place_find, place_later, place_map, place_passes, place_there}
+use Rattle.units.proofs.Lists.FirstPlaces.{place_below, place_find, place_later, place_map, place_passes, place_there}
 use Rattle.scheme.proofs.Searching.{AreOrdered, has_code}
 use Rattle.protocol.specs.Registries.{is_node, nodes, place_of}
 

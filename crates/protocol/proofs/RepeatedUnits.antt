@@ -10,8 +10,8 @@ use Rattle.units.specs.declared.block.RawBlock.{RawBlock}
 use Rattle.units.specs.declared.block.Unit.{Unit as Serial}
 use Rattle.status.specs.Content.{raws}
 use Rattle.protocol.specs.Pieces.{Piece, piece, pieces, pieces_of, repeats, same_unit, up_from}
-use Rattle.lemmas.proofs.Membership.{In, In_cases, In_left, In_right, In_map}
-use Rattle.lemmas.proofs.SomePass.{list_any_none, list_any_not}
+use Rattle.units.proofs.Lists.Membership.{In, In_cases, In_left, In_right, In_map}
+use Rattle.units.proofs.Lists.SomePass.{list_any_none, list_any_not}
 use Rattle.protocol.proofs.UnitsOfBlocks.{unit_of_same, same_unit_refl, In_up, block_of_piece, piece_of_block}
 
 -- ---- two lists of pieces

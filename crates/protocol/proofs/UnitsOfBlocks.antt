@@ -8,7 +8,7 @@ use Rattle.units.specs.Unit.{has_unit, same_period, period_index, have_unit}
 use Rattle.units.specs.declared.block.RawBlock.{RawBlock}
 use Rattle.units.specs.declared.block.Unit.{Unit as Serial}
 use Rattle.protocol.specs.Pieces.{Piece, piece, pieces, pieces_of, same_unit, up_from}
-use Rattle.lemmas.proofs.Membership.{In, In_cases, In_left, In_right, In_map, map_In}
+use Rattle.units.proofs.Lists.Membership.{In, In_cases, In_left, In_right, In_map, map_In}
 
 pub unit_of_same : (a b : Serial) → same_unit a b ≡ true → a ≡ b
 unit_of_same a b e =

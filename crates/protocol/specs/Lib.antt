@@ -19,3 +19,13 @@ pub mod Owner
 pub mod WayOut
 pub mod Weave
 pub mod Plausible
+pub use Rattle.units.specs.Code
+pub use Rattle.units.specs.declared.code.Node
+pub use Rattle.status.specs.declared.moment.Moment
+pub use Rattle.status.specs.declared.status.Status
+pub use Rattle.wire.specs.declared.input.Input
+pub use Rattle.wire.specs.declared.message.Message
+pub use Rattle.wire.specs.declared.message.Proposal
+pub use Rattle.wire.specs.declared.notified.NotifiedStatus
+pub use Rattle.scheme.specs.declared.registries.Scheme
+pub use Rattle.units.specs.Keys

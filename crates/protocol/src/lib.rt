@@ -19,3 +19,9 @@ pub use nodes::{node_at, nodes_of, place_of};
 pub use refusals::refusals_have_causes;
 pub use replay_fault::ReplayFault;
 pub use resuming::{replay, resume};
+
+// What the definitions speak of, for who needs no more of these crates than their types.
+pub use scheme;
+pub use status;
+pub use units;
+pub use wire;

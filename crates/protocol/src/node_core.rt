@@ -54,7 +54,8 @@ pub trait NodeCore: Drop {
     /// `OUT_OF_MEMORY` may come in place of any of these. Where the input isn't recorded, nothing has changed.
     fn step(&mut self, input: &Input) -> Result<Stepped, Refusal>
         ensures memory { IfErr result (λ refusal. refusal.code ≡ out_of_memory → lacked_memory self.old input.now) }
-        ensures answer { IsDueOrNoMemory result (answer (scheme_of self.old) (node_of self.old) (journal_of self.old) input.now) }
+        ensures answer { IsDueOrNoMemory result
+            (answer (scheme_of self.old) (node_of self.old) (journal_of self.old) input.now) }
         ensures journal { journal_of self.new ≡ after (journal_of self.old) input.now result }
         ensures scheme { scheme_of self.new ≡ scheme_of self.old }
         ensures node { node_of self.new ≡ node_of self.old };
@@ -62,11 +63,13 @@ pub trait NodeCore: Drop {
     /// The message with that key, or `None` where none has it. A message's key is its place among all that the
     /// journal sends, counted from 0.
     fn outbox(&self, key: usize) -> Option<&Message>
-        ensures { option_copied result ≡ slice_get (sends (history (scheme_of self.now) (node_of self.now) (journal_of self.now))) key };
+        ensures { option_copied result
+            ≡ slice_get (sends (history (scheme_of self.now) (node_of self.now) (journal_of self.now))) key };
 
     /// Whether a record of the journal acknowledges the message with that key.
     fn acknowledged(&self, key: usize) -> bool
-        ensures { result ≡ is_acknowledged (history (scheme_of self.now) (node_of self.now) (journal_of self.now)) key };
+        ensures { result ≡ is_acknowledged
+            (history (scheme_of self.now) (node_of self.now) (journal_of self.now)) key };
 
     /// The number of messages that the journal sends.
     fn sends(&self) -> usize
@@ -78,16 +81,19 @@ pub trait NodeCore: Drop {
 
     /// Where a transaction stands, or `None` where no record is about it.
     fn status_of(&self, id: TransactionId) -> Option<Status>
-        ensures { result ≡ stands (transitions_of (history (scheme_of self.now) (node_of self.now) (journal_of self.now))) id };
+        ensures { result ≡ stands
+            (transitions_of (history (scheme_of self.now) (node_of self.now) (journal_of self.now))) id };
 
     /// The number of messages that the first `records` records send.
     fn sent_by(&self, records: usize) -> usize
-        ensures { result ≡ length (sends (history (scheme_of self.now) (node_of self.now) (take records (journal_of self.now)))) };
+        ensures { result ≡ length
+            (sends (history (scheme_of self.now) (node_of self.now) (take records (journal_of self.now)))) };
 
     /// The least key, from that one on, of a message that goes to `peer` and isn't acknowledged; or `None` where
     /// there is no such message.
     fn next_unacknowledged(&self, peer: Node, from: usize) -> Option<usize>
-        ensures { let es = history (scheme_of self.now) (node_of self.now) (journal_of self.now) in IsLeastFrom (awaits (sends es) (is_acknowledged es) peer) from result };
+        ensures { let es = history (scheme_of self.now) (node_of self.now) (journal_of self.now) in IsLeastFrom
+            (awaits (sends es) (is_acknowledged es) peer) from result };
 
     /// The core of the empty journal, under the same scheme and at the same node; or `NoMemory`.
     fn fresh(&self) -> Result<Self, NoMemory>

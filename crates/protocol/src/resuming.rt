@@ -15,7 +15,8 @@ fn resume_one<C: NodeCore>(core: &mut C, input: &Input) -> Result<(), ReplayFaul
     ensures node { C.node_of core.new ≡ C.node_of core.old }
     ensures ok { OnOk result (C.journal_of core.new ≡ C.journal_of core.old ++ input.now ∷ []) }
     ensures err { OnErr result (C.journal_of core.new ≡ C.journal_of core.old) }
-    ensures fault { IfErr result (HasFault (C.scheme_of core.old) (C.node_of core.old) (C.journal_of core.old ++ input.now ∷ [])) }
+    ensures fault { IfErr result
+        (HasFault (C.scheme_of core.old) (C.node_of core.old) (C.journal_of core.old ++ input.now ∷ [])) }
     ensures place { IfErr result (IsAt (length (C.journal_of core.old))) }
     ensures memory { IfErr result (λ e. e ≡ NoMemory → C.lacked_memory core.old input.now) }
 {
@@ -38,11 +39,15 @@ pub fn resume<C: NodeCore>(core: &mut C, inputs: &[Input]) -> Result<(), ReplayF
     ensures scheme { C.scheme_of core.new ≡ C.scheme_of core.old }
     ensures node { C.node_of core.new ≡ C.node_of core.old }
     ensures ok { OnOk result (C.journal_of core.new ≡ C.journal_of core.old ++ inputs.now) }
-    ensures prefix { C.journal_of core.new ≡ C.journal_of core.old ++ take (length (C.journal_of core.new) - length (C.journal_of core.old)) inputs.now }
+    ensures prefix { C.journal_of core.new
+        ≡ C.journal_of core.old ++ take (length (C.journal_of core.new) - length (C.journal_of core.old)) inputs.now }
     ensures left { OnErr result (length (C.journal_of core.new) < length (C.journal_of core.old ++ inputs.now)) }
-    ensures fault { IfErr result (HasFault (C.scheme_of core.old) (C.node_of core.old) (C.journal_of core.old ++ inputs.now)) }
+    ensures fault { IfErr result
+        (HasFault (C.scheme_of core.old) (C.node_of core.old) (C.journal_of core.old ++ inputs.now)) }
     ensures place { IfErr result (IsAt (length (C.journal_of core.new))) }
-    ensures memory { IfErr result (λ e. e ≡ NoMemory → (before : C) × (input : Input) × (slice_get inputs.now (length (C.journal_of core.new) - length (C.journal_of core.old)) ≡ Some input) × (C.journal_of before ≡ C.journal_of core.new) × C.lacked_memory before input) }
+    ensures memory { IfErr result (λ e. e ≡ NoMemory → (before : C) × (input : Input)
+        × (slice_get inputs.now (length (C.journal_of core.new) - length (C.journal_of core.old)) ≡ Some input)
+        × (C.journal_of before ≡ C.journal_of core.new) × C.lacked_memory before input) }
 {
     for input in inputs {
         resume_one(core, input)?;

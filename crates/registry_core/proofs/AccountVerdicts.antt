@@ -6,7 +6,7 @@ use Rattle.accounts.specs.declared.unit_holding.AccountStatus.TheVariants.{Close
 use Rattle.units.specs.declared.code.Code.{Code}
 use Rattle.protocol.specs.History.{Entry, is_closed, transitions_of}
 use Rattle.accounts.specs.Refusals.{HasUnits, IsCloseRefusal, IsOpenRefusal}
-use Rattle.accounts.specs.Holdings.{Held}
+use Rattle.accounts.specs.Holdings.{HoldingsView}
 use Rattle.protocol.specs.Deciding.{IsRefused, recorded_if_room, refuse}
 use Rattle.std.proofs.Common.{List, None, Some, [], ap, cond, false, inl, inr, not, sym, true, ℕ, ◌∙◌, ◌∷◌, ◌≡◌}
 use Rattle.wire.specs.declared.input.Number.{Number}
@@ -20,7 +20,7 @@ use Rattle.registry_core.specs.Readings.{unit_holding_at, account_status_at}
 use Rattle.registry_core.proofs.StatusesOfAccounts.{open_account_status, shut_account_status, unknown_account_status}
 use Rattle.registry_core.proofs.UsedAccounts.{units_used, used_units}
 
-module _ (scheme : Scheme) (c : Code) (es : List Entry) (held : Held) (accounts : (n : ℕ) → map.get held.accounts n ≡ account_status_at scheme c es n) where
+module _ (scheme : Scheme) (c : Code) (es : List Entry) (held : HoldingsView) (accounts : (n : ℕ) → map.get held.accounts n ≡ account_status_at scheme c es n) where
   there_open : (n : ℕ) → map.get held.accounts n ≡ Some Open → (has_account scheme c n ≡ true) × (is_closed es n ≡ false)
   there_open n e = open_account_status scheme c es n (sym (accounts n) ∙ e)
 

@@ -6,7 +6,7 @@ use Rattle.units.specs.declared.block.Block.{Block}
 use Rattle.units.specs.declared.code.Code.{Code}
 use Rattle.status.specs.Content.{Content, raws}
 use Rattle.protocol.specs.History.{Entry, Transition, newest, proposals, transitions_of}
-use Rattle.lemmas.proofs.Membership.{In, In_cases, In_left, In_right}
+use Rattle.units.proofs.Lists.Membership.{In, In_cases, In_left, In_right}
 use Rattle.wire.specs.declared.input.Input.{Input}
 use Rattle.std.proofs.Common.{List, Some, [], ap, false, inl, inr, not, refl, subst, true, ◌++◌, ◌+◌, ◌||◌, ◌∙◌, ◌∷◌, ◌≡◌}
 use Rattle.safety.proofs.MovesAndHistories.NewestTransitions.{Made, made_registry, newest_id}
@@ -18,8 +18,8 @@ use Rattle.units.specs.declared.code.Node.TheVariants.{Registry}
 use Rattle.safety.proofs.MovesAndHistories.TableMoves.{RegistryMove, arrives, asks, bares, finishes, proposes, refuse_made, settles}
 use Rattle.scheme.specs.declared.registries.Scheme.{Scheme}
 use Rattle.status.specs.declared.id.TransactionId.{TransactionId}
-use Rattle.lemmas.proofs.OneValue.{clash, one_some}
-use Rattle.lemmas.proofs.SomePass.{list_any_none}
+use Rattle.units.proofs.Lists.OneValue.{clash, one_some}
+use Rattle.units.proofs.Lists.SomePass.{list_any_none}
 use Rattle.protocol.specs.Verdict.{transitions_made, verdict}
 use Rattle.std.proofs.lemmas.Bool.{or_parts}
 use Rattle.safety.proofs.OneRegistry.TransactionEnds.{own_code}

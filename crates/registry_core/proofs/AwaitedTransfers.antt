@@ -12,7 +12,7 @@ use Rattle.registry_core.proofs.SoundHistories.{Sound, sound_history}
 use Rattle.status.specs.declared.id.TransactionId.{TransactionId}
 use Rattle.std.proofs.lemmas.Bool.{and_from, and_parts, eq-eqb, eqb-true, not-true}
 use Rattle.protocol.specs.AtRegistry.{is_awaited}
-use Rattle.lemmas.proofs.SomePass.{list_any_in, list_any_some}
+use Rattle.units.proofs.Lists.SomePass.{list_any_in, list_any_some}
 use Rattle.safety.proofs.MovesAndHistories.TableMoves.{newest_some}
 use Rattle.std.specs.Prelude.{option_map}
 use Rattle.std.specs.Option.{option_map_or}

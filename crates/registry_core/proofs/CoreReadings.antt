@@ -29,7 +29,7 @@ use Rattle.outbox.proofs.OutgoingRecords.{acknowledged_outgoing, messages_outgoi
 use Rattle.safety.proofs.OneRegistry.UnitsCountedOnce.{Waits, counted_once}
 use Rattle.registry_core.specs.Kept.{IsKept}
 use Rattle.registry_core.specs.Readings.{unit_holding_at, reserver, account_status_at}
-use Rattle.registry_core.specs.Registry.{IsReserving, Registry as Core, moves, past}
+use Rattle.registry_core.specs.Registry.{IsReserving, RegistryCoreView as Core, moves, past}
 use Rattle.registry_core.specs.declared.tables.Tables.{Tables}
 use Rattle.registry_core.proofs.UnitHoldingsOfUnits.{waits_reserver, held_place, unit_holding_is_held, unit_holding_of_held, unit_holding_of_unheld, reserved_some, reserver_waits, unheld_reserver, waits_held}
 use Rattle.registry_core.proofs.SoundHistories.{Sound, sound_history}

@@ -32,7 +32,7 @@ use Rattle.protocol.specs.Checks.{Causes}
 use Rattle.protocol.specs.Cores.{IsDueOrNoMemory}
 use Rattle.protocol.specs.Deciding as decide
 use Rattle.protocol.specs.Effects.{acquirer_sends, initiator_sends}
-use Rattle.lemmas.proofs.OneValue.{clash}
+use Rattle.units.proofs.Lists.OneValue.{clash}
 use Rattle.protocol.specs.Deciding.{IsLate, IsRefused, IsRepeat, by_row, content_in, recorded_if_room, known, refuse}
 use Rattle.protocol.specs.Decisions.{decided, unless}
 use Rattle.protocol.specs.History.{Entry, Transition, newest, transitions_of}

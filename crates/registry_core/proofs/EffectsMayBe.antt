@@ -21,8 +21,8 @@ use Rattle.protocol.specs.History.{Entry, Transition, newest, transitions_of}
 use Rattle.protocol.specs.Verdict.{history, transitions_made, verdict}
 use Rattle.acquirer.specs.Crediting.{MayCredit}
 use Rattle.acquirer.specs.Transfers as acquirer
-use Rattle.lemmas.proofs.Membership.{In}
-use Rattle.lemmas.proofs.OneValue.{clash}
+use Rattle.units.proofs.Lists.Membership.{In}
+use Rattle.units.proofs.Lists.OneValue.{clash}
 use Rattle.safety.proofs.MovesAndHistories.TableMoves.{RegistryMove, arrives, asks, bares, finishes, proposes, registry_moves, settles}
 use Rattle.safety.proofs.MovesAndHistories.TableRows.{acquirer_from}
 use Rattle.safety.proofs.OneRegistry.UnitsCountedOnce.{and_second}

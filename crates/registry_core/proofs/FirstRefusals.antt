@@ -22,7 +22,7 @@ use Rattle.status.specs.Rows.{initiator_row}
 use Rattle.protocol.specs.Effects.{initiator_sends}
 use Rattle.protocol.specs.Verdict.{transitions_made}
 use Rattle.safety.proofs.OneRegistry.ProposalNumbers.{next_is_new}
-use Rattle.lemmas.proofs.OneValue.{one_some}
+use Rattle.units.proofs.Lists.OneValue.{one_some}
 use Rattle.safety.proofs.MovesAndHistories.TransitionForms.{proposed}
 use Rattle.units.specs.RefusalCodes.{transactions_used_up}
 

@@ -43,18 +43,18 @@ use Rattle.protocol.specs.Verdict.{history, verdict}
 use Rattle.outbox.specs.Outgoing.{did, outgoing}
 use Rattle.outbox.specs.Sending.{Sends, Sent}
 use Rattle.initiator.specs.Transfers as initiator
-use Rattle.initiator.specs.Transfers.{Initiating}
+use Rattle.initiator.specs.Transfers.{InitiatorView}
 use Rattle.initiator.specs.declared.transfer.Cancellation.TheVariants.{Asked, NotAsked}
 use Rattle.initiator.specs.declared.transfer.Transfer.{Transfer as Outgoing}
 use Rattle.acquirer.specs.Transfers as acquirer
-use Rattle.acquirer.specs.Transfers.{Acquiring}
+use Rattle.acquirer.specs.Transfers.{AcquirerView}
 use Rattle.acquirer.specs.declared.transfer.Transfer.{Transfer as Incoming}
 use Rattle.safety.proofs.MovesAndHistories.NewestTransitions.{Made, newest_id}
 use Rattle.safety.proofs.MovesAndHistories.TableMoves.{NoneStands, RegistryMove, arrives, asks, bares, finishes, proposes, settles}
 use Rattle.safety.proofs.MovesAndHistories.TableRows.{acquirer_from}
 use Rattle.safety.proofs.MovesAndHistories.TransitionForms.{arrived, asking, bare, moved, proposed, settled_messages}
 use Rattle.safety.proofs.OneRegistry.TransactionEnds.{known, own_code}
-use Rattle.lemmas.proofs.OneValue.{clash, one_some}
+use Rattle.units.proofs.Lists.OneValue.{clash, one_some}
 use Rattle.registry_core.specs.Effects.{Carried, ChangedAt, IsEffect}
 use Rattle.registry_core.specs.Kept.{AreKept, IsKept}
 use Rattle.registry_core.specs.Readings.{foreign_row, is_foreign, is_own, own_row, row_at, account_status_at}
@@ -108,14 +108,14 @@ module _ (scheme : Scheme) (c : Code) (es : List Entry) (tables tables' : Tables
   own_stays : (e : Entry) (x : Transition) → is_request_order e.input ≡ false → same_code x.id.code c ≡ false → tables'.initiator ≡ tables.initiator → (t : TransactionId)
       → map.get tables'.initiator.transfers t ≡ row_at (is_own c) (own_row (e ∷ es)) (x ∷ transitions_of es) t
   own_stays e x other foreign same t =
-      ap (λ (i : Initiating). map.get i.transfers t) same
+      ap (λ (i : InitiatorView). map.get i.transfers t) same
       ∙ kept.own t
       ∙ row_kept (is_own c) (own_row es) (own_row (e ∷ es)) x (transitions_of es) (λ u k d. rows_same es (e ∷ es) u (requested_kept e es other u)) foreign t
 
   foreign_stays : (x : Transition) → same_code x.id.code c ≡ true → tables'.acquirer ≡ tables.acquirer → (t : TransactionId)
       → map.get tables'.acquirer.transfers t ≡ row_at (is_foreign c) foreign_row (x ∷ transitions_of es) t
   foreign_stays x own same t =
-      ap (λ (a : Acquiring). map.get a.transfers t) same ∙ kept.foreign t ∙ row_kept (is_foreign c) foreign_row foreign_row x (transitions_of es) (λ u k d. refl) (ap not own) t
+      ap (λ (a : AcquirerView). map.get a.transfers t) same ∙ kept.foreign t ∙ row_kept (is_foreign c) foreign_row foreign_row x (transitions_of es) (λ u k d. refl) (ap not own) t
 
   -- ---- a transfer out of the registry
 
@@ -140,7 +140,7 @@ module _ (scheme : Scheme) (c : Code) (es : List Entry) (tables tables' : Tables
         last = carried.1 ∙ ap (λ (u : TransactionId). u.number) back ∙ id_at-number c (proposals es + 1) t is ∙ sym (proposals_more e es o refl);
         own = row_put (is_own c) (own_row es) (own_row (e ∷ es)) x (transitions_of es) (λ u k d. rows_same es (e ∷ es) u (requested_kept e es refl u)) (map.get tables.initiator.transfers) (map.get tables'.initiator.transfers) own
             kept.own (λ u. changed u ∙ ap (λ (r : Outgoing). if same_id t u then Some r else map.get tables.initiator.transfers u) row);
-        acquirer = ap (λ (a : Acquiring). a.code) carried.3 ∙ kept.acquirer;
+        acquirer = ap (λ (a : AcquirerView). a.code) carried.3 ∙ kept.acquirer;
         foreign = foreign_stays x own carried.3;
         sent = sent_so (Propose o) x refl sent;
       }
@@ -165,7 +165,7 @@ module _ (scheme : Scheme) (c : Code) (es : List Entry) (tables tables' : Tables
         own = row_changed (is_own c) (own_row es) (own_row (e ∷ es)) x (transitions_of es)
             (λ u k d. rows_same es (e ∷ es) u (requested_more e es t u refl ∙ ap (λ b. b || is_requested es u) (subst (λ v. same_id v u ≡ false) about d))) initiator.asked q (map.get tables.initiator.transfers)
             (map.get tables'.initiator.transfers) mine (ap (newest (transitions_of es)) about ∙ was) (λ i. own_with (status i) (requested i)) kept.own changed;
-        acquirer = ap (λ (a : Acquiring). a.code) carried.3 ∙ kept.acquirer;
+        acquirer = ap (λ (a : AcquirerView). a.code) carried.3 ∙ kept.acquirer;
         foreign = foreign_stays x mine carried.3;
         sent = sent_so (Request t) x refl sent;
       }
@@ -195,7 +195,7 @@ module _ (scheme : Scheme) (c : Code) (es : List Entry) (tables tables' : Tables
         last = carried.1 ∙ kept.last ∙ sym (proposals_kept e es refl);
         own = row_changed (is_own c) (own_row es) (own_row (e ∷ es)) x (transitions_of es) (λ u k d. rows_same es (e ∷ es) u (requested_kept e es refl u)) (initiator.settled new) q (map.get tables.initiator.transfers)
             (map.get tables'.initiator.transfers) mine (ap (newest (transitions_of es)) about ∙ was) (λ i. own_with (status i) (requested i)) kept.own changed;
-        acquirer = ap (λ (a : Acquiring). a.code) carried.3 ∙ kept.acquirer;
+        acquirer = ap (λ (a : AcquirerView). a.code) carried.3 ∙ kept.acquirer;
         foreign = foreign_stays x mine carried.3;
         sent = sent_so input x refl sent;
       }
@@ -218,8 +218,8 @@ module _ (scheme : Scheme) (c : Code) (es : List Entry) (tables tables' : Tables
       record {
         unit_holdings = λ s. ap (λ h. map.get h.unit_holdings s) carried.3 ∙ kept.unit_holdings s ∙ sym (unit_holding_arrived scheme c es made_so p.id p.content moment.seconds found none other s);
         accounts = accounts_so e refl (ap (λ h. h.accounts) carried.3);
-        initiator = ap (λ (i : Initiating). i.code) carried.0 ∙ kept.initiator;
-        last = ap (λ (i : Initiating). i.last) carried.0 ∙ kept.last ∙ sym (proposals_kept e es refl);
+        initiator = ap (λ (i : InitiatorView). i.code) carried.0 ∙ kept.initiator;
+        last = ap (λ (i : InitiatorView). i.last) carried.0 ∙ kept.last ∙ sym (proposals_kept e es refl);
         own = own_stays e x refl other carried.0;
         acquirer = carried.1 ∙ kept.acquirer;
         foreign = row_put (is_foreign c) foreign_row foreign_row x (transitions_of es) (λ u k d. refl) (map.get tables.acquirer.transfers) (map.get tables'.acquirer.transfers) (ap not other) kept.foreign
@@ -238,8 +238,8 @@ module _ (scheme : Scheme) (c : Code) (es : List Entry) (tables tables' : Tables
       record {
         unit_holdings = λ s. ap (λ h. map.get h.unit_holdings s) carried.3 ∙ kept.unit_holdings s ∙ sym (unit_holding_bare scheme c es made_so n.id moment.seconds none other s);
         accounts = accounts_so e refl (ap (λ h. h.accounts) carried.3);
-        initiator = ap (λ (i : Initiating). i.code) carried.0 ∙ kept.initiator;
-        last = ap (λ (i : Initiating). i.last) carried.0 ∙ kept.last ∙ sym (proposals_kept e es refl);
+        initiator = ap (λ (i : InitiatorView). i.code) carried.0 ∙ kept.initiator;
+        last = ap (λ (i : InitiatorView). i.last) carried.0 ∙ kept.last ∙ sym (proposals_kept e es refl);
         own = own_stays e x refl other carried.0;
         acquirer = carried.1 ∙ kept.acquirer;
         foreign = row_put (is_foreign c) foreign_row foreign_row x (transitions_of es) (λ u k d. refl) (map.get tables.acquirer.transfers) (map.get tables'.acquirer.transfers) (ap not other) kept.foreign changed;
@@ -270,8 +270,8 @@ module _ (scheme : Scheme) (c : Code) (es : List Entry) (tables tables' : Tables
       record {
         unit_holdings = λ s. ap (λ h. map.get h.unit_holdings s) carried.3 ∙ kept.unit_holdings s ∙ sym (unit_holding_unmoved scheme c es made_so n.id (notified_status n.notified) q told moment.seconds was other move (cancelled_open told status) s);
         accounts = accounts_so e refl (ap (λ h. h.accounts) carried.3);
-        initiator = ap (λ (i : Initiating). i.code) carried.0 ∙ kept.initiator;
-        last = ap (λ (i : Initiating). i.last) carried.0 ∙ kept.last ∙ sym (proposals_kept e es refl);
+        initiator = ap (λ (i : InitiatorView). i.code) carried.0 ∙ kept.initiator;
+        last = ap (λ (i : InitiatorView). i.last) carried.0 ∙ kept.last ∙ sym (proposals_kept e es refl);
         own = own_stays e x refl theirs carried.0;
         acquirer = carried.1 ∙ kept.acquirer;
         foreign = ended_foreign q n.id id told Cancelled moment.seconds was other same status carried.2;
@@ -306,8 +306,8 @@ module _ (scheme : Scheme) (c : Code) (es : List Entry) (tables tables' : Tables
             ∙ ap (option_or (option_map (free_unit_holding k.0.to_account) (kind_in blocks.0 s))) (kept.unit_holdings s)
             ∙ sym (unit_holding_credited scheme c es made_so n.id (notified_status n.notified) q told moment.seconds k.0 blocks.0 was other move status k.1 none blocks.1 s);
         accounts = accounts_so e refl carried.3;
-        initiator = ap (λ (i : Initiating). i.code) carried.0 ∙ kept.initiator;
-        last = ap (λ (i : Initiating). i.last) carried.0 ∙ kept.last ∙ sym (proposals_kept e es refl);
+        initiator = ap (λ (i : InitiatorView). i.code) carried.0 ∙ kept.initiator;
+        last = ap (λ (i : InitiatorView). i.last) carried.0 ∙ kept.last ∙ sym (proposals_kept e es refl);
         own = own_stays e x refl theirs carried.0;
         acquirer = carried.1 ∙ kept.acquirer;
         foreign = ended_foreign q n.id id told Completed moment.seconds was other same status carried.2;

@@ -23,9 +23,9 @@ use Rattle.protocol.specs.Registries.{has_account}
 use Rattle.protocol.specs.Verdict.{history, verdict}
 use Rattle.outbox.specs.Outgoing.{did, outgoing}
 use Rattle.outbox.specs.Sending.{Acknowledges, Sends, Sent}
-use Rattle.initiator.specs.Transfers.{Initiating}
+use Rattle.initiator.specs.Transfers.{InitiatorView}
 use Rattle.initiator.specs.declared.transfer.Transfer.{Transfer as Outgoing}
-use Rattle.acquirer.specs.Transfers.{Acquiring}
+use Rattle.acquirer.specs.Transfers.{AcquirerView}
 use Rattle.registry_core.specs.Kept.{AreKept, IsKept}
 use Rattle.registry_core.specs.Readings.{foreign_row, is_foreign, is_own, unit_holding_at, own_row, row_at, account_status_at}
 use Rattle.registry_core.specs.declared.tables.Tables.{Tables}
@@ -49,14 +49,14 @@ module _ (scheme : Scheme) (c : Code) (es : List Entry) (tables tables' : Tables
       record {
         unit_holdings = λ s. ap (λ m. map.get m s) unit_holdings ∙ kept.unit_holdings s;
         accounts = accounts;
-        initiator = ap (λ (i : Initiating). i.code) initiating ∙ kept.initiator;
-        last = ap (λ (i : Initiating). i.last) initiating ∙ kept.last ∙ sym (proposals_kept e es proposes);
+        initiator = ap (λ (i : InitiatorView). i.code) initiating ∙ kept.initiator;
+        last = ap (λ (i : InitiatorView). i.last) initiating ∙ kept.last ∙ sym (proposals_kept e es proposes);
         own = λ t.
-            ap (λ (i : Initiating). map.get i.transfers t) initiating
+            ap (λ (i : InitiatorView). map.get i.transfers t) initiating
             ∙ kept.own t
             ∙ ap (λ (row : Transition → Outgoing). cond (is_own c t) (option_map row (newest (transitions_of es) t)) None) (sym (rows_same es (e ∷ es) t (requested_kept e es asks t)));
-        acquirer = ap (λ (a : Acquiring). a.code) acquiring ∙ kept.acquirer;
-        foreign = λ t. ap (λ (a : Acquiring). map.get a.transfers t) acquiring ∙ kept.foreign t;
+        acquirer = ap (λ (a : AcquirerView). a.code) acquiring ∙ kept.acquirer;
+        foreign = λ t. ap (λ (a : AcquirerView). map.get a.transfers t) acquiring ∙ kept.foreign t;
         sent = sent ∙ ap (λ (l : List Sent). l ++ done ∷ []) kept.sent ∙ ap (λ (d : Sent). outgoing es ++ d ∷ []) (sym does);
       }
 
@@ -120,11 +120,11 @@ opening_kept scheme c tables unit_holdings accounts initiating acquiring sent =
     record {
       unit_holdings = unit_holdings;
       accounts = accounts;
-      initiator = ap (λ (i : Initiating). i.code) initiating;
-      last = ap (λ (i : Initiating). i.last) initiating;
-      own = λ t. ap (λ (i : Initiating). map.get i.transfers t) initiating ∙ map.get-empty id_cmp t ∙ sym (row_none (is_own c) (own_row []) [] t refl);
-      acquirer = ap (λ (a : Acquiring). a.code) acquiring;
-      foreign = λ t. ap (λ (a : Acquiring). map.get a.transfers t) acquiring ∙ map.get-empty id_cmp t ∙ sym (row_none (is_foreign c) foreign_row [] t refl);
+      initiator = ap (λ (i : InitiatorView). i.code) initiating;
+      last = ap (λ (i : InitiatorView). i.last) initiating;
+      own = λ t. ap (λ (i : InitiatorView). map.get i.transfers t) initiating ∙ map.get-empty id_cmp t ∙ sym (row_none (is_own c) (own_row []) [] t refl);
+      acquirer = ap (λ (a : AcquirerView). a.code) acquiring;
+      foreign = λ t. ap (λ (a : AcquirerView). map.get a.transfers t) acquiring ∙ map.get-empty id_cmp t ∙ sym (row_none (is_foreign c) foreign_row [] t refl);
       sent = sent;
     }
 

@@ -14,7 +14,7 @@ use Rattle.status.specs.declared.id.TransactionId.{TransactionId}
 use Rattle.std.proofs.lemmas.Bool.{cases_Bool, cond-true}
 use Rattle.registry_core.proofs.UnitHoldingsOfUnits.{held_place, unit_holding_is_held, unit_holding_of_unheld, reserved_some, unheld_reserver}
 use Rattle.protocol.specs.AtRegistry.{holding, is_place}
-use Rattle.accounts.specs.Holdings.{Held}
+use Rattle.accounts.specs.Holdings.{HoldingsView}
 use Rattle.std.specs.Prelude.{is_some, option_map}
 use Rattle.registry_core.specs.Readings.{unit_holding_at, unit_holding_in, reserver, account_status_at}
 use Rattle.std.specs.Option.{option_map_or}
@@ -52,7 +52,7 @@ module _ (scheme : Scheme) (c : Code) (es : List Entry) (made : Made scheme (Reg
             reserved_some scheme c s xs ∙ ap is_some free ∙ sym (ap says (unit_holding_of_unheld scheme c s xs n))
       ]
 
-  pub knows : (held : Held) → ((s : Serial) → map.get held.unit_holdings s ≡ unit_holding_at scheme c (transitions_of es) s) → ((n : ℕ) → map.get held.accounts n ≡ account_status_at scheme c es n) → Knows scheme c held (holding scheme c es)
+  pub knows : (held : HoldingsView) → ((s : Serial) → map.get held.unit_holdings s ≡ unit_holding_at scheme c (transitions_of es) s) → ((n : ℕ) → map.get held.accounts n ≡ account_status_at scheme c es n) → Knows scheme c held (holding scheme c es)
   knows held unit_holdings accounts =
       let xs = transitions_of es in
       record {

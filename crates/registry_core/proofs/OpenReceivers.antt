@@ -17,7 +17,7 @@ use Rattle.protocol.specs.Checks.{acquirer_causes}
 use Rattle.safety.proofs.MovesAndHistories.TableRows.{acquirer_from}
 use Rattle.safety.proofs.OneRegistry.UnitsCountedOnce.{and_second}
 use Rattle.safety.proofs.MovesAndHistories.TransitionForms.{arrived_status}
-use Rattle.lemmas.proofs.OneValue.{clash, one_some}
+use Rattle.units.proofs.Lists.OneValue.{clash, one_some}
 use Rattle.protocol.specs.AtRegistry.{close_refusals, holding, is_awaited, registry_verdict}
 use Rattle.std.proofs.lemmas.Bool.{eqb-true, false_from_ne_true, not-false}
 use Rattle.protocol.specs.Registries.{has_account}

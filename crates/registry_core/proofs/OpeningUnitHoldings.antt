@@ -15,7 +15,7 @@ use Rattle.units.specs.declared.code.Code.{Code}
 use Rattle.safety.proofs.OwnersOfUnits.SumsOverRegistries.{CodesRise, allotted_code, codes_rise, holder_member, other_member}
 use Rattle.scheme.specs.Order.{HasAccount, all_blocks, blocks_of}
 use Rattle.scheme.specs.declared.members.Holder.{Holder}
-use Rattle.lemmas.proofs.Membership.{In, In_find}
+use Rattle.units.proofs.Lists.Membership.{In, In_find}
 use Rattle.accounts.specs.declared.unit_holding.UnitHolding.{UnitHolding}
 use Rattle.scheme.specs.declared.members.SchemeRegistry.{SchemeRegistry}
 use Rattle.accounts.specs.declared.unit_holding.AccountStatus.TheVariants.{Open}
@@ -31,7 +31,7 @@ use Rattle.protocol.specs.History.{is_with}
 use Rattle.registry_core.specs.Opening.{allotted_unit_holding}
 use Rattle.registry_core.specs.Readings.{unit_holding_at, unit_holding_in, account_status_at}
 use Rattle.registry_core.proofs.UnitHoldingsOfUnits.{none_is, any_found}
-use Rattle.lemmas.proofs.OneValue.{clash, one_some}
+use Rattle.units.proofs.Lists.OneValue.{clash, one_some}
 use Rattle.std.specs.Option.{option_or}
 use Rattle.safety.proofs.ListLemmas.TestsOfSameness.{other_code}
 use Rattle.units.specs.Code.{same_code}

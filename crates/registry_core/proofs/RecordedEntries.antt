@@ -15,7 +15,7 @@ use Rattle.scheme.specs.declared.registries.Scheme.{Scheme}
 use Rattle.std.proofs.lemmas.Option.{get_or_from_slice_get}
 use Rattle.protocol.specs.Verdict.{history, transitions_made, verdict}
 use Rattle.protocol.proofs.Histories.{history_snoc}
-use Rattle.lemmas.proofs.Positions.{some_at}
+use Rattle.units.proofs.Lists.Positions.{some_at}
 use Rattle.std.proofs.Math.Seq.{take-suc}
 use Rattle.protocol.specs.AtRegistry.{registry_verdict}
 

@@ -2,18 +2,18 @@
 use Rattle.std.specs.FinMap.{get}
 use Rattle.std.proofs.Common.{◌≡◌, true, List, [], ◌∷◌, map, Some, inl, inr, refl, sym, ap, subst, ◌∙◌}
 use Rattle.std.proofs.lemmas.Bool.{cases_Bool, cond-false, cond-true}
-use Rattle.lemmas.proofs.Membership.{In}
-use Rattle.lemmas.proofs.OneValue.{one_some}
-use Rattle.lemmas.proofs.Positions.{In_contains, contains_in}
+use Rattle.units.proofs.Lists.Membership.{In}
+use Rattle.units.proofs.Lists.OneValue.{one_some}
+use Rattle.units.proofs.Lists.Positions.{In_contains, contains_in}
 use Rattle.units.specs.Intervals.{AreKept, label_at}
 use Rattle.units.specs.Unit.{has_unit}
 use Rattle.units.specs.declared.block.Unit.{Unit as Serial}
-use Rattle.accounts.specs.Holdings.{Held}
+use Rattle.accounts.specs.Holdings.{HoldingsView}
 use Rattle.accounts.specs.Lines.{AreLines, unit_holding_interval}
 use Rattle.accounts.specs.declared.unit_holding.HeldBlock.{HeldBlock}
 use Rattle.accounts.specs.declared.unit_holding.UnitHolding.{UnitHolding}
 use Rattle.registry_core.specs.Readings.{unit_holding_at}
-use Rattle.registry_core.specs.Registry.{Registry, moves}
+use Rattle.registry_core.specs.Registry.{RegistryCoreView, moves}
 use Rattle.registry_core.specs.Reported.{AreHoldings, IsHeldSo}
 use Rattle.registry_core.proofs.UnitHoldingsOfUnits.{unit_holding_of_held, unit_holding_parts}
 
@@ -42,7 +42,7 @@ found (l ∷ lines) s unit_holding e =
 
 -- ---- a unit and how it is held
 
-unit_holding_held : (r : Registry) (s : Serial) (unit_holding : UnitHolding) → unit_holding_at r.scheme r.code (moves r) s ≡ Some unit_holding → IsHeldSo r s unit_holding
+unit_holding_held : (r : RegistryCoreView) (s : Serial) (unit_holding : UnitHolding) → unit_holding_at r.scheme r.code (moves r) s ≡ Some unit_holding → IsHeldSo r s unit_holding
 unit_holding_held r s unit_holding e =
     let (held, (q, placed, so)) = unit_holding_parts r.scheme r.code s (moves r) unit_holding e in
     record {
@@ -51,13 +51,13 @@ unit_holding_held r s unit_holding e =
       reserved = ap (λ (l : UnitHolding). l.reserving) so;
     }
 
-held_unit_holding : (r : Registry) (s : Serial) (unit_holding : UnitHolding) → IsHeldSo r s unit_holding → unit_holding_at r.scheme r.code (moves r) s ≡ Some unit_holding
+held_unit_holding : (r : RegistryCoreView) (s : Serial) (unit_holding : UnitHolding) → IsHeldSo r s unit_holding → unit_holding_at r.scheme r.code (moves r) s ≡ Some unit_holding
 held_unit_holding r s unit_holding h =
     unit_holding_of_held r.scheme r.code s (moves r) (record { account = unit_holding.account; kind = unit_holding.kind }) h.held h.placed ∙ ap (λ o. Some (record { account = unit_holding.account; kind = unit_holding.kind; reserving = o })) h.reserved
 
 -- ---- the lines
 
-pub lines_report : (r : Registry) (held : Held) (lines : List HeldBlock) → ((s : Serial) → get held.unit_holdings s ≡ unit_holding_at r.scheme r.code (moves r) s) → AreLines held lines → AreHoldings r lines
+pub lines_report : (r : RegistryCoreView) (held : HoldingsView) (lines : List HeldBlock) → ((s : Serial) → get held.unit_holdings s ≡ unit_holding_at r.scheme r.code (moves r) s) → AreLines held lines → AreHoldings r lines
 lines_report r held lines says is =
     record {
       in_order = is.ordered;

@@ -11,7 +11,7 @@ use Rattle.wire.specs.declared.input.Input.{Input}
 use Rattle.scheme.specs.declared.registries.Scheme.{Scheme}
 use Rattle.status.specs.declared.id.TransactionId.{TransactionId}
 use Rattle.std.proofs.lemmas.Bool.{and_parts, false_from_ne_true, not-false, or_from}
-use Rattle.lemmas.proofs.OneValue.{clash}
+use Rattle.units.proofs.Lists.OneValue.{clash}
 use Rattle.status.specs.Id.{same_id}
 use Rattle.status.proofs.Ids.{id_of_same}
 use Rattle.protocol.specs.AtRegistry.{in_role, registry_verdict, request_column, request_refusals}

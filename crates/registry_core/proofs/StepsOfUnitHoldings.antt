@@ -11,7 +11,7 @@ use Rattle.units.specs.declared.block.Unit.{Unit as Serial}
 use Rattle.registry_core.proofs.SoundHistories.{Sound}
 use Rattle.status.specs.declared.id.TransactionId.{TransactionId}
 use Rattle.safety.proofs.OneRegistry.UnitsCountedOnce.{waits_older, Waits, free_content}
-use Rattle.lemmas.proofs.OneValue.{clash, one_some}
+use Rattle.units.proofs.Lists.OneValue.{clash, one_some}
 use Rattle.std.proofs.lemmas.Bool.{ne_eqb, cond-false, cond-true, false_from_ne_true, and_from, and_left, and_right, cases_Bool, eq-eqb, eqb-false}
 use Rattle.std.specs.List.{count_by}
 use Rattle.protocol.proofs.CountsInLists.{count_no, count_yes}

@@ -28,7 +28,7 @@ use Rattle.units.specs.Unit.{covers, have_unit}
 use Rattle.registry_core.proofs.StepsOfUnitHoldings.{covers_raws}
 use Rattle.accounts.specs.Holdings.{free_unit_holding, is_reserved_by, kind_in, released, reserved as reserved_by}
 use Rattle.status.specs.Id.{id_at}
-use Rattle.lemmas.proofs.SomePass.{list_any_none}
+use Rattle.units.proofs.Lists.SomePass.{list_any_none}
 use Rattle.registry_core.proofs.UnitHoldingsAfterTransitions.{unit_holding_after_arrival, unit_holding_after_asking, unit_holding_after_credit, unit_holding_after_foreign_end, unit_holding_after_proposal, unit_holding_after_release, unit_holding_after_removal, unit_holdings_before_credit}
 use Rattle.registry_core.specs.Readings.{unit_holding_at}
 use Rattle.units.specs.Intervals.{labels_that}
@@ -39,7 +39,7 @@ use Rattle.protocol.specs.Checks.{propose_refusals}
 use Rattle.units.specs.Code.{same_code}
 use Rattle.status.specs.Status.{same_status}
 use Rattle.safety.proofs.ListLemmas.TestsOfSameness.{status_of_same}
-use Rattle.lemmas.proofs.OneValue.{clash}
+use Rattle.units.proofs.Lists.OneValue.{clash}
 use Rattle.protocol.specs.Deciding.{known}
 use Rattle.registry_core.proofs.UnitHoldingsOfUnits.{unit_holding_of_unheld}
 

@@ -21,7 +21,7 @@ use Rattle.status.specs.declared.status.Status.{Status}
 use Rattle.status.specs.declared.id.TransactionId.{TransactionId}
 use Rattle.status.specs.Rows.{acquirer_row, initiator_row}
 use Rattle.std.proofs.lemmas.Bool.{and_left, and_right, cases_Bool, cond-false, cond-true, false_from_ne_true}
-use Rattle.lemmas.proofs.OneValue.{clash, one_some}
+use Rattle.units.proofs.Lists.OneValue.{clash, one_some}
 use Rattle.units.specs.Unit.{covers, have_unit}
 use Rattle.accounts.specs.Holdings.{free_unit_holding, is_reserved_by, kind_in, released, reserved as reserved_by}
 use Rattle.protocol.specs.AtRegistry.{holds_some}

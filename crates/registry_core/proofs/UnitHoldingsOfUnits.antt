@@ -5,7 +5,7 @@ use Rattle.units.specs.declared.code.Code.{Code}
 use Rattle.status.specs.declared.status.Status.TheVariants.{Completed, Proposed}
 use Rattle.status.specs.Content.{Content}
 use Rattle.scheme.specs.declared.members.Holder.{Holder}
-use Rattle.lemmas.proofs.Membership.{In, In_find}
+use Rattle.units.proofs.Lists.Membership.{In, In_find}
 use Rattle.accounts.specs.declared.unit_holding.UnitHolding.{UnitHolding}
 use Rattle.protocol.specs.History.{Place, Transition, at_start, credited_place, has_serial, is_status, is_with, place_in, stands_at, carries, credits, gives, holds, place, reserved}
 use Rattle.scheme.specs.declared.registries.Scheme.{Scheme}
@@ -20,7 +20,7 @@ use Rattle.units.specs.Unit.{has_unit}
 use Rattle.std.specs.Prelude.{is_some, option_map, find}
 use Rattle.registry_core.specs.Readings.{unit_holding_at, unit_holding_in, reserver, waits}
 use Rattle.safety.proofs.MovesAndHistories.TableMoves.{newest_some}
-use Rattle.lemmas.proofs.OneValue.{one_some, clash}
+use Rattle.units.proofs.Lists.OneValue.{one_some, clash}
 use Rattle.units.specs.Code.{same_code}
 use Rattle.status.specs.Status.{same_status}
 use Rattle.safety.proofs.ListLemmas.TestsOfSameness.{status_of_same}

@@ -10,9 +10,9 @@ use Rattle.units.specs.declared.code.Code.{Code}
 use Rattle.status.specs.declared.status.Status.TheVariants.{Completed}
 use Rattle.status.specs.Content.{Content, raws}
 use Rattle.accounts.specs.Refusals.{HasUnits}
-use Rattle.accounts.specs.Holdings.{Held}
+use Rattle.accounts.specs.Holdings.{HoldingsView}
 use Rattle.scheme.specs.declared.members.Holder.{Holder}
-use Rattle.lemmas.proofs.Membership.{In, In_left, In_right}
+use Rattle.units.proofs.Lists.Membership.{In, In_left, In_right}
 use Rattle.accounts.specs.declared.unit_holding.UnitHolding.{UnitHolding}
 use Rattle.scheme.specs.declared.members.SchemeRegistry.{SchemeRegistry}
 use Rattle.protocol.specs.Pieces.{Piece, pieces}
@@ -29,7 +29,7 @@ use Rattle.units.specs.Unit.{covers, has_unit}
 use Rattle.registry_core.proofs.StepsOfUnitHoldings.{covers_raws}
 use Rattle.std.specs.Prelude.{find, is_some, option_map}
 use Rattle.protocol.specs.AtRegistry.{is_used, seen}
-use Rattle.lemmas.proofs.SomePass.{list_any_some, list_any_in}
+use Rattle.units.proofs.Lists.SomePass.{list_any_some, list_any_in}
 use Rattle.registry_core.specs.Readings.{unit_holding_at, unit_holding_in, reserver}
 use Rattle.protocol.proofs.CountsInLists.{number_some}
 use Rattle.std.specs.Option.{option_map_or, option_or}
@@ -134,8 +134,8 @@ module _ (scheme : Scheme) (c : Code) (xs : List Transition) (account : ℕ) whe
       (subst (λ (s : Serial). (holds scheme c xs s && is_in_account (place scheme c xs s)) ≡ true) (sym p.2) both)
 
   -- as holdings say it
-  pub used_units : (held : Held) → ((s : Serial) → map.get held.unit_holdings s ≡ unit_holding_at scheme c xs s) → is_used scheme c xs account ≡ true → HasUnits held account
+  pub used_units : (held : HoldingsView) → ((s : Serial) → map.get held.unit_holdings s ≡ unit_holding_at scheme c xs s) → is_used scheme c xs account ≡ true → HasUnits held account
   used_units held unit_holdings h = let l = used_unit_holding h in record { unit = l.unit; unit_holding = l.unit_holding; is = unit_holdings l.unit ∙ l.is; account_is = l.account_is }
 
-  pub units_used : (held : Held) → ((s : Serial) → map.get held.unit_holdings s ≡ unit_holding_at scheme c xs s) → HasUnits held account → is_used scheme c xs account ≡ true
+  pub units_used : (held : HoldingsView) → ((s : Serial) → map.get held.unit_holdings s ≡ unit_holding_at scheme c xs s) → HasUnits held account → is_used scheme c xs account ≡ true
   units_used held unit_holdings h = unit_holding_used (record { unit = h.unit; unit_holding = h.unit_holding; is = sym (unit_holdings h.unit) ∙ h.is; account_is = h.account_is })

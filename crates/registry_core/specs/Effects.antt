@@ -13,7 +13,7 @@ use Rattle.status.specs.Status.{same_status}
 use Rattle.status.specs.declared.id.TransactionId.{TransactionId}
 use Rattle.status.specs.declared.status.Status.{Status}
 use Rattle.status.specs.declared.status.Status.TheVariants.{Completed, Cancelled}
-use Rattle.accounts.specs.Holdings.{Held, reserved, released, is_reserved_by, free_unit_holding, kind_in}
+use Rattle.accounts.specs.Holdings.{HoldingsView, reserved, released, is_reserved_by, free_unit_holding, kind_in}
 use Rattle.accounts.specs.Refusals.{MayReserve}
 use Rattle.accounts.specs.declared.unit_holding.UnitHolding.{UnitHolding}
 use Rattle.wire.specs.declared.input.Input.{Input}
@@ -21,10 +21,10 @@ use Rattle.wire.specs.declared.input.Input.TheVariants.{Propose, Request, Receiv
 use Rattle.wire.specs.declared.message.Message.TheVariants as message
 use Rattle.protocol.specs.History.{Entry, Transition, transitions_of, is_known}
 use Rattle.initiator.specs.Transfers as initiator
-use Rattle.initiator.specs.Transfers.{Initiating}
+use Rattle.initiator.specs.Transfers.{InitiatorView}
 use Rattle.acquirer.specs.Crediting.{MayCredit}
 use Rattle.acquirer.specs.Transfers as acquirer
-use Rattle.acquirer.specs.Transfers.{Acquiring}
+use Rattle.acquirer.specs.Transfers.{AcquirerView}
 use Rattle.registry_core.specs.Readings.{is_own, is_foreign}
 use Rattle.registry_core.specs.declared.effect.Effect.{Effect}
 use Rattle.registry_core.specs.declared.effect.Effect.TheVariants.{Open, Ask, Settle, Arrive, Forestall, Complete, Cancel}
@@ -46,12 +46,12 @@ ending false id new = Forestall id
 ending true id new = cond (same_status new Completed) (Complete id) (Cancel id)
 
 -- what a new transfer asks for may be reserved
-abbrev pub IsReservable : Effect → Held → Type 0
+abbrev pub IsReservable : Effect → HoldingsView → Type 0
 IsReservable (Open new_transfer) held = (blocks : List Block) → raws blocks ≡ new_transfer.content.units → MayReserve held new_transfer.content.account blocks
 IsReservable _ held = Unit {0}
 
 -- what an effect may be carried out on
-abbrev pub MayCarry : Effect → Initiating → Acquiring → Held → Type 0
+abbrev pub MayCarry : Effect → InitiatorView → AcquirerView → HoldingsView → Type 0
 MayCarry (Open new_transfer) i a held = (map.get i.transfers new_transfer.id ≡ None) × ((blocks : List Block) → raws blocks ≡ new_transfer.content.units → MayReserve held new_transfer.content.account blocks)
 MayCarry (Arrive id new content) i a held = map.get a.transfers id ≡ None
 MayCarry (Forestall id) i a held = map.get a.transfers id ≡ None
@@ -65,10 +65,10 @@ abbrev pub ChangedAt : {X : Type 0} → TransactionId → (Option X → Option X
 ChangedAt id change m m' = (t : TransactionId) → map.get m' t ≡ (if same_id id t then change (map.get m t) else map.get m t)
 
 -- the accounts are as they were, and each unit's holding is as told
-abbrev pub UnitHoldingsAre : Held → Held → (Serial → Option UnitHolding) → Type 0
+abbrev pub UnitHoldingsAre : HoldingsView → HoldingsView → (Serial → Option UnitHolding) → Type 0
 UnitHoldingsAre held held' unit_holding = (held'.accounts ≡ held.accounts) × ((s : Serial) → map.get held'.unit_holdings s ≡ unit_holding s)
 
-abbrev pub Carried : Effect → (i i' : Initiating) (a a' : Acquiring) (held held' : Held) → Type 0
+abbrev pub Carried : Effect → (i i' : InitiatorView) (a a' : AcquirerView) (held held' : HoldingsView) → Type 0
 Carried (Open new_transfer) i i' a a' held held' =
     (i'.code ≡ i.code) × (i'.last ≡ new_transfer.id.number) × ChangedAt new_transfer.id (λ x. Some initiator.opened) i.transfers i'.transfers × (a' ≡ a)
     × UnitHoldingsAre held held' (λ s. if have_unit new_transfer.content.units s then option_map (reserved new_transfer.id) (map.get held.unit_holdings s) else map.get held.unit_holdings s)

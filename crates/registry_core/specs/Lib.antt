@@ -5,3 +5,6 @@ pub mod Registry
 pub mod Taking
 pub mod Opening
 pub mod Reported
+pub use Rattle.accounts.specs.Lines
+pub use Rattle.accounts.specs.declared.unit_holding.HeldBlock
+pub use Rattle.accounts.specs.declared.unit_holding.UnitHolding

@@ -11,19 +11,19 @@ use Rattle.scheme.specs.declared.registries.Scheme.{Scheme}
 use Rattle.protocol.specs.History.{Entry, Transition, carries, newest, transitions_of}
 use Rattle.protocol.specs.Verdict.{history}
 
-pub record Registry : Type 0 where
+pub record RegistryCoreView : Type 0 where
   pub scheme : Scheme
   pub code : Code
   -- the inputs that it recorded, the oldest first
   pub journal : List Input
 
 -- the history of its journal, and the transitions of that
-abbrev pub past : Registry → List Entry
+abbrev pub past : RegistryCoreView → List Entry
 past r = history r.scheme (nodes.Registry r.code) r.journal
 
-abbrev pub moves : Registry → List Transition
+abbrev pub moves : RegistryCoreView → List Transition
 moves r = transitions_of (past r)
 
 -- the transfer goes out of the registry, stands Proposed, and has the unit
-abbrev pub IsReserving : Registry → Serial → TransactionId → Type 0
+abbrev pub IsReserving : RegistryCoreView → Serial → TransactionId → Type 0
 IsReserving r s t = (same_code t.code r.code ≡ true) × ((x : Transition) × (newest (moves r) t ≡ Some x) × (x.new ≡ Proposed) × (carries x s ≡ true))

@@ -8,10 +8,10 @@ use Rattle.accounts.specs.declared.unit_holding.HeldBlock.{HeldBlock}
 use Rattle.accounts.specs.declared.unit_holding.UnitHolding.{UnitHolding}
 use Rattle.protocol.specs.History.{holds, place}
 use Rattle.registry_core.specs.Readings.{reserver}
-use Rattle.registry_core.specs.Registry.{Registry, moves}
+use Rattle.registry_core.specs.Registry.{RegistryCoreView, moves}
 
 -- the unit is held in that account with that kind, and that transfer reserves it, or none
-pub record IsHeldSo (r : Registry) (s : Serial) (unit_holding : UnitHolding) : Type 0 where
+pub record IsHeldSo (r : RegistryCoreView) (s : Serial) (unit_holding : UnitHolding) : Type 0 where
   pub held : holds r.scheme r.code (moves r) s ≡ true
   pub placed : place r.scheme r.code (moves r) s ≡ Some (record { account = unit_holding.account; kind = unit_holding.kind })
   pub reserved : reserver r.code (moves r) s ≡ unit_holding.reserving
@@ -25,6 +25,6 @@ pub record HasSo (lines : List HeldBlock) (s : Serial) (unit_holding : UnitHoldi
 
 -- by account and then in the order of units, neighbours that are held alike joined; and a line has a unit so exactly
 -- when it is held so
-pub record AreHoldings (r : Registry) (lines : List HeldBlock) : Type 0 where
+pub record AreHoldings (r : RegistryCoreView) (lines : List HeldBlock) : Type 0 where
   pub in_order : AreCanonical (λ (unit_holding : UnitHolding). unit_holding.account) (map unit_holding_interval lines)
   pub exact : (s : Serial) (unit_holding : UnitHolding) → IsHeldSo r s unit_holding ↔ HasSo lines s unit_holding

@@ -44,8 +44,10 @@ pub(crate) fn carry_out(
     effect: Effect,
 ) -> Result<(), Refusal>
     requires { MayCarry effect initiator.old acquirer.old holdings.old }
-    ensures ok { OnOk result (Carried effect initiator.old initiator.new acquirer.old acquirer.new holdings.old holdings.new) }
-    ensures err { OnErr result ((initiator.new ≡ initiator.old) × (acquirer.new ≡ acquirer.old) × (holdings.new ≡ holdings.old)) }
+    ensures ok { OnOk result
+        (Carried effect initiator.old initiator.new acquirer.old acquirer.new holdings.old holdings.new) }
+    ensures err { OnErr result ((initiator.new ≡ initiator.old) × (acquirer.new ≡ acquirer.old)
+        × (holdings.new ≡ holdings.old)) }
     ensures refused { IfErr result (λ r. r.code ≡ out_of_memory) }
 {
     match effect {

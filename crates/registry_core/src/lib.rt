@@ -9,3 +9,6 @@ mod tables;
 mod taking;
 
 pub use registry::RegistryCore;
+
+// What a registry holds.
+pub use accounts;

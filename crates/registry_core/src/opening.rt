@@ -21,7 +21,8 @@ fn credit_each(holdings: &mut Holdings, allotted: &[Allotment]) -> Result<(), No
     requires open_accounts { AllByRecursion (λ a. IsOpen holdings.old a.account) allotted.now }
     requires apart { AllApart (blocks_of allotted.now) }
     ensures accounts { holdings.new.accounts ≡ holdings.old.accounts }
-    ensures unit_holdings { OnOk result ((s : Serial) → map.get holdings.new.unit_holdings s ≡ allotted_unit_holding allotted.now s) }
+    ensures unit_holdings { OnOk result ((s : Serial)
+        → map.get holdings.new.unit_holdings s ≡ allotted_unit_holding allotted.now s) }
 {
     for allotment in allotted {
         holdings.credit(allotment.account, allotment.units.as_slice())?;
@@ -36,7 +37,8 @@ pub(crate) fn opening_holdings(
     code: Code,
 ) -> Result<Holdings, NoMemory>
     ensures accounts { IfOk result (λ h. (n : ℕ) → map.get h.accounts n ≡ account_status_at scheme.now code [] n) }
-    ensures unit_holdings { IfOk result (λ h. (s : Serial) → map.get h.unit_holdings s ≡ unit_holding_at scheme.now code [] s) }
+    ensures unit_holdings { IfOk result (λ h. (s : Serial)
+        → map.get h.unit_holdings s ≡ unit_holding_at scheme.now code [] s) }
 {
     let Some(member) = scheme.member(code) else {
         return Holdings::new(alloc, &[]);

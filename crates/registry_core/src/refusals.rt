@@ -52,7 +52,8 @@ fn is_checked(status: ProposalStatus) -> bool
 
 /// Whether the transfer isn't one to the registry from another one, or has a unit twice.
 fn is_wrong_party(code: Code, proposal: &Proposal) -> bool
-    ensures { result ≡ (not (same_code proposal.now.content.acquirer code) || (same_code proposal.now.id.code code || repeats (pieces proposal.now.content.units))) }
+    ensures { result ≡ (not (same_code proposal.now.content.acquirer code) ||
+        (same_code proposal.now.id.code code || repeats (pieces proposal.now.content.units))) }
 {
     proposal.content.acquirer() != code
         || proposal.id.code == code
@@ -61,7 +62,9 @@ fn is_wrong_party(code: Code, proposal: &Proposal) -> bool
 
 /// Whether the transfer of another registry has another content than that one.
 fn has_other(acquirer: &Acquirer, id: TransactionId, content: &Content) -> bool
-    ensures { (code : Code) (es : List Entry) → ((t : Id) → map.get acquirer.now.transfers t ≡ row_at (is_foreign code) foreign_row (transitions_of es) t) → same_code id.code code ≡ false → result ≡ deciding.has_other (newest (transitions_of es) id) content.now }
+    ensures { (code : Code) (es : List Entry) → ((t : Id)
+        → map.get acquirer.now.transfers t ≡ row_at (is_foreign code) foreign_row (transitions_of es) t)
+        → same_code id.code code ≡ false → result ≡ deciding.has_other (newest (transitions_of es) id) content.now }
 {
     match acquirer.content(id) {
         Some(recorded) => !recorded.same(content),
@@ -71,7 +74,10 @@ fn has_other(acquirer: &Acquirer, id: TransactionId, content: &Content) -> bool
 
 /// Whether a record is about the transaction.
 fn is_known(code: Code, initiator: &Initiator, acquirer: &Acquirer, id: TransactionId) -> bool
-    ensures { (es : List Entry) → ((t : Id) → map.get initiator.now.transfers t ≡ row_at (is_own code) (own_row es) (transitions_of es) t) → ((t : Id) → map.get acquirer.now.transfers t ≡ row_at (is_foreign code) foreign_row (transitions_of es) t) → result ≡ history.is_known (transitions_of es) id }
+    ensures { (es : List Entry) → ((t : Id)
+        → map.get initiator.now.transfers t ≡ row_at (is_own code) (own_row es) (transitions_of es) t)
+        → ((t : Id) → map.get acquirer.now.transfers t ≡ row_at (is_foreign code) foreign_row (transitions_of es) t)
+        → result ≡ history.is_known (transitions_of es) id }
 {
     if id.code == code {
         initiator.status_of(id).is_some()
@@ -82,14 +88,17 @@ fn is_known(code: Code, initiator: &Initiator, acquirer: &Acquirer, id: Transact
 
 /// Whether the notification tells that a transfer of another registry is Cancelled.
 fn forestalls(code: Code, notification: &Notification) -> bool
-    ensures { result ≡ (same_status (notified_status notification.now.notified) statuses.Cancelled && not (same_code notification.now.id.code code)) }
+    ensures { result ≡ (same_status (notified_status notification.now.notified) statuses.Cancelled && not
+        (same_code notification.now.id.code code)) }
 {
     notification.notified.status() == Status::Cancelled && notification.id.code != code
 }
 
 /// Why a registry refuses a proposal, before its table is asked; or `None`.
 pub(crate) fn proposal_refusal(code: Code, acquirer: &Acquirer, proposal: &Proposal) -> Option<u16>
-    ensures { (es : List Entry) → ((t : Id) → map.get acquirer.now.transfers t ≡ row_at (is_foreign code) foreign_row (transitions_of es) t) → result ≡ first_of (registry_refusals code es (message.Proposal proposal.now)) }
+    ensures { (es : List Entry) → ((t : Id)
+        → map.get acquirer.now.transfers t ≡ row_at (is_foreign code) foreign_row (transitions_of es) t)
+        → result ≡ first_of (registry_refusals code es (message.Proposal proposal.now)) }
 {
     if !is_registry(code, proposal.to) {
         return Some(OTHER_ADDRESSEE);
@@ -116,7 +125,10 @@ pub(crate) fn notification_refusal(
     acquirer: &Acquirer,
     notification: &Notification,
 ) -> Option<u16>
-    ensures { (es : List Entry) → ((t : Id) → map.get initiator.now.transfers t ≡ row_at (is_own code) (own_row es) (transitions_of es) t) → ((t : Id) → map.get acquirer.now.transfers t ≡ row_at (is_foreign code) foreign_row (transitions_of es) t) → result ≡ first_of (registry_refusals code es (message.Notification notification.now)) }
+    ensures { (es : List Entry) → ((t : Id)
+        → map.get initiator.now.transfers t ≡ row_at (is_own code) (own_row es) (transitions_of es) t)
+        → ((t : Id) → map.get acquirer.now.transfers t ≡ row_at (is_foreign code) foreign_row (transitions_of es) t)
+        → result ≡ first_of (registry_refusals code es (message.Notification notification.now)) }
 {
     if !is_registry(code, notification.to) {
         return Some(OTHER_ADDRESSEE);
@@ -150,7 +162,10 @@ pub(crate) fn message_refusal(
     acquirer: &Acquirer,
     message: &Message,
 ) -> Option<u16>
-    ensures { (es : List Entry) → ((t : Id) → map.get initiator.now.transfers t ≡ row_at (is_own code) (own_row es) (transitions_of es) t) → ((t : Id) → map.get acquirer.now.transfers t ≡ row_at (is_foreign code) foreign_row (transitions_of es) t) → result ≡ first_of (registry_refusals code es message.now) }
+    ensures { (es : List Entry) → ((t : Id)
+        → map.get initiator.now.transfers t ≡ row_at (is_own code) (own_row es) (transitions_of es) t)
+        → ((t : Id) → map.get acquirer.now.transfers t ≡ row_at (is_foreign code) foreign_row (transitions_of es) t)
+        → result ≡ first_of (registry_refusals code es message.now) }
 {
     match message {
         Message::Proposal(proposal) => proposal_refusal(code, acquirer, proposal),

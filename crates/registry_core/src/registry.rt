@@ -40,9 +40,9 @@ impl Model for RegistryCore {
     ghost use Rattle.std.specs.Coded.{codes};
     ghost use Rattle.scheme.specs.contracts.registries.Scheme as kept_scheme;
     ghost use Rattle.registry_core.specs.Kept.{IsKept};
-    ghost use Rattle.registry_core.specs.Registry.{Registry};
+    ghost use Rattle.registry_core.specs.Registry.{RegistryCoreView};
 
-    ghost Value = { Registry };
+    ghost Value = { RegistryCoreView };
 
     ghost coded = { Prim.hlevel (codes, kept_scheme.the_row.coded) };
 
@@ -82,8 +82,10 @@ impl RegistryCore {
     /// The units that it holds, and how its accounts stand. A unit is in the account, and of the kind, with which it
     /// came last, or was allotted; an account is open but where the last order for it closed it.
     pub fn holdings(&self) -> &Holdings
-        ensures unit_holdings { (s : Serial) → map.get result.now.unit_holdings s ≡ unit_holding_at self.now.scheme self.now.code (moves self.now) s }
-        ensures accounts { (n : ℕ) → map.get result.now.accounts n ≡ account_status_at self.now.scheme self.now.code (past self.now) n }
+        ensures unit_holdings { (s : Serial)
+            → map.get result.now.unit_holdings s ≡ unit_holding_at self.now.scheme self.now.code (moves self.now) s }
+        ensures accounts { (n : ℕ) → map.get result.now.accounts n
+            ≡ account_status_at self.now.scheme self.now.code (past self.now) n }
     {
         &self.tables.holdings
     }
@@ -101,7 +103,8 @@ impl RegistryCore {
     /// messages included: it was allotted to it or came as often as it left, and once more where it is held.
     pub fn held(&self, unit: &Unit) -> bool
         ensures held { result ≡ holds self.now.scheme self.now.code (moves self.now) unit.now }
-        ensures once { at_start self.now.scheme self.now.code unit.now + count_by (credits self.now.code unit.now) (moves self.now) ≡ count_by (gives self.now.code unit.now) (moves self.now) + cond result 1 0 }
+        ensures once { at_start self.now.scheme self.now.code unit.now + count_by (credits self.now.code unit.now)
+            (moves self.now) ≡ count_by (gives self.now.code unit.now) (moves self.now) + cond result 1 0 }
     {
         self.tables.holdings.unit_holding(unit).is_some()
     }

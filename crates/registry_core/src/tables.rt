@@ -40,7 +40,8 @@ fn fitting(journal: &mut Vec<Input>, scheme: &Scheme, input: &Input) -> Result<I
     ensures room { OnOk result (vec_len journal.new < vec_capacity journal.new) }
     ensures copy { IfOk result (λ i. i ≡ input.now) }
     ensures ok { OnOk result (nat_le scheme.now.records (length journal.old.items) ≡ false) }
-    ensures err { IfErr result (λ r. (r.code ≡ out_of_memory) ⊎ ((r.code ≡ journal_full) × (nat_le scheme.now.records (length journal.old.items) ≡ true))) }
+    ensures err { IfErr result (λ r. (r.code ≡ out_of_memory)
+        ⊎ ((r.code ≡ journal_full) × (nat_le scheme.now.records (length journal.old.items) ≡ true))) }
 {
     if scheme.records() <= journal.len() as u64 {
         return Err(Refusal { code: JOURNAL_FULL });
@@ -62,7 +63,11 @@ impl Tables {
         messages: Items<Message>,
     ) -> Result<Stepped, Refusal>
         requires kept { IsKept scheme.now code self.old }
-        requires row { (x : Transition) × (verdict_due scheme.now code self.old input.now ≡ recorded_if_room scheme.now (history scheme.now (Registry code) self.old.journal.items) (x ∷ [])) × (messages ≡ x.messages) × IsEffect code (history scheme.now (Registry code) self.old.journal.items) input.now x effect }
+        requires row { (x : Transition)
+            × (verdict_due scheme.now code self.old input.now
+            ≡ recorded_if_room scheme.now (history scheme.now (Registry code) self.old.journal.items) (x ∷ []))
+            × (messages ≡ x.messages)
+            × IsEffect code (history scheme.now (Registry code) self.old.journal.items) input.now x effect }
         requires reservable { IsReservable effect self.old.holdings }
         ensures { Takes scheme.now code self.old self.new input.now result }
     {

@@ -108,7 +108,8 @@ impl Tables {
     ) -> Result<Stepped, Refusal>
         requires kept { IsKept scheme.now code self.old }
         requires input { (moment : Moment) × (input.now ≡ inputs.Received (messages.Proposal proposal.now) moment) }
-        requires welcome { first_of (registry_refusals code (history scheme.now (Registry code) self.old.journal.items) (messages.Proposal proposal.now)) ≡ None }
+        requires welcome { first_of (registry_refusals code (history scheme.now (Registry code) self.old.journal.items)
+            (messages.Proposal proposal.now)) ≡ None }
         ensures { Takes scheme.now code self.old self.new input.now result }
     {
         let (id, content) = (proposal.id, &proposal.content);
@@ -136,8 +137,10 @@ impl Tables {
         notification: &Notification,
     ) -> Result<Stepped, Refusal>
         requires kept { IsKept scheme.now code self.old }
-        requires input { (moment : Moment) × (input.now ≡ inputs.Received (messages.Notification notification.now) moment) }
-        requires welcome { first_of (registry_refusals code (history scheme.now (Registry code) self.old.journal.items) (messages.Notification notification.now)) ≡ None }
+        requires input { (moment : Moment)
+            × (input.now ≡ inputs.Received (messages.Notification notification.now) moment) }
+        requires welcome { first_of (registry_refusals code (history scheme.now (Registry code) self.old.journal.items)
+            (messages.Notification notification.now)) ≡ None }
         ensures { Takes scheme.now code self.old self.new input.now result }
     {
         if notification.id.code == code {
@@ -157,8 +160,10 @@ impl Tables {
         notification: &Notification,
     ) -> Result<Stepped, Refusal>
         requires kept { IsKept scheme.now code self.old }
-        requires input { (moment : Moment) × (input.now ≡ inputs.Received (messages.Notification notification.now) moment) }
-        requires welcome { first_of (registry_refusals code (history scheme.now (Registry code) self.old.journal.items) (messages.Notification notification.now)) ≡ None }
+        requires input { (moment : Moment)
+            × (input.now ≡ inputs.Received (messages.Notification notification.now) moment) }
+        requires welcome { first_of (registry_refusals code (history scheme.now (Registry code) self.old.journal.items)
+            (messages.Notification notification.now)) ≡ None }
         requires own { same_code notification.now.id.code code ≡ true }
         ensures { Takes scheme.now code self.old self.new input.now result }
     {
@@ -182,8 +187,10 @@ impl Tables {
         notification: &Notification,
     ) -> Result<Stepped, Refusal>
         requires kept { IsKept scheme.now code self.old }
-        requires input { (moment : Moment) × (input.now ≡ inputs.Received (messages.Notification notification.now) moment) }
-        requires welcome { first_of (registry_refusals code (history scheme.now (Registry code) self.old.journal.items) (messages.Notification notification.now)) ≡ None }
+        requires input { (moment : Moment)
+            × (input.now ≡ inputs.Received (messages.Notification notification.now) moment) }
+        requires welcome { first_of (registry_refusals code (history scheme.now (Registry code) self.old.journal.items)
+            (messages.Notification notification.now)) ≡ None }
         requires foreign { same_code notification.now.id.code code ≡ false }
         ensures { Takes scheme.now code self.old self.new input.now result }
     {

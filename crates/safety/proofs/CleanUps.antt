@@ -24,7 +24,7 @@ use Rattle.protocol.specs.AtLog.{by_id, cleaned, due, is_old, newest_of_each, pu
 use Rattle.protocol.specs.Deciding.{known, moved, moved_by}
 use Rattle.protocol.specs.Effects.{log_sends}
 use Rattle.protocol.specs.History.{Transition, newest}
-use Rattle.lemmas.proofs.OneValue.{clash}
+use Rattle.units.proofs.Lists.OneValue.{clash}
 
 -- ---- lists of which a test passes some
 

@@ -11,5 +11,6 @@ ghost use Rattle.protocol.specs.declared.event.WorldEvent.{WorldEvent};
 /// and by committed journals.
 pub fn nodes_agree()
     ensures live { (scheme : Scheme) (events : List WorldEvent) → Agrees (live_of (run (opening scheme) events)) }
-    ensures committed { (scheme : Scheme) (events : List WorldEvent) → Agrees (committed_of (run (opening scheme) events)) }
+    ensures committed { (scheme : Scheme) (events : List WorldEvent)
+        → Agrees (committed_of (run (opening scheme) events)) }
 {}

@@ -12,7 +12,12 @@ ghost use Rattle.protocol.specs.Pieces.{pieces, repeats, same_unit};
 /// block there comes before all later ones, in the order of their first units, and none goes on where an earlier one
 /// ends.
 pub fn canonical_form_keeps_units()
-    ensures units { (blocks : List RawBlock) → list_any is_out_of_range blocks ≡ false → repeats (pieces blocks) ≡ false → (s : Serial) → find (λ p. same_unit p.unit s) (pieces (canonical blocks)) ≡ find (λ p. same_unit p.unit s) (pieces blocks) }
-    ensures once { (blocks : List RawBlock) → list_any is_out_of_range blocks ≡ false → repeats (pieces blocks) ≡ false → repeats (pieces (canonical blocks)) ≡ false }
-    ensures ordered { (blocks : List RawBlock) → list_any is_out_of_range blocks ≡ false → repeats (pieces blocks) ≡ false → Pairwise (λ a b. (comes_before a b ≡ true) × (goes_on a b ≡ false)) (canonical blocks) }
+    ensures units { (blocks : List RawBlock) → list_any is_out_of_range blocks ≡ false
+        → repeats (pieces blocks) ≡ false → (s : Serial)
+        → find (λ p. same_unit p.unit s) (pieces (canonical blocks)) ≡ find (λ p. same_unit p.unit s) (pieces blocks) }
+    ensures once { (blocks : List RawBlock) → list_any is_out_of_range blocks ≡ false → repeats (pieces blocks) ≡ false
+        → repeats (pieces (canonical blocks)) ≡ false }
+    ensures ordered { (blocks : List RawBlock) → list_any is_out_of_range blocks ≡ false
+        → repeats (pieces blocks) ≡ false → Pairwise (λ a b. (comes_before a b ≡ true)
+        × (goes_on a b ≡ false)) (canonical blocks) }
 {}

@@ -10,13 +10,15 @@ ghost use Rattle.protocol.specs.Claims.{CompletedOnce, CountedOnce, NextIsNew};
 
 /// At one registry, whatever it is given, forged messages included, a unit is counted once or not at all.
 pub fn registry_counts_once()
-    ensures { (scheme : Scheme) (c : Code) (journal : List Input) → CountedOnce scheme c (transitions_of (history scheme (Registry c) journal)) }
+    ensures { (scheme : Scheme) (c : Code) (journal : List Input)
+        → CountedOnce scheme c (transitions_of (history scheme (Registry c) journal)) }
 {}
 
 /// At one registry, whatever it is given, forged messages included, a transition to Completed is the newest of its
 /// transaction, and its only one: counts of these transitions are counts of transactions.
 pub fn completed_once()
-    ensures { (scheme : Scheme) (c : Code) (journal : List Input) → CompletedOnce (transitions_of (history scheme (Registry c) journal)) }
+    ensures { (scheme : Scheme) (c : Code) (journal : List Input)
+        → CompletedOnce (transitions_of (history scheme (Registry c) journal)) }
 {}
 
 /// At one registry, whatever it is given, forged messages included, the number of the next proposal is no transaction's

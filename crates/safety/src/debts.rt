@@ -13,5 +13,7 @@ ghost use Rattle.protocol.specs.declared.event.WorldEvent.{WorldEvent};
 /// that owe it: one for an allotted unit that no registry holds, and none for any other unit, by
 /// [`units_stand_in_one_place`](crate::units_stand_in_one_place).
 pub fn debts_are_owed()
-    ensures debts { (scheme : Scheme) (events : List WorldEvent) (s : Serial) → count_by (λ p. have_unit p.content.units s) (due (run (opening scheme) events)) ≡ owed scheme (live_of (run (opening scheme) events)) s }
+    ensures debts { (scheme : Scheme) (events : List WorldEvent) (s : Serial)
+        → count_by (λ p. have_unit p.content.units s) (due (run (opening scheme) events))
+        ≡ owed scheme (live_of (run (opening scheme) events)) s }
 {}

@@ -10,6 +10,8 @@ ghost use Rattle.protocol.specs.declared.event.WorldEvent.{WorldEvent};
 /// and by committed journals.
 pub fn deliveries_are_welcome()
     ensures welcome { (scheme : Scheme) (events : List WorldEvent) → DeliversWelcome (run (opening scheme) events) }
-    ensures eligibility { (scheme : Scheme) (events : List WorldEvent) → TerminatesForEligibility (live_of (run (opening scheme) events)) }
-    ensures eligibility_committed { (scheme : Scheme) (events : List WorldEvent) → TerminatesForEligibility (committed_of (run (opening scheme) events)) }
+    ensures eligibility { (scheme : Scheme) (events : List WorldEvent)
+        → TerminatesForEligibility (live_of (run (opening scheme) events)) }
+    ensures eligibility_committed { (scheme : Scheme) (events : List WorldEvent)
+        → TerminatesForEligibility (committed_of (run (opening scheme) events)) }
 {}

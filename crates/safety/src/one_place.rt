@@ -9,8 +9,12 @@ ghost use Rattle.protocol.specs.declared.event.WorldEvent.{WorldEvent};
 /// held by none and owed by exactly one completed transfer; no other unit is held or owed; and no
 /// unit is spendable in two registries: by journals with their tails, and by committed journals.
 pub fn units_stand_in_one_place()
-    ensures live { (scheme : Scheme) (events : List WorldEvent) → OnePlace scheme (live_of (run (opening scheme) events)) }
-    ensures committed { (scheme : Scheme) (events : List WorldEvent) → OnePlace scheme (committed_of (run (opening scheme) events)) }
-    ensures spent_once { (scheme : Scheme) (events : List WorldEvent) → SpentOnce scheme (live_of (run (opening scheme) events)) }
-    ensures spent_once_committed { (scheme : Scheme) (events : List WorldEvent) → SpentOnce scheme (committed_of (run (opening scheme) events)) }
+    ensures live { (scheme : Scheme) (events : List WorldEvent)
+        → OnePlace scheme (live_of (run (opening scheme) events)) }
+    ensures committed { (scheme : Scheme) (events : List WorldEvent)
+        → OnePlace scheme (committed_of (run (opening scheme) events)) }
+    ensures spent_once { (scheme : Scheme) (events : List WorldEvent)
+        → SpentOnce scheme (live_of (run (opening scheme) events)) }
+    ensures spent_once_committed { (scheme : Scheme) (events : List WorldEvent)
+        → SpentOnce scheme (committed_of (run (opening scheme) events)) }
 {}

@@ -9,20 +9,26 @@ ghost use Rattle.protocol.specs.declared.event.WorldEvent.{WorldEvent};
 /// Over every list of events, a registry that holds a unit is its owner in the log's book: by journals
 /// with their tails, and by committed journals.
 pub fn holders_own()
-    ensures live { (scheme : Scheme) (events : List WorldEvent) → HolderOwns scheme (live_of (run (opening scheme) events)) }
-    ensures committed { (scheme : Scheme) (events : List WorldEvent) → HolderOwns scheme (committed_of (run (opening scheme) events)) }
+    ensures live { (scheme : Scheme) (events : List WorldEvent)
+        → HolderOwns scheme (live_of (run (opening scheme) events)) }
+    ensures committed { (scheme : Scheme) (events : List WorldEvent)
+        → HolderOwns scheme (committed_of (run (opening scheme) events)) }
 {}
 
 /// Over every list of events an allotted unit has one owner, a registry that holds it or a completed
 /// transfer that owes it, and another unit has none.
 pub fn units_have_one_owner()
-    ensures live { (scheme : Scheme) (events : List WorldEvent) → OneOwner scheme (live_of (run (opening scheme) events)) }
-    ensures committed { (scheme : Scheme) (events : List WorldEvent) → OneOwner scheme (committed_of (run (opening scheme) events)) }
+    ensures live { (scheme : Scheme) (events : List WorldEvent)
+        → OneOwner scheme (live_of (run (opening scheme) events)) }
+    ensures committed { (scheme : Scheme) (events : List WorldEvent)
+        → OneOwner scheme (committed_of (run (opening scheme) events)) }
 {}
 
 /// Over every list of events, one event more moves a unit's owner only by committing Completed of a
 /// transfer with it: at its initiator from the registry to the transfer, at its acquirer from the
 /// transfer to the registry.
 pub fn owners_move_by_completions()
-    ensures { (scheme : Scheme) (events : List WorldEvent) (event : WorldEvent) → OwnersMove scheme (committed_of (run (opening scheme) events)) (committed_of (step (run (opening scheme) events) event).world) }
+    ensures { (scheme : Scheme) (events : List WorldEvent) (event : WorldEvent)
+        → OwnersMove scheme (committed_of (run (opening scheme) events))
+        (committed_of (step (run (opening scheme) events) event).world) }
 {}

@@ -12,14 +12,21 @@ ghost use Rattle.protocol.specs.declared.event.WorldEvent.{WorldEvent};
 /// each is next when its turn comes. A part of such journals that falls short can always go on; and where
 /// none can go on, no list of events leads to the journals.
 pub fn journals_weave()
-    ensures reached { (scheme : Scheme) (order : List Placed) → InTurn scheme order → (events : List WorldEvent) × Projects scheme events (journals_of order) }
-    ensures ordered { (scheme : Scheme) (events : List WorldEvent) (journals : Node → List Input) → Projects scheme events journals → (order : List Placed) × InTurn scheme order × ((n : Node) → journals_of order n ≡ journals n) }
-    ensures never_stuck { (scheme : Scheme) (events : List WorldEvent) (journals past : Node → List Input) → Projects scheme events journals → ArePrefixes past journals → ((n : Node) → past n ≡ journals n) ⊎ HasNext scheme past journals }
-    ensures stuck { (scheme : Scheme) (events : List WorldEvent) (journals : Node → List Input) → StuckIsFinal (run (opening scheme) events) journals }
+    ensures reached { (scheme : Scheme) (order : List Placed) → InTurn scheme order → (events : List WorldEvent)
+        × Projects scheme events (journals_of order) }
+    ensures ordered { (scheme : Scheme) (events : List WorldEvent) (journals : Node → List Input)
+        → Projects scheme events journals → (order : List Placed) × InTurn scheme order
+        × ((n : Node) → journals_of order n ≡ journals n) }
+    ensures never_stuck { (scheme : Scheme) (events : List WorldEvent) (journals past : Node → List Input)
+        → Projects scheme events journals → ArePrefixes past journals → ((n : Node) → past n ≡ journals n)
+        ⊎ HasNext scheme past journals }
+    ensures stuck { (scheme : Scheme) (events : List WorldEvent) (journals : Node → List Input)
+        → StuckIsFinal (run (opening scheme) events) journals }
 {}
 
 /// That each record is recorded on its journal, and each received message is among all that its sender
 /// sends, doesn't make journals that events lead to: an order is needed.
 pub fn plausible_is_not_enough()
-    ensures { (scheme : Scheme) × (journals : Node → List Input) × IsPlausible scheme journals × ((events : List WorldEvent) → Projects scheme events journals → ⊥) }
+    ensures { (scheme : Scheme) × (journals : Node → List Input) × IsPlausible scheme journals
+        × ((events : List WorldEvent) → Projects scheme events journals → ⊥) }
 {}

@@ -11,7 +11,7 @@ use Rattle.scheme.specs.Faults.{IsFirst}
 use Rattle.scheme.specs.declared.members.SchemeRegistry.{SchemeRegistry}
 use Rattle.scheme.specs.declared.members.SchemeFault.{SchemeFault}
 use Rattle.scheme.specs.declared.members.SchemeFault.TheVariants.{NotJson, Shape, TooMany, TooFew, CodeTwice, AccountTwice, UnknownAccount, AllotmentOverlap, NoMemory}
-use Rattle.lemmas.proofs.Permutations.{each_moved}
+use Rattle.units.proofs.Lists.Permutations.{each_moved}
 use Rattle.scheme.proofs.Moves.{moved, pairs_moved}
 
 -- ---- in another order

@@ -9,8 +9,8 @@ use Rattle.std.proofs.Math.Seq.{get_or-append_seam}
 use Rattle.serde_json.specs.Data.{Data}
 use Rattle.serde_json.specs.View.{view, items_view}
 use Rattle.serde_json.specs.declared.value.Value.{Value}
-use Rattle.fields.specs.Fields.{EachIs}
-use Rattle.fields.proofs.Lists.{met_at, each_one}
+use Rattle.json_fields.specs.Fields.{EachIs}
+use Rattle.json_fields.proofs.Lists.{met_at, each_one}
 use Rattle.scheme.specs.Grammar.{HasNoTwins}
 use Rattle.scheme.proofs.Pairs.{pair_at, pairwise_push, each_contained}
 

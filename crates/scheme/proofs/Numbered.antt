@@ -4,8 +4,8 @@ use Rattle.std.specs.Prelude.{IsPermutation}
 use Rattle.std.specs.List.{AllByRecursion}
 use Rattle.serde_json.specs.Data.{Data, Items, no_items, item}
 use Rattle.units.specs.Facts.{IsAccountNumber}
-use Rattle.fields.specs.Fields.{EachIs}
-use Rattle.lemmas.proofs.Permutations.{each_moved}
+use Rattle.json_fields.specs.Fields.{EachIs}
+use Rattle.units.proofs.Lists.Permutations.{each_moved}
 use Rattle.scheme.specs.Grammar.{IsAccount, IsMember, IsWritten}
 use Rattle.scheme.specs.Order.{AreNumbered}
 use Rattle.scheme.specs.declared.members.SchemeRegistry.{SchemeRegistry}

@@ -8,9 +8,9 @@ use mathlib.Core.HLevel.{is_prop→PathP}
 use Rattle.std.proofs.lemmas.List.Sorted.{IsPermutation-sym, Contains-permutation}
 use Rattle.serde_json.specs.Data.{Data}
 use Rattle.serde_json.specs.Read.{read}
-use Rattle.fields.specs.Found.{Finds}
-use Rattle.fields.specs.declared.fault.ReadFault.{ReadFault}
-use Rattle.fields.specs.declared.fault.ReadFault.TheVariants as read_fault
+use Rattle.json_fields.specs.Found.{Finds}
+use Rattle.json_fields.specs.declared.fault.TextFault.{TextFault}
+use Rattle.json_fields.specs.declared.fault.TextFault.TheVariants as read_fault
 use Rattle.scheme.specs.Unread.{fault_from}
 use Rattle.scheme.specs.Grammar.{IsWritten}
 use Rattle.scheme.specs.Order.{IsFreeOf, AreMembers, faults_in_order}
@@ -81,11 +81,11 @@ pub fault_of_sorted : (d : Data) (records : ℕ) (listed ms : List SchemeRegistr
 fault_of_sorted d records listed ms f written s first =
     fault_of_first d f (records, listed, written, first_moved faults_in_order ms listed f (IsPermutation-sym listed ms s) first)
 
-fault_of_written : (d : Data) (e : ReadFault) → Finds {X = ℕ × List SchemeRegistry} (λ p. IsWritten d p.0 p.1) (Err e) → IsFaultOf d (fault_from e)
+fault_of_written : (d : Data) (e : TextFault) → Finds {X = ℕ × List SchemeRegistry} (λ p. IsWritten d p.0 p.1) (Err e) → IsFaultOf d (fault_from e)
 fault_of_written d read_fault.Shape p = λ records ms is. p (records, ms) is
 fault_of_written d read_fault.NoMemory p = tt
 
-pub fault_told : {X : Type 0} (d : Data) (e : ReadFault) (r : Result X SchemeFault) → IsErrAnd r (λ f. f ≡ fault_from e) → Finds {X = ℕ × List SchemeRegistry} (λ p. IsWritten d p.0 p.1) (Err e) → IfErr r (IsFaultOf d)
+pub fault_told : {X : Type 0} (d : Data) (e : TextFault) (r : Result X SchemeFault) → IsErrAnd r (λ f. f ≡ fault_from e) → Finds {X = ℕ × List SchemeRegistry} (λ p. IsWritten d p.0 p.1) (Err e) → IfErr r (IsFaultOf d)
 fault_told d e (Ok x) same p = tt
 fault_told d e (Err f) same p = subst (IsFaultOf d) (sym same) (fault_of_written d e p)
 

@@ -10,9 +10,9 @@ use Rattle.serde_json.specs.Data.{Data, unsigned, boolean, number, string}
 use Rattle.scheme.specs.Grammar.{IsAccount, IsKind, IsBlock, IsAllotment, IsMember, IsWritten}
 use Rattle.scheme.specs.declared.members.Allotment.{Allotment}
 use Rattle.scheme.specs.declared.members.SchemeRegistry.{SchemeRegistry}
-use Rattle.fields.specs.Fields.{HasAt, EachIs, HasList}
-use Rattle.fields.proofs.Lists.{each_one}
-use Rattle.fields.proofs.OneAtKey.{at_once, text_once, whole_once, array_once}
+use Rattle.json_fields.specs.Fields.{HasAt, EachIs, HasList}
+use Rattle.json_fields.proofs.Lists.{each_one}
+use Rattle.json_fields.proofs.OneAtKey.{at_once, text_once, whole_once, array_once}
 use Rattle.units.specs.contracts.block.KindPartialEq.TheImpl.{ghosts}
 use Rattle.units.specs.contracts.block.Kind.{the_type}
 use denote.Enum.Bare.{same_true, true_same}

@@ -8,7 +8,7 @@ use Rattle.units.specs.Facts.{IsAccountNumber}
 use Rattle.units.specs.Limits.{last_account, most_records}
 use Rattle.units.specs.declared.block.Block.{Block}
 use Rattle.units.specs.declared.block.Kind.{Kind}
-use Rattle.fields.specs.Fields.{HasKeys, HasAt, HasList}
+use Rattle.json_fields.specs.Fields.{HasKeys, HasAt, HasList}
 use Rattle.scheme.specs.declared.members.Allotment.{Allotment}
 use Rattle.scheme.specs.declared.members.SchemeRegistry.{SchemeRegistry}
 

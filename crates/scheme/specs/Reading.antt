@@ -4,7 +4,7 @@ use Rattle.std.specs.List.{list_any}
 use Rattle.std.specs.List.Sorted.{IsSortedByKey}
 use Rattle.serde_json.specs.Data.{Data, number, unsigned}
 use Rattle.scheme.specs.Grammar.{HasNoTwins, IsKind, IsWritten}
-use Rattle.fields.specs.Fields.{HasAt, HasList}
+use Rattle.json_fields.specs.Fields.{HasAt, HasList}
 use Rattle.units.specs.Keys.{code_cmp}
 use Rattle.units.specs.declared.block.Kind.{Kind}
 use Rattle.scheme.specs.Order.{faults_in_order}

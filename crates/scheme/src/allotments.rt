@@ -19,7 +19,10 @@ fn put_blocks(
     account: u64,
     blocks: &[Block],
 ) -> Result<(), NoMemory>
-    ensures { OnOk result ((u : Serial) → map.get holders.new u ≡ option_or (option_map (λ b. holder registry account b.raw.kind) (find (λ b. has_unit b.raw u) blocks.now)) (map.get holders.old u)) }
+    ensures { OnOk result ((u : Serial)
+        → map.get holders.new u
+        ≡ option_or (option_map (λ b. holder registry account b.raw.kind) (find (λ b. has_unit b.raw u) blocks.now))
+        (map.get holders.old u)) }
 {
     // from the last one, so that the first one with a unit decides
     let mut left = blocks.len();
@@ -43,7 +46,8 @@ fn put_allotted(
     registry: Code,
     allotted: &[Allotment],
 ) -> Result<(), NoMemory>
-    ensures { OnOk result ((u : Serial) → map.get holders.new u ≡ option_or (allotted_in registry allotted.now u) (map.get holders.old u)) }
+    ensures { OnOk result ((u : Serial)
+        → map.get holders.new u ≡ option_or (allotted_in registry allotted.now u) (map.get holders.old u)) }
 {
     let mut left = allotted.len();
     while left > 0 {

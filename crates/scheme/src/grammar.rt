@@ -5,14 +5,14 @@ ghost use Rattle.serde_json.specs.View.{view, items_view};
 ghost use Rattle.units.specs.Code.{code_text};
 ghost use Rattle.units.specs.declared.block.Block.{Block};
 ghost use Rattle.units.specs.declared.block.Kind.{Kind};
-ghost use Rattle.fields.specs.Fields.{HasAt, EachIs, HasList};
-ghost use Rattle.fields.specs.Found.{Finds, Reads};
+ghost use Rattle.json_fields.specs.Fields.{HasAt, EachIs, HasList};
+ghost use Rattle.json_fields.specs.Found.{Finds, Reads};
 ghost use Rattle.scheme.specs.Grammar.{HasNoTwins, IsAccount, IsKind, IsBlock, IsAllotment, IsMember, IsWritten};
 ghost use Rattle.scheme.specs.Reading.{IsCount, AreKinds};
 
 use crate::listed::UnsortedRegistries;
 use crate::members::{Allotment, SchemeRegistry};
-use fields::{ReadFault, bool_at, has_keys, list_at, number_at, text_at};
+use json_fields::{TextFault, bool_at, has_keys, list_at, number_at, text_at};
 use serde_json::Value;
 use std::alloc::Global;
 use units::limits::{LAST_ACCOUNT, MOST_RECORDS};
@@ -74,26 +74,26 @@ fn block(value: &Value) -> Option<Block>
 }
 
 /// The accounts of an array.
-fn each_account(alloc: Global, values: &[Value]) -> Result<Items<u64>, ReadFault>
+fn each_account(alloc: Global, values: &[Value]) -> Result<Items<u64>, TextFault>
     ensures { Finds (EachIs IsAccount (items_view values.now)) result }
 {
     let mut accounts = Vec::new(alloc);
     for value in values {
-        let account = account(value).ok_or(ReadFault::Shape)?;
+        let account = account(value).ok_or(TextFault::Shape)?;
         accounts.push(account)?;
     }
     Ok(Items::from_vec(accounts))
 }
 
 /// The kinds of an array, where none stands twice.
-fn different_kinds(alloc: Global, values: &[Value]) -> Result<Items<Kind>, ReadFault>
+fn different_kinds(alloc: Global, values: &[Value]) -> Result<Items<Kind>, TextFault>
     ensures { Finds (λ xs. EachIs IsKind (items_view values.now) xs × HasNoTwins xs) result }
 {
     let mut kinds = Vec::new(alloc);
     for value in values {
-        let kind = kind(value).ok_or(ReadFault::Shape)?;
+        let kind = kind(value).ok_or(TextFault::Shape)?;
         if kinds.contains(&kind) {
-            return Err(ReadFault::Shape);
+            return Err(TextFault::Shape);
         }
         kinds.push(kind)?;
     }
@@ -101,55 +101,55 @@ fn different_kinds(alloc: Global, values: &[Value]) -> Result<Items<Kind>, ReadF
 }
 
 /// The blocks of an array.
-fn each_block(alloc: Global, values: &[Value]) -> Result<Items<Block>, ReadFault>
+fn each_block(alloc: Global, values: &[Value]) -> Result<Items<Block>, TextFault>
     ensures { Finds (EachIs IsBlock (items_view values.now)) result }
 {
     let mut blocks = Vec::new(alloc);
     for value in values {
-        let block = block(value).ok_or(ReadFault::Shape)?;
+        let block = block(value).ok_or(TextFault::Shape)?;
         blocks.push(block)?;
     }
     Ok(Items::from_vec(blocks))
 }
 
 /// The registry's accounts.
-fn accounts(alloc: Global, value: &Value) -> Result<Items<u64>, ReadFault>
+fn accounts(alloc: Global, value: &Value) -> Result<Items<u64>, TextFault>
     ensures { Finds (HasList IsAccount (view value.now) (codes "accounts")) result }
 {
-    let list = list_at(value, "accounts").ok_or(ReadFault::Shape)?;
+    let list = list_at(value, "accounts").ok_or(TextFault::Shape)?;
     each_account(alloc, list.as_slice())
 }
 
 /// The kinds of units that the registry takes.
-fn kinds(alloc: Global, value: &Value) -> Result<Items<Kind>, ReadFault>
+fn kinds(alloc: Global, value: &Value) -> Result<Items<Kind>, TextFault>
     ensures { Finds (AreKinds (view value.now)) result }
 {
-    let list = list_at(value, "kinds").ok_or(ReadFault::Shape)?;
+    let list = list_at(value, "kinds").ok_or(TextFault::Shape)?;
     different_kinds(alloc, list.as_slice())
 }
 
 /// The blocks of an allotment.
-fn units(alloc: Global, value: &Value) -> Result<Items<Block>, ReadFault>
+fn units(alloc: Global, value: &Value) -> Result<Items<Block>, TextFault>
     ensures { Finds (HasList IsBlock (view value.now) (codes "units")) result }
 {
-    let list = list_at(value, "units").ok_or(ReadFault::Shape)?;
+    let list = list_at(value, "units").ok_or(TextFault::Shape)?;
     each_block(alloc, list.as_slice())
 }
 
 /// What an account has at the start.
-fn allotment(alloc: Global, value: &Value) -> Result<Allotment, ReadFault>
+fn allotment(alloc: Global, value: &Value) -> Result<Allotment, TextFault>
     ensures { Finds (IsAllotment (view value.now)) result }
 {
     if !has_keys(value, 2) {
-        return Err(ReadFault::Shape);
+        return Err(TextFault::Shape);
     }
-    let account = count_at(value, "account", LAST_ACCOUNT).ok_or(ReadFault::Shape)?;
+    let account = count_at(value, "account", LAST_ACCOUNT).ok_or(TextFault::Shape)?;
     let units = units(alloc, value)?;
     Ok(Allotment { account, units })
 }
 
 /// The allotments of an array.
-fn each_allotment(alloc: Global, values: &[Value]) -> Result<Items<Allotment>, ReadFault>
+fn each_allotment(alloc: Global, values: &[Value]) -> Result<Items<Allotment>, TextFault>
     ensures { Finds (EachIs IsAllotment (items_view values.now)) result }
 {
     let mut allotted = Vec::new(alloc);
@@ -161,22 +161,22 @@ fn each_allotment(alloc: Global, values: &[Value]) -> Result<Items<Allotment>, R
 }
 
 /// What the registry's accounts have at the start.
-fn allotted(alloc: Global, value: &Value) -> Result<Items<Allotment>, ReadFault>
+fn allotted(alloc: Global, value: &Value) -> Result<Items<Allotment>, TextFault>
     ensures { Finds (HasList IsAllotment (view value.now) (codes "allotted")) result }
 {
-    let list = list_at(value, "allotted").ok_or(ReadFault::Shape)?;
+    let list = list_at(value, "allotted").ok_or(TextFault::Shape)?;
     each_allotment(alloc, list.as_slice())
 }
 
 /// A registry.
-fn member(alloc: Global, value: &Value) -> Result<SchemeRegistry, ReadFault>
+fn member(alloc: Global, value: &Value) -> Result<SchemeRegistry, TextFault>
     ensures { Finds (IsMember (view value.now)) result }
 {
     if !has_keys(value, 5) {
-        return Err(ReadFault::Shape);
+        return Err(TextFault::Shape);
     }
-    let code = code(value).ok_or(ReadFault::Shape)?;
-    let eligible = eligible(value).ok_or(ReadFault::Shape)?;
+    let code = code(value).ok_or(TextFault::Shape)?;
+    let eligible = eligible(value).ok_or(TextFault::Shape)?;
     let accounts = accounts(alloc, value)?;
     let allotted = allotted(alloc, value)?;
     let kinds = kinds(alloc, value)?;
@@ -190,7 +190,7 @@ fn member(alloc: Global, value: &Value) -> Result<SchemeRegistry, ReadFault>
 }
 
 /// The registries of an array.
-fn each_member(alloc: Global, values: &[Value]) -> Result<UnsortedRegistries, ReadFault>
+fn each_member(alloc: Global, values: &[Value]) -> Result<UnsortedRegistries, TextFault>
     ensures { Finds (EachIs IsMember (items_view values.now)) result }
 {
     let mut members = Vec::new(alloc);
@@ -202,21 +202,21 @@ fn each_member(alloc: Global, values: &[Value]) -> Result<UnsortedRegistries, Re
 }
 
 /// The registries of a scheme.
-fn members(alloc: Global, value: &Value) -> Result<UnsortedRegistries, ReadFault>
+fn members(alloc: Global, value: &Value) -> Result<UnsortedRegistries, TextFault>
     ensures { Finds (HasList IsMember (view value.now) (codes "registries")) result }
 {
-    let list = list_at(value, "registries").ok_or(ReadFault::Shape)?;
+    let list = list_at(value, "registries").ok_or(TextFault::Shape)?;
     each_member(alloc, list.as_slice())
 }
 
 /// The number of records and the registries that the value writes.
-pub fn written(alloc: Global, value: &Value) -> Result<(u64, UnsortedRegistries), ReadFault>
+pub fn written(alloc: Global, value: &Value) -> Result<(u64, UnsortedRegistries), TextFault>
     ensures { Finds (λ p. IsWritten (view value.now) p.0 p.1) result }
 {
     if !has_keys(value, 2) {
-        return Err(ReadFault::Shape);
+        return Err(TextFault::Shape);
     }
-    let records = count_at(value, "records", MOST_RECORDS).ok_or(ReadFault::Shape)?;
+    let records = count_at(value, "records", MOST_RECORDS).ok_or(TextFault::Shape)?;
     let members = members(alloc, value)?;
     Ok((records, members))
 }

@@ -1,7 +1,7 @@
 //! The registries of a scheme and what their accounts have at the start.
 ghost use Rattle.std.specs.Prelude.{◌≡◌};
 
-use fields::ReadFault;
+use json_fields::TextFault;
 use std::alloc::{AllocError, AllocFailed};
 use thiserror::Error;
 use units::{Block, Code, Items, Kind, Label};
@@ -101,15 +101,15 @@ impl<T: Drop> From<AllocFailed<T>> for SchemeFault {
     }
 }
 
-impl From<ReadFault> for SchemeFault {
+impl From<TextFault> for SchemeFault {
     ghost use Rattle.scheme.specs.Unread.{fault_from};
 
     ghost from_gives = { λ f e. e ≡ fault_from f };
 
-    fn from(fault: ReadFault) -> SchemeFault {
+    fn from(fault: TextFault) -> SchemeFault {
         match fault {
-            ReadFault::Shape => SchemeFault::Shape,
-            ReadFault::NoMemory => SchemeFault::NoMemory,
+            TextFault::Shape => SchemeFault::Shape,
+            TextFault::NoMemory => SchemeFault::NoMemory,
         }
     }
 }

@@ -58,6 +58,8 @@ impl Scheme {
 
 /// A text has one result: a scheme or a fault, and no two faults but out of memory.
 pub fn one_answer()
-    ensures no_fault { (bytes : List ℕ) (s : Scheme) (f : SchemeFault) → IsSchemeText bytes s → IsFault bytes f → f ≡ NoMemory }
-    ensures one_fault { (bytes : List ℕ) (f g : SchemeFault) → IsFault bytes f → IsFault bytes g → (f ≡ NoMemory → ⊥) → (g ≡ NoMemory → ⊥) → f ≡ g }
+    ensures no_fault { (bytes : List ℕ) (s : Scheme) (f : SchemeFault) → IsSchemeText bytes s → IsFault bytes f
+        → f ≡ NoMemory }
+    ensures one_fault { (bytes : List ℕ) (f g : SchemeFault) → IsFault bytes f → IsFault bytes g → (f ≡ NoMemory → ⊥)
+        → (g ≡ NoMemory → ⊥) → f ≡ g }
 {}

@@ -3,13 +3,13 @@ use Rattle.std.proofs.Common.{◌≡◌, ℕ, List, [], ◌∷◌, ◌++◌, Opt
 use Rattle.units.specs.declared.code.Node.{Node}
 use Rattle.wire.specs.Messages.{message_text}
 use Rattle.wire.specs.declared.message.Message.{Message}
-use Rattle.scheme.specs.declared.registries.Scheme.{Scheme}
+use Rattle.protocol.specs.Scheme.{Scheme}
 use Rattle.wire.specs.declared.input.Input.{Input}
-use Rattle.stores.specs.declared.node_store.NodeStore.{Ghosts}
+use Rattle.desk.specs.NodeStore.{Ghosts}
 use Rattle.desk.specs.Keeping.{IsToSend}
-use Rattle.desk.specs.Views.{Heard}
+use Rattle.desk.specs.Views.{SeatView}
 use Rattle.exchanges.specs.Exchanges.{Exchanges}
-use Rattle.exchanges.specs.Watched.{Watched}
+use Rattle.exchanges.specs.CountedView.{CountedView}
 use Rattle.sessions.specs.Delivering.{received}
 use Rattle.sessions.specs.declared.sending.Sent.{Sent}
 use Rattle.sessions.specs.declared.sending.Sent.TheVariants.{Nothing, Received, NotReceived, NoMemory}
@@ -17,7 +17,7 @@ use Rattle.sessions.specs.Sending.{Acknowledges, IsReceivedBy, Sends, Tries, unu
 
 module _ {R W : Type 0} (leads : Node → R → W → Type 0) (remaining : R → Option (List ℕ)) (contents : W → Option (List ℕ)) where
   pub received_by :
-      (peer : Node) (m : Message) (reader : R) (writer : W) (r r' : Watched R) (w w' : Watched W) → leads peer reader writer → r ≡ unused reader → w ≡ unused writer
+      (peer : Node) (m : Message) (reader : R) (writer : W) (r r' : CountedView R) (w w' : CountedView W) → leads peer reader writer → r ≡ unused reader → w ≡ unused writer
       → Exchanges remaining contents r r' w w' (message_text m ++ 10 ∷ []) received → IsReceivedBy leads remaining contents peer m
   received_by peer m reader writer r r' w w' led new_reader new_writer ended = record {
     reader = reader;
@@ -26,14 +26,14 @@ module _ {R W : Type 0} (leads : Node → R → W → Type 0) (remaining : R →
     written = w';
     led = led;
     ended =
-        subst (λ (first : Watched R). Exchanges remaining contents first r' (unused writer) w' (message_text m ++ 10 ∷ []) received) new_reader (
-        subst (λ (first : Watched W). Exchanges remaining contents r r' first w' (message_text m ++ 10 ∷ []) received) new_writer ended
+        subst (λ (first : CountedView R). Exchanges remaining contents first r' (unused writer) w' (message_text m ++ 10 ∷ []) received) new_reader (
+        subst (λ (first : CountedView W). Exchanges remaining contents r r' first w' (message_text m ++ 10 ∷ []) received) new_writer ended
         );
   }
 
   module _ {S : Type 0} (g : Ghosts S) (opened : Scheme → Node → List Input → ℕ → Type 0) where
     pub tries_send :
-        (peer : Node) (from : ℕ) (old new : Heard) (key : ℕ) (m : Message) (sent : Sent) → IsToSend g opened peer from (Some (key, m)) → Tries leads remaining contents peer m old new key sent
+        (peer : Node) (from : ℕ) (old new : SeatView) (key : ℕ) (m : Message) (sent : Sent) → IsToSend g opened peer from (Some (key, m)) → Tries leads remaining contents peer m old new key sent
         → Sends leads remaining contents g opened peer from old new sent
     tries_send peer from old new key m Nothing due t = absurd t
     tries_send peer from old new key m (Received k) due t =

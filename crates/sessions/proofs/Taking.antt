@@ -3,22 +3,22 @@ use Rattle.std.proofs.Common.{◌≡◌, ℕ, Bool, true, false, All, List, [], 
 use Rattle.std.proofs.lemmas.List.Elements.{All-nil, All-push, All-weaker}
 use Rattle.units.specs.declared.code.Node.{Node}
 use Rattle.units.specs.declared.memory.NoMemory.{NoMemory}
-use Rattle.status.specs.declared.moment.Moment.{Moment}
+use Rattle.protocol.specs.Moment.{Moment}
 use Rattle.wire.specs.declared.input.Input.{Input}
 use Rattle.wire.specs.declared.input.Input.TheVariants.{Propose, Request, OpenAccount, CloseAccount, Ack, CleanUp, Eligible, Received}
 use Rattle.wire.specs.declared.message.Message.{Message}
-use Rattle.scheme.specs.declared.registries.Scheme.{Scheme}
+use Rattle.protocol.specs.Scheme.{Scheme}
 use Rattle.protocol.specs.declared.node_core.Stepped.TheVariants.{Recorded, Repeat, Late}
-use Rattle.stores.specs.declared.node_store.NodeStore.{Ghosts}
+use Rattle.desk.specs.NodeStore.{Ghosts}
 use Rattle.desk.specs.Telling.{kept, tickets_after}
-use Rattle.desk.specs.Views.{Heard}
+use Rattle.desk.specs.Views.{SeatView}
 use Rattle.desk.specs.declared.notes.Asked.{Asked}
 use Rattle.desk.specs.declared.notes.Asked.TheVariants.{Take}
 use Rattle.desk.specs.declared.notes.Note.{Note}
 use Rattle.desk.specs.declared.notes.Ticket.{Ticket}
 use Rattle.desk.specs.declared.notes.Told.{Told}
 use Rattle.desk.specs.declared.notes.Told.TheVariants.{Step, Status, Refused}
-use Rattle.answers.specs.Answers.{Answered, Asks, is_without_journal}
+use Rattle.replies.specs.Answers.{AnswerView, Asks, is_without_journal}
 use Rattle.sessions.specs.Orders.{AreAll, HasNoOrder, HasOnly, was_ordered}
 use Rattle.sessions.specs.Sending.{Acknowledges, Sends}
 use Rattle.sessions.specs.Threads.{AreOfThread, IsDelivered, IsOfThread}
@@ -37,35 +37,35 @@ module _ (P : Input → Type 0) where
   such_after tickets (Status status) input is all = all
   such_after tickets (Refused refusal) input is all = all
 
-  such_kept : (seat : Heard) (note : Note) (input : Input) → note.asked ≡ Take input → P input → AreSuch seat.tickets → AreSuch (kept seat note).tickets
+  such_kept : (seat : SeatView) (note : Note) (input : Input) → note.asked ≡ Take input → P input → AreSuch seat.tickets → AreSuch (kept seat note).tickets
   such_kept seat note input asked is all =
       subst (λ (a : Asked). AreSuch (tickets_after seat.tickets note.told a)) (sym asked) (such_after seat.tickets note.told input is all)
 
-  such_asked : (tells : Moment → Type 0) (old new : Heard) (m : Message) (answer : Answered) (a : Asks tells old new m answer) (b : Bool) → is_without_journal a.note.told ≡ b → AreSuch (kept old a.note).tickets → AreSuch new.tickets
-  such_asked tells old new m answer a true is all = subst (λ (s : Heard). AreSuch s.tickets) (sym (a.ends.at_once is).0) all
+  such_asked : (tells : Moment → Type 0) (old new : SeatView) (m : Message) (answer : AnswerView) (a : Asks tells old new m answer) (b : Bool) → is_without_journal a.note.told ≡ b → AreSuch (kept old a.note).tickets → AreSuch new.tickets
+  such_asked tells old new m answer a true is all = subst (λ (s : SeatView). AreSuch s.tickets) (sym (a.ends.at_once is).0) all
   such_asked tells old new m answer a false is all =
       elim (a.ends.later is) [
-        | inl told ↦ subst (λ (s : Heard). AreSuch s.tickets) (sym told.0) all
-        | inr told ↦ subst (λ (s : Heard). AreSuch s.tickets) (sym told.0) all
+        | inl told ↦ subst (λ (s : SeatView). AreSuch s.tickets) (sym told.0) all
+        | inr told ↦ subst (λ (s : SeatView). AreSuch s.tickets) (sym told.0) all
       ]
 
 module _ {R W S : Type 0} (leads : Node → R → W → Type 0) (remaining : R → Option (List ℕ)) (contents : W → Option (List ℕ)) (g : Ghosts S) (opened : Scheme → Node → List Input → ℕ → Type 0) (tells : Moment → Type 0) where
   abbrev Is : Input → Type 0
   Is = IsOfThread leads remaining contents g opened tells
 
-  abbrev Are : Heard → Type 0
+  abbrev Are : SeatView → Type 0
   Are = AreOfThread leads remaining contents g opened tells
 
   -- the answer to a message
-  pub after_answer : (old new : Heard) (m : Message) (answer : Answered) → Asks tells old new m answer → Are old → Are new
+  pub after_answer : (old new : SeatView) (m : Message) (answer : AnswerView) → Asks tells old new m answer → Are old → Are new
   after_answer old new m answer a all = such_asked Is tells old new m answer a (is_without_journal a.note.told) refl (such_kept Is old a.note (Received m a.moment) a.asked a.time all)
 
-  acknowledged : (old new : Heard) (key : ℕ) → IsDelivered leads remaining contents g opened key → Acknowledges old new key → Are old → Are new
+  acknowledged : (old new : SeatView) (key : ℕ) → IsDelivered leads remaining contents g opened key → Acknowledges old new key → Are old → Are new
   acknowledged old new key is a all =
       subst Are (sym a.seat) (such_kept Is old a.note (Ack a.number) a.asked (subst (IsDelivered leads remaining contents g opened) (sym a.value) is) all)
 
   -- what became of a message to send
-  pub after_sending : (peer : Node) (from : ℕ) (old new : Heard) (became : Sent) → Sends leads remaining contents g opened peer from old new became → Are old → Are new
+  pub after_sending : (peer : Node) (from : ℕ) (old new : SeatView) (became : Sent) → Sends leads remaining contents g opened peer from old new became → Are old → Are new
   after_sending peer from old new sent.Nothing s all = subst Are (sym s.1) all
   after_sending peer from old new (sent.Received key) s all =
       acknowledged old new key (record { peer = peer; from = from; message = s.0.0; sent = s.0.1; received = s.0.2 }) s.1 all
@@ -73,9 +73,9 @@ module _ {R W S : Type 0} (leads : Node → R → W → Type 0) (remaining : R �
   after_sending peer from old new sent.NoMemory s all = subst Are (sym s) all
 
   -- seats that were told nothing
-  pub none_yet : (seats : List Heard) → All (λ (s : Heard). (s.tickets ≡ []) × (s.notes ≡ [])) seats → All Are seats
+  pub none_yet : (seats : List SeatView) → All (λ (s : SeatView). (s.tickets ≡ []) × (s.notes ≡ [])) seats → All Are seats
   none_yet seats none =
-      All-weaker (λ (s : Heard). (s.tickets ≡ []) × (s.notes ≡ [])) Are
+      All-weaker (λ (s : SeatView). (s.tickets ≡ []) × (s.notes ≡ [])) Are
       (λ s is. subst (All (λ (t : Ticket). Is t.input)) (sym is.0) (All-nil (λ (t : Ticket). Is t.input))) seats none
 
   -- such records were not ordered
@@ -89,14 +89,14 @@ module _ {R W S : Type 0} (leads : Node → R → W → Type 0) (remaining : R �
   not_ordered (Ack number) is = refl
   not_ordered (Received m moment) is = refl
 
-  pub no_order : (seat : Heard) → Are seat → HasNoOrder seat
+  pub no_order : (seat : SeatView) → Are seat → HasNoOrder seat
   no_order seat all = All-weaker (λ (t : Ticket). Is t.input) (λ (t : Ticket). was_ordered t.input ≡ false) (λ t is. not_ordered t.input is) seat.tickets all
 
   -- and none of the seats has an order
-  pub no_orders : (seats : List Heard) → All Are seats → All HasNoOrder seats
+  pub no_orders : (seats : List SeatView) → All Are seats → All HasNoOrder seats
   no_orders seats all = All-weaker Are HasNoOrder no_order seats all
 
   -- what the threads of all nodes took, by another name
-  pub taken_so : (IsSuch : Input → Type 0) → ((input : Input) → Is input → IsSuch input) → (ends : List (Result (Vec Heard Global) NoMemory)) → AreAll Are ends → AreAll (HasOnly IsSuch) ends
+  pub taken_so : (IsSuch : Input → Type 0) → ((input : Input) → Is input → IsSuch input) → (ends : List (Result (Vec SeatView Global) NoMemory)) → AreAll Are ends → AreAll (HasOnly IsSuch) ends
   taken_so IsSuch so ends all k seats at =
       All-weaker Are (HasOnly IsSuch) (λ s only. All-weaker (λ (t : Ticket). Is t.input) (λ (t : Ticket). IsSuch t.input) (λ t. so t.input) s.tickets only) seats.items (all k seats at)

@@ -2,13 +2,13 @@
 use Rattle.std.proofs.Common.{◌≡◌, ◌≢◌, ℕ, List, [], ◌∷◌, Option, true, refl, ap, arith, lit<}
 use Rattle.units.specs.declared.code.Node.{Node}
 use Rattle.units.specs.declared.code.Node.TheVariants.{Itl}
-use Rattle.status.specs.declared.moment.Moment.{Moment}
+use Rattle.protocol.specs.Moment.{Moment}
 use Rattle.wire.specs.declared.input.Input.{Input}
 use Rattle.wire.specs.declared.input.Input.TheVariants as input
 use Rattle.wire.specs.declared.notified.NotifiedStatus.TheVariants as notified
-use Rattle.scheme.specs.declared.registries.Scheme.{Scheme}
+use Rattle.protocol.specs.Scheme.{Scheme}
 use Rattle.protocol.proofs.WorkedScheme.{nz, jp, nz_node, block, nz1, first_of_may, number, notification}
-use Rattle.stores.specs.declared.node_store.NodeStore.{Ghosts}
+use Rattle.desk.specs.NodeStore.{Ghosts}
 use Rattle.sessions.specs.Threads.{IsOfThread}
 
 abbrev second : Moment

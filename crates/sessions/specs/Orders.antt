@@ -5,7 +5,7 @@ use Rattle.units.specs.declared.memory.NoMemory.{NoMemory}
 use Rattle.wire.specs.declared.input.Input.{Input}
 use Rattle.wire.specs.declared.input.Input.TheVariants.{Propose, Request, OpenAccount, CloseAccount, Ack, CleanUp, Eligible, Received}
 use Rattle.desk.specs.declared.notes.Ticket.{Ticket}
-use Rattle.desk.specs.Views.{Heard}
+use Rattle.desk.specs.Views.{SeatView}
 
 -- neither a message nor an acknowledgement
 abbrev pub was_ordered : Input → Bool
@@ -19,17 +19,17 @@ was_ordered (Ack key) = false
 was_ordered (Received m moment) = false
 
 -- each record of the seat is such a one
-abbrev pub HasOnly : (Input → Type 0) → Heard → Type 0
+abbrev pub HasOnly : (Input → Type 0) → SeatView → Type 0
 HasOnly IsSuch seat = All (λ (t : Ticket). IsSuch t.input) seat.tickets
 
 -- no record of the seat was ordered
-abbrev pub HasNoOrder : Heard → Type 0
+abbrev pub HasNoOrder : SeatView → Type 0
 HasNoOrder = HasOnly (λ input. was_ordered input ≡ false)
 
 -- of each node whose threads ended, each seat is such a one
-abbrev pub AreAll : (Heard → Type 0) → List (Result (Vec Heard Global) NoMemory) → Type 0
-AreAll IsSuch ends = (k : ℕ) (seats : Vec Heard Global) → slice_get ends k ≡ Some (Ok seats) → All IsSuch seats.items
+abbrev pub AreAll : (SeatView → Type 0) → List (Result (Vec SeatView Global) NoMemory) → Type 0
+AreAll IsSuch ends = (k : ℕ) (seats : Vec SeatView Global) → slice_get ends k ≡ Some (Ok seats) → All IsSuch seats.items
 
 -- none of them has an order
-abbrev pub HaveNoOrders : List (Result (Vec Heard Global) NoMemory) → Type 0
+abbrev pub HaveNoOrders : List (Result (Vec SeatView Global) NoMemory) → Type 0
 HaveNoOrders = AreAll HasNoOrder

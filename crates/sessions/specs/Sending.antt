@@ -6,22 +6,23 @@ use Rattle.wire.specs.declared.input.Input.{Input}
 use Rattle.wire.specs.declared.input.Input.TheVariants.{Ack}
 use Rattle.wire.specs.declared.input.Number.{Number}
 use Rattle.wire.specs.declared.message.Message.{Message}
-use Rattle.scheme.specs.declared.registries.Scheme.{Scheme}
-use Rattle.stores.specs.declared.node_store.NodeStore.{Ghosts}
+use Rattle.protocol.specs.Scheme.{Scheme}
+use Rattle.desk.specs.NodeStore.{Ghosts}
 use Rattle.desk.specs.Desks.{IsTakeOf}
 use Rattle.desk.specs.Keeping.{IsToSend}
 use Rattle.desk.specs.Telling.{kept}
-use Rattle.desk.specs.Views.{Heard}
+use Rattle.desk.specs.Views.{SeatView}
 use Rattle.desk.specs.declared.notes.Asked.TheVariants.{Take}
 use Rattle.desk.specs.declared.notes.Note.{Note}
 use Rattle.exchanges.specs.Exchanges.{Exchanges}
-use Rattle.exchanges.specs.Watched.{Watched}
+use Rattle.exchanges.specs.CountedView.{CountedView}
+use Rattle.exchanges.specs.Calls.{no_calls}
 use Rattle.sessions.specs.Delivering.{received}
 use Rattle.sessions.specs.declared.sending.Sent.{Sent}
 use Rattle.sessions.specs.declared.sending.Sent.TheVariants.{Nothing, Received, NotReceived, NoMemory}
 
 -- the desk took the acknowledgement of that key once, with that seat
-pub record Acknowledges (old new : Heard) (key : ℕ) : Type 0 where
+pub record Acknowledges (old new : SeatView) (key : ℕ) : Type 0 where
   pub number : Number
   pub note : Note
   pub value : number.value ≡ key
@@ -30,8 +31,8 @@ pub record Acknowledges (old new : Heard) (key : ℕ) : Type 0 where
   pub seat : new ≡ kept old note
 
 -- no call of it was made
-abbrev pub unused : {T : Type 0} → T → Watched T
-unused inner = record { inner = inner; calls = 0; failures = 0; interruptions = 0 }
+abbrev pub unused : {T : Type 0} → T → CountedView T
+unused inner = record { inner = inner; calls = no_calls }
 
 -- which connections lead to a node; what a reader has left, and what a writer holds
 module _ {R W : Type 0} (leads : Node → R → W → Type 0) (remaining : R → Option (List ℕ)) (contents : W → Option (List ℕ)) where
@@ -39,15 +40,15 @@ module _ {R W : Type 0} (leads : Node → R → W → Type 0) (remaining : R →
   pub record IsReceivedBy (peer : Node) (message : Message) : Type 0 where
     pub reader : R
     pub writer : W
-    pub read : Watched R
-    pub written : Watched W
+    pub read : CountedView R
+    pub written : CountedView W
     pub led : leads peer reader writer
     pub ended : Exchanges remaining contents (unused reader) read (unused writer) written (message_text message ++ 10 ∷ []) received
 
 -- the same; and a store's calls, and what is known of the nodes of the run when their desks open
 module _ {R W S : Type 0} (leads : Node → R → W → Type 0) (remaining : R → Option (List ℕ)) (contents : W → Option (List ℕ)) (g : Ghosts S) (opened : Scheme → Node → List Input → ℕ → Type 0) where
   -- what comes of a call that looks for a message from that key on
-  abbrev pub Sends : Node → ℕ → Heard → Heard → Sent → Type 0
+  abbrev pub Sends : Node → ℕ → SeatView → SeatView → Sent → Type 0
   Sends peer from old new Nothing = IsToSend g opened peer from None × (new ≡ old)
   Sends peer from old new (Received key) = ((m : Message) × IsToSend g opened peer from (Some (key, m)) × IsReceivedBy leads remaining contents peer m) × Acknowledges old new key
   Sends peer from old new (NotReceived key) = ((m : Message) × IsToSend g opened peer from (Some (key, m))) × (new ≡ old)
@@ -56,7 +57,7 @@ module _ {R W S : Type 0} (leads : Node → R → W → Type 0) (remaining : R �
 -- ---- what the code follows; no public contract cites what stands below
 
 -- a message with its key, and the node that it goes to over a connection that was asked of that
-pub record Delivery (D : Type 0) : Type 0 where
+pub record DeliveredView (D : Type 0) : Type 0 where
   pub dial : D
   pub peer : Node
   pub key : ℕ
@@ -64,7 +65,7 @@ pub record Delivery (D : Type 0) : Type 0 where
 
 module _ {R W : Type 0} (leads : Node → R → W → Type 0) (remaining : R → Option (List ℕ)) (contents : W → Option (List ℕ)) where
   -- what comes of a message that goes over a connection of its own, if one can be made
-  abbrev pub Tries : Node → Message → Heard → Heard → ℕ → Sent → Type 0
+  abbrev pub Tries : Node → Message → SeatView → SeatView → ℕ → Sent → Type 0
   Tries peer message old new key Nothing = ⊥
   Tries peer message old new key (Received k) = (k ≡ key) × IsReceivedBy leads remaining contents peer message × Acknowledges old new key
   Tries peer message old new key (NotReceived k) = (k ≡ key) × (new ≡ old)

@@ -1,14 +1,14 @@
 -- What a node's threads have its desk record: messages that come, and acknowledgements of those that were delivered.
 use Rattle.std.specs.Prelude.{ℕ, List, Option, Some}
 use Rattle.units.specs.declared.code.Node.{Node}
-use Rattle.status.specs.declared.moment.Moment.{Moment}
+use Rattle.protocol.specs.Moment.{Moment}
 use Rattle.wire.specs.declared.input.Input.{Input}
 use Rattle.wire.specs.declared.input.Input.TheVariants.{Propose, Request, OpenAccount, CloseAccount, Ack, CleanUp, Eligible, Received}
 use Rattle.wire.specs.declared.message.Message.{Message}
-use Rattle.scheme.specs.declared.registries.Scheme.{Scheme}
-use Rattle.stores.specs.declared.node_store.NodeStore.{Ghosts}
+use Rattle.protocol.specs.Scheme.{Scheme}
+use Rattle.desk.specs.NodeStore.{Ghosts}
 use Rattle.desk.specs.Keeping.{IsToSend}
-use Rattle.desk.specs.Views.{Heard}
+use Rattle.desk.specs.Views.{SeatView}
 use Rattle.sessions.specs.Orders.{HasOnly}
 use Rattle.sessions.specs.Sending.{IsReceivedBy}
 
@@ -36,5 +36,6 @@ module _ {R W S : Type 0} (leads : Node → R → W → Type 0) (remaining : R �
     IsOfThread (Ack number) = IsDelivered number.value
     IsOfThread (Received m moment) = tells moment
 
-    abbrev pub AreOfThread : Heard → Type 0
+    -- what a thread's seat has; no public contract cites it
+    abbrev pub AreOfThread : SeatView → Type 0
     AreOfThread = HasOnly IsOfThread

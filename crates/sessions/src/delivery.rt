@@ -24,13 +24,14 @@ pub(crate) struct Delivered<'a, D: Dial> {
 }
 
 impl<'a, D: Dial> Model for Delivered<'a, D> {
-    ghost use Rattle.sessions.specs.Sending.{Delivery, IsReceivedBy};
+    ghost use Rattle.sessions.specs.Sending.{DeliveredView, IsReceivedBy};
 
-    ghost Value = { Delivery D };
+    ghost Value = { DeliveredView D };
 
     ghost view = { λ d. record { dial = d.dial.now; peer = d.peer; key = d.key; message = d.message.now } };
 
-    ghost invariant = { λ d. IsReceivedBy (D.leads d.dial.now) D.Reader.remaining D.Writer.contents d.peer d.message.now };
+    ghost invariant = { λ d. IsReceivedBy
+        (D.leads d.dial.now) D.Reader.remaining D.Writer.contents d.peer d.message.now };
 }
 
 /// Why a message wasn't delivered.
@@ -46,7 +47,8 @@ impl<'a, D: Dial> Delivered<'a, D> {
     /// The key of the message.
     pub(crate) fn key(&self) -> usize
         ensures key { result ≡ self.now.key }
-        ensures received { IsReceivedBy (D.leads self.now.dial) D.Reader.remaining D.Writer.contents self.now.peer self.now.message }
+        ensures received { IsReceivedBy
+            (D.leads self.now.dial) D.Reader.remaining D.Writer.contents self.now.peer self.now.message }
     {
         self.key
     }

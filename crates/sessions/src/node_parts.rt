@@ -1,9 +1,9 @@
 //! What the threads of a node share.
 
 use crate::mustering::Muster;
+use desk::stores::NodeStore;
 use desk::{Bell, Desk, Opening};
 use protocol::NodeCore;
-use stores::NodeStore;
 use units::Node;
 
 /// What the threads of a node share: its name, its desk, what accepts and makes its connections, the nodes that it

@@ -8,14 +8,13 @@ use crate::senders::send_all;
 use crate::session_threads::{SESSION_THREADS, serve_all};
 use crate::threaded::Threaded;
 use crate::workers::{Errand, work};
-use answers::Clock;
 use crossbeam_channel::{Receiver, Sender};
-use desk::{Bell, Desk, Gate, Opening, Seat};
+use desk::stores::NodeStore;
+use desk::{Bell, Clock, Desk, Gate, Opening, Seat};
 use protocol::NodeCore;
 use std::alloc::Global;
 use std::rt::Clock as SystemClock;
 use std::sync::{Mutex, Wait};
-use stores::NodeStore;
 use units::NoMemory;
 
 /// How many threads of a node have its desk take jobs.
@@ -92,15 +91,15 @@ fn take_handing<R: Wait>(rt: &R, handings: &[Handing], number: usize) -> Option<
 
 /// A node's threads: what they share, and how sessions hand jobs to workers.
 ///
-/// One commits the desk's records to its store, `SESSION_THREADS` serve the connections that others make, `WORKERS` have
-/// the desk take their jobs, of which `MOST_JOBS` wait at most, and one for each peer sends it the messages that are due,
-/// again every `LONGEST_QUIET` seconds while they aren't received. What their seats were told are messages, at moments
-/// that the clock told, and acknowledgements of messages that their peers received, and no orders.
+/// One commits the desk's records to its store, `SESSION_THREADS` serve the connections that others make, `WORKERS`
+/// have the desk take their jobs, of which `MOST_JOBS` wait at most, and one for each peer sends it the messages that
+/// are due, again every `LONGEST_QUIET` seconds while they aren't received. What their seats were told are messages, at
+/// moments that the clock told, and acknowledgements of messages that their peers received, and no orders.
 ///
 /// The desk stops when it is told to, where the store has a fault, and where 100 accepts in a row failed. Then each
 /// thread ends by itself: one that waits at the bell, for a worker or for a connection looks at the desk again after a
-/// limited time, a session ends at its next read, and the workers end once all session threads have, or once no job has come
-/// for a while.
+/// limited time, a session ends at its next read, and the workers end once all session threads have, or once no job has
+/// come for a while.
 #[derive(Drop)]
 pub struct NodeThreads<'a, O: Opening, C: NodeCore, S: NodeStore, B: Bell, L, D, K, G> {
     pub parts: NodeParts<'a, O, C, S, B, L, D, K, G>,
@@ -155,7 +154,9 @@ where
     ghost use Rattle.sessions.specs.declared.node_threads.TheConstants.{WORKERS};
     ghost use Rattle.sessions.specs.declared.session_threads.TheConstants.{SESSION_THREADS};
 
-    ghost takes = { λ node. IsOfThread (D.leads node.parts.dial.now) D.Reader.remaining D.Writer.contents S.NodeStore O.opened (K.tells node.parts.clock.now) };
+    ghost takes = { λ node. IsOfThread
+        (D.leads node.parts.dial.now) D.Reader.remaining D.Writer.contents S.NodeStore O.opened
+        (K.tells node.parts.clock.now) };
 
     ghost thread_count = { λ node. 1 + SESSION_THREADS + WORKERS + length node.parts.peers.now };
 

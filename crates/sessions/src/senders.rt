@@ -4,13 +4,12 @@ ghost use Rattle.sessions.specs.Threads.{AreOfThread};
 use crate::connections::Dial;
 use crate::node_parts::NodeParts;
 use crate::sending::{Sent, send_next};
-use answers::Clock;
-use desk::{Bell, Opening, Seat};
+use desk::stores::NodeStore;
+use desk::{Bell, Clock, Opening, Seat};
 use protocol::NodeCore;
 use std::alloc::Global;
 use std::rt::Clock as SystemClock;
 use std::sync::Wait;
-use stores::NodeStore;
 use units::Node;
 
 /// Sends what is due to a peer: the message with the least key, and then those with higher keys, each once.
@@ -29,8 +28,10 @@ where
     D: Dial,
     K: Clock,
     R: Wait,
-    requires { AreOfThread (D.leads parts.now.dial.now) D.Reader.remaining D.Writer.contents S.NodeStore O.opened (K.tells parts.now.clock.now) seat.old }
-    ensures { AreOfThread (D.leads parts.now.dial.now) D.Reader.remaining D.Writer.contents S.NodeStore O.opened (K.tells parts.now.clock.now) seat.new }
+    requires { AreOfThread (D.leads parts.now.dial.now) D.Reader.remaining D.Writer.contents S.NodeStore O.opened
+        (K.tells parts.now.clock.now) seat.old }
+    ensures { AreOfThread (D.leads parts.now.dial.now) D.Reader.remaining D.Writer.contents S.NodeStore O.opened
+        (K.tells parts.now.clock.now) seat.new }
 {
     let mut from: usize = 0;
     for _ in rt.forever() {
@@ -61,8 +62,10 @@ where
     D: Dial,
     K: Clock,
     R: Wait + SystemClock,
-    requires { AreOfThread (D.leads parts.now.dial.now) D.Reader.remaining D.Writer.contents S.NodeStore O.opened (K.tells parts.now.clock.now) seat.old }
-    ensures { AreOfThread (D.leads parts.now.dial.now) D.Reader.remaining D.Writer.contents S.NodeStore O.opened (K.tells parts.now.clock.now) seat.new }
+    requires { AreOfThread (D.leads parts.now.dial.now) D.Reader.remaining D.Writer.contents S.NodeStore O.opened
+        (K.tells parts.now.clock.now) seat.old }
+    ensures { AreOfThread (D.leads parts.now.dial.now) D.Reader.remaining D.Writer.contents S.NodeStore O.opened
+        (K.tells parts.now.clock.now) seat.new }
 {
     for _ in rt.forever() {
         let rings = parts.desk.bell().rings(rt);

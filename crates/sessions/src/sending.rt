@@ -3,12 +3,12 @@ ghost use Rattle.sessions.specs.Sending.{Acknowledges, Sends, Tries};
 
 use crate::connections::Dial;
 use crate::delivery::{Delivered, Undelivered, deliver};
+use desk::stores::NodeStore;
 use desk::{Bell, Desk, Opening, Seat};
 use exchanges::Exchange;
 use protocol::NodeCore;
 use std::alloc::Global;
 use std::sync::Wait;
-use stores::NodeStore;
 use units::Node;
 use wire::{Input, Message, Number};
 

@@ -4,6 +4,7 @@ use crate::connections::{Accepted, Listen};
 use crate::watched_reader::WatchedReader;
 use crate::workers::{Errand, WorkersAnswerer};
 use crossbeam_channel::Sender;
+use desk::stores::NodeStore;
 use desk::{Bell, Desk, Opening};
 use exchanges::{Counted, serve_session};
 use protocol::NodeCore;
@@ -13,7 +14,6 @@ use std::rt::Clock as SystemClock;
 use std::sync::{Mutex, Wait};
 use std::thread;
 use std::time::Duration;
-use stores::NodeStore;
 
 /// How many threads of a node serve sessions: any number from 1 on.
 pub const SESSION_THREADS: usize = 4;
@@ -80,8 +80,8 @@ fn serve_one<
 }
 
 /// Accepts connections and serves each to its end, until the desk stops. It stops the desk where `MOST_FAILED_ACCEPTS`
-/// accepts in a row failed, at all session threads together. One to which nobody came is none of them, and doesn't end the
-/// row.
+/// accepts in a row failed, at all session threads together. One to which nobody came is none of them, and doesn't end
+/// the row.
 ///
 /// A node has `SESSION_THREADS` threads that do so. Where the system has no thread for some of them, fewer sessions are
 /// served at a time, or none.

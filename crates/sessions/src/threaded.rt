@@ -95,10 +95,10 @@ fn run_one<N: Threaded + Sync, R: Threads + Wait + SystemClock + Sync>(
     seats
 }
 
-/// Runs several nodes, each as `run_node` does, until the threads of all have ended, and returns the seats of each in the
-/// order of the nodes. What happens at one node stops no other one; where memory ran out for a node's threads, it has
-/// `NoMemory` in place of seats, and has stopped. Fails with `NoMemory` where memory ran out: then nothing is told of what
-/// the threads did.
+/// Runs several nodes, each as `run_node` does, until the threads of all have ended, and returns the seats of each in
+/// the order of the nodes. What happens at one node stops no other one; where memory ran out for a node's threads, it
+/// has `NoMemory` in place of seats, and has stopped. Fails with `NoMemory` where memory ran out: then nothing is told
+/// of what the threads did.
 pub fn run_all<N: Threaded + Send + Sync + Drop, R: Threads + Wait + SystemClock + Sync>(
     rt: &R,
     alloc: Global,

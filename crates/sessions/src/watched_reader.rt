@@ -1,12 +1,12 @@
 //! The reader of a session that ends with its node.
 
+use desk::stores::NodeStore;
 use desk::{Bell, Desk, Opening};
 use protocol::NodeCore;
 use std::io::{self, ErrorKind, Read};
 use std::rt::Clock as SystemClock;
 use std::sync::Wait;
 use std::time::{Duration, Instant};
-use stores::NodeStore;
 
 /// How many seconds a line may take, from when its first byte was read until its newline is.
 const LONGEST_LINE_TIME: u64 = 10;

@@ -1,22 +1,22 @@
 //! Lines that session threads hand to job workers.
 ghost use Rattle.std.specs.Prelude.{◌≡◌, ◌⊎◌, [], IfOk};
 ghost use Rattle.units.specs.RefusalCodes.{not_a_message, out_of_memory};
-ghost use Rattle.answers.specs.Answers.{IsRefusedBy};
-ghost use Rattle.answers.specs.Lines.{IsNoLine};
+ghost use Rattle.replies.specs.Answers.{IsRefusedBy};
+ghost use Rattle.replies.specs.Lines.{IsNoLine};
 ghost use Rattle.sessions.specs.Threads.{AreOfThread};
 
 use crate::connections::Dial;
 use crate::node_parts::NodeParts;
-use answers::{Answer, Clock, Job, answer_job};
 use crossbeam_channel::{Receiver, RecvTimeoutError, Sender};
-use desk::{Bell, Desk, Gate, LONGEST_QUIET, Opening, Seat};
+use desk::stores::NodeStore;
+use desk::{Bell, Clock, Desk, Gate, LONGEST_QUIET, Opening, Seat};
 use exchanges::Answerer;
 use protocol::NodeCore;
+use replies::{Answer, Job, answer_job};
 use std::alloc::Global;
 use std::rt::Clock as SystemClock;
 use std::sync::Wait;
 use std::time::Duration;
-use stores::NodeStore;
 use units::NoMemory;
 use wire::Reply;
 
@@ -64,8 +64,8 @@ impl<'a, O: Opening, C: NodeCore, S: NodeStore, B: Bell, R: Wait> WorkersAnswere
     }
 }
 
-/// Waits for the next value that comes by the channel. `None` where nobody is left who sends one, and where the desk has
-/// stopped and none has come for `LONGEST_QUIET` seconds.
+/// Waits for the next value that comes by the channel. `None` where nobody is left who sends one, and where the desk
+/// has stopped and none has come for `LONGEST_QUIET` seconds.
 fn receive<T: Drop, O: Opening, C: NodeCore, S: NodeStore, B: Bell, R: Wait + SystemClock>(
     rt: &R,
     desk: &Desk<O, C, S, B>,
@@ -145,7 +145,7 @@ fn answer_line<O: Opening, C: NodeCore, S: NodeStore, B: Bell, R: Wait + SystemC
 
 impl<'a, O: Opening, C: NodeCore, S: NodeStore, B: Bell, R: Wait + SystemClock> Answerer
     for WorkersAnswerer<'a, O, C, S, B, R> {
-    ghost use Rattle.answers.specs.Answers.{given_of};
+    ghost use Rattle.replies.specs.Answers.{given_of};
 
     ghost given = { λ s. given_of s.answers.items };
 
@@ -158,8 +158,8 @@ impl<'a, O: Opening, C: NodeCore, S: NodeStore, B: Bell, R: Wait + SystemClock> 
     }
 }
 
-/// Has the desk take the jobs of errands with this seat, and hands their answers back, until no session thread is left. It
-/// ends also where the desk has stopped and no job comes, since a session thread may not have begun yet.
+/// Has the desk take the jobs of errands with this seat, and hands their answers back, until no session thread is left.
+/// It ends also where the desk has stopped and no job comes, since a session thread may not have begun yet.
 pub(crate) fn work<O, C, S, B, L, D, K, G, R>(
     rt: &R,
     parts: &NodeParts<'_, O, C, S, B, L, D, K, G>,
@@ -175,8 +175,10 @@ where
     K: Clock,
     G: Gate,
     R: Wait + SystemClock,
-    requires { AreOfThread (D.leads parts.now.dial.now) D.Reader.remaining D.Writer.contents S.NodeStore O.opened (K.tells parts.now.clock.now) seat.old }
-    ensures { AreOfThread (D.leads parts.now.dial.now) D.Reader.remaining D.Writer.contents S.NodeStore O.opened (K.tells parts.now.clock.now) seat.new }
+    requires { AreOfThread (D.leads parts.now.dial.now) D.Reader.remaining D.Writer.contents S.NodeStore O.opened
+        (K.tells parts.now.clock.now) seat.old }
+    ensures { AreOfThread (D.leads parts.now.dial.now) D.Reader.remaining D.Writer.contents S.NodeStore O.opened
+        (K.tells parts.now.clock.now) seat.new }
 {
     for _ in rt.forever() {
         let Some(errand) = receive(rt, parts.desk, errands) else {

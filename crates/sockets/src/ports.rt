@@ -93,7 +93,8 @@ impl<'a, R: Net<Stream = TcpStream>> Dial for Ports<'a, R> {
     type Writer = Dialled;
 
     // Both directions are of a connection that was made to where the node accepts connections.
-    ghost leads = { λ places peer reader writer. (address_of places peer ≡ Some (reader_inner reader)) × (address_of places peer ≡ Some writer) };
+    ghost leads = { λ places peer reader writer. (address_of places peer ≡ Some (reader_inner reader))
+        × (address_of places peer ≡ Some writer) };
 
     fn connect(&self, peer: Node) -> Option<(BufReader<Dialled>, Dialled)> {
         let address = self.address_of(peer)?;

@@ -23,9 +23,11 @@ impl Model for Content {
 
     ghost Value = { Terms };
 
-    ghost view = { λ c. record { account = c.account; acquirer = c.acquirer; to_account = c.to_account; units = raws c.units } };
+    ghost view = { λ c. record
+        { account = c.account; acquirer = c.acquirer; to_account = c.to_account; units = raws c.units } };
 
-    ghost invariant = { λ c. IsContent (record { account = c.account; acquirer = c.acquirer; to_account = c.to_account; units = raws c.units }) };
+    ghost invariant = { λ c. IsContent
+        (record { account = c.account; acquirer = c.acquirer; to_account = c.to_account; units = raws c.units }) };
 }
 
 fn is_account(number: u64) -> bool
@@ -49,9 +51,12 @@ impl Content {
         to_account: u64,
         units: Items<Block>,
     ) -> Option<Content>
-        ensures some { IfSome result (λ c. c ≡ record { account = account; acquirer = acquirer; to_account = to_account; units = raws units }) }
+        ensures some { IfSome result
+            (λ c. c ≡ record { account = account; acquirer = acquirer; to_account = to_account; units = raws units }) }
         ensures valid { IfSome result (λ c. IsContent c) }
-        ensures none { IfNone result (IsContent (record { account = account; acquirer = acquirer; to_account = to_account; units = raws units }) → ⊥) }
+        ensures none { IfNone result
+            (IsContent (record { account = account; acquirer = acquirer; to_account = to_account; units = raws units })
+            → ⊥) }
     {
         let count = units.as_slice().len();
         if is_account(account) && is_account(to_account) && 1 <= count && count <= MOST_BLOCKS {

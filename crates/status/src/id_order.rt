@@ -7,5 +7,7 @@ ghost use Rattle.status.specs.declared.id.TransactionId.{TransactionId};
 /// Identifiers are in the order of the two letters of their codes, and those of one code in the order of their numbers:
 /// a law, without code.
 pub fn order_of_ids()
-    ensures { (a b : TransactionId) → id_cmp a b ≡ ordering_then (ordering_then (nat_cmp a.code.first b.code.first) (nat_cmp a.code.second b.code.second)) (nat_cmp a.number b.number) }
+    ensures { (a b : TransactionId)
+        → id_cmp a b ≡ ordering_then (ordering_then (nat_cmp a.code.first b.code.first)
+        (nat_cmp a.code.second b.code.second)) (nat_cmp a.number b.number) }
 {}

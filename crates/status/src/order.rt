@@ -24,9 +24,11 @@ impl Model for Order {
 
     ghost Value = { Asked };
 
-    ghost view = { λ o. record { account = o.account; to_registry = o.to_registry; to_account = o.to_account; units = o.units } };
+    ghost view = { λ o. record
+        { account = o.account; to_registry = o.to_registry; to_account = o.to_account; units = o.units } };
 
-    ghost invariant = { λ o. IsOrder (record { account = o.account; to_registry = o.to_registry; to_account = o.to_account; units = o.units }) };
+    ghost invariant = { λ o. IsOrder
+        (record { account = o.account; to_registry = o.to_registry; to_account = o.to_account; units = o.units }) };
 }
 
 fn are_short(blocks: &[RawBlock]) -> bool
@@ -54,9 +56,12 @@ impl Order {
         to_account: u64,
         units: Items<RawBlock>,
     ) -> Option<Order>
-        ensures some { IfSome result (λ o. o ≡ record { account = account; to_registry = to_registry; to_account = to_account; units = units }) }
+        ensures some { IfSome result
+            (λ o. o ≡ record { account = account; to_registry = to_registry; to_account = to_account; units = units }) }
         ensures valid { IfSome result (λ o. IsOrder o) }
-        ensures none { IfNone result (IsOrder (record { account = account; to_registry = to_registry; to_account = to_account; units = units }) → ⊥) }
+        ensures none { IfNone result
+            (IsOrder (record { account = account; to_registry = to_registry; to_account = to_account; units = units })
+            → ⊥) }
     {
         if account < TOO_LONG && to_account < TOO_LONG && are_short(units.as_slice()) {
             Some(Order {

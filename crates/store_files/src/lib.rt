@@ -36,8 +36,8 @@ fn files_at(rt: &HostRuntime, path: &str) -> Result<Files<File>, StoreFault>
 /// Opens the file at the path, with its log beside it, makes it a store of the node where there is none, and migrates a
 /// store of format One to format Two.
 ///
-/// Fails as `SqlStore::open_files` does, and with `Device` where the file can't be opened or another handle has it open.
-/// No clause ties the result to what stands at the path.
+/// Fails as `SqlStore::open_files` does, and with `Device` where the file can't be opened or another handle has it
+/// open. No clause ties the result to what stands at the path.
 pub fn open_path(rt: &HostRuntime, path: &str, node: Node) -> Result<SqlStore<File>, StoreFault>
     ensures runs { IfOk result (λ s. must_reopen _ s ≡ false) }
     ensures node { IfOk result (λ s. node_of _ s ≡ node) }
@@ -75,3 +75,6 @@ pub fn open_path_watched<W: Watch>(
         Err((fault, _)) => Err(fault),
     }
 }
+
+// What is opened at a path.
+pub use durable;

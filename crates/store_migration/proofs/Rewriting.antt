@@ -4,7 +4,7 @@ use Rattle.std.specs.Prelude.{◌==◌, ◌&&◌, slice_get}
 use Rattle.std.specs.List.Sorted.{IsPermutation}
 use Rattle.std.proofs.lemmas.List.Sorted.{length_permutation}
 use Rattle.std.specs.Ordering.{is_eq}
-use Rattle.sqlite_sql.specs.Ops.{binary, is_true, from_truth}
+use Rattle.sqlite.specs.Ops.{binary, is_true, from_truth}
 use Rattle.sqlite.specs.Term.{Env}
 use Rattle.sqlite.specs.Query.{Query, IsAnswer, Output, output}
 use Rattle.sqlite.specs.Program.{overlay}
@@ -12,16 +12,16 @@ use Rattle.sqlite.specs.declared.types.Value.{Value}
 use Rattle.sqlite.specs.declared.types.Value.TheVariants.{Null, Int, Text}
 use Rattle.sqlite.specs.Order.{Row, column, value_cmp}
 use Rattle.sqlite.specs.Tree.{Trees, put_row}
-use Rattle.sqlite_trees.specs.Tree.{without_rowid, has_rowid}
+use Rattle.sqlite.specs.Tree.{without_rowid, has_rowid}
 use Rattle.sqlite.specs.Edit.{edit_of, edited}
 use Rattle.sqlite.specs.Rowids.TheVariants.{Given}
 use Rattle.sqlite.specs.Command.TheVariants.{Update}
 use Rattle.sqlite.specs.Does.{Tally, Does, AtPlace, OnRows}
 use Rattle.sqlite.specs.Rows.{Written}
 use Rattle.sqlite.specs.Table.{Table}
-use Rattle.sqlite_schema.specs.declared.schema.Keys.TheVariants.{Enforced}
+use Rattle.store_tables.specs.Keys.TheVariants.{Enforced}
 use Rattle.sqlite_rules.specs.Action.{works}
-use Rattle.sqlite_rules.specs.Edit.{Edit, taken_by}
+use Rattle.sqlite.specs.Edit.{Edit, taken_by}
 use Rattle.sqlite.specs.Effect.{Database, Answers}
 use Rattle.sqlite_rules.specs.Calls.{ids_of}
 use Rattle.sqlite.proofs.Callers.{one_step, one_permutation}

@@ -6,12 +6,12 @@ use Rattle.std.specs.declared.cmp.Ordering.TheVariants.{Equal, Greater}
 use Rattle.std.specs.Cmp.{int_cmp_is}
 use Rattle.std.proofs.lemmas.Int.{ints}
 use Rattle.std.proofs.lemmas.Bool.{cases_Bool, cases_lt, eq-eqb, eqb-true, ne_eqb}
-use Rattle.sqlite_value.proofs.OrderLemmas.{value_cmp-Int}
+use Rattle.store_tables.proofs.OrderLemmas.{value_cmp-Int}
 use Rattle.sqlite.specs.declared.types.Value.{Value}
 use Rattle.sqlite.specs.declared.types.Value.TheVariants.{Int}
 use Rattle.sqlite.specs.Order.{Row, column, value_cmp}
 use Rattle.sqlite.specs.Tree.{put_row}
-use Rattle.sqlite_trees.specs.Tree.{without_rowid, has_rowid}
+use Rattle.sqlite.specs.Tree.{without_rowid, has_rowid}
 use Rattle.store_tables.specs.Tables.{entry}
 use Rattle.store_tables.specs.Slots.{place_of, body_of, missing, slots_from, AreEntries}
 use Rattle.store_migration.specs.Migrating.{with_body}

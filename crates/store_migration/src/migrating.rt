@@ -17,22 +17,25 @@ use sqlite::types::ValueRef;
 use sqlite::{Alter, Connection, Error as SqlError, Transaction};
 use std::alloc::Global;
 use store_tables::{bodies, fault_of, rows_inside};
-use stores::StoreFault;
-use wire::{ReadFault, RecordFormat, decode_input_v1, encode_input};
-
-/// How many records are read at once, so that a migration takes little memory besides the database's own.
-const PAGE: u64 = 256;
+use stores::{PAGE, StoreFault};
+use wire::{RecordFormat, TextFault, decode_input_v1, encode_input};
 
 /// Another body for the record at a place, within the transaction.
 fn put_body<S: Alter>(tx: &mut Transaction<'_, S>, place: u64, body: &[u8]) -> Result<(), SqlError>
     requires small { place < 2 ^ 63 }
-    requires inside { HasCleanDisk (state S.Store tx.old.conn.now) → IsWithin (state S.Store tx.old.conn.now) (HasStore One) }
+    requires inside { HasCleanDisk (state S.Store tx.old.conn.now)
+        → IsWithin (state S.Store tx.old.conn.now) (HasStore One) }
     ensures same_reference { tx.new.conn.ghost_name ≡ tx.old.conn.ghost_name }
-    ensures inside { HasCleanDisk (state S.Store tx.new.conn.now) → OnOk result (IsWithin (state S.Store tx.new.conn.now) (HasStore One)) }
-    ensures put { HasCleanDisk (state S.Store tx.new.conn.now) → OnOk result (HasPlaces One (state S.Store tx.old.conn.now).now.trees
-        (with_body place body.now (slots_in (state S.Store tx.old.conn.now).now.trees)) (state S.Store tx.new.conn.now).now.trees) }
-    ensures schema { HasCleanDisk (state S.Store tx.new.conn.now) → OnOk result ((state S.Store tx.new.conn.now).now.schema ≡ (state S.Store tx.old.conn.now).now.schema) }
-    ensures kept { HasCleanDisk (state S.Store tx.new.conn.now) → KeepsCommit (state S.Store tx.old.conn.now) (state S.Store tx.new.conn.now) }
+    ensures inside { HasCleanDisk (state S.Store tx.new.conn.now)
+        → OnOk result (IsWithin (state S.Store tx.new.conn.now) (HasStore One)) }
+    ensures put { HasCleanDisk (state S.Store tx.new.conn.now)
+        → OnOk result (HasPlaces One (state S.Store tx.old.conn.now).now.trees
+        (with_body place body.now (slots_in (state S.Store tx.old.conn.now).now.trees))
+        (state S.Store tx.new.conn.now).now.trees) }
+    ensures schema { HasCleanDisk (state S.Store tx.new.conn.now)
+        → OnOk result ((state S.Store tx.new.conn.now).now.schema ≡ (state S.Store tx.old.conn.now).now.schema) }
+    ensures kept { HasCleanDisk (state S.Store tx.new.conn.now)
+        → KeepsCommit (state S.Store tx.old.conn.now) (state S.Store tx.new.conn.now) }
     ensures survives { Survives (state S.Store tx.old.conn.now) (state S.Store tx.new.conn.now) (λ _. ⊥) }
 {
     tx.execute(
@@ -44,13 +47,18 @@ fn put_body<S: Alter>(tx: &mut Transaction<'_, S>, place: u64, body: &[u8]) -> R
 
 /// Format Two for the store, within the transaction.
 fn put_format<S: Alter>(tx: &mut Transaction<'_, S>) -> Result<(), SqlError>
-    requires inside { HasCleanDisk (state S.Store tx.old.conn.now) → IsWithin (state S.Store tx.old.conn.now) (HasStore One) }
+    requires inside { HasCleanDisk (state S.Store tx.old.conn.now)
+        → IsWithin (state S.Store tx.old.conn.now) (HasStore One) }
     ensures same_reference { tx.new.conn.ghost_name ≡ tx.old.conn.ghost_name }
-    ensures inside { HasCleanDisk (state S.Store tx.new.conn.now) → OnOk result (IsWithin (state S.Store tx.new.conn.now) (HasStore Two)) }
-    ensures put { HasCleanDisk (state S.Store tx.new.conn.now) → OnOk result (HasPlaces Two (state S.Store tx.old.conn.now).now.trees
+    ensures inside { HasCleanDisk (state S.Store tx.new.conn.now)
+        → OnOk result (IsWithin (state S.Store tx.new.conn.now) (HasStore Two)) }
+    ensures put { HasCleanDisk (state S.Store tx.new.conn.now)
+        → OnOk result (HasPlaces Two (state S.Store tx.old.conn.now).now.trees
         (slots_in (state S.Store tx.old.conn.now).now.trees) (state S.Store tx.new.conn.now).now.trees) }
-    ensures schema { HasCleanDisk (state S.Store tx.new.conn.now) → OnOk result ((state S.Store tx.new.conn.now).now.schema ≡ (state S.Store tx.old.conn.now).now.schema) }
-    ensures kept { HasCleanDisk (state S.Store tx.new.conn.now) → KeepsCommit (state S.Store tx.old.conn.now) (state S.Store tx.new.conn.now) }
+    ensures schema { HasCleanDisk (state S.Store tx.new.conn.now)
+        → OnOk result ((state S.Store tx.new.conn.now).now.schema ≡ (state S.Store tx.old.conn.now).now.schema) }
+    ensures kept { HasCleanDisk (state S.Store tx.new.conn.now)
+        → KeepsCommit (state S.Store tx.old.conn.now) (state S.Store tx.new.conn.now) }
     ensures survives { Survives (state S.Store tx.old.conn.now) (state S.Store tx.new.conn.now) (λ _. ⊥) }
 {
     tx.execute(
@@ -61,9 +69,10 @@ fn put_format<S: Alter>(tx: &mut Transaction<'_, S>) -> Result<(), SqlError>
 }
 
 /// The text in format Two of the input that the text writes in format One. `Shape`: it writes none.
-fn migrated_text(alloc: Global, text: &[u8]) -> Result<Vec<u8>, ReadFault>
-    ensures ok { IfOk result (λ new. (input : Input) × IsRecordText One text.now input × IsRecordText Two new.items input) }
-    ensures shape { result ≡ Err ReadFault.Shape → (input : Input) → IsRecordText One text.now input → ⊥ }
+fn migrated_text(alloc: Global, text: &[u8]) -> Result<Vec<u8>, TextFault>
+    ensures ok { IfOk result (λ new. (input : Input) × IsRecordText One text.now input
+        × IsRecordText Two new.items input) }
+    ensures shape { result ≡ Err TextFault.Shape → (input : Input) → IsRecordText One text.now input → ⊥ }
 {
     let input = match decode_input_v1(alloc, text) {
         Ok(input) => input,
@@ -71,7 +80,7 @@ fn migrated_text(alloc: Global, text: &[u8]) -> Result<Vec<u8>, ReadFault>
     };
     match encode_input(alloc, &input) {
         Ok(text) => Ok(text),
-        Err(_) => Err(ReadFault::NoMemory),
+        Err(_) => Err(TextFault::NoMemory),
     }
 }
 
@@ -84,21 +93,29 @@ fn migrate_record<S: Alter>(
     body: &[u8],
 ) -> Result<(), StoreFault>
     requires small { place < 2 ^ 63 }
-    requires inside { HasCleanDisk (state S.Store tx.old.conn.now) → IsWithin (state S.Store tx.old.conn.now) (HasStore One) }
+    requires inside { HasCleanDisk (state S.Store tx.old.conn.now)
+        → IsWithin (state S.Store tx.old.conn.now) (HasStore One) }
     ensures same_reference { tx.new.conn.ghost_name ≡ tx.old.conn.ghost_name }
-    ensures inside { HasCleanDisk (state S.Store tx.new.conn.now) → OnOk result (IsWithin (state S.Store tx.new.conn.now) (HasStore One)) }
-    ensures migrating { HasCleanDisk (state S.Store tx.new.conn.now) → OnOk result ((before : Trees) (rest : Places) → IsMigrating place before (state S.Store tx.old.conn.now).now.trees
-        → drop place (slots_in before) ≡ Some body.now ∷ rest → IsMigrating (place + 1) before (state S.Store tx.new.conn.now).now.trees) }
-    ensures damaged { IfErr result (λ e. (p : ℕ) → e ≡ StoreFault.Damaged p → (p ≡ place) × ((input : Input) → IsRecordText One body.now input → ⊥)) }
+    ensures inside { HasCleanDisk (state S.Store tx.new.conn.now)
+        → OnOk result (IsWithin (state S.Store tx.new.conn.now) (HasStore One)) }
+    ensures migrating { HasCleanDisk (state S.Store tx.new.conn.now)
+        → OnOk result ((before : Trees) (rest : Places)
+        → IsMigrating place before (state S.Store tx.old.conn.now).now.trees
+        → drop place (slots_in before) ≡ Some body.now ∷ rest
+        → IsMigrating (place + 1) before (state S.Store tx.new.conn.now).now.trees) }
+    ensures damaged { IfErr result (λ e. (p : ℕ) → e ≡ StoreFault.Damaged p → (p ≡ place)
+        × ((input : Input) → IsRecordText One body.now input → ⊥)) }
     ensures named { IfErr result IsReadFault }
-    ensures schema { HasCleanDisk (state S.Store tx.new.conn.now) → OnOk result ((state S.Store tx.new.conn.now).now.schema ≡ (state S.Store tx.old.conn.now).now.schema) }
-    ensures kept { HasCleanDisk (state S.Store tx.new.conn.now) → KeepsCommit (state S.Store tx.old.conn.now) (state S.Store tx.new.conn.now) }
+    ensures schema { HasCleanDisk (state S.Store tx.new.conn.now)
+        → OnOk result ((state S.Store tx.new.conn.now).now.schema ≡ (state S.Store tx.old.conn.now).now.schema) }
+    ensures kept { HasCleanDisk (state S.Store tx.new.conn.now)
+        → KeepsCommit (state S.Store tx.old.conn.now) (state S.Store tx.new.conn.now) }
     ensures survives { Survives (state S.Store tx.old.conn.now) (state S.Store tx.new.conn.now) (λ _. ⊥) }
 {
     let text = match migrated_text(alloc, body) {
         Ok(text) => text,
-        Err(ReadFault::NoMemory) => return Err(StoreFault::NoMemory),
-        Err(ReadFault::Shape) => return Err(StoreFault::Damaged(place)),
+        Err(TextFault::NoMemory) => return Err(StoreFault::NoMemory),
+        Err(TextFault::Shape) => return Err(StoreFault::Damaged(place)),
     };
     match put_body(tx, place, &text) {
         Ok(()) => Ok(()),
@@ -117,16 +134,23 @@ fn migrate_page<S: Alter>(
 ) -> Result<(), StoreFault>
     requires some { first < until }
     requires small { until ≤ 2 ^ 63 }
-    requires inside { HasCleanDisk (state S.Store tx.old.conn.now) → IsWithin (state S.Store tx.old.conn.now) (HasStore One) }
+    requires inside { HasCleanDisk (state S.Store tx.old.conn.now)
+        → IsWithin (state S.Store tx.old.conn.now) (HasStore One) }
     ensures same_reference { tx.new.conn.ghost_name ≡ tx.old.conn.ghost_name }
-    ensures inside { HasCleanDisk (state S.Store tx.new.conn.now) → OnOk result (IsWithin (state S.Store tx.new.conn.now) (HasStore One)) }
-    ensures migrating { HasCleanDisk (state S.Store tx.new.conn.now) → OnOk result ((before : Trees) → until ≤ length (slots_in before) → IsMigrating first before (state S.Store tx.old.conn.now).now.trees
+    ensures inside { HasCleanDisk (state S.Store tx.new.conn.now)
+        → OnOk result (IsWithin (state S.Store tx.new.conn.now) (HasStore One)) }
+    ensures migrating { HasCleanDisk (state S.Store tx.new.conn.now)
+        → OnOk result ((before : Trees) → until ≤ length (slots_in before)
+        → IsMigrating first before (state S.Store tx.old.conn.now).now.trees
         → IsMigrating until before (state S.Store tx.new.conn.now).now.trees) }
-    ensures damaged { HasCleanDisk (state S.Store tx.new.conn.now) → IfErr result (λ e. (p : ℕ) → e ≡ StoreFault.Damaged p → (before : Trees) → until ≤ length (slots_in before)
+    ensures damaged { HasCleanDisk (state S.Store tx.new.conn.now)
+        → IfErr result (λ e. (p : ℕ) → e ≡ StoreFault.Damaged p → (before : Trees) → until ≤ length (slots_in before)
         → IsMigrating first before (state S.Store tx.old.conn.now).now.trees → IsDamagedIn One p (slots_in before)) }
     ensures named { IfErr result IsReadFault }
-    ensures schema { HasCleanDisk (state S.Store tx.new.conn.now) → OnOk result ((state S.Store tx.new.conn.now).now.schema ≡ (state S.Store tx.old.conn.now).now.schema) }
-    ensures kept { HasCleanDisk (state S.Store tx.new.conn.now) → KeepsCommit (state S.Store tx.old.conn.now) (state S.Store tx.new.conn.now) }
+    ensures schema { HasCleanDisk (state S.Store tx.new.conn.now)
+        → OnOk result ((state S.Store tx.new.conn.now).now.schema ≡ (state S.Store tx.old.conn.now).now.schema) }
+    ensures kept { HasCleanDisk (state S.Store tx.new.conn.now)
+        → KeepsCommit (state S.Store tx.old.conn.now) (state S.Store tx.new.conn.now) }
     ensures survives { Survives (state S.Store tx.old.conn.now) (state S.Store tx.new.conn.now) (λ _. ⊥) }
 {
     let rows = match rows_inside(tx, first, until - 1) {
@@ -155,15 +179,24 @@ fn migrate_records<S: Alter, W: Watch>(
     watch: &mut W,
 ) -> Result<(), StoreFault>
     requires small { count ≤ 2 ^ 63 }
-    requires inside { HasCleanDisk (state S.Store tx.old.conn.now) → IsWithin (state S.Store tx.old.conn.now) (HasStore One) }
-    requires count { HasCleanDisk (state S.Store tx.old.conn.now) → count ≡ length (slots_in (state S.Store tx.old.conn.now).now.trees) }
+    requires inside { HasCleanDisk (state S.Store tx.old.conn.now)
+        → IsWithin (state S.Store tx.old.conn.now) (HasStore One) }
+    requires count { HasCleanDisk (state S.Store tx.old.conn.now)
+        → count ≡ length (slots_in (state S.Store tx.old.conn.now).now.trees) }
     ensures same_reference { tx.new.conn.ghost_name ≡ tx.old.conn.ghost_name }
-    ensures inside { HasCleanDisk (state S.Store tx.new.conn.now) → OnOk result (IsWithin (state S.Store tx.new.conn.now) (HasStore One)) }
-    ensures migrating { HasCleanDisk (state S.Store tx.new.conn.now) → OnOk result (IsMigrating count (state S.Store tx.old.conn.now).now.trees (state S.Store tx.new.conn.now).now.trees) }
-    ensures damaged { HasCleanDisk (state S.Store tx.new.conn.now) → IfErr result (λ e. (p : ℕ) → e ≡ StoreFault.Damaged p → IsDamagedIn One p (slots_in (state S.Store tx.old.conn.now).now.trees)) }
+    ensures inside { HasCleanDisk (state S.Store tx.new.conn.now)
+        → OnOk result (IsWithin (state S.Store tx.new.conn.now) (HasStore One)) }
+    ensures migrating { HasCleanDisk (state S.Store tx.new.conn.now)
+        → OnOk result (IsMigrating count (state S.Store tx.old.conn.now).now.trees
+        (state S.Store tx.new.conn.now).now.trees) }
+    ensures damaged { HasCleanDisk (state S.Store tx.new.conn.now)
+        → IfErr result (λ e. (p : ℕ) → e ≡ StoreFault.Damaged p
+        → IsDamagedIn One p (slots_in (state S.Store tx.old.conn.now).now.trees)) }
     ensures named { IfErr result IsReadFault }
-    ensures schema { HasCleanDisk (state S.Store tx.new.conn.now) → OnOk result ((state S.Store tx.new.conn.now).now.schema ≡ (state S.Store tx.old.conn.now).now.schema) }
-    ensures kept { HasCleanDisk (state S.Store tx.new.conn.now) → KeepsCommit (state S.Store tx.old.conn.now) (state S.Store tx.new.conn.now) }
+    ensures schema { HasCleanDisk (state S.Store tx.new.conn.now)
+        → OnOk result ((state S.Store tx.new.conn.now).now.schema ≡ (state S.Store tx.old.conn.now).now.schema) }
+    ensures kept { HasCleanDisk (state S.Store tx.new.conn.now)
+        → KeepsCommit (state S.Store tx.old.conn.now) (state S.Store tx.new.conn.now) }
     ensures survives { Survives (state S.Store tx.old.conn.now) (state S.Store tx.new.conn.now) (λ _. ⊥) }
 {
     let mut done = 0;
@@ -184,15 +217,23 @@ fn migrate_inside<S: Alter, W: Watch>(
     watch: &mut W,
 ) -> Result<(), StoreFault>
     requires small { count ≤ 2 ^ 63 }
-    requires inside { HasCleanDisk (state S.Store tx.old.conn.now) → IsWithin (state S.Store tx.old.conn.now) (HasStore One) }
-    requires count { HasCleanDisk (state S.Store tx.old.conn.now) → count ≡ length (slots_in (state S.Store tx.old.conn.now).now.trees) }
+    requires inside { HasCleanDisk (state S.Store tx.old.conn.now)
+        → IsWithin (state S.Store tx.old.conn.now) (HasStore One) }
+    requires count { HasCleanDisk (state S.Store tx.old.conn.now)
+        → count ≡ length (slots_in (state S.Store tx.old.conn.now).now.trees) }
     ensures same_reference { tx.new.conn.ghost_name ≡ tx.old.conn.ghost_name }
-    ensures inside { HasCleanDisk (state S.Store tx.new.conn.now) → OnOk result (IsWithin (state S.Store tx.new.conn.now) (HasStore Two)) }
-    ensures migrated { HasCleanDisk (state S.Store tx.new.conn.now) → OnOk result (IsMigrated (state S.Store tx.old.conn.now).now.trees (state S.Store tx.new.conn.now).now.trees) }
-    ensures damaged { HasCleanDisk (state S.Store tx.new.conn.now) → IfErr result (λ e. (p : ℕ) → e ≡ StoreFault.Damaged p → IsDamagedIn One p (slots_in (state S.Store tx.old.conn.now).now.trees)) }
+    ensures inside { HasCleanDisk (state S.Store tx.new.conn.now)
+        → OnOk result (IsWithin (state S.Store tx.new.conn.now) (HasStore Two)) }
+    ensures migrated { HasCleanDisk (state S.Store tx.new.conn.now)
+        → OnOk result (IsMigrated (state S.Store tx.old.conn.now).now.trees (state S.Store tx.new.conn.now).now.trees) }
+    ensures damaged { HasCleanDisk (state S.Store tx.new.conn.now)
+        → IfErr result (λ e. (p : ℕ) → e ≡ StoreFault.Damaged p
+        → IsDamagedIn One p (slots_in (state S.Store tx.old.conn.now).now.trees)) }
     ensures named { IfErr result IsReadFault }
-    ensures schema { HasCleanDisk (state S.Store tx.new.conn.now) → OnOk result ((state S.Store tx.new.conn.now).now.schema ≡ (state S.Store tx.old.conn.now).now.schema) }
-    ensures kept { HasCleanDisk (state S.Store tx.new.conn.now) → KeepsCommit (state S.Store tx.old.conn.now) (state S.Store tx.new.conn.now) }
+    ensures schema { HasCleanDisk (state S.Store tx.new.conn.now)
+        → OnOk result ((state S.Store tx.new.conn.now).now.schema ≡ (state S.Store tx.old.conn.now).now.schema) }
+    ensures kept { HasCleanDisk (state S.Store tx.new.conn.now)
+        → KeepsCommit (state S.Store tx.old.conn.now) (state S.Store tx.new.conn.now) }
     ensures survives { Survives (state S.Store tx.old.conn.now) (state S.Store tx.new.conn.now) (λ _. ⊥) }
 {
     migrate_records(tx, alloc, count, watch)?;
@@ -216,15 +257,22 @@ pub fn migrate<S: Alter, W: Watch>(
     requires small { count ≤ 2 ^ 63 }
     requires idle { conn.old.in_transaction ≡ false }
     requires ready { HasCleanDisk (state S.Store conn.old) → IsReadyIn One (state S.Store conn.old) }
-    requires count { HasCleanDisk (state S.Store conn.old) → count ≡ length (slots_in (state S.Store conn.old).committed.trees) }
+    requires count { HasCleanDisk (state S.Store conn.old)
+        → count ≡ length (slots_in (state S.Store conn.old).committed.trees) }
     ensures idle { conn.new.in_transaction ≡ false }
     ensures clean { HasCleanDisk (state S.Store conn.new) → HasCleanDisk (state S.Store conn.old) }
     ensures ready { HasCleanDisk (state S.Store conn.new) → OnOk result (IsReadyIn Two (state S.Store conn.new)) }
-    ensures migrated { HasCleanDisk (state S.Store conn.new) → OnOk result (IsMigrated (state S.Store conn.old).committed.trees (state S.Store conn.new).committed.trees) }
-    ensures tables { HasCleanDisk (state S.Store conn.new) → OnOk result ((state S.Store conn.new).committed.schema ≡ (state S.Store conn.old).committed.schema) }
-    ensures damaged { HasCleanDisk (state S.Store conn.new) → IfErr result (λ e. (p : ℕ) → e ≡ StoreFault.Damaged p → IsDamagedIn One p (slots_in (state S.Store conn.old).committed.trees)) }
+    ensures migrated { HasCleanDisk (state S.Store conn.new)
+        → OnOk result (IsMigrated (state S.Store conn.old).committed.trees (state S.Store conn.new).committed.trees) }
+    ensures tables { HasCleanDisk (state S.Store conn.new)
+        → OnOk result ((state S.Store conn.new).committed.schema ≡ (state S.Store conn.old).committed.schema) }
+    ensures damaged { HasCleanDisk (state S.Store conn.new)
+        → IfErr result (λ e. (p : ℕ) → e ≡ StoreFault.Damaged p
+        → IsDamagedIn One p (slots_in (state S.Store conn.old).committed.trees)) }
     ensures named { IfErr result IsReadFault }
-    ensures unharmed { HasCleanDisk (state S.Store conn.new) → IfErr result (λ e. IsTrue (is_judgement e) → (db : Trees) → (state S.Store conn.new).may_leave db → db ≡ (state S.Store conn.old).committed.trees) }
+    ensures unharmed { HasCleanDisk (state S.Store conn.new)
+        → IfErr result (λ e. IsTrue (is_judgement e) → (db : Trees) → (state S.Store conn.new).may_leave db
+        → db ≡ (state S.Store conn.old).committed.trees) }
     ensures crash { HasCleanDisk (state S.Store conn.new) → (db : Trees) → (state S.Store conn.new).may_leave db
         → (db ≡ (state S.Store conn.old).committed.trees) ⊎ IsMigrated (state S.Store conn.old).committed.trees db }
 {

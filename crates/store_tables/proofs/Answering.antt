@@ -10,7 +10,7 @@ use Rattle.std.specs.List.Sorted.{IsPermutation, IsSorted}
 use Rattle.std.proofs.lemmas.Bool.{cases_lt, le-leb}
 use Rattle.std.proofs.lemmas.Int.{ints}
 use Rattle.std.proofs.lemmas.List.Sorted.{sum_by-IsPermutation}
-use Rattle.sqlite_sql.specs.Ops.{binary, is_true}
+use Rattle.sqlite.specs.Ops.{binary, is_true}
 use Rattle.sqlite_sql.specs.declared.ops.CompareOp.TheVariants.{Ge, Le}
 use Rattle.sqlite_sql.specs.declared.ops.BinaryOp.TheVariants.{Compare}
 use Rattle.sqlite_value.proofs.OrderLemmas.{value_cmp-Int}
@@ -25,8 +25,8 @@ use Rattle.sqlite.specs.Effect.{Database, Reads}
 use Rattle.store_tables.specs.Tables.{entry}
 use Rattle.store_tables.specs.Slots.{place_of, body_of, whole_number, AreEntries}
 use Rattle.store_tables.specs.Pages.{is_within, shown, rows_within}
-use Rattle.lemmas.proofs.Membership.{In}
-use Rattle.lemmas.proofs.Permutations.{each_moved}
+use Rattle.units.proofs.Lists.Membership.{In}
+use Rattle.units.proofs.Lists.Permutations.{each_moved}
 use Rattle.store_tables.proofs.Places.{before}
 use Rattle.store_tables.proofs.InOrder.{Rise, NeverFall, one-order}
 use Rattle.store_tables.proofs.PageTexts.{page_query, page_command}
@@ -64,7 +64,7 @@ is-le q n =
       ]
     ]
 
-from-truth : (b : Bool) → is_true (Rattle.sqlite_sql.specs.Ops.from_truth (Rattle.std.specs.Prelude.Some b)) ≡ b
+from-truth : (b : Bool) → is_true (Rattle.sqlite.specs.Ops.from_truth (Rattle.std.specs.Prelude.Some b)) ≡ b
 from-truth true = refl
 from-truth false = refl
 

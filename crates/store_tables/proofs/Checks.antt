@@ -1,7 +1,7 @@
 -- When the terms that stand in a table's checks are `id = 1`.
 use Rattle.std.proofs.Common.{◌≡◌, ℕ, zero, suc, refl, List, slice_index_or, pos, ap, sym, ◌∙◌, ◌<◌, arith}
 use Rattle.sqlite_value.specs.declared.value.Value.TheVariants.{Null, Int}
-use Rattle.sqlite_sql.specs.Term.{Term, lit, col, op2}
+use Rattle.sqlite.specs.Term.{Term, lit, col, op2}
 use Rattle.sqlite_sql.specs.declared.ops.BinaryOp.{BinaryOp}
 use Rattle.sqlite_schema.specs.declared.code.Op.{Op}
 use Rattle.sqlite_schema.specs.declared.code.Op.TheVariants.{Literal, Column, Unary, Binary, Case}

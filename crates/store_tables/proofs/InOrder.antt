@@ -4,7 +4,7 @@ use Rattle.std.specs.Prelude.{nat_lt, ◌==◌}
 use Rattle.std.specs.List.{sum_by}
 use Rattle.std.proofs.lemmas.Bool.{cond-true, cond-false, ltb-true, lt-ltb, eqb-true, eq-eqb, cases_Bool}
 use Rattle.std.proofs.lemmas.List.Sums.{sum_by-cons}
-use Rattle.lemmas.proofs.Membership.{In}
+use Rattle.units.proofs.Lists.Membership.{In}
 
 -- each key is above the earlier ones, and none is below the number
 abbrev pub Rise : {X : Type 0} → (X → ℕ) → ℕ → List X → Type 0

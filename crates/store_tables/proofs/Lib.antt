@@ -11,3 +11,4 @@ pub mod Answering
 pub mod Queries
 pub mod NoRoom
 pub mod PlacesRead
+pub use Rattle.sqlite_value.proofs.OrderLemmas

@@ -9,3 +9,7 @@ pub mod Layout
 pub mod OwnerRow
 pub mod Rows
 pub mod Within
+pub use Rattle.sqlite_schema.specs.Rules
+pub use Rattle.sqlite_schema.specs.declared.schema.Constraint
+pub use Rattle.sqlite_schema.specs.declared.schema.Keys
+pub use Rattle.sqlite_tied.specs.Compute

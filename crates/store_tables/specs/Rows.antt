@@ -4,7 +4,7 @@ use Rattle.std.specs.List.{AllByRecursion}
 use Rattle.sqlite.specs.declared.types.Value.TheVariants.{Null, Int, Text as Words}
 use Rattle.sqlite.specs.Order.{Row}
 use Rattle.sqlite.specs.Tree.{Trees}
-use Rattle.sqlite_trees.specs.Tree.{IsTable}
+use Rattle.sqlite.specs.Tree.{IsTable}
 use Rattle.store_tables.specs.Tables.{TableOrder, about_tree, entries_tree}
 
 -- the row of the owner, of any format

@@ -1,6 +1,6 @@
 //! Which tables a database has, found by comparing its schema part by part.
 ghost use Rattle.std.specs.Prelude.{◌≡◌, ◌↔◌, ◌∷◌, [], Some, None, false, pos, length, slice_index_or, IsTrue};
-ghost use Rattle.sqlite_sql.specs.Term.{lit, col, op2};
+ghost use Rattle.sqlite.specs.Term.{lit, col, op2};
 ghost use Rattle.sqlite_schema.specs.Code.{term_in};
 ghost use Rattle.store_tables.specs.Tables.{about_table, entries_table, about_columns, entry_columns};
 ghost use Rattle.store_tables.specs.Layout.{IsFirst, AreTables};
@@ -50,7 +50,8 @@ fn has_no_stamps(stamps: &Stamps) -> bool
 
 /// Whether its first column is its rowid, and it has no other key.
 fn has_plain_key(table: &Table) -> bool
-    ensures { IsTrue result ↔ ((table.now.key ≡ Some 0) × (table.now.primary ≡ 0 ∷ []) × (table.now.uniques ≡ []) × (table.now.orders ≡ [])) }
+    ensures { IsTrue result ↔ ((table.now.key ≡ Some 0) × (table.now.primary ≡ 0 ∷ []) × (table.now.uniques ≡ [])
+        × (table.now.orders ≡ [])) }
 {
     table.key == Some(0)
         && matches!(table.primary.as_slice(), [0])
@@ -60,7 +61,8 @@ fn has_plain_key(table: &Table) -> bool
 
 /// Whether it has no reference, computed default or counter.
 fn is_free(table: &Table) -> bool
-    ensures { IsTrue result ↔ ((table.now.references ≡ []) × (table.now.computed ≡ []) × (table.now.stamps ≡ record { places = []; terms = []; formats = [] }) × (table.now.is_counted ≡ false)) }
+    ensures { IsTrue result ↔ ((table.now.references ≡ []) × (table.now.computed ≡ [])
+        × (table.now.stamps ≡ record { places = []; terms = []; formats = [] }) × (table.now.is_counted ≡ false)) }
 {
     table.references.is_empty()
         && table.computed.is_empty()

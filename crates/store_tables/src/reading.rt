@@ -35,11 +35,14 @@ fn query_rows<S: Alter>(
     requires ready { HasCleanDisk (state S.Store conn.old) → IsReady (state S.Store conn.old) }
     ensures idle { conn.old.in_transaction ≡ false → conn.new.in_transaction ≡ false }
     ensures clean { HasCleanDisk (state S.Store conn.new) → HasCleanDisk (state S.Store conn.old) }
-    ensures rows { HasCleanDisk (state S.Store conn.new) → IfOk result (λ rows. rows.items ≡ rows_within first last (entry_rows (state S.Store conn.old).committed.trees)) }
+    ensures rows { HasCleanDisk (state S.Store conn.new)
+        → IfOk result (λ rows. rows.items ≡ rows_within first last (entry_rows
+        (state S.Store conn.old).committed.trees)) }
     ensures open { HasCleanDisk (state S.Store conn.new) → OnOk result (IsTrue (state S.Store conn.new).is_open) }
     ensures kept { HasCleanDisk (state S.Store conn.new) → IsTrue (state S.Store conn.new).is_open
         → IsReady (state S.Store conn.new) × ((state S.Store conn.new).committed ≡ (state S.Store conn.old).committed) }
-    ensures crash { HasCleanDisk (state S.Store conn.new) → (db : Trees) → (state S.Store conn.new).may_leave db → db ≡ (state S.Store conn.old).committed.trees }
+    ensures crash { HasCleanDisk (state S.Store conn.new) → (db : Trees) → (state S.Store conn.new).may_leave db
+        → db ≡ (state S.Store conn.old).committed.trees }
 {
     conn.query_all(
         PAGE_QUERY,
@@ -58,12 +61,18 @@ pub fn rows_of<S: Alter>(
     requires ready { HasCleanDisk (state S.Store conn.old) → IsReady (state S.Store conn.old) }
     ensures idle { conn.old.in_transaction ≡ false → conn.new.in_transaction ≡ false }
     ensures clean { HasCleanDisk (state S.Store conn.new) → HasCleanDisk (state S.Store conn.old) }
-    ensures rows { HasCleanDisk (state S.Store conn.new) → IfOk result (λ rows. rows.items ≡ rows_within first last (entry_rows (state S.Store conn.old).committed.trees)) }
-    ensures ok { HasCleanDisk (state S.Store conn.new) → OnOk result (IsReady (state S.Store conn.new) × ((state S.Store conn.new).committed ≡ (state S.Store conn.old).committed)) }
+    ensures rows { HasCleanDisk (state S.Store conn.new)
+        → IfOk result (λ rows. rows.items ≡ rows_within first last (entry_rows
+        (state S.Store conn.old).committed.trees)) }
+    ensures ok { HasCleanDisk (state S.Store conn.new)
+        → OnOk result (IsReady (state S.Store conn.new)
+        × ((state S.Store conn.new).committed ≡ (state S.Store conn.old).committed)) }
     ensures refused { HasCleanDisk (state S.Store conn.new) → IfErr result (λ e. is_device_fault e ≡ false
-        → IsReady (state S.Store conn.new) × ((state S.Store conn.new).committed ≡ (state S.Store conn.old).committed)) }
+        → IsReady (state S.Store conn.new)
+        × ((state S.Store conn.new).committed ≡ (state S.Store conn.old).committed)) }
     ensures named { IfErr result (λ e. (e ≡ StoreFault.NoMemory) ⊎ IsTrue (is_device_fault e)) }
-    ensures crash { HasCleanDisk (state S.Store conn.new) → (db : Trees) → (state S.Store conn.new).may_leave db → db ≡ (state S.Store conn.old).committed.trees }
+    ensures crash { HasCleanDisk (state S.Store conn.new) → (db : Trees) → (state S.Store conn.new).may_leave db
+        → db ≡ (state S.Store conn.old).committed.trees }
 {
     let fault = match query_rows(conn, first, last) {
         Ok(rows) => return Ok(rows),
@@ -84,12 +93,18 @@ pub fn rows_inside<S: Alter>(
 ) -> Result<Vec<Row>, SqlError>
     requires first { first < 2 ^ 63 }
     requires last { last < 2 ^ 63 }
-    requires inside { HasCleanDisk (state S.Store tx.old.conn.now) → IsWithin (state S.Store tx.old.conn.now) (HasStore One) }
+    requires inside { HasCleanDisk (state S.Store tx.old.conn.now)
+        → IsWithin (state S.Store tx.old.conn.now) (HasStore One) }
     ensures same_reference { tx.new.conn.ghost_name ≡ tx.old.conn.ghost_name }
-    ensures inside { HasCleanDisk (state S.Store tx.new.conn.now) → OnOk result (IsWithin (state S.Store tx.new.conn.now) (HasStore One)) }
-    ensures rows { HasCleanDisk (state S.Store tx.new.conn.now) → IfOk result (λ rows. rows.items ≡ rows_within first last (entry_rows (state S.Store tx.old.conn.now).now.trees)) }
-    ensures same { HasCleanDisk (state S.Store tx.new.conn.now) → OnOk result ((state S.Store tx.new.conn.now).now ≡ (state S.Store tx.old.conn.now).now) }
-    ensures kept { HasCleanDisk (state S.Store tx.new.conn.now) → KeepsCommit (state S.Store tx.old.conn.now) (state S.Store tx.new.conn.now) }
+    ensures inside { HasCleanDisk (state S.Store tx.new.conn.now)
+        → OnOk result (IsWithin (state S.Store tx.new.conn.now) (HasStore One)) }
+    ensures rows { HasCleanDisk (state S.Store tx.new.conn.now)
+        → IfOk result (λ rows. rows.items ≡ rows_within first last (entry_rows
+        (state S.Store tx.old.conn.now).now.trees)) }
+    ensures same { HasCleanDisk (state S.Store tx.new.conn.now)
+        → OnOk result ((state S.Store tx.new.conn.now).now ≡ (state S.Store tx.old.conn.now).now) }
+    ensures kept { HasCleanDisk (state S.Store tx.new.conn.now)
+        → KeepsCommit (state S.Store tx.old.conn.now) (state S.Store tx.new.conn.now) }
     ensures survives { Survives (state S.Store tx.old.conn.now) (state S.Store tx.new.conn.now) (λ _. ⊥) }
 {
     tx.query_all(
@@ -101,7 +116,8 @@ pub fn rows_inside<S: Alter>(
 /// The body of a row, where the row is at that place: `None` where it is at another. Fails with `Device` where the
 /// row has no place or no body, which takes no memory to tell.
 fn body_at(row: &Row, place: u64) -> Result<Option<&[u8]>, StoreFault>
-    ensures ok { IfOk result (λ body. option_copied body ≡ cond (place_of row.now == place) (Some (bytes (column row.now 1))) None) }
+    ensures ok { IfOk result (λ body. option_copied body ≡ cond (place_of row.now == place) (Some (bytes
+        (column row.now 1))) None) }
     ensures named { IfErr result (λ e. e ≡ StoreFault.Device) }
 {
     let found: u64 = match row.get(0) {

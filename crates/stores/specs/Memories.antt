@@ -6,7 +6,7 @@ use Rattle.stores.specs.declared.memory_store.Kept.{Kept}
 use Rattle.stores.specs.declared.memory_store.Kept.TheVariants as kept
 use Rattle.stores.specs.declared.memory_store.Fuse.{Fuse}
 
-pub record Memory : Type 0 where
+pub record MemoryStoreView : Type 0 where
   -- whose records they are
   pub node : Node
   pub inputs : List Input
@@ -33,21 +33,21 @@ part_of kept.All batch = batch
 part_of kept.None batch = []
 
 -- after an append that passed: the batch stands after what was there
-abbrev pub passed : List Input → Memory → Memory
+abbrev pub passed : List Input → MemoryStoreView → MemoryStoreView
 passed batch m = record { node = m.node; inputs = m.inputs ++ batch; must_reopen = m.must_reopen; fuse = after_pass m.fuse batch; faults = m.faults }
 
 -- after the append at which the fuse burned
-abbrev pub burned : Kept → List Input → Memory → Memory
+abbrev pub burned : Kept → List Input → MemoryStoreView → MemoryStoreView
 burned keeps batch m = record { node = m.node; inputs = m.inputs ++ part_of keeps batch; must_reopen = true; fuse = None; faults = (m.faults + 1) % 2 ^ 64 }
 
 -- as it was, but that it must be reopened
-abbrev pub stopped : Memory → Memory
+abbrev pub stopped : MemoryStoreView → MemoryStoreView
 stopped m = record { node = m.node; inputs = m.inputs; must_reopen = true; fuse = m.fuse; faults = m.faults }
 
 -- as it was, and it need not be reopened
-abbrev pub reopened : Memory → Memory
+abbrev pub reopened : MemoryStoreView → MemoryStoreView
 reopened m = record { node = m.node; inputs = m.inputs; must_reopen = false; fuse = m.fuse; faults = m.faults }
 
 -- the fuse was to burn at the batch, and burned
-abbrev pub HasBurned : List Input → Memory → Memory → Type 0
+abbrev pub HasBurned : List Input → MemoryStoreView → MemoryStoreView → Type 0
 HasBurned batch old new = (keeps : Kept) × (old.fuse ≡ Some (record { passes = 0; keeps = keeps })) × (batch ≢ []) × (new ≡ burned keeps batch old)

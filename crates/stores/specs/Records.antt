@@ -5,6 +5,10 @@ use Rattle.wire.specs.declared.input.Input.{Input}
 use Rattle.wire.specs.declared.record_format.RecordFormat.{RecordFormat}
 use Rattle.wire.specs.declared.record_format.RecordFormat.TheVariants.{Two}
 
+-- how many records are read at once at most: a page
+abbrev pub page_size : ℕ
+page_size = 256
+
 -- a list of places: the text at each, or None where it is missing
 abbrev pub Places : Type 0
 Places = List (Option (List ℕ))

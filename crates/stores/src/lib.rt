@@ -11,6 +11,6 @@ mod records;
 pub use fault::StoreFault;
 pub use laws::{append_is_whole, running_store_holds_its_content};
 pub use memory_store::{Kept, MemoryStore};
-pub use node_store::NodeStore;
+pub use node_store::{NodeStore, PAGE};
 pub use readiness::Readiness;
 pub use records::{decode_records, encode_records};

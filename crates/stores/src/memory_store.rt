@@ -41,13 +41,14 @@ pub struct MemoryStore {
 }
 
 impl Model for MemoryStore {
-    ghost use Rattle.stores.specs.Memories.{Memory};
+    ghost use Rattle.stores.specs.Memories.{MemoryStoreView};
     ghost use Rattle.stores.specs.Readiness.{is_stopped};
     ghost use Rattle.stores.specs.Records.{AreRecords, written};
 
-    ghost Value = { Memory };
+    ghost Value = { MemoryStoreView };
 
-    ghost view = { λ s. record { node = s.node; inputs = s.records.items; must_reopen = is_stopped s.readiness; fuse = s.fuse; faults = s.faults } };
+    ghost view = { λ s. record
+        { node = s.node; inputs = s.records.items; must_reopen = is_stopped s.readiness; fuse = s.fuse; faults = s.faults } };
 
     ghost invariant = { λ s. AreRecords (written s.records.items) s.records.items };
 }
@@ -96,7 +97,14 @@ impl MemoryStore {
     /// `Device`, and the whole batch is kept or none of it, as `keeps` says. The fuse burns once: after a reopening
     /// all appends pass.
     pub fn fused(alloc: Global, node: Node, passes: u64, keeps: Kept) -> MemoryStore
-        ensures { result ≡ record { node = node; inputs = []; must_reopen = false; fuse = Some (record { passes = passes; keeps = keeps }); faults = 0 } }
+        ensures { result ≡ record {
+          node = node;
+          inputs = [];
+          must_reopen = false;
+          fuse = Some
+              (record { passes = passes; keeps = keeps });
+          faults = 0;
+        } }
     {
         let fuse = Some(Fuse { passes, keeps });
         MemoryStore {
@@ -211,7 +219,8 @@ impl NodeStore for MemoryStore {
     fn load_page(&mut self, from: u64, max: u64) -> Result<Vec<Input>, StoreFault>
         ensures reopen { IsTrue self.old.must_reopen → (result ≡ Err Reopen) × (self.new ≡ self.old) }
         ensures ok { IfOk result (λ inputs. inputs.items ≡ take max (drop from self.old.inputs)) }
-        ensures records { IfOk result (λ inputs. AreRecords (take max (drop from (written self.old.inputs))) inputs.items) }
+        ensures records { IfOk result
+            (λ inputs. AreRecords (take max (drop from (written self.old.inputs))) inputs.items) }
         ensures named { self.old.must_reopen ≡ false → IfErr result (λ e. e ≡ OutOfMemory) }
         ensures kept { self.new ≡ self.old }
     {

@@ -3,10 +3,13 @@ ghost use Rattle.std.specs.Prelude.{◌≡◌, ◌≤◌, ℕ, Bool, false, OnOk
 ghost use Rattle.stores.specs.Calls.{Appends, Loads, Reopens};
 ghost use Rattle.stores.specs.Faults.{faults_after};
 ghost use Rattle.units.specs.declared.code.Node.{Node};
-ghost use Rattle.stores.specs.Records.{Places};
+ghost use Rattle.stores.specs.Records.{Places, page_size};
 
 use crate::fault::StoreFault;
 use wire::Input;
+
+/// How many records are read at once at most: a page.
+pub const PAGE: u64 = 256;
 
 /// A node's records, which only grow, and which a crash leaves as they were before an append or after it.
 ///
@@ -60,8 +63,9 @@ pub trait NodeStore {
     /// The records from place `from` on, at most `max`. Fails as `load` does, for the places that it looks at alone.
     fn load_page(&mut self, from: u64, max: u64) -> Result<Vec<Input>, StoreFault>
         requires some { 1 ≤ max }
-        requires few { max ≤ 256 }
-        ensures loads { Loads is_honest content may_hold must_reopen self.old self.new from (take max (drop from (content self.old))) result }
+        requires few { max ≤ page_size }
+        ensures loads { Loads is_honest content may_hold must_reopen self.old self.new from
+            (take max (drop from (content self.old))) result }
         ensures count { faults self.new ≡ faults_after (faults self.old) result }
         ensures whose { whose self.new ≡ whose self.old }
         ensures own { is_honest self.new → must_reopen self.new ≡ false → is_own self.old → is_own self.new };

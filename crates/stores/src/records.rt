@@ -8,7 +8,7 @@ ghost use Rattle.stores.specs.declared.fault.StoreFault.TheVariants.{NoMemory as
 use crate::fault::StoreFault;
 use std::alloc::Global;
 use units::NoMemory;
-use wire::{Input, ReadFault, decode_input, encode_input};
+use wire::{Input, TextFault, decode_input, encode_input};
 
 /// The texts of the records of a batch, in their order.
 pub fn encode_records(alloc: Global, batch: &[Input]) -> Result<Vec<Vec<u8>>, NoMemory>
@@ -32,16 +32,19 @@ pub fn decode_records(
     until: u64,
 ) -> Result<Vec<Input>, StoreFault>
     requires ordered { first + length bodies.now ≤ until }
-    ensures ok { IfOk result (λ inputs. (places : Places) → length places ≡ until - first → unbroken places ≡ map (λ b. b.now) bodies.now → AreRecords places inputs.items) }
-    ensures damaged { IfErr result (λ e. (p : ℕ) → e ≡ Damaged p → (first ≤ p) × ((places : Places) → length places ≡ until - first → unbroken places ≡ map (λ b. b.now) bodies.now → IsDamagedAt (p - first) places)) }
+    ensures ok { IfOk result (λ inputs. (places : Places) → length places ≡ until - first
+        → unbroken places ≡ map (λ b. b.now) bodies.now → AreRecords places inputs.items) }
+    ensures damaged { IfErr result (λ e. (p : ℕ) → e ≡ Damaged p → (first ≤ p)
+        × ((places : Places) → length places ≡ until - first → unbroken places ≡ map (λ b. b.now) bodies.now
+        → IsDamagedAt (p - first) places)) }
     ensures named { IfErr result (λ e. (e ≡ OutOfMemory) ⊎ ((p : ℕ) × (e ≡ Damaged p))) }
 {
     let mut inputs = Vec::new(alloc);
     for (at, body) in bodies.iter().enumerate() {
         match decode_input(alloc, body) {
             Ok(input) => inputs.push(input)?,
-            Err(ReadFault::NoMemory) => return Err(StoreFault::NoMemory),
-            Err(ReadFault::Shape) => return Err(StoreFault::Damaged(first + at as u64)),
+            Err(TextFault::NoMemory) => return Err(StoreFault::NoMemory),
+            Err(TextFault::Shape) => return Err(StoreFault::Damaged(first + at as u64)),
         }
     }
     let next = first + bodies.len() as u64;

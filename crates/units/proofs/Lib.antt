@@ -1,3 +1,4 @@
+pub mod Lists
 pub mod Cuts
 pub mod Numbers
 pub mod Blocks

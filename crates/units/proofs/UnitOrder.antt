@@ -8,7 +8,7 @@ use Rattle.std.specs.declared.cmp.Ordering.{Ordering}
 use Rattle.std.specs.declared.cmp.Ordering.TheVariants.{Less, Equal, Greater}
 use Rattle.std.specs.Ordering.{MatchOrdering, nat_cmp, ordering_then, is_lt}
 use Rattle.std.proofs.lemmas.Bool.{true≢false, and_from, eq-eqb, cases_lt}
-use Rattle.lemmas.proofs.Comparisons.{compared, compared_then}
+use Rattle.units.proofs.Lists.Comparisons.{compared, compared_then}
 use Rattle.units.specs.Code.{same_code}
 use Rattle.units.specs.Limits.{last_unit}
 use Rattle.units.specs.Keys.{code_cmp, unit_cmp}

@@ -239,7 +239,8 @@ impl Block {
         first: u64,
         last: u64,
     ) -> Result<Block, BlockFault>
-        ensures ok { IfOk result (λ b. b.raw ≡ record { origin = origin; period = period; kind = kind; first = first; last = last }) }
+        ensures ok { IfOk result
+            (λ b. b.raw ≡ record { origin = origin; period = period; kind = kind; first = first; last = last }) }
         ensures shape { result ≡ Err BlockFault.Shape → ⊥ }
         ensures range { result ≡ Err BlockFault.Range → IsRange first last → ⊥ }
     {
@@ -262,7 +263,8 @@ impl Block {
     pub fn read(text: &str) -> Result<Block, BlockFault>
         ensures ok { IfOk result (λ b. IsRawText text.now b.raw) }
         ensures shape { result ≡ Err BlockFault.Shape → (r : RawBlock) → IsRawText text.now r → ⊥ }
-        ensures range { result ≡ Err BlockFault.Range → (r : RawBlock) × IsRawText text.now r × (IsRange r.first r.last → ⊥) }
+        ensures range { result ≡ Err BlockFault.Range → (r : RawBlock) × IsRawText text.now r
+            × (IsRange r.first r.last → ⊥) }
     {
         let Some(raw) = RawBlock::read(text) else {
             return Err(BlockFault::Shape);

@@ -56,10 +56,13 @@ impl BlockSet {
     /// Adds the block's units. Fails with `BLOCKS_OVERLAP` where one of them is there, of whatever kind, and with
     /// `OUT_OF_MEMORY` only where none is. After a refusal nothing has changed.
     pub fn add(&mut self, block: Block) -> Result<(), Refusal>
-        ensures ok { OnOk result ((u : Serial) → map.get self.new u ≡ (if has_unit block.raw u then Some block.raw.kind else map.get self.old u)) }
+        ensures ok { OnOk result ((u : Serial)
+            → map.get self.new u ≡ (if has_unit block.raw u then Some block.raw.kind else map.get self.old u)) }
         ensures fresh { OnOk result ((u : Serial) → IsTrue (has_unit block.raw u) → map.get self.old u ≡ None) }
-        ensures there { IfErr result (λ r. r.code ≡ blocks_overlap → (u : Serial) × IsTrue (has_unit block.raw u) × IsSome (map.get self.old u)) }
-        ensures memory { IfErr result (λ r. r.code ≡ out_of_memory → (u : Serial) → IsTrue (has_unit block.raw u) → map.get self.old u ≡ None) }
+        ensures there { IfErr result (λ r. r.code ≡ blocks_overlap → (u : Serial) × IsTrue (has_unit block.raw u)
+            × IsSome (map.get self.old u)) }
+        ensures memory { IfErr result (λ r. r.code ≡ out_of_memory → (u : Serial) → IsTrue (has_unit block.raw u)
+            → map.get self.old u ≡ None) }
         ensures refusals { IfErr result (λ r. (r.code ≡ blocks_overlap) ⊎ (r.code ≡ out_of_memory)) }
         ensures err { OnErr result (self.new ≡ self.old) }
     {
@@ -74,10 +77,14 @@ impl BlockSet {
     /// with `OUT_OF_MEMORY`, since what is left may be more blocks, only where all are there. After a refusal nothing
     /// has changed.
     pub fn take(&mut self, block: Block) -> Result<(), Refusal>
-        ensures ok { OnOk result ((u : Serial) → map.get self.new u ≡ (if has_unit block.raw u then None else map.get self.old u)) }
-        ensures held { OnOk result ((u : Serial) → IsTrue (has_unit block.raw u) → map.get self.old u ≡ Some block.raw.kind) }
-        ensures missing { IfErr result (λ r. r.code ≡ unit_not_held → (u : Serial) × IsTrue (has_unit block.raw u) × (map.get self.old u ≢ Some block.raw.kind)) }
-        ensures memory { IfErr result (λ r. r.code ≡ out_of_memory → (u : Serial) → IsTrue (has_unit block.raw u) → map.get self.old u ≡ Some block.raw.kind) }
+        ensures ok { OnOk result ((u : Serial)
+            → map.get self.new u ≡ (if has_unit block.raw u then None else map.get self.old u)) }
+        ensures held { OnOk result ((u : Serial) → IsTrue (has_unit block.raw u)
+            → map.get self.old u ≡ Some block.raw.kind) }
+        ensures missing { IfErr result (λ r. r.code ≡ unit_not_held → (u : Serial) × IsTrue (has_unit block.raw u)
+            × (map.get self.old u ≢ Some block.raw.kind)) }
+        ensures memory { IfErr result (λ r. r.code ≡ out_of_memory → (u : Serial) → IsTrue (has_unit block.raw u)
+            → map.get self.old u ≡ Some block.raw.kind) }
         ensures refusals { IfErr result (λ r. (r.code ≡ unit_not_held) ⊎ (r.code ≡ out_of_memory)) }
         ensures err { OnErr result (self.new ≡ self.old) }
     {
@@ -92,11 +99,15 @@ impl BlockSet {
     /// or one of their units is there, of whatever kind, and with `OUT_OF_MEMORY` only where neither is so. After a
     /// refusal nothing has changed.
     pub fn add_all(&mut self, blocks: &[Block]) -> Result<(), Refusal>
-        ensures ok { OnOk result ((u : Serial) → map.get self.new u ≡ option_map_or (λ b. Some b.raw.kind) (find (λ b. has_unit b.raw u) blocks.now) (map.get self.old u)) }
+        ensures ok { OnOk result ((u : Serial)
+            → map.get self.new u
+            ≡ option_map_or (λ b. Some b.raw.kind) (find (λ b. has_unit b.raw u) blocks.now) (map.get self.old u)) }
         ensures apart { OnOk result (AllApart blocks.now) }
         ensures fresh { OnOk result ((u : Serial) → IsTrue (covers blocks.now u) → map.get self.old u ≡ None) }
-        ensures there { IfErr result (λ r. r.code ≡ blocks_overlap → (AllApart blocks.now → ⊥) ⊎ ((u : Serial) × IsTrue (covers blocks.now u) × IsSome (map.get self.old u))) }
-        ensures memory { IfErr result (λ r. r.code ≡ out_of_memory → AllApart blocks.now × ((u : Serial) → IsTrue (covers blocks.now u) → map.get self.old u ≡ None)) }
+        ensures there { IfErr result (λ r. r.code ≡ blocks_overlap → (AllApart blocks.now → ⊥)
+            ⊎ ((u : Serial) × IsTrue (covers blocks.now u) × IsSome (map.get self.old u))) }
+        ensures memory { IfErr result (λ r. r.code ≡ out_of_memory → AllApart blocks.now
+            × ((u : Serial) → IsTrue (covers blocks.now u) → map.get self.old u ≡ None)) }
         ensures refusals { IfErr result (λ r. (r.code ≡ blocks_overlap) ⊎ (r.code ≡ out_of_memory)) }
         ensures err { OnErr result (self.new ≡ self.old) }
     {
@@ -112,8 +123,10 @@ impl BlockSet {
 
     /// Whether each of the block's units is there, of its kind.
     fn holds(&self, block: &Block) -> bool
-        ensures all { OnTrue result ((u : Serial) → IsTrue (has_unit block.now.raw u) → map.get self.now u ≡ Some block.now.raw.kind) }
-        ensures lacking { OnFalse result ((u : Serial) × IsTrue (has_unit block.now.raw u) × (map.get self.now u ≢ Some block.now.raw.kind)) }
+        ensures all { OnTrue result ((u : Serial) → IsTrue (has_unit block.now.raw u)
+            → map.get self.now u ≡ Some block.now.raw.kind) }
+        ensures lacking { OnFalse result ((u : Serial) × IsTrue (has_unit block.now.raw u)
+            × (map.get self.now u ≢ Some block.now.raw.kind)) }
     {
         let wanted = block.raw.kind;
         self.kinds.has_all_of(block, |kind| kind == wanted)
@@ -121,8 +134,10 @@ impl BlockSet {
 
     /// Whether each unit of the blocks is there, of its block's kind.
     fn holds_each(&self, blocks: &[Block]) -> bool
-        ensures all { OnTrue result ((b : Block) (u : Serial) → IsAmong blocks.now b → IsTrue (has_unit b.raw u) → map.get self.now u ≡ Some b.raw.kind) }
-        ensures lacking { OnFalse result ((b : Block) × (u : Serial) × IsAmong blocks.now b × IsTrue (has_unit b.raw u) × (map.get self.now u ≢ Some b.raw.kind)) }
+        ensures all { OnTrue result ((b : Block) (u : Serial) → IsAmong blocks.now b → IsTrue (has_unit b.raw u)
+            → map.get self.now u ≡ Some b.raw.kind) }
+        ensures lacking { OnFalse result ((b : Block) × (u : Serial) × IsAmong blocks.now b × IsTrue (has_unit b.raw u)
+            × (map.get self.now u ≢ Some b.raw.kind)) }
     {
         blocks.iter().all(|block| self.holds(block))
     }
@@ -131,13 +146,20 @@ impl BlockSet {
     /// unit, else with `UNIT_NOT_HELD` where a unit isn't there or is of another kind than its block, and with
     /// `OUT_OF_MEMORY` only where neither is so. After a refusal nothing has changed.
     pub fn take_all(&mut self, blocks: &[Block]) -> Result<(), Refusal>
-        ensures ok { OnOk result ((u : Serial) → map.get self.new u ≡ (if covers blocks.now u then None else map.get self.old u)) }
+        ensures ok { OnOk result ((u : Serial)
+            → map.get self.new u ≡ (if covers blocks.now u then None else map.get self.old u)) }
         ensures apart { OnOk result (AllApart blocks.now) }
-        ensures held { OnOk result ((b : Block) (u : Serial) → IsAmong blocks.now b → IsTrue (has_unit b.raw u) → map.get self.old u ≡ Some b.raw.kind) }
+        ensures held { OnOk result ((b : Block) (u : Serial) → IsAmong blocks.now b → IsTrue (has_unit b.raw u)
+            → map.get self.old u ≡ Some b.raw.kind) }
         ensures shared { IfErr result (λ r. r.code ≡ blocks_overlap → AllApart blocks.now → ⊥) }
-        ensures missing { IfErr result (λ r. r.code ≡ unit_not_held → AllApart blocks.now × ((b : Block) × (u : Serial) × IsAmong blocks.now b × IsTrue (has_unit b.raw u) × (map.get self.old u ≢ Some b.raw.kind))) }
-        ensures memory { IfErr result (λ r. r.code ≡ out_of_memory → AllApart blocks.now × ((b : Block) (u : Serial) → IsAmong blocks.now b → IsTrue (has_unit b.raw u) → map.get self.old u ≡ Some b.raw.kind)) }
-        ensures refusals { IfErr result (λ r. (r.code ≡ blocks_overlap) ⊎ ((r.code ≡ unit_not_held) ⊎ (r.code ≡ out_of_memory))) }
+        ensures missing { IfErr result (λ r. r.code ≡ unit_not_held → AllApart blocks.now
+            × ((b : Block) × (u : Serial) × IsAmong blocks.now b × IsTrue (has_unit b.raw u)
+            × (map.get self.old u ≢ Some b.raw.kind))) }
+        ensures memory { IfErr result (λ r. r.code ≡ out_of_memory → AllApart blocks.now
+            × ((b : Block) (u : Serial) → IsAmong blocks.now b → IsTrue (has_unit b.raw u)
+            → map.get self.old u ≡ Some b.raw.kind)) }
+        ensures refusals { IfErr result (λ r. (r.code ≡ blocks_overlap)
+            ⊎ ((r.code ≡ unit_not_held) ⊎ (r.code ≡ out_of_memory))) }
         ensures err { OnErr result (self.new ≡ self.old) }
     {
         if overlaps(blocks) {
@@ -197,9 +219,11 @@ impl BlockSet {
     /// joined. Or `NoMemory`.
     pub fn canonical(&self, alloc: Global) -> Result<Vec<Block>, NoMemory>
         ensures ordered { IfOk result (λ v. AreCanonical (λ _. 0) (list_map interval_of v.items)) }
-        ensures form { IfOk result (λ v. canonical_form (list_map (λ b. b.raw) v.items) ≡ list_map (λ b. b.raw) v.items) }
+        ensures form { IfOk result
+            (λ v. canonical_form (list_map (λ b. b.raw) v.items) ≡ list_map (λ b. b.raw) v.items) }
         ensures kept { IfOk result (λ v. AreKept (list_map interval_of v.items)) }
-        ensures same { IfOk result (λ v. (u : Serial) → label_at (list_map interval_of v.items) u ≡ map.get self.now u) }
+        ensures same { IfOk result (λ v. (u : Serial)
+            → label_at (list_map interval_of v.items) u ≡ map.get self.now u) }
     {
         let intervals = self.kinds.in_order()?;
         Ok(blocks_of(alloc, &intervals)?)

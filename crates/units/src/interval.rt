@@ -36,7 +36,13 @@ impl<M> Interval<M> {
     /// The block of its units, of that kind.
     pub fn block(&self, kind: Kind) -> Block
         requires { IsRange self.now.first self.now.last }
-        ensures { result.raw ≡ record { origin = self.now.origin; period = self.now.period; kind = kind; first = self.now.first; last = self.now.last } }
+        ensures { result.raw ≡ record {
+          origin = self.now.origin;
+          period = self.now.period;
+          kind = kind;
+          first = self.now.first;
+          last = self.now.last;
+        } }
     {
         let raw = RawBlock {
             origin: self.origin,

@@ -77,5 +77,7 @@ pub(crate) fn in_order<M: Label>(
 /// Units are in order by the two letters of their origin, then by their period, then by their number: a law, with no
 /// code.
 pub fn order_of_units()
-    ensures { (a b : Serial) → unit_cmp a b ≡ ordering_then (ordering_then (nat_cmp a.origin.first b.origin.first) (nat_cmp a.origin.second b.origin.second)) (ordering_then (nat_cmp (period_index a.period) (period_index b.period)) (nat_cmp a.number b.number)) }
+    ensures { (a b : Serial) → unit_cmp a b ≡ ordering_then (ordering_then (nat_cmp a.origin.first b.origin.first)
+        (nat_cmp a.origin.second b.origin.second))
+        (ordering_then (nat_cmp (period_index a.period) (period_index b.period)) (nat_cmp a.number b.number)) }
 {}

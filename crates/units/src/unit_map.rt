@@ -134,8 +134,12 @@ impl<M: Copy> UnitMap<M> {
     /// Whether each of the block's units is there with a label that passes the test. Takes no memory.
     pub fn has_all_of<F: Fn(M) -> bool>(&self, block: &Block, test: F) -> bool
         requires { F.IsAlwaysCallable test }
-        ensures all { (passes : M → Bool) → ((m : M) (r : Bool) → F.post test m r → r ≡ passes m) → OnTrue result ((u : Serial) → IsTrue (has_unit block.now.raw u) → option_map passes (map.get self.now u) ≡ Some true) }
-        ensures some { (passes : M → Bool) → ((m : M) (r : Bool) → F.post test m r → r ≡ passes m) → OnFalse result ((u : Serial) × IsTrue (has_unit block.now.raw u) × (option_map passes (map.get self.now u) ≢ Some true)) }
+        ensures all { (passes : M → Bool) → ((m : M) (r : Bool) → F.post test m r → r ≡ passes m)
+            → OnTrue result ((u : Serial) → IsTrue (has_unit block.now.raw u)
+            → option_map passes (map.get self.now u) ≡ Some true) }
+        ensures some { (passes : M → Bool) → ((m : M) (r : Bool) → F.post test m r → r ≡ passes m)
+            → OnFalse result ((u : Serial) × IsTrue (has_unit block.now.raw u)
+            × (option_map passes (map.get self.now u) ≢ Some true)) }
     {
         all_pass(&self.spans, block, test)
     }
@@ -143,8 +147,12 @@ impl<M: Copy> UnitMap<M> {
     /// Whether one of the block's units is there with a label that passes the test. Takes no memory.
     pub fn has_some_of<F: Fn(M) -> bool>(&self, block: &Block, test: F) -> bool
         requires { F.IsAlwaysCallable test }
-        ensures some { (passes : M → Bool) → ((m : M) (r : Bool) → F.post test m r → r ≡ passes m) → OnTrue result ((u : Serial) × IsTrue (has_unit block.now.raw u) × (option_map passes (map.get self.now u) ≡ Some true)) }
-        ensures none { (passes : M → Bool) → ((m : M) (r : Bool) → F.post test m r → r ≡ passes m) → OnFalse result ((u : Serial) → IsTrue (has_unit block.now.raw u) → option_map passes (map.get self.now u) ≢ Some true) }
+        ensures some { (passes : M → Bool) → ((m : M) (r : Bool) → F.post test m r → r ≡ passes m)
+            → OnTrue result ((u : Serial) × IsTrue (has_unit block.now.raw u)
+            × (option_map passes (map.get self.now u) ≡ Some true)) }
+        ensures none { (passes : M → Bool) → ((m : M) (r : Bool) → F.post test m r → r ≡ passes m)
+            → OnFalse result ((u : Serial) → IsTrue (has_unit block.now.raw u)
+            → option_map passes (map.get self.now u) ≢ Some true) }
     {
         some_passes(&self.spans, block, test)
     }
@@ -152,7 +160,8 @@ impl<M: Copy> UnitMap<M> {
     /// How many units are there whose label passes the test. Takes no memory.
     pub fn count_where<F: Fn(M) -> bool>(&self, test: F) -> u64
         requires { F.IsAlwaysCallable test }
-        ensures { (passes : M → Bool) → ((m : M) (r : Bool) → F.post test m r → r ≡ passes m) → result ≡ count_by (λ e. passes e.1) (map.entries self.now) }
+        ensures { (passes : M → Bool) → ((m : M) (r : Bool) → F.post test m r → r ≡ passes m)
+            → result ≡ count_by (λ e. passes e.1) (map.entries self.now) }
     {
         count_where(&self.spans, test)
     }
@@ -160,8 +169,10 @@ impl<M: Copy> UnitMap<M> {
     /// Takes out the units whose labels pass the test. Only units of the blocks have such labels. Takes no memory.
     pub fn remove_in<F: Fn(M) -> bool>(&mut self, blocks: &[Block], test: F)
         requires callable { F.IsAlwaysCallable test }
-        requires only { (u : Serial) (m : M) → map.get self.old u ≡ Some m → F.post test m false ⊎ IsTrue (covers blocks.now u) }
-        ensures { (passes : M → Bool) → ((m : M) (r : Bool) → F.post test m r → r ≡ passes m) → (u : Serial) → map.get self.new u ≡ labels_that (λ m. not (passes m)) (map.get self.old u) }
+        requires only { (u : Serial) (m : M) → map.get self.old u ≡ Some m → F.post test m false
+            ⊎ IsTrue (covers blocks.now u) }
+        ensures { (passes : M → Bool) → ((m : M) (r : Bool) → F.post test m r → r ≡ passes m) → (u : Serial)
+            → map.get self.new u ≡ labels_that (λ m. not (passes m)) (map.get self.old u) }
     {
         change_in(
             &mut self.spans,
@@ -175,7 +186,8 @@ impl<M: Label> UnitMap<M> {
     /// Gives the block's units that label, whether they are there or not, or takes them out. After
     /// `NoMemory` nothing has changed.
     pub fn set(&mut self, block: &Block, label: Option<M>) -> Result<(), NoMemory>
-        ensures ok { OnOk result ((u : Serial) → map.get self.new u ≡ (if has_unit block.now.raw u then label else map.get self.old u)) }
+        ensures ok { OnOk result ((u : Serial)
+            → map.get self.new u ≡ (if has_unit block.now.raw u then label else map.get self.old u)) }
         ensures err { OnErr result (self.new ≡ self.old) }
     {
         self.set_all(&[*block], |_| label)
@@ -190,7 +202,10 @@ impl<M: Label> UnitMap<M> {
     ) -> Result<(), NoMemory>
         requires callable { F.IsAlwaysCallable label }
         requires apart { AllApart blocks.now }
-        ensures ok { (labels : Block → Option M) → ((b : Block) (r : Option M) → F.post label b r → r ≡ labels b) → OnOk result ((u : Serial) → map.get self.new u ≡ option_map_or labels (find (λ b. has_unit b.raw u) blocks.now) (map.get self.old u)) }
+        ensures ok { (labels : Block → Option M) → ((b : Block) (r : Option M) → F.post label b r → r ≡ labels b)
+            → OnOk result ((u : Serial)
+            → map.get self.new u
+            ≡ option_map_or labels (find (λ b. has_unit b.raw u) blocks.now) (map.get self.old u)) }
         ensures err { OnErr result (self.new ≡ self.old) }
     {
         set_each(self.alloc, &mut self.spans, blocks, &label)?;
@@ -202,9 +217,13 @@ impl<M: Label> UnitMap<M> {
     /// memory.
     pub fn relabel_in<F: Fn(M) -> M>(&mut self, blocks: &[Block], change: F)
         requires callable { F.IsAlwaysCallable change }
-        requires only { (u : Serial) (m r : M) → map.get self.old u ≡ Some m → F.post change m r → (r ≡ m) ⊎ IsTrue (covers blocks.now u) }
-        requires same { (u : Serial) (m : M) → map.get self.old u ≡ Some m → F.post change m m ⊎ IsTrue (covers blocks.now u) }
-        ensures { (after : M → M) → ((m r : M) → F.post change m r → r ≡ after m) → ((m : M) → after (after m) ≡ after m) → (u : Serial) → map.get self.new u ≡ option_map after (map.get self.old u) }
+        requires only { (u : Serial) (m r : M) → map.get self.old u ≡ Some m → F.post change m r → (r ≡ m)
+            ⊎ IsTrue (covers blocks.now u) }
+        requires same { (u : Serial) (m : M) → map.get self.old u ≡ Some m → F.post change m m
+            ⊎ IsTrue (covers blocks.now u) }
+        ensures { (after : M → M) → ((m r : M) → F.post change m r → r ≡ after m)
+            → ((m : M) → after (after m) ≡ after m) → (u : Serial)
+            → map.get self.new u ≡ option_map after (map.get self.old u) }
     {
         change_in(&mut self.spans, blocks, |label| Some(change(label)));
         join_along(&mut self.spans, blocks);

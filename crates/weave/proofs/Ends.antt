@@ -18,8 +18,8 @@ use Rattle.protocol.specs.World.{World, Station, Stepped, at_node, opening, run,
 use Rattle.protocol.specs.declared.event.Outcome.TheVariants.{Recorded}
 use Rattle.protocol.specs.declared.event.WorldEvent.{WorldEvent}
 use Rattle.protocol.specs.declared.node_core.Stepped.TheVariants as stepped
-use Rattle.lemmas.proofs.OneValue.{one_some}
-use Rattle.lemmas.proofs.Positions.{In_contains}
+use Rattle.units.proofs.Lists.OneValue.{one_some}
+use Rattle.units.proofs.Lists.Positions.{In_contains}
 use Rattle.safety.proofs.Headline.{safe_live, safe_committed, way_out, welcome}
 use Rattle.safety.proofs.JournalWeaves.StuckWorlds.{stuck_is_final}
 use Rattle.safety.proofs.WorldLemmas.NodesWithStation.{some_there}

@@ -18,7 +18,7 @@ use Rattle.protocol.specs.declared.event.Outcome.TheVariants.{Recorded}
 use Rattle.protocol.specs.declared.event.Posted.{Posted}
 use Rattle.protocol.specs.declared.event.WorldEvent.{WorldEvent}
 use Rattle.protocol.specs.declared.event.WorldEvent.TheVariants.{Commit, Post}
-use Rattle.lemmas.proofs.Membership.{In}
+use Rattle.units.proofs.Lists.Membership.{In}
 use Rattle.safety.proofs.WorldLemmas.NodesWithStation.{AllPlaced, opening_placed, run_placed}
 use Rattle.safety.proofs.WorldLemmas.QuietWorlds.{run_append}
 use Rattle.weave.specs.Following.{committed_at}

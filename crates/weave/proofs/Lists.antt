@@ -4,8 +4,8 @@ use Rattle.std.specs.Prelude.{slice_get, get_or, Contains, IfNone, ◌⊎◌}
 use Rattle.std.proofs.Math.ListN.{set}
 use Rattle.std.proofs.lemmas.List.{map-append, take_more}
 use Rattle.std.specs.Option.{option_copied, option_map_or}
-use Rattle.lemmas.proofs.Membership.{In_left, In_right}
-use Rattle.lemmas.proofs.Positions.{In_contains, contains_in}
+use Rattle.units.proofs.Lists.Membership.{In_left, In_right}
+use Rattle.units.proofs.Lists.Positions.{In_contains, contains_in}
 
 pub front_get : {X : Type 0} (xs ys : List X) (k : ℕ) → k < length xs → slice_get (xs ++ ys) k ≡ slice_get xs k
 front_get [] ys k below = absurd (omega arith)

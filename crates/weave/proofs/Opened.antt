@@ -23,8 +23,8 @@ use Rattle.protocol.specs.Registries.{is_node, nodes}
 use Rattle.protocol.specs.Verdict.{history}
 use Rattle.protocol.specs.Weave.{IsQuiet}
 use Rattle.protocol.specs.World.{World, Station, opening, opening_station, run}
-use Rattle.lemmas.proofs.Membership.{In_slice_get}
-use Rattle.lemmas.proofs.Positions.{contains_in}
+use Rattle.units.proofs.Lists.Membership.{In_slice_get}
+use Rattle.units.proofs.Lists.Positions.{contains_in}
 use Rattle.safety.proofs.WorldLemmas.QuietWorlds.{opening_quiet, there}
 use Rattle.safety.proofs.WorldLemmas.SoundWorlds.{none_committed}
 use Rattle.safety.proofs.WorldLemmas.StationsAfterPut.{at}

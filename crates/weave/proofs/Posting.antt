@@ -20,8 +20,8 @@ use Rattle.protocol.specs.Weave.{IsQuiet}
 use Rattle.protocol.specs.World.{World, Station, station, sent, posted, step}
 use Rattle.protocol.specs.declared.event.Posted.{Posted}
 use Rattle.protocol.specs.declared.event.WorldEvent.TheVariants.{Post}
-use Rattle.lemmas.proofs.Membership.{In, In_cases}
-use Rattle.lemmas.proofs.OneValue.{one_some}
+use Rattle.units.proofs.Lists.Membership.{In, In_cases}
+use Rattle.units.proofs.Lists.OneValue.{one_some}
 use Rattle.safety.proofs.WorldLemmas.StationsAfterPut.{found_at_node}
 use Rattle.weave.specs.Steps.{IsPostedTo, Waits, next_message, with_message}
 use Rattle.weave.proofs.Lists.{contains_left, contains_last, past_end}

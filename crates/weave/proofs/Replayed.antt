@@ -10,7 +10,7 @@ use Rattle.protocol.specs.Registries.{nodes}
 use Rattle.protocol.specs.Cores.{HasFault, IsAt, IsFirstNotRecorded}
 use Rattle.protocol.specs.declared.replay_fault.ReplayFault.{ReplayFault}
 use Rattle.protocol.specs.declared.replay_fault.ReplayFault.TheVariants.{NotRecorded}
-use Rattle.lemmas.proofs.OneValue.{one_some}
+use Rattle.units.proofs.Lists.OneValue.{one_some}
 use Rattle.world.specs.Cores.{journal_of, node_of}
 use Rattle.world.specs.declared.any_core.Core.{Core}
 use Rattle.weave.specs.Ahead.{AreAhead, IsAhead}

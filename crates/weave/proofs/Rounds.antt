@@ -22,9 +22,9 @@ use Rattle.protocol.specs.declared.event.Outcome.TheVariants.{Recorded}
 use Rattle.protocol.specs.declared.event.WorldEvent.{WorldEvent}
 use Rattle.protocol.specs.declared.event.WorldEvent.TheVariants.{Commit, Post}
 use Rattle.protocol.specs.declared.node_core.Stepped.TheVariants as stepped
-use Rattle.lemmas.proofs.Membership.{In, In_cases, In_slice_get}
-use Rattle.lemmas.proofs.OneValue.{one_some}
-use Rattle.lemmas.proofs.Positions.{In_contains, contains_in}
+use Rattle.units.proofs.Lists.Membership.{In, In_cases, In_slice_get}
+use Rattle.units.proofs.Lists.OneValue.{one_some}
+use Rattle.units.proofs.Lists.Positions.{In_contains, contains_in}
 use Rattle.safety.proofs.WorldLemmas.SchemesKept.{run_scheme}
 use Rattle.weave.specs.Following.{committed_at}
 use Rattle.weave.specs.Kept.{HasPosted, HasWholeSame, IsFollowing, IsFollowingWith, IsPosting, Posts, Takes, left_in, places_of}

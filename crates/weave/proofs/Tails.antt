@@ -22,8 +22,8 @@ use Rattle.protocol.specs.declared.event.Outcome.TheVariants.{NotPossible, Recor
 use Rattle.protocol.specs.declared.event.WorldEvent.{WorldEvent}
 use Rattle.protocol.specs.declared.event.WorldEvent.TheVariants.{Take, Commit, Post, Deliver, Crash, Restart}
 use Rattle.protocol.specs.declared.node_core.Stepped.TheVariants as stepped
-use Rattle.lemmas.proofs.Membership.{In, In_find}
-use Rattle.lemmas.proofs.OneValue.{one_some}
+use Rattle.units.proofs.Lists.Membership.{In, In_find}
+use Rattle.units.proofs.Lists.OneValue.{one_some}
 use Rattle.safety.proofs.WorldLemmas.QuietWorlds.{takes}
 use Rattle.safety.proofs.WorldLemmas.StationsAfterPut.{at, at_elsewhere, at_put, found_at_node}
 use Rattle.protocol.proofs.NodePlaces.{Differ, nodes_differ}

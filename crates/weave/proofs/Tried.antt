@@ -15,7 +15,7 @@ use Rattle.protocol.specs.declared.event.Outcome.{Outcome}
 use Rattle.protocol.specs.declared.event.Outcome.TheVariants.{Done, NotPossible, Recorded}
 use Rattle.protocol.specs.declared.event.Posted.{Posted}
 use Rattle.protocol.specs.declared.event.WorldEvent.TheVariants.{Deliver, Post, Take}
-use Rattle.lemmas.proofs.Positions.{last_at}
+use Rattle.units.proofs.Lists.Positions.{last_at}
 use Rattle.weave.specs.Steps.{AreAllPlaced, Fits, HasMessage, IsNotRecorded, next_message, with_message}
 use Rattle.weave.proofs.Turns.{message_none, order_any, taken}
 

@@ -11,8 +11,8 @@ use Rattle.protocol.specs.World.{World, Station, Turn, Stepped, station, stays, 
 use Rattle.protocol.specs.declared.event.Outcome.TheVariants.{Recorded, NotPossible}
 use Rattle.protocol.specs.declared.event.Posted.{Posted}
 use Rattle.protocol.specs.declared.event.WorldEvent.TheVariants.{Take, Commit, Post, Deliver, Crash, Restart}
-use Rattle.lemmas.proofs.Membership.{In, In_slice_get}
-use Rattle.lemmas.proofs.Positions as positions
+use Rattle.units.proofs.Lists.Membership.{In, In_slice_get}
+use Rattle.units.proofs.Lists.Positions as positions
 use Rattle.weave.specs.Steps.{IsNotRecorded, Waits}
 use Rattle.weave.proofs.Turns.{taken, gives_step, deliver_at}
 

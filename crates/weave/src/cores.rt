@@ -68,7 +68,8 @@ fn add_replayed(
     requires as_many { length journals.now ≡ length (nodes scheme.now) }
     ensures nodes { OnOk result (map node_cores.node_of cores.new.items ≡ nodes scheme.now) }
     ensures schemes { OnOk result (All (λ core. node_cores.scheme_of core ≡ scheme.now) cores.new.items) }
-    ensures ahead { OnOk result (AreAhead scheme.now (map (λ j. j.now) journals.now) (map node_cores.journal_of cores.new.items)) }
+    ensures ahead { OnOk result
+        (AreAhead scheme.now (map (λ j. j.now) journals.now) (map node_cores.journal_of cores.new.items)) }
 {
     for at in 0..names.len() {
         cores.reserve(1)?;
@@ -86,7 +87,8 @@ pub(crate) fn replayed(
     requires { length journals.now ≡ length (nodes scheme.now) }
     ensures nodes { IfOk result (λ v. map node_cores.node_of v.items ≡ nodes scheme.now) }
     ensures schemes { IfOk result (λ v. All (λ core. node_cores.scheme_of core ≡ scheme.now) v.items) }
-    ensures ahead { IfOk result (λ v. AreAhead scheme.now (map (λ j. j.now) journals.now) (map node_cores.journal_of v.items)) }
+    ensures ahead { IfOk result
+        (λ v. AreAhead scheme.now (map (λ j. j.now) journals.now) (map node_cores.journal_of v.items)) }
 {
     let names = nodes_of(alloc, scheme)?;
     let mut cores = Vec::new(alloc);

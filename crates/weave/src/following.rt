@@ -64,7 +64,9 @@ impl Following {
     fn commit_next(&mut self, node: Node) -> Result<WorldEvent, NoMemory>
         ensures event { IfOk result (λ e. e ≡ Commit node 1) }
         ensures world { OnOk result (self.new.world ≡ (step self.old.world (Commit node 1)).world) }
-        ensures same { OnOk result ((self.new.events.items ≡ self.old.events.items) × (self.new.due.items ≡ self.old.due.items) × (self.new.places ≡ self.old.places) × (self.new.posted ≡ self.old.posted)) }
+        ensures same { OnOk result ((self.new.events.items ≡ self.old.events.items)
+            × (self.new.due.items ≡ self.old.due.items) × (self.new.places ≡ self.old.places)
+            × (self.new.posted ≡ self.old.posted)) }
         ensures events { OnOk result (vec_len self.new.events + 2 ≤ vec_capacity self.new.events) }
         ensures due { OnOk result (vec_len self.new.due < vec_capacity self.new.due) }
     {
@@ -120,7 +122,8 @@ impl Following {
 
     /// Posts the node's messages from that key on, and returns the key that the next one will have.
     fn post_from(&mut self, node: Node, first: u64) -> Result<u64, NoMemory>
-        ensures follows { (scheme : Scheme) → IsPosting scheme self.old node first → IfOk result (λ key. IsPosting scheme self.new node key × IsQuiet (without_tails self.new.world)) }
+        ensures follows { (scheme : Scheme) → IsPosting scheme self.old node first
+            → IfOk result (λ key. IsPosting scheme self.new node key × IsQuiet (without_tails self.new.world)) }
         ensures stations { OnOk result (self.new.world.stations ≡ self.old.world.stations) }
         ensures posted { OnOk result (self.new.posted.items ≡ self.old.posted.items) }
     {
@@ -136,7 +139,9 @@ impl Following {
     /// Posts what the node at that place has sent and not posted.
     fn post_all(&mut self, node: Node, at: usize) -> Result<(), NoMemory>
         requires { at < length self.old.posted.items }
-        ensures follows { (scheme : Scheme) → place_of scheme node ≡ Some at → IsPosting scheme self.old node (slice_index self.old.posted.items at) → OnOk result (IsFollowing scheme self.new) }
+        ensures follows { (scheme : Scheme) → place_of scheme node ≡ Some at
+            → IsPosting scheme self.old node (slice_index self.old.posted.items at)
+            → OnOk result (IsFollowing scheme self.new) }
         ensures stations { OnOk result (self.new.world.stations ≡ self.old.world.stations) }
     {
         let first = self.posted[at];
@@ -185,7 +190,8 @@ impl Following {
         requires nodes { map node_cores.node_of cores.items ≡ nodes scheme.now }
         requires schemes { All (λ core. node_cores.scheme_of core ≡ scheme.now) cores.items }
         ensures follows { IfOk result (IsFollowing scheme.now) }
-        ensures whole { IfOk result (λ f. (n : Node) → whole_at f.world n ≡ journal_of scheme.now (map node_cores.journal_of cores.items) n) }
+        ensures whole { IfOk result (λ f. (n : Node)
+            → whole_at f.world n ≡ journal_of scheme.now (map node_cores.journal_of cores.items) n) }
     {
         let due = nodes_of(alloc, scheme)?;
         Ok(Following {
@@ -209,7 +215,8 @@ pub(crate) fn follow<W: Watch>(
     requires nodes { map node_cores.node_of cores.items ≡ nodes scheme.now }
     requires schemes { All (λ core. node_cores.scheme_of core ≡ scheme.now) cores.items }
     ensures follows { IfOk result (IsFollowing scheme.now) }
-    ensures whole { IfOk result (λ f. (n : Node) → whole_at f.world n ≡ journal_of scheme.now (map node_cores.journal_of cores.items) n) }
+    ensures whole { IfOk result (λ f. (n : Node)
+        → whole_at f.world n ≡ journal_of scheme.now (map node_cores.journal_of cores.items) n) }
     ensures done { IfOk result (λ f. f.due.items ≡ []) }
 {
     let mut following = Following::new(alloc, scheme, cores)?;

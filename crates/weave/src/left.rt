@@ -33,7 +33,8 @@ pub(crate) fn first_left(
     counts: &[usize],
 ) -> Option<Left>
     ensures some { IfSome result (λ l. IsLeft world.now (count_at scheme.now counts.now) among.now l.node l.place) }
-    ensures none { IfNone result (AreDoneBelow world.now (count_at scheme.now counts.now) among.now (length among.now)) }
+    ensures none { IfNone result
+        (AreDoneBelow world.now (count_at scheme.now counts.now) among.now (length among.now)) }
 {
     for node in among {
         let place = committed_count(world, *node);

@@ -21,7 +21,8 @@ pub(crate) fn add_place(
     place: u64,
 ) -> Result<(), NoMemory>
     ensures { OnOk result ((t : TransactionId) → option_map_or (λ v. v.items) (tree.get id_cmp places.new t) []
-        ≡ (if same_id id t then option_map_or (λ v. v.items) (tree.get id_cmp places.old t) [] ++ place ∷ [] else option_map_or (λ v. v.items) (tree.get id_cmp places.old t) [])) }
+        ≡ (if same_id id t then option_map_or (λ v. v.items) (tree.get id_cmp places.old t) [] ++ place ∷
+        [] else option_map_or (λ v. v.items) (tree.get id_cmp places.old t) [])) }
 {
     if let Some(found) = places.get_mut(&id) {
         found.push(place)?;

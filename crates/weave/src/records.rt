@@ -29,7 +29,9 @@ fn record_at(journal: &[Input], place: usize) -> Option<&Input>
 /// The first record of the node's tail, which the node records after the committed ones.
 pub(crate) fn next_input(world: &World, node: Node) -> Option<&Input>
     ensures value { option_copied result ≡ slice_get (whole_at world.now node) (length (committed_at world.now node)) }
-    ensures recorded { IfSome result (λ input. answer world.now.scheme node (committed_at world.now node) input.now ≡ Ok (stepped.Recorded (length (committed_at world.now node)))) }
+    ensures recorded { IfSome result
+        (λ input. answer world.now.scheme node (committed_at world.now node) input.now
+        ≡ Ok (stepped.Recorded (length (committed_at world.now node)))) }
 {
     let journal = world.journal(node)?;
     record_at(journal, committed_count(world, node))

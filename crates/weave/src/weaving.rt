@@ -34,7 +34,8 @@ pub struct Woven {
 /// first node with a record left and the place of that record. Fails with `NoMemory` where there is no room.
 pub fn weave(alloc: Global, scheme: &Scheme, journals: &[&[Input]]) -> Result<Woven, WeaveFault>
     requires { length journals.now ≡ length (nodes scheme.now) }
-    ensures ok { IfOk result (λ w. IsWoven scheme.now (journal_of scheme.now (map (λ j. j.now) journals.now)) w.events.items w.world) }
+    ensures ok { IfOk result (λ w. IsWoven scheme.now (journal_of scheme.now (map
+        (λ j. j.now) journals.now)) w.events.items w.world) }
     ensures err { IfErr result (IsWeaveFault scheme.now (journal_of scheme.now (map (λ j. j.now) journals.now))) }
 {
     let counts = lengths_of(alloc, journals)?;
@@ -57,8 +58,10 @@ pub fn weave_cores<W: Watch>(
 ) -> Result<Woven, WeaveFault>
     requires nodes { map node_cores.node_of cores.items ≡ nodes scheme.now }
     requires schemes { All (λ core. node_cores.scheme_of core ≡ scheme.now) cores.items }
-    ensures ok { IfOk result (λ w. IsWoven scheme.now (journal_of scheme.now (map node_cores.journal_of cores.items)) w.events.items w.world) }
-    ensures err { IfErr result (IsWeaveFault scheme.now (journal_of scheme.now (map node_cores.journal_of cores.items))) }
+    ensures ok { IfOk result (λ w. IsWoven scheme.now (journal_of scheme.now
+        (map node_cores.journal_of cores.items)) w.events.items w.world) }
+    ensures err { IfErr result
+        (IsWeaveFault scheme.now (journal_of scheme.now (map node_cores.journal_of cores.items))) }
 {
     let counts = record_counts(alloc, cores.as_slice())?;
     weave_on(alloc, scheme, cores, counts.as_slice(), watch)
@@ -75,8 +78,12 @@ fn weave_on<W: Watch>(
 ) -> Result<Woven, WeaveFault>
     requires nodes { map node_cores.node_of cores.items ≡ nodes scheme.now }
     requires schemes { All (λ core. node_cores.scheme_of core ≡ scheme.now) cores.items }
-    ensures ok { (journals : List (List Input)) → counts.now ≡ map (λ j. length j) journals → AreAhead scheme.now journals (map node_cores.journal_of cores.items) → IfOk result (λ w. IsWoven scheme.now (journal_of scheme.now journals) w.events.items w.world) }
-    ensures err { (journals : List (List Input)) → counts.now ≡ map (λ j. length j) journals → AreAhead scheme.now journals (map node_cores.journal_of cores.items) → IfErr result (IsWeaveFault scheme.now (journal_of scheme.now journals)) }
+    ensures ok { (journals : List (List Input)) → counts.now ≡ map (λ j. length j) journals
+        → AreAhead scheme.now journals (map node_cores.journal_of cores.items)
+        → IfOk result (λ w. IsWoven scheme.now (journal_of scheme.now journals) w.events.items w.world) }
+    ensures err { (journals : List (List Input)) → counts.now ≡ map (λ j. length j) journals
+        → AreAhead scheme.now journals (map node_cores.journal_of cores.items)
+        → IfErr result (IsWeaveFault scheme.now (journal_of scheme.now journals)) }
 {
     let nodes = nodes_of(alloc, scheme)?;
     let Following { world, events, .. } = follow(alloc, scheme, cores, watch)?;

@@ -9,11 +9,11 @@ use Rattle.units.specs.Facts.{IsRange}
 use Rattle.units.specs.declared.block.Block.{Block}
 use Rattle.units.specs.declared.block.RawBlock.{RawBlock}
 use Rattle.status.specs.Content.{raws}
-use Rattle.fields.specs.Fields.{EachIs, HasAt}
-use Rattle.fields.specs.Found.{Finds}
-use Rattle.fields.specs.declared.fault.ReadFault.{ReadFault}
-use Rattle.fields.proofs.Parts.{finds_same}
-use Rattle.fields.proofs.OneAtKey.{array_at, array_once}
+use Rattle.json_fields.specs.Fields.{EachIs, HasAt}
+use Rattle.json_fields.specs.Found.{Finds}
+use Rattle.json_fields.specs.declared.fault.TextFault.{TextFault}
+use Rattle.json_fields.proofs.Parts.{finds_same}
+use Rattle.json_fields.proofs.OneAtKey.{array_at, array_once}
 use Rattle.wire.specs.Objects.{whole_items, numbers, block_items, blocks}
 use Rattle.wire.specs.Reading.{IsBlockItem, IsRawItem, IsCodeItem}
 
@@ -69,14 +69,14 @@ codes_of_items ds cs e small = subst (λ xs. EachIs IsCodeItem xs cs) (sym e) (o
 
 -- ---- lists at their keys
 
-pub listed_blocks : (d : Data) (ds : Items) (r : Result (List Block) ReadFault) → Some ds ≡ option_and_then as_array (get (codes "units") d) → Finds (EachIs IsBlockItem ds) r
+pub listed_blocks : (d : Data) (ds : Items) (r : Result (List Block) TextFault) → Some ds ≡ option_and_then as_array (get (codes "units") d) → Finds (EachIs IsBlockItem ds) r
     → Finds (λ bs. HasAt d (codes "units") (blocks (raws bs))) r
 listed_blocks d ds r at f =
     let is = array_at d (codes "units") ds at in
     finds_same (EachIs IsBlockItem ds) (λ bs. HasAt d (codes "units") (blocks (raws bs))) r (λ bs e. subst (λ xs. HasAt d (codes "units") (array xs)) (items_of_blocks ds bs e) is)
     (λ bs e. blocks_of_items ds bs (array_once d (codes "units") ds (block_items (raws bs)) is e)) f
 
-pub listed_raws : (d : Data) (ds : Items) (r : Result (List RawBlock) ReadFault) → Some ds ≡ option_and_then as_array (get (codes "units") d) → Finds (EachIs IsRawItem ds) r
+pub listed_raws : (d : Data) (ds : Items) (r : Result (List RawBlock) TextFault) → Some ds ≡ option_and_then as_array (get (codes "units") d) → Finds (EachIs IsRawItem ds) r
     → Finds (λ rs. HasAt d (codes "units") (blocks rs) × AreShort rs) r
 listed_raws d ds r at f =
     let is = array_at d (codes "units") ds at in
@@ -84,7 +84,7 @@ listed_raws d ds r at f =
     (λ rs e. let h = items_of_raws ds rs e in (subst (λ xs. HasAt d (codes "units") (array xs)) h.0 is, h.1))
     (λ rs e. raws_of_items ds rs (array_once d (codes "units") ds (block_items rs) is e.0) e.1) f
 
-pub listed_codes : (d : Data) (ds : Items) (r : Result (List ℕ) ReadFault) → Some ds ≡ option_and_then as_array (get (codes "codes") d) → Finds (EachIs IsCodeItem ds) r
+pub listed_codes : (d : Data) (ds : Items) (r : Result (List ℕ) TextFault) → Some ds ≡ option_and_then as_array (get (codes "codes") d) → Finds (EachIs IsCodeItem ds) r
     → Finds (λ cs. HasAt d (codes "codes") (numbers cs) × AllByRecursion (λ c. c < 2 ^ 16) cs) r
 listed_codes d ds r at f =
     let is = array_at d (codes "codes") ds at in

@@ -1,7 +1,7 @@
 -- A value writes one message at most.
 use Rattle.std.proofs.Common.{◌≡◌, ℕ, List, codes, bytes_eq, if◌then◌else◌, Option, Some, refl, sym, ap, subst, ◌∙◌}
 use Rattle.serde_json.specs.Data.{Data, string}
-use Rattle.fields.specs.Fields.{HasAt, HasKeys}
+use Rattle.json_fields.specs.Fields.{HasAt, HasKeys}
 use Rattle.units.specs.Code.{code_text, node_text}
 use Rattle.units.specs.declared.code.Code.{Code}
 use Rattle.units.specs.declared.code.Node.{Node}
@@ -26,7 +26,7 @@ use Rattle.wire.specs.declared.message.ProposalStatus.TheVariants.{Proposed, Che
 use Rattle.wire.specs.declared.message.Request.{Request}
 use Rattle.wire.specs.declared.notified.NotifiedStatus.{NotifiedStatus}
 use Rattle.wire.specs.declared.notified.NotifiedStatus.TheVariants.{Accepted, Rejected, Terminated, Cancelled, Completed}
-use Rattle.fields.proofs.OneAtKey.{text_once, whole_once}
+use Rattle.json_fields.proofs.OneAtKey.{text_once, whole_once}
 use Rattle.wire.proofs.Told.{numbers_once, blocks_once, short_blocks}
 
 -- ---- small values

@@ -3,7 +3,7 @@ use Rattle.std.proofs.Common.{◌≡◌, ℕ, ◌+◌, ◌<◌, ◌≤◌, ◌^�
 use Rattle.std.proofs.Math.Bridge.{le_prop}
 use mathlib.Core.HLevel.{is_prop→PathP}
 use Rattle.serde_json.specs.Data.{Data, string, boolean}
-use Rattle.fields.specs.Fields.{HasAt}
+use Rattle.json_fields.specs.Fields.{HasAt}
 use Rattle.units.specs.Code.{code_text}
 use Rattle.units.specs.declared.code.Code.{Code}
 use Rattle.units.proofs.OneText.{code_text_same}
@@ -22,7 +22,7 @@ use Rattle.wire.specs.declared.message.Message.{Message}
 use Rattle.wire.specs.declared.record_format.RecordFormat.{RecordFormat}
 use Rattle.wire.specs.declared.record_format.RecordFormat.TheVariants.{One, Two}
 use Rattle.wire.proofs.OneMessage.{message_once, id_once}
-use Rattle.fields.proofs.OneAtKey.{at_once, whole_once, text_once}
+use Rattle.json_fields.proofs.OneAtKey.{at_once, whole_once, text_once}
 use Rattle.wire.proofs.Told.{blocks_once}
 
 -- ---- the word of an input

@@ -14,8 +14,8 @@ use Rattle.std.proofs.lemmas.Bool.Decides.{nat_tests}
 use Rattle.serde_json.specs.Data.{Data, string}
 use Rattle.serde_json.specs.Read.{read}
 use Rattle.serde_json.proofs.OnLiterals.{serde_json_on_literals}
-use Rattle.fields.specs.Fields.{HasKeys, HasAt, text_at, number_at}
-use Rattle.fields.proofs.OneAtKey.{whole_once, string_at, whole_at}
+use Rattle.json_fields.specs.Fields.{HasKeys, HasAt, text_at, number_at}
+use Rattle.json_fields.proofs.OneAtKey.{whole_once, string_at, whole_at}
 use Rattle.wire.specs.Objects.{HasExactly, object_of, whole}
 use Rattle.wire.specs.Replies.{reply_fields, reply_text, IsReply}
 use Rattle.wire.specs.declared.reply.Reply.{Reply}

@@ -4,10 +4,10 @@ use Rattle.std.specs.Prelude.{IfSome, IfNone, codes}
 use Rattle.std.specs.List.{AllByRecursion}
 use Rattle.std.specs.Option.{ok_or}
 use Rattle.serde_json.specs.Data.{Data, string}
-use Rattle.fields.specs.Fields.{HasAt, text_at}
-use Rattle.fields.specs.Found.{Finds}
-use Rattle.fields.proofs.OneAtKey.{at_once, text_once, whole_once, string_at}
-use Rattle.fields.specs.declared.fault.ReadFault.TheVariants.{Shape}
+use Rattle.json_fields.specs.Fields.{HasAt, text_at}
+use Rattle.json_fields.specs.Found.{Finds}
+use Rattle.json_fields.proofs.OneAtKey.{at_once, text_once, whole_once, string_at}
+use Rattle.json_fields.specs.declared.fault.TextFault.TheVariants.{Shape}
 use Rattle.units.specs.Block.{raw_text, IsRawText}
 use Rattle.units.specs.Code.{code_text}
 use Rattle.units.specs.Facts.{IsRange}

@@ -2,7 +2,7 @@
 use Rattle.std.specs.Prelude.{ℕ, List, [], ◌∷◌, length}
 use Rattle.std.specs.List.{AllByRecursion}
 use Rattle.serde_json.specs.Data.{Data, number, unsigned, string, array, object, Items, no_items, item, Members, no_members, member}
-use Rattle.fields.specs.Fields.{HasKeys, HasAt}
+use Rattle.json_fields.specs.Fields.{HasKeys, HasAt}
 use Rattle.units.specs.Block.{raw_text}
 use Rattle.units.specs.declared.block.RawBlock.{RawBlock}
 

@@ -1,7 +1,7 @@
 -- What the code that reads messages and records follows; no public contract cites it.
 use Rattle.std.specs.Prelude.{◌≡◌, ℕ, ◌+◌, ◌<◌, ◌^◌, List, ◌∷◌, length, codes}
 use Rattle.serde_json.specs.Data.{Data, string}
-use Rattle.fields.specs.Fields.{HasKeys, HasAt}
+use Rattle.json_fields.specs.Fields.{HasKeys, HasAt}
 use Rattle.units.specs.Block.{raw_text}
 use Rattle.units.specs.Code.{code_text}
 use Rattle.units.specs.Limits.{too_long}

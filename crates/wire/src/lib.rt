@@ -18,8 +18,8 @@ mod writing;
 mod writing_records;
 
 pub use codes::{AcquirerCodes, LogCodes};
-pub use fields::ReadFault;
 pub use input::{Input, Number};
+pub use json_fields::TextFault;
 pub use message::{Message, Notification, Proposal, ProposalStatus, Request};
 pub use notified::NotifiedStatus;
 pub use reading::{decode, one_message};
@@ -27,6 +27,6 @@ pub use reading_records::{decode_input, decode_input_v1, one_input};
 pub use record_format::RecordFormat;
 pub use reply::{Reply, ReplyFault, one_reply};
 pub use reply_code::ReplyCode;
-pub use stream_lines::{Line, LineFault, Splitter, Truncated, cuts};
+pub use streams::{Line, LineFault, Splitter, Truncated, cuts};
 pub use writing::encode;
 pub use writing_records::encode_input;

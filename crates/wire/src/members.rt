@@ -32,7 +32,8 @@ pub fn put_text(
     key: &str,
     text: &str,
 ) -> Result<(), NoMemory>
-    ensures { OnOk result (members_view map.new.entries ≡ put key.now (string text.now) (members_view map.old.entries)) }
+    ensures { OnOk result (members_view map.new.entries ≡ put key.now (string text.now)
+        (members_view map.old.entries)) }
 {
     put(alloc, map, key, Value::try_from_str(alloc, text)?)
 }
@@ -56,7 +57,8 @@ pub fn put_code(
     key: &str,
     code: Code,
 ) -> Result<(), NoMemory>
-    ensures { OnOk result (members_view map.new.entries ≡ put key.now (string (code_text code)) (members_view map.old.entries)) }
+    ensures { OnOk result (members_view map.new.entries ≡ put key.now (string (code_text code))
+        (members_view map.old.entries)) }
 {
     let text = format!(in alloc; "{code}")?;
     put(alloc, map, key, Value::String(text))
@@ -69,7 +71,8 @@ pub fn put_node(
     key: &str,
     node: Node,
 ) -> Result<(), NoMemory>
-    ensures { OnOk result (members_view map.new.entries ≡ put key.now (string (node_text node)) (members_view map.old.entries)) }
+    ensures { OnOk result (members_view map.new.entries ≡ put key.now (string (node_text node))
+        (members_view map.old.entries)) }
 {
     let text = format!(in alloc; "{node}")?;
     put(alloc, map, key, Value::String(text))
@@ -82,7 +85,8 @@ pub fn put_id(
     key: &str,
     id: TransactionId,
 ) -> Result<(), NoMemory>
-    ensures { OnOk result (members_view map.new.entries ≡ put key.now (string (id_text id)) (members_view map.old.entries)) }
+    ensures { OnOk result (members_view map.new.entries ≡ put key.now (string (id_text id))
+        (members_view map.old.entries)) }
 {
     let text = id.write(alloc)?;
     put(alloc, map, key, Value::String(text))

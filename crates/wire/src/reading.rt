@@ -1,8 +1,8 @@
 //! Reading messages.
 ghost use Rattle.std.specs.Prelude.{◌≡◌, ◌⊎◌, List, [], ℕ, IfOk, IfErr, IfSome, IfNone};
 ghost use Rattle.serde_json.specs.View.{view};
-ghost use Rattle.fields.specs.Fields.{HasAt};
-ghost use Rattle.fields.specs.Found.{Finds, Reads};
+ghost use Rattle.json_fields.specs.Fields.{HasAt};
+ghost use Rattle.json_fields.specs.Found.{Finds, Reads};
 ghost use Rattle.units.specs.RefusalCodes.{not_a_message, out_of_memory};
 ghost use Rattle.status.specs.Content.{Content};
 ghost use Rattle.wire.specs.Messages.{IsMessage, IsLine};
@@ -15,7 +15,7 @@ use crate::lists::{blocks, codes};
 use crate::message::{Message, Notification, Proposal, ProposalStatus, Request};
 use crate::notified::NotifiedStatus;
 use crate::values::{code_at, has_text, id_at, node_at, whole_at};
-use fields::{ReadFault, has_keys, text_at};
+use json_fields::{TextFault, has_keys, text_at};
 use serde_json::Value;
 use status::{Content, Status};
 use std::alloc::Global;
@@ -28,14 +28,14 @@ const NO_MESSAGE: Refusal = Refusal {
 };
 
 /// What a proposal carries.
-fn content(alloc: Global, value: &Value) -> Result<Content, ReadFault>
+fn content(alloc: Global, value: &Value) -> Result<Content, TextFault>
     ensures { Finds (HasContent (view value.now)) result }
 {
-    let account = whole_at(value, "account").ok_or(ReadFault::Shape)?;
-    let to_account = whole_at(value, "to_account").ok_or(ReadFault::Shape)?;
-    let acquirer = code_at(value, "to_registry").ok_or(ReadFault::Shape)?;
+    let account = whole_at(value, "account").ok_or(TextFault::Shape)?;
+    let to_account = whole_at(value, "to_account").ok_or(TextFault::Shape)?;
+    let acquirer = code_at(value, "to_registry").ok_or(TextFault::Shape)?;
     let units = blocks(alloc, value)?;
-    Content::new(account, acquirer, to_account, units).ok_or(ReadFault::Shape)
+    Content::new(account, acquirer, to_account, units).ok_or(TextFault::Shape)
 }
 
 /// The status of a proposal.
@@ -85,24 +85,24 @@ fn notified_of(text: &str, codes: Items<u16>) -> Option<NotifiedStatus>
 }
 
 /// What a notification says.
-fn notified(alloc: Global, value: &Value) -> Result<NotifiedStatus, ReadFault>
+fn notified(alloc: Global, value: &Value) -> Result<NotifiedStatus, TextFault>
     ensures { Finds (HasNotified (view value.now)) result }
 {
     let codes = codes(alloc, value)?;
-    let text = text_at(value, "status").ok_or(ReadFault::Shape)?;
-    notified_of(text, codes).ok_or(ReadFault::Shape)
+    let text = text_at(value, "status").ok_or(TextFault::Shape)?;
+    notified_of(text, codes).ok_or(TextFault::Shape)
 }
 
-fn proposal(alloc: Global, value: &Value) -> Result<Proposal, ReadFault>
+fn proposal(alloc: Global, value: &Value) -> Result<Proposal, TextFault>
     ensures { Finds (IsProposal (view value.now)) result }
 {
     if !has_keys(value, 9) || !has_text(value, "call", "AcceptProposal") {
-        return Err(ReadFault::Shape);
+        return Err(TextFault::Shape);
     }
-    let from = node_at(value, "from").ok_or(ReadFault::Shape)?;
-    let to = node_at(value, "to").ok_or(ReadFault::Shape)?;
-    let id = id_at(value, "transaction").ok_or(ReadFault::Shape)?;
-    let status = proposal_status(value).ok_or(ReadFault::Shape)?;
+    let from = node_at(value, "from").ok_or(TextFault::Shape)?;
+    let to = node_at(value, "to").ok_or(TextFault::Shape)?;
+    let id = id_at(value, "transaction").ok_or(TextFault::Shape)?;
+    let status = proposal_status(value).ok_or(TextFault::Shape)?;
     let content = content(alloc, value)?;
     Ok(Proposal {
         from,
@@ -113,15 +113,15 @@ fn proposal(alloc: Global, value: &Value) -> Result<Proposal, ReadFault>
     })
 }
 
-fn notification(alloc: Global, value: &Value) -> Result<Notification, ReadFault>
+fn notification(alloc: Global, value: &Value) -> Result<Notification, TextFault>
     ensures { Finds (IsNotification (view value.now)) result }
 {
     if !has_keys(value, 6) || !has_text(value, "call", "AcceptNotification") {
-        return Err(ReadFault::Shape);
+        return Err(TextFault::Shape);
     }
-    let from = node_at(value, "from").ok_or(ReadFault::Shape)?;
-    let to = node_at(value, "to").ok_or(ReadFault::Shape)?;
-    let id = id_at(value, "transaction").ok_or(ReadFault::Shape)?;
+    let from = node_at(value, "from").ok_or(TextFault::Shape)?;
+    let to = node_at(value, "to").ok_or(TextFault::Shape)?;
+    let id = id_at(value, "transaction").ok_or(TextFault::Shape)?;
     let notified = notified(alloc, value)?;
     Ok(Notification {
         from,
@@ -144,14 +144,14 @@ fn request(value: &Value) -> Option<Request>
 }
 
 /// The message that the value writes.
-pub fn message(alloc: Global, value: &Value) -> Result<Message, ReadFault>
+pub fn message(alloc: Global, value: &Value) -> Result<Message, TextFault>
     ensures { Finds (IsMessage (view value.now)) result }
 {
     if has_text(value, "call", "AcceptProposal") {
         let proposal = proposal(alloc, value)?;
         Ok(Message::Proposal(proposal))
     } else if has_text(value, "call", "RequestCancellation") {
-        let request = request(value).ok_or(ReadFault::Shape)?;
+        let request = request(value).ok_or(TextFault::Shape)?;
         Ok(Message::Request(request))
     } else {
         let notification = notification(alloc, value)?;
@@ -160,16 +160,16 @@ pub fn message(alloc: Global, value: &Value) -> Result<Message, ReadFault>
 }
 
 /// The message that the line writes.
-fn read_line(alloc: Global, line: &[u8]) -> Result<Message, ReadFault>
+fn read_line(alloc: Global, line: &[u8]) -> Result<Message, TextFault>
     ensures { Finds (IsLine line.now) result }
 {
     if line.len() > LONGEST_LINE {
-        return Err(ReadFault::Shape);
+        return Err(TextFault::Shape);
     }
     match Value::from_slice(alloc, line) {
         Ok(value) => message(alloc, &value),
-        Err(e) if e.is_memory() => Err(ReadFault::NoMemory),
-        Err(_) => Err(ReadFault::Shape),
+        Err(e) if e.is_memory() => Err(TextFault::NoMemory),
+        Err(_) => Err(TextFault::Shape),
     }
 }
 
@@ -179,12 +179,13 @@ fn read_line(alloc: Global, line: &[u8]) -> Result<Message, ReadFault>
 /// refused, which says nothing of the line.
 pub fn decode(alloc: Global, line: &[u8]) -> Result<Message, Refusal>
     ensures ok { IfOk result (λ m. IsLine line.now m) }
-    ensures refused { IfErr result (λ e. (e.code ≡ out_of_memory) ⊎ ((e.code ≡ not_a_message) × ((m : Message) → IsLine line.now m → ⊥))) }
+    ensures refused { IfErr result (λ e. (e.code ≡ out_of_memory)
+        ⊎ ((e.code ≡ not_a_message) × ((m : Message) → IsLine line.now m → ⊥))) }
 {
     match read_line(alloc, line) {
         Ok(message) => Ok(message),
-        Err(ReadFault::Shape) => Err(NO_MESSAGE),
-        Err(ReadFault::NoMemory) => Err(Refusal::NO_MEMORY),
+        Err(TextFault::Shape) => Err(NO_MESSAGE),
+        Err(TextFault::NoMemory) => Err(Refusal::NO_MEMORY),
     }
 }
 

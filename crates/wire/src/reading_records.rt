@@ -4,8 +4,8 @@ ghost use Rattle.std.specs.List.{AllByRecursion};
 ghost use Rattle.serde_json.specs.Data.{string};
 ghost use Rattle.serde_json.specs.View.{view};
 ghost use Rattle.status.specs.Content.{raws};
-ghost use Rattle.fields.specs.Fields.{HasAt};
-ghost use Rattle.fields.specs.Found.{Finds, Reads};
+ghost use Rattle.json_fields.specs.Fields.{HasAt};
+ghost use Rattle.json_fields.specs.Found.{Finds, Reads};
 ghost use Rattle.wire.specs.Records.{AreUnitsWithin, IsRecord, IsRecordText};
 ghost use Rattle.wire.specs.Reading.{HasMessage, HasWord, IsAccountOrder};
 ghost use Rattle.wire.specs.declared.input.Input.{Input};
@@ -19,7 +19,7 @@ use crate::message::Message;
 use crate::reading::message;
 use crate::record_format::RecordFormat;
 use crate::values::{code_at, has_text, id_at, moment_at, short_at, whole_at};
-use fields::{ReadFault, bool_at, has_keys, value_at};
+use json_fields::{TextFault, bool_at, has_keys, value_at};
 use serde_json::Value;
 use status::{Moment, Order, TransactionId};
 use std::alloc::Global;
@@ -35,17 +35,17 @@ fn has_word(value: &Value, format: RecordFormat, word: &str, own: u8) -> bool
 }
 
 /// An order to transfer units.
-fn order(alloc: Global, value: &Value, format: RecordFormat) -> Result<Order, ReadFault>
+fn order(alloc: Global, value: &Value, format: RecordFormat) -> Result<Order, TextFault>
     ensures { Finds (λ o. IsRecord format (view value.now) (Propose o)) result }
 {
     if !has_word(value, format, "propose", 5) {
-        return Err(ReadFault::Shape);
+        return Err(TextFault::Shape);
     }
-    let account = whole_at(value, "account").ok_or(ReadFault::Shape)?;
-    let to_account = whole_at(value, "to_account").ok_or(ReadFault::Shape)?;
-    let to_registry = code_at(value, "to_registry").ok_or(ReadFault::Shape)?;
+    let account = whole_at(value, "account").ok_or(TextFault::Shape)?;
+    let to_account = whole_at(value, "to_account").ok_or(TextFault::Shape)?;
+    let to_registry = code_at(value, "to_registry").ok_or(TextFault::Shape)?;
     let units = raw_blocks(alloc, value)?;
-    Order::new(account, to_registry, to_account, units).ok_or(ReadFault::Shape)
+    Order::new(account, to_registry, to_account, units).ok_or(TextFault::Shape)
 }
 
 /// The transaction of an order to ask for cancellation.
@@ -118,15 +118,15 @@ fn are_units_within(message: &Message, format: RecordFormat) -> bool
 }
 
 /// The message at the key `message`.
-fn message_at(alloc: Global, value: &Value, format: RecordFormat) -> Result<Message, ReadFault>
+fn message_at(alloc: Global, value: &Value, format: RecordFormat) -> Result<Message, TextFault>
     ensures { Finds (HasMessage format (view value.now)) result }
 {
-    let inner = value_at(value, "message").ok_or(ReadFault::Shape)?;
+    let inner = value_at(value, "message").ok_or(TextFault::Shape)?;
     let message = message(alloc, inner)?;
     if are_units_within(&message, format) {
         Ok(message)
     } else {
-        Err(ReadFault::Shape)
+        Err(TextFault::Shape)
     }
 }
 
@@ -135,13 +135,13 @@ fn received(
     alloc: Global,
     value: &Value,
     format: RecordFormat,
-) -> Result<(Message, Moment), ReadFault>
+) -> Result<(Message, Moment), TextFault>
     ensures { Finds (λ p. IsRecord format (view value.now) (Received p.0 p.1)) result }
 {
     if !has_word(value, format, "received", 3) {
-        return Err(ReadFault::Shape);
+        return Err(TextFault::Shape);
     }
-    let moment = moment_at(value, "moment").ok_or(ReadFault::Shape)?;
+    let moment = moment_at(value, "moment").ok_or(TextFault::Shape)?;
     let message = message_at(alloc, value, format)?;
     Ok((message, moment))
 }
@@ -175,7 +175,7 @@ fn small_input(value: &Value, format: RecordFormat) -> Option<Input>
 }
 
 /// The input that the value writes.
-fn input(alloc: Global, value: &Value, format: RecordFormat) -> Result<Input, ReadFault>
+fn input(alloc: Global, value: &Value, format: RecordFormat) -> Result<Input, TextFault>
     ensures { Finds (IsRecord format (view value.now)) result }
 {
     if has_text(value, "input", "propose") {
@@ -186,24 +186,24 @@ fn input(alloc: Global, value: &Value, format: RecordFormat) -> Result<Input, Re
         let (message, moment) = received(alloc, value, format)?;
         return Ok(Input::Received { message, moment });
     }
-    small_input(value, format).ok_or(ReadFault::Shape)
+    small_input(value, format).ok_or(TextFault::Shape)
 }
 
 /// The input that a record's text of that format writes.
-fn read_text(alloc: Global, text: &[u8], format: RecordFormat) -> Result<Input, ReadFault>
+fn read_text(alloc: Global, text: &[u8], format: RecordFormat) -> Result<Input, TextFault>
     ensures { Finds (IsRecordText format text.now) result }
 {
     match Value::from_slice(alloc, text) {
         Ok(value) => input(alloc, &value, format),
-        Err(e) if e.is_memory() => Err(ReadFault::NoMemory),
-        Err(_) => Err(ReadFault::Shape),
+        Err(e) if e.is_memory() => Err(TextFault::NoMemory),
+        Err(_) => Err(TextFault::Shape),
     }
 }
 
 /// The input that a record's text of format Two writes, in JSON (RFC 8259). `Shape`: the text is no
 /// JSON in UTF-8, or has a key or a value outside the grammar of records, or lacks one. `NoMemory`:
 /// an allocation was refused, which says nothing of the text.
-pub fn decode_input(alloc: Global, text: &[u8]) -> Result<Input, ReadFault>
+pub fn decode_input(alloc: Global, text: &[u8]) -> Result<Input, TextFault>
     ensures { Finds (IsRecordText Two text.now) result }
 {
     read_text(alloc, text, RecordFormat::Two)
@@ -211,7 +211,7 @@ pub fn decode_input(alloc: Global, text: &[u8]) -> Result<Input, ReadFault>
 
 /// The input that a record's text of format One writes, in JSON (RFC 8259): without the key `v`, and
 /// with no unit above `LAST_UNIT_OF_FORMAT_ONE` in a message. Fails as `decode_input` does.
-pub fn decode_input_v1(alloc: Global, text: &[u8]) -> Result<Input, ReadFault>
+pub fn decode_input_v1(alloc: Global, text: &[u8]) -> Result<Input, TextFault>
     ensures { Finds (IsRecordText One text.now) result }
 {
     read_text(alloc, text, RecordFormat::One)
@@ -221,6 +221,7 @@ pub fn decode_input_v1(alloc: Global, text: &[u8]) -> Result<Input, ReadFault>
 /// `decode_input` reads as that input, unless an allocation is refused. And no text writes an input
 /// in both formats.
 pub fn one_input()
-    ensures one { (format : RecordFormat) (text : List ℕ) (i j : Input) → IsRecordText format text i → IsRecordText format text j → i ≡ j }
+    ensures one { (format : RecordFormat) (text : List ℕ) (i j : Input) → IsRecordText format text i
+        → IsRecordText format text j → i ≡ j }
     ensures apart { (text : List ℕ) (i j : Input) → IsRecordText One text i → IsRecordText Two text j → ⊥ }
 {}

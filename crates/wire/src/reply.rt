@@ -6,7 +6,7 @@ ghost use Rattle.wire.specs.Replies.{reply_fields, reply_text, IsReply};
 ghost use Rattle.wire.specs.declared.reply.Reply.{Reply};
 
 use crate::reply_code::ReplyCode;
-use fields::{has_keys, number_at, text_at};
+use json_fields::{has_keys, number_at, text_at};
 use serde_json::Value;
 use std::alloc::Global;
 use thiserror::Error;

@@ -4,12 +4,12 @@ ghost use Rattle.serde_json.specs.Data.{string};
 ghost use Rattle.serde_json.specs.View.{view};
 ghost use Rattle.units.specs.Code.{code_text, node_text};
 ghost use Rattle.status.specs.Id.{id_text};
-ghost use Rattle.fields.specs.Fields.{HasAt};
-ghost use Rattle.fields.specs.Found.{Reads};
+ghost use Rattle.json_fields.specs.Fields.{HasAt};
+ghost use Rattle.json_fields.specs.Found.{Reads};
 ghost use Rattle.wire.specs.Objects.{whole};
 
 use crate::input::Number;
-use fields::{number_at, text_at};
+use json_fields::{number_at, text_at};
 use serde_json::Value;
 use status::{Moment, TransactionId};
 use units::{Code, Node};

@@ -19,7 +19,8 @@ fn put_sender(
     map: &mut Map<String, Value>,
     proposal: &Proposal,
 ) -> Result<(), NoMemory>
-    ensures { OnOk result (members_view map.new.entries ≡ put_all (take 4 (proposal_fields proposal.now)) (members_view map.old.entries)) }
+    ensures { OnOk result (members_view map.new.entries ≡ put_all (take 4 (proposal_fields proposal.now))
+        (members_view map.old.entries)) }
 {
     put_number(alloc, map, "account", proposal.content.account())?;
     put_text(alloc, map, "call", "AcceptProposal")?;
@@ -33,7 +34,8 @@ fn put_receiver(
     map: &mut Map<String, Value>,
     proposal: &Proposal,
 ) -> Result<(), NoMemory>
-    ensures { OnOk result (members_view map.new.entries ≡ put_all (take 4 (drop 4 (proposal_fields proposal.now))) (members_view map.old.entries)) }
+    ensures { OnOk result (members_view map.new.entries ≡ put_all (take 4 (drop 4 (proposal_fields proposal.now)))
+        (members_view map.old.entries)) }
 {
     put_node(alloc, map, "to", proposal.to)?;
     put_number(alloc, map, "to_account", proposal.content.to_account())?;
@@ -59,7 +61,9 @@ fn put_notified(
     map: &mut Map<String, Value>,
     notification: &Notification,
 ) -> Result<(), NoMemory>
-    ensures members { OnOk result (members_view map.new.entries ≡ put_all (take 3 (notification_fields notification.now)) (members_view map.old.entries)) }
+    ensures members { OnOk result
+        (members_view map.new.entries
+        ≡ put_all (take 3 (notification_fields notification.now)) (members_view map.old.entries)) }
     ensures sound { OnOk result (IsNotified notification.now.notified) }
 {
     put_text(alloc, map, "call", "AcceptNotification")?;
@@ -74,7 +78,8 @@ fn put_standing(
     map: &mut Map<String, Value>,
     notification: &Notification,
 ) -> Result<(), NoMemory>
-    ensures { OnOk result (members_view map.new.entries ≡ put_all (drop 3 (notification_fields notification.now)) (members_view map.old.entries)) }
+    ensures { OnOk result (members_view map.new.entries ≡ put_all (drop 3 (notification_fields notification.now))
+        (members_view map.old.entries)) }
 {
     put_text(alloc, map, "status", notification.notified.status().name())?;
     put_node(alloc, map, "to", notification.to)?;

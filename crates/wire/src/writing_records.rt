@@ -23,7 +23,8 @@ use units::{Code, NoMemory};
 
 /// The first four fields of an order to transfer units.
 fn put_accounts(alloc: Global, map: &mut Map<String, Value>, order: &Order) -> Result<(), NoMemory>
-    ensures { OnOk result (members_view map.new.entries ≡ put_all (take 4 (order_fields order.now)) (members_view map.old.entries)) }
+    ensures { OnOk result (members_view map.new.entries ≡ put_all (take 4 (order_fields order.now))
+        (members_view map.old.entries)) }
 {
     put_number(alloc, map, "account", order.account())?;
     put_text(alloc, map, "input", "propose")?;
@@ -44,7 +45,8 @@ fn order_members(alloc: Global, order: &Order) -> Result<Map<String, Value>, NoM
 
 /// An order to ask for cancellation.
 fn request_order_members(alloc: Global, id: TransactionId) -> Result<Map<String, Value>, NoMemory>
-    ensures { IfOk result (λ m. members_view m.entries ≡ members_of ((codes "input", string (codes "request")) ∷ (codes "transaction", string (id_text id)) ∷ [])) }
+    ensures { IfOk result (λ m. members_view m.entries ≡ members_of ((codes "input", string (codes "request")) ∷
+        (codes "transaction", string (id_text id)) ∷ [])) }
 {
     let mut map = Map::new(alloc);
     put_text(alloc, &mut map, "input", "request")?;
@@ -54,7 +56,8 @@ fn request_order_members(alloc: Global, id: TransactionId) -> Result<Map<String,
 
 /// An order to open or to close an account.
 fn account_members(alloc: Global, number: u64, name: &str) -> Result<Map<String, Value>, NoMemory>
-    ensures { IfOk result (λ m. members_view m.entries ≡ members_of ((codes "account", whole number) ∷ (codes "input", string name.now) ∷ [])) }
+    ensures { IfOk result (λ m. members_view m.entries ≡ members_of ((codes "account", whole number) ∷
+        (codes "input", string name.now) ∷ [])) }
 {
     let mut map = Map::new(alloc);
     put_number(alloc, &mut map, "account", number)?;
@@ -63,7 +66,8 @@ fn account_members(alloc: Global, number: u64, name: &str) -> Result<Map<String,
 }
 
 fn ack_members(alloc: Global, key: u64) -> Result<Map<String, Value>, NoMemory>
-    ensures { IfOk result (λ m. members_view m.entries ≡ members_of ((codes "input", string (codes "ack")) ∷ (codes "key", whole key) ∷ [])) }
+    ensures { IfOk result (λ m. members_view m.entries ≡ members_of ((codes "input", string (codes "ack")) ∷
+        (codes "key", whole key) ∷ [])) }
 {
     let mut map = Map::new(alloc);
     put_text(alloc, &mut map, "input", "ack")?;
@@ -72,7 +76,8 @@ fn ack_members(alloc: Global, key: u64) -> Result<Map<String, Value>, NoMemory>
 }
 
 fn clean_up_members(alloc: Global, moment: Moment) -> Result<Map<String, Value>, NoMemory>
-    ensures { IfOk result (λ m. members_view m.entries ≡ members_of ((codes "input", string (codes "clean_up")) ∷ (codes "moment", whole moment.seconds) ∷ [])) }
+    ensures { IfOk result (λ m. members_view m.entries ≡ members_of ((codes "input", string (codes "clean_up")) ∷
+        (codes "moment", whole moment.seconds) ∷ [])) }
 {
     let mut map = Map::new(alloc);
     put_text(alloc, &mut map, "input", "clean_up")?;
@@ -85,7 +90,8 @@ fn eligible_members(
     registry: Code,
     may: bool,
 ) -> Result<Map<String, Value>, NoMemory>
-    ensures { IfOk result (λ m. members_view m.entries ≡ members_of ((codes "input", string (codes "eligible")) ∷ (codes "may", boolean may) ∷ (codes "registry", string (code_text registry)) ∷ [])) }
+    ensures { IfOk result (λ m. members_view m.entries ≡ members_of ((codes "input", string (codes "eligible")) ∷
+        (codes "may", boolean may) ∷ (codes "registry", string (code_text registry)) ∷ [])) }
 {
     let mut map = Map::new(alloc);
     put_text(alloc, &mut map, "input", "eligible")?;
@@ -99,7 +105,10 @@ fn received_members(
     message: &Message,
     moment: Moment,
 ) -> Result<Map<String, Value>, NoMemory>
-    ensures members { IfOk result (λ m. members_view m.entries ≡ members_of ((codes "input", string (codes "received")) ∷ (codes "message", message_data message.now) ∷ (codes "moment", whole moment.seconds) ∷ [])) }
+    ensures members { IfOk result
+        (λ m. members_view m.entries
+        ≡ members_of ((codes "input", string (codes "received")) ∷ (codes "message", message_data message.now) ∷
+        (codes "moment", whole moment.seconds) ∷ [])) }
     ensures sound { IfOk result (λ _. IsSound message.now) }
 {
     let mut map = Map::new(alloc);
@@ -112,7 +121,8 @@ fn received_members(
 
 /// The members of an input's record but those of the format.
 fn input_members(alloc: Global, input: &Input) -> Result<Map<String, Value>, NoMemory>
-    ensures members { IfOk result (λ m. members_view m.entries ≡ members_of (input_fields (message_in input.now) input.now)) }
+    ensures members { IfOk result
+        (λ m. members_view m.entries ≡ members_of (input_fields (message_in input.now) input.now)) }
     ensures sound { IfOk result (λ _. IsSoundInput input.now) }
 {
     match input {

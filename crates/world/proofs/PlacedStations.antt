@@ -8,7 +8,7 @@ use Rattle.units.specs.declared.code.Node.TheVariants.{Itl, Registry}
 use Rattle.scheme.specs.Order.{member}
 use Rattle.scheme.specs.declared.members.SchemeRegistry.{SchemeRegistry}
 use Rattle.scheme.specs.declared.registries.Scheme.{Scheme}
-use Rattle.lemmas.proofs.FirstPlaces.{place_map}
+use Rattle.units.proofs.Lists.FirstPlaces.{place_map}
 use Rattle.protocol.specs.Registries.{is_node, nodes, place_of}
 use Rattle.protocol.specs.World as worlds
 use Rattle.world.specs.Cores.{node_of}

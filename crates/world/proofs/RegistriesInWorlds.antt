@@ -21,7 +21,7 @@ use Rattle.protocol.specs.Registries.{has_member}
 use Rattle.protocol.specs.Verdict.{history}
 use Rattle.protocol.specs.World as worlds
 use Rattle.protocol.specs.World.{World, station}
-use Rattle.registry_core.specs.Registry.{Registry as RecordedStatus}
+use Rattle.registry_core.specs.Registry.{RegistryCoreView as RecordedStatus}
 use Rattle.world.specs.RegistryLines.{registry_at}
 
 -- a node without a station has no history

@@ -1,15 +1,15 @@
 -- What the registries of a world hold.
 use Rattle.std.specs.Prelude.{◌≡◌, Bool, true, false, List, map, Option, Some, None}
-use Rattle.accounts.specs.declared.unit_holding.HeldBlock.{HeldBlock}
+use Rattle.registry_core.specs.HeldBlock.{HeldBlock}
 use Rattle.scheme.specs.declared.members.SchemeRegistry.{SchemeRegistry}
 use Rattle.protocol.specs.World.{World}
-use Rattle.registry_core.specs.Registry.{Registry}
+use Rattle.registry_core.specs.Registry.{RegistryCoreView}
 use Rattle.registry_core.specs.Reported.{AreHoldings}
 use Rattle.world.specs.RegistryLines.{AreLines}
 use Rattle.world.specs.declared.views.Stock.{Stock}
 
 -- the holdings of a registry that the scheme has, and none of another
-abbrev pub HoldsIf : Registry → Bool → Option (List HeldBlock) → Type 0
+abbrev pub HoldsIf : RegistryCoreView → Bool → Option (List HeldBlock) → Type 0
 HoldsIf r true (Some lines) = AreHoldings r lines
 HoldsIf r false None = Unit {0}
 HoldsIf r _ _ = ⊥

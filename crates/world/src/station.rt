@@ -89,7 +89,9 @@ impl Station {
 
     /// Takes an input, which gives the protocol's outcome. After `NoMemory` the node is as it was.
     pub(crate) fn take(&mut self, input: &Input) -> Result<Outcome, NoMemory>
-        ensures ok { IfOk result (λ o. record { station = station_of self.new; outcome = o } ≡ worlds.take_input (scheme_of self.old.core) input.now (station_of self.old)) }
+        ensures ok { IfOk result
+            (λ o. record { station = station_of self.new; outcome = o }
+            ≡ worlds.take_input (scheme_of self.old.core) input.now (station_of self.old)) }
         ensures err { OnErr result (station_of self.new ≡ station_of self.old) }
         ensures scheme { scheme_of self.new.core ≡ scheme_of self.old.core }
         ensures node { node_of self.new.core ≡ node_of self.old.core }
@@ -107,7 +109,8 @@ impl Station {
 
     /// Commits the first `count` records of the tail, where the node runs and its tail has that many.
     pub(crate) fn commit(&mut self, count: u64) -> Outcome
-        ensures value { record { station = station_of self.new; outcome = result } ≡ worlds.commit count (station_of self.old) }
+        ensures value { record { station = station_of self.new; outcome = result }
+            ≡ worlds.commit count (station_of self.old) }
         ensures core { self.new.core ≡ self.old.core }
         ensures posted { self.new.posted ≡ self.old.posted }
     {
@@ -123,7 +126,8 @@ impl Station {
     /// Stops the node, where it runs and its tail has `kept` records: these are committed, and the others are lost.
     /// After `NoMemory` the node is as it was.
     pub(crate) fn crash(&mut self, kept: u64) -> Result<Outcome, NoMemory>
-        ensures ok { IfOk result (λ o. record { station = station_of self.new; outcome = o } ≡ worlds.crash kept (station_of self.old)) }
+        ensures ok { IfOk result
+            (λ o. record { station = station_of self.new; outcome = o } ≡ worlds.crash kept (station_of self.old)) }
         ensures err { OnErr result (station_of self.new ≡ station_of self.old) }
         ensures scheme { scheme_of self.new.core ≡ scheme_of self.old.core }
         ensures node { node_of self.new.core ≡ node_of self.old.core }
@@ -142,7 +146,8 @@ impl Station {
 
     /// Starts a stopped node.
     pub(crate) fn restart(&mut self) -> Outcome
-        ensures value { record { station = station_of self.new; outcome = result } ≡ worlds.restart (station_of self.old) }
+        ensures value { record { station = station_of self.new; outcome = result }
+            ≡ worlds.restart (station_of self.old) }
         ensures core { self.new.core ≡ self.old.core }
         ensures posted { self.new.posted ≡ self.old.posted }
     {
@@ -170,7 +175,8 @@ impl Station {
     pub(crate) fn mark_posted(&mut self, key: u64) -> Result<(), NoMemory>
         ensures seen { station_of self.new ≡ station_of self.old }
         ensures core { self.new.core ≡ self.old.core }
-        ensures ok { OnOk result ((k : ℕ) → contains nat_cmp self.new.posted k ≡ (contains nat_cmp self.old.posted k || (key == k))) }
+        ensures ok { OnOk result ((k : ℕ)
+            → contains nat_cmp self.new.posted k ≡ (contains nat_cmp self.old.posted k || (key == k))) }
         ensures err { OnErr result ((k : ℕ) → contains nat_cmp self.new.posted k ≡ contains nat_cmp self.old.posted k) }
     {
         self.posted.insert(key)?;

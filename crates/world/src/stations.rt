@@ -30,8 +30,10 @@ fn add_opening_station(
     scheme: &Scheme,
     node: Node,
 ) -> Result<(), NoMemory>
-    ensures opens { OnOk result (map station_of stations.new.items ≡ map station_of stations.old.items ++ opening_station node ∷ []) }
-    ensures fresh { OnOk result (All (IsFresh scheme.now) stations.old.items → All (IsFresh scheme.now) stations.new.items) }
+    ensures opens { OnOk result
+        (map station_of stations.new.items ≡ map station_of stations.old.items ++ opening_station node ∷ []) }
+    ensures fresh { OnOk result (All (IsFresh scheme.now) stations.old.items
+        → All (IsFresh scheme.now) stations.new.items) }
 {
     stations.reserve(1)?;
     stations.push_reserved(opening_station(alloc, scheme, node)?);
@@ -45,7 +47,9 @@ fn add_opening_stations(
     scheme: &Scheme,
 ) -> Result<(), NoMemory>
     requires empty { stations.old.items ≡ [] }
-    ensures opens { OnOk result (map station_of stations.new.items ≡ opening_station Node.Itl ∷ map (λ m. opening_station (Node.Registry m.code)) scheme.now.members) }
+    ensures opens { OnOk result
+        (map station_of stations.new.items
+        ≡ opening_station Node.Itl ∷ map (λ m. opening_station (Node.Registry m.code)) scheme.now.members) }
     ensures fresh { OnOk result (All (IsFresh scheme.now) stations.new.items) }
 {
     add_opening_station(stations, alloc, scheme, Node::Itl)?;
@@ -57,7 +61,9 @@ fn add_opening_stations(
 
 /// The stations of the opening world: the log, then the registries in the scheme's order.
 pub(crate) fn opening_stations(alloc: Global, scheme: &Scheme) -> Result<Vec<Station>, NoMemory>
-    ensures opens { IfOk result (λ v. map station_of v.items ≡ opening_station Node.Itl ∷ map (λ m. opening_station (Node.Registry m.code)) scheme.now.members) }
+    ensures opens { IfOk result
+        (λ v. map station_of v.items
+        ≡ opening_station Node.Itl ∷ map (λ m. opening_station (Node.Registry m.code)) scheme.now.members) }
     ensures nodes { IfOk result (λ v. map (λ s. node_of s.core) v.items ≡ nodes scheme.now) }
     ensures fresh { IfOk result (λ v. All (IsFresh scheme.now) v.items) }
 {

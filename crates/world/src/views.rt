@@ -18,9 +18,9 @@ ghost use Rattle.world.specs.Stocks.{AreStocks, HoldsIf};
 use crate::any_core::Core;
 use crate::station::Station;
 use crate::world::World;
-use accounts::HeldBlock;
 use protocol::{NodeCore, Posted, place_of};
 use registry_core::RegistryCore;
+use registry_core::accounts::HeldBlock;
 use scheme::Scheme;
 use status::{Status, TransactionId};
 use std::alloc::Global;
@@ -62,7 +62,9 @@ fn add_proposal<'a>(
     proposals: &mut Vec<&'a Proposal>,
     message: Option<&'a Message>,
 ) -> Result<(), NoMemory>
-    ensures { OnOk result (map (λ p. p.now) proposals.new.items ≡ map (λ p. p.now) proposals.old.items ++ option_to_list (option_and_then proposal_in (option_copied message.entry))) }
+    ensures { OnOk result (map (λ p. p.now) proposals.new.items ≡ map
+        (λ p. p.now) proposals.old.items ++ option_to_list
+        (option_and_then proposal_in (option_copied message.entry))) }
 {
     if let Some(Message::Proposal(proposal)) = message {
         proposals.push(proposal)?;
@@ -75,7 +77,8 @@ fn add_proposals<'a>(
     proposals: &mut Vec<&'a Proposal>,
     core: &'a RegistryCore,
 ) -> Result<(), NoMemory>
-    ensures { OnOk result (map (λ p. p.now) proposals.new.items ≡ map (λ p. p.now) proposals.old.items ++ proposed (past core.now)) }
+    ensures { OnOk result (map (λ p. p.now) proposals.new.items ≡ map (λ p. p.now) proposals.old.items ++ proposed
+        (past core.now)) }
 {
     for key in 0..core.sends() {
         add_proposal(proposals, core.outbox(key))?;
@@ -145,7 +148,8 @@ impl World {
 
     /// The core of the registry of that code, if the scheme has such a registry.
     fn registry(&self, code: Code) -> Option<&RegistryCore>
-        ensures core { option_copied result ≡ cond (has_member self.now.scheme code) (Some (registry_at self.now code)) None }
+        ensures core { option_copied result
+            ≡ cond (has_member self.now.scheme code) (Some (registry_at self.now code)) None }
         ensures none { IfNone result (live_of self.now (Node.Registry code) ≡ []) }
     {
         match &self.station(Node::Registry(code))?.core {
@@ -177,7 +181,9 @@ impl World {
     /// What a registry holds, as lines by account and then in the order of units; or `None` where the scheme has no
     /// such registry. Fails with `NoMemory`.
     pub fn holdings(&self, registry: Code) -> Result<Option<Vec<HeldBlock>>, NoMemory>
-        ensures { IfOk result (λ found. HoldsIf (registry_at self.now registry) (has_member self.now.scheme registry) (option_map (λ v. v.items) found)) }
+        ensures { IfOk result
+            (λ found. HoldsIf (registry_at self.now registry) (has_member self.now.scheme registry)
+            (option_map (λ v. v.items) found)) }
     {
         match self.registry(registry) {
             Some(core) => Ok(Some(core.lines()?)),
@@ -225,7 +231,8 @@ impl World {
 
     /// The transfers that owe a unit, by code and then by number. Or `NoMemory`.
     pub fn owed(&self, alloc: Global, unit: &Unit) -> Result<Vec<TransactionId>, NoMemory>
-        ensures { IfOk result (λ v. v.items ≡ map (λ p. p.id) (filter (λ p. have_unit p.content.units unit.now) (due self.now))) }
+        ensures { IfOk result
+            (λ v. v.items ≡ map (λ p. p.id) (filter (λ p. have_unit p.content.units unit.now) (due self.now))) }
     {
         let due = self.due(alloc)?;
         let mut owed = Vec::new(alloc);

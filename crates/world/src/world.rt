@@ -153,7 +153,9 @@ impl World {
 
     /// The node takes an input.
     fn take(&mut self, node: Node, input: &Input) -> Result<Outcome, NoMemory>
-        ensures ok { IfOk result (λ o. record { world = self.new; outcome = o } ≡ at_node self.old (station self.old node) (take_input self.old.scheme input.now)) }
+        ensures ok { IfOk result
+            (λ o. record { world = self.new; outcome = o }
+            ≡ at_node self.old (station self.old node) (take_input self.old.scheme input.now)) }
         ensures err { OnErr result (self.new ≡ self.old) }
     {
         match place_of(&self.scheme, node) {
@@ -164,7 +166,8 @@ impl World {
 
     /// The node takes an order.
     fn order(&mut self, node: Node, input: &Input) -> Result<Outcome, NoMemory>
-        ensures ok { IfOk result (λ o. record { world = self.new; outcome = o } ≡ step self.old (WorldEvent.Take node input.now)) }
+        ensures ok { IfOk result
+            (λ o. record { world = self.new; outcome = o } ≡ step self.old (WorldEvent.Take node input.now)) }
         ensures err { OnErr result (self.new ≡ self.old) }
     {
         if self.is_order(node, input) {
@@ -184,7 +187,8 @@ impl World {
     }
 
     fn crash(&mut self, node: Node, kept: u64) -> Result<Outcome, NoMemory>
-        ensures ok { IfOk result (λ o. record { world = self.new; outcome = o } ≡ step self.old (WorldEvent.Crash node kept)) }
+        ensures ok { IfOk result
+            (λ o. record { world = self.new; outcome = o } ≡ step self.old (WorldEvent.Crash node kept)) }
         ensures err { OnErr result (self.new ≡ self.old) }
     {
         match place_of(&self.scheme, node) {
@@ -203,7 +207,8 @@ impl World {
     }
 
     fn post(&mut self, node: Node, key: u64) -> Result<Outcome, NoMemory>
-        ensures ok { IfOk result (λ o. record { world = self.new; outcome = o } ≡ step self.old (WorldEvent.Post node key)) }
+        ensures ok { IfOk result
+            (λ o. record { world = self.new; outcome = o } ≡ step self.old (WorldEvent.Post node key)) }
         ensures err { OnErr result (self.new ≡ self.old) }
     {
         let Some(at) = place_of(&self.scheme, node) else {
@@ -225,7 +230,8 @@ impl World {
     }
 
     fn deliver(&mut self, index: u64, moment: Moment) -> Result<Outcome, NoMemory>
-        ensures ok { IfOk result (λ o. record { world = self.new; outcome = o } ≡ step self.old (WorldEvent.Deliver index moment)) }
+        ensures ok { IfOk result
+            (λ o. record { world = self.new; outcome = o } ≡ step self.old (WorldEvent.Deliver index moment)) }
         ensures err { OnErr result (self.new ≡ self.old) }
     {
         match copied(message_at(self.bag.as_slice(), index))? {
@@ -263,11 +269,16 @@ impl World {
     pub fn apply(&mut self, event: &WorldEvent) -> Result<Outcome, NoMemory>
         ensures ok { IfOk result (λ o. record { world = self.new; outcome = o } ≡ step self.old event.now) }
         ensures err { OnErr result (self.new ≡ self.old) }
-        ensures live { (scheme : Scheme) (events : List WorldEvent) → self.old ≡ run (opening scheme) events → OnOk result (IsSafe scheme (live_of self.new)) }
-        ensures committed { (scheme : Scheme) (events : List WorldEvent) → self.old ≡ run (opening scheme) events → OnOk result (IsSafe scheme (committed_of self.new)) }
-        ensures welcome { (scheme : Scheme) (events : List WorldEvent) → self.old ≡ run (opening scheme) events → OnOk result (DeliversWelcome self.new) }
-        ensures owners_move { (scheme : Scheme) (events : List WorldEvent) → self.old ≡ run (opening scheme) events → OnOk result (OwnersMove scheme (committed_of self.old) (committed_of self.new)) }
-        ensures way_out { (scheme : Scheme) (events : List WorldEvent) → self.old ≡ run (opening scheme) events → OnOk result (WayOut self.new) }
+        ensures live { (scheme : Scheme) (events : List WorldEvent) → self.old ≡ run (opening scheme) events
+            → OnOk result (IsSafe scheme (live_of self.new)) }
+        ensures committed { (scheme : Scheme) (events : List WorldEvent) → self.old ≡ run (opening scheme) events
+            → OnOk result (IsSafe scheme (committed_of self.new)) }
+        ensures welcome { (scheme : Scheme) (events : List WorldEvent) → self.old ≡ run (opening scheme) events
+            → OnOk result (DeliversWelcome self.new) }
+        ensures owners_move { (scheme : Scheme) (events : List WorldEvent) → self.old ≡ run (opening scheme) events
+            → OnOk result (OwnersMove scheme (committed_of self.old) (committed_of self.new)) }
+        ensures way_out { (scheme : Scheme) (events : List WorldEvent) → self.old ≡ run (opening scheme) events
+            → OnOk result (WayOut self.new) }
     {
         self.move_by(event)
     }

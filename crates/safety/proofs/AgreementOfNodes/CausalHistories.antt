@@ -20,8 +20,8 @@ use Rattle.protocol.specs.Claims.{Agrees, StandsAt}
 use Rattle.protocol.specs.History.{Transition, Entry, transitions_of, newest, sends}
 use Rattle.wire.specs.Parties.{sender}
 use Rattle.safety.proofs.MovesAndHistories.NewestTransitions.{Made, Got, Heard, newest_stands}
-use Rattle.lemmas.proofs.Membership.{In}
-use Rattle.lemmas.proofs.OneValue.{one_some}
+use Rattle.units.proofs.Lists.Membership.{In}
+use Rattle.units.proofs.Lists.OneValue.{one_some}
 use Rattle.safety.proofs.OneLog.LogHearings.{IsAgreed, log_backed, IsPast, log_sent, log_offered}
 use Rattle.safety.proofs.MovesAndHistories.TableRows.{word_to}
 use Rattle.safety.proofs.OneRegistry.RegistryHearings.{Cause, OwnCause, told_own, told, IsTaken, accepted_sent}

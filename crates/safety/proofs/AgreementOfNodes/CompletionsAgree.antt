@@ -25,12 +25,12 @@ use Rattle.protocol.specs.AtLog.{is_no_registry}
 use Rattle.protocol.specs.Claims.{at_registry}
 use Rattle.protocol.specs.History.{Transition, Entry, transitions_of, newest, stands, sends, is_status, carries, gives, credits}
 use Rattle.safety.proofs.AgreementOfNodes.CausalHistories.{Causal, heard_sent, log_said}
-use Rattle.lemmas.proofs.NoRepeats.{NoRepeat}
+use Rattle.units.proofs.Lists.NoRepeats.{NoRepeat}
 use Rattle.protocol.proofs.CountsInLists.{picked, In_picked}
 use Rattle.safety.proofs.OneRegistry.TransactionEnds.{each_move, ends_last, ends_once, offered, completed_sent, known, proposer, proposer_of}
 use Rattle.safety.proofs.MovesAndHistories.NewestTransitions.{Made, Offered}
-use Rattle.lemmas.proofs.Membership.{In}
-use Rattle.lemmas.proofs.OneValue.{one_some}
+use Rattle.units.proofs.Lists.Membership.{In}
+use Rattle.units.proofs.Lists.OneValue.{one_some}
 use Rattle.safety.proofs.ListLemmas.TestsOfSameness.{status_of_same}
 use Rattle.safety.proofs.MovesAndHistories.TableMoves.{RegistryMove}
 use Rattle.safety.proofs.OneLog.LogHearings.{log_offered}

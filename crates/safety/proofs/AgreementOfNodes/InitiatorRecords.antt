@@ -19,8 +19,8 @@ use Rattle.safety.proofs.OneRegistry.TransactionEnds.{ends_last, own_contents, c
 use Rattle.safety.proofs.OneRegistry.RegistrySendings.{asked_known}
 use Rattle.safety.proofs.OneLog.OwnersInLog.{IsBusy, log_live}
 use Rattle.safety.proofs.MovesAndHistories.NewestTransitions.{Made, made_log, newest_id, newest_append, newest_in}
-use Rattle.lemmas.proofs.Membership.{In, In_cases}
-use Rattle.lemmas.proofs.OneValue.{one_some}
+use Rattle.units.proofs.Lists.Membership.{In, In_cases}
+use Rattle.units.proofs.Lists.OneValue.{one_some}
 use Rattle.safety.proofs.MovesAndHistories.TableMoves.{newest_some}
 use Rattle.safety.proofs.OneLog.LogHearings.{log_pair, log_keeps_content}
 

@@ -35,15 +35,15 @@ use Rattle.safety.proofs.AgreementOfNodes.InitiatorRecords.{Begun, begun, log_on
 use Rattle.safety.proofs.OwnersOfUnits.HoldersInLog.{holder_is_owner}
 use Rattle.safety.proofs.AgreementOfNodes.CausalHistories.{Causal, log_said}
 use Rattle.safety.proofs.AgreementOfNodes.CompletionsAgree.{stood, log_completed}
-use Rattle.lemmas.proofs.SomePass.{list_any_not}
+use Rattle.units.proofs.Lists.SomePass.{list_any_not}
 use Rattle.safety.proofs.OneRegistry.TransactionEnds.{offered, own_contents}
 use Rattle.safety.proofs.OneLog.LogSendings.{is_of_other_kind}
 use Rattle.safety.proofs.MovesAndHistories.NewestTransitions.{newest_id}
 use Rattle.safety.proofs.DeliveryLemmas.KindsOfOffers.{sound_offer}
 use Rattle.safety.proofs.OneRegistry.UnitsCountedOnce.{Waits, local_history}
 use Rattle.safety.proofs.OneLog.OwnersInLog.{IsBusy}
-use Rattle.lemmas.proofs.Membership.{In, In_map, In_filter}
-use Rattle.lemmas.proofs.OneValue.{one_some, clash}
+use Rattle.units.proofs.Lists.Membership.{In, In_map, In_filter}
+use Rattle.units.proofs.Lists.OneValue.{one_some, clash}
 use Rattle.safety.proofs.ListLemmas.TestsOfSameness.{codes_differ, other_code}
 use Rattle.safety.proofs.OwnersOfUnits.UnitsWithOneOwner.{held_or_owed, one_owner, causal_one_owner}
 use Rattle.safety.proofs.OneRegistry.InitiatorStatuses.{IsOwnStatus, own_statuses}

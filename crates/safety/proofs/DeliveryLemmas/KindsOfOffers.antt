@@ -28,12 +28,12 @@ use Rattle.protocol.specs.Registries.{allotted}
 use Rattle.protocol.proofs.CanonicalBlocks.{canonical_no_repeats, canonical_from}
 use Rattle.safety.proofs.AgreementOfNodes.CausalHistories.{Causal}
 use Rattle.safety.proofs.AgreementOfNodes.CompletionsAgree.{credited, offered_sent}
-use Rattle.lemmas.proofs.SomePass.{list_any_none}
+use Rattle.units.proofs.Lists.SomePass.{list_any_none}
 use Rattle.safety.proofs.OneRegistry.TransactionEnds.{ends_last, known, settled_offers}
 use Rattle.safety.proofs.OneLog.LogSendings.{is_of_other_kind, passed_on}
 use Rattle.safety.proofs.MovesAndHistories.NewestTransitions.{Made, Offered, offered_later, made_registry, one_proposal}
-use Rattle.lemmas.proofs.Membership.{In, In_cases, In_left, In_right, In_find, In_flat_map}
-use Rattle.lemmas.proofs.OneValue.{one_some}
+use Rattle.units.proofs.Lists.Membership.{In, In_cases, In_left, In_right, In_find, In_flat_map}
+use Rattle.units.proofs.Lists.OneValue.{one_some}
 use Rattle.safety.proofs.MovesAndHistories.TableMoves.{RegistryMove, proposes, asks, arrives, bares, settles, finishes}
 use Rattle.protocol.proofs.UnitsOfBlocks.{piece_of_block}
 

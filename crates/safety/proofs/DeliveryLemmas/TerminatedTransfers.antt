@@ -44,10 +44,10 @@ use Rattle.safety.proofs.MovesAndHistories.TransitionForms.{checked_message}
 use Rattle.protocol.proofs.Histories.{history_from_append}
 use Rattle.safety.proofs.MovesAndHistories.LongerHistories.{sends_append}
 use Rattle.safety.proofs.MovesAndHistories.NewestTransitions.{one_notified}
-use Rattle.lemmas.proofs.Membership.{In, In_cases, In_flat_map, In_slice_get}
+use Rattle.units.proofs.Lists.Membership.{In, In_cases, In_flat_map, In_slice_get}
 use Rattle.safety.proofs.MovesAndHistories.TableMoves.{LogMove, checks, passes, cancels, forestalls, log_moves}
 use Rattle.safety.proofs.WorldLemmas.NodesWithStation.{AllPlaced, step_placed, opening_placed, live_unplaced, take_node, commit_node, crash_node, restart_node}
-use Rattle.lemmas.proofs.Positions.{In_contains}
+use Rattle.units.proofs.Lists.Positions.{In_contains}
 use Rattle.safety.proofs.WorldLemmas.ReachedWorlds.{reached}
 use Rattle.safety.proofs.WorldLemmas.SoundWorlds.{Sound, step_sound, opening_sound, order_fair, no_journal, live_causal, live_sends}
 use Rattle.safety.proofs.WorldLemmas.StationsAfterPut.{found_at_node, at_put, at_elsewhere}

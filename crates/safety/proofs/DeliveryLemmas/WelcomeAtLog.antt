@@ -39,8 +39,8 @@ use Rattle.safety.proofs.OneRegistry.TransactionEnds.{ends_last, offered, comple
 use Rattle.safety.proofs.OneLog.LogSendings.{passed_open, refusal, never_proposed}
 use Rattle.safety.proofs.OneRegistry.RegistrySendings.{Says, offers, answers, completes, says, rejected_sent, asks_log}
 use Rattle.safety.proofs.MovesAndHistories.NewestTransitions.{Offered, newest_id}
-use Rattle.lemmas.proofs.Membership.{In}
-use Rattle.lemmas.proofs.OneValue.{one_some}
+use Rattle.units.proofs.Lists.Membership.{In}
+use Rattle.units.proofs.Lists.OneValue.{one_some}
 use Rattle.safety.proofs.MovesAndHistories.TableRows.{known_status, status_known, log_offer_row, log_request_row}
 use Rattle.safety.proofs.WorldLemmas.NodesWithStation.{Unplaced}
 use Rattle.safety.proofs.MovesAndHistories.RefusalCauses.{welcome_row, Welcome, welcome_refuse, right_node, known_by_newest, no_other}

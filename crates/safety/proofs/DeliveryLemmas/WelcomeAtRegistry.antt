@@ -47,12 +47,12 @@ use Rattle.wire.specs.Parties.{receiver}
 use Rattle.safety.proofs.AgreementOfNodes.InitiatorRecords.{begun, initiated}
 use Rattle.safety.proofs.AgreementOfNodes.CausalHistories.{Causal, heard_sent, log_said, past_transition}
 use Rattle.safety.proofs.AgreementOfNodes.CompletionsAgree.{log_has}
-use Rattle.lemmas.proofs.SomePass.{list_any_not}
+use Rattle.units.proofs.Lists.SomePass.{list_any_not}
 use Rattle.safety.proofs.OneRegistry.TransactionEnds.{known}
 use Rattle.safety.proofs.OneLog.LogSendings.{no_request, passed_on, goes, ToKnown, never_proposed}
 use Rattle.safety.proofs.MovesAndHistories.NewestTransitions.{newest_id}
-use Rattle.lemmas.proofs.Membership.{In}
-use Rattle.lemmas.proofs.OneValue.{one_some}
+use Rattle.units.proofs.Lists.Membership.{In}
+use Rattle.units.proofs.Lists.OneValue.{one_some}
 use Rattle.safety.proofs.ListLemmas.TestsOfSameness.{codes_differ, other_code}
 use Rattle.safety.proofs.OwnersOfUnits.UnitsWithOneOwner.{held_or_owed}
 use Rattle.safety.proofs.OneRegistry.InitiatorStatuses.{IsOwnStatus, own_statuses}

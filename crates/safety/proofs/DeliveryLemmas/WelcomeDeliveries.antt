@@ -15,7 +15,7 @@ use Rattle.protocol.specs.World.{World, Station, station, journal, rests, answer
 use Rattle.protocol.specs.declared.event.Outcome.TheVariants.{NotPossible, Refused}
 use Rattle.protocol.specs.declared.event.Posted.{Posted}
 use Rattle.protocol.specs.declared.event.WorldEvent.{WorldEvent}
-use Rattle.lemmas.proofs.Membership.{In, In_slice_get}
+use Rattle.units.proofs.Lists.Membership.{In, In_slice_get}
 use Rattle.safety.proofs.WorldLemmas.NodesWithStation.{Unplaced, live_unplaced, opening_placed, run_placed}
 use Rattle.safety.proofs.WorldLemmas.ReachedWorlds.{reached_sound}
 use Rattle.safety.proofs.WorldLemmas.SoundWorlds.{Sound, live_causal, live_sends}

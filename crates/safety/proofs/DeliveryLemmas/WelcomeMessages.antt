@@ -15,7 +15,7 @@ use Rattle.wire.specs.Parties.{sender, receiver}
 use Rattle.safety.proofs.AgreementOfNodes.CausalHistories.{Causal}
 use Rattle.safety.proofs.OneLog.LogSendings.{goes, no_request}
 use Rattle.safety.proofs.OneRegistry.RegistrySendings.{Says, offers, answers, completes, says, asks_log}
-use Rattle.lemmas.proofs.Membership.{In}
+use Rattle.units.proofs.Lists.Membership.{In}
 use Rattle.safety.proofs.MovesAndHistories.RefusalCauses.{Welcome}
 use Rattle.safety.proofs.OneLog.LogHearings.{log_offered}
 use Rattle.safety.proofs.WorldLemmas.NodesWithStation.{Unplaced}

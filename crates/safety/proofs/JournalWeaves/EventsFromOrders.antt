@@ -26,9 +26,9 @@ use Rattle.protocol.specs.World.{World, Station, opening, run, station, is_order
 use Rattle.protocol.specs.declared.event.Posted.{Posted}
 use Rattle.protocol.specs.declared.event.WorldEvent.{WorldEvent}
 use Rattle.protocol.specs.declared.event.WorldEvent.TheVariants.{Take, Commit, Post, Deliver}
-use Rattle.lemmas.proofs.SomePass.{list_any_in}
-use Rattle.lemmas.proofs.Membership.{In_right}
-use Rattle.lemmas.proofs.Positions.{In_contains, some_at}
+use Rattle.units.proofs.Lists.SomePass.{list_any_in}
+use Rattle.units.proofs.Lists.Membership.{In_right}
+use Rattle.units.proofs.Lists.Positions.{In_contains, some_at}
 use Rattle.safety.proofs.WorldLemmas.QuietWorlds.{Quiet, there, Grown, record_on, bag_on, take_step, post_step, delivers, opening_quiet, quiet_after, run_append}
 use Rattle.safety.proofs.WorldLemmas.ReachedWorlds.{reached, reached_scheme}
 use Rattle.safety.proofs.WorldLemmas.SoundWorlds.{none_committed}

@@ -29,10 +29,10 @@ use Rattle.protocol.specs.declared.event.WorldEvent.{WorldEvent}
 use Rattle.protocol.specs.declared.event.WorldEvent.TheVariants.{Take, Commit, Post, Deliver, Crash, Restart}
 use Rattle.safety.proofs.MovesAndHistories.LongerHistories.{sends_append, got_in}
 use Rattle.safety.proofs.MovesAndHistories.NewestTransitions.{Got}
-use Rattle.lemmas.proofs.Membership.{In, In_right}
-use Rattle.lemmas.proofs.OneValue.{one_some}
+use Rattle.units.proofs.Lists.Membership.{In, In_right}
+use Rattle.units.proofs.Lists.OneValue.{one_some}
 use Rattle.safety.proofs.WorldLemmas.NodesWithStation.{AllPlaced, step_placed, opening_placed}
-use Rattle.lemmas.proofs.Positions.{contains_in, In_take, right_empty}
+use Rattle.units.proofs.Lists.Positions.{contains_in, In_take, right_empty}
 use Rattle.safety.proofs.WorldLemmas.ReachedWorlds.{reached_scheme}
 use Rattle.safety.proofs.WorldLemmas.SoundWorlds.{Sound, step_sound, opening_sound, no_journal, none_committed}
 use Rattle.safety.proofs.WorldLemmas.StationsAfterPut.{found_at_node, at_put, at_elsewhere, other_way}

@@ -17,8 +17,8 @@ use Rattle.protocol.specs.Verdict.{verdict, history}
 use Rattle.protocol.specs.Weave.{Placed, journals_of, WasSent, InTurn, ArePrefixes, HasNext}
 use Rattle.wire.specs.Parties.{sender}
 use Rattle.safety.proofs.MovesAndHistories.LongerHistories.{sends_append}
-use Rattle.lemmas.proofs.Membership.{In}
-use Rattle.lemmas.proofs.Positions.{In_contains, contains_in, left_empty}
+use Rattle.units.proofs.Lists.Membership.{In}
+use Rattle.units.proofs.Lists.Positions.{In_contains, contains_in, left_empty}
 
 -- ---- one more record
 

@@ -22,10 +22,10 @@ use Rattle.protocol.specs.declared.event.Outcome.TheVariants.{Recorded, NotPossi
 use Rattle.protocol.specs.declared.event.Posted.{Posted}
 use Rattle.protocol.specs.declared.event.WorldEvent.{WorldEvent}
 use Rattle.protocol.specs.declared.event.WorldEvent.TheVariants.{Take, Deliver}
-use Rattle.lemmas.proofs.SomePass.{list_any_in}
+use Rattle.units.proofs.Lists.SomePass.{list_any_in}
 use Rattle.safety.proofs.JournalWeaves.EventsFromOrders.{ack_below}
 use Rattle.safety.proofs.JournalWeaves.OrdersFromEvents.{always_next}
-use Rattle.lemmas.proofs.Positions.{In_contains, place_of, some_at}
+use Rattle.units.proofs.Lists.Positions.{In_contains, place_of, some_at}
 use Rattle.safety.proofs.WorldLemmas.QuietWorlds.{takes}
 use Rattle.safety.proofs.WorldLemmas.StationsAfterPut.{found_at_node}
 

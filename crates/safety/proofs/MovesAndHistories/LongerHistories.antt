@@ -12,7 +12,7 @@ use Rattle.protocol.specs.History.{Transition, Entry, transitions_of, sends, mes
 use Rattle.protocol.specs.Verdict.{verdict, extend, history_from, history, transitions_made}
 use Rattle.protocol.proofs.Histories.{history_from_append}
 use Rattle.safety.proofs.MovesAndHistories.NewestTransitions.{Made, Got}
-use Rattle.lemmas.proofs.Membership.{In, In_left}
+use Rattle.units.proofs.Lists.Membership.{In, In_left}
 
 made_from : (scheme : Scheme) (n : Node) (es : List Entry) (xs : List Input) → Made scheme n es → Made scheme n (history_from scheme n es xs)
 made_from scheme n es [] transitions_made = transitions_made

@@ -14,7 +14,7 @@ use Rattle.protocol.specs.History.{Transition, Entry, sends, messages_of}
 use Rattle.wire.specs.Parties.{sender}
 use Rattle.safety.proofs.MovesAndHistories.TransitionForms.{settled_messages, checked_message}
 use Rattle.safety.proofs.MovesAndHistories.NewestTransitions.{Made, made_registry, made_log}
-use Rattle.lemmas.proofs.Membership.{In, In_cases, In_flat_map}
+use Rattle.units.proofs.Lists.Membership.{In, In_cases, In_flat_map}
 use Rattle.safety.proofs.MovesAndHistories.TableMoves.{RegistryMove, proposes, asks, arrives, bares, settles, finishes, LogMove, checks, passes, cancels, forestalls}
 
 sender_settled : (c : Code) (u : TransactionId) (new : Status) (m : Message) → In m (settled_messages c u new) → sender m ≡ Registry c

@@ -25,7 +25,7 @@ use Rattle.wire.specs.declared.message.ProposalStatus.{ProposalStatus}
 use Rattle.scheme.specs.declared.registries.Scheme.{Scheme}
 use Rattle.protocol.specs.History.{Transition, Entry, newest, stands}
 use Rattle.protocol.specs.Verdict.{verdict, transitions_made}
-use Rattle.lemmas.proofs.Membership.{In, In_find}
+use Rattle.units.proofs.Lists.Membership.{In, In_find}
 use Rattle.safety.proofs.MovesAndHistories.TableMoves.{RegistryMove, LogMove, registry_moves, log_moves}
 
 -- each entry's transitions are those of its input after the older ones

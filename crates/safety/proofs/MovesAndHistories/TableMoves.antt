@@ -50,7 +50,7 @@ use Rattle.protocol.specs.AtLog as log
 use Rattle.protocol.specs.AtLog.{ledger, is_proposed, is_no_registry, is_from_another, log_refusals, log_answer, log_message, newest_of_each, is_old, put_transition, by_id, cleaned, due, clean_up, same_bool, eligible_refusals, log_verdict}
 use Rattle.protocol.specs.Verdict.{transitions_made}
 use Rattle.safety.proofs.MovesAndHistories.TransitionForms.{moved, proposed, asking, arrived, settled_messages, bare, checked, told_to, cancelled, forestalled}
-use Rattle.lemmas.proofs.Membership.{In, In_cond, In_filter, In_flat_map}
+use Rattle.units.proofs.Lists.Membership.{In, In_cond, In_filter, In_flat_map}
 use Rattle.safety.proofs.MovesAndHistories.TableRows.{nothing_known, status_known, initiator_proposes, initiator_asks, initiator_asks_once, initiator_unasked, acquirer_unasked, initiator_notified, log_notified, acquirer_notified, log_asked, log_cleans, acquirer_offered, log_offered, unless_moves, settled_sends, passed_sends}
 
 -- none of the causes stands

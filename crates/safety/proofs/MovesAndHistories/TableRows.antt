@@ -27,7 +27,7 @@ use Rattle.protocol.specs.AtRegistry.{unless_held}
 use Rattle.protocol.specs.Deciding.{known, content_in, column_of_proposal}
 use Rattle.protocol.specs.Effects.{notifies, initiator_sends, log_sends}
 use Rattle.protocol.specs.History.{Transition}
-use Rattle.lemmas.proofs.Membership.{In, filter_In}
+use Rattle.units.proofs.Lists.Membership.{In, filter_In}
 use Rattle.safety.proofs.MovesAndHistories.TransitionForms.{settled_messages, told_to}
 
 pub log_from : (a told new : Status) → log_row (Stands a) (Notified told) ≡ Move new

@@ -26,8 +26,8 @@ use Rattle.protocol.specs.Checks.{log_findings}
 use Rattle.protocol.specs.History.{Transition, Entry, transitions_of, newest, sends, messages_of}
 use Rattle.safety.proofs.MovesAndHistories.TransitionForms.{checked_status, checked_message}
 use Rattle.safety.proofs.MovesAndHistories.NewestTransitions.{Made, Heard, heard_later, made_log, newest_id, newest_append, newest_in, one_notified}
-use Rattle.lemmas.proofs.Membership.{In, In_cases, In_flat_map}
-use Rattle.lemmas.proofs.OneValue.{one_some}
+use Rattle.units.proofs.Lists.Membership.{In, In_cases, In_flat_map}
+use Rattle.units.proofs.Lists.OneValue.{one_some}
 use Rattle.safety.proofs.MovesAndHistories.TableMoves.{LogMove, checks, passes, cancels, forestalls, Withdraws, cleans, requested}
 use Rattle.safety.proofs.MovesAndHistories.TableRows.{log_from}
 

@@ -25,7 +25,7 @@ use Rattle.protocol.specs.History.{Transition, Entry, transitions_of, newest, is
 use Rattle.protocol.specs.Verdict.{verdict, transitions_made as made_of}
 use Rattle.safety.proofs.MovesAndHistories.NewestTransitions.{Made, made_log}
 use Rattle.safety.proofs.OneRegistry.UnitsCountedOnce.{Single, single_refuse, single_cond, none_enter, one_enters}
-use Rattle.lemmas.proofs.Membership.{In, In_flat_map}
+use Rattle.units.proofs.Lists.Membership.{In, In_flat_map}
 use Rattle.safety.proofs.MovesAndHistories.TableMoves.{LogMove, NoneStands, cleaned_made}
 
 -- no codes: no cause stands

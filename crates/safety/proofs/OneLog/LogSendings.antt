@@ -27,8 +27,8 @@ use Rattle.protocol.specs.Registries.{allotted, has_member}
 use Rattle.safety.proofs.MovesAndHistories.TransitionForms.{checked_status, checked_message, told_to}
 use Rattle.safety.proofs.MovesAndHistories.NewestTransitions.{Made, Heard, heard_later, made_log, newest_id, newest_append, newest_in, one_notified, one_proposal}
 use Rattle.safety.proofs.OneLog.LogInputs.{none_stand}
-use Rattle.lemmas.proofs.Membership.{In, In_cases, In_flat_map}
-use Rattle.lemmas.proofs.OneValue.{one_some}
+use Rattle.units.proofs.Lists.Membership.{In, In_cases, In_flat_map}
+use Rattle.units.proofs.Lists.OneValue.{one_some}
 use Rattle.safety.proofs.MovesAndHistories.TableMoves.{LogMove, checks, passes, cancels, forestalls}
 use Rattle.safety.proofs.OneLog.LogHearings.{from_acquirer, log_pair, log_notified_move, log_keeps_content}
 use Rattle.safety.proofs.MovesAndHistories.TableRows.{log_from}

@@ -32,18 +32,18 @@ use Rattle.protocol.specs.Pieces.{Piece, pieces}
 use Rattle.protocol.specs.Registries.{allotted}
 use Rattle.protocol.specs.Verdict.{verdict, transitions_made as made_of, extend, history_from, history}
 use Rattle.safety.proofs.MovesAndHistories.TransitionForms.{checked, checked_status, told_to, moved}
-use Rattle.lemmas.proofs.NoRepeats.{NoRepeat}
-use Rattle.lemmas.proofs.SomePass.{list_any_none, list_any_in}
+use Rattle.units.proofs.Lists.NoRepeats.{NoRepeat}
+use Rattle.units.proofs.Lists.SomePass.{list_any_none, list_any_in}
 use Rattle.protocol.proofs.CountsInLists.{picked, In_picked, count_no, count_yes}
 use Rattle.protocol.proofs.Histories.{history_from_append}
 use Rattle.safety.proofs.MovesAndHistories.LongerHistories.{made_history}
 use Rattle.safety.proofs.MovesAndHistories.NewestTransitions.{Made, made_log, newest_id, newest_append, newest_stands}
 use Rattle.safety.proofs.OneRegistry.UnitsCountedOnce.{newest_cons}
 use Rattle.safety.proofs.OneLog.LogInputs.{AllCancelled, each_log_move, none_stand}
-use Rattle.lemmas.proofs.Membership.{In, In_cases}
+use Rattle.units.proofs.Lists.Membership.{In, In_cases}
 use Rattle.safety.proofs.MovesAndHistories.TableMoves.{LogMove, checks, passes, cancels, forestalls, log_moves}
 use Rattle.safety.proofs.OneRegistry.TransactionEnds.{proposer}
-use Rattle.lemmas.proofs.Positions.{In_contains}
+use Rattle.units.proofs.Lists.Positions.{In_contains}
 use Rattle.safety.proofs.MovesAndHistories.TableRows.{log_from}
 use Rattle.protocol.proofs.UnitsOfBlocks.{piece_of}
 

@@ -13,8 +13,8 @@ use Rattle.wire.specs.declared.input.Input.{Input}
 use Rattle.scheme.specs.declared.registries.Scheme.{Scheme}
 use Rattle.protocol.specs.Claims.{NextIsNew}
 use Rattle.protocol.specs.History.{Transition, Entry, transitions_of, newest, proposals, is_proposal_order}
-use Rattle.lemmas.proofs.Membership.{In, In_cases}
-use Rattle.lemmas.proofs.OneValue.{clash}
+use Rattle.units.proofs.Lists.Membership.{In, In_cases}
+use Rattle.units.proofs.Lists.OneValue.{clash}
 use Rattle.protocol.proofs.CountsInLists.{count_no, count_yes}
 use Rattle.safety.proofs.MovesAndHistories.NewestTransitions.{Made, made_registry, newest_id}
 use Rattle.safety.proofs.MovesAndHistories.TableMoves.{RegistryMove, proposes, asks, arrives, bares, settles, finishes}

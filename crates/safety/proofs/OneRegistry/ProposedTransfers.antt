@@ -19,9 +19,9 @@ use Rattle.scheme.specs.declared.registries.Scheme.{Scheme}
 use Rattle.protocol.specs.History.{Transition, Entry, transitions_of, newest, sends, messages_of}
 use Rattle.protocol.specs.Table.{proposal_in, proposed}
 use Rattle.protocol.specs.Verdict.{history}
-use Rattle.lemmas.proofs.Membership.{In, In_cases, In_left, In_map}
-use Rattle.lemmas.proofs.NoRepeats.{NoRepeat, no_repeat_append}
-use Rattle.lemmas.proofs.OneValue.{clash}
+use Rattle.units.proofs.Lists.Membership.{In, In_cases, In_left, In_map}
+use Rattle.units.proofs.Lists.NoRepeats.{NoRepeat, no_repeat_append}
+use Rattle.units.proofs.Lists.OneValue.{clash}
 use Rattle.safety.proofs.MovesAndHistories.LongerHistories.{made_history}
 use Rattle.safety.proofs.MovesAndHistories.NewestTransitions.{Made, made_registry, newest_id}
 use Rattle.safety.proofs.MovesAndHistories.TableMoves.{RegistryMove, proposes, asks, arrives, bares, settles, finishes}

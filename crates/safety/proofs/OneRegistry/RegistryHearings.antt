@@ -27,8 +27,8 @@ use Rattle.protocol.specs.Checks.{acquirer_findings}
 use Rattle.protocol.specs.History.{Transition, Entry, transitions_of, newest, sends, messages_of, proposals}
 use Rattle.safety.proofs.MovesAndHistories.TransitionForms.{arrived_status, arrived_notified, settled_messages}
 use Rattle.safety.proofs.MovesAndHistories.NewestTransitions.{Made, Heard, Offered, heard_later, offered_later, made_registry, newest_id, newest_append, newest_in, one_notified}
-use Rattle.lemmas.proofs.Membership.{In, In_cases, In_flat_map}
-use Rattle.lemmas.proofs.OneValue.{clash}
+use Rattle.units.proofs.Lists.Membership.{In, In_cases, In_flat_map}
+use Rattle.units.proofs.Lists.OneValue.{clash}
 use Rattle.safety.proofs.MovesAndHistories.TableMoves.{RegistryMove, proposes, asks, arrives, bares, settles, finishes}
 use Rattle.safety.proofs.MovesAndHistories.TableRows.{word_to, initiator_from, acquirer_from}
 

@@ -25,8 +25,8 @@ use Rattle.safety.proofs.MovesAndHistories.TransitionForms.{arrived_status, sett
 use Rattle.safety.proofs.OneRegistry.TransactionEnds.{single_same, own_code, newest_own}
 use Rattle.safety.proofs.MovesAndHistories.NewestTransitions.{Made, Offered, offered_later, made_registry, newest_id, newest_append, newest_in, one_notified, one_request}
 use Rattle.safety.proofs.OneRegistry.UnitsCountedOnce.{made_single}
-use Rattle.lemmas.proofs.Membership.{In, In_cases, In_flat_map}
-use Rattle.lemmas.proofs.OneValue.{clash}
+use Rattle.units.proofs.Lists.Membership.{In, In_cases, In_flat_map}
+use Rattle.units.proofs.Lists.OneValue.{clash}
 use Rattle.safety.proofs.MovesAndHistories.TableMoves.{RegistryMove, proposes, asks, arrives, bares, settles, finishes}
 use Rattle.safety.proofs.MovesAndHistories.TableRows.{acquirer_from}
 use Rattle.safety.proofs.OneRegistry.RegistryHearings.{settled_notified, arrived_notified_status}

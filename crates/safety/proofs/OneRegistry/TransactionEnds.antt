@@ -38,15 +38,15 @@ use Rattle.protocol.specs.History.{Transition, Entry, transitions_of, newest, se
 use Rattle.protocol.specs.AtRegistry.{content_of}
 use Rattle.protocol.specs.AtLog.{is_no_registry, is_from_another}
 use Rattle.safety.proofs.MovesAndHistories.TransitionForms.{arrived_status, settled_messages, checked_status}
-use Rattle.lemmas.proofs.SomePass.{list_any_not}
+use Rattle.units.proofs.Lists.SomePass.{list_any_not}
 use Rattle.protocol.proofs.CountsInLists.{number_none, count_no, count_yes}
 use Rattle.safety.proofs.MovesAndHistories.NewestTransitions.{Made, Got, Heard, Offered, heard_later, offered_later, made_registry, made_log, newest_append, newest_id, newest_in, one_notified, one_proposal}
 use Rattle.safety.proofs.OneRegistry.UnitsCountedOnce.{made_single, Single}
-use Rattle.lemmas.proofs.Membership.{In, In_cases, In_flat_map, In_left, In_right}
-use Rattle.lemmas.proofs.OneValue.{one_some, clash}
+use Rattle.units.proofs.Lists.Membership.{In, In_cases, In_flat_map, In_left, In_right}
+use Rattle.units.proofs.Lists.OneValue.{one_some, clash}
 use Rattle.safety.proofs.ListLemmas.TestsOfSameness.{status_of_same}
 use Rattle.safety.proofs.MovesAndHistories.TableMoves.{RegistryMove, proposes, asks, arrives, bares, settles, finishes, LogMove, checks, passes, cancels, forestalls}
-use Rattle.lemmas.proofs.Positions.{In_contains}
+use Rattle.units.proofs.Lists.Positions.{In_contains}
 use Rattle.safety.proofs.MovesAndHistories.TableRows.{initiator_from, acquirer_from, log_from}
 use Rattle.safety.proofs.OneRegistry.RegistryHearings.{arrived_notified_status}
 

@@ -43,11 +43,11 @@ use Rattle.protocol.specs.Claims.{CountedOnce}
 use Rattle.protocol.specs.Verdict.{verdict, transitions_made as made_of}
 use Rattle.safety.proofs.MovesAndHistories.TransitionForms.{proposed, asking, arrived, arrived_status, settled_messages, bare, moved}
 use Rattle.protocol.proofs.CanonicalBlocks.{canonical_piece}
-use Rattle.lemmas.proofs.SomePass.{list_any_none, list_any_in}
+use Rattle.units.proofs.Lists.SomePass.{list_any_none, list_any_in}
 use Rattle.protocol.proofs.CountsInLists.{count_no, count_yes}
 use Rattle.safety.proofs.MovesAndHistories.NewestTransitions.{Made, made_registry, newest_id}
-use Rattle.lemmas.proofs.Membership.{In}
-use Rattle.lemmas.proofs.OneValue.{clash}
+use Rattle.units.proofs.Lists.Membership.{In}
+use Rattle.units.proofs.Lists.OneValue.{clash}
 use Rattle.safety.proofs.MovesAndHistories.TableMoves.{RegistryMove, proposes, asks, arrives, bares, settles, finishes}
 use Rattle.safety.proofs.MovesAndHistories.TableRows.{word_to, initiator_from, acquirer_from}
 use Rattle.protocol.proofs.UnitsOfBlocks.{piece_of}

@@ -25,9 +25,9 @@ use Rattle.protocol.specs.History.{Transition, Entry, newest, stands_at, is_stat
 use Rattle.protocol.specs.Table.{due, is_due, proposed}
 use Rattle.protocol.specs.World.{opening, run}
 use Rattle.protocol.specs.declared.event.WorldEvent.{WorldEvent}
-use Rattle.lemmas.proofs.Membership.{In, In_filter, filter_In, In_map, map_In}
-use Rattle.lemmas.proofs.NoRepeats.{NoRepeat, same_length}
-use Rattle.lemmas.proofs.OneValue.{one_some}
+use Rattle.units.proofs.Lists.Membership.{In, In_filter, filter_In, In_map, map_In}
+use Rattle.units.proofs.Lists.NoRepeats.{NoRepeat, same_length}
+use Rattle.units.proofs.Lists.OneValue.{one_some}
 use Rattle.protocol.proofs.CountsInLists.{number_append, picked, length_picked, In_picked, picked_In}
 use Rattle.safety.proofs.AgreementOfNodes.CompletionsAgree.{done_status, given, is_given, stood, completed_once}
 use Rattle.safety.proofs.MovesAndHistories.NewestTransitions.{Made, newest_id}

@@ -21,13 +21,13 @@ use Rattle.protocol.specs.Claims.{HolderOwns}
 use Rattle.protocol.specs.History.{Transition, Entry, transitions_of, newest, has_serial, carries, gives, credits, at_start, holds, book_owner}
 use Rattle.safety.proofs.AgreementOfNodes.CausalHistories.{Causal, heard_sent}
 use Rattle.safety.proofs.AgreementOfNodes.CompletionsAgree.{done_status, given, credited, is_given, completed_once, log_has, initiator_has, log_completed}
-use Rattle.lemmas.proofs.NoRepeats.{no_longer}
+use Rattle.units.proofs.Lists.NoRepeats.{no_longer}
 use Rattle.protocol.proofs.CountsInLists.{picked, length_picked, In_picked, picked_In}
 use Rattle.safety.proofs.OneRegistry.TransactionEnds.{ends_last, completed_sent, known, proposer}
 use Rattle.safety.proofs.MovesAndHistories.NewestTransitions.{newest_id}
 use Rattle.safety.proofs.OneLog.OwnersInLog.{in_book, brings, brings_to, owner_is, log_ends_last, log_picked_once}
-use Rattle.lemmas.proofs.Membership.{In}
-use Rattle.lemmas.proofs.OneValue.{one_some}
+use Rattle.units.proofs.Lists.Membership.{In}
+use Rattle.units.proofs.Lists.OneValue.{one_some}
 
 module _ (scheme : Scheme) (f : Node → List Entry) (causal : Causal scheme f) where
   module _ (s : Serial) (c : Code) where

@@ -31,16 +31,16 @@ use Rattle.safety.proofs.OneLog.LogHearings.{IsAgreed}
 use Rattle.safety.proofs.AgreementOfNodes.CausalHistories.{Causal, LogAgrees, completed_agrees, ended}
 use Rattle.safety.proofs.WorldLemmas.CommittingEvents.{step_commits}
 use Rattle.safety.proofs.AgreementOfNodes.CompletionsAgree.{done_status, given, is_credited, stood, stands_so, completed_once, transfer, initiator_has, initiator_completed}
-use Rattle.lemmas.proofs.NoRepeats.{NoRepeat, no_repeat_apart}
-use Rattle.lemmas.proofs.SomePass.{list_any_some}
+use Rattle.units.proofs.Lists.NoRepeats.{NoRepeat, no_repeat_apart}
+use Rattle.units.proofs.Lists.SomePass.{list_any_some}
 use Rattle.protocol.proofs.CountsInLists.{number_none, number_append, number_one, picked, picked_In, picked_append}
 use Rattle.safety.proofs.OneRegistry.TransactionEnds.{ends_last, own_contents, proposer}
 use Rattle.protocol.proofs.Histories.{history_from_append}
 use Rattle.safety.proofs.MovesAndHistories.LongerHistories.{transitions_from}
 use Rattle.safety.proofs.MovesAndHistories.NewestTransitions.{Offered, newest_id, newest_append, newest_stands}
 use Rattle.safety.proofs.OneRegistry.UnitsCountedOnce.{Waits, local_history}
-use Rattle.lemmas.proofs.Membership.{In, In_left, In_right}
-use Rattle.lemmas.proofs.OneValue.{one_some, clash}
+use Rattle.units.proofs.Lists.Membership.{In, In_left, In_right}
+use Rattle.units.proofs.Lists.OneValue.{one_some, clash}
 use Rattle.safety.proofs.ListLemmas.TestsOfSameness.{status_of_same, codes_differ, other_code}
 use Rattle.safety.proofs.OwnersOfUnits.UnitsWithOneOwner.{held_or_owed, one_owner}
 use Rattle.safety.proofs.OneRegistry.InitiatorStatuses.{IsOwnStatus, own_statuses}

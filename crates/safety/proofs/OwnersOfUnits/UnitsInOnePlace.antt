@@ -23,13 +23,13 @@ use Rattle.protocol.specs.History.{Transition, Entry, transitions_of, newest, st
 use Rattle.protocol.specs.Registries.{allotted, has_member}
 use Rattle.safety.proofs.AgreementOfNodes.CausalHistories.{Causal}
 use Rattle.safety.proofs.AgreementOfNodes.CompletionsAgree.{done_status, given, credited, is_given, is_credited, stood, completed_once, transfer, initiator_completed}
-use Rattle.lemmas.proofs.NoRepeats.{NoRepeat, same_length}
+use Rattle.units.proofs.Lists.NoRepeats.{NoRepeat, same_length}
 use Rattle.protocol.proofs.CountsInLists.{number_two, picked, length_picked, In_picked, picked_In, number_parts}
 use Rattle.safety.proofs.OneRegistry.TransactionEnds.{ends_last, own_contents}
 use Rattle.safety.proofs.MovesAndHistories.NewestTransitions.{newest_id}
 use Rattle.safety.proofs.OneRegistry.UnitsCountedOnce.{local_history}
-use Rattle.lemmas.proofs.Membership.{In, In_flat_map}
-use Rattle.lemmas.proofs.OneValue.{one_some}
+use Rattle.units.proofs.Lists.Membership.{In, In_flat_map}
+use Rattle.units.proofs.Lists.OneValue.{one_some}
 use Rattle.safety.proofs.ListLemmas.TestsOfSameness.{codes_differ, other_code}
 use Rattle.safety.proofs.WorldLemmas.NodesWithStation.{Unplaced}
 use Rattle.safety.proofs.OwnersOfUnits.SumsOverRegistries.{over_parts, over_same, over_balance, over_start, start_member, one_above, one_or_none, some_member, codes_rise, In_flat, length_flat, no_repeat_flat}

@@ -27,7 +27,7 @@ use Rattle.safety.proofs.AgreementOfNodes.CompletionsAgree.{given, is_given, sta
 use Rattle.protocol.proofs.CountsInLists.{number_one, number_some, number_two}
 use Rattle.safety.proofs.OneRegistry.TransactionEnds.{ends_last, proposer}
 use Rattle.safety.proofs.MovesAndHistories.NewestTransitions.{newest_id}
-use Rattle.lemmas.proofs.Membership.{In}
+use Rattle.units.proofs.Lists.Membership.{In}
 use Rattle.safety.proofs.ListLemmas.TestsOfSameness.{codes_differ}
 use Rattle.safety.proofs.OwnersOfUnits.UnitsInOnePlace.{causal_one_place}
 use Rattle.safety.proofs.OwnersOfUnits.SumsOverRegistries.{one_or_none, over_least, over_some, over_two, some_member, is_member}

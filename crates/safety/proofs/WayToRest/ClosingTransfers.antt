@@ -41,8 +41,8 @@ use Rattle.safety.proofs.AgreementOfNodes.CausalHistories.{Causal, completed_agr
 use Rattle.safety.proofs.AgreementOfNodes.CompletionsAgree.{stands_so, log_has, initiator_has, offered_sent}
 use Rattle.safety.proofs.OneRegistry.TransactionEnds.{completed_sent, ends_last, known, own_contents, proposer, proposer_of}
 use Rattle.safety.proofs.MovesAndHistories.NewestTransitions.{newest_id, newest_stands, Offered, Heard}
-use Rattle.lemmas.proofs.Membership.{In}
-use Rattle.lemmas.proofs.OneValue.{one_some}
+use Rattle.units.proofs.Lists.Membership.{In}
+use Rattle.units.proofs.Lists.OneValue.{one_some}
 use Rattle.safety.proofs.OneLog.LogHearings.{IsAgreed, log_backed}
 use Rattle.safety.proofs.WayToRest.SendingMessages.{Calm, Went, send}
 use Rattle.safety.proofs.WayToRest.SentByTransitions.{SaysAtLog, Tells, transition_sends}

@@ -25,7 +25,7 @@ use Rattle.protocol.specs.World.{World, run, station}
 use Rattle.protocol.specs.declared.event.WorldEvent.{WorldEvent}
 use Rattle.protocol.specs.declared.event.WorldEvent.TheVariants.{Commit, Deliver, Post}
 use Rattle.protocol.proofs.Histories.{history_from_append}
-use Rattle.lemmas.proofs.Membership.{In}
+use Rattle.units.proofs.Lists.Membership.{In}
 use Rattle.safety.proofs.WorldLemmas.QuietWorlds.{Grown, Quiet, delivers, quiet_after}
 use Rattle.safety.proofs.WorldLemmas.SchemesKept.{run_scheme}
 

@@ -25,8 +25,8 @@ use Rattle.safety.proofs.MovesAndHistories.TransitionForms.{arrived, arrived_sta
 use Rattle.safety.proofs.OneRegistry.TransactionEnds.{each_move, own_code, own_about}
 use Rattle.safety.proofs.MovesAndHistories.NewestTransitions.{Made, made_registry, made_log, newest_id}
 use Rattle.safety.proofs.OneRegistry.UnitsCountedOnce.{initiator_new}
-use Rattle.lemmas.proofs.Membership.{In, In_cases, In_left, In_right}
-use Rattle.lemmas.proofs.OneValue.{clash, one_some}
+use Rattle.units.proofs.Lists.Membership.{In, In_cases, In_left, In_right}
+use Rattle.units.proofs.Lists.OneValue.{clash, one_some}
 use Rattle.safety.proofs.MovesAndHistories.TableMoves.{RegistryMove, proposes, asks, arrives, bares, settles, finishes, LogMove, checks, passes, cancels, forestalls}
 use Rattle.safety.proofs.MovesAndHistories.TableRows.{log_from, acquirer_from}
 

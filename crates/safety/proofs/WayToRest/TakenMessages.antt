@@ -42,7 +42,7 @@ use Rattle.wire.specs.Parties.{receiver, sender}
 use Rattle.protocol.specs.World.{World}
 use Rattle.safety.proofs.MovesAndHistories.TransitionForms.{arrived, settled_messages, checked, told_to, moved}
 use Rattle.safety.proofs.AgreementOfNodes.CausalHistories.{Causal}
-use Rattle.lemmas.proofs.Membership.{In}
+use Rattle.units.proofs.Lists.Membership.{In}
 use Rattle.safety.proofs.WorldLemmas.NodesWithStation.{committed_unplaced}
 use Rattle.safety.proofs.MovesAndHistories.RefusalCauses.{Welcome}
 use Rattle.safety.proofs.WayToRest.SendingMessages.{Calm}

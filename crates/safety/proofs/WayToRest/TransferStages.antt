@@ -34,8 +34,8 @@ use Rattle.safety.proofs.AgreementOfNodes.CausalHistories.{Causal}
 use Rattle.safety.proofs.AgreementOfNodes.CompletionsAgree.{offered_sent, log_has, initiator_has}
 use Rattle.safety.proofs.OneRegistry.TransactionEnds.{offered, proposer, known, proposer_of}
 use Rattle.safety.proofs.MovesAndHistories.NewestTransitions.{newest_id, newest_stands}
-use Rattle.lemmas.proofs.Membership.{In}
-use Rattle.lemmas.proofs.OneValue.{one_some}
+use Rattle.units.proofs.Lists.Membership.{In}
+use Rattle.units.proofs.Lists.OneValue.{one_some}
 use Rattle.safety.proofs.WayToRest.SendingMessages.{Calm, Went}
 use Rattle.safety.proofs.WayToRest.SentByTransitions.{SaysAtLog, SaysOther, SaysOwn, log_has_said, other_said, own_said, transition_sends, own_offered, cancelled_said}
 use Rattle.safety.proofs.WorldLemmas.StationsAfterPut.{other_way}

@@ -2,7 +2,7 @@
 -- (`WakingNodes`). Then the open transfers are closed one after another (`ClosingTransfers`), each with at most
 -- three records at a node and with no change to the others. At the end no transfer is open, so no unit is reserved
 -- or owed, and the owner of each unit is a registry that can spend it.
-use Rattle.lemmas.proofs.Positions.{In_contains}
+use Rattle.units.proofs.Lists.Positions.{In_contains}
 use Rattle.safety.proofs.OneRegistry.RegistryHearings.{IsTaken, accepted_sent}
 use Rattle.safety.proofs.OneLog.LogHearings.{log_backed}
 use Rattle.safety.proofs.OneRegistry.TransactionEnds.{proposer_of}
@@ -32,9 +32,9 @@ use Rattle.protocol.specs.WayOut.{AtRest, IsOpen, WayOut}
 use Rattle.protocol.specs.World.{World, run, station}
 use Rattle.safety.proofs.WayToRest.ClosingTransfers.{close_one}
 use Rattle.safety.proofs.AgreementOfNodes.CompletionsAgree.{stood, initiator_has}
-use Rattle.lemmas.proofs.SomePass.{list_any_some}
-use Rattle.lemmas.proofs.Membership.{In}
-use Rattle.lemmas.proofs.OneValue.{one_some}
+use Rattle.units.proofs.Lists.SomePass.{list_any_some}
+use Rattle.units.proofs.Lists.Membership.{In}
+use Rattle.units.proofs.Lists.OneValue.{one_some}
 use Rattle.safety.proofs.OwnersOfUnits.UnitsWithOneOwner.{causal_one_owner}
 use Rattle.safety.proofs.WorldLemmas.NodesWithStation.{AllPlaced}
 use Rattle.safety.proofs.WorldLemmas.QuietWorlds.{Quiet, there}

@@ -16,8 +16,8 @@ use Rattle.protocol.specs.World.{World, Station, Turn, station, journal, put, re
 use Rattle.protocol.specs.declared.event.Outcome.TheVariants.{Done, NotPossible}
 use Rattle.protocol.specs.declared.event.WorldEvent.{WorldEvent}
 use Rattle.protocol.specs.declared.event.WorldEvent.TheVariants.{Take, Commit, Post, Deliver, Crash, Restart}
-use Rattle.lemmas.proofs.Membership.{In, In_find, map_In}
-use Rattle.lemmas.proofs.OneValue.{one_some}
+use Rattle.units.proofs.Lists.Membership.{In, In_find, map_In}
+use Rattle.units.proofs.Lists.OneValue.{one_some}
 use Rattle.safety.proofs.WorldLemmas.NodesWithStation.{AllPlaced, run_placed}
 use Rattle.safety.proofs.WorldLemmas.QuietWorlds.{Quiet, run_append}
 use Rattle.safety.proofs.WorldLemmas.SchemesKept.{run_scheme}

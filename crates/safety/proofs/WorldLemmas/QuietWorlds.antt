@@ -27,10 +27,10 @@ use Rattle.protocol.specs.declared.event.Outcome.TheVariants.{NotPossible}
 use Rattle.protocol.specs.declared.event.Posted.{Posted}
 use Rattle.protocol.specs.declared.event.WorldEvent.{WorldEvent}
 use Rattle.protocol.specs.declared.event.WorldEvent.TheVariants.{Take, Commit, Post, Deliver}
-use Rattle.lemmas.proofs.Membership.{In, In_find, In_map}
-use Rattle.lemmas.proofs.OneValue.{one_some}
+use Rattle.units.proofs.Lists.Membership.{In, In_find, In_map}
+use Rattle.units.proofs.Lists.OneValue.{one_some}
 use Rattle.safety.proofs.WorldLemmas.NodesWithStation.{AllPlaced, run_placed, opening_placed, some_there}
-use Rattle.lemmas.proofs.Positions.{place_of, last_at}
+use Rattle.units.proofs.Lists.Positions.{place_of, last_at}
 use Rattle.safety.proofs.WorldLemmas.SoundWorlds.{Sound, run_sound, opening_sound}
 use Rattle.safety.proofs.WorldLemmas.StationsAfterPut.{found_at_node, at_put, at_elsewhere}
 

@@ -30,8 +30,8 @@ use Rattle.protocol.specs.declared.event.WorldEvent.TheVariants.{Take, Commit, P
 use Rattle.safety.proofs.AgreementOfNodes.CausalHistories.{Causal}
 use Rattle.safety.proofs.MovesAndHistories.LongerHistories.{made_history, sends_append, got_append, got_more}
 use Rattle.safety.proofs.MovesAndHistories.NewestTransitions.{Got}
-use Rattle.lemmas.proofs.Membership.{In, In_cases, In_slice_get}
-use Rattle.lemmas.proofs.Positions.{left_empty}
+use Rattle.units.proofs.Lists.Membership.{In, In_cases, In_slice_get}
+use Rattle.units.proofs.Lists.Positions.{left_empty}
 use Rattle.safety.proofs.MovesAndHistories.MessageSenders.{sender_sends}
 use Rattle.safety.proofs.WorldLemmas.StationsAfterPut.{at, found_at_node, at_put, at_elsewhere}
 

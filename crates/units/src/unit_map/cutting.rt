@@ -28,7 +28,8 @@ pub(super) enum Step<M> {
 
 /// Writes over an interval that is there, which takes no memory.
 pub(super) fn overwrite<M: Copy>(spans: &mut BTreeMap<Unit, Span<M>>, at: Unit, span: Span<M>)
-    ensures puts { IsSome (tree.get unit_cmp spans.old at) → Puts at (Some span) (tree.get unit_cmp spans.old) (tree.get unit_cmp spans.new) }
+    ensures puts { IsSome (tree.get unit_cmp spans.old at)
+        → Puts at (Some span) (tree.get unit_cmp spans.old) (tree.get unit_cmp spans.new) }
     ensures ordered { IsOrdered unit_cmp spans.new }
 {
     if let Some(held) = spans.get_mut(&at) {
@@ -47,7 +48,8 @@ fn cut<M: Copy>(
     requires within { has (interval_at at span) unit ≡ true }
     requires absent { tree.get unit_cmp spans.old unit ≡ None }
     requires parted { AreParted (tree.get unit_cmp spans.old) }
-    ensures begun { (given : Option M) → OnOk result (IsBegun unit given (tree.get unit_cmp spans.old) (tree.get unit_cmp spans.new)) }
+    ensures begun { (given : Option M)
+        → OnOk result (IsBegun unit given (tree.get unit_cmp spans.old) (tree.get unit_cmp spans.new)) }
     ensures undo { IfOk result (λ step. Restores step (tree.get unit_cmp spans.old) (tree.get unit_cmp spans.new)) }
     ensures ordered { IsOrdered unit_cmp spans.new }
     ensures err { OnErr result (IsUnchanged spans.old spans.new) }
@@ -67,11 +69,13 @@ fn put<M: Copy>(
     unit: Unit,
     label: M,
 ) -> Result<Step<M>, AllocError>
-    requires none { (at : Serial) (span : Span M) → tree.get unit_cmp spans.old at ≡ Some span → has (interval_at at span) unit ≡ false }
+    requires none { (at : Serial) (span : Span M) → tree.get unit_cmp spans.old at ≡ Some span
+        → has (interval_at at span) unit ≡ false }
     requires absent { tree.get unit_cmp spans.old unit ≡ None }
     requires parted { AreParted (tree.get unit_cmp spans.old) }
     requires range { IsRange unit.number unit.number }
-    ensures begun { OnOk result (IsBegun unit (Some label) (tree.get unit_cmp spans.old) (tree.get unit_cmp spans.new)) }
+    ensures begun { OnOk result
+        (IsBegun unit (Some label) (tree.get unit_cmp spans.old) (tree.get unit_cmp spans.new)) }
     ensures undo { IfOk result (λ step. Restores step (tree.get unit_cmp spans.old) (tree.get unit_cmp spans.new)) }
     ensures ordered { IsOrdered unit_cmp spans.new }
     ensures err { OnErr result (IsUnchanged spans.old spans.new) }
@@ -116,7 +120,8 @@ pub(super) fn begin<M: Copy>(
 /// Takes the step back. Takes no memory.
 pub(super) fn undo<M: Copy>(spans: &mut BTreeMap<Unit, Span<M>>, step: Step<M>)
     requires { IsOrdered unit_cmp spans.old }
-    ensures restored { (before : Serial → Option (Span M)) → Restores step before (tree.get unit_cmp spans.old) → (q : Serial) → tree.get unit_cmp spans.new q ≡ before q }
+    ensures restored { (before : Serial → Option (Span M)) → Restores step before (tree.get unit_cmp spans.old)
+        → (q : Serial) → tree.get unit_cmp spans.new q ≡ before q }
     ensures ordered { IsOrdered unit_cmp spans.new }
 {
     match step {

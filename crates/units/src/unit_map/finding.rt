@@ -17,7 +17,8 @@ use std::collections::BTreeMap;
 /// The interval that begins last, of those that begin at the unit or before it.
 pub(super) fn floor<M: Copy>(spans: &BTreeMap<Unit, Span<M>>, unit: Unit) -> Option<(Unit, Span<M>)>
     ensures found { IfSome result (λ e. (tree.get unit_cmp spans.now e.0 ≡ Some e.1) × IsLeBy unit_cmp e.0 unit) }
-    ensures last { IfSome result (λ e. (q : Serial) → IsLeBy unit_cmp q unit → IsSome (tree.get unit_cmp spans.now q) → is_lt (unit_cmp e.0 q) ≡ false) }
+    ensures last { IfSome result (λ e. (q : Serial) → IsLeBy unit_cmp q unit → IsSome (tree.get unit_cmp spans.now q)
+        → is_lt (unit_cmp e.0 q) ≡ false) }
     ensures none { IfNone result ((q : Serial) → IsLeBy unit_cmp q unit → tree.get unit_cmp spans.now q ≡ None) }
 {
     let (at, span) = spans.range(..=unit).next_back()?;
@@ -27,7 +28,8 @@ pub(super) fn floor<M: Copy>(spans: &BTreeMap<Unit, Span<M>>, unit: Unit) -> Opt
 /// The interval that begins first, of those that begin at the unit or after it.
 pub(super) fn next<M: Copy>(spans: &BTreeMap<Unit, Span<M>>, unit: Unit) -> Option<(Unit, Span<M>)>
     ensures found { IfSome result (λ e. (tree.get unit_cmp spans.now e.0 ≡ Some e.1) × IsLeBy unit_cmp unit e.0) }
-    ensures first { IfSome result (λ e. (q : Serial) → IsLeBy unit_cmp unit q → IsSome (tree.get unit_cmp spans.now q) → IsLeBy unit_cmp e.0 q) }
+    ensures first { IfSome result (λ e. (q : Serial) → IsLeBy unit_cmp unit q → IsSome (tree.get unit_cmp spans.now q)
+        → IsLeBy unit_cmp e.0 q) }
     ensures none { IfNone result ((q : Serial) → IsLeBy unit_cmp unit q → tree.get unit_cmp spans.now q ≡ None) }
 {
     let (at, span) = spans.range(unit..).next()?;
@@ -41,7 +43,8 @@ pub(super) fn interval_with<M: Copy>(
 ) -> Option<Interval<M>>
     requires parted { AreParted (tree.get unit_cmp spans.now) }
     requires ordered { IsOrdered unit_cmp spans.now }
-    ensures some { IfSome result (λ i. (has i unit.now ≡ true) × ((u : Serial) → has i u ≡ true → labels_in spans.now u ≡ Some i.label)) }
+    ensures some { IfSome result (λ i. (has i unit.now ≡ true)
+        × ((u : Serial) → has i u ≡ true → labels_in spans.now u ≡ Some i.label)) }
     ensures none { IfNone result (labels_in spans.now unit.now ≡ None) }
 {
     let (at, span) = floor(spans, *unit)?;

@@ -22,8 +22,10 @@ fn join<M: Label>(spans: &mut BTreeMap<Unit, Span<M>>, unit: Unit)
     requires ordered { IsOrdered unit_cmp spans.old }
     requires first { 1 ≤ unit.number }
     ensures parted { AreParted (tree.get unit_cmp spans.new) }
-    ensures means { (labels : Serial → Option M) → Mean (tree.get unit_cmp spans.old) labels → Mean (tree.get unit_cmp spans.new) labels }
-    ensures seams { (q : Serial) → IsSeam (tree.get unit_cmp spans.new) q → IsSeam (tree.get unit_cmp spans.old) q × (unit ≡ q → ⊥) }
+    ensures means { (labels : Serial → Option M) → Mean (tree.get unit_cmp spans.old) labels
+        → Mean (tree.get unit_cmp spans.new) labels }
+    ensures seams { (q : Serial) → IsSeam (tree.get unit_cmp spans.new) q → IsSeam (tree.get unit_cmp spans.old) q
+        × (unit ≡ q → ⊥) }
     ensures keys { (q : Serial) → IsSome (tree.get unit_cmp spans.new q) → IsSome (tree.get unit_cmp spans.old q) }
     ensures ordered { IsOrdered unit_cmp spans.new }
 {
@@ -52,8 +54,10 @@ fn join_between<M: Label>(spans: &mut BTreeMap<Unit, Span<M>>, from: Unit, to: U
     requires ordered { IsOrdered unit_cmp spans.old }
     requires start { from.number ≤ last_unit + 1 }
     ensures parted { AreParted (tree.get unit_cmp spans.new) }
-    ensures means { (labels : Serial → Option M) → Mean (tree.get unit_cmp spans.old) labels → Mean (tree.get unit_cmp spans.new) labels }
-    ensures seams { (q : Serial) → IsSeam (tree.get unit_cmp spans.new) q → IsSeam (tree.get unit_cmp spans.old) q × (is_between from to q ≡ false) }
+    ensures means { (labels : Serial → Option M) → Mean (tree.get unit_cmp spans.old) labels
+        → Mean (tree.get unit_cmp spans.new) labels }
+    ensures seams { (q : Serial) → IsSeam (tree.get unit_cmp spans.new) q → IsSeam (tree.get unit_cmp spans.old) q
+        × (is_between from to q ≡ false) }
     ensures ordered { IsOrdered unit_cmp spans.new }
 {
     let mut cursor = from;

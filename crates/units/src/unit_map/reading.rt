@@ -22,8 +22,12 @@ pub(super) fn all_pass<M: Copy, F: Fn(M) -> bool>(
     requires callable { F.IsAlwaysCallable test }
     requires parted { AreParted (tree.get unit_cmp spans.now) }
     requires ordered { IsOrdered unit_cmp spans.now }
-    ensures all { (passes : M → Bool) → ((m : M) (r : Bool) → F.post test m r → r ≡ passes m) → OnTrue result ((u : Serial) → IsTrue (has_unit block.now.raw u) → option_map passes (labels_in spans.now u) ≡ Some true) }
-    ensures some { (passes : M → Bool) → ((m : M) (r : Bool) → F.post test m r → r ≡ passes m) → OnFalse result ((u : Serial) × IsTrue (has_unit block.now.raw u) × (option_map passes (labels_in spans.now u) ≢ Some true)) }
+    ensures all { (passes : M → Bool) → ((m : M) (r : Bool) → F.post test m r → r ≡ passes m)
+        → OnTrue result ((u : Serial) → IsTrue (has_unit block.now.raw u)
+        → option_map passes (labels_in spans.now u) ≡ Some true) }
+    ensures some { (passes : M → Bool) → ((m : M) (r : Bool) → F.post test m r → r ≡ passes m)
+        → OnFalse result ((u : Serial) × IsTrue (has_unit block.now.raw u)
+        × (option_map passes (labels_in spans.now u) ≢ Some true)) }
 {
     let mut number = block.raw.first;
     loop {
@@ -51,8 +55,12 @@ pub(super) fn some_passes<M: Copy, F: Fn(M) -> bool>(
     requires callable { F.IsAlwaysCallable test }
     requires parted { AreParted (tree.get unit_cmp spans.now) }
     requires ordered { IsOrdered unit_cmp spans.now }
-    ensures some { (passes : M → Bool) → ((m : M) (r : Bool) → F.post test m r → r ≡ passes m) → OnTrue result ((u : Serial) × IsTrue (has_unit block.now.raw u) × (option_map passes (labels_in spans.now u) ≡ Some true)) }
-    ensures none { (passes : M → Bool) → ((m : M) (r : Bool) → F.post test m r → r ≡ passes m) → OnFalse result ((u : Serial) → IsTrue (has_unit block.now.raw u) → option_map passes (labels_in spans.now u) ≢ Some true) }
+    ensures some { (passes : M → Bool) → ((m : M) (r : Bool) → F.post test m r → r ≡ passes m)
+        → OnTrue result ((u : Serial) × IsTrue (has_unit block.now.raw u)
+        × (option_map passes (labels_in spans.now u) ≡ Some true)) }
+    ensures none { (passes : M → Bool) → ((m : M) (r : Bool) → F.post test m r → r ≡ passes m)
+        → OnFalse result ((u : Serial) → IsTrue (has_unit block.now.raw u)
+        → option_map passes (labels_in spans.now u) ≢ Some true) }
 {
     let mut number = block.raw.last;
     loop {

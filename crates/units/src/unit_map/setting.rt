@@ -60,7 +60,8 @@ fn fill<M: Copy>(spans: &mut BTreeMap<Unit, Span<M>>, block: &Block, label: Opti
     requires parted { AreParted (tree.get unit_cmp spans.old) }
     requires ordered { IsOrdered unit_cmp spans.old }
     requires key { IsSome label → IsSome (tree.get unit_cmp spans.old (first_unit block.now.raw)) }
-    ensures filled { (q : Serial) → tree.get unit_cmp spans.new q ≡ filled block.now.raw label (tree.get unit_cmp spans.old) q }
+    ensures filled { (q : Serial)
+        → tree.get unit_cmp spans.new q ≡ filled block.now.raw label (tree.get unit_cmp spans.old) q }
     ensures ordered { IsOrdered unit_cmp spans.new }
 {
     let first = block.unit(block.raw.first);
@@ -81,7 +82,9 @@ fn fill<M: Copy>(spans: &mut BTreeMap<Unit, Span<M>>, block: &Block, label: Opti
 /// Takes back what was prepared, the newest first. Takes no memory.
 fn undo_all<M: Copy>(spans: &mut BTreeMap<Unit, Span<M>>, mut prepared: VecDeque<Prepared<M>>)
     requires { IsOrdered unit_cmp spans.old }
-    ensures restored { (before : Serial → Option (Span M)) → ArePrepared prepared.items before (tree.get unit_cmp spans.old) → (q : Serial) → tree.get unit_cmp spans.new q ≡ before q }
+    ensures restored { (before : Serial → Option (Span M))
+        → ArePrepared prepared.items before (tree.get unit_cmp spans.old) → (q : Serial)
+        → tree.get unit_cmp spans.new q ≡ before q }
     ensures ordered { IsOrdered unit_cmp spans.new }
 {
     while let Some(newest) = prepared.pop_front() {
@@ -100,7 +103,8 @@ fn prepare_all<M: Copy, F: Fn(Block) -> Option<M>>(
     requires callable { F.IsAlwaysCallable label.now }
     requires parted { AreParted (tree.get unit_cmp spans.old) }
     requires ordered { IsOrdered unit_cmp spans.old }
-    ensures prepared { IfOk result (λ ps. ArePrepared ps.items (tree.get unit_cmp spans.old) (tree.get unit_cmp spans.new)) }
+    ensures prepared { IfOk result
+        (λ ps. ArePrepared ps.items (tree.get unit_cmp spans.old) (tree.get unit_cmp spans.new)) }
     ensures same_blocks { IfOk result (λ ps. reverse (map (λ p. p.block) ps.items) ≡ blocks.now) }
     ensures labels { IfOk result (λ ps. AllByRecursion (λ p. F.post label.now p.block p.label) ps.items) }
     ensures parted { AreParted (tree.get unit_cmp spans.new) }
@@ -133,7 +137,9 @@ pub(super) fn set_each<M: Copy, F: Fn(Block) -> Option<M>>(
     requires parted { AreParted (tree.get unit_cmp spans.old) }
     requires ordered { IsOrdered unit_cmp spans.old }
     ensures set { OnOk result (AreSetIn blocks.now (tree.get unit_cmp spans.old) (tree.get unit_cmp spans.new)) }
-    ensures means { (given : Block → Option M) → ((b : Block) (r : Option M) → F.post label.now b r → r ≡ given b) → OnOk result ((labels : Serial → Option M) → Mean (tree.get unit_cmp spans.old) labels → Mean (tree.get unit_cmp spans.new) (set_to given blocks.now labels)) }
+    ensures means { (given : Block → Option M) → ((b : Block) (r : Option M) → F.post label.now b r → r ≡ given b)
+        → OnOk result ((labels : Serial → Option M) → Mean (tree.get unit_cmp spans.old) labels
+        → Mean (tree.get unit_cmp spans.new) (set_to given blocks.now labels)) }
     ensures ordered { IsOrdered unit_cmp spans.new }
     ensures err { OnErr result (IsUnchanged spans.old spans.new) }
 {

@@ -40,8 +40,10 @@ pub(super) fn change_between<M: Copy, F: Fn(M) -> Option<M>>(
     requires parted { AreParted (tree.get unit_cmp spans.old) }
     requires ordered { IsOrdered unit_cmp spans.old }
     requires start { from.number ≤ last_unit + 1 }
-    ensures inside { (q : Serial) → is_between from to q ≡ true → IsChanged (F.post change.now) (tree.get unit_cmp spans.old q) (tree.get unit_cmp spans.new q) }
-    ensures outside { (q : Serial) → is_between from to q ≡ false → tree.get unit_cmp spans.new q ≡ tree.get unit_cmp spans.old q }
+    ensures inside { (q : Serial) → is_between from to q ≡ true
+        → IsChanged (F.post change.now) (tree.get unit_cmp spans.old q) (tree.get unit_cmp spans.new q) }
+    ensures outside { (q : Serial) → is_between from to q ≡ false
+        → tree.get unit_cmp spans.new q ≡ tree.get unit_cmp spans.old q }
     ensures parted { AreParted (tree.get unit_cmp spans.new) }
     ensures ordered { IsOrdered unit_cmp spans.new }
 {

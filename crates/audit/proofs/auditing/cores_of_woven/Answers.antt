@@ -1,7 +1,7 @@
 use Rattle.std.proofs.Common.{◌≡◌, ◌∙◌, ap, subst}
 use Rattle.std.specs.Prelude.{All, IfOk}
 use Rattle.protocol.specs.Registries.{nodes}
-use Rattle.scheme.specs.declared.registries.Scheme.{Scheme}
+use Rattle.protocol.specs.Scheme.{Scheme}
 use Rattle.world.specs.Cores.{scheme_of}
 use Rattle.weave.specs.Following.{IsWoven, journal_of}
 use Rattle.audit.proofs.WovenCores.{journals_woven, scheme_woven}

@@ -1,7 +1,7 @@
 use Rattle.std.proofs.Common.{◌≡◌, ◌∙◌, List, sym, ap, subst, length, map}
-use Rattle.wire.specs.declared.input.Input.{Input}
+use Rattle.protocol.specs.Input.{Input}
 use Rattle.protocol.specs.Registries.{nodes}
-use Rattle.desk.specs.Keeping.{Keeping}
+use Rattle.desk.specs.Keeping.{StoredView}
 use Rattle.world.specs.Cores.{journal_of}
 use Rattle.audit.specs.Audits.{HasRun}
 use Rattle.audit.specs.Stores.{AreLoaded, AreUnwritten, FailsToLoad}
@@ -15,7 +15,7 @@ returns-in-Err-clause-err g c =
     let left = c.load_cores.new.stores in
     let value = c.as_mut_slice.ensures.value in (
       left,
-      load_fault s scheme c.args.stores.items left c.in-Err.fault (subst (λ (olds : List g.row.S.Denot). FailsToLoad s.is_honest s.content s.may_hold s.must_reopen scheme (nodes scheme) olds left c.in-Err.fault) value c.in-Err.ensures.err),
+      load_fault s scheme c.args.stores.items left c.in-Err.fault (subst (λ (olds : List g.row.S.Denot). FailsToLoad s scheme (nodes scheme) olds left c.in-Err.fault) value c.in-Err.ensures.err),
       subst (λ (olds : List g.row.S.Denot). AreUnwritten s olds left) value c.in-Err.ensures.unwritten,
     )
 
@@ -27,7 +27,7 @@ returns-in-Err-find_run-clause-err g c =
     let value = c.as_mut_slice.ensures.value in
     let journals = map journal_of c.in-Ok.cores.items in (
       left,
-      run_fault s scheme c.args.stores.items left journals (subst (λ (olds : List g.row.S.Denot). AreLoaded s.is_honest s.content s.may_hold s.must_reopen scheme (nodes scheme) olds left journals) value c.in-Ok.ensures.ok) c.in-Err-find_run.fault c.in-Err-find_run.ensures.err,
+      run_fault s scheme c.args.stores.items left journals (subst (λ (olds : List g.row.S.Denot). AreLoaded s scheme (nodes scheme) olds left journals) value c.in-Ok.ensures.ok) c.in-Err-find_run.fault c.in-Err-find_run.ensures.err,
       subst (λ (olds : List g.row.S.Denot). AreUnwritten s olds left) value c.in-Ok.ensures.unwritten,
     )
 
@@ -41,7 +41,7 @@ pair_up-requires-clause-kept g c =
     let same : length left ≡ length c.args.stores.items = c.load_cores.auto.stores ∙ ap (λ (l : List g.row.S.Denot). length l) value in
     rw (written_back c.args.stores.len left c.args.stores.items same (sym c.args.stores.ok.0))
     (paired s scheme c.args.stores.items left c.in-Ok.cores.items c.in-Ok-find_run.cores.items
-    (subst (λ (olds : List g.row.S.Denot). AreLoaded s.is_honest s.content s.may_hold s.must_reopen scheme (nodes scheme) olds left journals) value c.in-Ok.ensures.ok)
+    (subst (λ (olds : List g.row.S.Denot). AreLoaded s scheme (nodes scheme) olds left journals) value c.in-Ok.ensures.ok)
     (subst (λ (olds : List g.row.S.Denot). AreUnwritten s olds left) value c.in-Ok.ensures.unwritten)
     c.in-Ok-find_run.ensures.nodes c.in-Ok-find_run.ensures.schemes c.in-Ok-find_run.ensures.journals c.requires.whose c.requires.own same)
 
@@ -65,9 +65,9 @@ returns-in_ok-pair_up-in-Ok-find_run-clause-loaded g c =
     let same : length left ≡ length c.args.stores.items = c.load_cores.auto.stores ∙ ap (λ (l : List g.row.S.Denot). length l) value in
     let stores = made.ensures.stores ∙ written_back c.args.stores.len left c.args.stores.items same (sym c.args.stores.ok.0) in
     let journals = journals_paired scheme c.in-Ok-find_run.cores.items made.field-0.items made.ensures.states ∙ c.in-Ok-find_run.ensures.journals in
-    subst (λ (news : List g.row.S.Denot). AreLoaded s.is_honest s.content s.may_hold s.must_reopen scheme (nodes scheme) c.args.stores.items news (map (λ (p : Keeping g.row.S.Denot). p.state.journal) made.field-0.items)) (sym stores)
-    (subst (λ (js : List (List Input)). AreLoaded s.is_honest s.content s.may_hold s.must_reopen scheme (nodes scheme) c.args.stores.items left js) (sym journals)
-    (subst (λ (olds : List g.row.S.Denot). AreLoaded s.is_honest s.content s.may_hold s.must_reopen scheme (nodes scheme) olds left (map journal_of c.in-Ok.cores.items)) value c.in-Ok.ensures.ok))
+    subst (λ (news : List g.row.S.Denot). AreLoaded s scheme (nodes scheme) c.args.stores.items news (map (λ (p : StoredView g.row.S.Denot). p.state.journal) made.field-0.items)) (sym stores)
+    (subst (λ (js : List (List Input)). AreLoaded s scheme (nodes scheme) c.args.stores.items left js) (sym journals)
+    (subst (λ (olds : List g.row.S.Denot). AreLoaded s scheme (nodes scheme) olds left (map journal_of c.in-Ok.cores.items)) value c.in-Ok.ensures.ok))
 
 pub returns-in_ok-pair_up-in-Ok-find_run-clause-unwritten : goal.returns-in_ok-pair_up-in-Ok-find_run-clause-unwritten
 returns-in_ok-pair_up-in-Ok-find_run-clause-unwritten g c =

@@ -17,7 +17,7 @@ returns-in-Err-clause-err g c =
     let count = length-map c.loop-store.cores.items journal_of ∙ c.loop-store.invariant.count in
     let isn = subst (λ k. slice_get (nodes c.args.scheme.now) k ≡ Some c.node_at-node.result) (c.len.ensures ∙ c.loop-store.cores.ok.0 ∙ c.loop-store.invariant.count) c.node_at-node.ensures in
     let was = sym (c.loop-store.invariant.later c.loop-store.store-index (omega arith)) ∙ get_at c.loop-store.stores c.loop-store.store-index c.store-item.result below in
-    fails_first g.S.NodeStore.is_honest g.S.NodeStore.content g.S.NodeStore.may_hold g.S.NodeStore.must_reopen c.args.scheme.now (nodes c.args.scheme.now) c.args.stores.now c.loop-store.stores (map journal_of c.loop-store.cores.items) c.loop-store.store-index c.node_at-node.result (get_or c.loop-store.stores c.loop-store.store-index c.store-item.result) c.load_one.new.store
+    fails_first g.S.NodeStore c.args.scheme.now (nodes c.args.scheme.now) c.args.stores.now c.loop-store.stores (map journal_of c.loop-store.cores.items) c.loop-store.store-index c.node_at-node.result (get_or c.loop-store.stores c.loop-store.store-index c.store-item.result) c.load_one.new.store
     count below isn was c.loop-store.invariant.loaded c.in-Err.fault c.in-Err.ensures.err
 
 pub returns-in-Err-clause-unwritten : goal.returns-in-Err-clause-unwritten
@@ -42,7 +42,7 @@ loop-store-preserved g c =
     let longer = ap (λ (xs : List Core). length xs) c.in_ok-push-in-Ok.ensures ∙ length-append c.loop-store.cores.items (c.in-Ok.core ∷ []) in
     record {
       loaded = rw more
-          (loaded_more g.S.NodeStore.is_honest g.S.NodeStore.content g.S.NodeStore.may_hold g.S.NodeStore.must_reopen c.args.scheme.now (nodes c.args.scheme.now) c.args.stores.now c.loop-store.stores (map journal_of c.loop-store.cores.items) c.loop-store.store-index c.node_at-node.result (get_or c.loop-store.stores c.loop-store.store-index c.store-item.result) c.load_one.new.store (journal_of c.in-Ok.core)
+          (loaded_more g.S.NodeStore c.args.scheme.now (nodes c.args.scheme.now) c.args.stores.now c.loop-store.stores (map journal_of c.loop-store.cores.items) c.loop-store.store-index c.node_at-node.result (get_or c.loop-store.stores c.loop-store.store-index c.store-item.result) c.load_one.new.store (journal_of c.in-Ok.core)
           count below isn was c.in-Ok.ensures.ok c.loop-store.invariant.loaded);
       nodes = ap (map node_of) c.in_ok-push-in-Ok.ensures
           ∙ nodes_more c.loop-store.cores.items c.in-Ok.core (nodes c.args.scheme.now) c.loop-store.store-index c.node_at-node.result c.loop-store.invariant.nodes c.in-Ok.ensures.node isn;

@@ -7,7 +7,7 @@ use Rattle.audit.proofs.loading.load_cores.Given as goal
 
 abbrev pub invariant-loop-store : goal.invariant-loop-store
 invariant-loop-store g l = record {
-  loaded : AreLoadedTo g.S.NodeStore.is_honest g.S.NodeStore.content g.S.NodeStore.may_hold g.S.NodeStore.must_reopen l.store-index l.scheme (nodes l.scheme) l.initial.stores l.stores (map journal_of l.cores.items);
+  loaded : AreLoadedTo g.S.NodeStore l.store-index l.scheme (nodes l.scheme) l.initial.stores l.stores (map journal_of l.cores.items);
   nodes : map node_of l.cores.items ≡ take l.store-index (nodes l.scheme);
   schemes : All (λ core. scheme_of core ≡ l.scheme) l.cores.items;
   later : (k : ℕ) → l.store-index ≤ k → slice_get l.stores k ≡ slice_get l.initial.stores k;

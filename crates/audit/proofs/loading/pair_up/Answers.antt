@@ -1,7 +1,7 @@
 use Rattle.std.proofs.Common.{◌≡◌, ◌∙◌, ℕ, suc, List, Some, refl, sym, ap, subst, length, arith}
 use Rattle.std.specs.Prelude.{slice_get}
-use Rattle.desk.specs.Keeping.{IsKept, Keeping}
-use Rattle.desk.specs.Views.{Held}
+use Rattle.desk.specs.Keeping.{IsKept, StoredView}
+use Rattle.desk.specs.Views.{StateView}
 use Rattle.world.specs.declared.any_core.Core.{Core}
 use Rattle.audit.specs.Opened.{opened_core}
 use Rattle.audit.proofs.Pairs.{both_moved, one_moved}
@@ -22,7 +22,7 @@ pub new-requires-in-loop-core : goal.new-requires-in-loop-core
 new-requires-in-loop-core g c =
     let core = c.in-Some.ensures.steps.0 in
     let store = c.in-Some-next.ensures.cases.0 in
-    subst (λ (h : Held). IsKept g.S.NodeStore (record { state = h; store = c.in-Some-next.store })) (sym c.new.ensures.state)
+    subst (λ (h : StateView). IsKept g.S.NodeStore (record { state = h; store = c.in-Some-next.store })) (sym c.new.ensures.state)
     (c.loop-core.invariant.kept 0 c.in-Some.core c.in-Some-next.store (ap (λ (l : List Core). slice_get l 0) core) (ap (λ (l : List g.row.S.Denot). slice_get l 0) store))
 
 pub loop-core-preserved : goal.loop-core-preserved
@@ -35,6 +35,6 @@ loop-core-preserved g c =
     record {
       count = omega (arith, kept.count, ap (λ (l : List _). length l) core, ap (λ (l : List _). length l) store);
       kept = λ k k_core k_store at_core at_store. kept.kept (suc k) k_core k_store (ap (λ (l : List Core). slice_get l (suc k)) core ∙ at_core) (ap (λ (l : List g.row.S.Denot). slice_get l (suc k)) store ∙ at_store);
-      states = both_moved (λ s. s.state) opened_core c.loop-core.nodes.items _ c.push.new.self.items c.in-Some.core c.loop-core.core-iterator.rest.items c.next.new.self.rest.items _ pushed core (ap (λ (s : Keeping g.row.S.Denot). s.state) made ∙ c.new.ensures.state) kept.states;
-      stores_are = one_moved (λ s. s.store) c.loop-core.nodes.items _ c.push.new.self.items c.in-Some-next.store c.loop-core.stores.rest.items c.next-in-loop-core.new.self.rest.items _ pushed store (ap (λ (s : Keeping g.row.S.Denot). s.store) made) kept.stores_are;
+      states = both_moved (λ s. s.state) opened_core c.loop-core.nodes.items _ c.push.new.self.items c.in-Some.core c.loop-core.core-iterator.rest.items c.next.new.self.rest.items _ pushed core (ap (λ (s : StoredView g.row.S.Denot). s.state) made ∙ c.new.ensures.state) kept.states;
+      stores_are = one_moved (λ s. s.store) c.loop-core.nodes.items _ c.push.new.self.items c.in-Some-next.store c.loop-core.stores.rest.items c.next-in-loop-core.new.self.rest.items _ pushed store (ap (λ (s : StoredView g.row.S.Denot). s.store) made) kept.stores_are;
     }

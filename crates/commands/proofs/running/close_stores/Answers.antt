@@ -1,8 +1,8 @@
 use Rattle.std.proofs.Common.{◌≡◌, ◌∙◌, ◌++◌, ◌∷◌, List, [], ap, arith, length, subst, sym, OnOk}
 use Rattle.std.proofs.lemmas.List.Elements.{All-push}
-use Rattle.desk.specs.Keeping.{Keeping}
-use Rattle.inputs.specs.Faults.{of_store}
-use Rattle.runs.proofs.Written.{on_ok}
+use Rattle.desk.specs.Keeping.{StoredView}
+use Rattle.command_faults.specs.Faults.{of_store}
+use Rattle.run.proofs.Written.{on_ok}
 use Rattle.commands.specs.Commands.{AreClosed}
 use Rattle.commands.proofs.Closing.{all_done, at_next, one_done, part_done}
 use Rattle.commands.proofs.running.close_stores.Goals as goal
@@ -47,7 +47,7 @@ loop-stored-preserved g c =
       closed = (
         closed.0 ++ c.in-Some.stored ∷ [],
         one_done c.args.nodes.items closed.0 c.loop-stored.stored-iterator.rest.items c.next.new.self.rest.items c.in-Some.stored closed.1 c.in-Some.ensures.steps.0,
-        on_ok c.loop-stored.first (λ done. All-push (λ (k : Keeping g.row.A-Store.Denot). closes k.store) closed.0 c.in-Some.stored done (subst closes c.into_parts-state.ensures.store c.in_default.ensures.closes)) closed.2,
+        on_ok c.loop-stored.first (λ done. All-push (λ (k : StoredView g.row.A-Store.Denot). closes k.store) closed.0 c.in-Some.stored done (subst closes c.into_parts-state.ensures.store c.in_default.ensures.closes)) closed.2,
       );
       first = c.loop-stored.invariant.first;
     }
@@ -57,4 +57,4 @@ returns-clause-ok g c =
     let closed = c.loop-stored.invariant.closed in
     let left = c.loop-stored.stored-iterator.rest in
     let none : length left.items ≡ 0 = omega (arith, c.in-None.ensures.steps.0, left.ok.0) in
-    subst (λ (ks : List (Keeping g.row.A-Store.Denot)). OnOk c.loop-stored.first (AreClosed (g.A.Archive.closes c.args.archive.now) ks)) (sym (all_done c.args.nodes.items closed.0 left.items closed.1 none)) closed.2
+    subst (λ (ks : List (StoredView g.row.A-Store.Denot)). OnOk c.loop-stored.first (AreClosed (g.A.Archive.closes c.args.archive.now) ks)) (sym (all_done c.args.nodes.items closed.0 left.items closed.1 none)) closed.2

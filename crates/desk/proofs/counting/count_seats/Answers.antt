@@ -1,7 +1,7 @@
 use Rattle.std.proofs.Common.{◌+◌, ◌==◌, count_by, take, ◌∙◌}
 use Rattle.std.proofs.lemmas.List.{take_all}
 use Rattle.desk.specs.Covering.{times_named}
-use Rattle.desk.specs.Views.{Heard}
+use Rattle.desk.specs.Views.{SeatView}
 use Rattle.desk.specs.declared.notes.Ticket.{Ticket}
 use Rattle.desk.proofs.CountedPlaces.{counts_same, one_summed}
 use Rattle.desk.proofs.counting.count_seats.Goals as goal
@@ -15,7 +15,7 @@ loop-seat-preserved c =
       len = c.count_tickets.ensures.len ∙ c.loop-seat.invariant.len;
       counts = λ times counts.
           counts_same c.args.opening (λ p. (times p + times_named (take i seats) p) + count_by (λ (t : Ticket). t.place == p) c.tickets.result.now) (λ p. times p + times_named (take (i + 1) seats) p) c.count_tickets.new.counts
-          (λ p. rw (c.tickets.ensures, c.seat-item.is) (one_summed (λ (s : Heard). count_by (λ (t : Ticket). t.place == p) s.tickets) seats i (times p) s c.loop-seat-test.true))
+          (λ p. rw (c.tickets.ensures, c.seat-item.is) (one_summed (λ (s : SeatView). count_by (λ (t : Ticket). t.place == p) s.tickets) seats i (times p) s c.loop-seat-test.true))
           (c.count_tickets.ensures.counts (λ p. times p + times_named (take i seats) p) (c.loop-seat.invariant.counts times counts));
     }
 

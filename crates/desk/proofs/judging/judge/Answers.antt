@@ -3,13 +3,13 @@ use Rattle.std.specs.Prelude.{IsPermutation}
 use Rattle.std.specs.List.{All, flat_map}
 use Rattle.desk.specs.declared.notes.Note.{Note}
 use Rattle.desk.specs.Rooms.{IsNoRecord}
-use Rattle.desk.specs.Views.{Heard}
+use Rattle.desk.specs.Views.{SeatView}
 use Rattle.desk.proofs.NotesOfSeats.{all_before, found_in_seats}
 use Rattle.desk.proofs.judging.judge.Goals as goal
 
 pub returns-clause-found : goal.returns-clause-found
 returns-clause-found g c =
-    let moved = subst (λ notes. IsPermutation (flat_map (λ (s : Heard). s.notes) c.args.seats.now) (map (λ note. note.now) notes)) (sym c.as_slice.ensures.value) c.in_ok-notes.ensures.notes in
+    let moved = subst (λ notes. IsPermutation (flat_map (λ (s : SeatView). s.notes) c.args.seats.now) (map (λ note. note.now) notes)) (sym c.as_slice.ensures.value) c.in_ok-notes.ensures.notes in
     found_in_seats (λ note. note.now) (g.C.NodeCore.scheme_of c.args.core.now) (g.C.NodeCore.node_of c.args.core.now) c.args.seats.now c.as_slice.result.now c.journal.result.now c.args.state.now.journal
     c.journal.ensures.value moved c.unborne_of.result c.unborne_of.ensures.found
 

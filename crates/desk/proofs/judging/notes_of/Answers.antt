@@ -2,7 +2,7 @@ use Rattle.std.proofs.Common.{map, sym, subst}
 use Rattle.std.proofs.lemmas.List.Elements.{All-append}
 use Rattle.desk.specs.declared.notes.Note.{Note}
 use Rattle.desk.specs.Rooms.{IsNoRecord, TellNoRecord}
-use Rattle.desk.specs.Views.{Heard}
+use Rattle.desk.specs.Views.{SeatView}
 use Rattle.desk.proofs.NotesOfSeats.{seat_noted}
 use Rattle.desk.proofs.judging.notes_of.Goals as goal
 
@@ -10,7 +10,7 @@ pub loop-seat-preserved : goal.loop-seat-preserved
 loop-seat-preserved c =
     let own = c.notes.ensures in
     record {
-      notes = seat_noted (λ note. note.now) (λ (s : Heard). s.notes) c.add_notes.new.all.items c.loop-seat.all.items c.args.seats.now c.loop-seat.seat-index c.seat-item.result c.notes.result.now
+      notes = seat_noted (λ note. note.now) (λ (s : SeatView). s.notes) c.add_notes.new.all.items c.loop-seat.all.items c.args.seats.now c.loop-seat.seat-index c.seat-item.result c.notes.result.now
           c.loop-seat-test.true c.seat-item.is own.value c.in_ok-add_notes.ensures c.loop-seat.invariant.notes;
       no_record = subst TellNoRecord (sym c.in_ok-add_notes.ensures)
           (All-append (λ (note : Note). IsNoRecord (note.told)) (map (λ note. note.now) c.loop-seat.all.items) c.notes.result.now c.loop-seat.invariant.no_record (subst TellNoRecord (sym own.value) own.no_record));

@@ -1,17 +1,17 @@
 use Rattle.std.proofs.Common.{◌≡◌, IsTrue, ap, subst, ◌∙◌, arith}
 use Rattle.std.proofs.Math.Logic.{∥∥₁_map}
 use Rattle.sqlite_disk.specs.declared.Disk.{Ghosts}
-use Rattle.sqlite_wal.specs.Recovery.{Image}
-use Rattle.sqlite_wal.specs.Files.{outcomes}
-use Rattle.sqlite_wal.specs.Reads.{AreClean}
+use Rattle.sqlite.specs.Recovery.{Image}
+use Rattle.sqlite.specs.WalFiles.{outcomes}
+use Rattle.sqlite.specs.WalReads.{AreClean}
 use Rattle.sqlite_wal.proofs.StateLemmas.{open_from}
 use Rattle.sqlite_pool.proofs.StateLemmas.{clean_is, may_leave_is}
-use Rattle.sqlite_trees.specs.Tree.{Trees}
-use Rattle.sqlite_trees.specs.View.{View, IsClean}
+use Rattle.sqlite.specs.Tree.{Trees}
+use Rattle.sqlite.specs.View.{View, IsClean}
 use Rattle.sqlite_trees.proofs.Doubt.{clean_of as sure, no_doubt}
 use Rattle.sqlite_store.specs.declared.store.FileStore.{FileStore}
 use Rattle.sqlite_store.specs.Calls.{IsQuietCall}
-use Rattle.sqlite_store.specs.FileStore.{state, view, recovers}
+use Rattle.sqlite.specs.FileStore.{state, view, recovers}
 use Rattle.sqlite.specs.Held.{AreDatabases}
 use Rattle.sqlite.specs.Closing.{HoldsAlone}
 use Rattle.sqlite.proofs.Theorems.{copied}

@@ -1,5 +1,5 @@
 use Rattle.std.proofs.Common.{inl, inr, refl, sym, subst₂, ◌∙◌}
-use Rattle.sqlite_wal.specs.Reads.{AreClean}
+use Rattle.sqlite.specs.WalReads.{AreClean}
 use Rattle.durable.specs.Refusals.{IsToldOf}
 use Rattle.durable.proofs.Refusing.{clean-left, not-opened}
 use Rattle.durable.proofs.backing.open_again.Goals as goal

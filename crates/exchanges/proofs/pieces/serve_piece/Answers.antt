@@ -1,26 +1,26 @@
 use Rattle.std.proofs.Common.{◌≡◌, ◌≤◌, ◌++◌, ℕ, List, length, arith, sym, ap, subst, ◌∙◌}
 use Rattle.units.specs.Limits.{longest_line}
-use Rattle.stream_lines.specs.Held.{Held}
-use Rattle.stream_lines.specs.Lines.{Splits, IsOver}
-use Rattle.stream_lines.specs.Splitting.{Faults}
-use Rattle.stream_lines.specs.declared.splitter.Line.{Line}
-use Rattle.stream_lines.specs.declared.splitter.LineFault.{LineFault}
-use Rattle.stream_lines.specs.declared.splitter.LineFault.TheVariants as faults
+use Rattle.streams.specs.SplitterView.{SplitterView}
+use Rattle.streams.specs.Lines.{Splits, IsOver}
+use Rattle.streams.specs.Splitting.{Faults}
+use Rattle.streams.specs.declared.splitter.Line.{Line}
+use Rattle.streams.specs.declared.splitter.LineFault.{LineFault}
+use Rattle.streams.specs.declared.splitter.LineFault.TheVariants as faults
 use Rattle.exchanges.specs.Pieces.{open_with, most_lines}
 use Rattle.exchanges.specs.declared.pieces.PieceEnd.TheVariants.{Replied, TooLong}
 use Rattle.exchanges.proofs.Cuts.{few_lines, piece_ends, piece_replied, piece_too_long, small_end}
 use Rattle.exchanges.proofs.pieces.serve_piece.Goals as goal
 
 -- the splitter's limit
-limit_of : (held : Held) → held ≡ open_with held.rest → held.limit ≡ longest_line
-limit_of held e = ap (λ (h : Held). h.limit) e
+limit_of : (held : SplitterView) → held ≡ open_with held.rest → held.limit ≡ longest_line
+limit_of held e = ap (λ (h : SplitterView). h.limit) e
 
 -- it takes more
-still_open : (old new : Held) → old ≡ open_with old.rest → new ≡ record old { rest = new.rest } → new ≡ open_with new.rest
-still_open old new e x = x ∙ ap (λ (h : Held). record h { rest = new.rest }) e
+still_open : (old new : SplitterView) → old ≡ open_with old.rest → new ≡ record old { rest = new.rest } → new ≡ open_with new.rest
+still_open old new e x = x ∙ ap (λ (h : SplitterView). record h { rest = new.rest }) e
 
 -- what a fault says of the bytes
-over_of : (old new : Held) (piece : List ℕ) (fault : LineFault) (ls : List Line) → fault ≡ faults.TooLong ls → Faults old new piece fault → IsOver old.limit (old.rest ++ piece) ls
+over_of : (old new : SplitterView) (piece : List ℕ) (fault : LineFault) (ls : List Line) → fault ≡ faults.TooLong ls → Faults old new piece fault → IsOver old.limit (old.rest ++ piece) ls
 over_of old new piece fault ls e h = let told = subst (λ (f : LineFault). Faults old new piece f) e h in told.1
 
 pub serve_lines-end-requires-clause-few : goal.serve_lines-end-requires-clause-few

@@ -1,8 +1,7 @@
 use Rattle.std.proofs.Common.{◌<◌, ◌≤◌, ◌+◌, ◌-◌, vec_len, vec_capacity}
 use Rattle.units.specs.Limits.{longest_line}
-use Rattle.stream_lines.specs.Lines.{HasNoNewline}
-use Rattle.exchanges.specs.Calls.{GoesOn}
-use Rattle.exchanges.specs.Counts.{most_interruptions}
+use Rattle.streams.specs.Lines.{HasNoNewline}
+use Rattle.streams.specs.Calls.{GoesOn, most_interruptions}
 use Rattle.exchanges.specs.Streams.{Takes}
 use Rattle.exchanges.proofs.reading.read_line.Given as goal
 
@@ -13,7 +12,7 @@ invariant-loop-byte g l = record {
   spare : 0 < l.left;
   free : HasNoNewline l.line.items;
   took : Takes g.R.Read.remaining l.fn.reader l.reader l.line.items;
-  goes : GoesOn most_interruptions l.left l.fn.reader l.reader;
+  goes : GoesOn most_interruptions l.left l.fn.reader.calls l.reader.calls;
 }
 
 abbrev pub decreases-loop-byte : goal.decreases-loop-byte

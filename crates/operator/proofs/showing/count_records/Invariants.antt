@@ -6,7 +6,7 @@ use Rattle.operator.proofs.showing.count_records.Given as goal
 abbrev pub invariant-loop-count : goal.invariant-loop-count
 invariant-loop-count g l =
     (inputs : List Input) × (length inputs ≡ l.count)
-    × Reads g.S.NodeStore.is_honest g.S.NodeStore.content g.S.NodeStore.must_reopen g.S.NodeStore.faults l.fn.store l.store 0 inputs
+    × Reads g.S.NodeStore l.fn.store l.store 0 inputs
 
 abbrev pub decreases-loop-count : goal.decreases-loop-count
 decreases-loop-count g l = 2 ^ 63 - l.count

@@ -31,5 +31,5 @@ returns-clause-ok g c =
       take few page.items,
       length-take-le few page.items within ∙ counted,
       c.in_ok-text.ensures ∙ ap (λ l. record_lines c.args.place (take few l)) c.as_slice.ensures.value,
-      page-reads s.is_honest s.content s.must_reopen s.faults s.may_hold c.args.store.now c.load_page.new.self c.args.place few page most within c.in_ok-page.ensures.loads c.in_ok-page.ensures.count,
+      page-reads s c.args.store.now c.load_page.new.self c.args.place few page most within c.in_ok-page.ensures.loads c.in_ok-page.ensures.count,
     )

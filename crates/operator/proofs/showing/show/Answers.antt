@@ -1,6 +1,6 @@
 use Rattle.std.proofs.Common.{codes, sym, ◌∙◌}
 use Rattle.std.proofs.KnownBytes.{Appends-trans}
-use Rattle.inputs.specs.declared.fault.OpFault.{OpFault}
+use Rattle.command_faults.specs.declared.fault.OpFault.{OpFault}
 use Rattle.operator.specs.Show.{FailsToShow, record_lines}
 use Rattle.operator.proofs.Pages.{passed-on, read-twice}
 use Rattle.operator.proofs.ShowFaults.{fails-second, fails-last}
@@ -31,7 +31,7 @@ returns-in_err-write_more-clause-err g c =
     let e = c.in_err-write_more.field-0.0 in
     let first = c.in-Ok.ensures.ok in
     let second = c.in_ok-written.ensures.ok in
-    let are = read-twice s.is_honest s.content s.must_reopen s.faults old mid new first.0 second.inputs first.2 first.3 second.reads (second.many ∙ sym first.1) in
+    let are = read-twice s old mid new first.0 second.inputs first.2 first.3 second.reads (second.many ∙ sym first.1) in
     passed-on (λ (e : OpFault). FailsToShow e c.args.node (s.is_honest new) (s.content old) v w) e c.from_residual-in_err-write_more.result c.from_residual-in_err-write_more.ensures.1
     (fails-last e c.args.node c.in_ok-written.written (s.is_honest new) (s.content old) v x w second.inputs c.in_err-write_more.ensures.err are second.size second.lines)
 
@@ -45,6 +45,6 @@ returns-clause-ok g c =
     let first = c.in-Ok.ensures.ok in
     let second = c.in_ok-written.ensures.ok in (
       second.inputs,
-      read-twice s.is_honest s.content s.must_reopen s.faults c.args.store.now c.count_records.new.store new first.0 second.inputs first.2 first.3 second.reads (second.many ∙ sym first.1),
+      read-twice s c.args.store.now c.count_records.new.store new first.0 second.inputs first.2 first.3 second.reads (second.many ∙ sym first.1),
       Appends-trans v x w (record_lines 0 second.inputs) (codes "end\n") second.lines c.in_ok-write_more.ensures.ok.1,
     )

@@ -1,8 +1,8 @@
 use Rattle.std.proofs.Common.{◌≡◌, ◌++◌, length, refl, ◌∙◌, arith}
 use Rattle.stores.specs.declared.fault.StoreFault.{StoreFault}
 use Rattle.stores.specs.declared.fault.StoreFault.TheVariants.{NoMemory}
-use Rattle.inputs.specs.declared.fault.OpFault.{OpFault}
-use Rattle.inputs.specs.declared.fault.OpFault.TheVariants.{Store}
+use Rattle.command_faults.specs.declared.fault.OpFault.{OpFault}
+use Rattle.command_faults.specs.declared.fault.OpFault.TheVariants.{Store}
 use Rattle.operator.specs.Pages.{Stops, FailsToWrite}
 use Rattle.operator.specs.Show.{record_lines}
 use Rattle.operator.proofs.Pages.{passed-on, true-false, stops-here}
@@ -25,8 +25,8 @@ returns-in_err-written-clause-err g c =
     let is : text ≡ record_lines c.loop-place.place page.0 = c.as_slice.ensures.value ∙ page.2 in
     passed-on (λ (e : OpFault). FailsToWrite e c.args.node c.args.count (s.is_honest new) (s.content old) v w) e c.from_residual.result c.from_residual.ensures.1
     (fails-writing e c.args.node c.args.count c.loop-place.written (s.is_honest new) (s.content old) text v x w c.in_err-written.ensures.err
-    (begun-more s.is_honest s.content s.must_reopen s.faults old c.loop-place.store new v x w c.loop-place.place c.loop-place.written page.0 text so_far is page.3)
-    (begun-here s.is_honest s.content s.must_reopen s.faults old c.loop-place.store new v x w c.loop-place.place c.loop-place.written so_far page.3.honest))
+    (begun-more s old c.loop-place.store new v x w c.loop-place.place c.loop-place.written page.0 text so_far is page.3)
+    (begun-here s old c.loop-place.store new v x w c.loop-place.place c.loop-place.written so_far page.3.honest))
 
 pub returns-in_err-written-clause-stops : goal.returns-in_err-written-clause-stops
 returns-in_err-written-clause-stops g c =
@@ -39,10 +39,10 @@ returns-in_err-written-clause-stops g c =
     let e = c.in_err-written.field-0.0 in
     let so_far = c.loop-place.invariant.shows in
     let page = c.in-Ok.ensures.ok in
-    let reads = both s.is_honest s.content s.must_reopen s.faults old c.loop-place.store new v x c.loop-place.place c.loop-place.written page.0 so_far page.3 in
-    passed-on (λ (e : OpFault). (fault : StoreFault) × Stops s.is_honest s.content s.must_reopen s.faults old new fault × ((f : StoreFault) → e ≡ Store c.args.node f → f ≡ fault)) e c.from_residual.result c.from_residual.ensures.1 (
+    let reads = both s old c.loop-place.store new v x c.loop-place.place c.loop-place.written page.0 so_far page.3 in
+    passed-on (λ (e : OpFault). (fault : StoreFault) × Stops s old new fault × ((f : StoreFault) → e ≡ Store c.args.node f → f ≡ fault)) e c.from_residual.result c.from_residual.ensures.1 (
       NoMemory,
-      stops-here s.is_honest s.content s.must_reopen s.faults old new 0 (so_far.inputs ++ page.0) NoMemory reads (λ w. true-false (s.must_reopen old) w c.requires) tt refl,
+      stops-here s old new 0 (so_far.inputs ++ page.0) NoMemory reads (λ w. true-false (s.must_reopen old) w c.requires) tt refl,
       λ f same. none-told e c.args.node NoMemory f c.loop-place.written c.as_slice.result.now x w c.in_err-written.ensures.err same,
     )
 
@@ -58,7 +58,7 @@ loop-place-preserved g c =
     let few : length page.0 ≡ c.min-place.result = omega (arith, page.1) in
     let added = c.in_ok-written.ensures.ok in
     record {
-      shows = shows-more s.is_honest s.content s.must_reopen s.faults c.args.store.now c.loop-place.store c.page_text.new.store v x w c.loop-place.place c.loop-place.written c.min-place.result page.0 text c.loop-place.invariant.shows few is page.3
+      shows = shows-more s c.args.store.now c.loop-place.store c.page_text.new.store v x w c.loop-place.place c.loop-place.written c.min-place.result page.0 text c.loop-place.invariant.shows few is page.3
           c.in_ok-written.written added.0 added.1;
       runs = c.in-Ok.ensures.runs;
       within = omega arith;

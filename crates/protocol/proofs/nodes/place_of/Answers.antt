@@ -1,6 +1,6 @@
 use Rattle.std.proofs.Common.{arith, sym, ap, ◌∙◌, ◌+◌, option_map}
 use Rattle.units.specs.declared.code.Node.{Node}
-use Rattle.lemmas.proofs.FirstPlaces.{place_below}
+use Rattle.units.proofs.Lists.FirstPlaces.{place_below}
 use Rattle.scheme.proofs.Searching.{has_code}
 use Rattle.protocol.specs.Registries.{place_of}
 use Rattle.protocol.proofs.NodePlaces.{registry_place}

@@ -1,10 +1,10 @@
 use Rattle.std.proofs.Common.{codes}
 use Rattle.serde_json.specs.View.{view}
-use Rattle.fields.specs.Fields.{HasList}
+use Rattle.json_fields.specs.Fields.{HasList}
 use Rattle.units.specs.Limits.{last_account}
 use Rattle.scheme.specs.Grammar.{IsBlock, IsAllotment}
 use Rattle.scheme.specs.Reading.{IsCount}
-use Rattle.fields.proofs.Parts.{lacks_too, not_read_too}
+use Rattle.json_fields.proofs.Parts.{lacks_too, not_read_too}
 use Rattle.scheme.proofs.grammar.allotment.Goals as goal
 
 pub returns-in_err-account : goal.returns-in_err-account

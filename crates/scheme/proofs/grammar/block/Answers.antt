@@ -1,5 +1,5 @@
 use Rattle.serde_json.specs.View.{view}
-use Rattle.fields.proofs.BlockTexts.{block_reads}
+use Rattle.json_fields.proofs.BlockTexts.{block_reads}
 use Rattle.scheme.specs.Grammar.{IsBlock}
 use Rattle.scheme.proofs.grammar.block.Goals as goal
 

@@ -2,9 +2,9 @@ use Rattle.std.proofs.Common.{sym, ◌∙◌, ap}
 use Rattle.units.specs.contracts.block.KindPartialEq.TheImpl.{ghosts}
 use Rattle.std.specs.List.{list_any}
 use Rattle.scheme.specs.Grammar.{IsKind}
-use Rattle.fields.specs.Fields.{EachIs}
-use Rattle.fields.proofs.Lists.{each_more, met_at}
-use Rattle.fields.proofs.Parts.{not_read_too, read_so}
+use Rattle.json_fields.specs.Fields.{EachIs}
+use Rattle.json_fields.proofs.Lists.{each_more, met_at}
+use Rattle.json_fields.proofs.Parts.{not_read_too, read_so}
 use Rattle.scheme.specs.Grammar.{HasNoTwins}
 use Rattle.serde_json.specs.View.{view, items_view}
 use Rattle.scheme.proofs.Lists.{in_list, not_in_list, no_twins_push, each_twin}

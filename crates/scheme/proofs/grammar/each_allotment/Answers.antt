@@ -1,7 +1,7 @@
-use Rattle.fields.specs.Fields.{EachIs}
+use Rattle.json_fields.specs.Fields.{EachIs}
 use Rattle.scheme.specs.Grammar.{IsAllotment}
-use Rattle.fields.proofs.Lists.{each_more, met_at}
-use Rattle.fields.proofs.Parts.{lacks_too}
+use Rattle.json_fields.proofs.Lists.{each_more, met_at}
+use Rattle.json_fields.proofs.Parts.{lacks_too}
 use Rattle.serde_json.specs.View.{view, items_view}
 use Rattle.scheme.proofs.grammar.each_allotment.Goals as goal
 

@@ -1,7 +1,7 @@
-use Rattle.fields.specs.Fields.{EachIs}
+use Rattle.json_fields.specs.Fields.{EachIs}
 use Rattle.scheme.specs.Grammar.{IsBlock}
-use Rattle.fields.proofs.Lists.{each_more, met_at}
-use Rattle.fields.proofs.Parts.{not_read_too, read_so}
+use Rattle.json_fields.proofs.Lists.{each_more, met_at}
+use Rattle.json_fields.proofs.Parts.{not_read_too, read_so}
 use Rattle.serde_json.specs.View.{view, items_view}
 use Rattle.scheme.proofs.grammar.each_block.Goals as goal
 

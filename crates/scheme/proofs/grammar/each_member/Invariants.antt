@@ -1,6 +1,6 @@
 use Rattle.std.proofs.Common.{take}
 use Rattle.serde_json.specs.View.{items_view}
-use Rattle.fields.specs.Fields.{EachIs}
+use Rattle.json_fields.specs.Fields.{EachIs}
 use Rattle.scheme.specs.Grammar.{IsMember}
 use Rattle.scheme.proofs.grammar.each_member.Given as goal
 

@@ -1,9 +1,9 @@
 use Rattle.std.proofs.Common.{codes}
 use Rattle.serde_json.specs.View.{view}
-use Rattle.fields.specs.Fields.{HasList}
+use Rattle.json_fields.specs.Fields.{HasList}
 use Rattle.scheme.specs.Grammar.{IsAccount, IsAllotment, IsMember}
 use Rattle.scheme.specs.Reading.{AreKinds}
-use Rattle.fields.proofs.Parts.{lacks_too}
+use Rattle.json_fields.proofs.Parts.{lacks_too}
 use Rattle.scheme.proofs.grammar.member.Goals as goal
 
 pub returns-in_err-accounts : goal.returns-in_err-accounts

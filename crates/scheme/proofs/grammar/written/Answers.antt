@@ -1,10 +1,10 @@
 use Rattle.std.proofs.Common.{codes}
 use Rattle.serde_json.specs.View.{view}
-use Rattle.fields.specs.Fields.{HasList}
+use Rattle.json_fields.specs.Fields.{HasList}
 use Rattle.units.specs.Limits.{most_records}
 use Rattle.scheme.specs.Grammar.{IsMember, IsWritten}
 use Rattle.scheme.specs.Reading.{IsCount}
-use Rattle.fields.proofs.Parts.{lacks_too, not_read_too}
+use Rattle.json_fields.proofs.Parts.{lacks_too, not_read_too}
 use Rattle.scheme.proofs.grammar.written.Goals as goal
 
 pub returns-in_err-records : goal.returns-in_err-records

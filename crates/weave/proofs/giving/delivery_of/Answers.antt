@@ -1,5 +1,5 @@
 use Rattle.std.proofs.Common.{sym, ◌∙◌}
-use Rattle.lemmas.proofs.OneValue.{clash}
+use Rattle.units.proofs.Lists.OneValue.{clash}
 use Rattle.weave.specs.Steps.{without_tails}
 use Rattle.weave.proofs.Tried.{fits_delivery, no_delivery, other_delivery}
 use Rattle.weave.proofs.giving.delivery_of.Goals as goal

@@ -1,7 +1,7 @@
 use Rattle.std.proofs.Common.{sym, subst, arith, below_more}
 use Rattle.std.proofs.lemmas.Option.{get_or_from_slice_get, slice_get_within}
-use Rattle.lemmas.proofs.OneValue.{clash}
-use Rattle.lemmas.proofs.Positions.{In_contains, place_of}
+use Rattle.units.proofs.Lists.OneValue.{clash}
+use Rattle.units.proofs.Lists.Positions.{In_contains, place_of}
 use Rattle.weave.specs.Steps.{HasMessage}
 use Rattle.weave.proofs.places.find_place.Goals as goal
 

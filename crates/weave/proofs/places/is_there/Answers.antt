@@ -1,5 +1,5 @@
 use Rattle.std.proofs.Common.{sym, ap, ◌∙◌}
-use Rattle.lemmas.proofs.OneValue.{one_some}
+use Rattle.units.proofs.Lists.OneValue.{one_some}
 use Rattle.protocol.specs.declared.event.Posted.{Posted}
 use Rattle.weave.proofs.places.is_there.Goals as goal
 

@@ -2,7 +2,7 @@ use Rattle.std.proofs.Common.{ap, ◌∙◌}
 use Rattle.serde_json.specs.View.{view}
 use Rattle.serde_json.specs.Data.{string}
 use Rattle.units.specs.Block.{raw_text}
-use Rattle.fields.proofs.BlockTexts.{block_reads}
+use Rattle.json_fields.proofs.BlockTexts.{block_reads}
 use Rattle.wire.specs.Reading.{IsBlockItem}
 use Rattle.wire.proofs.Items.{own_text}
 use Rattle.wire.proofs.lists.block.Goals as goal

@@ -1,6 +1,6 @@
 use Rattle.std.proofs.Common.{take}
 use Rattle.serde_json.specs.View.{items_view}
-use Rattle.fields.specs.Fields.{EachIs}
+use Rattle.json_fields.specs.Fields.{EachIs}
 use Rattle.wire.specs.Reading.{IsBlockItem}
 use Rattle.wire.proofs.lists.each_block.Given as goal
 

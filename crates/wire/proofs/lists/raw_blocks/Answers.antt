@@ -1,6 +1,6 @@
 use Rattle.std.proofs.Common.{ap, ◌∙◌, Some, option_map}
 use Rattle.serde_json.specs.View.{view, items_view}
-use Rattle.fields.proofs.Parts.{read_some}
+use Rattle.json_fields.proofs.Parts.{read_some}
 use Rattle.wire.proofs.Items.{listed_raws}
 use Rattle.wire.proofs.lists.raw_blocks.Goals as goal
 

@@ -1,7 +1,7 @@
 use Rattle.std.proofs.Common.{ℕ, List, codes}
 use Rattle.serde_json.specs.View.{view}
-use Rattle.fields.specs.Fields.{HasAt}
-use Rattle.fields.proofs.Parts.{lacks_too, read_so}
+use Rattle.json_fields.specs.Fields.{HasAt}
+use Rattle.json_fields.proofs.Parts.{lacks_too, read_so}
 use Rattle.serde_json.specs.Data.{string}
 use Rattle.units.specs.Code.{code_text}
 use Rattle.units.specs.declared.block.Block.{Block}

@@ -1,8 +1,8 @@
 use Rattle.std.proofs.Common.{ℕ, ◌<◌, ◌^◌, List, ◌∙◌, ap, codes, option_map}
 use Rattle.std.specs.List.{AllByRecursion}
 use Rattle.serde_json.specs.View.{view}
-use Rattle.fields.specs.Fields.{HasAt}
-use Rattle.fields.proofs.Parts.{lacks_too, read_some}
+use Rattle.json_fields.specs.Fields.{HasAt}
+use Rattle.json_fields.proofs.Parts.{lacks_too, read_some}
 use Rattle.wire.specs.NotifiedStatuses.{notified_codes}
 use Rattle.wire.specs.Objects.{numbers}
 use Rattle.wire.specs.Reading.{HasNotified}

@@ -3,8 +3,8 @@ use Rattle.serde_json.specs.Data.{string}
 use Rattle.serde_json.specs.View.{view}
 use Rattle.units.specs.Code.{code_text}
 use Rattle.units.specs.declared.code.Code.{Code}
-use Rattle.fields.specs.Fields.{HasAt}
-use Rattle.fields.proofs.Parts.{reads_none_too}
+use Rattle.json_fields.specs.Fields.{HasAt}
+use Rattle.json_fields.proofs.Parts.{reads_none_too}
 use Rattle.wire.specs.Records.{IsRecord}
 use Rattle.wire.specs.declared.input.Input.TheVariants.{Eligible}
 use Rattle.wire.proofs.reading_records.eligibility.Goals as goal

@@ -1,6 +1,6 @@
 use Rattle.std.proofs.Common.{refl}
 use Rattle.serde_json.specs.View.{view}
-use Rattle.fields.proofs.Parts.{lacks_too}
+use Rattle.json_fields.proofs.Parts.{lacks_too}
 use Rattle.status.specs.declared.moment.Moment.{Moment}
 use Rattle.wire.specs.Records.{IsRecord}
 use Rattle.wire.specs.declared.input.Input.TheVariants.{Received}

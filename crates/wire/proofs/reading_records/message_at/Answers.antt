@@ -1,6 +1,6 @@
 use Rattle.std.proofs.Common.{true≢false, sym, ap, ◌∙◌, option_map}
 use Rattle.serde_json.specs.View.{view}
-use Rattle.fields.proofs.Parts.{read_some}
+use Rattle.json_fields.proofs.Parts.{read_some}
 use Rattle.wire.proofs.OneRecord.{none_within}
 use Rattle.wire.proofs.reading_records.message_at.Goals as goal
 

@@ -1,5 +1,5 @@
 use Rattle.serde_json.specs.View.{view}
-use Rattle.fields.proofs.Parts.{lacks_too}
+use Rattle.json_fields.proofs.Parts.{lacks_too}
 use Rattle.status.specs.declared.moment.Moment.{Moment}
 use Rattle.wire.specs.Reading.{HasMessage}
 use Rattle.wire.specs.Records.{IsRecord}

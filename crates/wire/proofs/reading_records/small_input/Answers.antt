@@ -1,6 +1,6 @@
 use Rattle.std.proofs.Common.{codes, refl, Bool}
 use Rattle.serde_json.specs.View.{view}
-use Rattle.fields.proofs.Parts.{reads_none_too}
+use Rattle.json_fields.proofs.Parts.{reads_none_too}
 use Rattle.units.specs.declared.code.Code.{Code}
 use Rattle.status.specs.declared.id.TransactionId.{TransactionId}
 use Rattle.status.specs.declared.moment.Moment.{Moment}

@@ -1,6 +1,6 @@
 use Rattle.std.proofs.Common.{rules, sym, ◌∙◌}
 use Rattle.serde_json.specs.View.{view}
-use Rattle.fields.specs.Fields.{HasKeys}
+use Rattle.json_fields.specs.Fields.{HasKeys}
 use Rattle.wire.proofs.ReplyTexts.{is_received, is_refused}
 use Rattle.wire.proofs.reply.reply_in.Goals as goal
 

@@ -5,15 +5,15 @@ use Rattle.std.proofs.lemmas.Iterator.{cases_from_any, YieldsList-from_slice}
 use Rattle.units.specs.Unit.{has_unit}
 use Rattle.units.specs.declared.block.Block.{Block}
 use Rattle.units.specs.declared.block.Unit.{Unit as Serial}
-use Rattle.accounts.specs.Holdings.{Held}
+use Rattle.accounts.specs.Holdings.{HoldingsView}
 use Rattle.units.proofs.BlockLists.{among}
 use Rattle.accounts.proofs.Blocks.{all_at, covered, covers_from}
 use Rattle.accounts.proofs.holdings.Holdings.holds_any.Goals as goal
 
-abbrev are_absent : Held → Block → Type 0
+abbrev are_absent : HoldingsView → Block → Type 0
 are_absent held b = (s : Serial) → IsTrue (has_unit b.raw s) → get held.unit_holdings s ≡ None
 
-abbrev is_there : Held → Block → Type 0
+abbrev is_there : HoldingsView → Block → Type 0
 is_there held b = (s : Serial) × IsTrue (has_unit b.raw s) × IsSome (get held.unit_holdings s)
 
 pub returns-clause-some : goal.returns-clause-some

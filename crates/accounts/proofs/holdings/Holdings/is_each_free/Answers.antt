@@ -6,16 +6,16 @@ use Rattle.std.proofs.lemmas.Iterator.{cases_from_all, YieldsList-from_slice}
 use Rattle.units.specs.Unit.{has_unit}
 use Rattle.units.specs.declared.block.Block.{Block}
 use Rattle.units.specs.declared.block.Unit.{Unit as Serial}
-use Rattle.accounts.specs.Holdings.{Held}
+use Rattle.accounts.specs.Holdings.{HoldingsView}
 use Rattle.units.proofs.BlockLists.{among}
 use Rattle.accounts.proofs.Blocks.{all_at, covered, covers_from}
 use Rattle.accounts.proofs.Holding.{is_unreserved, free_from}
 use Rattle.accounts.proofs.holdings.Holdings.is_each_free.Goals as goal
 
-abbrev are_free : Held → Block → Type 0
+abbrev are_free : HoldingsView → Block → Type 0
 are_free held b = (s : Serial) → IsTrue (has_unit b.raw s) → option_map is_unreserved (get held.unit_holdings s) ≡ Some true
 
-abbrev is_lacking : Held → Block → Type 0
+abbrev is_lacking : HoldingsView → Block → Type 0
 is_lacking held b = (s : Serial) × IsTrue (has_unit b.raw s) × (option_map is_unreserved (get held.unit_holdings s) ≢ Some true)
 
 pub returns-clause-all : goal.returns-clause-all

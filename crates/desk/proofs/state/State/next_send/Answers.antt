@@ -5,15 +5,15 @@ use Rattle.wire.specs.declared.message.Message.{Message}
 use Rattle.protocol.specs.History.{is_acknowledged, sends}
 use Rattle.protocol.specs.Unacknowledged.{IsLeastFrom, awaits}
 use Rattle.protocol.specs.Verdict.{history}
-use Rattle.desk.specs.Views.{Held, committed_past, past}
+use Rattle.desk.specs.Views.{StateView, committed_past, past}
 use Rattle.desk.proofs.Messages.{none_of_first, none_where_past, least_of_first}
 use Rattle.desk.proofs.state.State.next_send.Goals as goal
 
 -- the least key among the messages of the committed records
-abbrev Least : Node → ℕ → Option ℕ → Held → Type 0
+abbrev Least : Node → ℕ → Option ℕ → StateView → Type 0
 Least peer from found held = IsLeastFrom (awaits (sends (committed_past held)) (is_acknowledged (past held)) peer) from found
 
-abbrev IsAt : ℕ → Option Message → Held → Type 0
+abbrev IsAt : ℕ → Option Message → StateView → Type 0
 IsAt key message held = slice_get (sends (committed_past held)) key ≡ message
 
 pub returns-in_err-key-clause-key : goal.returns-in_err-key-clause-key

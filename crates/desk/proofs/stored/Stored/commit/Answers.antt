@@ -1,7 +1,7 @@
 use Rattle.std.proofs.Common.{sym, subst}
 use Rattle.desk.proofs.Keepings.{kept_committed}
 use Rattle.desk.specs.Keeping.{IsKept}
-use Rattle.desk.specs.Views.{Held}
+use Rattle.desk.specs.Views.{StateView}
 use Rattle.desk.proofs.stored.Stored.commit.Goals as goal
 
 pub invariant_of-self : goal.invariant_of-self
@@ -10,7 +10,7 @@ invariant_of-self g c =
     let did = c.commit.ensures in
     let old = c.self.inside.store in
     let new = c.commit.new.store in
-    subst (λ (h : Held). IsKept s (record { state = h; store = new })) (sym did.state)
+    subst (λ (h : StateView). IsKept s (record { state = h; store = new })) (sym did.state)
     (kept_committed s c.self.inside.state old new c.args.max c.commit.result did.whose did.own (did.count, (λ none. let nothing = did.none none in (nothing.0, nothing.2)), did.some) c.self.invariant)
 
 pub returns-clause-keeps : goal.returns-clause-keeps
@@ -19,5 +19,5 @@ returns-clause-keeps g c =
     let did = c.commit.ensures in
     let old = c.self.inside.store in
     let new = c.commit.new.store in
-    subst (λ (h : Held). IsKept s (record { state = h; store = new })) (sym did.state)
+    subst (λ (h : StateView). IsKept s (record { state = h; store = new })) (sym did.state)
     (kept_committed s c.self.inside.state old new c.args.max c.commit.result did.whose did.own (did.count, (λ none. let nothing = did.none none in (nothing.0, nothing.2)), did.some) c.self.invariant)

@@ -8,7 +8,7 @@ use Rattle.std.specs.FinMap.{get}
 use Rattle.std.proofs.lemmas.Bool.{false_from_ne_true}
 use Rattle.accounts.specs.Refusals.{IsCloseRefusal}
 use Rattle.acquirer.specs.Transfers.{is_awaited_by}
-use Rattle.lemmas.proofs.OneValue.{clash}
+use Rattle.units.proofs.Lists.OneValue.{clash}
 use Rattle.protocol.specs.AtRegistry.{is_awaited}
 use Rattle.protocol.specs.Deciding.{IsRefused}
 use Rattle.protocol.specs.History.{transitions_of}

@@ -3,7 +3,7 @@ use Rattle.std.specs.Prelude.{option_copied, slice_get, IfSome}
 use Rattle.std.specs.Option.{MatchOption}
 use Rattle.std.proofs.lemmas.Option.{slice_get-get_or}
 use Rattle.scheme.specs.declared.members.SchemeRegistry.{SchemeRegistry}
-use Rattle.lemmas.proofs.FirstPlaces.{place_below, place_find, place_nowhere}
+use Rattle.units.proofs.Lists.FirstPlaces.{place_below, place_find, place_nowhere}
 use Rattle.scheme.proofs.Searching.{has_code}
 use Rattle.scheme.proofs.registries.Scheme.member.Goals as goal
 

@@ -1,9 +1,9 @@
 use Rattle.std.proofs.Common.{◌≡◌, ◌∙◌, ◌+◌, List, true, false, is_some, refl, sym, ap, subst, take}
-use Rattle.accounts.specs.declared.unit_holding.HeldBlock.{HeldBlock}
+use Rattle.registry_core.specs.HeldBlock.{HeldBlock}
 use Rattle.scheme.specs.Order.{member}
 use Rattle.scheme.specs.declared.members.SchemeRegistry.{SchemeRegistry}
 use Rattle.protocol.specs.World.{World}
-use Rattle.registry_core.specs.Registry.{Registry}
+use Rattle.registry_core.specs.Registry.{RegistryCoreView}
 use Rattle.registry_core.specs.Reported.{AreHoldings}
 use Rattle.world.specs.RegistryLines.{registry_at}
 use Rattle.world.specs.Stocks.{AreStocks}
@@ -25,7 +25,7 @@ loop-member-preserved c =
     elim c.match-registry.branch [
       | in-Some+in_ok-lines+in_ok-push w ↦
           let lines = w.from_vec.result in
-          let its : AreHoldings (registry_at world m.code) w.in_ok-lines.field-0.items = subst (λ (r : Registry). AreHoldings r w.in_ok-lines.field-0.items) (registry_is world m.code w.in-Some.core.now w.in-Some.ensures.core) w.in_ok-lines.ensures in
+          let its : AreHoldings (registry_at world m.code) w.in_ok-lines.field-0.items = subst (λ (r : RegistryCoreView). AreHoldings r w.in_ok-lines.field-0.items) (registry_is world m.code w.in-Some.core.now w.in-Some.ensures.core) w.in_ok-lines.ensures in
           let holds : AreHoldings (registry_at world m.code) lines = subst (λ (ls : List HeldBlock). AreHoldings (registry_at world m.code) ls) (sym w.from_vec.ensures) its in
           let more = stocks_more world ms i c.loop-member.stocks.items m (record { code = m.code; lines = lines }) c.loop-member-test.true c.member-item.is c.loop-member.invariant refl holds in
           subst (λ (ss : List Stock). AreStocks world (take (i + 1) ms) ss) (sym (ap (λ v. v.items) w.stocks-is ∙ w.in_ok-push.ensures.items)) more

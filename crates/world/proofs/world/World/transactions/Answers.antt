@@ -27,7 +27,7 @@ loop-member-preserved c =
           ap (λ v. map told v.items) w.proposals-is
           ∙ w.in_ok-add_proposals.ensures
           ∙ ap (λ (l : List Proposal). l ++ proposed (registries.past w.in-Some.core.now)) c.loop-member.invariant
-          ∙ ap (λ (r : registries.Registry). before ++ proposed (registries.past r)) (registry_is world m.code w.in-Some.core.now w.in-Some.ensures.core)
+          ∙ ap (λ (r : registries.RegistryCoreView). before ++ proposed (registries.past r)) (registry_is world m.code w.in-Some.core.now w.in-Some.ensures.core)
           ∙ next
       | in_default w ↦
           ap (λ v. map told v.items) w.proposals-is

@@ -1,5 +1,0 @@
-use Rattle.std.proofs.Common.{inr}
-use Rattle.answers.proofs.desk_answerer.answer_line.Goals as goal
-
-pub returns-in-Ok-clause-replies : goal.returns-in-Ok-clause-replies
-returns-in-Ok-clause-replies g c = inr (c.in-Ok.job.message, c.in-Ok.ensures.ok.1, c.answer_job.ensures.asks)

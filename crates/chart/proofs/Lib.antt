@@ -1,0 +1,3 @@
+pub mod Texts
+pub mod FirstNodes
+pub mod Charts

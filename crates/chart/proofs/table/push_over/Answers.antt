@@ -1,0 +1,5 @@
+use Rattle.std.proofs.Common.{rules, append_assoc}
+use Rattle.chart.proofs.table.push_over.Goals as goal
+
+pub returns : goal.returns
+returns c = simp append_assoc c.in_ok-write.ensures.bytes

@@ -1,0 +1,2 @@
+pub mod ChartLines
+pub mod Chart

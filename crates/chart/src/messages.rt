@@ -1,0 +1,79 @@
+//! The lines of messages.
+ghost use Rattle.std.specs.Prelude.{◌≡◌, ◌++◌, OnOk, codes, string_bytes};
+ghost use Rattle.chart.specs.ChartLines.{arrow, delivered_line, lost_line, message_text, shape_of};
+ghost use Rattle.report.specs.ReportLines.{outcome_text};
+
+use protocol::Outcome;
+use report::push_outcome_text;
+use std::fmt::Write;
+use units::NoMemory;
+use wire::Message;
+
+fn push_message(text: &mut String, message: &Message) -> Result<(), NoMemory>
+    ensures { OnOk result (string_bytes text.new ≡ string_bytes text.old ++ message_text message.now) }
+{
+    match message {
+        Message::Proposal(proposal) => write!(text, "proposal {}", proposal.id)?,
+        Message::Notification(notification) => {
+            let status = notification.notified.status();
+            write!(text, "{status} {}", notification.id)?;
+        }
+        Message::Request(request) => write!(text, "request {}", request.id)?,
+    }
+    Ok(())
+}
+
+fn push_arrow(text: &mut String, shape: &str, message: &Message) -> Result<(), NoMemory>
+    ensures { OnOk result (string_bytes text.new ≡ string_bytes text.old ++ arrow shape.now message.now) }
+{
+    let sender = message.sender();
+    let receiver = message.receiver();
+    write!(text, "    {sender}{shape}{receiver}: ")?;
+    push_message(text, message)
+}
+
+fn shape_of(outcome: Outcome) -> &'static str
+    ensures { result.now ≡ shape_of outcome }
+{
+    match outcome {
+        Outcome::NotPossible => "-x",
+        _ => "->>",
+    }
+}
+
+/// Adds what an event came to, and the end of its line.
+pub(crate) fn push_end(text: &mut String, outcome: Outcome) -> Result<(), NoMemory>
+    ensures { OnOk result (string_bytes text.new ≡ string_bytes text.old ++
+        (codes ", " ++ outcome_text outcome ++ codes "\n")) }
+{
+    text.push_str(", ")?;
+    push_outcome_text(text, outcome)?;
+    text.push_str("\n")?;
+    Ok(())
+}
+
+/// Adds the line of a message that comes to its addressee, and what that came to.
+pub(crate) fn push_delivered(
+    text: &mut String,
+    message: &Message,
+    outcome: Outcome,
+) -> Result<(), NoMemory>
+    ensures { OnOk result (string_bytes text.new ≡ string_bytes text.old ++ delivered_line message.now outcome) }
+{
+    push_arrow(text, shape_of(outcome), message)?;
+    push_end(text, outcome)?;
+    Ok(())
+}
+
+/// Adds the line of a message that was posted and never delivered.
+///
+/// # Errors
+///
+/// Fails with `NoMemory` where there is no room for the line. The text may then have a part of it.
+pub(crate) fn push_lost(text: &mut String, message: &Message) -> Result<(), NoMemory>
+    ensures { OnOk result (string_bytes text.new ≡ string_bytes text.old ++ lost_line message.now) }
+{
+    push_arrow(text, "-x", message)?;
+    text.push_str(", never delivered\n")?;
+    Ok(())
+}

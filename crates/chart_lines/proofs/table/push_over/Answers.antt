@@ -1,5 +1,0 @@
-use Rattle.std.proofs.Common.{rules, append_assoc}
-use Rattle.chart_lines.proofs.table.push_over.Goals as goal
-
-pub returns : goal.returns
-returns c = simp append_assoc c.in_ok-write.ensures.bytes

@@ -1,0 +1,11 @@
+//! The faults with which a command fails, with their exit statuses; a file with a scheme; all of a text written, or the
+//! command's fault.
+#![tactic(auto)]
+
+mod fault;
+mod scheme_file;
+mod writing;
+
+pub use fault::{Cause, OpFault, store_fault};
+pub use scheme_file::{node_of, read_scheme, scheme_of};
+pub use writing::write_out;

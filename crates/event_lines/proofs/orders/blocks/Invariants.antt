@@ -1,7 +1,0 @@
-use Rattle.std.proofs.Common.{drop}
-use Rattle.event_lines.specs.Words.{texts}
-use Rattle.event_lines.proofs.BlockWords.{Gathered}
-use Rattle.event_lines.proofs.orders.blocks.Given as goal
-
-abbrev pub invariant-loop-word : goal.invariant-loop-word
-invariant-loop-word l = Gathered (texts l.words) l.found.items (texts (drop l.word-index l.words))

@@ -1,8 +1,0 @@
-use Rattle.std.proofs.Common.{◌≡◌, ◌<◌, ℕ, get_or}
-use Rattle.event_lines.specs.Verbs.{verb_text}
-use Rattle.event_lines.specs.declared.verbs.Verb.TheVariants.{Propose}
-use Rattle.event_lines.proofs.verbs.Verb.read.Given as goal
-
--- none of the first words so far is this one
-abbrev pub invariant-loop-verb : goal.invariant-loop-verb
-invariant-loop-verb l = (n : ℕ) → n < l.verb-index → l.word ≡ verb_text (get_or l.verb-items n Propose) → ⊥

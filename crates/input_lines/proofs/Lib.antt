@@ -1,0 +1,9 @@
+pub mod SpacedWords
+pub mod BlockWords
+pub mod Parties
+pub mod OneEvent
+pub mod WantedParts
+pub mod Questions
+pub mod ScriptsRead
+pub mod FirstLines
+pub mod LinesRead

@@ -1,0 +1,8 @@
+use Rattle.std.proofs.Common.{◌≡◌, ◌<◌, ℕ, get_or}
+use Rattle.input_lines.specs.Verbs.{verb_text}
+use Rattle.input_lines.specs.declared.verbs.Verb.TheVariants.{Propose}
+use Rattle.input_lines.proofs.verbs.Verb.read.Given as goal
+
+-- none of the first words so far is this one
+abbrev pub invariant-loop-verb : goal.invariant-loop-verb
+invariant-loop-verb l = (n : ℕ) → n < l.verb-index → l.word ≡ verb_text (get_or l.verb-items n Propose) → ⊥

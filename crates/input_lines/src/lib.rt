@@ -1,0 +1,19 @@
+//! The lines that people write: those of events and those of scripts, each of words with one space between them; and
+//! how the lines of an input are read one after another.
+#![tactic(auto)]
+
+mod cutting;
+mod events;
+mod line;
+mod orders;
+mod reading;
+mod script;
+mod script_line;
+mod verbs;
+
+pub use cutting::first_line;
+pub use events::event_of;
+pub use line::{WordsFault, first_of, node_first, only_word, words_of};
+pub use reading::{WrittenLine, next_line};
+pub use script::read_script;
+pub use script_line::{MOST_TURNS, ScriptLine, script_line_of};

@@ -1,2 +1,0 @@
-pub mod FirstLines
-pub mod LinesRead

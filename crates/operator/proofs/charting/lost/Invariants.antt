@@ -1,8 +1,0 @@
-use Rattle.std.proofs.Common.{◌≡◌, ℕ, List, map, take}
-use Rattle.std.specs.BTreeSet.{contains}
-use Rattle.std.specs.Ordering.{nat_cmp}
-use Rattle.operator.specs.Chart.{Happening, is_delivered, lost}
-use Rattle.operator.proofs.charting.lost.Given as goal
-
-abbrev pub invariant-loop-place : goal.invariant-loop-place
-invariant-loop-place l = (hs : List Happening) → ((k : ℕ) → contains nat_cmp l.delivered k ≡ is_delivered hs k) → map (λ m. m.now) l.lost.items ≡ lost hs (take l.place l.bag)

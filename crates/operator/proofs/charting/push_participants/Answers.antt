@@ -1,6 +1,0 @@
-use Rattle.chart_lines.specs.ChartLines.{participant_line}
-use Rattle.tables.proofs.Texts.{lines_more}
-use Rattle.operator.proofs.charting.push_participants.Goals as goal
-
-pub loop-node-preserved : goal.loop-node-preserved
-loop-node-preserved c = lines_more participant_line _ _ _ _ _ c.node-item.result c.loop-node-test.true c.node-item.is c.loop-node.invariant c.in_ok-push_participant.ensures

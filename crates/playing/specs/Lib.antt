@@ -1,5 +1,0 @@
-pub mod Answers
-pub mod Heard
-pub mod Notes
-pub mod Orders
-pub mod Wiring

@@ -1,5 +1,0 @@
-use Rattle.rehearsals.proofs.Runs.{run_more}
-use Rattle.rehearsals.proofs.rehearsal.RehearsalReporter.tell.Goals as goal
-
-pub returns : goal.returns
-returns c = λ scheme events ran count. run_more scheme events _ _ _ _ _ _ ran count c.in_ok-run_event.ensures.world c.in_ok-run_event.ensures.text

@@ -1,5 +1,0 @@
-use Rattle.rehearsals.proofs.Reported.{reported}
-use Rattle.rehearsals.proofs.rehearsal.RehearsalReporter.text.Goals as goal
-
-pub returns : goal.returns
-returns c = λ scheme events ran. reported scheme events _ _ _ ran (c.in_ok-push_table.ensures.safe scheme events ran.world)

@@ -1,0 +1,136 @@
+//! Replies to the lines of one session, by a desk.
+ghost use Rattle.std.specs.Prelude.{◌≡◌, [], IfOk, OnErr};
+ghost use Rattle.replies.specs.Answers.{Replies};
+
+use crate::answer::{Answer, answer_job};
+use crate::job::Job;
+use desk::stores::NodeStore;
+use desk::{Bell, Clock, Desk, OpenGate, Opening, Seat};
+use exchanges::Answerer;
+use protocol::NodeCore;
+use std::alloc::Global;
+use std::marker::Model;
+use std::rt::Clock as SystemClock;
+use std::sync::Wait;
+use units::NoMemory;
+use wire::Reply;
+
+/// Replies to lines by a desk, with a seat of its own, and keeps the answers.
+#[derive(Drop)]
+pub struct DeskAnswerer<'a, O: Opening, C: NodeCore, S: NodeStore, B: Bell, K: Clock, R: Wait> {
+    rt: &'a R,
+    alloc: Global,
+    desk: &'a Desk<O, C, S, B>,
+    clock: &'a K,
+    seat: Seat,
+    answers: Vec<Answer>,
+}
+
+impl<'a, O: Opening, C: NodeCore, S: NodeStore, B: Bell, K: Clock, R: Wait> Model
+    for DeskAnswerer<'a, O, C, S, B, K, R> {
+    ghost use Rattle.replies.specs.Answers.{DeskAnswererView};
+
+    ghost Value = { DeskAnswererView K };
+
+    ghost view = { λ s. record { clock = s.clock.now; seat = s.seat; answers = s.answers.items } };
+}
+
+/// The answer to a line, by the desk with that seat where the line writes a message. Fails with `NoMemory` where
+/// memory ran out, and the desk has taken nothing.
+fn answer_line<O: Opening, C: NodeCore, S: NodeStore, B: Bell, K: Clock, R: Wait + SystemClock>(
+    rt: &R,
+    alloc: Global,
+    desk: &Desk<O, C, S, B>,
+    seat: &mut Seat,
+    clock: &K,
+    line: &[u8],
+) -> Result<Answer, NoMemory>
+    ensures line { IfOk result (λ answer. answer.line ≡ line.now) }
+    ensures replies { IfOk result (λ answer. Replies (K.tells clock.now) seat.old seat.new line.now answer) }
+    ensures err { OnErr result (seat.new ≡ seat.old) }
+{
+    match Job::read(alloc, line) {
+        Ok(job) => Ok(answer_job(rt, desk, seat, clock, &OpenGate, job)),
+        Err(refusal) => Answer::unread(alloc, line, refusal),
+    }
+}
+
+impl<'a, O: Opening, C: NodeCore, S: NodeStore, B: Bell, K: Clock, R: Wait> DeskAnswerer<
+    'a,
+    O,
+    C,
+    S,
+    B,
+    K,
+    R,
+> {
+    /// What replies by that desk with that seat, at the moments of the clock. It has no answers yet.
+    pub fn new(
+        rt: &'a R,
+        alloc: Global,
+        desk: &'a Desk<O, C, S, B>,
+        seat: Seat,
+        clock: &'a K,
+    ) -> DeskAnswerer<'a, O, C, S, B, K, R>
+        ensures { result ≡ record { clock = clock.now; seat = seat; answers = [] } }
+    {
+        DeskAnswerer {
+            rt,
+            alloc,
+            desk,
+            clock,
+            seat,
+            answers: Vec::new(alloc),
+        }
+    }
+
+    /// The answers to the lines that it was given, the first one first.
+    pub fn answers(&self) -> &[Answer]
+        ensures { result.now ≡ self.now.answers }
+    {
+        self.answers.as_slice()
+    }
+
+    /// Its seat.
+    pub fn into_seat(self) -> Seat
+        ensures { result ≡ self.entry.seat }
+    {
+        let DeskAnswerer {
+            rt: _,
+            alloc: _,
+            desk: _,
+            clock: _,
+            seat,
+            answers: _,
+        } = self;
+        seat
+    }
+}
+
+impl<'a, O: Opening, C: NodeCore, S: NodeStore, B: Bell, K: Clock, R: Wait + SystemClock> Answerer
+    for DeskAnswerer<'a, O, C, S, B, K, R> {
+    ghost use Rattle.exchanges.specs.Given.{GivesOne};
+    ghost use Rattle.replies.specs.Answers.{RepliesOnce, given_of};
+
+    ghost given = { λ s. given_of s.answers };
+
+    /// The reply to a line, by the desk where the line writes a message. Adds the answer at the end of the answers.
+    /// Fails with `NoMemory` where memory ran out. Then the desk has taken nothing, and the answers are as they were.
+    fn answer(&mut self, line: &[u8]) -> Result<Reply, NoMemory>
+        ensures given { GivesOne (given_of self.old.answers) (given_of self.new.answers) line.now result }
+        ensures replies { RepliesOnce K.tells self.old self.new line.now result }
+    {
+        self.answers.reserve(1)?;
+        let answer = answer_line(
+            self.rt,
+            self.alloc,
+            self.desk,
+            &mut self.seat,
+            self.clock,
+            line,
+        )?;
+        let reply = answer.reply();
+        self.answers.push_reserved(answer);
+        Ok(reply)
+    }
+}

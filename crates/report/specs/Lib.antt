@@ -1,0 +1,3 @@
+pub mod NumberOfUnits
+pub mod ReportLines
+pub mod Table

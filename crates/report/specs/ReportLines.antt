@@ -1,0 +1,104 @@
+-- The lines of a report: one for each event's outcome, and those of a table.
+use Rattle.std.specs.Prelude.{ℕ, min, List, ◌++◌, Option, Some, None, decimal, codes, sum_by}
+use Rattle.std.specs.List.{flat_map}
+use Rattle.units.specs.Code.{code_text}
+use Rattle.units.specs.Block.{raw_text}
+use Rattle.units.specs.declared.code.Code.{Code}
+use Rattle.units.specs.declared.block.RawBlock.{RawBlock}
+use Rattle.status.specs.Id.{id_text}
+use Rattle.status.specs.Status.{status_text}
+use Rattle.status.specs.declared.id.TransactionId.{TransactionId}
+use Rattle.status.specs.declared.status.Status.{Status}
+use Rattle.registry_core.specs.HeldBlock.{HeldBlock}
+use Rattle.protocol.specs.Proposal.{Proposal}
+use Rattle.protocol.specs.declared.event.Outcome.{Outcome}
+use Rattle.protocol.specs.declared.event.Outcome.TheVariants.{Recorded, Repeat, Late, Refused, Done, NotPossible}
+use Rattle.report.specs.NumberOfUnits.{due_units, held_units}
+use Rattle.report.specs.declared.transactions.TransactionRow.{TransactionRow}
+
+-- ---- outcomes
+
+abbrev pub outcome_text : Outcome → List ℕ
+outcome_text (Recorded place) = codes "recorded " ++ decimal place
+outcome_text Repeat = codes "repeat"
+outcome_text Late = codes "late"
+outcome_text (Refused code) = codes "refused " ++ decimal code
+outcome_text Done = codes "done"
+outcome_text NotPossible = codes "not possible"
+
+-- the line of the event with that number
+abbrev pub outcome_line : ℕ → Outcome → List ℕ
+outcome_line event outcome = decimal event ++ codes " " ++ outcome_text outcome ++ codes "\n"
+
+-- ---- transactions
+
+-- a status, or none where the node has no record of the transaction
+abbrev pub status_or_none : Option Status → List ℕ
+status_or_none (Some status) = status_text status
+status_or_none None = codes "none"
+
+abbrev pub transaction_line : TransactionRow → List ℕ
+transaction_line s =
+    codes "transaction " ++ id_text s.id
+    ++ codes " " ++ code_text s.id.code ++ codes " " ++ status_or_none s.at_initiator
+    ++ codes " ITL " ++ status_or_none s.at_log
+    ++ codes " " ++ code_text s.acquirer ++ codes " " ++ status_or_none s.at_acquirer ++ codes "\n"
+
+-- ---- numbers of units
+
+-- of 2^64 units or more, 2^64 - 1 are shown
+abbrev pub greatest_shown : ℕ
+greatest_shown = 18_446_744_073_709_551_615
+
+abbrev pub shown : ℕ → ℕ
+shown units = min units greatest_shown
+
+-- the units that no transfer reserves
+abbrev pub unless_reserved : Option TransactionId → ℕ → ℕ
+unless_reserved (Some id) units = 0
+unless_reserved None units = units
+
+abbrev pub free_units : HeldBlock → ℕ
+free_units l = unless_reserved l.reserving (held_units l)
+
+-- the numbers that are shown of a registry's lines, and of the transfers that owe their units
+abbrev pub held_shown : List HeldBlock → ℕ
+held_shown lines = shown (sum_by held_units lines)
+
+abbrev pub free_shown : List HeldBlock → ℕ
+free_shown lines = shown (sum_by free_units lines)
+
+abbrev pub owed_shown : List Proposal → ℕ
+owed_shown proposals = shown (sum_by due_units proposals)
+
+-- ---- what a registry holds: its numbers of units, and each line of its holdings
+
+abbrev pub registry_line : Code → ℕ → ℕ → List ℕ
+registry_line code held free =
+    codes "registry " ++ code_text code ++ codes " held " ++ decimal held ++ codes " spendable " ++ decimal free ++ codes "\n"
+
+-- the transaction that reserves the units, or free
+abbrev pub reserving_text : Option TransactionId → List ℕ
+reserving_text (Some id) = id_text id
+reserving_text None = codes "free"
+
+abbrev pub holding_line : Code → HeldBlock → List ℕ
+holding_line code l =
+    codes "holds " ++ code_text code ++ codes " " ++ decimal l.account ++ codes " " ++ raw_text l.block.raw ++ codes " " ++ reserving_text l.reserving ++ codes "\n"
+
+abbrev pub registry_lines : Code → List HeldBlock → List ℕ
+registry_lines code lines = registry_line code (held_shown lines) (free_shown lines) ++ flat_map (holding_line code) lines
+
+-- ---- what is owed: the number of units, and each block of each transfer; then the report's end
+
+abbrev pub due_line : TransactionId → RawBlock → List ℕ
+due_line id block = codes "due " ++ id_text id ++ codes " " ++ raw_text block ++ codes "\n"
+
+abbrev pub due_lines : Proposal → List ℕ
+due_lines p = flat_map (due_line p.id) p.content.units
+
+abbrev pub owed_line : List Proposal → List ℕ
+owed_line proposals = codes "owed " ++ decimal (owed_shown proposals) ++ codes "\n"
+
+abbrev pub owed_lines : List Proposal → List ℕ
+owed_lines proposals = owed_line proposals ++ flat_map due_lines proposals ++ codes "end\n"

@@ -1,0 +1,103 @@
+//! The lines of what a registry holds.
+ghost use Rattle.std.specs.Prelude.{◌≡◌, ◌++◌, OnOk, string_bytes};
+ghost use Rattle.std.specs.List.{flat_map};
+ghost use Rattle.report.specs.ReportLines.{free_shown, free_units, held_shown, holding_line, registry_line, registry_lines};
+
+use registry_core::accounts::HeldBlock;
+use status::TransactionId;
+use std::fmt;
+use std::fmt::Write;
+use units::{Code, NoMemory};
+
+#[derive(Drop)]
+struct ReservingText(Option<TransactionId>);
+
+impl fmt::Display for ReservingText {
+    ghost use Rattle.std.specs.Prelude.{Some};
+    ghost use Rattle.report.specs.ReportLines.{reserving_text};
+
+    ghost output = { λ t. Some (reserving_text t.0) };
+
+    fn fmt<W: fmt::Write>(&self, f: &mut fmt::Formatter<W>) -> fmt::Result {
+        match self.0 {
+            Some(id) => write!(f, "{id}"),
+            None => write!(f, "free"),
+        }
+    }
+}
+
+/// The number of units that no transfer reserves.
+fn free_units(line: &HeldBlock) -> u64
+    ensures { result ≡ free_units line.now }
+{
+    match line.reserving {
+        Some(_) => 0,
+        None => line.block.count(),
+    }
+}
+
+/// The number of units, and 2^64 - 1 where there are more.
+fn held_in(lines: &[HeldBlock]) -> u64
+    ensures { result ≡ held_shown lines.now }
+{
+    let mut count = 0u64;
+    for line in lines {
+        count = count.saturating_add(line.block.count());
+    }
+    count
+}
+
+/// The number of free units, and 2^64 - 1 where there are more.
+fn free_in(lines: &[HeldBlock]) -> u64
+    ensures { result ≡ free_shown lines.now }
+{
+    let mut count = 0u64;
+    for line in lines {
+        count = count.saturating_add(free_units(line));
+    }
+    count
+}
+
+/// Adds the line of a registry's numbers of units.
+fn push_numbers(text: &mut String, code: Code, held: u64, free: u64) -> Result<(), NoMemory>
+    ensures { OnOk result (string_bytes text.new ≡ string_bytes text.old ++ registry_line code held free) }
+{
+    writeln!(text, "registry {code} held {held} spendable {free}")?;
+    Ok(())
+}
+
+fn push_line(text: &mut String, code: Code, line: &HeldBlock) -> Result<(), NoMemory>
+    ensures { OnOk result (string_bytes text.new ≡ string_bytes text.old ++ holding_line code line.now) }
+{
+    let account = line.account;
+    let block = line.block;
+    let reserving = ReservingText(line.reserving);
+    writeln!(text, "holds {code} {account} {block} {reserving}")?;
+    Ok(())
+}
+
+fn push_lines(text: &mut String, code: Code, lines: &[HeldBlock]) -> Result<(), NoMemory>
+    ensures { OnOk result (string_bytes text.new ≡ string_bytes text.old ++ flat_map (holding_line code) lines.now) }
+{
+    for line in lines {
+        push_line(text, code, line)?;
+    }
+    Ok(())
+}
+
+/// Adds the lines of what the registry of that code holds: the number of its units and of the free
+/// ones among them, 2^64 - 1 where there are more, and then each line of its holdings.
+///
+/// # Errors
+///
+/// Fails with `NoMemory` where there is no room for the lines. The text may then have a part of them.
+pub(crate) fn push_registry(
+    text: &mut String,
+    code: Code,
+    lines: &[HeldBlock],
+) -> Result<(), NoMemory>
+    ensures { OnOk result (string_bytes text.new ≡ string_bytes text.old ++ registry_lines code lines.now) }
+{
+    push_numbers(text, code, held_in(lines), free_in(lines))?;
+    push_lines(text, code, lines)
+}

@@ -1,0 +1,57 @@
+//! How a transaction stands at its three nodes.
+ghost use Rattle.std.specs.Prelude.{◌≡◌, ◌++◌, OnOk, string_bytes};
+ghost use Rattle.report.specs.ReportLines.{transaction_line};
+
+use status::{Status, TransactionId};
+use std::fmt;
+use std::fmt::Write;
+use units::{Code, NoMemory};
+
+/// How a transaction stands at its three nodes, `None` where the node has no record of it. The
+/// initiator is the code of the identifier.
+#[derive(Clone, Copy, Debug, PartialEq, Eq)]
+pub(crate) struct TransactionRow {
+    pub id: TransactionId,
+    pub acquirer: Code,
+    pub at_initiator: Option<Status>,
+    pub at_log: Option<Status>,
+    pub at_acquirer: Option<Status>,
+}
+
+#[derive(Drop)]
+struct StatusOrNone(Option<Status>);
+
+impl fmt::Display for StatusOrNone {
+    ghost use Rattle.std.specs.Prelude.{Some};
+    ghost use Rattle.report.specs.ReportLines.{status_or_none};
+
+    ghost output = { λ t. Some (status_or_none t.0) };
+
+    fn fmt<W: fmt::Write>(&self, f: &mut fmt::Formatter<W>) -> fmt::Result {
+        match self.0 {
+            Some(status) => write!(f, "{status}"),
+            None => write!(f, "none"),
+        }
+    }
+}
+
+/// Adds the line of a transaction: its identifier, and each of its nodes with the status there.
+///
+/// # Errors
+///
+/// Fails with `NoMemory` where there is no room for the line. The text may then have a part of it.
+pub(crate) fn push_transaction(text: &mut String, row: &TransactionRow) -> Result<(), NoMemory>
+    ensures { OnOk result (string_bytes text.new ≡ string_bytes text.old ++ transaction_line row.now) }
+{
+    let id = row.id;
+    let initiator = id.code;
+    let first = StatusOrNone(row.at_initiator);
+    let middle = StatusOrNone(row.at_log);
+    let acquirer = row.acquirer;
+    let last = StatusOrNone(row.at_acquirer);
+    writeln!(
+        text,
+        "transaction {id} {initiator} {first} ITL {middle} {acquirer} {last}"
+    )?;
+    Ok(())
+}

@@ -1,2 +1,0 @@
-pub mod NumberOfUnits
-pub mod ReportLines

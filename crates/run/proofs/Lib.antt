@@ -1,0 +1,16 @@
+pub mod HeardLines
+pub mod Hearing
+pub mod Lines
+pub mod Noting
+pub mod Ordering
+pub mod Places
+pub mod Wired
+pub mod WorkedNotes
+pub mod Borne
+pub mod Collected
+pub mod Opened
+pub mod Ordered
+pub mod Reported
+pub mod Settling
+pub mod Written
+pub mod WorkedOrders

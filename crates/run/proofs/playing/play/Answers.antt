@@ -1,0 +1,39 @@
+use Rattle.std.proofs.Common.{◌<◌, length, arith, sym}
+use Rattle.std.proofs.Math.ListN.{set}
+use Rattle.std.proofs.lemmas.List.{get_or-set_same, length-set}
+use Rattle.std.proofs.lemmas.Option.{slice_get-get_or, slice_get_read}
+use Rattle.run.proofs.HeardLines.{grow_at}
+use Rattle.run.proofs.Ordering.{orders_asked, orders_impossible}
+use Rattle.run.proofs.playing.play.Goals as goal
+
+pub returns-in-Some-clause-heard : goal.returns-in-Some-clause-heard
+returns-in-Some-clause-heard g c =
+    let place = c.in-Some.ensures.some in
+    let low : c.in-Some.at < length c.args.seats.now = omega (arith, place.1, c.requires.seats) in (
+      place.2,
+      record {
+        at = c.in-Some.at;
+        seat = c.ask.new.seat;
+        place = place.0;
+        is =
+            slice_get_read (set c.args.seats.now c.in-Some.at c.ask.new.seat) (length c.args.seats.now) c.in-Some.at c.ask.new.seat (sym (length-set c.args.seats.now c.in-Some.at c.ask.new.seat)) low
+            (sym (get_or-set_same c.args.seats.now c.in-Some.at c.ask.new.seat c.ask.new.seat low));
+        heard = c.ask.ensures.heard;
+      },
+    )
+
+pub returns-in-Some-clause-grow : goal.returns-in-Some-clause-grow
+returns-in-Some-clause-grow g c =
+    let place = c.in-Some.ensures.some in
+    let low : c.in-Some.at < length c.args.seats.now = omega (arith, place.1, c.requires.seats) in
+    grow_at c.args.seats.now c.in-Some.at _ c.ask.new.seat (slice_get-get_or c.args.seats.now c.in-Some.at _ low) c.ask.ensures.grows
+
+pub returns-in-Some-clause-orders : goal.returns-in-Some-clause-orders
+returns-in-Some-clause-orders g c =
+    let place = c.in-Some.ensures.some in
+    let low : c.in-Some.at < length c.args.seats.now = omega (arith, place.1, c.requires.seats) in
+    λ lines answers len have. orders_asked c.args.scheme.now lines answers c.args.seats.now c.args.line.now len have c.ask.result c.in-Some.at _ c.ask.new.seat
+    (slice_get-get_or c.args.seats.now c.in-Some.at _ low) place.0 place.2 c.ask.ensures.adds c.ask.ensures.notes
+
+pub returns-in-None-clause-orders : goal.returns-in-None-clause-orders
+returns-in-None-clause-orders g c = λ lines answers len have. orders_impossible c.args.scheme.now lines answers c.args.seats.now c.args.line.now len have

@@ -1,0 +1,167 @@
+-- What a run with threads reports.
+use Rattle.std.specs.Prelude.{◌≡◌, ◌≢◌, ◌⊎◌, ◌<◌, ◌+◌, ℕ, cond, All, List, [], ◌∷◌, ◌++◌, Option, None, Some, false, drop, length, map, slice_get, take}
+use Rattle.std.specs.Io.KnownBytes.{Appends, Keeps}
+use Rattle.units.specs.declared.code.Node.{Node}
+use Rattle.protocol.specs.Input.{Input}
+use Rattle.protocol.specs.Scheme.{Scheme}
+use Rattle.protocol.specs.Registries.{nodes, place_of}
+use Rattle.desk.specs.StoreFault.{StoreFault}
+use Rattle.desk.specs.NodeStore.{Ghosts}
+use Rattle.desk.specs.Keeping.{IsAtDesk, IsKept, StoredView}
+use Rattle.desk.specs.Views.{StateView, SeatView, committed_records}
+use Rattle.desk.specs.declared.notes.Ticket.{Ticket}
+use Rattle.sessions.specs.Orders.{was_ordered}
+use Rattle.weave.specs.Following.{IsWeaveFault, journal_of}
+use Rattle.weave.specs.declared.fault.WeaveFault.TheVariants as weaving
+use Rattle.command_faults.specs.declared.fault.OpFault.{OpFault}
+use Rattle.command_faults.specs.declared.fault.OpFault.TheVariants.{Write, Store, Stuck, Unsettled, NoMemory}
+use Rattle.audit.specs.Audits.{IsAuditTable}
+use Rattle.input_lines.specs.declared.script_line.ScriptLine.{ScriptLine}
+use Rattle.run.specs.Answers.{AreAnswers, IsAnswer, answer_lines}
+use Rattle.run.specs.Heard.{AreHeard}
+use Rattle.run.specs.Orders.{AreOrders}
+use Rattle.run.specs.Settled.{AreSettled, FailsToSettle}
+use Rattle.run.specs.declared.answer.ScriptAnswer.{ScriptAnswer}
+
+-- ---- the table of states, and of what their threads were told
+
+abbrev pub committed_by_all : List StateView → List (List Input)
+committed_by_all helds = map committed_records helds
+
+-- all nodes are settled, and the table is that of a run that leads to their committed records
+pub record IsReported (scheme : Scheme) (helds : List StateView) (seats : List (List SeatView)) (table : List ℕ) : Type 0 where
+  pub settled : AreSettled scheme helds seats
+  pub is_table : IsAuditTable scheme (committed_by_all helds) table
+
+-- all nodes are settled, and no run leads to their committed records
+pub record HasNoRun (scheme : Scheme) (helds : List StateView) (seats : List (List SeatView)) (n : Node) (place : ℕ) : Type 0 where
+  pub settled : AreSettled scheme helds seats
+  pub fault : IsWeaveFault scheme (journal_of scheme (committed_by_all helds)) (weaving.Stuck n place)
+
+-- why there is no table
+abbrev pub IsTableFault : Scheme → List StateView → List (List SeatView) → OpFault → Type 0
+IsTableFault scheme helds seats (Unsettled n) = FailsToSettle scheme helds seats (Unsettled n)
+IsTableFault scheme helds seats (Stuck n place) = HasNoRun scheme helds seats n place
+IsTableFault scheme helds seats NoMemory = Unit {0}
+IsTableFault scheme helds seats _ = ⊥
+
+-- nothing was written, or the first bytes of the table, fewer than all
+abbrev pub FailsToReport : OpFault → Scheme → List StateView → List (List SeatView) → (before after : Option (List ℕ)) → Type 0
+FailsToReport (Write count) scheme helds seats v w = (table : List ℕ) × IsReported scheme helds seats table × (count < length table) × Appends v w (take count table)
+FailsToReport fault scheme helds seats v w = IsTableFault scheme helds seats fault × Keeps v w
+
+-- ---- how the nodes of a run end
+
+abbrev pub states_of : {S : Type 0} → List (StoredView S) → List StateView
+states_of nodes = map (λ n. n.state) nodes
+
+-- the state at a desk goes by the scheme, and is that of one of the nodes that were loaded: its journal at the opening
+-- is that one's, and its store's count of faults was
+pub record IsLoadedAmong {S : Type 0} (g : Ghosts S) (scheme : Scheme) (loaded : List (StoredView S)) (its_scheme : Scheme) (n : Node) (journal : List Input) (faults : ℕ) : Type 0 where
+  pub scheme_is : its_scheme ≡ scheme
+  pub at : ℕ
+  pub old : StoredView S
+  pub is : slice_get loaded at ≡ Some old
+  pub node_is : n ≡ old.state.node
+  pub journal_is : journal ≡ old.state.journal
+  pub faults_are : faults ≡ g.faults old.store
+
+-- what is known of the nodes of the run when their desks open
+module _ {S : Type 0} (g : Ghosts S) (opened : Scheme → Node → List Input → ℕ → Type 0) where
+  -- no fault stopped the store, which has just the committed records
+  pub record EndsWell (kept : StoredView S) : Type 0 where
+    pub keeps : IsKept g kept
+    pub at : IsAtDesk g opened kept None
+
+  -- each node of the scheme ended well
+  pub record HaveEnded (scheme : Scheme) (ends : List (StoredView S)) : Type 0 where
+    pub nodes_are : map (λ e. e.state.node) ends ≡ nodes scheme
+    pub well : All (EndsWell) ends
+
+  -- that fault stopped the node's store
+  pub record HasFailed (n : Node) (fault : StoreFault) : Type 0 where
+    pub kept : StoredView S
+    pub keeps : IsKept g kept
+    pub node_is : kept.state.node ≡ n
+    pub at : IsAtDesk g opened kept (Some fault)
+
+  -- the desk in that node's place is another's
+  pub record IsMisplaced (n : Node) : Type 0 where
+    pub kept : StoredView S
+    pub keeps : IsKept g kept
+    pub other : kept.state.node ≢ n
+
+  -- all nodes ended well, and what their threads were told has that fault
+  pub record HasTableFault (scheme : Scheme) (fault : OpFault) : Type 0 where
+    pub ends : List (StoredView S)
+    pub seats : List (List SeatView)
+    pub ended : HaveEnded scheme ends
+    pub cause : IsTableFault scheme (states_of ends) seats fault
+
+  -- a fault after the script's end, but for the output's
+  abbrev pub IsLateFault : Scheme → OpFault → Type 0
+  IsLateFault scheme (Store n fault) = HasFailed n fault
+  IsLateFault scheme (Unsettled n) = IsMisplaced n ⊎ HasTableFault scheme (Unsettled n)
+  IsLateFault scheme (Stuck n place) = HasTableFault scheme (Stuck n place)
+  IsLateFault scheme NoMemory = Unit {0}
+  IsLateFault scheme _ = ⊥
+
+-- ---- a script
+
+-- of records, the first of which has that place, those that were ordered, each with its place
+abbrev pub ordered_from : ℕ → List Input → List Ticket
+ordered_from place [] = []
+ordered_from place (input ∷ inputs) = cond (was_ordered input) (record { place = place; input = input } ∷ ordered_from (place + 1) inputs) (ordered_from (place + 1) inputs)
+
+-- the committed records since the opening
+abbrev pub since : StateView → List Input
+since held = drop held.opening (committed_records held)
+
+-- those of them that were ordered
+abbrev pub orders_of : StateView → List Ticket
+orders_of held = ordered_from held.opening (since held)
+
+-- the others are, at each node, such as its threads have recorded
+abbrev pub HaveOthers : (Input → Type 0) → Scheme → List StateView → Type 0
+HaveOthers Takes scheme helds = (n : Node) (at : ℕ) (held : StateView) → place_of scheme n ≡ Some at → slice_get helds at ≡ Some held → All (λ input. was_ordered input ≡ false → Takes input) (since held)
+
+-- the answers to the script's lines, and then the table of the world that a run leads to, whose committed journals are
+-- those of these nodes; they bear the answers, and since the opening they have the script's orders and no others
+pub record IsRunReport (scheme : Scheme) (lines : List ScriptLine) (helds : List StateView) (text : List ℕ) : Type 0 where
+  pub answers : List ScriptAnswer
+  pub table : List ℕ
+  pub borne : AreAnswers (IsAnswer scheme (journal_of scheme (committed_by_all helds))) lines answers
+  pub orders : (n : Node) (at : ℕ) (held : StateView) → place_of scheme n ≡ Some at → slice_get helds at ≡ Some held → AreOrders n lines answers (orders_of held)
+  pub is_table : IsAuditTable scheme (committed_by_all helds) table
+  pub spelled : text ≡ answer_lines 1 answers ++ table
+
+-- an answer to each line, as the desks told it, was written, and nothing else
+pub record HasAnswered (scheme : Scheme) (lines : List ScriptLine) (before after : Option (List ℕ)) : Type 0 where
+  pub answers : List ScriptAnswer
+  pub seats : List SeatView
+  pub heard : AreHeard scheme seats lines answers
+  pub written : Appends before after (answer_lines 1 answers)
+
+-- the first bytes of the answers were written, fewer than all
+pub record AnswersInPart (scheme : Scheme) (lines : List ScriptLine) (count : ℕ) (before after : Option (List ℕ)) : Type 0 where
+  pub answers : List ScriptAnswer
+  pub seats : List SeatView
+  pub heard : AreHeard scheme seats lines answers
+  pub fewer : count < length (answer_lines 1 answers)
+  pub written : Appends before after (take count (answer_lines 1 answers))
+
+module _ {S : Type 0} (g : Ghosts S) (opened : Scheme → Node → List Input → ℕ → Type 0) where
+  -- the nodes ended well, and the answers and the first bytes of their table were written, fewer than all
+  pub record ReportsInPart (scheme : Scheme) (lines : List ScriptLine) (count : ℕ) (before after : Option (List ℕ)) : Type 0 where
+    pub ends : List (StoredView S)
+    pub text : List ℕ
+    pub ended : HaveEnded g opened scheme ends
+    pub report : IsRunReport scheme lines (states_of ends) text
+    pub fewer : count < length text
+    pub written : Appends before after (take count text)
+
+  -- after the script's end the answers are written before anything else is looked at
+  abbrev pub FailsToRun : OpFault → Scheme → List ScriptLine → (before after : Option (List ℕ)) → Type 0
+  FailsToRun (Write count) scheme lines v w = AnswersInPart scheme lines count v w ⊎ ReportsInPart scheme lines count v w
+  FailsToRun NoMemory scheme lines v w = Keeps v w ⊎ HasAnswered scheme lines v w
+  FailsToRun fault scheme lines v w = IsLateFault g opened scheme fault × HasAnswered scheme lines v w

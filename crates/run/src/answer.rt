@@ -1,0 +1,65 @@
+//! What a line of a script comes to.
+ghost use Rattle.std.specs.Prelude.{◌≡◌, ◌++◌, IfOk, OnOk, codes, decimal, string_bytes};
+ghost use Rattle.report.specs.ReportLines.{status_or_none};
+ghost use Rattle.run.specs.Answers.{answer_line, answer_lines};
+
+use desk::Told;
+use protocol::{Outcome, Stepped};
+use report::push_outcome;
+use status::Status;
+use std::alloc::Global;
+use std::fmt::Write;
+use units::NoMemory;
+
+/// What a line of a script comes to.
+#[derive(Clone, Copy, Debug, PartialEq, Eq)]
+pub enum ScriptAnswer {
+    /// The scheme has no such node, or the node takes no such order.
+    NotPossible,
+    /// What the node told, once all records were committed that its journal had then.
+    Told(Told),
+}
+
+fn push_status(text: &mut String, number: u64, status: Option<Status>) -> Result<(), NoMemory>
+    ensures { OnOk result (string_bytes text.new
+        ≡ string_bytes text.old ++ decimal number ++ codes " status " ++ status_or_none status ++ codes "\n") }
+{
+    let word = match status {
+        Some(status) => status.name(),
+        None => "none",
+    };
+    writeln!(text, "{number} status {word}")?;
+    Ok(())
+}
+
+/// Adds the answer to the line with that number.
+fn push_answer(text: &mut String, number: u64, answer: ScriptAnswer) -> Result<(), NoMemory>
+    ensures { OnOk result (string_bytes text.new ≡ string_bytes text.old ++ answer_line number answer) }
+{
+    let outcome = match answer {
+        ScriptAnswer::NotPossible => Outcome::NotPossible,
+        ScriptAnswer::Told(Told::Step(Stepped::Recorded(place))) => Outcome::Recorded(place as u64),
+        ScriptAnswer::Told(Told::Step(Stepped::Repeat)) => Outcome::Repeat,
+        ScriptAnswer::Told(Told::Step(Stepped::Late)) => Outcome::Late,
+        ScriptAnswer::Told(Told::Refused(refusal)) => Outcome::Refused(refusal.code),
+        ScriptAnswer::Told(Told::Status(status)) => return push_status(text, number, status),
+    };
+    push_outcome(text, number, outcome)
+}
+
+/// The lines of the answers, numbered from 1 on.
+///
+/// # Errors
+///
+/// Fails with `NoMemory` where memory ran out.
+pub(crate) fn lines_of(alloc: Global, answers: &[ScriptAnswer]) -> Result<String, NoMemory>
+    ensures { IfOk result (λ s. string_bytes s ≡ answer_lines 1 answers.now) }
+{
+    let mut text = String::new(alloc);
+    let mut number = 0u64;
+    for answer in answers {
+        number += 1;
+        push_answer(&mut text, number, *answer)?;
+    }
+    Ok(text)
+}

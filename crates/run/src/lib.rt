@@ -1,0 +1,23 @@
+//! The command `run`: a script that is played at the desks of nodes with threads of their own, and the table that their
+//! records lead to.
+#![tactic(auto)]
+
+mod answer;
+mod asking;
+mod gathering;
+mod playing;
+mod reporting;
+mod running;
+mod taking;
+mod threads;
+mod watch;
+mod wiring;
+
+pub use answer::ScriptAnswer;
+pub use reporting::report_run;
+pub use running::run_script;
+pub use watch::{Nobody, Watch};
+pub use wiring::Network;
+
+// A run is that of the nodes of a world.
+pub use world;

@@ -1,0 +1,121 @@
+//! The lines of a script, one after another, at the desks of all nodes.
+ghost use Rattle.std.specs.Prelude.{◌≡◌, ◌<◌, ◌++◌, ◌∷◌, [], true, false, All, List, length, IfNone, IfOk, IfSome, OnOk, Some};
+ghost use Rattle.protocol.specs.Scheme.{Scheme as AScheme};
+ghost use Rattle.protocol.specs.Registries.{nodes, place_of};
+ghost use Rattle.protocol.specs.World.{is_order, opening};
+ghost use Rattle.run.specs.Answers.{is_possible, node_of};
+ghost use Rattle.run.specs.Heard.{AllGrow, IsHeard};
+ghost use Rattle.run.specs.Orders.{HaveOrders, IsPlayed};
+ghost use Rattle.run.specs.declared.answer.ScriptAnswer.{ScriptAnswer as AnAnswer};
+ghost use Rattle.input_lines.specs.declared.script_line.ScriptLine.{ScriptLine as ALine};
+
+use crate::answer::ScriptAnswer;
+use crate::asking::ask;
+use crate::watch::{Watch, tell_committed};
+use desk::stores::NodeStore;
+use desk::{Bell, Desk, Opening, Seat};
+use input_lines::ScriptLine;
+use protocol::scheme::Scheme;
+use protocol::wire::Input;
+use protocol::{NodeCore, place_of};
+use std::alloc::Global;
+use std::rt::Clock as SystemClock;
+use std::sync::Wait;
+use units::{NoMemory, Node};
+
+/// Whether a node of that kind takes the order.
+fn takes(node: Node, input: &Input) -> bool
+    ensures { (scheme : AScheme) → result ≡ is_order (opening scheme) node input.now }
+{
+    match input {
+        Input::Propose(_) | Input::Request(_) | Input::OpenAccount(_) | Input::CloseAccount(_) =>
+            matches!(node, Node::Registry(_)),
+        Input::CleanUp(_) | Input::Eligible { .. } => matches!(node, Node::Itl),
+        Input::Ack(_) | Input::Received { .. } => false,
+    }
+}
+
+/// The place of the line's node, where the line is possible.
+fn place_for(scheme: &Scheme, line: &ScriptLine) -> Option<usize>
+    ensures some { IfSome result (λ at. (place_of scheme.now (node_of line.now) ≡ Some at)
+        × (at < length (nodes scheme.now)) × (is_possible scheme.now line.now ≡ true)) }
+    ensures none { IfNone result (is_possible scheme.now line.now ≡ false) }
+{
+    match line {
+        ScriptLine::Order { node, input } => {
+            if takes(*node, input) {
+                place_of(scheme, *node)
+            } else {
+                None
+            }
+        }
+        ScriptLine::Status { node, .. } => place_of(scheme, *node),
+        ScriptLine::Until { node, .. } => place_of(scheme, *node),
+    }
+}
+
+/// What a line comes to.
+fn play<O: Opening, C: NodeCore, S: NodeStore, B: Bell, P: Watch, R: Wait + SystemClock>(
+    rt: &R,
+    scheme: &Scheme,
+    desks: &[Desk<O, C, S, B>],
+    seats: &mut [Seat],
+    line: &ScriptLine,
+    watch: &mut P,
+) -> ScriptAnswer
+    requires desks { length desks.now ≡ length (nodes scheme.now) }
+    requires seats { length seats.old ≡ length (nodes scheme.now) }
+    ensures heard { IsHeard scheme.now seats.new line.now result }
+    ensures grow { AllGrow seats.old seats.new }
+    ensures orders { (lines : List ALine) (answers : List AnAnswer) → length answers ≡ length lines
+        → HaveOrders scheme.now lines answers seats.old
+        → HaveOrders scheme.now (lines ++ line.now ∷ []) (answers ++ result ∷ []) seats.new }
+    ensures count { length seats.new ≡ length seats.old }
+{
+    match place_for(scheme, line) {
+        Some(at) => ScriptAnswer::Told(ask(rt, desks, at, &mut seats[at], line, watch)),
+        None => ScriptAnswer::NotPossible,
+    }
+}
+
+fn push(answers: &mut Vec<ScriptAnswer>, answer: ScriptAnswer) -> Result<(), NoMemory>
+    ensures { OnOk result (answers.new.items ≡ answers.old.items ++ answer ∷ []) }
+{
+    answers.push(answer)?;
+    Ok(())
+}
+
+/// Plays the lines one after another and returns what each of them was answered. Each seat is replaced by that after
+/// the last line, and the watch hears of each line after it was played. Fails with `NoMemory` if memory runs out for
+/// the answers, before the first line.
+pub(crate) fn play_all<
+    O: Opening,
+    C: NodeCore,
+    S: NodeStore,
+    B: Bell,
+    P: Watch,
+    R: Wait + SystemClock,
+>(
+    rt: &R,
+    alloc: Global,
+    scheme: &Scheme,
+    desks: &[Desk<O, C, S, B>],
+    seats: &mut [Seat],
+    lines: &[ScriptLine],
+    watch: &mut P,
+) -> Result<Vec<ScriptAnswer>, NoMemory>
+    requires desks { length desks.now ≡ length (nodes scheme.now) }
+    requires seats { length seats.old ≡ length (nodes scheme.now) }
+    requires none { All (λ s. (s.tickets ≡ []) × (s.notes ≡ [])) seats.old }
+    ensures played { IfOk result (λ v. IsPlayed scheme.now lines.now v.items seats.new) }
+    ensures count { length seats.new ≡ length seats.old }
+{
+    let mut answers = Vec::with_capacity(alloc, lines.len())?;
+    for line in lines {
+        let answer = play(rt, scheme, desks, seats, line, watch);
+        push(&mut answers, answer)?;
+        tell_committed(rt, desks, watch);
+        watch.answered();
+    }
+    Ok(answers)
+}

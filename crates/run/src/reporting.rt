@@ -1,0 +1,179 @@
+//! The table of a run with threads, from its states and from what its threads were told.
+ghost use Rattle.std.specs.Prelude.{◌≡◌, ◌<◌, [], ℕ, All, List, length, map, IfErr, IfOk, OnOk, string_bytes};
+ghost use Rattle.std.specs.Io.KnownBytes.{Appends};
+ghost use Rattle.protocol.specs.Registries.{nodes};
+ghost use Rattle.desk.specs.Settling.{IsSettled};
+ghost use Rattle.desk.specs.Views.{committed_records};
+ghost use Rattle.run.specs.Runs.{FailsToReport, IsReported, IsTableFault, states_of};
+ghost use Rattle.run.specs.Settled.{AreSettled, FailsToSettle, FailsToSettleAt};
+ghost use Rattle.world.specs.Cores.{journal_of, node_of, scheme_of};
+
+use audit::table_of_cores;
+use command_faults::{OpFault, write_out};
+use desk::stores::NodeStore;
+use desk::{Seat, State, Stored, Unsettled, settle_with};
+use protocol::scheme::Scheme;
+use protocol::{NodeCore, nodes_of};
+use std::alloc::Global;
+use std::io::Write;
+use units::Node;
+use weave::{Nobody, Watch};
+use world::Core;
+
+/// Settles a node under the scheme. Returns its core, with the committed records.
+fn settle_node(
+    alloc: Global,
+    scheme: &Scheme,
+    node: Node,
+    state: &State<Core>,
+    seats: &[Seat],
+) -> Result<Core, OpFault>
+    ensures ok { OnOk result (IsSettled scheme.now node state.now seats.now) }
+    ensures scheme { IfOk result (λ core. scheme_of core ≡ scheme.now) }
+    ensures node { IfOk result (λ core. node_of core ≡ node) }
+    ensures journal { IfOk result (λ core. journal_of core ≡ committed_records state.now) }
+    ensures err { IfErr result (FailsToSettleAt scheme.now node state.now seats.now) }
+{
+    let core = Core::new(alloc, scheme, node)?;
+    match settle_with(core, state, seats) {
+        Ok(settled) => Ok(settled.core),
+        Err(Unsettled::NoMemory) => Err(OpFault::NoMemory),
+        Err(_) => Err(OpFault::Unsettled { node }),
+    }
+}
+
+/// Settles each of these nodes, which are all, and adds its core where there are none. Tells how many records each has.
+fn add_settled<S: NodeStore, P: Watch>(
+    cores: &mut Vec<Core>,
+    alloc: Global,
+    scheme: &Scheme,
+    names: &[Node],
+    stored: &[Stored<Core, S>],
+    seats: &[Vec<Seat>],
+    watch: &mut P,
+) -> Result<(), OpFault>
+    requires empty { cores.old.items ≡ [] }
+    requires all { names.now ≡ nodes scheme.now }
+    requires states { length stored.now ≡ length (nodes scheme.now) }
+    requires seats { length seats.now ≡ length (nodes scheme.now) }
+    ensures ok { OnOk result (AreSettled scheme.now (states_of stored.now) (map (λ v. v.items) seats.now)) }
+    ensures nodes { OnOk result (map node_of cores.new.items ≡ nodes scheme.now) }
+    ensures schemes { OnOk result (All (λ core. scheme_of core ≡ scheme.now) cores.new.items) }
+    ensures journals { OnOk result (map journal_of cores.new.items ≡ map committed_records (states_of stored.now)) }
+    ensures err { IfErr result (FailsToSettle scheme.now (states_of stored.now) (map (λ v. v.items) seats.now)) }
+{
+    for at in 0..stored.len() {
+        if cores.reserve(1).is_err() {
+            return Err(OpFault::NoMemory);
+        }
+        match settle_node(
+            alloc,
+            scheme,
+            names[at],
+            stored[at].state(),
+            seats[at].as_slice(),
+        ) {
+            Ok(core) => {
+                watch.read(core.records());
+                cores.push_reserved(core);
+            }
+            Err(fault) => return Err(fault),
+        }
+    }
+    Ok(())
+}
+
+/// Settles all nodes: the log, then the registries in the scheme's order. Returns their cores, with the committed
+/// records, of which it tells.
+fn settle_all<S: NodeStore, P: Watch>(
+    alloc: Global,
+    scheme: &Scheme,
+    stored: &[Stored<Core, S>],
+    seats: &[Vec<Seat>],
+    watch: &mut P,
+) -> Result<Vec<Core>, OpFault>
+    requires states { length stored.now ≡ length (nodes scheme.now) }
+    requires seats { length seats.now ≡ length (nodes scheme.now) }
+    ensures ok { OnOk result (AreSettled scheme.now (states_of stored.now) (map (λ v. v.items) seats.now)) }
+    ensures nodes { IfOk result (λ v. map node_of v.items ≡ nodes scheme.now) }
+    ensures schemes { IfOk result (λ v. All (λ core. scheme_of core ≡ scheme.now) v.items) }
+    ensures journals { IfOk result (λ v. map journal_of v.items ≡ map committed_records (states_of stored.now)) }
+    ensures err { IfErr result (FailsToSettle scheme.now (states_of stored.now) (map (λ v. v.items) seats.now)) }
+{
+    let names = nodes_of(alloc, scheme)?;
+    let mut cores = Vec::new(alloc);
+    match add_settled(
+        &mut cores,
+        alloc,
+        scheme,
+        names.as_slice(),
+        stored,
+        seats,
+        watch,
+    ) {
+        Ok(()) => Ok(cores),
+        Err(fault) => {
+            drop(cores);
+            Err(fault)
+        }
+    }
+}
+
+/// The table, where all nodes are settled. Tells of the records as they are settled and woven.
+pub(crate) fn report_of<S: NodeStore, P: Watch>(
+    alloc: Global,
+    scheme: &Scheme,
+    stored: &[Stored<Core, S>],
+    seats: &[Vec<Seat>],
+    watch: &mut P,
+) -> Result<String, OpFault>
+    requires states { length stored.now ≡ length (nodes scheme.now) }
+    requires seats { length seats.now ≡ length (nodes scheme.now) }
+    ensures ok { IfOk result (λ s. IsReported scheme.now (states_of stored.now) (map (λ v. v.items) seats.now)
+        (string_bytes s)) }
+    ensures err { IfErr result (IsTableFault scheme.now (states_of stored.now) (map (λ v. v.items) seats.now)) }
+{
+    match settle_all(alloc, scheme, stored, seats, watch) {
+        Ok(cores) => table_of_cores(alloc, scheme, cores, watch),
+        Err(fault) => Err(fault),
+    }
+}
+
+/// Settles each node with the seats of its threads: whether what they were told is what one thread alone would have
+/// been told. Finds a run that leads to the committed records of all nodes and to no others, and writes the table of
+/// the world that it leads to.
+///
+/// The states, each with its store, and the lists of seats are those of the log, and then of the registries in the
+/// scheme's order. A node is settled by its core under the scheme, whatever scheme its state has.
+///
+/// # Errors
+///
+/// Nothing is written, but where the output failed:
+///
+/// - `Unsettled`: the first node in that order whose threads were told something else, or whose journal isn't recorded
+///   under the scheme.
+/// - `Stuck`: no run leads to the committed records. Followed as far as they go, the node is the first with a record
+///   left, and the place is that record's.
+/// - `Write`: the output failed, after the number of bytes that the fault tells.
+/// - `NoMemory`: out of memory.
+pub fn report_run<S: NodeStore, W: Write>(
+    alloc: Global,
+    scheme: &Scheme,
+    stored: &[Stored<Core, S>],
+    seats: &[Vec<Seat>],
+    writer: &mut W,
+) -> Result<(), OpFault>
+    requires states { length stored.now ≡ length (nodes scheme.now) }
+    requires seats { length seats.now ≡ length (nodes scheme.now) }
+    ensures ok { OnOk result ((table : List ℕ)
+        × IsReported scheme.now (states_of stored.now) (map (λ v. v.items) seats.now) table
+        × Appends (W.contents writer.old) (W.contents writer.new) table) }
+    ensures err { IfErr result
+        (λ e. FailsToReport e scheme.now (states_of stored.now) (map (λ v. v.items) seats.now) (W.contents writer.old)
+        (W.contents writer.new)) }
+{
+    match report_of(alloc, scheme, stored, seats, &mut Nobody) {
+        Ok(table) => write_out(writer, table.as_str()),
+        Err(fault) => Err(fault),
+    }
+}

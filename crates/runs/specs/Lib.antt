@@ -1,3 +1,0 @@
-pub mod Gathered
-pub mod Settled
-pub mod Runs

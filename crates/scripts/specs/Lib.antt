@@ -1,2 +1,0 @@
-pub mod ScriptLines
-pub mod Scripts

@@ -1,3 +1,0 @@
-pub mod Held
-pub mod Lines
-pub mod Splitting

@@ -1,0 +1,113 @@
+-- Bytes as lines and what follows them, cut at one newline after another.
+use Rattle.std.proofs.Common.{◌≡◌, ℕ, zero, suc, ◌+◌, ◌-◌, ◌<◌, ◌≤◌, List, [], ◌∷◌, ◌++◌, Some, None, length, get_or, take, drop, refl, sym, ap, subst, ◌∙◌, arith, add-one, append_assoc, length-append}
+use Rattle.std.proofs.Math.Seq.{split_at}
+use Rattle.std.proofs.lemmas.List.{take-append-drop, take-append-le, take_all, length-take-le, get_or-take, length-drop}
+use Rattle.std.proofs.lemmas.Bool.{eqb-true, eq-eqb}
+use Rattle.std.specs.List.{AllByRecursion}
+use Rattle.memchr.specs.Find.{IsFirstByte, is_byte}
+use Rattle.units.proofs.Cuts.{free_from}
+use Rattle.streams.specs.Lines.{stream_of, HasNoNewline, IsWithin, Splits, IsOver}
+use Rattle.streams.specs.Splitting.{rest_after}
+
+pub stream_append : (ls : List (List ℕ)) (rest xs : List ℕ) → stream_of ls (rest ++ xs) ≡ stream_of ls rest ++ xs
+stream_append [] rest xs = refl
+stream_append (l ∷ ls) rest xs = ap (λ t. l ++ 10 ∷ t) (stream_append ls rest xs) ∙ sym (append_assoc l (10 ∷ stream_of ls rest) xs)
+
+pub stream_join : (ls ms : List (List ℕ)) (rest : List ℕ) → stream_of (ls ++ ms) rest ≡ stream_of ls (stream_of ms rest)
+stream_join [] ms rest = refl
+stream_join (l ∷ ls) ms rest = ap (λ t. l ++ 10 ∷ t) (stream_join ls ms rest)
+
+pub lines_join : (limit : ℕ) (ls ms : List (List ℕ)) → AllByRecursion (IsWithin limit) ls → AllByRecursion (IsWithin limit) ms → AllByRecursion (IsWithin limit) (ls ++ ms)
+lines_join limit [] ms a b = b
+lines_join limit (l ∷ ls) ms a b = (a.0, lines_join limit ls ms a.1 b)
+
+-- ---- what is held after lines
+
+rest_pushed : (held : List ℕ) (ls : List (List ℕ)) (l tail : List ℕ) → rest_after held (ls ++ l ∷ []) tail ≡ tail
+rest_pushed held [] l tail = refl
+rest_pushed held (k ∷ ls) l tail = refl
+
+-- ---- bytes without a newline
+
+free_join : (xs ys : List ℕ) → HasNoNewline xs → HasNoNewline ys → HasNoNewline (xs ++ ys)
+free_join [] ys a b = b
+free_join (x ∷ xs) ys a b = (a.0, free_join xs ys a.1 b)
+
+free_front : (n : ℕ) (xs : List ℕ) → HasNoNewline xs → HasNoNewline (take n xs)
+free_front zero xs free = tt
+free_front (suc n) [] free = tt
+free_front (suc n) (x ∷ xs) free = (free.0, free_front n xs free.1)
+
+-- ---- cutting
+
+-- as far as the lines have been cut, a line has begun, and the rest is left
+pub record Cutting (limit : ℕ) (held piece : List ℕ) (lines : List (List ℕ)) (begun left : List ℕ) : Type 0 where
+  pub whole : held ++ piece ≡ stream_of lines (begun ++ left)
+  pub each : AllByRecursion (IsWithin limit) lines
+  pub within : IsWithin limit begun
+  pub rest : (tail : List ℕ) → rest_after held lines tail ≡ begun ++ tail
+
+-- no newline before `end`
+front_free : (left : List ℕ) (end : ℕ) → IsFirstByte (is_byte 10) left (Some end) → HasNoNewline (take end left)
+front_free left end first =
+    let small : length (take end left) ≡ end = length-take-le end left (omega (arith, first.0.high)) in
+    free_from 10 (take end left) (λ k h e.
+    let below : k < end = omega arith in
+    first.0.before k (omega arith) below (eq-eqb _ _ (sym (get_or-take end left k 0 below) ∙ e)))
+
+pub none_free : (left : List ℕ) → IsFirstByte (is_byte 10) left None → HasNoNewline left
+none_free left never = free_from 10 left (λ k h e. never k (omega arith) h (eq-eqb _ _ e))
+
+to_the_end : (left : List ℕ) (n : ℕ) → take (length left - n) (drop n left) ≡ drop n left
+to_the_end left n = take_all (length left - n) (drop n left) (omega (arith, length-drop n left))
+
+-- a newline ends the line
+pub ends_line : (limit : ℕ) (held piece : List ℕ) (ls : List (List ℕ)) (begun left : List ℕ) (end : ℕ) → IsFirstByte (is_byte 10) left (Some end) → length begun + end ≤ limit
+    → Cutting limit held piece ls begun left → Cutting limit held piece (ls ++ (begun ++ take end left) ∷ []) [] (take (length left - (end + 1)) (drop (end + 1) left))
+ends_line limit held piece ls begun left end first room s =
+    let part = take end left in
+    let after = take (length left - (end + 1)) (drop (end + 1) left) in
+    let small : length part ≡ end = length-take-le end left (omega (arith, first.0.high)) in
+    let byte : get_or left end 0 ≡ 10 = eqb-true _ _ first.1 in
+    let cut : left ≡ part ++ 10 ∷ after =
+    split_at left end 0 first.0.high ∙ ap (λ b. part ++ b ∷ drop (suc end) left) byte ∙ ap (λ n. part ++ 10 ∷ drop n left) (sym (add-one end)) ∙ ap (λ r. part ++ 10 ∷ r) (sym (to_the_end left (end + 1))) in
+    record {
+      whole = s.whole ∙ ap (λ t. stream_of ls (begun ++ t)) cut ∙ ap (stream_of ls) (sym (append_assoc begun part (10 ∷ after))) ∙ sym (stream_join ls ((begun ++ part) ∷ []) after);
+      each = lines_join limit ls ((begun ++ part) ∷ []) s.each ((free_join begun part s.within.0 (front_free left end first), omega (arith, length-append begun part)), tt);
+      within = (tt, omega arith);
+      rest = rest_pushed held ls (begun ++ part);
+    }
+
+-- the line is over the limit before it ends
+over_front : (limit : ℕ) (held piece : List ℕ) (ls : List (List ℕ)) (begun left : List ℕ) (end : ℕ) → HasNoNewline (take end left) → end ≤ length left → limit < length begun + end
+    → Cutting limit held piece ls begun left → IsOver limit (held ++ piece) ls
+over_front limit held piece ls begun left end free low long s =
+    let part = take end left in
+    let small : length part ≡ end = length-take-le end left low in
+    let parts : begun ++ left ≡ (begun ++ part) ++ drop end left = ap (λ t. begun ++ t) (sym (take-append-drop end left)) ∙ sym (append_assoc begun part (drop end left)) in
+    let front : take (limit + 1) (begun ++ left) ≡ take (limit + 1) (begun ++ part) =
+    ap (take (limit + 1)) parts ∙ take-append-le (limit + 1) (begun ++ part) (drop end left) (omega (arith, length-append begun part)) in
+    record {
+      over = begun ++ left;
+      whole = s.whole;
+      each = s.each;
+      long = omega (arith, length-append begun left);
+      no_line = subst HasNoNewline (sym front) (free_front (limit + 1) (begun ++ part) (free_join begun part s.within.0 free));
+    }
+
+pub over_at : (limit : ℕ) (held piece : List ℕ) (ls : List (List ℕ)) (begun left : List ℕ) (end : ℕ) → IsFirstByte (is_byte 10) left (Some end) → limit < length begun + end
+    → Cutting limit held piece ls begun left → IsOver limit (held ++ piece) ls
+over_at limit held piece ls begun left end first long s = over_front limit held piece ls begun left end (front_free left end first) (omega (arith, first.0.high)) long s
+
+pub over_left : (limit : ℕ) (held piece : List ℕ) (ls : List (List ℕ)) (begun left : List ℕ) → HasNoNewline left → limit < length begun + length left
+    → Cutting limit held piece ls begun left → IsOver limit (held ++ piece) ls
+over_left limit held piece ls begun left free long s = over_front limit held piece ls begun left (length left) (free_front (length left) left free) (omega arith) long s
+
+-- what is left has no newline and is within the limit
+pub cut_up : (limit : ℕ) (held piece : List ℕ) (ls : List (List ℕ)) (begun left : List ℕ) → HasNoNewline left → length begun + length left ≤ limit
+    → Cutting limit held piece ls begun left → Splits limit (held ++ piece) ls (rest_after held ls left)
+cut_up limit held piece ls begun left free room s = record {
+  whole = s.whole ∙ ap (stream_of ls) (sym (s.rest left));
+  each = s.each;
+  rest_within = subst (IsWithin limit) (sym (s.rest left)) (free_join begun left s.within.0 free, omega (arith, length-append begun left));
+}

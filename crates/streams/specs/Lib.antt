@@ -1,0 +1,5 @@
+pub mod SplitterView
+pub mod Lines
+pub mod Splitting
+pub mod Calls
+pub mod Inputs

@@ -1,0 +1,224 @@
+use crate::given::Given::{self, Message};
+use crate::given::input_of;
+use crate::nz_desk::{
+    NzDesk, NzState, NzStored, TEN, TEN_MORE, commit, confirm, next_key, nz_desk, nz_stored, query,
+    recorded, state_left, take_all, turn,
+};
+use crate::same::{assert_same, assert_same_in};
+use desk::stores::{MemoryStore, NodeStore};
+use desk::{Life, Seat, Taken, Told, Unsettled, settle};
+use protocol::Stepped;
+use protocol::status::Status;
+use protocol::units::Refusal;
+use protocol::units::refusal_code::NODE_STOPPED;
+use std::alloc::Global;
+use std::process::Abort;
+use std::rt::Clock;
+use std::sync::Wait;
+
+const CANCELLED: Given = Message(
+    r#"{"call":"AcceptNotification","codes":[],"from":"ITL","status":"Cancelled","to":"NZ","transaction":"JP1"}"#,
+);
+
+const CHECKED: Given = Message(
+    r#"{"account":7,"call":"AcceptProposal","from":"ITL","status":"Checked","to":"NZ","to_account":1,"to_registry":"NZ","transaction":"JP1","units":["JP:1:1-1:AAU"]}"#,
+);
+
+/// Asserts the keys of the messages that are next for the log, from each of the keys 0 to 2 on.
+fn assert_next(rt: &(impl Wait + Abort), desk: &NzDesk, expected: [Option<usize>; 3]) {
+    for from in 0..3 {
+        assert_same_in(rt, next_key(rt, desk, from), expected[from], from);
+    }
+}
+
+/// A desk that has taken a proposal from each of two seats.
+fn desk_of_two(rt: &(impl Wait + Abort), alloc: Global, a: &mut Seat, b: &mut Seat) -> NzDesk {
+    let desk = nz_desk(rt, alloc);
+    take_all(rt, alloc, &desk, a, &[(TEN, recorded(0))]);
+    take_all(rt, alloc, &desk, b, &[(TEN_MORE, recorded(1))]);
+    desk
+}
+
+#[test]
+fn messages_leave_after_their_commit(rt: HostRuntime) {
+    let alloc = rt.alloc();
+    let (mut a, mut b) = (Seat::new(alloc), Seat::new(alloc));
+    let desk = desk_of_two(&rt, alloc, &mut a, &mut b);
+    assert_next(&rt, &desk, [None, None, None]);
+    assert_same(&rt, commit(&rt, &desk), 2);
+    assert_next(&rt, &desk, [Some(0), Some(1), None]);
+    drop((desk, a, b));
+}
+
+/// Asserts that NZ1 stands proposed at the desk, of two records, and confirms that.
+fn assert_proposed(rt: &(impl Wait + Clock + Abort), desk: &NzDesk, seat: &mut Seat) {
+    let taken = query(rt, desk, seat);
+    let proposed = Told::Status(Some(Status::Proposed));
+    assert_same(rt, (taken.told(), taken.length()), (proposed, 2));
+    assert!(rt; confirm(rt, desk, seat, taken));
+}
+
+#[test]
+fn a_query_is_confirmed(rt: HostRuntime) {
+    let alloc = rt.alloc();
+    let (mut a, mut b) = (Seat::new(alloc), Seat::new(alloc));
+    let desk = desk_of_two(&rt, alloc, &mut a, &mut b);
+    assert_same(&rt, commit(&rt, &desk), 2);
+    assert_proposed(&rt, &desk, &mut a);
+    assert_same(&rt, a.confirmed(), 2);
+    drop((desk, a, b));
+}
+
+/// What the first seat is told after that, up to the stop.
+const TOLD: &[(Given, Told)] = &[
+    (CANCELLED, Told::Step(Stepped::Recorded(2))),
+    (CANCELLED, Told::Step(Stepped::Repeat)),
+    (CHECKED, Told::Step(Stepped::Late)),
+];
+
+/// Stops the desk, and asserts that it takes nothing and sends nothing then.
+fn assert_stops(rt: &(impl Wait + Abort), alloc: Global, desk: &NzDesk, seat: &mut Seat) {
+    assert!(rt; desk.is_running(rt));
+    desk.stop(rt);
+    assert!(rt; !desk.is_running(rt));
+    let stopped = Told::Refused(Refusal { code: NODE_STOPPED });
+    take_all(rt, alloc, desk, seat, &[(TEN, stopped)]);
+    assert_next(rt, desk, [None, None, None]);
+}
+
+/// Asserts that the state settles with all seats, and not without the second one, which was told of record 1.
+fn assert_settles(rt: &impl Abort, state: &NzState, seats: &[Seat; 2]) {
+    let life = Life {
+        opening: 0,
+        records: 3,
+        committed: 2,
+    };
+    assert_same(rt, settle(state, seats), Ok(life));
+    assert_same(rt, settle(state, &seats[..1]), Err(Unsettled::Missing(1)));
+}
+
+#[test]
+fn a_stopped_desk_settles(rt: HostRuntime) {
+    let alloc = rt.alloc();
+    let (mut a, mut b) = (Seat::new(alloc), Seat::new(alloc));
+    let desk = desk_of_two(&rt, alloc, &mut a, &mut b);
+    assert_same(&rt, commit(&rt, &desk), 2);
+    take_all(&rt, alloc, &desk, &mut a, TOLD);
+    assert_stops(&rt, alloc, &desk, &mut a);
+    let (state, seats) = (state_left(desk), [a, b]);
+    assert_settles(&rt, &state, &seats);
+    drop((state, seats));
+}
+
+/// Has the desk record that many inputs, by which an account is closed and opened in turn.
+fn record_many(rt: &(impl Wait + Abort), alloc: Global, desk: &NzDesk, records: usize) {
+    let mut seat = Seat::new(alloc);
+    for place in 0..records {
+        drop(desk.take(rt, &mut seat, turn(rt, alloc, place)));
+    }
+    drop(seat);
+}
+
+#[test]
+fn a_desk_commits_64_at_most(rt: HostRuntime) {
+    let alloc = rt.alloc();
+    let desk = nz_desk(&rt, alloc);
+    record_many(&rt, alloc, &desk, 65);
+    for records in [64, 1, 0] {
+        assert_same(&rt, desk.commit_next(&rt), Ok(records));
+    }
+    drop(desk);
+}
+
+/// Asserts what the state tells of an input.
+fn assert_stored(rt: &impl Abort, alloc: Global, stored: &mut NzStored, given: Given, told: Told) {
+    let taken = stored.take(input_of(rt, alloc, given));
+    assert_same(rt, taken.told(), told);
+    drop(taken);
+}
+
+/// A state with two records and an empty store.
+fn stored_two(rt: &impl Abort, alloc: Global) -> NzStored {
+    let mut stored = nz_stored(rt, alloc);
+    assert_stored(rt, alloc, &mut stored, TEN, recorded(0));
+    assert_stored(rt, alloc, &mut stored, TEN_MORE, recorded(1));
+    stored
+}
+
+/// How many records the state would commit next, where a batch has at most `max`.
+fn next_batch(rt: &impl Abort, state: &NzState, max: usize) -> usize {
+    let batch = state.batch(max).expect(rt, "memory");
+    let records = batch.len();
+    drop(batch);
+    records
+}
+
+/// Has the state commit its next batch of at most `max` records.
+fn commit_batch(rt: &impl Abort, stored: &mut NzStored, max: usize) {
+    let batch = next_batch(rt, stored.state(), max);
+    assert_same(rt, stored.commit(max), Ok(batch));
+}
+
+/// How many records the store has.
+fn records_in(rt: &impl Abort, store: &mut MemoryStore) -> usize {
+    let loaded = store.load().expect(rt, "memory");
+    let records = loaded.len();
+    drop(loaded);
+    records
+}
+
+/// Has a state of two records commit batches of at most these numbers of records, and asserts how many are committed
+/// then, which its store has.
+fn assert_committed(rt: &impl Abort, alloc: Global, batches: &[usize], records: usize) {
+    let mut stored = stored_two(rt, alloc);
+    for max in batches {
+        commit_batch(rt, &mut stored, *max);
+    }
+    let (state, mut store) = stored.into_parts();
+    assert_same(rt, state.committed().len(), records);
+    let next = next_batch(rt, &state, 64);
+    assert_same(rt, records.checked_add(next), Some(2));
+    assert_same(rt, records_in(rt, &mut store), records);
+    drop(state);
+}
+
+#[test]
+fn a_state_commits_in_batches(rt: HostRuntime) {
+    let alloc = rt.alloc();
+    let batches = [1, 64, 64];
+    for (count, records) in [(0, 0), (1, 1), (2, 2), (3, 2)] {
+        assert_committed(&rt, alloc, &batches[..count], records);
+    }
+}
+
+/// How many records the journal had when that was taken of which there is a receipt.
+fn received(rt: &impl Abort, state: &NzState, taken: Taken) -> usize {
+    let receipt = state.receipt(taken).ok().expect(rt, "a receipt");
+    let length = receipt.taken().length();
+    drop(receipt);
+    length
+}
+
+/// What is given back, of which there is no receipt yet.
+fn not_received(rt: &impl Abort, state: &NzState, taken: Taken) -> Taken {
+    state.receipt(taken).err().expect(rt, "what was taken")
+}
+
+/// Asserts that of the first there is a receipt once one record is committed, and of the second only after another.
+fn assert_receipts(rt: &impl Abort, stored: &mut NzStored, first: Taken, second: Taken) {
+    commit_batch(rt, stored, 1);
+    assert_same(rt, received(rt, stored.state(), first), 1);
+    let second = not_received(rt, stored.state(), second);
+    commit_batch(rt, stored, 1);
+    assert_same(rt, received(rt, stored.state(), second), 2);
+}
+
+#[test]
+fn what_is_committed_has_a_receipt(rt: HostRuntime) {
+    let alloc = rt.alloc();
+    let mut stored = nz_stored(&rt, alloc);
+    let first = stored.take(input_of(&rt, alloc, TEN));
+    let second = stored.take(input_of(&rt, alloc, TEN_MORE));
+    assert_receipts(&rt, &mut stored, first, second);
+    drop(stored);
+}

@@ -1,0 +1,151 @@
+use crate::given::Given::{self, Event};
+use crate::given::input_of;
+use crate::registries::registry;
+use crate::same::assert_same;
+use crate::stations::{
+    COMPLETED, Ended, NodeDesk, Station, UNKNOWN, add_port, call, message, open_station,
+    records_of, refused, run_both,
+};
+use crate::waits::TURNS;
+use desk::{OpenGate, Seat, Told};
+use exchanges::Exchange;
+use protocol::Stepped;
+use protocol::units::NoMemory;
+use protocol::wire::{Input, Message};
+use sessions::Dial;
+use sockets::Ports;
+use std::alloc::Global;
+use std::process::Abort;
+use std::rt::Clock;
+use std::sync::Wait;
+use std::thread;
+use std::thread::Threads;
+use std::time::Duration;
+
+/// An order to close an account of NZ.
+const CLOSE: Given = Event("close NZ 2");
+
+/// How many accepts that fail in a row stop a node, less one.
+const MOST_FAILING: u64 = 99;
+
+/// Waits until a desk has stopped, at most `TURNS` turns of one millisecond. Returns whether it has.
+fn wait_for_stop<R: Wait + Clock>(rt: &R, desk: &NodeDesk) -> bool {
+    for _ in 0..TURNS {
+        if !desk.is_running(rt) {
+            return true;
+        }
+        thread::sleep(rt, Duration::from_millis(1));
+    }
+    false
+}
+
+/// What became of a client and of an order once another node has stopped.
+#[derive(Drop)]
+struct After {
+    stopped: bool,
+    exchanged: Option<Exchange>,
+    told: Told,
+    confirmed: bool,
+    seat: Seat,
+}
+
+/// Has the desk take an order, and waits for its receipt. Returns what was told, whether there is a receipt, and the
+/// seat.
+fn order_at<R: Wait + Clock>(
+    rt: &R,
+    alloc: Global,
+    desk: &NodeDesk,
+    order: Input,
+) -> (Told, bool, Seat) {
+    let mut seat = Seat::new(alloc);
+    let taken = desk.take(rt, &mut seat, order);
+    let told = taken.told();
+    let confirmed = desk.confirm(rt, &mut seat, taken).is_ok();
+    (told, confirmed, seat)
+}
+
+/// An exchange with NZ and an order to it, once JP has stopped. Then NZ stops.
+fn call_after_stop<D: Dial, R: Wait + Clock>(
+    rt: &R,
+    alloc: Global,
+    nz: &Station,
+    jp: &Station,
+    dial: &D,
+    message: &Message,
+    order: Input,
+) -> After {
+    let stopped = wait_for_stop(rt, &jp.desk);
+    let exchanged = call(alloc, dial, nz.node, message);
+    let (told, confirmed, seat) = order_at(rt, alloc, &nz.desk, order);
+    nz.desk.stop(rt);
+    jp.desk.stop(rt);
+    After {
+        stopped,
+        exchanged,
+        told,
+        confirmed,
+        seat,
+    }
+}
+
+/// Two nodes, and what is done once one of them has stopped.
+fn run_and_stop<D, R>(
+    rt: &R,
+    alloc: Global,
+    nz: &Station,
+    jp: &Station,
+    dial: &D,
+    message: &Message,
+    order: Input,
+) -> (Result<Vec<Ended>, NoMemory>, After)
+where
+    D: Dial + Sync,
+    D::Reader: Send,
+    D::Writer: Send,
+    R: Threads + Wait + Clock + Sync,
+{
+    thread::join(
+        rt,
+        move || run_both(rt, alloc, nz, jp, dial, &OpenGate),
+        move || call_after_stop(rt, alloc, nz, jp, dial, message, order),
+    )
+}
+
+/// Asserts that NZ has the record of the order, which that seat was told of, and JP none.
+fn assert_records(
+    rt: &impl Abort,
+    (nz, jp): (Station, Station),
+    ran: Result<Vec<Ended>, NoMemory>,
+    seat: Seat,
+) {
+    let mut ends = ran.expect(rt, "memory");
+    let at_jp = ends.pop().expect(rt, "an end");
+    let at_nz = ends.pop().expect(rt, "an end");
+    drop(ends);
+    assert_same(rt, records_of(rt, nz, at_nz, Some(seat)), (1, 1));
+    assert_same(rt, records_of(rt, jp, at_jp, None), (0, 0));
+}
+
+/// At NZ all accepts fail but the last that may, and it replies; at JP all fail, and it stops, and no other node does.
+#[test]
+fn hundred_accepts(rt: HostRuntime) {
+    let alloc = rt.alloc();
+    let nz = open_station(&rt, alloc, registry(&rt, "NZ"), MOST_FAILING);
+    let jp = open_station(&rt, alloc, registry(&rt, "JP"), u64::MAX);
+    let mut ports = Ports::new(&rt, alloc);
+    add_port(&rt, &mut ports, &nz);
+    add_port(&rt, &mut ports, &jp);
+    let completed = message(&rt, alloc, COMPLETED);
+    let order = input_of(&rt, alloc, CLOSE);
+    let (ran, after) = run_and_stop(&rt, alloc, &nz, &jp, &ports, &completed, order);
+    assert!(rt; after.stopped && after.confirmed);
+    assert_same(
+        &rt,
+        after.exchanged,
+        Some(Exchange::Answered(refused(&rt, UNKNOWN))),
+    );
+    assert_same(&rt, after.told, Told::Step(Stepped::Recorded(0)));
+    drop(completed);
+    drop(ports);
+    assert_records(&rt, (nz, jp), ran, after.seat);
+}

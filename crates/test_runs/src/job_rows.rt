@@ -1,0 +1,36 @@
+use crate::same::assert_same;
+use crate::stations::{ACCEPTED, COMPLETED, message};
+use protocol::units::Refusal;
+use protocol::units::refusal_code::NOT_A_MESSAGE;
+use replies::Job;
+use std::alloc::Global;
+use std::process::Abort;
+
+fn job(rt: &impl Abort, alloc: Global, text: &str) -> Job {
+    Job::read(alloc, text.as_bytes()).expect(rt, "a message")
+}
+
+#[test]
+fn a_job_has_its_line_and_message(rt: HostRuntime) {
+    let alloc = rt.alloc();
+    let job = job(&rt, alloc, COMPLETED);
+    let (same, other) = (
+        message(&rt, alloc, COMPLETED),
+        message(&rt, alloc, ACCEPTED),
+    );
+    assert_same(&rt, job.line(), COMPLETED.as_bytes());
+    assert!(rt; job.message().same(&same) && !job.message().same(&other));
+    let (line, message) = job.into_parts();
+    assert_same(&rt, line.as_slice(), COMPLETED.as_bytes());
+    assert!(rt; message.same(&same));
+    drop(message);
+    drop(other);
+    drop(same);
+}
+
+#[test]
+fn a_line_that_is_no_message_is_no_job(rt: HostRuntime) {
+    let refusal = Job::read(rt.alloc(), b"{}").err();
+    let code = NOT_A_MESSAGE;
+    assert_same(&rt, refusal, Some(Refusal { code }));
+}

@@ -1,0 +1,249 @@
+use crate::registries::registry;
+use crate::same::assert_same;
+use crate::stations::{
+    ACCEPTED, CANCELLED, Ended, PROPOSAL, Station, UNKNOWN, add_port, call, exchange_over, message,
+    open_station, records_of, refused, run_both,
+};
+use crate::waits::{HeldGate, Signals};
+use desk::{Gate, OpenGate};
+use exchanges::Exchange;
+use protocol::units::{NoMemory, Node};
+use protocol::wire::{Message, Reply};
+use sessions::Dial;
+use sockets::Ports;
+use std::alloc::Global;
+use std::io::{self, ErrorKind, Write};
+use std::process::Abort;
+use std::rt::Clock;
+use std::sync::Wait;
+use std::thread;
+use std::thread::Threads;
+
+/// How many bytes of its line a client sends at most before it waits.
+const FEW: usize = 50;
+
+/// How the first of two clients sends its line.
+#[derive(Clone, Copy, Drop)]
+enum Way {
+    /// The first few bytes, and the rest once the other client's exchange has ended.
+    InParts,
+    /// The whole line at once.
+    Whole,
+}
+
+/// What two clients send: the first to one node, for that reply, and the second, once the first has begun, to that node
+/// or another.
+#[derive(Drop)]
+struct Plan {
+    way: Way,
+    first: Message,
+    first_to: Node,
+    first_reply: Reply,
+    second: Message,
+    second_to: Node,
+}
+
+/// A writer that says when it has taken the first bytes, `FEW` at most, and takes no more until the other client's
+/// exchange has ended. It fails where that takes longer than `TURNS` turns of one millisecond.
+#[derive(Drop)]
+struct Halved<'a, W, R> {
+    writer: W,
+    clock: &'a R,
+    signals: &'a Signals,
+}
+
+impl<'a, W: Write, R: Clock> Write for Halved<'a, W, R> {
+    fn write(&mut self, bytes: &[u8]) -> io::Result<usize> {
+        if self.signals.begun.is_set() {
+            if !self.signals.over.wait(self.clock) {
+                return Err(ErrorKind::TimedOut.into());
+            }
+            return self.writer.write(bytes);
+        }
+        let few = bytes.len().min(FEW);
+        let taken = self.writer.write(&bytes[..few])?;
+        self.signals.begun.set();
+        Ok(taken)
+    }
+
+    fn flush(&mut self) -> io::Result<()> {
+        self.writer.flush()
+    }
+}
+
+/// Two nodes that run.
+#[derive(Drop)]
+struct Pair {
+    one: Station,
+    other: Station,
+}
+
+/// One exchange with that node over a connection of its own, in which the line is sent in two parts.
+fn call_in_parts<D: Dial, R: Clock>(
+    rt: &R,
+    alloc: Global,
+    dial: &D,
+    plan: &Plan,
+    signals: &Signals,
+) -> Option<Exchange> {
+    let (reader, writer) = dial.connect(plan.first_to)?;
+    let halved = Halved {
+        writer,
+        clock: rt,
+        signals,
+    };
+    Some(exchange_over(alloc, reader, halved, &plan.first))
+}
+
+/// What the first client does. Returns whether it has the reply that it should have.
+fn send_first<D: Dial, R: Clock>(
+    rt: &R,
+    alloc: Global,
+    dial: &D,
+    plan: &Plan,
+    signals: &Signals,
+) -> bool {
+    let end = match plan.way {
+        Way::InParts => call_in_parts(rt, alloc, dial, plan, signals),
+        Way::Whole => call(alloc, dial, plan.first_to, &plan.first),
+    };
+    end == Some(Exchange::Answered(plan.first_reply))
+}
+
+/// Sends the second message once the first client has begun, and says when it has a reply.
+fn send_second<D: Dial, R: Clock>(
+    rt: &R,
+    alloc: Global,
+    dial: &D,
+    plan: &Plan,
+    signals: &Signals,
+) -> Option<Exchange> {
+    if !signals.begun.wait(rt) {
+        return None;
+    }
+    let end = call(alloc, dial, plan.second_to, &plan.second);
+    signals.over.set();
+    end
+}
+
+/// Two clients at the same time. Then both nodes stop.
+fn meet<D: Dial + Sync, R: Threads + Wait + Clock + Sync>(
+    rt: &R,
+    alloc: Global,
+    dial: &D,
+    pair: &Pair,
+    plan: &Plan,
+    signals: &Signals,
+) -> (bool, Option<Exchange>)
+where
+    D::Reader: Send,
+    D::Writer: Send,
+{
+    let both = thread::join(
+        rt,
+        move || send_first(rt, alloc, dial, plan, signals),
+        move || send_second(rt, alloc, dial, plan, signals),
+    );
+    pair.one.desk.stop(rt);
+    pair.other.desk.stop(rt);
+    both
+}
+
+/// Two nodes and their two clients.
+fn run_and_meet<D, G, R>(
+    rt: &R,
+    alloc: Global,
+    dial: &D,
+    gate: &G,
+    pair: &Pair,
+    plan: &Plan,
+    signals: &Signals,
+) -> (Result<Vec<Ended>, NoMemory>, (bool, Option<Exchange>))
+where
+    D: Dial + Sync,
+    D::Reader: Send,
+    D::Writer: Send,
+    G: Gate + Sync,
+    R: Threads + Wait + Clock + Sync,
+{
+    thread::join(
+        rt,
+        move || run_both(rt, alloc, &pair.one, &pair.other, dial, gate),
+        move || meet(rt, alloc, dial, pair, plan, signals),
+    )
+}
+
+/// How many records the two nodes have.
+fn records_of_both(
+    rt: &impl Abort,
+    pair: Pair,
+    ended: Result<Vec<Ended>, NoMemory>,
+) -> (usize, usize) {
+    let Pair { one, other } = pair;
+    let mut ends = ended.expect(rt, "memory");
+    let of_other = ends.pop().expect(rt, "an end");
+    let of_one = ends.pop().expect(rt, "an end");
+    drop(ends);
+    let (first, _) = records_of(rt, one, of_one, None);
+    let (second, _) = records_of(rt, other, of_other, None);
+    (first, second)
+}
+
+/// While one client has sent a part of a line, the log replies to another one, and then to the whole line. So it serves
+/// two sessions at a time: one thread alone would come to the other client once it has given up the first one's
+/// connection, and would reply to at most one of them.
+#[test]
+fn two_sessions_meet(rt: HostRuntime) {
+    let alloc = rt.alloc();
+    let pair = Pair {
+        one: open_station(&rt, alloc, Node::Itl, 0),
+        other: open_station(&rt, alloc, registry(&rt, "NZ"), 0),
+    };
+    let mut ports = Ports::new(&rt, alloc);
+    add_port(&rt, &mut ports, &pair.one);
+    add_port(&rt, &mut ports, &pair.other);
+    let plan = Plan {
+        way: Way::InParts,
+        first: message(&rt, alloc, PROPOSAL),
+        first_to: Node::Itl,
+        first_reply: Reply::Received,
+        second: message(&rt, alloc, PROPOSAL),
+        second_to: Node::Itl,
+    };
+    let signals = Signals::new();
+    let (ended, met) = run_and_meet(&rt, alloc, &ports, &OpenGate, &pair, &plan, &signals);
+    assert_same(&rt, met, (true, Some(Exchange::Answered(Reply::Received))));
+    drop(ports);
+    drop(plan);
+    assert_same(&rt, records_of_both(&rt, pair, ended), (1, 0));
+}
+
+/// While a gate holds one node, another node replies.
+#[test]
+fn nodes_apart(rt: HostRuntime) {
+    let alloc = rt.alloc();
+    let (nz, jp) = (registry(&rt, "NZ"), registry(&rt, "JP"));
+    let pair = Pair {
+        one: open_station(&rt, alloc, nz, 0),
+        other: open_station(&rt, alloc, jp, 0),
+    };
+    let mut ports = Ports::new(&rt, alloc);
+    add_port(&rt, &mut ports, &pair.one);
+    add_port(&rt, &mut ports, &pair.other);
+    let plan = Plan {
+        way: Way::Whole,
+        first: message(&rt, alloc, ACCEPTED),
+        first_to: nz,
+        first_reply: refused(&rt, UNKNOWN),
+        second: message(&rt, alloc, CANCELLED),
+        second_to: jp,
+    };
+    let signals = Signals::new();
+    let gate = HeldGate::new(&rt, nz, &signals);
+    let (ended, met) = run_and_meet(&rt, alloc, &ports, &gate, &pair, &plan, &signals);
+    assert_same(&rt, met, (true, Some(Exchange::Answered(Reply::Received))));
+    assert!(rt; !gate.given_up.is_set());
+    drop(ports);
+    drop(plan);
+    assert_same(&rt, records_of_both(&rt, pair, ended), (0, 1));
+}

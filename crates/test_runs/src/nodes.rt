@@ -1,0 +1,139 @@
+//! The nodes of the worked scheme, and what a script comes to at them.
+
+ghost use Rattle.std.specs.Prelude.{◌≡◌, ◌++◌, ◌∷◌, [], map};
+
+use crate::registries::worked_scheme;
+use audit::load_run;
+use command_faults::OpFault;
+use desk::stores::{Kept, MemoryStore};
+use desk::{OpenGate, WallClock};
+use input_lines::{ScriptLine, read_script};
+use protocol::nodes_of;
+use protocol::units::Node;
+use run::{Network, run_script};
+use sockets::{Ports, open_ports};
+use std::alloc::Global;
+use std::net::{Net, TcpListener, TcpStream};
+use std::process::Abort;
+use std::rt::Clock as SystemClock;
+use std::sync::Wait;
+use std::thread::Threads;
+use weave::Nobody;
+
+/// The place of NZ among the nodes.
+const NZ: usize = 2;
+
+/// An empty store of the node, which takes that many batches before one fails, where a number is given.
+fn store_of(alloc: Global, node: Node, passes: Option<u64>) -> MemoryStore
+    ensures { result.node ≡ node }
+{
+    match passes {
+        Some(passes) => MemoryStore::fused(alloc, node, passes, Kept::None),
+        None => MemoryStore::new(alloc, node),
+    }
+}
+
+/// Adds a store.
+fn push(rt: &impl Abort, stores: &mut Vec<MemoryStore>, store: MemoryStore)
+    ensures { stores.new.items ≡ stores.old.items ++ store ∷ [] }
+{
+    if stores.push(store).is_err() {
+        rt.abort();
+    }
+}
+
+/// Empty stores of these nodes, of which that of NZ takes `passes` batches before one fails, where that is given.
+fn stores_of(
+    rt: &impl Abort,
+    alloc: Global,
+    nodes: &[Node],
+    passes: Option<u64>,
+) -> Vec<MemoryStore>
+    ensures { map (λ s. s.node) result.items ≡ nodes.now }
+{
+    let mut stores = Vec::new(alloc);
+    for at in 0..nodes.len() {
+        let passes = if at == NZ { passes } else { None };
+        push(rt, &mut stores, store_of(alloc, nodes[at], passes));
+    }
+    stores
+}
+
+fn lines_of(rt: &impl Abort, alloc: Global, script: &str) -> Vec<ScriptLine> {
+    let mut reader = script.as_bytes();
+    read_script(alloc, &mut reader).expect(rt, "a script")
+}
+
+/// What a run of the script over empty stores of the log, of JP and of NZ returns, and what it writes. NZ's takes `passes`
+/// batches before one fails, where that is given.
+pub fn played<R>(
+    rt: &R,
+    alloc: Global,
+    passes: Option<u64>,
+    script: &str,
+) -> (Result<(), OpFault>, Vec<u8>)
+where
+    R: Threads
+        + Wait
+        + SystemClock
+        + Net<Listener = TcpListener, Stream = TcpStream>
+        + Abort
+        + Sync,
+{
+    played_watched(rt, alloc, passes, script, &mut run::Nobody)
+}
+
+/// The same, where the watch is told how far the run is.
+pub fn played_watched<P, R>(
+    rt: &R,
+    alloc: Global,
+    passes: Option<u64>,
+    script: &str,
+    watch: &mut P,
+) -> (Result<(), OpFault>, Vec<u8>)
+where
+    P: run::Watch + weave::Watch,
+    R: Threads
+        + Wait
+        + SystemClock
+        + Net<Listener = TcpListener, Stream = TcpStream>
+        + Abort
+        + Sync,
+{
+    let scheme = worked_scheme(rt, alloc);
+    let lines = lines_of(rt, alloc, script);
+    let nodes = nodes_of(alloc, &scheme).expect(rt, "memory");
+    let stores = stores_of(rt, alloc, nodes.as_slice(), passes);
+    let loaded = load_run(alloc, &scheme, stores, &mut Nobody).expect(rt, "a run");
+    let listeners = open_ports(rt, alloc, nodes.len()).expect(rt, "free ports");
+    let dial = Ports::of(rt, alloc, nodes.as_slice(), listeners.as_slice()).expect(rt, "memory");
+    let network = Network {
+        listeners: listeners.as_slice(),
+        dial: &dial,
+        clock: &WallClock::new(rt),
+        gate: &OpenGate,
+    };
+    let mut written = Vec::new(alloc);
+    let done = run_script(
+        rt,
+        alloc,
+        &scheme,
+        lines.as_slice(),
+        loaded,
+        &network,
+        &mut written,
+        watch,
+    );
+    drop(dial);
+    drop(listeners);
+    drop(nodes);
+    drop(lines);
+    drop(scheme);
+    match done {
+        Ok(ended) => {
+            drop(ended);
+            (Ok(()), written)
+        }
+        Err(fault) => (Err(fault), written),
+    }
+}

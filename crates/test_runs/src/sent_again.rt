@@ -1,0 +1,177 @@
+ghost use Rattle.std.specs.Prelude.{◌≡◌, true};
+ghost use Rattle.protocol.specs.Code.{same_node};
+
+use crate::exchange_rows::RECEIVED;
+use crate::failing_streams::Full;
+use crate::given::input_of;
+use crate::nz_desk::{TEN, TEN_MORE};
+use crate::registries::registry;
+use crate::same::assert_same;
+use crate::stations::{Ended, NodeDesk, Station, StillClock, desk_of, open_station, records_of};
+use crate::waits::TURNS;
+use desk::{OpenGate, Seat};
+use protocol::units::Node;
+use sessions::{Dial, NodeParts, NodeThreads, Sent, run_node, send_next};
+use std::alloc::Global;
+use std::net::{Net, TcpListener, TcpStream};
+use std::process::Abort;
+use std::rt::Clock;
+use std::sync::Wait;
+use std::sync::atomic::{AtomicU64, Ordering};
+use std::thread;
+use std::thread::Threads;
+use std::time::Duration;
+
+/// Connections with one peer, which replies to each message that it was received. The first ones can't be made, and none
+/// with another node.
+#[derive(Drop)]
+struct FailingDial {
+    peer: Node,
+    failing: u64,
+    connects: AtomicU64,
+}
+
+impl Dial for FailingDial {
+    type Reader = &'static [u8];
+
+    type Writer = Full;
+
+    ghost leads = { λ dial peer _ _. same_node dial.peer peer ≡ true };
+
+    fn connect(&self, peer: Node) -> Option<(&'static [u8], Full)> {
+        if self.connects.fetch_add(1, Ordering::SeqCst) < self.failing || self.peer != peer {
+            return None;
+        }
+        Some((RECEIVED, Full { room: usize::MAX }))
+    }
+}
+
+/// Runs a node that sends to those nodes.
+fn run_sending<R: Threads + Wait + Clock + Sync>(
+    rt: &R,
+    alloc: Global,
+    station: &Station,
+    dial: &FailingDial,
+    peers: &[Node],
+) -> Ended {
+    let parts = NodeParts {
+        node: station.node,
+        desk: &station.desk,
+        listen: &station.listen,
+        dial,
+        peers,
+        clock: &StillClock,
+        gate: &OpenGate,
+        muster: &station.muster,
+    };
+    run_node(rt, alloc, &NodeThreads::new(alloc, parts)?)
+}
+
+/// Waits until that many connections were asked for, at most `TURNS` turns of one millisecond, and stops the node.
+/// Returns whether they were.
+fn wait_and_stop<R: Wait + Clock>(
+    rt: &R,
+    station: &Station,
+    dial: &FailingDial,
+    connects: u64,
+) -> bool {
+    let mut are_asked = false;
+    for _ in 0..TURNS {
+        are_asked = dial.connects.load(Ordering::SeqCst) >= connects;
+        if are_asked {
+            break;
+        }
+        thread::sleep(rt, Duration::from_millis(1));
+    }
+    station.desk.stop(rt);
+    are_asked
+}
+
+/// The node, and who waits for its connections.
+fn run_and_wait<R: Threads + Wait + Clock + Sync>(
+    rt: &R,
+    alloc: Global,
+    station: &Station,
+    dial: &FailingDial,
+    peers: &[Node],
+    connects: u64,
+) -> (Ended, bool) {
+    thread::join(
+        rt,
+        move || run_sending(rt, alloc, station, dial, peers),
+        move || wait_and_stop(rt, station, dial, connects),
+    )
+}
+
+/// A seat that was told that two proposals are recorded at the desk.
+fn seat_of_two(rt: &(impl Wait + Abort), alloc: Global, desk: &NodeDesk) -> Seat {
+    let mut seat = Seat::new(alloc);
+    for given in [TEN, TEN_MORE] {
+        drop(desk.take(rt, &mut seat, input_of(rt, alloc, given)));
+    }
+    seat
+}
+
+/// Whether a node with two messages sends both, where it gets no connection the first times, and whether the first of
+/// them that was received is acknowledged then.
+fn sends_both<R>(rt: &R, alloc: Global, failing: u64) -> bool
+where
+    R: Threads + Wait + Clock + Net<Listener = TcpListener, Stream = TcpStream> + Abort + Sync,
+{
+    let nz = open_station(rt, alloc, registry(rt, "NZ"), 0);
+    let seat = seat_of_two(rt, alloc, &nz.desk);
+    let dial = FailingDial {
+        peer: Node::Itl,
+        failing,
+        connects: AtomicU64::new(0),
+    };
+    let connects = failing.saturating_add(2);
+    let (ended, are_sent) = run_and_wait(rt, alloc, &nz, &dial, &[Node::Itl], connects);
+    let (records, _) = records_of(rt, nz, ended, Some(seat));
+    are_sent && records >= 3
+}
+
+/// Where only the first message got no connection, it is sent again once the other one is acknowledged. Where none did,
+/// nothing is recorded, and both are sent again by themselves.
+#[test]
+fn what_got_no_connection_is_sent_again(rt: HostRuntime) {
+    let alloc = rt.alloc();
+    for failing in [1, 2] {
+        assert!(rt; sends_both(&rt, alloc, failing));
+    }
+}
+
+/// Asserts what becomes of the next message to the log.
+fn assert_sent(
+    rt: &(impl Wait + Abort),
+    alloc: Global,
+    desk: &NodeDesk,
+    seat: &mut Seat,
+    dial: &FailingDial,
+    expected: Sent,
+) {
+    let sent = send_next(rt, alloc, desk, seat, dial, Node::Itl, 0);
+    assert_same(rt, sent, expected);
+}
+
+/// The proposal isn't sent before it is committed. The first connection can't be made. Once the log has replied over
+/// the second one, the message is acknowledged.
+#[test]
+fn the_next_message_is_sent(rt: HostRuntime) {
+    let alloc = rt.alloc();
+    let desk = desk_of(&rt, alloc, registry(&rt, "NZ"));
+    let mut seat = Seat::new(alloc);
+    let dial = FailingDial {
+        peer: Node::Itl,
+        failing: 1,
+        connects: AtomicU64::new(0),
+    };
+    drop(desk.take(&rt, &mut seat, input_of(&rt, alloc, TEN)));
+    assert_sent(&rt, alloc, &desk, &mut seat, &dial, Sent::Nothing);
+    assert_same(&rt, desk.commit_next(&rt).ok(), Some(1));
+    assert_sent(&rt, alloc, &desk, &mut seat, &dial, Sent::NotReceived(0));
+    assert_sent(&rt, alloc, &desk, &mut seat, &dial, Sent::Received(0));
+    assert_sent(&rt, alloc, &desk, &mut seat, &dial, Sent::Nothing);
+    drop(seat);
+    drop(desk);
+}

@@ -1,0 +1,336 @@
+use crate::fused_files::{
+    FOREVER, MemoryFiles, Stored, after_a_crash, assert_refused, changed, closed, new_files,
+    open_as, opened, refused, registry,
+};
+use crate::records::{ACCEPTED, PROPOSE, are_two, has_text, two};
+use sqlite::File;
+use sqlite_disk::Disk;
+use std::alloc::Global;
+use std::fs;
+use std::process::Abort;
+use store_files::durable::SqlStore;
+use stores::{NodeStore, StoreFault};
+
+/// How many records the store has.
+pub fn count<S: NodeStore>(rt: &impl Abort, store: &mut S) -> usize {
+    let records = store.load().expect(rt, "no fault of the store");
+    let count = records.len();
+    drop(records);
+    count
+}
+
+/// Asserts that the store has the two records.
+pub fn assert_two<S: NodeStore>(rt: &impl Abort, alloc: Global, store: &mut S) {
+    let records = store.load().expect(rt, "no fault of the store");
+    assert!(rt; are_two(alloc, &records));
+    drop(records);
+}
+
+/// Appends the two records.
+pub fn append_two<S: NodeStore>(rt: &impl Abort, alloc: Global, store: &mut S) {
+    let batch = two(rt, alloc);
+    assert!(rt; store.append(&batch).is_ok());
+    drop(batch);
+}
+
+/// The files of NZ's store, with two records more.
+fn with_two(rt: &impl Abort, alloc: Global, files: Stored) -> Stored {
+    let mut store = open_as(rt, alloc, files, "NZ");
+    append_two(rt, alloc, &mut store);
+    closed(store)
+}
+
+/// The files of NZ's store of two records.
+fn files_of_two(rt: &impl Abort, alloc: Global) -> Stored {
+    with_two(rt, alloc, new_files(alloc, FOREVER, FOREVER))
+}
+
+/// Asserts that the files are NZ's store of two records.
+pub fn assert_two_in(rt: &impl Abort, alloc: Global, files: Stored) {
+    let mut store = open_as(rt, alloc, files, "NZ");
+    assert_two(rt, alloc, &mut store);
+    drop(store);
+}
+
+/// Asserts that the store has the two records, that it still has them once it was opened again, and that it met no
+/// fault.
+fn assert_kept<S: NodeStore>(rt: &impl Abort, alloc: Global, store: &mut S) {
+    assert_two(rt, alloc, store);
+    assert!(rt; store.reopen().is_ok());
+    assert_two(rt, alloc, store);
+    assert!(rt; store.fault_count() == 0);
+}
+
+#[test]
+fn records_are_kept_in_files(rt: HostRuntime) {
+    let alloc = rt.alloc();
+    let mut store = open_as(&rt, alloc, files_of_two(&rt, alloc), "NZ");
+    assert_kept(&rt, alloc, &mut store);
+    drop(store);
+}
+
+/// Asserts that the store has that one record, or none, at the places from `from` on.
+fn assert_page<S: NodeStore>(
+    rt: &impl Abort,
+    alloc: Global,
+    store: &mut S,
+    from: u64,
+    wanted: Option<&str>,
+) {
+    let page = store.load_page(from, 1).expect(rt, "no fault of the store");
+    let is_so = match (page.as_slice(), wanted) {
+        ([record], Some(text)) => has_text(alloc, record, text),
+        ([], None) => true,
+        _ => false,
+    };
+    assert!(rt; is_so);
+    drop(page);
+}
+
+#[test]
+fn pages_of_a_store_in_files(rt: HostRuntime) {
+    let alloc = rt.alloc();
+    let mut store = open_as(&rt, alloc, files_of_two(&rt, alloc), "NZ");
+    for (from, wanted) in [(0, Some(PROPOSE)), (1, Some(ACCEPTED)), (2, None)] {
+        assert_page(&rt, alloc, &mut store, from, wanted);
+    }
+    drop(store);
+}
+
+#[test]
+fn files_of_another_node_are_refused(rt: HostRuntime) {
+    let alloc = rt.alloc();
+    let files = files_of_two(&rt, alloc);
+    let files = refused(&rt, alloc, files, "JP", StoreFault::WrongNode);
+    assert_two_in(&rt, alloc, files);
+}
+
+#[test]
+fn another_format_is_refused_before_another_node(rt: HostRuntime) {
+    let alloc = rt.alloc();
+    let statement = "UPDATE about SET format = 9";
+    let files = changed(&rt, alloc, files_of_two(&rt, alloc), &[statement]);
+    let files = refused(&rt, alloc, files, "NZ", StoreFault::WrongVersion);
+    assert_refused(&rt, alloc, files, "JP", StoreFault::WrongVersion);
+}
+
+#[test]
+fn what_is_no_store_is_refused(rt: HostRuntime) {
+    let alloc = rt.alloc();
+    for statement in [
+        "UPDATE entries SET place = -1 WHERE place = 1",
+        "DELETE FROM about",
+        "CREATE TABLE notes (line TEXT)",
+        "CREATE INDEX bodies ON entries (body)",
+        "DROP TABLE about",
+    ] {
+        let files = changed(&rt, alloc, files_of_two(&rt, alloc), &[statement]);
+        assert_refused(&rt, alloc, files, "NZ", StoreFault::Damaged(0));
+    }
+}
+
+#[test]
+fn tables_made_in_the_other_order_are_a_store(rt: HostRuntime) {
+    let alloc = rt.alloc();
+    let tables = [
+        "CREATE TABLE entries (place INTEGER PRIMARY KEY, body TEXT NOT NULL) STRICT",
+        "CREATE TABLE about (id INTEGER PRIMARY KEY CHECK (id = 1), format INTEGER NOT NULL, node TEXT NOT NULL) STRICT",
+    ];
+    let files = changed(&rt, alloc, new_files(alloc, FOREVER, FOREVER), &tables);
+    assert_two_in(&rt, alloc, with_two(&rt, alloc, files));
+}
+
+#[test]
+fn a_file_that_is_no_database_is_refused(rt: HostRuntime) {
+    let alloc = rt.alloc();
+    let mut files = new_files(alloc, FOREVER, FOREVER);
+    assert!(rt; files.db.may_be_used());
+    assert!(rt; files.db.write_at(0, &[b'x'; 4096]).is_ok());
+    assert_refused(&rt, alloc, files, "NZ", StoreFault::Damaged(0));
+}
+
+/// Asserts that the whole store has that damage.
+fn assert_damaged<S: NodeStore>(rt: &impl Abort, store: &mut S, place: u64) {
+    assert!(rt; store.load().err() == Some(StoreFault::Damaged(place)));
+}
+
+/// Asserts that after the statement the whole store has that damage. Gives the store.
+fn damaged(rt: &impl Abort, alloc: Global, statement: &str, place: u64) -> MemoryFiles {
+    let files = changed(rt, alloc, files_of_two(rt, alloc), &[statement]);
+    let mut store = open_as(rt, alloc, files, "NZ");
+    assert_damaged(rt, &mut store, place);
+    store
+}
+
+/// Asserts that the page of that one place has that damage.
+fn assert_damaged_page<S: NodeStore>(rt: &impl Abort, store: &mut S, place: u64) {
+    let page = store.load_page(place, 1);
+    assert!(rt; page.err() == Some(StoreFault::Damaged(place)));
+}
+
+#[test]
+fn a_record_that_is_none_is_named(rt: HostRuntime) {
+    let alloc = rt.alloc();
+    let statement = "UPDATE entries SET body = 'x' WHERE place = 1";
+    let mut store = damaged(&rt, alloc, statement, 1);
+    assert_page(&rt, alloc, &mut store, 0, Some(PROPOSE));
+    assert_damaged_page(&rt, &mut store, 1);
+    drop(store);
+}
+
+#[test]
+fn a_place_that_is_missing_is_named(rt: HostRuntime) {
+    let alloc = rt.alloc();
+    let moved = "UPDATE entries SET place = 2 WHERE place = 1";
+    let removed = "DELETE FROM entries WHERE place = 0";
+    drop(damaged(&rt, alloc, moved, 1));
+    let mut store = damaged(&rt, alloc, removed, 0);
+    assert_damaged_page(&rt, &mut store, 0);
+    drop(store);
+}
+
+/// How far a run came before a call of its files failed.
+#[derive(Drop)]
+struct Run {
+    /// How many records were appended without a fault.
+    appended: usize,
+    /// How many faults were counted.
+    faults: u64,
+    /// Whether the store had to be opened again then.
+    waited: bool,
+}
+
+/// Appends two records, opens the store again, and so once more, up to the first fault.
+fn drive<S: NodeStore>(rt: &impl Abort, alloc: Global, store: &mut S) -> Run {
+    let batch = two(rt, alloc);
+    let mut appended = 0;
+    for round in 1..3 {
+        if store.append(&batch).is_err() {
+            break;
+        }
+        appended = 2 * round;
+        if store.reopen().is_err() {
+            break;
+        }
+    }
+    drop(batch);
+    let faults = store.fault_count();
+    let waited = store.load().err() == Some(StoreFault::Reopen);
+    Run {
+        appended,
+        faults,
+        waited,
+    }
+}
+
+/// A run over files of which that many calls may be made, and what it left of them.
+fn run_over(rt: &impl Abort, alloc: Global, log_calls: u64, db_calls: u64) -> (Run, Stored) {
+    let files = new_files(alloc, log_calls, db_calls);
+    match opened(rt, alloc, files, "NZ") {
+        Ok(mut store) => {
+            let run = drive(rt, alloc, &mut store);
+            (run, closed(store))
+        }
+        Err((fault, files)) => {
+            assert!(rt; fault == StoreFault::Device);
+            let run = Run {
+                appended: 0,
+                faults: 1,
+                waited: true,
+            };
+            (run, files)
+        }
+    }
+}
+
+/// How many records the files have after a crash.
+fn count_after_a_crash(rt: &impl Abort, alloc: Global, files: Stored) -> usize {
+    let mut store = open_as(rt, alloc, after_a_crash(files), "NZ");
+    let count = count(rt, &mut store);
+    drop(store);
+    count
+}
+
+/// Whether a run stopped at that call of its files, and left what it should: nothing of a batch, or all of it.
+fn stops_well(rt: &impl Abort, alloc: Global, log_calls: u64, db_calls: u64) -> bool {
+    let (run, files) = run_over(rt, alloc, log_calls, db_calls);
+    let stopped = run.faults != 0;
+    assert!(rt; run.waited == stopped);
+    let found = count_after_a_crash(rt, alloc, files);
+    let more = found.checked_sub(run.appended);
+    assert!(rt; more == Some(0) || stopped && more == Some(2));
+    stopped
+}
+
+#[test]
+fn each_call_of_the_log_fails(rt: HostRuntime) {
+    for calls in 0..200 {
+        if !stops_well(&rt, rt.alloc(), calls, FOREVER) {
+            return;
+        }
+    }
+    assert!(rt; false, "an end of the calls");
+}
+
+#[test]
+fn each_call_of_the_database_fails(rt: HostRuntime) {
+    for calls in 0..200 {
+        if !stops_well(&rt, rt.alloc(), FOREVER, calls) {
+            return;
+        }
+    }
+    assert!(rt; false, "an end of the calls");
+}
+
+/// Asserts that what stands at the path in these files is refused as a store of that registry, for that cause.
+fn assert_refused_at(
+    rt: &impl Abort,
+    files: &HostRuntime,
+    path: &str,
+    code: &str,
+    wanted: StoreFault,
+) {
+    let opened = store_files::open_path(files, path, registry(rt, code));
+    assert!(rt; opened.err() == Some(wanted));
+}
+
+/// NZ's store at the path in these files.
+fn store_at(rt: &impl Abort, files: &HostRuntime, path: &str) -> SqlStore<File> {
+    let opened = store_files::open_path(files, path, registry(rt, "NZ"));
+    opened.expect(rt, "no fault of the store")
+}
+
+/// Makes NZ's store at the path in these files, with two records, and asserts that it is refused to others meanwhile.
+fn make_at(rt: &impl Abort, files: &HostRuntime, path: &str) {
+    let mut store = store_at(rt, files, path);
+    assert!(rt; count(rt, &mut store) == 0);
+    append_two(rt, files.alloc(), &mut store);
+    assert_refused_at(rt, files, path, "NZ", StoreFault::Device);
+    drop(store);
+}
+
+/// Asserts that NZ's store at the path in these files has the two records, also once it was opened again.
+fn assert_two_at(rt: &impl Abort, files: &HostRuntime, path: &str) {
+    let mut store = store_at(rt, files, path);
+    assert_kept(rt, files.alloc(), &mut store);
+    drop(store);
+}
+
+#[test]
+fn a_store_at_a_path(rt: HostRuntime) {
+    fs::create_dir(&rt, "durable_test").expect(&rt, "a new folder");
+    make_at(&rt, &rt, "durable_test/NZ.db");
+    assert_two_at(&rt, &rt, "durable_test/NZ.db");
+    assert_refused_at(&rt, &rt, "durable_test/NZ.db", "JP", StoreFault::WrongNode);
+    let text = "no database, but a text that is long enough";
+    fs::write(&rt, "durable_test/JP.db", text).expect(&rt, "a new file");
+    assert_refused_at(&rt, &rt, "durable_test/JP.db", "NZ", StoreFault::Damaged(0));
+    assert_refused_at(
+        &rt,
+        &rt,
+        "durable_test/none/NZ.db",
+        "NZ",
+        StoreFault::Device,
+    );
+    fs::remove_dir_all(&rt, "durable_test").expect(&rt, "a folder");
+}

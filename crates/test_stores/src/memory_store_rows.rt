@@ -1,0 +1,144 @@
+use crate::same::assert_same;
+use protocol::units::{Code, Node};
+use protocol::wire::{Input, Number};
+use std::alloc::Global;
+use std::process::Abort;
+use stores::{Kept, MemoryStore, NodeStore, StoreFault};
+
+fn nz(rt: &impl Abort) -> Node {
+    let code = Code::read("NZ").expect(rt, "a code");
+    Node::Registry(code)
+}
+
+fn number(rt: &impl Abort, value: u64) -> Number {
+    Number::new(value).expect(rt, "a short number")
+}
+
+/// Account 8 is opened, and closed.
+fn two(rt: &impl Abort, alloc: Global) -> Vec<Input> {
+    let mut batch = Vec::new(alloc);
+    batch
+        .push(Input::OpenAccount(number(rt, 8)))
+        .expect(rt, "memory");
+    batch
+        .push(Input::CloseAccount(number(rt, 8)))
+        .expect(rt, "memory");
+    batch
+}
+
+fn is_open(input: &Input, account: u64) -> bool {
+    matches!(input, Input::OpenAccount(number) if number.value == account)
+}
+
+fn is_close(input: &Input, account: u64) -> bool {
+    matches!(input, Input::CloseAccount(number) if number.value == account)
+}
+
+fn are_two(inputs: &[Input]) -> bool {
+    match inputs {
+        [first, second] => is_open(first, 8) && is_close(second, 8),
+        _ => false,
+    }
+}
+
+/// Through the bound, as callers of any store do.
+fn append_and_load<S: NodeStore>(store: &mut S, batch: &[Input]) -> Result<Vec<Input>, StoreFault> {
+    store.append(batch)?;
+    store.reopen()?;
+    store.load()
+}
+
+/// Asserts that the store has the two records.
+fn assert_two(rt: &impl Abort, store: &mut MemoryStore) {
+    let records = store.load().expect(rt, "memory");
+    assert!(rt; are_two(&records));
+    drop(records);
+}
+
+/// Asserts that the store has that many records.
+fn assert_count(rt: &impl Abort, store: &mut MemoryStore, count: usize) {
+    let records = store.load().expect(rt, "memory");
+    assert_same(rt, records.len(), count);
+    drop(records);
+}
+
+/// A page of the store.
+fn page(rt: &impl Abort, store: &mut MemoryStore, from: u64, most: u64) -> Vec<Input> {
+    store.load_page(from, most).expect(rt, "memory")
+}
+
+/// Asserts what comes of appending these records.
+fn append(
+    rt: &impl Abort,
+    store: &mut MemoryStore,
+    batch: Vec<Input>,
+    expected: Result<(), StoreFault>,
+) {
+    assert_same(rt, store.append(&batch), expected);
+    drop(batch);
+}
+
+#[test]
+fn records_are_kept_in_their_order(rt: HostRuntime) {
+    let alloc = rt.alloc();
+    let mut store = MemoryStore::new(alloc, nz(&rt));
+    assert_same(&rt, store.node(), nz(&rt));
+    append(&rt, &mut store, two(&rt, alloc), Ok(()));
+    assert_two(&rt, &mut store);
+    assert_same(&rt, store.reopen(), Ok(()));
+    assert_two(&rt, &mut store);
+    let first = page(&rt, &mut store, 0, 1);
+    assert!(rt; first.len() == 1 && is_open(&first[0], 8));
+    drop(first);
+    let second = page(&rt, &mut store, 1, 256);
+    assert!(rt; second.len() == 1 && is_close(&second[0], 8));
+    drop(second);
+    let third = page(&rt, &mut store, 2, 256);
+    assert!(rt; third.is_empty());
+    drop(third);
+    assert_same(&rt, store.fault_count(), 0);
+}
+
+#[test]
+fn a_store_through_its_bound(rt: HostRuntime) {
+    let alloc = rt.alloc();
+    let mut store = MemoryStore::new(alloc, nz(&rt));
+    let batch = two(&rt, alloc);
+    let records = append_and_load(&mut store, &batch).expect(&rt, "memory");
+    assert!(rt; are_two(&records));
+    drop(records);
+    drop(batch);
+}
+
+#[test]
+fn the_fuse_keeps_the_whole_batch(rt: HostRuntime) {
+    let alloc = rt.alloc();
+    let mut store = MemoryStore::fused(alloc, nz(&rt), 0, Kept::All);
+    append(&rt, &mut store, Vec::new(alloc), Ok(()));
+    append(&rt, &mut store, two(&rt, alloc), Err(StoreFault::Device));
+    assert_same(&rt, store.load().err(), Some(StoreFault::Reopen));
+    append(&rt, &mut store, Vec::new(alloc), Err(StoreFault::Reopen));
+    assert_same(&rt, store.fault_count(), 1);
+    assert_same(&rt, store.reopen(), Ok(()));
+    assert_two(&rt, &mut store);
+    append(&rt, &mut store, two(&rt, alloc), Ok(()));
+    assert_count(&rt, &mut store, 4);
+}
+
+/// An acknowledgement.
+fn one(rt: &impl Abort, alloc: Global) -> Vec<Input> {
+    Vec::from_array(alloc, [Input::Ack(number(rt, 7))]).expect(rt, "memory")
+}
+
+#[test]
+fn the_fuse_keeps_nothing(rt: HostRuntime) {
+    let alloc = rt.alloc();
+    let mut store = MemoryStore::fused(alloc, nz(&rt), 1, Kept::None);
+    append(&rt, &mut store, Vec::new(alloc), Ok(()));
+    append(&rt, &mut store, one(&rt, alloc), Ok(()));
+    append(&rt, &mut store, two(&rt, alloc), Err(StoreFault::Device));
+    assert_same(&rt, store.reopen(), Ok(()));
+    assert_count(&rt, &mut store, 1);
+    append(&rt, &mut store, two(&rt, alloc), Ok(()));
+    assert_count(&rt, &mut store, 3);
+}

@@ -1,0 +1,130 @@
+use crate::file_store_rows::{append_two, assert_two};
+use crate::fused_files::{FOREVER, Stored, closed, memory_with, new_files, open_as, opened};
+use crate::stumble::Stumble;
+use sqlite::Files;
+use sqlite_disk::{Disk, Memory};
+use std::alloc::Global;
+use std::process::Abort;
+use store_files::durable::SqlStore;
+use stores::{NodeStore, StoreFault};
+
+/// The two files of a store, in memory, of each of which one call may fail.
+type Stumbling = Files<Stumble<Memory>>;
+
+/// The files of NZ's store of two records.
+fn files_of_two(rt: &impl Abort, alloc: Global) -> Stored {
+    let mut store = open_as(rt, alloc, new_files(alloc, FOREVER, FOREVER), "NZ");
+    append_two(rt, alloc, &mut store);
+    closed(store)
+}
+
+/// A copy of the files, of which that call fails of each.
+fn stumbling(
+    rt: &impl Abort,
+    alloc: Global,
+    files: &Stored,
+    log_call: u64,
+    db_call: u64,
+) -> Stumbling {
+    Files {
+        log: Stumble::new(memory_with(rt, alloc, files.log.inner().bytes()), log_call),
+        db: Stumble::new(memory_with(rt, alloc, files.db.inner().bytes()), db_call),
+    }
+}
+
+/// What came of an opening and a reopening of which one call may fail.
+#[derive(Clone, Copy, PartialEq, Eq)]
+enum Outcome {
+    /// The opening failed.
+    Unopened,
+    /// The reopening failed, and the next one passed.
+    OpenedAgain,
+    /// The reopening failed at a sync, after which the files can't be used.
+    Unusable,
+    /// Both passed.
+    Passed,
+}
+
+/// Whether the store of two records, of which a reopening failed, can be opened once more. It has its records then.
+fn reopens<S: NodeStore>(rt: &impl Abort, alloc: Global, store: &mut S) -> bool {
+    assert!(rt; store.load().err() == Some(StoreFault::Reopen));
+    if store.reopen().is_err() {
+        return false;
+    }
+    assert_two(rt, alloc, store);
+    true
+}
+
+/// Opens the store of two records once more, after a reopening that failed. It has its records then, where its files
+/// can still be used.
+fn reopen_once_more<D: Disk + Drop>(
+    rt: &impl Abort,
+    alloc: Global,
+    mut store: SqlStore<D>,
+) -> Outcome {
+    if reopens(rt, alloc, &mut store) {
+        drop(store);
+        return Outcome::OpenedAgain;
+    }
+    let files = closed(store);
+    assert!(rt; !files.may_be_used());
+    drop(files);
+    Outcome::Unusable
+}
+
+/// Opens NZ's store of two records in these files, and opens it again.
+fn reopen_in<D: Disk + Drop>(rt: &impl Abort, alloc: Global, files: Files<D>) -> Outcome {
+    let Ok(mut store) = opened(rt, alloc, files, "NZ") else {
+        return Outcome::Unopened;
+    };
+    match store.reopen() {
+        Ok(()) => {
+            assert_two(rt, alloc, &mut store);
+            drop(store);
+            Outcome::Passed
+        }
+        Err(fault) => {
+            assert!(rt; fault == StoreFault::Device);
+            reopen_once_more(rt, alloc, store)
+        }
+    }
+}
+
+/// One of a store's two files.
+#[derive(Clone, Copy)]
+enum Stumbler {
+    Log,
+    Database,
+}
+
+/// The first call of one file fails, then in other files the second one, until none does. Some of them are calls of the
+/// reopening.
+fn stumble_everywhere(rt: &impl Abort, alloc: Global, stumbler: Stumbler) {
+    let files = files_of_two(rt, alloc);
+    let mut some = false;
+    for call in 0..200 {
+        let (log_call, db_call) = match stumbler {
+            Stumbler::Log => (call, FOREVER),
+            Stumbler::Database => (FOREVER, call),
+        };
+        match reopen_in(rt, alloc, stumbling(rt, alloc, &files, log_call, db_call)) {
+            Outcome::Unopened | Outcome::Unusable => {}
+            Outcome::OpenedAgain => some = true,
+            Outcome::Passed => {
+                assert!(rt; some);
+                return;
+            }
+        }
+    }
+    assert!(rt; false, "an end of the calls");
+}
+
+#[test]
+fn a_reopening_that_stumbles_over_the_log_file(rt: HostRuntime) {
+    stumble_everywhere(&rt, rt.alloc(), Stumbler::Log);
+}
+
+#[test]
+fn a_reopening_that_stumbles_over_the_database(rt: HostRuntime) {
+    stumble_everywhere(&rt, rt.alloc(), Stumbler::Database);
+}

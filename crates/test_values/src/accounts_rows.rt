@@ -1,0 +1,233 @@
+use crate::named::{block, id};
+use crate::same::assert_same;
+use accounts::{HeldBlock, Holdings};
+use protocol::status::TransactionId;
+use protocol::units::{Block, NoMemory, Refusal};
+use std::alloc::Global;
+use std::process::Abort;
+
+fn refusal(code: u16) -> Result<(), Refusal> {
+    Err(Refusal { code })
+}
+
+/// A line of account 1.
+fn line(rt: &impl Abort, text: &str, reserving: Option<TransactionId>) -> HeldBlock {
+    HeldBlock {
+        account: 1,
+        block: block(rt, text),
+        reserving,
+    }
+}
+
+/// Accounts 1 and 2, and the block in the first.
+fn credited(alloc: Global, block: Block) -> Result<Holdings, NoMemory> {
+    let mut holdings = Holdings::new(alloc, &[1, 2])?;
+    holdings.credit(1, &[block])?;
+    Ok(holdings)
+}
+
+/// Accounts 1 and 2, and a hundred units in the first.
+fn hundred(rt: &impl Abort, alloc: Global) -> Holdings {
+    credited(alloc, block(rt, "NZ:1:1-100:AAU")).expect(rt, "memory")
+}
+
+/// The holdings are these lines.
+fn assert_lines(rt: &impl Abort, holdings: &Holdings, alloc: Global, wanted: &[HeldBlock]) {
+    let lines = holdings.lines(alloc).expect(rt, "memory");
+    assert!(rt; lines.as_slice() == wanted);
+}
+
+/// `check` refuses the block of that text with the code, and so does `reserve` for NZ2.
+fn assert_refused(rt: &impl Abort, holdings: &mut Holdings, account: u64, text: &str, code: u16) {
+    let blocks = [block(rt, text)];
+    let checked = holdings.check(account, &blocks);
+    let reserved = holdings.reserve(account, &blocks, id(rt, "NZ2"));
+    assert_same(rt, (checked, reserved), (refusal(code), refusal(code)));
+}
+
+/// The transaction reserves the blocks of account 1, in which that many units are free then.
+fn assert_reserved(
+    rt: &impl Abort,
+    holdings: &mut Holdings,
+    blocks: &[Block],
+    id: TransactionId,
+    free: u64,
+) {
+    let reserved = holdings.reserve(1, blocks, id);
+    assert_same(rt, (reserved, holdings.free_count(1)), (Ok(()), free));
+}
+
+/// After the transaction's release that many units of account 1 are free.
+fn assert_released(rt: &impl Abort, holdings: &mut Holdings, id: TransactionId, free: u64) {
+    holdings.release(id);
+    assert_same(rt, holdings.free_count(1), free);
+}
+
+/// After the transaction's removal that many units of account 1 are free.
+fn assert_removed(rt: &impl Abort, holdings: &mut Holdings, id: TransactionId, free: u64) {
+    holdings.remove(id);
+    assert_same(rt, holdings.free_count(1), free);
+}
+
+/// An account, a block, and the code by which an order of the block from the account is refused, where the first sixty of
+/// a hundred units are reserved.
+const REFUSED: &[(u64, &str, u16)] = &[
+    (1, "NZ:1:60-61:AAU", 106),
+    (1, "NZ:1:100-101:AAU", 105),
+    (1, "NZ:1:61-61:CER", 105),
+    (2, "NZ:1:1-60:AAU", 105),
+    (3, "NZ:1:1-60:AAU", 104),
+];
+
+fn assert_all_refused(rt: &impl Abort, holdings: &mut Holdings) {
+    for (account, text, code) in REFUSED {
+        assert_refused(rt, holdings, *account, text, *code);
+    }
+}
+
+#[test]
+fn holdings_are_reserved_once(rt: HostRuntime) {
+    let first = id(&rt, "NZ1");
+    let sixty = [block(&rt, "NZ:1:1-60:AAU")];
+    let mut holdings = hundred(&rt, rt.alloc());
+    assert_reserved(&rt, &mut holdings, &sixty, first, 40);
+    assert_all_refused(&rt, &mut holdings);
+    assert_released(&rt, &mut holdings, id(&rt, "NZ2"), 40);
+    assert_released(&rt, &mut holdings, first, 100);
+    drop(holdings);
+}
+
+#[test]
+fn holdings_are_taken_out(rt: HostRuntime) {
+    let first = id(&rt, "NZ1");
+    let blocks = [block(&rt, "NZ:1:1-30:AAU"), block(&rt, "NZ:1:31-60:AAU")];
+    let left = line(&rt, "NZ:1:61-100:AAU", None);
+    let mut holdings = hundred(&rt, rt.alloc());
+    assert_reserved(&rt, &mut holdings, &blocks, first, 40);
+    assert_removed(&rt, &mut holdings, first, 40);
+    assert!(rt; !holdings.holds_any(&blocks));
+    assert!(rt; holdings.holds_any(&[blocks[0], left.block]));
+    assert_lines(&rt, &holdings, rt.alloc(), &[left]);
+    drop(holdings);
+}
+
+#[test]
+fn one_transaction_reserves_twice(rt: HostRuntime) {
+    let first = id(&rt, "NZ1");
+    let shared = [block(&rt, "NZ:1:1-30:AAU"), block(&rt, "NZ:1:21-40:AAU")];
+    let others = [block(&rt, "NZ:1:91-95:AAU")];
+    let mut holdings = hundred(&rt, rt.alloc());
+    assert_reserved(&rt, &mut holdings, &shared, first, 60);
+    assert_reserved(&rt, &mut holdings, &others, first, 55);
+    assert_released(&rt, &mut holdings, first, 100);
+    assert_reserved(&rt, &mut holdings, &shared, first, 60);
+    assert_removed(&rt, &mut holdings, first, 60);
+    assert_same(&rt, holdings.unit_holding(&shared[0].first_unit()), None);
+    drop(holdings);
+}
+
+#[test]
+fn pieces(rt: HostRuntime) {
+    let (first, second) = (id(&rt, "NZ1"), id(&rt, "NZ2"));
+    let low = line(&rt, "NZ:1:1-19:AAU", None);
+    let of_first = line(&rt, "NZ:1:20-30:AAU", Some(first));
+    let of_second = line(&rt, "NZ:1:31-40:AAU", Some(second));
+    let high = line(&rt, "NZ:1:41-100:AAU", None);
+    let joined = line(&rt, "NZ:1:31-100:AAU", None);
+    let alloc = rt.alloc();
+    let mut holdings = hundred(&rt, alloc);
+    assert_reserved(&rt, &mut holdings, &[of_first.block], first, 89);
+    assert_reserved(&rt, &mut holdings, &[of_second.block], second, 79);
+    assert_lines(&rt, &holdings, alloc, &[low, of_first, of_second, high]);
+    assert_same(&rt, holdings.pieces().len(), 4);
+    assert_released(&rt, &mut holdings, second, 89);
+    assert_lines(&rt, &holdings, alloc, &[low, of_first, joined]);
+    assert_released(&rt, &mut holdings, first, 100);
+    assert_lines(&rt, &holdings, alloc, &[line(&rt, "NZ:1:1-100:AAU", None)]);
+    assert_same(&rt, holdings.pieces().len(), 1);
+    drop(holdings);
+}
+
+/// A call that changes an account's standing, or asks whether it would.
+#[derive(Clone, Copy)]
+enum Call {
+    Open,
+    Close,
+    MayOpen,
+    MayClose,
+}
+
+impl Call {
+    /// The code with which the call is refused, or `None`.
+    fn code(self, holdings: &mut Holdings, account: u64) -> Option<u16> {
+        let done = match self {
+            Call::Open => holdings.open_account(account),
+            Call::Close => holdings.close_account(account),
+            Call::MayOpen => holdings.may_open(account),
+            Call::MayClose => holdings.may_close(account),
+        };
+        let refusal = done.err()?;
+        Some(refusal.code)
+    }
+}
+
+/// One after another, the calls with these accounts are refused with these codes, or aren't refused.
+fn assert_calls(rt: &impl Abort, holdings: &mut Holdings, calls: &[(Call, u64, Option<u16>)]) {
+    for (call, account, code) in calls {
+        assert_same(rt, call.code(holdings, *account), *code);
+    }
+}
+
+const CLOSE: &[(Call, u64, Option<u16>)] = &[
+    (Call::Close, 1, Some(112)),
+    (Call::Close, 2, None),
+    (Call::Close, 2, Some(111)),
+    (Call::Close, 3, Some(110)),
+];
+
+const OPEN: &[(Call, u64, Option<u16>)] = &[
+    (Call::Open, 2, None),
+    (Call::Open, 2, Some(111)),
+    (Call::Open, 3, Some(110)),
+];
+
+#[test]
+fn holdings_are_closed_and_opened(rt: HostRuntime) {
+    let mut holdings = hundred(&rt, rt.alloc());
+    assert_calls(&rt, &mut holdings, CLOSE);
+    assert_same(
+        &rt,
+        (holdings.is_open(2), holdings.is_open(3)),
+        (Some(false), None),
+    );
+    assert_same(&rt, holdings.check(2, &[]), refusal(104));
+    assert_calls(&rt, &mut holdings, OPEN);
+    assert_same(&rt, holdings.is_open(2), Some(true));
+    drop(holdings);
+}
+
+const WHILE_RESERVED: &[(Call, u64, Option<u16>)] = &[
+    (Call::MayClose, 1, Some(112)),
+    (Call::MayClose, 2, None),
+    (Call::MayClose, 3, Some(110)),
+    (Call::MayOpen, 2, Some(111)),
+];
+
+const AFTER_REMOVAL: &[(Call, u64, Option<u16>)] = &[
+    (Call::MayClose, 1, None),
+    (Call::Close, 1, None),
+    (Call::MayOpen, 1, None),
+    (Call::MayClose, 1, Some(111)),
+];
+
+#[test]
+fn accounts_may_be_closed_and_opened(rt: HostRuntime) {
+    let first = id(&rt, "NZ1");
+    let whole = [block(&rt, "NZ:1:1-100:AAU")];
+    let mut holdings = hundred(&rt, rt.alloc());
+    assert_reserved(&rt, &mut holdings, &whole, first, 0);
+    assert_calls(&rt, &mut holdings, WHILE_RESERVED);
+    assert_removed(&rt, &mut holdings, first, 0);
+    assert_calls(&rt, &mut holdings, AFTER_REMOVAL);
+    drop(holdings);
+}

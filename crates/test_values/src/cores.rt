@@ -1,0 +1,108 @@
+//! Cores of the worked scheme, and rows of what they are given.
+
+use crate::given::{Given, input_of};
+use crate::same::{assert_same, assert_same_in};
+use protocol::Outcome::{Late, Recorded, Refused, Repeat};
+use protocol::scheme::Scheme;
+use protocol::units::{Node, Refusal};
+use protocol::wire::{Input, Message, encode};
+use protocol::{NodeCore, Outcome, Stepped, replay};
+use std::alloc::Global;
+use std::process::Abort;
+
+/// The room of the worked scheme's journals.
+pub const ROOM: &str = "1000";
+
+const RECORDS: &str = r#"{"records":"#;
+
+const REGISTRIES: &str =
+    r#","registries":[{"accounts":[7,8],"allotted":[],"code":"JP","eligible":true,"kinds":["AAU","CER"]},{"accounts":[1,2],"allotted":[{"account":1,"units":["NZ:1:1-100:AAU"]}],"code":"NZ","eligible":true,"kinds":["AAU","RMU","ERU","CER","tCER","lCER"]}]}"#;
+
+/// The worked scheme, with room for that many records.
+pub fn scheme(rt: &impl Abort, alloc: Global, room: &str) -> Scheme {
+    let mut text = String::new(alloc);
+    for piece in [RECORDS, room, REGISTRIES] {
+        text.push_str(piece).expect(rt, "memory");
+    }
+    Scheme::read(alloc, text.as_bytes()).expect(rt, "a scheme")
+}
+
+/// A core whose tables can be seen.
+pub trait Seen: NodeCore {
+    /// Whether its tables say what those of the other say.
+    fn is_like(&self, rt: &impl Abort, other: &Self) -> bool;
+}
+
+/// Asserts that the core is as its journal says.
+fn assert_as_replayed<C: Seen>(rt: &impl Abort, core: &C) {
+    let replayed = replay(core, core.journal()).expect(rt, "a core");
+    assert_same(rt, core.sends(), replayed.sends());
+    let (next, expected) = (
+        core.next_unacknowledged(Node::Itl, 0),
+        replayed.next_unacknowledged(Node::Itl, 0),
+    );
+    assert_same(rt, next, expected);
+    assert!(rt; core.is_like(rt, &replayed));
+    drop(replayed);
+}
+
+fn outcome(stepped: Result<Stepped, Refusal>) -> Outcome {
+    match stepped {
+        Ok(Stepped::Recorded(place)) => Recorded(place as u64),
+        Ok(Stepped::Repeat) => Repeat,
+        Ok(Stepped::Late) => Late,
+        Err(refusal) => Refused(refusal.code),
+    }
+}
+
+/// Steps the core by the input. Where memory ran out nothing has changed, and the core is stepped once more.
+fn step<C: Seen>(rt: &impl Abort, core: &mut C, input: &Input) -> Outcome {
+    let (records, sends) = (core.records(), core.sends());
+    let first = core.step(input);
+    if first != Err(Refusal::NO_MEMORY) {
+        return outcome(first);
+    }
+    assert_same(rt, core.records(), records);
+    assert_same(rt, core.sends(), sends);
+    assert_as_replayed(rt, core);
+    outcome(core.step(input))
+}
+
+/// What comes of a step by what is given.
+fn outcome_of<C: Seen>(rt: &impl Abort, alloc: Global, core: &mut C, given: Given) -> Outcome {
+    let input = input_of(rt, alloc, given);
+    let outcome = step(rt, core, &input);
+    drop(input);
+    outcome
+}
+
+/// Gives the core what stands in the row, one after the other, and asserts what comes of each.
+pub fn walk<C: Seen>(rt: &impl Abort, alloc: Global, core: &mut C, row: &[(Given, Outcome)]) {
+    for (given, expected) in row {
+        let outcome = outcome_of(rt, alloc, core, *given);
+        assert_same_in(rt, outcome, *expected, *given);
+    }
+}
+
+/// Asserts that the message has that text.
+pub fn assert_text(rt: &impl Abort, alloc: Global, message: &Message, expected: &str) {
+    let text = encode(alloc, message).expect(rt, "memory");
+    assert_same(rt, text.as_slice(), expected.as_bytes());
+}
+
+/// Asserts that the messages from that key on have these texts, and that no other comes after them.
+pub fn assert_sent<C: NodeCore>(
+    rt: &impl Abort,
+    alloc: Global,
+    core: &C,
+    first: usize,
+    texts: &[&str],
+) {
+    let mut key = first;
+    for expected in texts {
+        let message = core.outbox(key).expect(rt, "a message");
+        assert_text(rt, alloc, message, expected);
+        key = key.saturating_add(1);
+    }
+    assert_same(rt, core.sends(), key);
+}

@@ -1,0 +1,65 @@
+//! Logs of the worked scheme.
+
+use crate::cores::{Seen, scheme};
+use crate::same::assert_same;
+use checks::{Owner, Register};
+use log_core::LogCore;
+use protocol::scheme::Scheme;
+use protocol::units::{Block, Code, UnitMap};
+use std::alloc::Global;
+use std::collections::BTreeMap;
+use std::process::Abort;
+
+/// A unit of each part of what is allotted, as blocks of it.
+const UNITS: [&str; 4] = [
+    "NZ:1:1-1:AAU",
+    "NZ:1:11-11:AAU",
+    "NZ:1:100-100:AAU",
+    "NZ:1:101-101:AAU",
+];
+
+/// The log of the worked scheme, with room for that many records.
+pub fn log(rt: &impl Abort, alloc: Global, room: &str) -> LogCore {
+    let scheme = scheme(rt, alloc, room);
+    let log = LogCore::new(alloc, &scheme).expect(rt, "memory");
+    drop(scheme);
+    log
+}
+
+/// What the log of the worked scheme knows of units and registries at the start: all units are NZ's.
+pub fn opening_register(rt: &impl Abort, alloc: Global, scheme: &Scheme) -> Register {
+    let registry = Code::read("NZ").expect(rt, "a code");
+    let mut book = UnitMap::new(alloc);
+    book.set(
+        &Block::read("NZ:1:1-100:AAU").expect(rt, "a block"),
+        Some(Owner { registry }),
+    )
+    .expect(rt, "memory");
+    Register {
+        allotments: scheme.allotments(alloc).expect(rt, "memory"),
+        book,
+        under_way: UnitMap::new(alloc),
+        orders: BTreeMap::new(alloc),
+    }
+}
+
+impl Seen for LogCore {
+    fn is_like(&self, rt: &impl Abort, other: &LogCore) -> bool {
+        for text in UNITS {
+            let unit = Block::read(text).expect(rt, "a block").first_unit();
+            if self.book_owner(&unit) != other.book_owner(&unit)
+                || self.transfer_of(&unit) != other.transfer_of(&unit)
+            {
+                return false;
+            }
+        }
+        self.pieces().len() == other.pieces().len()
+    }
+}
+
+/// Asserts who owns the first unit of that block, and whether a transfer has it.
+pub fn assert_owner(rt: &impl Abort, log: &LogCore, block: &str, owner: &str, is_under_way: bool) {
+    let unit = Block::read(block).expect(rt, "a block").first_unit();
+    assert_same(rt, log.book_owner(&unit), Code::read(owner));
+    assert_same(rt, log.transfer_of(&unit).is_some(), is_under_way);
+}

@@ -1,0 +1,427 @@
+use crate::named::{block, code, id};
+use crate::same::assert_same;
+use protocol::status::Content;
+use protocol::units::{Code, Items, Node, Refusal};
+use protocol::wire::{
+    AcquirerCodes, LogCodes, Message, Notification, NotifiedStatus, Proposal, ProposalStatus,
+    Request, decode, encode,
+};
+use std::alloc::Global;
+use std::process::Abort;
+
+pub const PROPOSAL: &str =
+    r#"{"account":1,"call":"AcceptProposal","from":"NZ","status":"Proposed","to":"ITL","to_account":7,"to_registry":"JP","transaction":"NZ1","units":["NZ:1:1-100:AAU"]}"#;
+
+pub const NOTIFICATION: &str =
+    r#"{"call":"AcceptNotification","codes":[],"from":"JP","status":"Accepted","to":"ITL","transaction":"NZ1"}"#;
+
+pub const REQUEST: &str =
+    r#"{"call":"RequestCancellation","from":"NZ","to":"ITL","transaction":"NZ1"}"#;
+
+const LIMIT: usize = 8192;
+
+/// Blocks of the greatest number that a proposal may have.
+const SIXTEEN: &str =
+    r#""NZ:1:1-1:AAU","NZ:1:1-1:AAU","NZ:1:1-1:AAU","NZ:1:1-1:AAU","NZ:1:1-1:AAU","NZ:1:1-1:AAU","NZ:1:1-1:AAU","NZ:1:1-1:AAU","NZ:1:1-1:AAU","NZ:1:1-1:AAU","NZ:1:1-1:AAU","NZ:1:1-1:AAU","NZ:1:1-1:AAU","NZ:1:1-1:AAU","NZ:1:1-1:AAU","NZ:1:1-1:AAU""#;
+
+/// The text with another in place of the one place where `old` stands.
+fn changed(rt: &impl Abort, alloc: Global, text: &str, old: &str, new: &str) -> String {
+    let (before, after) = text.split_once(old).expect(rt, "it stands there");
+    assert!(rt; !after.contains(old));
+    format!(in alloc; "{before}{new}{after}").expect(rt, "memory")
+}
+
+fn rejected(rt: &impl Abort, alloc: Global, codes: &[u16]) -> NotifiedStatus {
+    let codes = Vec::from_slice(alloc, codes).expect(rt, "memory");
+    let codes = AcquirerCodes::new(Items::from_vec(codes)).expect(rt, "codes");
+    NotifiedStatus::Rejected(codes)
+}
+
+fn terminated(rt: &impl Abort, alloc: Global, codes: &[u16]) -> NotifiedStatus {
+    let codes = Vec::from_slice(alloc, codes).expect(rt, "memory");
+    let codes = LogCodes::new(Items::from_vec(codes)).expect(rt, "codes");
+    NotifiedStatus::Terminated(codes)
+}
+
+fn notification(rt: &impl Abort, from: Node, to: Node, notified: NotifiedStatus) -> Message {
+    Message::Notification(Notification {
+        from,
+        to,
+        id: id(rt, "NZ1"),
+        notified,
+    })
+}
+
+fn request(rt: &impl Abort, from: Node) -> Message {
+    Message::Request(Request {
+        from,
+        to: Node::Itl,
+        id: id(rt, "NZ1"),
+    })
+}
+
+/// A content for that registry of a hundred units and of all but the first four of another registry.
+fn content(rt: &impl Abort, alloc: Global, acquirer: Code) -> Content {
+    let mut blocks = Vec::new(alloc);
+    for text in ["NZ:1:1-100:AAU", "CH:2:5-999999999999999:lCER"] {
+        blocks.push(block(rt, text)).expect(rt, "memory");
+    }
+    let made = Content::new(999_999_999, acquirer, 7, Items::from_vec(blocks));
+    made.expect(rt, "a content")
+}
+
+fn checked_proposal(rt: &impl Abort, alloc: Global, acquirer: Code) -> Message {
+    Message::Proposal(Proposal {
+        from: Node::Itl,
+        to: Node::Registry(acquirer),
+        id: id(rt, "NZ999999"),
+        status: ProposalStatus::Checked,
+        content: content(rt, alloc, acquirer),
+    })
+}
+
+/// The message is written as that text.
+fn assert_encoded(rt: &impl Abort, alloc: Global, message: &Message, text: &str) {
+    let line = encode(alloc, message).expect(rt, "memory");
+    assert_same(rt, line.as_slice(), text.as_bytes());
+}
+
+/// The message is written as that text, and is dropped then.
+fn assert_built(rt: &impl Abort, alloc: Global, message: Message, text: &str) {
+    assert_encoded(rt, alloc, &message, text);
+    drop(message);
+}
+
+/// The line is a message, which is written as that text.
+pub fn assert_written(rt: &impl Abort, alloc: Global, line: &[u8], text: &str) {
+    assert_built(rt, alloc, decode(alloc, line).expect(rt, text), text);
+}
+
+/// The line is no message.
+fn assert_refused(rt: &impl Abort, alloc: Global, line: &[u8]) {
+    let fault = decode(alloc, line).err();
+    assert_same(rt, fault, Some(Refusal { code: 41 }));
+}
+
+/// The copy of the text's message is the same, and is written as it was read.
+fn assert_copied(rt: &impl Abort, alloc: Global, text: &str) {
+    let message = decode(alloc, text.as_bytes()).expect(rt, "a message");
+    let copy = message.copy().expect(rt, "memory");
+    assert!(rt; copy.same(&message));
+    drop(message);
+    assert_built(rt, alloc, copy, text);
+}
+
+#[test]
+fn texts_are_written_and_read_back(rt: HostRuntime) {
+    for (text, length) in [(PROPOSAL, 161), (NOTIFICATION, 103), (REQUEST, 73)] {
+        assert_same(&rt, text.len(), length);
+        assert_written(&rt, rt.alloc(), text.as_bytes(), text);
+        assert_copied(&rt, rt.alloc(), text);
+    }
+}
+
+const REJECTED: &str =
+    r#"{"call":"AcceptNotification","codes":[301,303],"from":"JP","status":"Rejected","to":"ITL","transaction":"NZ1"}"#;
+
+const TERMINATED: &str =
+    r#"{"call":"AcceptNotification","codes":[207],"from":"ITL","status":"Terminated","to":"NZ","transaction":"NZ1"}"#;
+
+const CHECKED: &str =
+    r#"{"account":999999999,"call":"AcceptProposal","from":"ITL","status":"Checked","to":"JP","to_account":7,"to_registry":"JP","transaction":"NZ999999","units":["NZ:1:1-100:AAU","CH:2:5-999999999999999:lCER"]}"#;
+
+#[test]
+fn messages_built_from_parts(rt: HostRuntime) {
+    let alloc = rt.alloc();
+    let (jp, nz) = (code(&rt, "JP"), Node::Registry(code(&rt, "NZ")));
+    let rejected = rejected(&rt, alloc, &[301, 303]);
+    let rejected = notification(&rt, Node::Registry(jp), Node::Itl, rejected);
+    assert_built(&rt, alloc, rejected, REJECTED);
+    let terminated = terminated(&rt, alloc, &[207]);
+    let terminated = notification(&rt, Node::Itl, nz, terminated);
+    assert_built(&rt, alloc, terminated, TERMINATED);
+    assert_built(&rt, alloc, request(&rt, nz), REQUEST);
+    assert_built(&rt, alloc, checked_proposal(&rt, alloc, jp), CHECKED);
+}
+
+/// Each change makes the text no message.
+fn assert_wrong(rt: &impl Abort, alloc: Global, text: &str, changes: &[(&str, &str)]) {
+    for (old, new) in changes {
+        let line = changed(rt, alloc, text, old, new);
+        assert_refused(rt, alloc, line.as_bytes());
+    }
+}
+
+/// What stands in a proposal, and what makes it no message in its place.
+const WRONG_IN_PROPOSAL: &[(&str, &str)] = &[
+    (r#""account":1,"#, ""),
+    (r#""account":1,"#, r#""account":0,"#),
+    (r#""account":1,"#, r#""account":1000000000,"#),
+    (r#""account":1,"#, r#""account":"1","#),
+    (r#""account":1,"#, r#""account":1.0,"#),
+    (r#""account":1,"#, r#""account":-1,"#),
+    (r#""account":1,"#, r#""x":1,"account":1,"#),
+    (r#""call":"AcceptProposal","#, ""),
+    (r#""AcceptProposal""#, r#""AcceptNotification""#),
+    (r#""AcceptProposal""#, r#""AcceptProposals""#),
+    (r#""AcceptProposal""#, "1"),
+    (r#""AcceptProposal""#, r#""AcceptNotification","codes":[]"#),
+    (r#""from":"NZ","#, ""),
+    (r#""from":"NZ""#, r#""from":"nz""#),
+    (r#""from":"NZ""#, r#""from":"NZL""#),
+    (r#""from":"NZ""#, r#""from":1"#),
+    (r#""status":"Proposed","#, ""),
+    (r#""Proposed""#, r#""Accepted""#),
+    (r#""Proposed""#, r#""proposed""#),
+    (r#""Proposed""#, "1"),
+    (r#""to":"ITL","#, ""),
+    (r#""to":"ITL""#, r#""to":"itl""#),
+    (r#""to":"ITL""#, r#""to":"J""#),
+    (r#""to":"ITL""#, r#""to":1"#),
+    (r#""to_account":7,"#, ""),
+    (r#""to_account":7"#, r#""to_account":0"#),
+    (r#""to_account":7"#, r#""to_account":1000000000"#),
+    (r#""to_account":7"#, r#""to_account":"7""#),
+    (r#""to_account":7"#, r#""to_account":7.0"#),
+    (r#""to_account":7"#, r#""to_account":-7"#),
+    (r#""to_registry":"JP","#, ""),
+    (r#""JP""#, r#""ITL""#),
+    (r#""JP""#, r#""J""#),
+    (r#""JP""#, "7"),
+    (r#""transaction":"NZ1","#, ""),
+    (r#""NZ1""#, r#""NZ0""#),
+    (r#""NZ1""#, r#""NZ1000000""#),
+    (r#""NZ1""#, r#""NZ01""#),
+    (r#""NZ1""#, r#""1""#),
+    (r#""NZ1""#, "1"),
+    (r#","units":["NZ:1:1-100:AAU"]"#, ""),
+    (r#"["NZ:1:1-100:AAU"]"#, "[]"),
+    (r#"["NZ:1:1-100:AAU"]"#, r#""NZ:1:1-100:AAU""#),
+    (r#""NZ:1:1-100:AAU""#, r#""NZ:1:0-5:AAU""#),
+    (r#""NZ:1:1-100:AAU""#, r#""NZ:1:6-5:AAU""#),
+    (r#""NZ:1:1-100:AAU""#, r#""NZ:3:1-5:AAU""#),
+    (r#""NZ:1:1-100:AAU""#, r#""NZ:1:1-100:aau""#),
+    (r#""NZ:1:1-100:AAU""#, r#""NZ:1:1-100:AAU ""#),
+    (r#""NZ:1:1-100:AAU""#, r#""NZ:1:1-100:AAU",1"#),
+    (r#""NZ:1:1-100:AAU""#, r#""NZ:1:1-1000000000000000:AAU""#),
+    (r#""units":["#, r#""codes":["#),
+    (r#""units":["#, r#""codes":[],"units":["#),
+    (r#""to_account":7"#, r#""to_account":18446744073709551623"#),
+    ("}", ""),
+    ("}", "},"),
+    ("}", "}}"),
+    ("{", "[{"),
+    ("{", ""),
+];
+
+/// What stands in a notification, and what makes it no message in its place.
+const WRONG_IN_NOTIFICATION: &[(&str, &str)] = &[
+    (r#""call":"AcceptNotification","#, ""),
+    (r#""AcceptNotification""#, r#""AcceptProposal""#),
+    (r#""AcceptNotification""#, r#""Acceptnotification""#),
+    (r#""AcceptNotification""#, "1"),
+    (r#""codes":[],"#, ""),
+    (r#""codes":[]"#, r#""codes":null"#),
+    (r#""codes":[]"#, r#""codes":301"#),
+    (r#""codes":[]"#, r#""codes":{}"#),
+    (r#""codes":[]"#, r#""codes":[],"x":1"#),
+    (r#""codes":[]"#, r#""units":[]"#),
+    (r#""from":"JP","#, ""),
+    (r#""from":"JP""#, r#""from":"jp""#),
+    (r#""from":"JP""#, r#""from":"JPN""#),
+    (r#""from":"JP""#, r#""from":1"#),
+    (r#""status":"Accepted","#, ""),
+    (r#""Accepted""#, r#""Checked""#),
+    (r#""Accepted""#, r#""Proposed""#),
+    (r#""Accepted""#, r#""accepted""#),
+    (r#""Accepted""#, "1"),
+    (r#""to":"ITL","#, ""),
+    (r#""to":"ITL""#, r#""to":"itl""#),
+    (r#""to":"ITL""#, r#""to":"J""#),
+    (r#""to":"ITL""#, r#""to":1"#),
+    (r#","transaction":"NZ1""#, ""),
+    (r#""NZ1""#, r#""NZ0""#),
+    (r#""NZ1""#, r#""NZ1000000""#),
+    (r#""NZ1""#, r#""NZ01""#),
+    (r#""NZ1""#, r#""1""#),
+    (r#""NZ1""#, "1"),
+];
+
+#[test]
+fn a_proposal_with_something_wrong_in_it(rt: HostRuntime) {
+    assert_wrong(&rt, rt.alloc(), PROPOSAL, WRONG_IN_PROPOSAL);
+}
+
+#[test]
+fn a_notification_with_something_wrong_in_it(rt: HostRuntime) {
+    assert_wrong(&rt, rt.alloc(), NOTIFICATION, WRONG_IN_NOTIFICATION);
+}
+
+/// What stands in a request, and what makes it no message in its place.
+const WRONG_IN_REQUEST: &[(&str, &str)] = &[
+    (r#""to":"ITL","#, ""),
+    (r#""to":"ITL","#, r#""to":"ITL","x":1,"#),
+    (r#""from":"NZ""#, r#""codes":[],"from":"NZ""#),
+    (r#""to":"ITL""#, r#""codes":[]"#),
+    (r#""RequestCancellation""#, r#""requestCancellation""#),
+    (r#""RequestCancellation""#, r#""AcceptNotification""#),
+    (r#""NZ1""#, r#""NZ0""#),
+];
+
+#[test]
+fn a_request_with_something_wrong_in_it(rt: HostRuntime) {
+    assert_wrong(&rt, rt.alloc(), REQUEST, WRONG_IN_REQUEST);
+}
+
+/// Statuses, their codes, and whether a notification of both is one.
+const CODES: &[(&str, &str, bool)] = &[
+    ("Accepted", "[]", true),
+    ("Cancelled", "[]", true),
+    ("Completed", "[]", true),
+    ("Rejected", "[301]", true),
+    ("Rejected", "[302,304]", true),
+    ("Rejected", "[301,302,303,304]", true),
+    ("Terminated", "[201]", true),
+    ("Terminated", "[201,202,203,204,205,206,207,208]", true),
+    ("Accepted", "[301]", false),
+    ("Cancelled", "[201]", false),
+    ("Completed", "[301]", false),
+    ("Rejected", "[]", false),
+    ("Rejected", "[201]", false),
+    ("Rejected", "[302,301]", false),
+    ("Rejected", "[301,301]", false),
+    ("Rejected", "[305]", false),
+    ("Rejected", "[300]", false),
+    ("Rejected", "[301,302,303,304,304]", false),
+    ("Rejected", "[65837]", false),
+    ("Rejected", "[301.0]", false),
+    ("Rejected", r#"["301"]"#, false),
+    ("Rejected", r#""301""#, false),
+    ("Rejected", "301", false),
+    ("Terminated", "[]", false),
+    ("Terminated", "[301]", false),
+    ("Terminated", "[200]", false),
+    ("Terminated", "[209]", false),
+    ("Terminated", "[202,201]", false),
+    ("Checked", "[]", false),
+    ("Checked", "[301]", false),
+];
+
+/// The line is a message that is written as it was read, or is refused as none.
+fn assert_read(rt: &impl Abort, alloc: Global, line: &str, is_message: bool) {
+    match decode(alloc, line.as_bytes()) {
+        Ok(message) => {
+            assert!(rt; is_message, "{line}");
+            assert_built(rt, alloc, message, line);
+        }
+        Err(refusal) => {
+            assert!(rt; !is_message, "{line}");
+            assert_same(rt, refusal, Refusal { code: 41 });
+        }
+    }
+}
+
+/// The text of a notification with that status and these codes.
+fn notification_text(rt: &impl Abort, alloc: Global, status: &str, codes: &str) -> String {
+    let text = format!(in alloc;
+        "{{\"call\":\"AcceptNotification\",\"codes\":{codes},\"from\":\"JP\",\"status\":\"{status}\",\"to\":\"ITL\",\"transaction\":\"NZ1\"}}"
+    );
+    text.expect(rt, "memory")
+}
+
+#[test]
+fn each_status_with_its_codes(rt: HostRuntime) {
+    for (status, codes, is_message) in CODES {
+        let line = notification_text(&rt, rt.alloc(), status, codes);
+        assert_read(&rt, rt.alloc(), line.as_str(), *is_message);
+    }
+}
+
+/// Lines that are no message.
+const NO_MESSAGES: &[&[u8]] = &[
+    b"",
+    b"[",
+    b"null",
+    b"[]",
+    b"{}",
+    b"\"NZ1\"",
+    b"\xef\xbb\xbf{}",
+    b"{\"call\":\"\xff\"}",
+];
+
+#[test]
+fn lines_that_are_no_message(rt: HostRuntime) {
+    for line in NO_MESSAGES {
+        assert_refused(&rt, rt.alloc(), line);
+    }
+    assert_refused(&rt, rt.alloc(), &[b'['; 200]);
+}
+
+#[test]
+fn bytes_that_are_no_text(rt: HostRuntime) {
+    for at in 0..PROPOSAL.len() {
+        let line = Vec::from_slice(rt.alloc(), PROPOSAL.as_bytes());
+        let mut line = line.expect(&rt, "memory");
+        line[at] = 0xff;
+        assert_refused(&rt, rt.alloc(), &line);
+    }
+}
+
+/// What stands in a proposal, and what may stand in its place.
+const RIGHT_IN_PROPOSAL: &[(&str, &str)] = &[
+    (r#""account":1,"#, r#""account":999999999,"#),
+    (r#""to_account":7"#, r#""to_account":999999999"#),
+    (r#""from":"NZ""#, r#""from":"ITL""#),
+    (r#""Proposed""#, r#""Checked""#),
+    (r#""to":"ITL""#, r#""to":"AA""#),
+    (r#""NZ1""#, r#""ZZ999999""#),
+    (
+        r#""NZ:1:1-100:AAU""#,
+        r#""NZ:2:999999999999999-999999999999999:tCER""#,
+    ),
+    (r#""NZ:1:1-100:AAU""#, SIXTEEN),
+];
+
+#[test]
+fn the_limits_of_a_proposal(rt: HostRuntime) {
+    for (old, new) in RIGHT_IN_PROPOSAL {
+        let line = changed(&rt, rt.alloc(), PROPOSAL, old, new);
+        assert_written(&rt, rt.alloc(), line.as_bytes(), line.as_str());
+    }
+    let more = format!(in rt.alloc(); "{SIXTEEN},\"NZ:1:1-1:AAU\"").expect(&rt, "memory");
+    let old = r#""NZ:1:1-100:AAU""#;
+    let line = changed(&rt, rt.alloc(), PROPOSAL, old, more.as_str());
+    assert_refused(&rt, rt.alloc(), line.as_bytes());
+}
+
+/// The proposal with so many spaces after it that the line has that length.
+fn padded(rt: &impl Abort, alloc: Global, length: usize) -> Vec<u8> {
+    let mut line = Vec::from_slice(alloc, PROPOSAL.as_bytes()).expect(rt, "memory");
+    for _ in PROPOSAL.len()..length {
+        line.push(b' ').expect(rt, "memory");
+    }
+    line
+}
+
+#[test]
+fn the_longest_line(rt: HostRuntime) {
+    let alloc = rt.alloc();
+    assert_written(&rt, alloc, &padded(&rt, alloc, LIMIT), PROPOSAL);
+    assert_refused(&rt, alloc, &padded(&rt, alloc, LIMIT + 1));
+}
+
+#[test]
+fn keys_in_another_order_and_spaces(rt: HostRuntime) {
+    for (line, text) in [
+        (
+            " { \"units\" : [ \"NZ:1:1-100:AAU\" ] , \"transaction\":\"NZ1\",\t\"to_registry\":\"JP\",\"to_account\":  7,\"to\":\"ITL\",\r\"status\":\"Proposed\",\"from\":\"NZ\",\"call\":\"AcceptProposal\",\"account\":1 }\t",
+            PROPOSAL,
+        ),
+        (
+            r#"{"transaction":"NZ\u0031","to":"ITL","status":"Accepted","from":"JP","codes":[ ],"call":"AcceptNotification"}"#,
+            NOTIFICATION,
+        ),
+    ] {
+        assert_written(&rt, rt.alloc(), line.as_bytes(), text);
+    }
+}

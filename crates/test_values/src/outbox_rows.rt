@@ -1,0 +1,67 @@
+use crate::same::assert_same;
+use outbox::Outbox;
+use protocol::status::TransactionId;
+use protocol::units::{Code, Node};
+use protocol::wire::{Message, Request};
+use std::alloc::Global;
+use std::process::Abort;
+
+fn nz(rt: &impl Abort) -> Code {
+    Code::read("NZ").expect(rt, "a code")
+}
+
+/// That many requests from NZ to the log, of its transactions from 1 on.
+fn requests(rt: &impl Abort, alloc: Global, count: u32) -> Vec<Message> {
+    let (from, to) = (Node::Registry(nz(rt)), Node::Itl);
+    let mut messages = Vec::new(alloc);
+    for number in 1..=count {
+        let id = TransactionId::new(nz(rt), number).expect(rt, "an identifier");
+        let message = Message::Request(Request { from, to, id });
+        messages.push(message).expect(rt, "memory");
+    }
+    messages
+}
+
+/// An outbox of two requests, the first acknowledged.
+fn acknowledged(rt: &impl Abort, alloc: Global) -> Outbox {
+    let mut outbox = Outbox::new(alloc);
+    outbox.record(requests(rt, alloc, 2)).expect(rt, "memory");
+    assert_same(rt, outbox.next_unacknowledged(Node::Itl, 0), Some(0));
+    if outbox.sends() > 0 {
+        outbox.acknowledge(0).expect(rt, "memory");
+    }
+    outbox
+}
+
+#[test]
+fn messages_are_numbered(rt: HostRuntime) {
+    let second = TransactionId::new(nz(&rt), 2);
+    let outbox = acknowledged(&rt, rt.alloc());
+    assert_same(&rt, (outbox.records(), outbox.sends()), (2, 2));
+    assert_same(&rt, (outbox.sent_by(0), outbox.sent_by(1)), (0, 2));
+    assert_same(&rt, outbox.message(1).map(|m| m.transaction()), second);
+    assert!(rt; outbox.message(2).is_none());
+    drop(outbox);
+}
+
+#[test]
+fn messages_are_acknowledged(rt: HostRuntime) {
+    let registry = Node::Registry(nz(&rt));
+    let outbox = acknowledged(&rt, rt.alloc());
+    assert!(rt; outbox.is_acknowledged(0));
+    assert!(rt; !outbox.is_acknowledged(1));
+    assert_same(&rt, outbox.next_unacknowledged(Node::Itl, 0), Some(1));
+    assert_same(&rt, outbox.next_unacknowledged(registry, 0), None);
+    drop(outbox);
+}
+
+#[test]
+fn the_last_record_is_taken_back(rt: HostRuntime) {
+    let alloc = rt.alloc();
+    let mut outbox = Outbox::new(alloc);
+    outbox.record(requests(&rt, alloc, 3)).expect(&rt, "memory");
+    outbox.take_back();
+    assert_same(&rt, (outbox.records(), outbox.sends()), (0, 0));
+    assert_same(&rt, outbox.next_unacknowledged(Node::Itl, 0), None);
+    drop(outbox);
+}

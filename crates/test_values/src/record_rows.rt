@@ -1,0 +1,248 @@
+use crate::same::assert_same;
+use protocol::status::{Moment, Order, TransactionId};
+use protocol::units::{Code, Items, RawBlock};
+use protocol::wire::{Input, Number, TextFault, decode_input, decode_input_v1, encode_input};
+use std::alloc::Global;
+use std::process::Abort;
+
+const PROPOSE: &str =
+    r#"{"account":1,"input":"propose","to_account":7,"to_registry":"JP","units":["NZ:1:1-100:AAU"],"v":2}"#;
+
+const CLOSE: &str = r#"{"account":8,"input":"close","v":2}"#;
+
+const OPEN: &str = r#"{"account":8,"input":"open","v":2}"#;
+
+const ACK: &str = r#"{"input":"ack","key":0,"v":2}"#;
+
+const CLEAN_UP: &str = r#"{"input":"clean_up","moment":1335916800,"v":2}"#;
+
+const ELIGIBLE: &str = r#"{"input":"eligible","may":false,"registry":"NZ","v":2}"#;
+
+const REQUEST: &str = r#"{"input":"request","transaction":"NZ1","v":2}"#;
+
+const RECORDS: [&str; 9] = [
+    PROPOSE,
+    r#"{"input":"received","message":{"call":"AcceptNotification","codes":[],"from":"ITL","status":"Accepted","to":"NZ","transaction":"NZ1"},"moment":1335830400,"v":2}"#,
+    CLOSE,
+    OPEN,
+    ACK,
+    CLEAN_UP,
+    ELIGIBLE,
+    REQUEST,
+    r#"{"input":"received","message":{"call":"RequestCancellation","from":"NZ","to":"ITL","transaction":"NZ1"},"moment":1335830400,"v":2}"#,
+];
+
+/// The same records in the first format, in the order of `RECORDS`.
+const FIRST_FORMAT: [&str; 9] = [
+    r#"{"account":1,"input":"propose","to_account":7,"to_registry":"JP","units":["NZ:1:1-100:AAU"]}"#,
+    r#"{"input":"received","message":{"call":"AcceptNotification","codes":[],"from":"ITL","status":"Accepted","to":"NZ","transaction":"NZ1"},"moment":1335830400}"#,
+    r#"{"account":8,"input":"close"}"#,
+    r#"{"account":8,"input":"open"}"#,
+    r#"{"input":"ack","key":0}"#,
+    r#"{"input":"clean_up","moment":1335916800}"#,
+    r#"{"input":"eligible","may":false,"registry":"NZ"}"#,
+    r#"{"input":"request","transaction":"NZ1"}"#,
+    r#"{"input":"received","message":{"call":"RequestCancellation","from":"NZ","to":"ITL","transaction":"NZ1"},"moment":1335830400}"#,
+];
+
+/// Records of orders that no node acts on, and the last numbers of the others.
+const KEPT: &[&str] = &[
+    r#"{"account":1,"input":"propose","to_account":7,"to_registry":"JP","units":[],"v":2}"#,
+    r#"{"account":1,"input":"propose","to_account":7,"to_registry":"JP","units":["NZ:1:1-1:AAU","NZ:1:1-1:AAU","NZ:1:1-1:AAU","NZ:1:1-1:AAU","NZ:1:1-1:AAU","NZ:1:1-1:AAU","NZ:1:1-1:AAU","NZ:1:1-1:AAU","NZ:1:1-1:AAU","NZ:1:1-1:AAU","NZ:1:1-1:AAU","NZ:1:1-1:AAU","NZ:1:1-1:AAU","NZ:1:1-1:AAU","NZ:1:1-1:AAU","NZ:1:1-1:AAU","NZ:1:1-1:AAU"],"v":2}"#,
+    r#"{"account":0,"input":"propose","to_account":7,"to_registry":"JP","units":["NZ:1:6-5:AAU"],"v":2}"#,
+    r#"{"account":999999999999999999,"input":"propose","to_account":0,"to_registry":"JP","units":["NZ:2:0-999999999999999999:lCER"],"v":2}"#,
+    r#"{"account":0,"input":"close","v":2}"#,
+    r#"{"account":999999999999999999,"input":"open","v":2}"#,
+    r#"{"input":"ack","key":999999999999999999,"v":2}"#,
+    r#"{"input":"clean_up","moment":253370764799,"v":2}"#,
+    r#"{"input":"eligible","may":true,"registry":"JP","v":2}"#,
+];
+
+/// The record is written as that text.
+fn assert_encoded(rt: &impl Abort, alloc: Global, input: &Input, text: &str) {
+    let line = encode_input(alloc, input).expect(rt, "memory");
+    assert_same(rt, line.as_slice(), text.as_bytes());
+}
+
+/// The record is written as that text, and is dropped then.
+fn assert_built(rt: &impl Abort, alloc: Global, input: Input, text: &str) {
+    assert_encoded(rt, alloc, &input, text);
+    drop(input);
+}
+
+/// The text is a record. Its copy is the same, and is written as it was read.
+fn assert_copied(rt: &impl Abort, alloc: Global, text: &str) {
+    let input = decode_input(alloc, text.as_bytes()).expect(rt, text);
+    let copy = input.copy().expect(rt, "memory");
+    assert!(rt; copy.same(&input));
+    drop(input);
+    assert_built(rt, alloc, copy, text);
+}
+
+#[test]
+fn records_are_written_and_read_back(rt: HostRuntime) {
+    for text in RECORDS {
+        assert_copied(&rt, rt.alloc(), text);
+    }
+}
+
+fn order(rt: &impl Abort, alloc: Global) -> Input {
+    let block = RawBlock::read("NZ:1:1-100:AAU").expect(rt, "a block");
+    let units = Vec::from_slice(alloc, &[block]).expect(rt, "memory");
+    let jp = Code::read("JP").expect(rt, "a code");
+    let order = Order::new(1, jp, 7, Items::from_vec(units)).expect(rt, "an order");
+    Input::Propose(order)
+}
+
+#[test]
+fn inputs_built_from_parts(rt: HostRuntime) {
+    let eight = Number::new(8).expect(&rt, "one digit");
+    let key = Number::new(0).expect(&rt, "one digit");
+    let moment = Moment::new(1_335_916_800).expect(&rt, "in 2012");
+    let registry = Code::read("NZ").expect(&rt, "a code");
+    let id = TransactionId::read("NZ1").expect(&rt, "a transaction");
+    let may = false;
+    let alloc = rt.alloc();
+    assert_built(&rt, alloc, order(&rt, alloc), PROPOSE);
+    assert_built(&rt, alloc, Input::CloseAccount(eight), CLOSE);
+    assert_built(&rt, alloc, Input::OpenAccount(eight), OPEN);
+    assert_built(&rt, alloc, Input::Ack(key), ACK);
+    assert_built(&rt, alloc, Input::CleanUp(moment), CLEAN_UP);
+    assert_built(&rt, alloc, Input::Eligible { registry, may }, ELIGIBLE);
+    assert_built(&rt, alloc, Input::Request(id), REQUEST);
+}
+
+#[test]
+fn an_order_is_kept_as_it_was_given(rt: HostRuntime) {
+    for text in KEPT {
+        assert_copied(&rt, rt.alloc(), text);
+    }
+}
+
+/// The texts are records that differ.
+fn assert_differ(rt: &impl Abort, alloc: Global, one: &str, other: &str) {
+    let input = decode_input(alloc, one.as_bytes()).expect(rt, one);
+    let other = decode_input(alloc, other.as_bytes()).expect(rt, other);
+    assert!(rt; !input.same(&other));
+    drop(other);
+    drop(input);
+}
+
+#[test]
+fn records_that_differ(rt: HostRuntime) {
+    for i in 1..RECORDS.len() {
+        assert_differ(&rt, rt.alloc(), RECORDS[i], RECORDS[i - 1]);
+    }
+}
+
+const NO_RECORDS: &[&str] = &[
+    "",
+    "[]",
+    "{}",
+    r#"{"account":8,"v":2}"#,
+    r#"{"account":8,"input":"split","v":2}"#,
+    r#"{"account":8,"input":"Open","v":2}"#,
+    r#"{"account":8,"input":1,"v":2}"#,
+    r#"{"account":8,"input":"open","x":1,"v":2}"#,
+    r#"{"account":8,"input":"open","v":2},"#,
+    r#"{"account":"8","input":"close","v":2}"#,
+    r#"{"account":1000000000000000000,"input":"close","v":2}"#,
+    r#"{"input":"ack","v":2}"#,
+    r#"{"input":"ack","key":-1,"v":2}"#,
+    r#"{"input":"ack","key":1.0,"v":2}"#,
+    r#"{"input":"ack","key":1000000000000000000,"v":2}"#,
+    r#"{"input":"ack","key":18446744073709551616,"v":2}"#,
+    r#"{"input":"clean_up","moment":253370764800,"v":2}"#,
+    r#"{"input":"clean_up","key":0,"v":2}"#,
+    r#"{"input":"eligible","may":1,"registry":"NZ","v":2}"#,
+    r#"{"input":"eligible","may":"true","registry":"NZ","v":2}"#,
+    r#"{"input":"eligible","may":true,"registry":"ITL","v":2}"#,
+    r#"{"input":"received","message":{"call":"AcceptNotification","codes":[],"from":"ITL","status":"Checked","to":"NZ","transaction":"NZ1"},"moment":1335830400,"v":2}"#,
+    r#"{"input":"received","message":{"call":"AcceptNotification","codes":[],"from":"ITL","status":"Accepted","to":"NZ","transaction":"NZ1"},"moment":253370764800,"v":2}"#,
+    r#"{"input":"received","message":{"call":"AcceptNotification","codes":[],"from":"ITL","status":"Accepted","to":"NZ","transaction":"NZ1"},"v":2}"#,
+    r#"{"input":"received","moment":1335830400,"v":2}"#,
+    r#"{"input":"request","v":2}"#,
+    r#"{"input":"request","transaction":"NZ0","v":2}"#,
+    r#"{"input":"request","transaction":"NZ1","x":1,"v":2}"#,
+    r#"{"account":1,"input":"propose","to_account":7,"to_registry":"JP","units":["NZ:3:1-5:AAU"],"v":2}"#,
+    r#"{"account":1,"input":"propose","to_account":7,"to_registry":"JP","units":["NZ:1:1-1000000000000000000:AAU"],"v":2}"#,
+    r#"{"account":1000000000000000000,"input":"propose","to_account":7,"to_registry":"JP","units":[],"v":2}"#,
+    r#"{"account":1,"input":"propose","to_account":7,"to_registry":"JP","v":2}"#,
+    r#"{"input":"ack","key":0}"#,
+    r#"{"input":"ack","key":0,"v":1}"#,
+    r#"{"input":"ack","key":0,"v":3}"#,
+    r#"{"input":"ack","key":0,"v":2.0}"#,
+    r#"{"input":"ack","key":0,"v":"2"}"#,
+    r#"{"input":"ack","key":0,"V":2}"#,
+    r#"{"input":"received","message":{"account":1,"call":"AcceptProposal","from":"ITL","status":"Checked","to":"JP","to_account":7,"to_registry":"JP","transaction":"NZ1","units":["NZ:1:1-1000000000000000:AAU"]},"moment":1335830400,"v":2}"#,
+    r#"{"input":"received","message":{"call":"RequestCancellation","from":"NZ","to":"ITL","transaction":"NZ1","v":2},"moment":1335830400}"#,
+    r#"{"input":"received","message":{"call":"RequestCancellation","from":"NZ","to":"ITL","transaction":"NZ1","v":2},"moment":1335830400,"v":2}"#,
+];
+
+#[test]
+fn what_is_no_record(rt: HostRuntime) {
+    for text in NO_RECORDS {
+        let fault = decode_input(rt.alloc(), text.as_bytes()).err();
+        assert_same(&rt, fault, Some(TextFault::Shape));
+    }
+}
+
+/// The texts write one record in the two formats, and neither is read in the other format.
+fn assert_formats(rt: &impl Abort, alloc: Global, first: &str, second: &str) {
+    let old = decode_input_v1(alloc, first.as_bytes()).expect(rt, first);
+    let input = decode_input(alloc, second.as_bytes()).expect(rt, second);
+    assert!(rt; input.same(&old));
+    drop(input);
+    drop(old);
+    let fault = decode_input(alloc, first.as_bytes()).err();
+    assert_same(rt, fault, Some(TextFault::Shape));
+    let fault = decode_input_v1(alloc, second.as_bytes()).err();
+    assert_same(rt, fault, Some(TextFault::Shape));
+}
+
+#[test]
+fn records_of_the_first_format(rt: HostRuntime) {
+    for i in 0..RECORDS.len() {
+        assert_formats(&rt, rt.alloc(), FIRST_FORMAT[i], RECORDS[i]);
+    }
+}
+
+/// Records of the last unit of the first format, in a message, and of an order, whose numbers may be greater.
+const LAST_UNITS: &[(&str, &str)] = &[
+    (
+        r#"{"input":"received","message":{"account":1,"call":"AcceptProposal","from":"ITL","status":"Checked","to":"JP","to_account":7,"to_registry":"JP","transaction":"NZ1","units":["NZ:1:1-999999999999:AAU"]},"moment":1335830400}"#,
+        r#"{"input":"received","message":{"account":1,"call":"AcceptProposal","from":"ITL","status":"Checked","to":"JP","to_account":7,"to_registry":"JP","transaction":"NZ1","units":["NZ:1:1-999999999999:AAU"]},"moment":1335830400,"v":2}"#,
+    ),
+    (
+        r#"{"account":1,"input":"propose","to_account":7,"to_registry":"JP","units":["NZ:2:0-999999999999999999:lCER"]}"#,
+        r#"{"account":1,"input":"propose","to_account":7,"to_registry":"JP","units":["NZ:2:0-999999999999999999:lCER"],"v":2}"#,
+    ),
+];
+
+#[test]
+fn the_last_units_of_the_first_format(rt: HostRuntime) {
+    for (first, second) in LAST_UNITS {
+        assert_formats(&rt, rt.alloc(), first, second);
+    }
+}
+
+/// Records of units that the first format doesn't have.
+const GREATER_UNITS: &[(&str, &str)] = &[
+    (
+        r#"{"input":"received","message":{"account":1,"call":"AcceptProposal","from":"ITL","status":"Checked","to":"JP","to_account":7,"to_registry":"JP","transaction":"NZ1","units":["NZ:1:1-100:AAU","NZ:1:1000000000000-1000000000000:AAU"]},"moment":1335830400}"#,
+        r#"{"input":"received","message":{"account":1,"call":"AcceptProposal","from":"ITL","status":"Checked","to":"JP","to_account":7,"to_registry":"JP","transaction":"NZ1","units":["NZ:1:1-100:AAU","NZ:1:1000000000000-1000000000000:AAU"]},"moment":1335830400,"v":2}"#,
+    ),
+    (
+        r#"{"input":"received","message":{"account":1,"call":"AcceptProposal","from":"NZ","status":"Proposed","to":"ITL","to_account":7,"to_registry":"JP","transaction":"NZ1","units":["NZ:1:1-999999999999999:AAU"]},"moment":1335830400}"#,
+        r#"{"input":"received","message":{"account":1,"call":"AcceptProposal","from":"NZ","status":"Proposed","to":"ITL","to_account":7,"to_registry":"JP","transaction":"NZ1","units":["NZ:1:1-999999999999999:AAU"]},"moment":1335830400,"v":2}"#,
+    ),
+];
+
+#[test]
+fn units_beyond_the_first_format(rt: HostRuntime) {
+    for (first, second) in GREATER_UNITS {
+        let fault = decode_input_v1(rt.alloc(), first.as_bytes()).err();
+        assert_same(&rt, fault, Some(TextFault::Shape));
+        assert_copied(&rt, rt.alloc(), second);
+    }
+}

@@ -1,0 +1,40 @@
+//! Registries of the worked scheme.
+
+use crate::cores::{Seen, scheme};
+use protocol::units::{Block, Code};
+use registry_core::RegistryCore;
+use std::alloc::Global;
+use std::process::Abort;
+
+/// The accounts of both registries.
+const ACCOUNTS: [u64; 4] = [1, 2, 7, 8];
+
+/// The registry of that code in the worked scheme, with room for that many records.
+pub fn registry(rt: &impl Abort, alloc: Global, code: &str, room: &str) -> RegistryCore {
+    let scheme = scheme(rt, alloc, room);
+    let code = Code::read(code).expect(rt, "a code");
+    let registry = RegistryCore::new(alloc, &scheme, code).expect(rt, "memory");
+    drop(scheme);
+    registry
+}
+
+impl Seen for RegistryCore {
+    fn is_like(&self, rt: &impl Abort, other: &RegistryCore) -> bool {
+        for account in ACCOUNTS {
+            if self.holdings().free_count(account) != other.holdings().free_count(account) {
+                return false;
+            }
+        }
+        let (lines, expected) = (
+            self.lines().expect(rt, "memory"),
+            other.lines().expect(rt, "memory"),
+        );
+        lines.as_slice() == expected.as_slice()
+    }
+}
+
+/// Asserts that the registry has no unit of that block.
+pub fn assert_none_held(rt: &impl Abort, registry: &RegistryCore, block: &str) {
+    let block = Block::read(block).expect(rt, "a block");
+    assert!(rt; !registry.holdings().holds_any(&[block]));
+}

@@ -1,0 +1,304 @@
+use crate::failing_streams::Full;
+use crate::same::assert_same;
+use command_faults::{Cause, OpFault};
+use operator::{Action, UsageFault, parse_words};
+use rehearse::rehearse;
+use std::alloc::Global;
+use std::io::{self, ErrorKind, Read, Write};
+use std::process::Abort;
+use streams::{Calls, ReadFault, read_input, write_text};
+
+/// A scheme, and one event.
+const INPUT: &str =
+    "{\"records\":9,\"registries\":[{\"accounts\":[],\"allotted\":[],\"code\":\"JP\",\"eligible\":true,\"kinds\":[]},{\"accounts\":[],\"allotted\":[],\"code\":\"NZ\",\"eligible\":true,\"kinds\":[]}]}\ncommit NZ 0\n";
+
+const REPORT: &str = "\
+1 done
+registry JP held 0 spendable 0
+registry NZ held 0 spendable 0
+owed 0
+end
+";
+
+/// What an input comes to: the result, and what was written.
+fn rehearsed(alloc: Global, input: &str) -> (Result<(), OpFault>, Vec<u8>) {
+    let mut reader = input.as_bytes();
+    let mut writer = Vec::new(alloc);
+    let ended = rehearse(alloc, &mut reader, &mut writer);
+    (ended, writer)
+}
+
+#[test]
+fn writes_a_report(rt: HostRuntime) {
+    let (ended, written) = rehearsed(rt.alloc(), INPUT);
+    assert_same(&rt, ended, Ok(()));
+    assert!(rt; written.as_slice() == REPORT.as_bytes());
+}
+
+/// Gives its bytes one by one, with an error before the byte at `at`.
+#[derive(Drop)]
+struct Interrupted {
+    bytes: &'static [u8],
+    at: usize,
+    kind: ErrorKind,
+}
+
+impl Read for Interrupted {
+    fn read(&mut self, buf: &mut [u8]) -> io::Result<usize> {
+        if self.at == 0 {
+            self.at = usize::MAX;
+            return Err(self.kind.into());
+        }
+        self.at -= 1;
+        if self.bytes.is_empty() || buf.is_empty() {
+            return Ok(0);
+        }
+        buf[0] = self.bytes[0];
+        self.bytes = &self.bytes[1..];
+        Ok(1)
+    }
+}
+
+/// Where the reader fails with `kind` after two bytes, `rehearse` fails with `fault` and writes nothing.
+fn assert_interrupted(rt: &impl Abort, alloc: Global, kind: ErrorKind, fault: OpFault) {
+    let mut reader = Interrupted {
+        bytes: b"{}\n",
+        at: 2,
+        kind,
+    };
+    let mut writer = Vec::new(alloc);
+    let ended = rehearse(alloc, &mut reader, &mut writer);
+    assert_same(rt, ended, Err(fault));
+    assert!(rt; writer.is_empty());
+}
+
+#[test]
+fn reads_on_after_an_interruption_alone(rt: HostRuntime) {
+    let (line, cause) = (1, Cause::Shape);
+    assert_interrupted(
+        &rt,
+        rt.alloc(),
+        ErrorKind::Interrupted,
+        OpFault::Input { line, cause },
+    );
+    assert_interrupted(&rt, rt.alloc(), ErrorKind::Other, OpFault::Read);
+}
+
+/// The reads that a fault has.
+fn reads_of(fault: ReadFault) -> Calls {
+    match fault {
+        ReadFault::Read(calls) | ReadFault::NoMemory(calls) => calls,
+    }
+}
+
+#[test]
+fn tells_how_often_it_read(rt: HostRuntime) {
+    let mut reader = Interrupted {
+        bytes: b"{}\n",
+        at: 2,
+        kind: ErrorKind::Other,
+    };
+    let read = read_input(rt.alloc(), &mut reader).err();
+    let calls = reads_of(read.expect(&rt, "a fault"));
+    assert_same(
+        &rt,
+        (calls.count(), calls.failures(), calls.interruptions()),
+        (3, 1, 0),
+    );
+}
+
+/// Takes one byte, and then each write is interrupted.
+#[derive(Drop)]
+struct Stalled {
+    taken: usize,
+}
+
+impl Write for Stalled {
+    fn write(&mut self, bytes: &[u8]) -> io::Result<usize> {
+        if self.taken > 0 {
+            return Err(ErrorKind::Interrupted.into());
+        }
+        self.taken = bytes.len().min(1);
+        Ok(self.taken)
+    }
+
+    fn flush(&mut self) -> io::Result<()> {
+        Ok(())
+    }
+}
+
+#[test]
+fn tells_how_often_it_was_interrupted(rt: HostRuntime) {
+    let mut writer = Stalled { taken: 0 };
+    let fault = write_text(&mut writer, b"end\n").err();
+    let fault = fault.expect(&rt, "a fault");
+    let calls = fault.calls;
+    assert_same(&rt, fault.written, 1);
+    assert_same(
+        &rt,
+        (calls.count(), calls.failures(), calls.interruptions()),
+        (20_001, 0, 20_000),
+    );
+}
+
+#[test]
+fn tells_how_much_was_written(rt: HostRuntime) {
+    let mut reader = INPUT.as_bytes();
+    let mut writer = Full { room: 15 };
+    assert_same(
+        &rt,
+        rehearse(rt.alloc(), &mut reader, &mut writer),
+        Err(OpFault::Write(15)),
+    );
+}
+
+/// Takes one byte at every third write. The other writes are interrupted.
+#[derive(Drop)]
+struct Halting {
+    interrupted: u8,
+    taken: usize,
+}
+
+impl Write for Halting {
+    fn write(&mut self, bytes: &[u8]) -> io::Result<usize> {
+        if self.interrupted < 2 {
+            self.interrupted += 1;
+            return Err(ErrorKind::Interrupted.into());
+        }
+        self.interrupted = 0;
+        let taken = bytes.len().min(1);
+        self.taken = self.taken.saturating_add(taken);
+        Ok(taken)
+    }
+
+    fn flush(&mut self) -> io::Result<()> {
+        Ok(())
+    }
+}
+
+#[test]
+fn writes_on_after_interruptions(rt: HostRuntime) {
+    let mut reader = INPUT.as_bytes();
+    let mut writer = Halting {
+        interrupted: 0,
+        taken: 0,
+    };
+    assert_same(&rt, rehearse(rt.alloc(), &mut reader, &mut writer), Ok(()));
+    assert_same(&rt, writer.taken, REPORT.len());
+}
+
+/// What the words of a command line ask for, or why they ask for nothing.
+#[derive(Clone, Copy, PartialEq, Eq, Debug)]
+enum Outcome {
+    Rehearse,
+    Chart,
+    Show,
+    Audit,
+    Run,
+    Help,
+    Usage,
+    NoMemory,
+}
+
+fn outcome_of(alloc: Global, words: &[&str]) -> Outcome {
+    let parsed = parse_words(alloc, words);
+    let outcome = match &parsed {
+        Ok(Action::Rehearse) => Outcome::Rehearse,
+        Ok(Action::Chart) => Outcome::Chart,
+        Ok(Action::Show { .. }) => Outcome::Show,
+        Ok(Action::Audit { .. }) => Outcome::Audit,
+        Ok(Action::Run { .. }) => Outcome::Run,
+        Err(UsageFault::Help(_)) => Outcome::Help,
+        Err(UsageFault::Usage(_)) => Outcome::Usage,
+        Err(UsageFault::NoMemory) => Outcome::NoMemory,
+    };
+    drop(parsed);
+    outcome
+}
+
+const COMMANDS: &[(&[&str], Outcome)] = &[
+    (&["kyoto-link", "rehearse"], Outcome::Rehearse),
+    (&["kyoto-link", "chart"], Outcome::Chart),
+    (&["kyoto-link", "--help"], Outcome::Help),
+    (&["kyoto-link", "-h"], Outcome::Help),
+    (&["kyoto-link", "help"], Outcome::Help),
+    (&["kyoto-link", "run"], Outcome::Usage),
+    (&["kyoto-link", "run", "s.json", "d"], Outcome::Usage),
+    (&["kyoto-link", "run", "s.json", "d", "l"], Outcome::Run),
+    (&["kyoto-link", "audit"], Outcome::Usage),
+    (&["kyoto-link", "audit", "s.json"], Outcome::Usage),
+    (&["kyoto-link", "audit", "s.json", "d"], Outcome::Audit),
+    (&["kyoto-link", "show"], Outcome::Usage),
+    (&["kyoto-link", "REHEARSE"], Outcome::Usage),
+    (&["kyoto-link", "--all"], Outcome::Usage),
+    (&["kyoto-link", ""], Outcome::Usage),
+    (&["kyoto-link"], Outcome::Usage),
+    (&["kyoto-link", "rehearse", "input"], Outcome::Usage),
+    (&["kyoto-link", "chart", "input"], Outcome::Usage),
+    (&["kyoto-link", "show", "s.json", "d"], Outcome::Usage),
+    (
+        &["kyoto-link", "show", "s.json", "d", "NZ", "JP"],
+        Outcome::Usage,
+    ),
+];
+
+#[test]
+fn command_words(rt: HostRuntime) {
+    for (words, wanted) in COMMANDS {
+        assert_same(&rt, outcome_of(rt.alloc(), words), *wanted);
+    }
+}
+
+/// Asserts that the action of `run` has these words.
+fn assert_run(rt: &impl Abort, action: &Action, words: [&str; 3]) {
+    match action {
+        Action::Run {
+            scheme,
+            folder,
+            script,
+        } => {
+            let found = [scheme.as_str(), folder.as_str(), script.as_str()];
+            assert!(rt; found == words);
+        }
+        _ => assert!(rt; false, "another action"),
+    }
+}
+
+/// Asserts that the action of `show` has these words.
+fn assert_show(rt: &impl Abort, action: &Action, words: [&str; 3]) {
+    match action {
+        Action::Show {
+            scheme,
+            folder,
+            node,
+        } => {
+            let found = [scheme.as_str(), folder.as_str(), node.as_str()];
+            assert!(rt; found == words);
+        }
+        _ => assert!(rt; false, "another action"),
+    }
+}
+
+/// What the words of a command line ask for.
+fn action(rt: &impl Abort, alloc: Global, words: &[&str]) -> Action {
+    parse_words(alloc, words).ok().expect(rt, "an action")
+}
+
+#[test]
+fn words_of_actions(rt: HostRuntime) {
+    let words = ["s.json", "d", "lines"];
+    let run = action(
+        &rt,
+        rt.alloc(),
+        &["kyoto-link", "run", "s.json", "d", "lines"],
+    );
+    assert_run(&rt, &run, words);
+    drop(run);
+    let show = action(
+        &rt,
+        rt.alloc(),
+        &["kyoto-link", "show", "s.json", "d", "lines"],
+    );
+    assert_show(&rt, &show, words);
+    drop(show);
+}

@@ -1,0 +1,228 @@
+use crate::same::assert_same;
+use protocol::scheme::{Allotment, Holder, Scheme, SchemeFault, SchemeRegistry};
+use protocol::units::{Block, Code, Kind, Period, Unit, UnitMap};
+use std::alloc::Global;
+use std::process::Abort;
+
+const JP: &str =
+    r#"{"accounts":[7,8],"allotted":[],"code":"JP","eligible":true,"kinds":["AAU","CER"]}"#;
+
+const NZ: &str =
+    r#"{"accounts":[1,2],"allotted":[{"account":1,"units":["NZ:1:1-100:AAU"]}],"code":"NZ","eligible":true,"kinds":["AAU","RMU","ERU","CER","tCER","lCER"]}"#;
+
+fn text_of(rt: &impl Abort, alloc: Global, registries: &str) -> String {
+    format!(in alloc; "{{\"records\":1000,\"registries\":[{registries}]}}").expect(rt, "memory")
+}
+
+fn read(rt: &impl Abort, alloc: Global, registries: &str) -> Result<Scheme, SchemeFault> {
+    Scheme::read(alloc, text_of(rt, alloc, registries).as_bytes())
+}
+
+/// Asserts that this is wrong with the registries, or nothing.
+fn assert_fault(rt: &impl Abort, alloc: Global, registries: &str, wanted: Option<SchemeFault>) {
+    assert_same(rt, read(rt, alloc, registries).err(), wanted);
+}
+
+fn registry(rt: &impl Abort, alloc: Global, code: &str, accounts: &str, allotted: &str) -> String {
+    let text = format!(in alloc;
+        "{{\"accounts\":[{accounts}],\"allotted\":[{allotted}],\"code\":\"{code}\",\"eligible\":false,\"kinds\":[]}}"
+    );
+    text.expect(rt, "memory")
+}
+
+/// Asserts that this is wrong with JP and a registry NZ of those accounts and allotments, or nothing.
+fn assert_beside_jp(
+    rt: &impl Abort,
+    alloc: Global,
+    accounts: &str,
+    allotted: &str,
+    wanted: Option<SchemeFault>,
+) {
+    let nz = registry(rt, alloc, "NZ", accounts, allotted);
+    let both = format!(in alloc; "{JP},{nz}").expect(rt, "memory");
+    assert_fault(rt, alloc, both.as_str(), wanted);
+}
+
+/// The texts of that many numbers from 1 on, between `before` and `after`.
+fn repeated(rt: &impl Abort, alloc: Global, count: u64, before: &str, after: &str) -> String {
+    let mut text = String::new(alloc);
+    for i in 1..=count {
+        let comma = if i > 1 { "," } else { "" };
+        let next = format!(in alloc; "{comma}{before}{i}{after}").expect(rt, "memory");
+        text.push_str(next.as_str()).expect(rt, "memory");
+    }
+    text
+}
+
+/// The registry has that code and these accounts, and is eligible.
+fn assert_member(rt: &impl Abort, member: &SchemeRegistry, code: &str, accounts: &[u64]) {
+    let code = Code::read(code).expect(rt, "two letters");
+    assert_same(rt, member.code, code);
+    assert!(rt; member.accounts.as_slice() == accounts);
+    assert!(rt; member.eligible);
+}
+
+/// The allotment is a hundred units in account 1.
+fn assert_allotment(rt: &impl Abort, allotment: &Allotment) {
+    let block = Block::read("NZ:1:1-100:AAU").expect(rt, "a block");
+    assert_same(rt, allotment.account, 1);
+    assert_same(rt, allotment.units.as_slice(), [block].as_slice());
+}
+
+/// The scheme is that of JP and NZ.
+fn assert_worked(rt: &impl Abort, scheme: &Scheme) {
+    assert_same(rt, scheme.records(), 1000);
+    let registries = scheme.registries();
+    assert_same(rt, registries.len(), 2);
+    let (jp, nz) = (&registries[0], &registries[1]);
+    assert_member(rt, jp, "JP", &[7, 8]);
+    assert_member(rt, nz, "NZ", &[1, 2]);
+    assert_same(rt, jp.kinds.as_slice(), [Kind::Aau, Kind::Cer].as_slice());
+    assert_same(rt, nz.kinds.as_slice().len(), 6);
+    assert_same(rt, jp.allotted.as_slice().len(), 0);
+    assert_same(rt, nz.allotted.as_slice().len(), 1);
+    for allotment in nz.allotted.as_slice() {
+        assert_allotment(rt, allotment);
+    }
+}
+
+/// The scheme of these registries is that of JP and NZ, and so is its copy.
+fn assert_read(rt: &impl Abort, alloc: Global, first: &str, second: &str) {
+    let registries = format!(in alloc; "{first},{second}").expect(rt, "memory");
+    let scheme = read(rt, alloc, registries.as_str()).expect(rt, "a scheme");
+    let copy = scheme.copy(alloc).expect(rt, "memory");
+    assert_worked(rt, &scheme);
+    assert_worked(rt, &copy);
+    drop(copy);
+    drop(scheme);
+}
+
+#[test]
+fn a_scheme_is_read_and_copied(rt: HostRuntime) {
+    assert_read(&rt, rt.alloc(), JP, NZ);
+    assert_read(&rt, rt.alloc(), NZ, JP);
+}
+
+/// The scheme of JP and NZ.
+fn worked(rt: &impl Abort, alloc: Global) -> Scheme {
+    let registries = format!(in alloc; "{JP},{NZ}").expect(rt, "memory");
+    read(rt, alloc, registries.as_str()).expect(rt, "a scheme")
+}
+
+/// The unit of that number, of those that NZ allotted in the first period.
+fn unit(origin: Code, number: u64) -> Unit {
+    let period = Period::First;
+    Unit {
+        origin,
+        period,
+        number,
+    }
+}
+
+/// The scheme and its allotments both have that holder of the unit, or none.
+fn assert_holder(
+    rt: &impl Abort,
+    scheme: &Scheme,
+    allotments: &UnitMap<Holder>,
+    unit: &Unit,
+    wanted: Option<Holder>,
+) {
+    assert_same(rt, scheme.allotted(unit), wanted);
+    assert_same(rt, allotments.get(unit), wanted);
+}
+
+#[test]
+fn a_holder_is_found(rt: HostRuntime) {
+    let registry = Code::read("NZ").expect(&rt, "two letters");
+    let (account, kind) = (1, Kind::Aau);
+    let holder = Holder {
+        registry,
+        account,
+        kind,
+    };
+    let scheme = worked(&rt, rt.alloc());
+    let allotments = scheme.allotments(rt.alloc()).expect(&rt, "memory");
+    assert!(rt; scheme.member(registry).is_some());
+    let (last, next) = (unit(registry, 100), unit(registry, 101));
+    assert_holder(&rt, &scheme, &allotments, &last, Some(holder));
+    assert_holder(&rt, &scheme, &allotments, &next, None);
+    drop(allotments);
+    drop(scheme);
+}
+
+#[test]
+fn what_is_no_scheme(rt: HostRuntime) {
+    let empty = Scheme::read(rt.alloc(), b"");
+    assert_same(&rt, empty.err(), Some(SchemeFault::NotJson));
+    let list = Scheme::read(rt.alloc(), b"[]");
+    assert_same(&rt, list.err(), Some(SchemeFault::Shape));
+}
+
+const UNKNOWN: &str = r#"{"account":9,"units":[]}"#;
+
+const SAME_KIND: &str = r#"{"account":3,"units":["NZ:1:10-20:AAU","NZ:1:1-10:AAU"]}"#;
+
+const TWO_KINDS: &str =
+    r#"{"account":3,"units":["NZ:1:1-10:AAU"]},{"account":5,"units":["NZ:1:10-20:RMU"]}"#;
+
+const APART: &str = r#"{"account":3,"units":["NZ:1:11-20:RMU","NZ:2:1-10:AAU","NZ:1:1-10:AAU"]}"#;
+
+/// An account that isn't there, and a unit that is allotted twice.
+const TWO_FAULTS: &str = r#"{"account":9,"units":["NZ:1:1-1:AAU","NZ:1:1-1:AAU"]}"#;
+
+/// Of two faults the earlier one is named.
+#[test]
+fn faults_of_allotments(rt: HostRuntime) {
+    for (accounts, allotted, wanted) in [
+        ("3,5,3", "", Some(SchemeFault::AccountTwice)),
+        ("3,5", UNKNOWN, Some(SchemeFault::UnknownAccount)),
+        ("3,5", SAME_KIND, Some(SchemeFault::AllotmentOverlap)),
+        ("3,5", TWO_KINDS, Some(SchemeFault::AllotmentOverlap)),
+        ("3,5", APART, None),
+        ("3,3", TWO_FAULTS, Some(SchemeFault::AccountTwice)),
+        ("3", TWO_FAULTS, Some(SchemeFault::UnknownAccount)),
+    ] {
+        assert_beside_jp(&rt, rt.alloc(), accounts, allotted, wanted);
+    }
+}
+
+#[test]
+fn faults_of_registries(rt: HostRuntime) {
+    let alloc = rt.alloc();
+    let twice = registry(&rt, alloc, "JP", "7,7", "");
+    let codes = format!(in alloc; "{JP},{twice}").expect(&rt, "memory");
+    assert_fault(&rt, alloc, "{}", Some(SchemeFault::Shape));
+    assert_fault(&rt, alloc, JP, Some(SchemeFault::TooFew));
+    assert_fault(&rt, alloc, twice.as_str(), Some(SchemeFault::TooFew));
+    assert_fault(&rt, alloc, codes.as_str(), Some(SchemeFault::CodeTwice));
+}
+
+#[test]
+fn the_limit_of_accounts(rt: HostRuntime) {
+    for (count, wanted) in [(1_000, None), (1_001, Some(SchemeFault::TooMany))] {
+        let accounts = repeated(&rt, rt.alloc(), count, "", "");
+        assert_beside_jp(&rt, rt.alloc(), accounts.as_str(), "", wanted);
+    }
+}
+
+#[test]
+fn the_limit_of_allotments(rt: HostRuntime) {
+    for (count, wanted) in [
+        (10_000, SchemeFault::AllotmentOverlap),
+        (10_001, SchemeFault::TooMany),
+    ] {
+        let before = "{\"account\":1,\"units\":[\"NZ:2:1";
+        let allotted = repeated(&rt, rt.alloc(), count, before, "-9999999:AAU\"]}");
+        assert_beside_jp(&rt, rt.alloc(), "1", allotted.as_str(), Some(wanted));
+    }
+}
+
+#[test]
+fn the_limit_of_registries(rt: HostRuntime) {
+    for (count, wanted) in [(32, SchemeFault::CodeTwice), (33, SchemeFault::TooMany)] {
+        let before = "{\"accounts\":[";
+        let after = "],\"allotted\":[],\"code\":\"JP\",\"eligible\":true,\"kinds\":[]}";
+        let registries = repeated(&rt, rt.alloc(), count, before, after);
+        assert_fault(&rt, rt.alloc(), registries.as_str(), Some(wanted));
+    }
+}

@@ -1,0 +1,248 @@
+use crate::same::assert_same;
+use protocol::units::{
+    Block, BlockFault, BlockSet, Code, Interval, Items, Kind, Node, Period, RawBlock, Refusal,
+    Unit, UnitMap, cut, number, overlaps,
+};
+use std::alloc::Global;
+use std::process::Abort;
+
+#[test]
+fn block_texts(rt: HostRuntime) {
+    assert!(rt; Block::read("NZ:1:999999999999999-999999999999999:AAU").is_ok());
+    assert_same(
+        &rt,
+        Block::read("NZ:1:1-1000000000000000:AAU").err(),
+        Some(BlockFault::Range),
+    );
+    assert_same(
+        &rt,
+        Block::read("NZ:1:0-5:AAU").err(),
+        Some(BlockFault::Range),
+    );
+    assert_same(
+        &rt,
+        Block::read("NZ:1:6-5:AAU").err(),
+        Some(BlockFault::Range),
+    );
+    assert_same(
+        &rt,
+        Block::read("NZ:3:1-5:AAU").err(),
+        Some(BlockFault::Shape),
+    );
+}
+
+#[test]
+fn a_block_is_written_as_it_was_read(rt: HostRuntime) {
+    let text = "CH:2:101-250:tCER";
+    let origin = Code::new(b'C', b'H').expect(&rt, "two letters");
+    let block = Block::new(origin, Period::Second, Kind::Tcer, 101, 250).expect(&rt, "a block");
+    assert_same(&rt, Block::read(text), Ok(block));
+    assert_same(&rt, RawBlock::read(text), Some(block.raw));
+    let written = block.write(rt.alloc()).expect(&rt, "memory");
+    assert_same(&rt, written.as_str(), text);
+    assert_same(&rt, block.count(), 150);
+    let (period, number) = (Period::Second, 250);
+    assert!(rt;
+        block.has(&Unit {
+            origin,
+            period,
+            number
+        })
+    );
+}
+
+#[test]
+fn the_pieces_of_texts(rt: HostRuntime) {
+    assert_same(&rt, Node::read("ITL"), Some(Node::Itl));
+    assert_same(
+        &rt,
+        Node::read("NZ"),
+        Code::read("NZ").map(|c| Node::Registry(c)),
+    );
+    assert_same(&rt, Period::read("1"), Some(Period::First));
+    assert_same(&rt, Kind::read("lCER"), Some(Kind::Lcer));
+    assert_same(
+        &rt,
+        number("999999999999999999"),
+        Some(999_999_999_999_999_999),
+    );
+    assert_same(&rt, cut("AA:BB:CC", ':'), Some(("AA", "BB:CC")));
+}
+
+#[test]
+fn a_list_and_its_copy(rt: HostRuntime) {
+    let alloc = rt.alloc();
+    let numbers = Vec::from_slice(alloc, &[3u64, 1, 2]).expect(&rt, "memory");
+    let list = Items::from_vec(numbers);
+    let copy = list.copy().expect(&rt, "memory");
+    assert_same(&rt, list.as_slice(), [3, 1, 2].as_slice());
+    assert_same(&rt, copy.into_vec().as_slice(), [3, 1, 2].as_slice());
+    let none: Items<u64> = Items::new(alloc);
+    assert_same(&rt, none.as_slice().len(), 0);
+    drop(none);
+    drop(list);
+}
+
+fn nz(rt: &impl Abort, kind: Kind, first: u64, last: u64) -> Block {
+    let origin = Code::new(b'N', b'Z').expect(rt, "two letters");
+    Block::new(origin, Period::First, kind, first, last).expect(rt, "a block")
+}
+
+fn aau(rt: &impl Abort, first: u64, last: u64) -> Block {
+    nz(rt, Kind::Aau, first, last)
+}
+
+fn refusal(code: u16) -> Result<(), Refusal> {
+    Err(Refusal { code })
+}
+
+/// Adds the block to the set, and asserts what comes of it.
+fn assert_added(rt: &impl Abort, set: &mut BlockSet, block: Block, wanted: Result<(), Refusal>) {
+    assert_same(rt, set.add(block), wanted);
+}
+
+/// Takes the block out of the set, and asserts what comes of it.
+fn assert_taken(rt: &impl Abort, set: &mut BlockSet, block: Block, wanted: Result<(), Refusal>) {
+    assert_same(rt, set.take(block), wanted);
+}
+
+/// A hundred units, put in as two blocks.
+fn hundred(rt: &impl Abort, alloc: Global) -> BlockSet {
+    let mut set = BlockSet::new(alloc);
+    for block in [aau(rt, 1, 50), aau(rt, 51, 100)] {
+        assert_added(rt, &mut set, block, Ok(()));
+    }
+    set
+}
+
+/// The set is these blocks, and has `count` units.
+fn assert_set(rt: &impl Abort, set: &BlockSet, alloc: Global, wanted: &[Block], count: u64) {
+    assert_same(rt, set.count(), count);
+    let blocks = set.canonical(alloc).expect(rt, "memory");
+    assert!(rt; blocks.as_slice() == wanted);
+}
+
+#[test]
+fn block_set(rt: HostRuntime) {
+    let alloc = rt.alloc();
+    let (low, high) = (aau(&rt, 1, 40), aau(&rt, 61, 100));
+    let middle = nz(&rt, Kind::Cer, 41, 60);
+    let mut set = hundred(&rt, alloc);
+    assert_set(&rt, &set, alloc, &[aau(&rt, 1, 100)], 100);
+    assert_taken(&rt, &mut set, aau(&rt, 41, 60), Ok(()));
+    assert_taken(&rt, &mut set, aau(&rt, 40, 41), refusal(105));
+    assert_added(&rt, &mut set, aau(&rt, 100, 101), refusal(103));
+    assert_set(&rt, &set, alloc, &[low, high], 80);
+    assert_added(&rt, &mut set, middle, Ok(()));
+    assert_set(&rt, &set, alloc, &[low, middle, high], 100);
+    let copy = set.copy().expect(&rt, "memory");
+    assert_set(&rt, &copy, alloc, &[low, middle, high], 100);
+    drop(copy);
+    drop(set);
+}
+
+#[test]
+fn blocks_of_a_set(rt: HostRuntime) {
+    let (low, above) = (aau(&rt, 1, 40), aau(&rt, 101, 102));
+    let (other, across) = (nz(&rt, Kind::Rmu, 40, 41), aau(&rt, 100, 101));
+    let set = hundred(&rt, rt.alloc());
+    for (blocks, has_all, has_none) in [
+        ([low, other], true, false),
+        ([low, across], false, false),
+        ([above, above], false, true),
+        ([above, low], false, false),
+    ] {
+        assert_same(&rt, set.contains_all(&blocks), has_all);
+        assert_same(&rt, set.disjoint(&blocks), has_none);
+    }
+    drop(set);
+}
+
+/// The set has that many units, in that many intervals.
+fn assert_size(rt: &impl Abort, set: &BlockSet, units: u64, intervals: usize) {
+    assert_same(rt, (set.count(), set.pieces().len()), (units, intervals));
+}
+
+#[test]
+fn several_blocks_at_once(rt: HostRuntime) {
+    let blocks = [aau(&rt, 1, 5), aau(&rt, 6, 10)];
+    let shared = [aau(&rt, 11, 12), nz(&rt, Kind::Cer, 10, 10)];
+    let beyond = [aau(&rt, 2, 3), aau(&rt, 8, 11)];
+    let inside = [aau(&rt, 2, 3), aau(&rt, 5, 6)];
+    let mut set = BlockSet::new(rt.alloc());
+    assert_same(&rt, set.add_all(&blocks), Ok(()));
+    assert_same(&rt, set.add_all(&shared), refusal(103));
+    assert_same(&rt, set.take_all(&beyond), refusal(105));
+    assert_size(&rt, &set, 10, 1);
+    assert_same(&rt, set.take_all(&inside), Ok(()));
+    assert_size(&rt, &set, 6, 3);
+    drop(set);
+}
+
+#[test]
+fn blocks_that_share_a_unit(rt: HostRuntime) {
+    let (low, high) = (aau(&rt, 1, 5), aau(&rt, 6, 10));
+    assert!(rt; !overlaps(&[low, high]));
+    assert!(rt; overlaps(&[low, high, nz(&rt, Kind::Cer, 10, 11)]));
+}
+
+/// Gives the units of the block that label, or none.
+fn label(rt: &impl Abort, kinds: &mut UnitMap<Kind>, block: &Block, kind: Option<Kind>) {
+    kinds.set(block, kind).expect(rt, "memory");
+}
+
+#[test]
+fn labels_of_units(rt: HostRuntime) {
+    let block = aau(&rt, 1, 10);
+    let (origin, period) = (block.raw.origin, block.raw.period);
+    let unit = Unit {
+        origin,
+        period,
+        number: 10,
+    };
+    let mut kinds = UnitMap::new(rt.alloc());
+    label(&rt, &mut kinds, &block, Some(Kind::Aau));
+    assert_same(&rt, kinds.get(&unit), Some(Kind::Aau));
+    label(&rt, &mut kinds, &nz(&rt, Kind::Cer, 4, 6), Some(Kind::Cer));
+    assert_same(&rt, kinds.count_where(|kind| kind == Kind::Aau), 7);
+    assert!(rt; kinds.has_some_of(&block, |kind| kind == Kind::Cer));
+    assert_same(&rt, kinds.pieces().len(), 3);
+    let copy = kinds.copy().expect(&rt, "memory");
+    label(&rt, &mut kinds, &block, None);
+    assert_same(&rt, kinds.get(&unit), None);
+    drop(kinds);
+    assert_same(&rt, copy.get(&unit), Some(Kind::Aau));
+    assert_same(&rt, copy.pieces().len(), 3);
+    drop(copy);
+}
+
+/// Whether an interval of NZ's units 4 to 6 of the first period has the unit.
+fn interval_has(rt: &impl Abort, unit: Unit) -> bool {
+    let interval = Interval {
+        origin: Code::read("NZ").expect(rt, "a code"),
+        period: Period::First,
+        first: 4,
+        last: 6,
+        label: 0u8,
+    };
+    interval.has(&unit)
+}
+
+#[test]
+fn units_of_an_interval(rt: HostRuntime) {
+    for (origin, period, number, has) in [
+        ("NZ", Period::First, 3, false),
+        ("NZ", Period::First, 4, true),
+        ("NZ", Period::First, 6, true),
+        ("NZ", Period::First, 7, false),
+        ("NZ", Period::Second, 5, false),
+        ("JP", Period::First, 5, false),
+    ] {
+        let unit = Unit {
+            origin: Code::read(origin).expect(&rt, "a code"),
+            period,
+            number,
+        };
+        assert_same(&rt, interval_has(&rt, unit), has);
+    }
+}

@@ -1,3 +1,0 @@
-//! Worked equations of the protocol's definitions: each cause of a refusal in its place, each row of the tables, each
-//! limit from both sides, and each event that isn't possible. There is no code here: the equations stand in `proofs/`.
-#![tactic(auto)]

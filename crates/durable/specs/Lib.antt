@@ -1,3 +1,4 @@
+pub mod CallFaults
 pub mod Backing
 pub mod Connected
 pub mod Kept

@@ -8,7 +8,9 @@ use Rattle.sqlite.specs.Tree.{Trees}
 use Rattle.sqlite.specs.Edit.{id_in}
 use Rattle.sqlite.specs.Schema.{Schema}
 use Rattle.sqlite.specs.Effect.{Database}
-use Rattle.sqlite.specs.State.{State}
+use Rattle.sqlite.specs.Held.{Held, state}
+use Rattle.sqlite.specs.State.{HasCleanDisk, State}
+use Rattle.sqlite.specs.Store.{Ghosts}
 use Rattle.stores.specs.declared.fault.StoreFault.{StoreFault}
 use Rattle.stores.specs.declared.fault.StoreFault.TheVariants.{Device, Full, Damaged, WrongNode, WrongVersion, Reopen, NoMemory}
 use Rattle.store_tables.specs.declared.owner_row.Owner.{Owner}
@@ -165,3 +167,9 @@ pub record BecomesStore (name : List ℕ) (before : Database) (s : State) (resul
   pub fault : IfErr result (IsOpeningFault name before)
   pub crash : (db : Trees) → s.may_leave db → MayComeOf name before db
   pub unharmed : IfErr result (λ e. IsTrue (is_judgement e) → (db : Trees) → s.may_leave db → db ≡ before.trees)
+
+-- a call that only reads, whatever it returns: a crash leaves what was committed before it
+pub record OnlyReads {S : Type 0} (g : Ghosts S) (old new : Held S) : Type 0 where
+  pub idle : old.in_transaction ≡ false → new.in_transaction ≡ false
+  pub clean : HasCleanDisk (state g new) → HasCleanDisk (state g old)
+  pub crash : HasCleanDisk (state g new) → (db : Trees) → (state g new).may_leave db → db ≡ (state g old).committed.trees

@@ -1,5 +1,5 @@
 //! How a connection over files is given up, and opened again.
-ghost use Rattle.std.specs.Prelude.{◌≡◌, ◌≢◌, ◌⊎◌, ℕ, false, IfOk, IfErr, IsTrue};
+ghost use Rattle.std.specs.Prelude.{◌≡◌, ◌≢◌, ◌⊎◌, ℕ, false, IfOk, IfErr};
 ghost use Rattle.sqlite.specs.Effect.{IsDatabase};
 ghost use Rattle.sqlite.specs.Tree.{Trees};
 ghost use Rattle.sqlite.specs.State.{HasCleanDisk, Opens};
@@ -7,7 +7,7 @@ ghost use Rattle.sqlite.specs.Files.{file_state};
 ghost use Rattle.sqlite.specs.Closing.{IsCopied};
 ghost use Rattle.sqlite.specs.WalReads.{AreClean};
 ghost use Rattle.durable.specs.Backing.{IsFound, MayFind, Hold};
-ghost use Rattle.stores.specs.Faults.{is_device_fault};
+ghost use Rattle.durable.specs.CallFaults.{IsCallFault};
 ghost use Rattle.store_tables.specs.SqlFaults.{store_fault_of};
 ghost use Rattle.durable.specs.Refusals.{IsFileFault, IsToldOf, AreUntouched, AreGivenBack};
 
@@ -37,7 +37,7 @@ pub(crate) fn copied_files<D: Disk + Drop>(
     conn: Connection<FileStore<D>>,
 ) -> Result<Files<D>, (StoreFault, Files<D>)>
     ensures copied { IfOk result (λ files. AreClean D.Disk files.log files.db → IsCopied conn files) }
-    ensures named { IfErr result (λ e. (e.0 ≡ StoreFault.NoMemory) ⊎ IsTrue (is_device_fault e.0)) }
+    ensures named { IfErr result (λ e. IsCallFault e.0) }
     ensures honest { IfErr result (λ e. AreClean D.Disk e.1.log e.1.db → HasCleanDisk (file_state conn)) }
     ensures left { IfErr result (λ e. e.0 ≢ StoreFault.Device → (db : Trees) → MayFind D.Disk e.1 db
         → ∥ (file_state conn).may_leave db ∥₁) }
@@ -60,8 +60,7 @@ pub(crate) fn copied_files<D: Disk + Drop>(
 /// written.
 pub(crate) fn opening_fault(error: SqlError, before: Tally, now: Tally) -> StoreFault
     ensures told { IsToldOf before now error result }
-    ensures named { (result ≡ StoreFault.Damaged 0) ⊎ ((result ≡ StoreFault.NoMemory)
-        ⊎ IsTrue (is_device_fault result)) }
+    ensures named { (result ≡ StoreFault.Damaged 0) ⊎ IsCallFault result }
     ensures no_database { error ≡ SqlError.SqliteFailure ErrorCode.NotADatabase → result ≡ StoreFault.Damaged 0 }
     ensures corrupt { error ≡ SqlError.SqliteFailure ErrorCode.DatabaseCorrupt → now.caught ≡ before.caught
         → result ≡ StoreFault.Damaged 0 }
@@ -96,7 +95,7 @@ pub(crate) fn open_again<D: Disk + Drop>(
     ensures found { IfOk result (λ conn. HasCleanDisk (file_state conn)
         → IsFound D.Disk files (file_state conn).committed.trees) }
     ensures named { IfErr result (λ e. (e.0 ≡ StoreFault.Damaged 0)
-        ⊎ ((e.0 ≡ StoreFault.NoMemory) ⊎ IsTrue (is_device_fault e.0))) }
+        ⊎ IsCallFault e.0) }
     ensures fault { IfErr result (λ e. AreClean D.Disk e.1.log e.1.db → IsFileFault D.Disk files e.0) }
     ensures spared { IfErr result (λ e. AreUntouched D.Disk files e.1 e.0 ⊎ AreGivenBack D.Disk files e.1 e.0) }
 {

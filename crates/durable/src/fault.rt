@@ -3,7 +3,7 @@ ghost use Rattle.std.specs.Prelude.{◌≡◌, ◌≢◌, ◌⊎◌, IsTrue};
 ghost use Rattle.sqlite.specs.State.{store_error};
 ghost use Rattle.sqlite.specs.View.{IsClean};
 ghost use Rattle.sqlite.specs.FileStore.{view};
-ghost use Rattle.stores.specs.Faults.{is_device_fault};
+ghost use Rattle.durable.specs.CallFaults.{IsCallFault};
 ghost use Rattle.store_tables.specs.SqlFaults.{store_fault_of};
 
 use sqlite::FileStore;
@@ -28,7 +28,7 @@ fn fault_below(error: StoreError) -> StoreFault
 pub(crate) fn fault_of_copying<D: Disk>(database: &FileStore<D>, error: StoreError) -> StoreFault
     ensures open { result ≢ StoreFault.Device → IsClean (view database.now) → IsTrue (view database.now).is_open }
     ensures told { (result ≡ StoreFault.Device) ⊎ (result ≡ store_fault_of (store_error error)) }
-    ensures named { (result ≡ StoreFault.NoMemory) ⊎ IsTrue (is_device_fault result) }
+    ensures named { IsCallFault result }
 {
     if database.is_broken() {
         return StoreFault::Device;

@@ -8,6 +8,7 @@ ghost use Rattle.sqlite.specs.State.{HasCleanDisk};
 ghost use Rattle.sqlite.specs.Tree.{Trees};
 ghost use Rattle.sqlite.specs.Held.{state};
 ghost use Rattle.stores.specs.Faults.{is_device_fault, IsReadFault};
+ghost use Rattle.durable.specs.CallFaults.{IsCallFault};
 ghost use Rattle.stores.specs.Records.{Places, AreRecords, IsDamagedAt, written};
 ghost use Rattle.stores.specs.declared.fault.StoreFault.TheVariants.{Reopen, NoMemory, Damaged, Full};
 ghost use Rattle.store_tables.specs.Rooms.{HasNoRoom, LacksRoom};
@@ -101,7 +102,7 @@ impl<S: Alter> OpenStore<S> {
     /// The texts of a batch at the places after the content.
     fn put(&mut self, texts: &[Vec<u8>]) -> Result<(), StoreFault>
         requires runs { self.old.must_reopen ≡ false }
-        ensures named { IfErr result (λ e. (e ≡ NoMemory) ⊎ IsTrue (is_device_fault e)) }
+        ensures named { IfErr result IsCallFault }
         ensures stops { OnErr result (IsTrue self.new.must_reopen) }
         ensures runs { OnOk result (self.new.must_reopen ≡ false) }
         ensures honest { IsHonest S.Store self.new → IsHonest S.Store self.old }

@@ -5,6 +5,7 @@ ghost use Rattle.sqlite.specs.Given.{IsPlain};
 ghost use Rattle.sqlite.specs.Listing.{understood};
 ghost use Rattle.sqlite.specs.State.{HasCleanDisk, IsUnchanged, Shown, Survives};
 ghost use Rattle.stores.specs.Faults.{is_device_fault};
+ghost use Rattle.durable.specs.CallFaults.{IsCallFault};
 ghost use Rattle.wire.specs.declared.record_format.RecordFormat.{RecordFormat};
 ghost use Rattle.wire.specs.declared.record_format.RecordFormat.TheVariants.{One};
 ghost use Rattle.store_tables.specs.Held.{slots_in, node_in, IsStoreIn};
@@ -13,7 +14,7 @@ ghost use Rattle.sqlite.specs.Held.{state};
 ghost use Rattle.sqlite.specs.Tree.{Trees};
 ghost use Rattle.store_tables.specs.Tables.{TableOrder, AboutFirst, store_schema, IsStoreSchema};
 ghost use Rattle.store_tables.specs.Layout.{AreTables};
-ghost use Rattle.durable.specs.Opening.{IsOpened, IsBare, HasAbout, IsEmpty, HasFresh, IsMade, HasRows, IsOwner, HasLeastOrGreatest, IsVerdict, IsNegative, IsFresh, BecomesStore};
+ghost use Rattle.durable.specs.Opening.{IsOpened, IsBare, HasAbout, IsEmpty, HasFresh, IsMade, HasRows, IsOwner, HasLeastOrGreatest, IsVerdict, IsNegative, IsFresh, BecomesStore, OnlyReads};
 ghost use Rattle.store_tables.specs.Within.{IsWithin, HasStore};
 
 use sqlite::types::ValueRef;
@@ -136,15 +137,12 @@ fn ask<S: Alter>(conn: &mut Connection<S>, sql: &str) -> Result<Vec<Row>, StoreF
     requires opened { HasCleanDisk (state S.Store conn.old) → IsOpened (state S.Store conn.old)
         × IsStoreSchema (state S.Store conn.old).committed.schema }
     requires plain { (order : TableOrder) → IsPlain (understood (store_schema order) sql.now) }
-    ensures idle { conn.old.in_transaction ≡ false → conn.new.in_transaction ≡ false }
-    ensures clean { HasCleanDisk (state S.Store conn.new) → HasCleanDisk (state S.Store conn.old) }
+    ensures reads { OnlyReads S.Store conn.old conn.new }
     ensures same { HasCleanDisk (state S.Store conn.new)
         → OnOk result (IsUnchanged (state S.Store conn.old) (state S.Store conn.new)) }
     ensures shown { HasCleanDisk (state S.Store conn.new)
         → IfOk result (λ rows. Shown sql.now [] (state S.Store conn.old) (state S.Store conn.new) rows.items) }
-    ensures crash { HasCleanDisk (state S.Store conn.new) → (db : Trees) → (state S.Store conn.new).may_leave db
-        → db ≡ (state S.Store conn.old).committed.trees }
-    ensures named { IfErr result (λ e. (e ≡ StoreFault.NoMemory) ⊎ IsTrue (is_device_fault e)) }
+    ensures named { IfErr result IsCallFault }
 {
     match conn.query_all(sql, &[]) {
         Ok(rows) => Ok(rows),
@@ -156,15 +154,12 @@ fn ask<S: Alter>(conn: &mut Connection<S>, sql: &str) -> Result<Vec<Row>, StoreF
 fn find_owner<S: Alter>(conn: &mut Connection<S>, node: &str) -> Result<Owner, StoreFault>
     requires opened { HasCleanDisk (state S.Store conn.old) → IsOpened (state S.Store conn.old)
         × HasRows (state S.Store conn.old).committed }
-    ensures idle { conn.old.in_transaction ≡ false → conn.new.in_transaction ≡ false }
-    ensures clean { HasCleanDisk (state S.Store conn.new) → HasCleanDisk (state S.Store conn.old) }
+    ensures reads { OnlyReads S.Store conn.old conn.new }
     ensures same { HasCleanDisk (state S.Store conn.new)
         → OnOk result (IsUnchanged (state S.Store conn.old) (state S.Store conn.new)) }
     ensures owner { HasCleanDisk (state S.Store conn.new)
         → IfOk result (IsOwner node.now (state S.Store conn.old).committed) }
-    ensures crash { HasCleanDisk (state S.Store conn.new) → (db : Trees) → (state S.Store conn.new).may_leave db
-        → db ≡ (state S.Store conn.old).committed.trees }
-    ensures named { IfErr result (λ e. (e ≡ StoreFault.NoMemory) ⊎ IsTrue (is_device_fault e)) }
+    ensures named { IfErr result IsCallFault }
 {
     let rows = ask(conn, "SELECT format, node FROM about")?;
     Ok(owner_in(&rows, node))
@@ -174,15 +169,12 @@ fn find_owner<S: Alter>(conn: &mut Connection<S>, node: &str) -> Result<Owner, S
 fn least_place<S: Alter>(conn: &mut Connection<S>) -> Result<Option<i64>, StoreFault>
     requires opened { HasCleanDisk (state S.Store conn.old) → IsOpened (state S.Store conn.old)
         × HasRows (state S.Store conn.old).committed }
-    ensures idle { conn.old.in_transaction ≡ false → conn.new.in_transaction ≡ false }
-    ensures clean { HasCleanDisk (state S.Store conn.new) → HasCleanDisk (state S.Store conn.old) }
+    ensures reads { OnlyReads S.Store conn.old conn.new }
     ensures same { HasCleanDisk (state S.Store conn.new)
         → OnOk result (IsUnchanged (state S.Store conn.old) (state S.Store conn.new)) }
     ensures least { HasCleanDisk (state S.Store conn.new)
         → IfOk result (HasLeastOrGreatest false (state S.Store conn.old).committed) }
-    ensures crash { HasCleanDisk (state S.Store conn.new) → (db : Trees) → (state S.Store conn.new).may_leave db
-        → db ≡ (state S.Store conn.old).committed.trees }
-    ensures named { IfErr result (λ e. (e ≡ StoreFault.NoMemory) ⊎ IsTrue (is_device_fault e)) }
+    ensures named { IfErr result IsCallFault }
 {
     let rows = ask(conn, "SELECT place FROM entries ORDER BY place LIMIT 1")?;
     place_in(&rows)
@@ -192,15 +184,12 @@ fn least_place<S: Alter>(conn: &mut Connection<S>) -> Result<Option<i64>, StoreF
 fn greatest_place<S: Alter>(conn: &mut Connection<S>) -> Result<Option<i64>, StoreFault>
     requires opened { HasCleanDisk (state S.Store conn.old) → IsOpened (state S.Store conn.old)
         × HasRows (state S.Store conn.old).committed }
-    ensures idle { conn.old.in_transaction ≡ false → conn.new.in_transaction ≡ false }
-    ensures clean { HasCleanDisk (state S.Store conn.new) → HasCleanDisk (state S.Store conn.old) }
+    ensures reads { OnlyReads S.Store conn.old conn.new }
     ensures same { HasCleanDisk (state S.Store conn.new)
         → OnOk result (IsUnchanged (state S.Store conn.old) (state S.Store conn.new)) }
     ensures greatest { HasCleanDisk (state S.Store conn.new)
         → IfOk result (HasLeastOrGreatest true (state S.Store conn.old).committed) }
-    ensures crash { HasCleanDisk (state S.Store conn.new) → (db : Trees) → (state S.Store conn.new).may_leave db
-        → db ≡ (state S.Store conn.old).committed.trees }
-    ensures named { IfErr result (λ e. (e ≡ StoreFault.NoMemory) ⊎ IsTrue (is_device_fault e)) }
+    ensures named { IfErr result IsCallFault }
 {
     let rows = ask(
         conn,
@@ -252,16 +241,13 @@ fn verdict(owner: Owner, least: Option<i64>) -> Result<Contents, StoreFault>
 fn examine<S: Alter>(conn: &mut Connection<S>, node: &str) -> Result<Contents, StoreFault>
     requires opened { HasCleanDisk (state S.Store conn.old) → IsOpened (state S.Store conn.old)
         × HasRows (state S.Store conn.old).committed }
-    ensures idle { conn.old.in_transaction ≡ false → conn.new.in_transaction ≡ false }
-    ensures clean { HasCleanDisk (state S.Store conn.new) → HasCleanDisk (state S.Store conn.old) }
+    ensures reads { OnlyReads S.Store conn.old conn.new }
     ensures same { HasCleanDisk (state S.Store conn.new)
         → OnOk result (IsUnchanged (state S.Store conn.old) (state S.Store conn.new)) }
     ensures never { IfErr result (λ e. e ≢ StoreFault.Reopen) }
     ensures places { IfErr result (λ e. (p : ℕ) → e ≡ StoreFault.Damaged p → p ≡ 0) }
     ensures found { HasCleanDisk (state S.Store conn.new)
         → IsVerdict node.now (state S.Store conn.old).committed result }
-    ensures crash { HasCleanDisk (state S.Store conn.new) → (db : Trees) → (state S.Store conn.new).may_leave db
-        → db ≡ (state S.Store conn.old).committed.trees }
 {
     let owner = find_owner(conn, node)?;
     let least = least_place(conn)?;
@@ -284,16 +270,13 @@ fn count<S: Alter>(conn: &mut Connection<S>) -> Result<u64, StoreFault>
         × HasRows (state S.Store conn.old).committed }
     requires store { HasCleanDisk (state S.Store conn.old) → (format : RecordFormat)
         × IsStoreIn format (state S.Store conn.old).committed.trees }
-    ensures idle { conn.old.in_transaction ≡ false → conn.new.in_transaction ≡ false }
-    ensures clean { HasCleanDisk (state S.Store conn.new) → HasCleanDisk (state S.Store conn.old) }
+    ensures reads { OnlyReads S.Store conn.old conn.new }
     ensures same { HasCleanDisk (state S.Store conn.new)
         → OnOk result (IsUnchanged (state S.Store conn.old) (state S.Store conn.new)) }
     ensures small { IfOk result (λ count. count ≤ 2 ^ 63) }
     ensures count { HasCleanDisk (state S.Store conn.new)
         → IfOk result (λ count. count ≡ length (slots_in (state S.Store conn.old).committed.trees)) }
-    ensures crash { HasCleanDisk (state S.Store conn.new) → (db : Trees) → (state S.Store conn.new).may_leave db
-        → db ≡ (state S.Store conn.old).committed.trees }
-    ensures named { IfErr result (λ e. (e ≡ StoreFault.NoMemory) ⊎ IsTrue (is_device_fault e)) }
+    ensures named { IfErr result IsCallFault }
 {
     match greatest_place(conn)? {
         Some(place) => {

@@ -4,7 +4,7 @@ ghost use Rattle.sqlite.specs.Tree.{Trees};
 ghost use Rattle.sqlite.specs.WalReads.{AreClean};
 ghost use Rattle.units.specs.Code.{node_text};
 ghost use Rattle.durable.specs.Backing.{IsFound, MayFind, Hold, HoldAlone};
-ghost use Rattle.stores.specs.Faults.{is_device_fault};
+ghost use Rattle.durable.specs.CallFaults.{IsCallFault};
 ghost use Rattle.store_tables.specs.Held.{slots_in, node_in, IsStore};
 ghost use Rattle.store_migration.specs.Migrating.{IsOpenedAs};
 ghost use Rattle.durable.specs.Kept.{is_there};
@@ -149,7 +149,7 @@ impl<D: Disk + Drop> SqlStore<D> {
             (λ files. HoldAlone D.Disk files (λ db. IsStore db × (slots_in db ≡ content D.Disk self)
             × (node_in db ≡ owner D.Disk self))) }
         ensures named { IfErr result (λ e. (e.0 ≡ StoreFault.Reopen)
-            ⊎ ((e.0 ≡ StoreFault.NoMemory) ⊎ IsTrue (is_device_fault e.0))) }
+            ⊎ IsCallFault e.0) }
         ensures reopen { IfErr result (λ e. (e.0 ≡ StoreFault.Reopen) ↔ IsTrue (must_reopen D.Disk self)) }
         ensures untouched { IfErr result (λ e. e.0 ≡ StoreFault.Reopen → HadFiles D.Disk self e.1) }
         ensures honest_before { IfErr result (λ e. AreClean D.Disk e.1.log e.1.db → IsHonest D.Disk self) }
@@ -181,7 +181,7 @@ impl SqlStore<File> {
     pub fn checkpoint(self) -> Result<(), StoreFault>
         ensures runs { OnOk result (must_reopen _ self ≡ false) }
         ensures named { IfErr result (λ e. (e ≡ StoreFault.Reopen)
-            ⊎ ((e ≡ StoreFault.NoMemory) ⊎ IsTrue (is_device_fault e))) }
+            ⊎ IsCallFault e) }
         ensures reopen { IfErr result (λ e. (e ≡ StoreFault.Reopen) ↔ IsTrue (must_reopen _ self)) }
     {
         match self.checkpoint_files() {

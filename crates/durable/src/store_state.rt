@@ -8,7 +8,8 @@ ghost use Rattle.units.specs.Code.{node_text};
 ghost use Rattle.stores.specs.Calls.{Appends, Loads};
 ghost use Rattle.durable.specs.Backing.{IsFound, MayFind, Hold, HoldAlone};
 ghost use Rattle.durable.specs.Connected as connected;
-ghost use Rattle.stores.specs.Faults.{is_device_fault, is_judgement, count_after};
+ghost use Rattle.stores.specs.Faults.{is_judgement, count_after};
+ghost use Rattle.durable.specs.CallFaults.{IsCallFault};
 ghost use Rattle.store_tables.specs.Held.{slots_in, node_in, IsStore};
 ghost use Rattle.store_migration.specs.Migrating.{IsOpenedAs};
 ghost use Rattle.durable.specs.Kept.{IsHonest, MayHold, content, owner, disk_faults, must_reopen, is_there, AreFilesOf};
@@ -88,7 +89,7 @@ impl<D: Disk + Drop> StoreState<D> {
         ensures alone { IfOk result
             (λ files. HoldAlone D.Disk files (λ db. IsStore db × (slots_in db ≡ content D.Disk self)
             × (node_in db ≡ owner D.Disk self))) }
-        ensures named { IfErr result (λ e. (e.0 ≡ Reopen) ⊎ ((e.0 ≡ NoMemory) ⊎ IsTrue (is_device_fault e.0))) }
+        ensures named { IfErr result (λ e. (e.0 ≡ Reopen) ⊎ IsCallFault e.0) }
         ensures reopen { IfErr result (λ e. (e.0 ≡ Reopen) ↔ IsTrue (must_reopen D.Disk self)) }
         ensures untouched { IfErr result (λ e. e.0 ≡ Reopen → AreFilesOf D.Disk self e.1) }
         ensures honest_before { IfErr result (λ e. AreClean D.Disk e.1.log e.1.db → IsHonest D.Disk self) }

@@ -8,7 +8,7 @@ use Rattle.durable.proofs.opening.count.Goals as goal
 pub returns-else-count-gt-MOST_PLACES-clause-count : goal.returns-else-count-gt-MOST_PLACES-clause-count
 returns-else-count-gt-MOST_PLACES-clause-count g c clean =
     let db = (state g.S.Store c.args.conn.now).committed in
-    let early = c.greatest_place.ensures.clean clean in
+    let early = c.greatest_place.ensures.reads.clean clean in
     let store = c.requires.store early in
     let greatest = end_of_store store.0 db c.in_ok-place.field-0 (c.requires.opened early).1 store.1 (c.in_ok-place.ensures.greatest clean) in
     let counted = places_counted (entry_rows db.trees) c.in_ok-place.field-0 store.1.entries greatest in

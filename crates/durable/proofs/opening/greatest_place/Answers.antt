@@ -12,7 +12,7 @@ ask-requires-clause-plain g c = greatest_plain
 
 pub returns-clause-greatest : goal.returns-clause-greatest
 returns-clause-greatest g c clean =
-    let opened = c.requires.opened (c.ask.ensures.clean clean) in
+    let opened = c.requires.opened (c.ask.ensures.reads.clean clean) in
     let rows = c.in_ok-rows.rows.items in
     IfOk-weaker c.place_in.result (IsPlaceIn rows) (HasLeastOrGreatest true (state g.S.Store c.args.conn.now).committed) (λ found is. greatest_found (state g.S.Store c.args.conn.now) (state g.S.Store c.ask.new.conn) rows found opened.0 opened.1 (c.in_ok-rows.ensures.shown clean) is)
     (subst (λ all. IfOk c.place_in.result (IsPlaceIn all)) c.deref.ensures.value c.place_in.ensures.place)

@@ -12,7 +12,7 @@ ask-requires-clause-plain g c = least_plain
 
 pub returns-clause-least : goal.returns-clause-least
 returns-clause-least g c clean =
-    let opened = c.requires.opened (c.ask.ensures.clean clean) in
+    let opened = c.requires.opened (c.ask.ensures.reads.clean clean) in
     let rows = c.in_ok-rows.rows.items in
     IfOk-weaker c.place_in.result (IsPlaceIn rows) (HasLeastOrGreatest false (state g.S.Store c.args.conn.now).committed) (λ found is. least_found (state g.S.Store c.args.conn.now) (state g.S.Store c.ask.new.conn) rows found opened.0 opened.1 (c.in_ok-rows.ensures.shown clean) is)
     (subst (λ all. IfOk c.place_in.result (IsPlaceIn all)) c.deref.ensures.value c.place_in.ensures.place)

@@ -9,7 +9,7 @@ returns-in-Ok-clause-settled g c clean =
     let new = state g.S.Store c.migrate.new.conn in
     let m = c.migrate.ensures in
     let early = m.clean clean in
-    let first = c.count.ensures.clean early in
+    let first = c.count.ensures.reads.clean early in
     migrated_settles old mid new (c.requires.store first) (c.in_ok-count.ensures.same early).0.committed_is (m.crash clean) c.in_ok-count.count (c.in_ok-count.ensures.count early) (c.in-Ok.ensures.ready clean) (c.in-Ok.ensures.migrated clean) (c.in-Ok.ensures.tables clean)
 
 pub returns-in-Err-clause-settled : goal.returns-in-Err-clause-settled
@@ -19,5 +19,5 @@ returns-in-Err-clause-settled g c clean =
     let new = state g.S.Store c.migrate.new.conn in
     let m = c.migrate.ensures in
     let early = m.clean clean in
-    let first = c.count.ensures.clean early in
+    let first = c.count.ensures.reads.clean early in
     refused_settles old mid new (c.requires.store first) (c.in_ok-count.ensures.same early).0.committed_is (m.crash clean) c.in-Err.fault c.in-Err.ensures.named (c.in-Err.ensures.damaged clean) (c.in-Err.ensures.unharmed clean)

@@ -1,0 +1,281 @@
+#!/usr/bin/env python3
+"""Random rehearsals of all kinds of events, which must come to the same by three ways.
+
+night.py COUNT makes rehearsals until they have COUNT events: under random schemes, orders good and bad, messages delivered early,
+late, twice and never, crashes, requests, clean-ups, closings, acknowledgements and full journals. Each is given to `kyoto-link
+rehearse`, whose report must be that of checker/worlds.py; its journals are put into stores, of which `kyoto-link audit` must write the
+report's table; and from the scheme and the table alone it is looked whether held and owed together are what was allotted, no unit is in
+two lines, and no transaction is Completed at one node and Rejected, Terminated or Cancelled at another. A seed that fails is printed,
+with the fewest events found that fail still, and the exit status is 1.
+"""
+
+import argparse
+import collections
+import json
+import multiprocessing
+import os
+import pathlib
+import random
+import re
+import subprocess
+import sys
+import tempfile
+import time
+
+sys.path.insert(0, str(pathlib.Path(__file__).resolve().parent.parent / "checker"))
+
+import formats
+import worlds
+from records import write_store
+from rehearse import program
+
+START = 1_335_830_400
+LENGTH = 400
+UNDONE = {"Rejected", "Terminated", "Cancelled"}
+BLOCK = re.compile(r"([A-Z]{2}):([12]):(\d+)-(\d+):\w+")
+
+
+class Rehearsal:
+    """A random scheme and random events, each chosen by what the events before it led to."""
+
+    def __init__(self, seed):
+        self.random = random.Random(seed)
+        count = self.random.choice((2, 2, 3, 3, 4, 5, 8, 32))
+        letters = [a + b for a in "ABCDEFGH" for b in "JKLMN"]
+        self.codes = sorted(self.random.sample(letters, count))
+        self.text = json.dumps(self.scheme(), separators=(",", ":"))
+        registries, records = formats.scheme(self.text)
+        self.pool = [self.part(block) for it in registries.values() for _, block in it["allotted"] for _ in range(3)]
+        self.pool += [self.odd_block() for _ in range(6)]
+        self.world = worlds.World(registries, records, self.pool)
+        self.moment = START
+        self.delivered = set()
+
+    def scheme(self):
+        most = formats.LAST_ACCOUNT
+        registries = []
+        for code in self.codes:
+            accounts = sorted({self.random.choice((1, 2, 7, self.random.randint(1, most), most)) for _ in range(self.random.randint(1, 3))})
+            allotted, number = [], 1
+            for _ in range(self.random.randint(0, 4)):
+                number += self.random.choice((0, 0, 1, 50))
+                length = self.random.choice((1, 4, 100, 10**9))
+                text = f"{code}:{self.random.choice((1, 2))}:{number}-{number + length - 1}:{self.random.choice(formats.KINDS)}"
+                allotted.append({"account": self.random.choice(accounts), "units": [text]})
+                number += length
+            kinds = list(formats.KINDS) if self.random.random() < 0.7 else self.random.sample(formats.KINDS, 3)
+            registries.append({"accounts": accounts, "allotted": allotted, "code": code, "eligible": self.random.random() < 0.95, "kinds": kinds})
+        return {"records": self.random.choice((1000, 1000, 1000, 12)), "registries": registries}
+
+    def part(self, block):
+        first = self.random.randint(block.first, block.last)
+        last = self.random.choice((block.last, self.random.randint(first, block.last)))
+        return block._replace(first=self.random.choice((block.first, first)), last=last)
+
+    def odd_block(self):
+        first = self.random.choice((0, 1, 3, 60, formats.LAST_NUMBER))
+        last = self.random.choice((first, first + 1, first + 80, 2))
+        return formats.Block(self.random.choice((*self.codes, "ZZ")), self.random.choice((1, 2)), first, last, self.random.choice(formats.KINDS))
+
+    def registry(self):
+        return self.random.choice((*self.codes, *self.codes, *self.codes, formats.ITL, "ZZ")) if self.random.random() < 0.2 else self.random.choice(self.codes)
+
+    def account(self, code):
+        known = self.world.registries.get(code, {"accounts": []})["accounts"]
+        return self.random.choice((*known, *known, *known, 0, 1, formats.LAST_ACCOUNT + 1))
+
+    def orders(self):
+        node, to = self.registry(), self.random.choice((*self.codes, *self.codes, "ZZ"))
+        name = self.random.choices(("propose", "request", "open", "close", "eligible", "clean-up", "ack"), (60, 8, 4, 6, 4, 10, 8))[0]
+        if name == "propose":
+            held = self.world.nodes[node].held if node in self.codes else {}
+            owners = [it for piece, it in held.items()]
+            account = self.random.choice(owners)[0] if owners and self.random.random() < 0.9 else self.account(node)
+            mine = [it for it in self.pool if formats.is_block(it) and all(held.get(piece, [None])[0] == account for piece in self.world.atoms.of(it))]
+            source = mine if mine and self.random.random() < 0.9 else self.pool
+            blocks = [self.random.choice(source) for _ in range(self.random.choice((1, 1, 1, 2, 3, 0, 17)))]
+            return " ".join((name, node, str(account), to, str(self.account(to)), *map(formats.block_text, blocks)))
+        if name == "request":
+            return f"{name} {node} {self.random.choice((node if node in self.codes else to, to))}{self.random.choice((1, 1, 2, 3, 999_999))}"
+        if name in ("open", "close"):
+            return f"{name} {node} {self.account(node)}"
+        if name == "eligible":
+            return f"{name} {to} {self.random.choice(('yes', 'yes', 'no'))}"
+        if name == "clean-up":
+            return f"{name} {formats.moment_text(self.moment + self.random.choice((0, 3_600, 86_399, 86_400, 86_401)))}"
+        return f"{name} {node} {self.random.choice((0, 0, 1, 2, 50))}"
+
+    def moves(self):
+        """A commit, a post or a delivery that can happen, in most cases."""
+        world = self.world
+        tails = [name for name in world.nodes if world.tail(name)]
+        if tails and self.random.random() < 0.4:
+            name = self.random.choice(tails)
+            return f"commit {name} {self.random.choice((world.tail(name), world.tail(name), 1, world.tail(name) + 1))}"
+        ready = [(name, key) for name, node in world.nodes.items() for key, (at, _) in enumerate(node.sent)
+                 if at < world.committed[name] and key not in world.posted[name]]
+        if ready and self.random.random() < 0.6:
+            return "post {} {}".format(*self.random.choice(ready))
+        if world.bag:
+            self.moment += self.random.choice((0, 0, 1, 60, 7_200))
+            fresh = [at for at in range(len(world.bag)) if at not in self.delivered]
+            place = self.random.choice(fresh) if fresh and self.random.random() < 0.7 else self.random.randrange(len(world.bag) + 1)
+            self.delivered.add(place)
+            return f"deliver {place} {formats.moment_text(self.moment)}"
+        return f"post {self.random.choice((*self.codes, formats.ITL))} {self.random.choice((0, 1))}"
+
+    def stops(self):
+        world = self.world
+        if world.stopped and self.random.random() < 0.95:
+            return f"restart {self.random.choice(sorted(world.stopped))}"
+        name = self.random.choice((*self.codes, formats.ITL))
+        return f"crash {name} {self.random.choice((0, world.tail(name), world.tail(name) // 2, world.tail(name) + 1))}"
+
+    def lines(self, length):
+        found = [self.text]
+        for _ in range(length):
+            stops = 20 if self.world.stopped else 1
+            chosen = self.random.choices((self.orders, self.moves, self.stops), (20, 75, stops))[0]
+            found.append(chosen())
+            self.world.apply(formats.event(found[-1]))
+        return found
+
+
+def message_text(message):
+    """A message's keys and values."""
+    found = {"from": message.sender, "to": message.receiver, "transaction": formats.identifier_text(message.transaction)}
+    if message.kind == "request":
+        return {**found, "call": "RequestCancellation"}
+    if message.kind != "proposal":
+        return {**found, "call": "AcceptNotification", "codes": list(message.codes), "status": message.kind}
+    units = [formats.block_text(it) for it in message.content.units]
+    parts = {"account": message.content.account, "to_account": message.content.to_account, "to_registry": message.content.to_registry}
+    return {**found, **parts, "call": "AcceptProposal", "status": message.status, "units": units}
+
+
+def record_text(given):
+    """The text of a journal's record, of format 2."""
+    name, value = given.name, given.value
+    if name == "message":
+        parts = {"input": "received", "message": message_text(value[0]), "moment": value[1]}
+    elif name == "propose":
+        parts = {"account": value.account, "input": name, "to_account": value.to_account, "to_registry": value.to_registry,
+                 "units": [formats.block_text(it) for it in value.units]}
+    elif name == "request":
+        parts = {"input": name, "transaction": formats.identifier_text(value)}
+    elif name in ("open", "close"):
+        parts = {"account": value, "input": name}
+    elif name == "ack":
+        parts = {"input": name, "key": value}
+    elif name == "clean-up":
+        parts = {"input": "clean_up", "moment": value}
+    else:
+        parts = {"input": name, "may": value[1], "registry": value[0]}
+    return json.dumps({**parts, "v": 2}, sort_keys=True, separators=(",", ":"))
+
+
+def run(words, given=None):
+    return subprocess.run(words, input=given, capture_output=True, text=True, check=False)
+
+
+def wrong_table(scheme, table):
+    """What is wrong with a table by itself, or None."""
+    registries, _ = formats.scheme(scheme)
+    allotted = sum(block.last - block.first + 1 for it in registries.values() for _, block in it["allotted"])
+    counted, lines = 0, collections.defaultdict(list)
+    for line in table:
+        words = line.split(" ")
+        if words[0] == "registry":
+            counted += int(words[3])
+        elif words[0] == "owed":
+            counted += int(words[1])
+        elif words[0] in ("holds", "due"):
+            origin, period, first, last = BLOCK.search(line).groups()
+            lines[origin, period].append((int(first), int(last)))
+        elif words[0] == "transaction":
+            statuses = set(words[3::2])
+            if "Completed" in statuses and statuses & UNDONE:
+                return f"of two minds: {line}"
+    if counted != allotted:
+        return f"{counted} held and owed of {allotted}"
+    for of_line in lines.values():
+        of_line.sort()
+        if any(one[1] >= other[0] for one, other in zip(of_line, of_line[1:])):
+            return "a unit in two lines"
+    return None
+
+
+def difference(lines, folder):
+    """What the three ways differ in, or None."""
+    text = "\n".join([*lines, ""])
+    report, world = worlds.rehearse(text)
+    told = run([program(), "rehearse"], text)
+    if told.returncode or told.stdout != report:
+        return f"rehearse: status {told.returncode}, {told.stderr.strip()}"
+    table = report.split("\n")[len(lines) - 1:-1]
+    wrong = wrong_table(lines[0], table)
+    if wrong:
+        return wrong
+    room = pathlib.Path(tempfile.mkdtemp(dir=folder))
+    (room / "scheme").write_text(lines[0] + "\n")
+    for name, node in world.nodes.items():
+        write_store(room, name, map(record_text, node.journal))
+    audited = run([program(), "audit", str(room / "scheme"), str(room)])
+    run(["rm", "-r", str(room)])
+    return None if audited.stdout.split("\n")[:-1] == table else f"audit: status {audited.returncode}, {audited.stderr.strip()}"
+
+
+def fewest(lines, folder):
+    """As few of the lines as can be found that differ still."""
+    size = len(lines) // 2
+    while size:
+        at = 1
+        while at < len(lines):
+            left = lines[:at] + lines[at + size:]
+            if len(left) < len(lines) and difference(left, folder):
+                lines = left
+            else:
+                at += size
+        size //= 2
+    return lines
+
+
+def night(given):
+    """The events of one seed, what came of them, and what they differ in."""
+    seed, folder = given
+    lines = Rehearsal(seed).lines(LENGTH)
+    found = difference(lines, folder)
+    report, world = worlds.rehearse("\n".join([*lines, ""]))
+    came = collections.Counter(re.sub(r"^\d+ (recorded(?= )|.*).*$", r"\1", it) for it in report.split("\n")[: len(lines) - 1])
+    for node in world.nodes.values():
+        came.update(f"{it.status} {code}" for it in node.transfers.values() for code in it.codes or [""])
+    return len(lines) - 1, came, (seed, found, fewest(lines, folder)) if found else None
+
+
+def main():
+    words = argparse.ArgumentParser(description=__doc__, formatter_class=argparse.RawDescriptionHelpFormatter)
+    words.add_argument("count", type=int, help="how many events in all")
+    words.add_argument("--seed", type=int, default=0, help="the first seed")
+    words.add_argument("--workers", type=int, default=os.cpu_count())
+    given = words.parse_args()
+    program()
+    start, events, outcomes = time.monotonic(), 0, collections.Counter()
+    seeds = range(given.seed, given.seed + (given.count + LENGTH - 1) // LENGTH)
+    room = "/dev/shm" if os.path.isdir("/dev/shm") else None
+    with tempfile.TemporaryDirectory(dir=room) as folder, multiprocessing.Pool(given.workers) as pool:
+        for count, came, wrong in pool.imap_unordered(night, ((seed, folder) for seed in seeds), chunksize=4):
+            events += count
+            outcomes += came
+            if wrong:
+                seed, found, lines = wrong
+                print(f"seed {seed}: {found}, by these lines:", *lines, sep="\n", flush=True)
+                pool.terminate()
+                sys.exit(1)
+    minutes = (time.monotonic() - start) / 60
+    print(f"{events:,} events of {len(seeds):,} rehearsals, {events / minutes:,.0f} a minute, by three ways the same")
+    print("outcomes, and how transactions stood at each node in the end, with what was found:")
+    print(*(f"{count:>12,} {name}" for name, count in sorted(outcomes.items())), sep="\n")
+
+
+if __name__ == "__main__":
+    main()

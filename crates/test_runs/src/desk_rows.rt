@@ -1,14 +1,14 @@
 use crate::given::Given::{self, Message};
 use crate::given::input_of;
 use crate::nz_desk::{
-    NzDesk, NzState, NzStored, TEN, TEN_MORE, commit, confirm, next_key, nz_desk, nz_stored, query,
-    recorded, state_left, take_all, turn,
+    NzDesk, NzState, NzStored, TEN, TEN_MORE, commit, confirm, next_key, next_transaction, nz_desk,
+    nz_stored, query, recorded, state_left, take_all, turn,
 };
 use crate::same::{assert_same, assert_same_in};
 use desk::stores::{MemoryStore, NodeStore};
 use desk::{Life, Seat, Taken, Told, Unsettled, settle};
 use protocol::Stepped;
-use protocol::status::Status;
+use protocol::status::{Status, TransactionId};
 use protocol::units::Refusal;
 use protocol::units::refusal_code::NODE_STOPPED;
 use std::alloc::Global;
@@ -47,6 +47,16 @@ fn messages_leave_after_their_commit(rt: HostRuntime) {
     assert_next(&rt, &desk, [None, None, None]);
     assert_same(&rt, commit(&rt, &desk), 2);
     assert_next(&rt, &desk, [Some(0), Some(1), None]);
+    assert_same(
+        &rt,
+        next_transaction(&rt, &desk, 0),
+        TransactionId::read("NZ1"),
+    );
+    assert_same(
+        &rt,
+        next_transaction(&rt, &desk, 1),
+        TransactionId::read("NZ2"),
+    );
     drop((desk, a, b));
 }
 

@@ -218,6 +218,22 @@ pub fn next_key(rt: &(impl Wait + Abort), desk: &NzDesk, from: usize) -> Option<
     }
 }
 
+/// The transaction of the message that is next for the log, from that key on.
+pub fn next_transaction(
+    rt: &(impl Wait + Abort),
+    desk: &NzDesk,
+    from: usize,
+) -> Option<TransactionId> {
+    match desk.next_send(rt, Node::Itl, from).expect(rt, "memory") {
+        Some((_, message)) => {
+            let id = message.transaction();
+            drop(message);
+            Some(id)
+        }
+        None => None,
+    }
+}
+
 /// Has the desk commit.
 pub fn commit(rt: &(impl Wait + Abort), desk: &NzDesk) -> usize {
     desk.commit_next(rt).expect(rt, "no fault of the store")

@@ -1,5 +1,6 @@
 use crate::failing_streams::{Dripping, Endless, Full, long_line};
 use crate::same::assert_same;
+use crate::stations::PROPOSAL;
 use exchanges::{Answerer, Counted, SessionEnd, serve_session};
 use protocol::units::refusal_code::{NODE_STOPPED, NOT_A_MESSAGE};
 use protocol::units::{Items, NoMemory};
@@ -126,6 +127,25 @@ fn a_line_is_too_long_by_one_byte(rt: HostRuntime) {
             served(alloc, line.as_slice(), &mut writer),
             (end, lines),
         );
+    }
+}
+
+#[test]
+fn a_padded_proposal_is_too_long_by_one_space(rt: HostRuntime) {
+    let alloc = rt.alloc();
+    for (spaces, end, lines) in [
+        (8_031, SessionEnd::PeerEnded, 1),
+        (8_032, SessionEnd::TooLong, 0),
+    ] {
+        let mut line = Vec::new(alloc);
+        line.extend_from_slice(PROPOSAL.as_bytes())
+            .expect(&rt, "memory");
+        let padding = long_line(&rt, alloc, b' ', spaces);
+        line.extend_from_slice(padding.as_slice())
+            .expect(&rt, "memory");
+        let mut writer = Counted::new(Full { room: NEVER });
+        let ended = served(alloc, line.as_slice(), &mut writer);
+        assert_same(&rt, ended, (end, lines));
     }
 }
 

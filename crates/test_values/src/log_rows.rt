@@ -164,6 +164,16 @@ fn a_completed_transfer_moves_the_book(rt: HostRuntime) {
     drop(log);
 }
 
+#[test]
+fn a_log_resumes_no_record_twice(rt: HostRuntime) {
+    let alloc = rt.alloc();
+    let mut log = log(&rt, alloc, ROOM);
+    walk(&rt, alloc, &mut log, &[(PROPOSAL, Recorded(0))]);
+    assert_no_record(&rt, alloc, &mut log, PROPOSAL, 1);
+    assert_same(&rt, log.records(), 1);
+    drop(log);
+}
+
 const CLEANED: &[(Given, Outcome)] = &[
     (PROPOSAL, Recorded(0)),
     (Event("clean-up 2012-05-01T23:59:59Z"), Repeat),

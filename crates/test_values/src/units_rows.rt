@@ -135,6 +135,9 @@ fn block_set(rt: HostRuntime) {
     assert_set(&rt, &set, alloc, &[low, high], 80);
     assert_added(&rt, &mut set, middle, Ok(()));
     assert_set(&rt, &set, alloc, &[low, middle, high], 100);
+    let written = high.write(alloc).expect(&rt, "memory");
+    assert_same(&rt, written.as_str(), "NZ:1:61-100:AAU");
+    drop(written);
     let copy = set.copy().expect(&rt, "memory");
     assert_set(&rt, &copy, alloc, &[low, middle, high], 100);
     drop(copy);

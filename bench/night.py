@@ -222,7 +222,8 @@ def difference(lines, folder):
         write_store(room, name, map(record_text, node.journal))
     audited = run([program(), "audit", str(room / "scheme"), str(room)])
     run(["rm", "-r", str(room)])
-    return None if audited.stdout.split("\n")[:-1] == table else f"audit: status {audited.returncode}, {audited.stderr.strip()}"
+    same = audited.returncode == 0 and audited.stdout.split("\n")[:-1] == table
+    return None if same else f"audit: status {audited.returncode}, {audited.stderr.strip()}"
 
 
 def fewest(lines, folder):

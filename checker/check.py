@@ -2,7 +2,8 @@
 """Writes the report of a rehearsal, read from standard input, as `kyoto-link rehearse` does.
 
 It was written from docs/PROTOCOL.md and docs/FORMATS.md and shares no code with the program: where the two differ, one of them, or a
-document, is wrong. An input with a fault ends it with status 3.
+document, is wrong. It is for inputs without a fault, with moments that end in Z: a line that is no event, or a scheme that it can't read,
+ends it with status 3, and it looks at no limit of a scheme and for no unit that is allotted twice.
 """
 import sys
 

@@ -3,7 +3,7 @@
 
 Each is given 100,000, 200,000 and 400,000 inputs of whole transfers. Printed are the best times, the records a second, and with how much
 longer each doubling takes. Then a registry closes and opens an account, 1,000,000 times in all: printed are the best time, and the peak of
-memory for each record beside the bytes of its text. The log is given 10,000 clean-ups by which none of 100,000 Checked transactions is due,
+memory for each record beside the bytes of its text. The log is given 10,000 clean-ups by which none of 100,000 Checked transactions has expired,
 and 10,000 orders on a registry's eligibility beside them. The exit status is 1 where a doubling is over its limit, or the clean-ups take
 longer than the orders.
 """
@@ -81,7 +81,7 @@ def print_accounts(runs):
 
 
 def print_clean_ups(runs):
-    """Whether clean-ups by which nothing is due take no longer than orders on eligibility."""
+    """Whether clean-ups by which nothing has expired take no longer than orders on eligibility."""
     clean_ups = min(measured("clean-ups", CLEAN_UPS, 0)[0] for _ in range(runs))
     orders = min(measured("eligibility", CLEAN_UPS, CLEAN_UPS)[0] for _ in range(runs))
     print(f"{CLEAN_UPS:>9,} clean-ups {clean_ups * 1_000:.2f} ms  as many orders on eligibility {orders * 1_000:.2f} ms (limit of the clean-ups)")

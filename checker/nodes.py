@@ -255,8 +255,8 @@ class Log(Node):
         return REPEAT if self.eligible_now[registry] == may else lambda: self.eligible_now.update({registry: may})
 
     def clean_up(self, moment):
-        due = sorted(at for at, it in self.transfers.items() if it.status == "Checked" and it.since + DAY <= moment)
-        return (lambda: [message for at in due for message in self.cancel(at)]) if due else REPEAT
+        expired = sorted(at for at, it in self.transfers.items() if it.status == "Checked" and it.since + DAY <= moment)
+        return (lambda: [message for at in expired for message in self.cancel(at)]) if expired else REPEAT
 
     def cancel(self, transaction):
         found = self.transfers[transaction]

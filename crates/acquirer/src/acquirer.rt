@@ -20,7 +20,7 @@ ghost use Rattle.accounts.specs.Holdings.{kind_in};
 ghost use Rattle.protocol.specs.Scheme.{Scheme};
 ghost use Rattle.protocol.specs.AtRegistry.{unless_held};
 ghost use Rattle.protocol.specs.Checks.{Holding, acquirer_findings};
-ghost use Rattle.protocol.specs.Cores.{IsDueOrNoMemory};
+ghost use Rattle.protocol.specs.Cores.{IsExpectedOrNoMemory};
 ghost use Rattle.protocol.specs.Deciding.{column_of_proposal};
 ghost use Rattle.protocol.specs.Decisions.{decided};
 ghost use Rattle.protocol.specs.Effects.{acquirer_sends};
@@ -147,7 +147,7 @@ impl Acquirer {
     ) -> Result<Decision, Refusal>
         ensures { (known_so : Holding) (found : List ℕ) → Knows scheme.now self.now.code holdings.now known_so
             → found ≡ acquirer_findings scheme.now self.now.code known_so content.now
-            → IsDueOrNoMemory result
+            → IsExpectedOrNoMemory result
             (decided (acquirer_row (known_transfer (map.get self.now.transfers id))
             (column_of_proposal (kept_content (map.get self.now.transfers id)) found))
             (acquirer_sends self.now.code id found

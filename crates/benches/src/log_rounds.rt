@@ -167,7 +167,7 @@ pub fn proposals_of(alloc: Global, codes: &[Code], count: u32) -> Result<Vec<Inp
     Ok(inputs)
 }
 
-/// A clean-up at the moment of the messages, by which nothing is due.
+/// A clean-up at the moment of the messages, by which nothing has expired.
 pub fn clean_up(alloc: Global) -> Result<Vec<Input>, Fault> {
     let mut inputs = Vec::new(alloc);
     inputs.push(Input::CleanUp(Moment::new(MOMENT).ok_or(Fault::Input)?))?;

@@ -9,8 +9,8 @@
 //! `benches log INPUTS` gives the log of 31 registries INPUTS inputs of whole transfers from each registry to the
 //! next: a proposal, Accepted and Completed, an acknowledgement of each message that it sends, and then Accepted and
 //! Completed again, which are repeats. So a round has eight inputs, of which six are recorded. `benches clean-ups
-//! INPUTS` gives it 100,000 proposals, and then INPUTS clean-ups by which none of them is due; `benches eligibility
-//! INPUTS` gives it orders on a registry's eligibility in place of the clean-ups.
+//! INPUTS` gives it 100,000 proposals, and then INPUTS clean-ups by which none of them has expired; `benches
+//! eligibility INPUTS` gives it orders on a registry's eligibility in place of the clean-ups.
 //!
 //! `benches map INTERVALS` makes a map of INTERVALS intervals of ten units, and gives 16 blocks in it another kind
 //! and their own again, 10,000 times. `benches outbox MESSAGES` makes an outbox of MESSAGES messages, of which every

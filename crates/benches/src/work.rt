@@ -31,7 +31,7 @@ pub enum Inputs {
     Accounts,
     /// Whole transfers, at the log.
     Log,
-    /// Clean-ups by which nothing is due.
+    /// Clean-ups by which nothing has expired.
     CleanUps,
     /// Orders on the eligibility of a registry.
     Eligibility,

@@ -2,11 +2,11 @@
 use Rattle.std.specs.Prelude.{◌≡◌, ◌+◌, ℕ, true, false, List, [], take, if◌then◌else◌, Result, Ok, Err}
 use Rattle.units.specs.declared.refusal.Refusal.{Refusal}
 use Rattle.wire.specs.declared.input.Input.{Input}
-use Rattle.protocol.specs.Cores.{IsDueOrNoMemory, after, answer}
+use Rattle.protocol.specs.Cores.{IsExpectedOrNoMemory, after, answer}
 use Rattle.protocol.specs.declared.node_core.Stepped.{Stepped}
 use Rattle.stores.specs.declared.fault.StoreFault.{StoreFault}
 use Rattle.desk.specs.declared.notes.Told.{Told}
-use Rattle.desk.specs.Due.{stopped, told_of}
+use Rattle.desk.specs.Expected.{stopped, told_of}
 use Rattle.desk.specs.Views.{StateView, tail}
 
 -- the state takes an input: it is refused where the state has stopped, else the journal is what the core's result
@@ -14,7 +14,7 @@ use Rattle.desk.specs.Views.{StateView, tail}
 abbrev pub Takes : StateView → Input → Result Stepped Refusal → StateView → Type 0
 Takes old input result new =
     (old.runs ≡ false → (result ≡ Err stopped) × (new ≡ old))
-    × (old.runs ≡ true → IsDueOrNoMemory result (answer old.scheme old.node old.journal input) × (new ≡ record old { journal = after old.journal input result }))
+    × (old.runs ≡ true → IsExpectedOrNoMemory result (answer old.scheme old.node old.journal input) × (new ≡ record old { journal = after old.journal input result }))
 
 -- the same, where what the core returns is told in that way
 abbrev pub Tells : StateView → Input → Told → StateView → Type 0

@@ -14,7 +14,7 @@ use Rattle.desk.specs.declared.notes.Told.TheVariants.{Refused}
 use Rattle.desk.specs.declared.progress.Progress.{Progress}
 use Rattle.desk.specs.declared.progress.Progress.TheVariants.{Committed, Awaited, Stopped}
 use Rattle.desk.specs.Calls.{Tells}
-use Rattle.desk.specs.Due.{status_told}
+use Rattle.desk.specs.Expected.{status_told}
 use Rattle.desk.specs.Views.{StateView, committed_past, past}
 
 -- memory ran out before the state was asked

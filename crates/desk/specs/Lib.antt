@@ -1,5 +1,5 @@
 pub mod Views
-pub mod Due
+pub mod Expected
 pub mod Calls
 pub mod Telling
 pub mod Rooms

@@ -11,12 +11,12 @@ use Rattle.desk.specs.declared.life.Unsettled.TheVariants.{Missing, Twice, Diffe
 use Rattle.desk.specs.declared.notes.Lengths.TheVariants as lengths
 use Rattle.desk.specs.declared.notes.Note.{Note}
 use Rattle.desk.specs.Covering.{Covers, IsMissing, IsTwice, NoneMissing, NoneTwice, SomeDiffers}
-use Rattle.desk.specs.Due.{due}
+use Rattle.desk.specs.Expected.{expected}
 use Rattle.desk.specs.Views.{StateView, SeatView}
 
--- the journal bears a note: after the first of its records, as many as the note says, what is due is what was told
+-- the journal bears a note: after the first of its records, as many as the note says, what is expected is what was told
 abbrev pub Bears : Scheme → Node → List Input → Note → Type 0
-Bears scheme n journal note = (note.length ≤ length journal) × (due scheme n (take note.length journal) note.asked ≡ note.told)
+Bears scheme n journal note = (note.length ≤ length journal) × (expected scheme n (take note.length journal) note.asked ≡ note.told)
 
 abbrev pub AllBorne : Scheme → Node → List Input → SeatView → Type 0
 AllBorne scheme n journal seat = All (Bears scheme n journal) seat.notes

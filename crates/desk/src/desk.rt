@@ -1,7 +1,7 @@
 //! A node's state with its store, which several threads share.
 ghost use Rattle.std.specs.Prelude.{◌≡◌, max, Some, IfOk, MatchResult};
 ghost use Rattle.desk.specs.Desks.{IsOf, IsQueryOf, IsTakeOf, lacking};
-ghost use Rattle.desk.specs.Due.{stopped};
+ghost use Rattle.desk.specs.Expected.{stopped};
 ghost use Rattle.desk.specs.Keeping.{AreStored, IsAtDesk, IsCommit, IsKept, IsProgressOfRun, IsToSend, MayOpen};
 ghost use Rattle.desk.specs.Telling.{kept};
 

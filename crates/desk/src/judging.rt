@@ -2,7 +2,7 @@
 ghost use Rattle.std.specs.Prelude.{◌≡◌, ◌↔◌, ◌++◌, ◌⊎◌, ◌≤◌, [], None, length, take, map, flat_map, All, Any, IfErr, IfOk, OnOk, MatchOption, IsTrue, IsPermutation};
 ghost use Rattle.protocol.specs.Cores.{HasFault};
 ghost use Rattle.units.specs.RefusalCodes.{out_of_memory};
-ghost use Rattle.desk.specs.Due.{due, told_of};
+ghost use Rattle.desk.specs.Expected.{expected, told_of};
 ghost use Rattle.desk.specs.Rooms.{IsNoRecord, TellNoRecord};
 ghost use Rattle.desk.specs.Settling.{AllBorne, Bears, SomeUnborne};
 ghost use Rattle.desk.specs.Views.{committed_records};
@@ -25,12 +25,12 @@ fn lacks_memory(returned: &Result<Stepped, Refusal>) -> bool
     }
 }
 
-/// What is due for what was asked, after the core's journal. Where no record is told, the journal is as it was.
+/// What is expected for what was asked, after the core's journal. Where no record is told, the journal is as it was.
 fn ask<C: NodeCore>(core: &mut C, asked: &Asked) -> Result<Told, NoMemory>
     ensures scheme { C.scheme_of core.new ≡ C.scheme_of core.old }
     ensures node { C.node_of core.new ≡ C.node_of core.old }
     ensures told { IfOk result
-        (λ told. told ≡ due (C.scheme_of core.old) (C.node_of core.old) (C.journal_of core.old) asked.now) }
+        (λ told. told ≡ expected (C.scheme_of core.old) (C.node_of core.old) (C.journal_of core.old) asked.now) }
     ensures journal { IfOk result (λ told. IsNoRecord told → C.journal_of core.new ≡ C.journal_of core.old) }
 {
     match asked {
@@ -45,13 +45,13 @@ fn ask<C: NodeCore>(core: &mut C, asked: &Asked) -> Result<Told, NoMemory>
     }
 }
 
-/// Whether what is due after the core's journal is what was told.
-fn is_due<C: NodeCore>(core: &mut C, note: &Note) -> Result<bool, NoMemory>
+/// Whether what is expected after the core's journal is what was told.
+fn is_expected<C: NodeCore>(core: &mut C, note: &Note) -> Result<bool, NoMemory>
     requires { IsNoRecord note.now.told }
     ensures scheme { C.scheme_of core.new ≡ C.scheme_of core.old }
     ensures node { C.node_of core.new ≡ C.node_of core.old }
-    ensures due { IfOk result
-        (λ b. IsTrue b ↔ (due (C.scheme_of core.old) (C.node_of core.old) (C.journal_of core.old) note.now.asked
+    ensures expected { IfOk result
+        (λ b. IsTrue b ↔ (expected (C.scheme_of core.old) (C.node_of core.old) (C.journal_of core.old) note.now.asked
         ≡ note.now.told)) }
     ensures journal { IfOk result (λ b. IsTrue b → C.journal_of core.new ≡ C.journal_of core.old) }
 {
@@ -106,8 +106,8 @@ fn is_borne<C: NodeCore>(core: &mut C, journal: &[Input], note: &Note) -> Result
         return Ok(false);
     }
     bring(core, journal, note.length)?;
-    match is_due(core, note) {
-        Ok(due) => Ok(due),
+    match is_expected(core, note) {
+        Ok(expected) => Ok(expected),
         Err(NoMemory) => Err(ReplayFault::NoMemory),
     }
 }

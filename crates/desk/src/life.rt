@@ -37,7 +37,7 @@ pub enum Unsettled {
     /// A seat was told of a shorter journal than before.
     #[error("a thread was told of a shorter journal than before")]
     Fell,
-    /// After this number of records, something else is due than what a seat was told.
+    /// After this number of records, something else is expected than what a seat was told.
     #[error("what a thread was told after {0} records isn't what is due then")]
     Untrue(usize),
     /// The record at that place isn't one that the node records there.

@@ -95,7 +95,7 @@ fn has_fallen(seats: &[Seat]) -> bool
     false
 }
 
-/// As `settle`, by a core of the caller's in place of the state's: each note is compared with what that core is due
+/// As `settle`, by a core of the caller's in place of the state's: each note is compared with what that core has
 /// to tell, at its node under its scheme, so that a caller who can't name the state's scheme still names this one.
 /// The core has no record, and is returned with the committed ones.
 ///

@@ -7,7 +7,7 @@ ghost use Rattle.units.specs.RefusalCodes.{out_of_memory};
 ghost use Rattle.stores.specs.Calls.{Appends};
 ghost use Rattle.stores.specs.Faults.{faults_after};
 ghost use Rattle.desk.specs.Calls.{Takes, Tells, batch_of, committed_by, done};
-ghost use Rattle.desk.specs.Due.{status_told, told_of};
+ghost use Rattle.desk.specs.Expected.{status_told, told_of};
 ghost use Rattle.desk.specs.Views.{committed_past, committed_records, opened_with, past, tail};
 
 use crate::notes::{Asked, Told};
@@ -144,7 +144,7 @@ impl<C: NodeCore> State<C> {
         }
     }
 
-    /// Takes an input. It tells what is due for it after the journal, or refusal `OUT_OF_MEMORY` in place of that;
+    /// Takes an input. It tells what is expected after the journal, or refusal `OUT_OF_MEMORY` in place of that;
     /// where it was recorded the journal has it as its last record, and else nothing has changed. A state that was
     /// stopped tells refusal `NODE_STOPPED`, and nothing changes. The length is that of the journal after the call.
     pub fn take(&mut self, input: Input) -> Taken

@@ -17,7 +17,7 @@ ghost use Rattle.accounts.specs.Holdings as held;
 ghost use Rattle.accounts.specs.Refusals.{MayReserve};
 ghost use Rattle.protocol.specs.AtRegistry.{content_of};
 ghost use Rattle.protocol.specs.Checks.{Holding};
-ghost use Rattle.protocol.specs.Cores.{IsDueOrNoMemory};
+ghost use Rattle.protocol.specs.Cores.{IsExpectedOrNoMemory};
 ghost use Rattle.protocol.specs.Decisions.{decided, unless};
 ghost use Rattle.protocol.specs.Effects.{initiator_sends};
 ghost use Rattle.checks.specs.Knowing.{Knows};
@@ -111,7 +111,7 @@ impl Initiator {
     /// What the table says to a new transfer: a new transfer is to be Proposed to the log. Fails with `NO_ROW` where
     /// the registry has a transfer of that identifier, and with `OUT_OF_MEMORY`.
     pub fn propose(&self, alloc: Global, new_transfer: &NewTransfer) -> Result<Decision, Refusal>
-        ensures { IsDueOrNoMemory result
+        ensures { IsExpectedOrNoMemory result
             (decided (initiator_row (known_transfer (map.get self.now.transfers new_transfer.now.id)) column.Propose)
             (initiator_sends self.now.code new_transfer.now.id (Some new_transfer.now.content) column.Propose)) }
     {
@@ -140,7 +140,7 @@ impl Initiator {
     /// `NO_LONGER_PROPOSED` where it has another status than Proposed, and with `OUT_OF_MEMORY`.
     pub fn request(&self, alloc: Global, id: TransactionId) -> Result<Decision, Refusal>
         ensures { (content : Option Terms)
-            → IsDueOrNoMemory result
+            → IsExpectedOrNoMemory result
             (unless (cancellation_refusals self.now id)
             (decided (initiator_row (known_transfer (map.get self.now.transfers id))
             (column_of_request (map.get self.now.transfers id)))
@@ -178,7 +178,7 @@ impl Initiator {
         told: Status,
     ) -> Result<Decision, Refusal>
         ensures { (content : Option Terms)
-            → IsDueOrNoMemory result
+            → IsExpectedOrNoMemory result
             (decided (initiator_row (known_transfer (map.get self.now.transfers id)) (column.Notified told))
             (initiator_sends self.now.code id content (column.Notified told))) }
     {

@@ -13,12 +13,12 @@ use Rattle.protocol.specs.Verdict.{verdict, history}
 use Rattle.outbox.specs.Sending as sending
 use Rattle.outbox.proofs.OutgoingRecords.{acknowledged_outgoing, messages_outgoing}
 use Rattle.log_core.specs.Kept.{IsKept}
-use Rattle.log_core.specs.Taking.{verdict_due}
+use Rattle.log_core.specs.Taking.{verdict_by_rules}
 use Rattle.log_core.specs.declared.tables.Tables.{Tables}
 
-due_ack : (scheme : Scheme) (tables : Tables) (n : Number) → verdict_due scheme tables (Ack n) ≡ acknowledge scheme (history scheme Itl tables.journal.items) n.value
+verdict_ack : (scheme : Scheme) (tables : Tables) (n : Number) → verdict_by_rules scheme tables (Ack n) ≡ acknowledge scheme (history scheme Itl tables.journal.items) n.value
 unfolding verdict
-due_ack scheme tables n = refl
+verdict_ack scheme tables n = refl
 
 module _ (scheme : Scheme) (tables : Tables) (kept : IsKept scheme tables) where
   sends_so : length (sending.messages tables.outbox) ≡ length (past.sends (history scheme Itl tables.journal.items))
@@ -28,14 +28,14 @@ module _ (scheme : Scheme) (tables : Tables) (kept : IsKept scheme tables) where
   acknowledged_so key = ap (λ o. sending.is_key_acknowledged o key) kept.kept.sent ∙ acknowledged_outgoing (history scheme Itl tables.journal.items) key
 
   rest : (n : Number) (b d : Bool) → nat_le (length (past.sends (history scheme Itl tables.journal.items))) n.value ≡ b → past.is_acknowledged (history scheme Itl tables.journal.items) n.value ≡ d
-      → verdict_due scheme tables (Ack n) ≡ cond b (IsRefused no_row) (cond d IsRepeat (recorded_if_room scheme (history scheme Itl tables.journal.items) []))
-  rest n b d e f = due_ack scheme tables n ∙ (λ i. cond (e i) (IsRefused no_row) (cond (f i) IsRepeat (recorded_if_room scheme (history scheme Itl tables.journal.items) [])))
+      → verdict_by_rules scheme tables (Ack n) ≡ cond b (IsRefused no_row) (cond d IsRepeat (recorded_if_room scheme (history scheme Itl tables.journal.items) []))
+  rest n b d e f = verdict_ack scheme tables n ∙ (λ i. cond (e i) (IsRefused no_row) (cond (f i) IsRepeat (recorded_if_room scheme (history scheme Itl tables.journal.items) [])))
 
-  pub ack_unknown : (n : Number) → length (sending.messages tables.outbox) ≤ n.value → verdict_due scheme tables (Ack n) ≡ IsRefused no_row
+  pub ack_unknown : (n : Number) → length (sending.messages tables.outbox) ≤ n.value → verdict_by_rules scheme tables (Ack n) ≡ IsRefused no_row
   ack_unknown n h = rest n true _ (sym (ap (λ k. nat_le k n.value) sends_so) ∙ le-leb (length (sending.messages tables.outbox)) n.value h) refl
 
-  pub ack_again : (n : Number) → n.value < length (sending.messages tables.outbox) → sending.is_key_acknowledged tables.outbox n.value ≡ true → verdict_due scheme tables (Ack n) ≡ IsRepeat
+  pub ack_again : (n : Number) → n.value < length (sending.messages tables.outbox) → sending.is_key_acknowledged tables.outbox n.value ≡ true → verdict_by_rules scheme tables (Ack n) ≡ IsRepeat
   ack_again n h e = rest n false true (sym (ap (λ k. nat_le k n.value) sends_so) ∙ lt-leb (length (sending.messages tables.outbox)) n.value h) (sym (acknowledged_so n.value) ∙ e)
 
-  pub ack_enters : (n : Number) → n.value < length (sending.messages tables.outbox) → sending.is_key_acknowledged tables.outbox n.value ≡ false → verdict_due scheme tables (Ack n) ≡ recorded_if_room scheme (history scheme Itl tables.journal.items) []
+  pub ack_enters : (n : Number) → n.value < length (sending.messages tables.outbox) → sending.is_key_acknowledged tables.outbox n.value ≡ false → verdict_by_rules scheme tables (Ack n) ≡ recorded_if_room scheme (history scheme Itl tables.journal.items) []
   ack_enters n h e = rest n false false (sym (ap (λ k. nat_le k n.value) sends_so) ∙ lt-leb (length (sending.messages tables.outbox)) n.value h) (sym (acknowledged_so n.value) ∙ e)

@@ -10,7 +10,7 @@ use Rattle.protocol.specs.History.{Transition}
 use Rattle.safety.proofs.ListLemmas.TestsOfSameness.{status_of_same}
 use Rattle.log_core.specs.Effects.{Carried, IsEffect, owner_after, transfer_state_after, transfer_state_in, under_way_after, waits_after}
 use Rattle.log_core.specs.Kept.{IsKept, waiting_cmp}
-use Rattle.log_core.specs.Taking.{verdict_due}
+use Rattle.log_core.specs.Taking.{verdict_by_rules}
 use Rattle.log_core.specs.Transfers.{AreApart, transfer_state_of}
 use Rattle.log_core.specs.declared.effect.Effect.{Effect}
 use Rattle.log_core.specs.declared.effect.Effect.TheVariants.{Begin, Settle, Cancel}
@@ -18,7 +18,7 @@ use Rattle.log_core.specs.declared.tables.Tables.{Tables}
 use Rattle.log_core.proofs.KnownApart.{begin_apart, settle_apart}
 use Rattle.log_core.proofs.KnownEffects.{settled_unchecked}
 
-pub effect_apart : (scheme : Scheme) (tables : Tables) (input : Input) (xs : List Transition) (effect : Effect) (moment : ℕ) → IsKept scheme tables → verdict_due scheme tables input ≡ IsRecorded xs → IsEffect xs moment effect
+pub effect_apart : (scheme : Scheme) (tables : Tables) (input : Input) (xs : List Transition) (effect : Effect) (moment : ℕ) → IsKept scheme tables → verdict_by_rules scheme tables input ≡ IsRecorded xs → IsEffect xs moment effect
     → AreApart (transfer_state_in tables) effect
 effect_apart scheme tables input xs (Begin id new content) moment kept enters h =
     λ stands k blocks is units. begin_apart scheme tables input xs moment enters id new k blocks (subst (λ c. IsEffect xs moment (Begin id new c)) is h) (status_of_same new Checked stands) units

@@ -43,7 +43,7 @@ use Rattle.log_core.specs.contracts.waiting.WaitingOrd.TheImpl.Laws.{total-law a
 use Rattle.log_core.specs.declared.tables.Tables.{Tables}
 use Rattle.log_core.specs.declared.waiting.Waiting.{Waiting}
 use Rattle.log_core.proofs.CleanedInOrder.{ids_turned}
-use Rattle.log_core.proofs.CleanedUp.{IsDue, checked_newest, due_so}
+use Rattle.log_core.proofs.CleanedUp.{HasExpired, checked_newest, expired_so}
 use Rattle.log_core.proofs.KnownEffects.{all_in}
 
 -- it has stood so for a day at that moment
@@ -189,10 +189,10 @@ module _ (scheme : Scheme) (tables : Tables) (kept : IsKept scheme tables) where
     in_front : (w : Waiting) → In w front → In w tables.checked.keys
     in_front w i = subst (In w) (sym parts) (In_left w front rest i)
 
-    front_due : (t : TransactionId) → In t (map (λ (w : Waiting). w.id) front) → IsDue xs moment t
-    front_due t i =
+    front_expired : (t : TransactionId) → In t (map (λ (w : Waiting). w.id) front) → HasExpired xs moment t
+    front_expired t i =
         let w = In_map (λ (z : Waiting). z.id) t front i in
-        subst (IsDue xs moment) w.2 (w.0.since.seconds, since_so w.0 (in_front w.0 w.1), all_in (IsAged moment) front w.0 aged w.1)
+        subst (HasExpired xs moment) w.2 (w.0.since.seconds, since_so w.0 (in_front w.0 w.1), all_in (IsAged moment) front w.0 aged w.1)
 
     -- what stands after the front has not stood so for a day
     behind : (ws : List Waiting) → rest ≡ ws → IsStrictlySortedBy waiting_cmp ws → (w : Waiting) → In w ws → IsAged moment w → ⊥
@@ -200,8 +200,8 @@ module _ (scheme : Scheme) (tables : Tables) (kept : IsKept scheme tables) where
     behind (v ∷ vs) e sorted w (inl same) old = young v vs e (subst (IsAged moment) (sym same) old)
     behind (v ∷ vs) e sorted w (inr i) old = let before = earlier v w (first_below waiting_cmp v vs w sorted i) in young v vs e (omega arith)
 
-    due_front : (t : TransactionId) → IsDue xs moment t → In t (map (λ (w : Waiting). w.id) front)
-    due_front t h =
+    expired_front : (t : TransactionId) → HasExpired xs moment t → In t (map (λ (w : Waiting). w.id) front)
+    expired_front t h =
         let x = checked_newest xs h.0 t h.1 in
         let m = of_moments scheme (history scheme Itl tables.journal.items) made_so x.0 (newest_id xs t x.0 x.1).0 in
         let seconds : m.0.seconds ≡ h.0 = m.1 ∙ x.3 in
@@ -214,12 +214,12 @@ module _ (scheme : Scheme) (tables : Tables) (kept : IsKept scheme tables) where
         ]
 
     -- sorted, the identifiers of the front are those of the transitions
-    pub due_ids : (ids : List TransactionId) → IsPermutation (map (λ w. w.id) front) ids → IsSorted id_cmp ids → map (λ x. x.id) (log.due (transitions_of (history scheme Itl tables.journal.items)) moment) ≡ ids
-    due_ids ids moves sorted =
+    pub expired_ids : (ids : List TransactionId) → IsPermutation (map (λ w. w.id) front) ids → IsSorted id_cmp ids → map (λ x. x.id) (log.expired (transitions_of (history scheme Itl tables.journal.items)) moment) ≡ ids
+    expired_ids ids moves sorted =
         let held = map (λ (w : Waiting). w.id) front in
         let distinct = IsDistinct-IsPermutation same_id flips held ids moves (distinct_ids front (sorted_left waiting_cmp front rest (subst (IsStrictlySortedBy waiting_cmp) parts ordered)) in_front) in
-        due_so scheme (history scheme Itl tables.journal.items) made_so moment ids (ids_ascending ids sorted distinct)
+        expired_so scheme (history scheme Itl tables.journal.items) made_so moment ids (ids_ascending ids sorted distinct)
         (λ t. (
-          (λ has. front_due t (In_contains held t (Contains-permutation ids held t (IsPermutation-sym held ids moves) has))),
-          (λ h. Contains-permutation held ids t moves (contains_in held t (due_front t h))),
+          (λ has. front_expired t (In_contains held t (Contains-permutation ids held t (IsPermutation-sym held ids moves) has))),
+          (λ h. Contains-permutation held ids t moves (contains_in held t (expired_front t h))),
         ))

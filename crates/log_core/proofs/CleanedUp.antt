@@ -24,7 +24,7 @@ use Rattle.status.specs.declared.status.Status.TheVariants.{Cancelled, Checked}
 use Rattle.wire.specs.declared.message.Message.{Message}
 use Rattle.scheme.proofs.Climbs.{one_order}
 use Rattle.scheme.specs.declared.registries.Scheme.{Scheme}
-use Rattle.protocol.specs.AtLog.{by_id, cleaned, due, is_old, newest_of_each}
+use Rattle.protocol.specs.AtLog.{by_id, cleaned, expired, is_old, newest_of_each}
 use Rattle.protocol.specs.Deciding.{content_in, known, moved, moved_by}
 use Rattle.protocol.specs.Effects.{log_sends}
 use Rattle.protocol.specs.History.{Entry, Transition, messages_of, newest, transitions_of}
@@ -40,8 +40,8 @@ use Rattle.log_core.specs.Readings.{is_checked_since}
 use Rattle.log_core.proofs.CleanedInOrder.{Ascend, all_from_in, ascend_by_id, ascend_ids, by_id_In, differ_filter, differ_newest, each_newest, ids_irreflexive, In_by_id, newest_each}
 
 -- the transactions that have stood Checked for a day at that moment
-abbrev pub IsDue : List Transition → ℕ → TransactionId → Type 0
-IsDue xs moment t = (since : ℕ) × (is_checked_since xs since t ≡ true) × (since + clean_up_age ≤ moment)
+abbrev pub HasExpired : List Transition → ℕ → TransactionId → Type 0
+HasExpired xs moment t = (since : ℕ) × (is_checked_since xs since t ≡ true) × (since + clean_up_age ≤ moment)
 
 -- ---- what becomes of one
 
@@ -101,7 +101,7 @@ cleaned_checked moment b stood has = go b.content refl has
         let row : log_row (known (Some b)) column.CleanUp ≡ Move Cancelled = ap (λ o. log_row o column.CleanUp) (known_status b k e ∙ ap (λ s. Stands s) stood) in
         (cleaned_to moment b Cancelled, subst (λ r. In (cleaned_to moment b Cancelled) (moved_by (cleaned_to moment b) r)) (sym row) (inl refl))
 
--- ---- which are due
+-- ---- which have expired
 
 pub checked_newest : (xs : List Transition) (since : ℕ) (t : TransactionId) → is_checked_since xs since t ≡ true → (x : Transition) × (newest xs t ≡ Some x) × (x.new ≡ Checked) × (x.moment ≡ since)
 checked_newest xs since t h = go (newest xs t) refl h
@@ -123,21 +123,21 @@ module _ (scheme : Scheme) (es : List Entry) (made : Made scheme Itl es) (moment
   abbrev old : List Transition
   old = filter (is_old moment) (newest_of_each xs)
 
-  -- a transition that is due, and what it is of
-  due_of : (y : Transition) → In y (due xs moment) → (b : Transition) × (newest xs b.id ≡ Some b) × (b.moment + clean_up_age ≤ moment) × In y (cleaned moment b)
-  due_of y i =
+  -- a transition of what has expired, and what it is of
+  expired_of : (y : Transition) → In y (expired xs moment) → (b : Transition) × (newest xs b.id ≡ Some b) × (b.moment + clean_up_age ≤ moment) × In y (cleaned moment b)
+  expired_of y i =
       let c = In_flat_map (cleaned moment) y (by_id old) i in
       let j = In_filter (is_old moment) (newest_of_each xs) c.0 (In_by_id c.0 old c.1) in
       (c.0, each_newest c.0 xs j.0, leb-true (c.0.moment + clean_up_age) moment j.1, c.2)
 
-  pub due_is : (y : Transition) → In y (due xs moment) → IsDue xs moment y.id
-  due_is y i =
-      let b = due_of y i in
+  pub has_expired : (y : Transition) → In y (expired xs moment) → HasExpired xs moment y.id
+  has_expired y i =
+      let b = expired_of y i in
       let made_of = cleaned_made scheme es moment b.0 y b.3 in
       (b.0.moment, subst (λ t. is_checked_since xs b.0.moment t ≡ true) (sym (cleaned_about moment b.0 y b.3).0) (newest_checked xs b.0 b.0.id b.1 made_of.2), b.2)
 
-  is_due : (t : TransactionId) → IsDue xs moment t → In t (map (λ (x : Transition). x.id) (due xs moment))
-  is_due t h =
+  in_expired : (t : TransactionId) → HasExpired xs moment t → In t (map (λ (x : Transition). x.id) (expired xs moment))
+  in_expired t h =
       let x = checked_newest xs h.0 t h.1 in
       let about = (newest_id xs t x.0 x.1).1 in
       let here : newest xs x.0.id ≡ Some x.0 = ap (newest xs) about ∙ x.1 in
@@ -145,28 +145,28 @@ module _ (scheme : Scheme) (es : List Entry) (made : Made scheme Itl es) (moment
       let there = by_id_In x.0 old (filter_In (is_old moment) x.0 (newest_of_each xs) (newest_each x.0 xs here) (le-leb (x.0.moment + clean_up_age) moment aged)) in
       let p = proposer scheme es made t x.0 x.1 (λ e. let clashing : Checked ≡ Cancelled = sym x.2 ∙ e in cc (clashing)) in
       let y = cleaned_checked moment x.0 x.2 (ap is_some p.is) in
-      subst (λ u. In u (map (λ (z : Transition). z.id) (due xs moment))) ((cleaned_about moment x.0 y.0 y.1).0 ∙ about)
-      (map_In (λ (z : Transition). z.id) y.0 (due xs moment) (flat_map_In (cleaned moment) y.0 x.0 (by_id old) there y.1))
+      subst (λ u. In u (map (λ (z : Transition). z.id) (expired xs moment))) ((cleaned_about moment x.0 y.0 y.1).0 ∙ about)
+      (map_In (λ (z : Transition). z.id) y.0 (expired xs moment) (flat_map_In (cleaned moment) y.0 x.0 (by_id old) there y.1))
 
-  ascend_due : Pairwise (λ a b. id_cmp a b ≡ Less) (map (λ (x : Transition). x.id) (due xs moment))
-  ascend_due = ascend_ids (due xs moment) (ascend_cleaned moment (by_id old) (ascend_by_id old (differ_filter (is_old moment) (newest_of_each xs) (differ_newest xs))))
+  ascend_expired : Pairwise (λ a b. id_cmp a b ≡ Less) (map (λ (x : Transition). x.id) (expired xs moment))
+  ascend_expired = ascend_ids (expired xs moment) (ascend_cleaned moment (by_id old) (ascend_by_id old (differ_filter (is_old moment) (newest_of_each xs) (differ_newest xs))))
 
   -- the transactions that a clean-up cancels
-  pub due_so : (ids : List TransactionId) → Pairwise (λ a b. id_cmp a b ≡ Less) ids → ((t : TransactionId) → Contains ids t ↔ ((since : ℕ) × (is_checked_since (transitions_of es) since t ≡ true) × (since + clean_up_age ≤ moment)))
-      → map (λ x. x.id) (due (transitions_of es) moment) ≡ ids
-  due_so ids ascending are =
-      one_order (λ a b. id_cmp a b ≡ Less) ids_total.trans ids_irreflexive (map (λ (x : Transition). x.id) (due xs moment)) ids ascend_due ascending
+  pub expired_so : (ids : List TransactionId) → Pairwise (λ a b. id_cmp a b ≡ Less) ids → ((t : TransactionId) → Contains ids t ↔ ((since : ℕ) × (is_checked_since (transitions_of es) since t ≡ true) × (since + clean_up_age ≤ moment)))
+      → map (λ x. x.id) (expired (transitions_of es) moment) ≡ ids
+  expired_so ids ascending are =
+      one_order (λ a b. id_cmp a b ≡ Less) ids_total.trans ids_irreflexive (map (λ (x : Transition). x.id) (expired xs moment)) ids ascend_expired ascending
       (λ t has.
-      let y = In_map (λ (x : Transition). x.id) t (due xs moment) (In_contains (map (λ (x : Transition). x.id) (due xs moment)) t has) in
-      (are t).1 (subst (IsDue xs moment) y.2 (due_is y.0 y.1)))
-      (λ t has. contains_in (map (λ (x : Transition). x.id) (due xs moment)) t (is_due t ((are t).0 has)))
+      let y = In_map (λ (x : Transition). x.id) t (expired xs moment) (In_contains (map (λ (x : Transition). x.id) (expired xs moment)) t has) in
+      (are t).1 (subst (HasExpired xs moment) y.2 (has_expired y.0 y.1)))
+      (λ t has. contains_in (map (λ (x : Transition). x.id) (expired xs moment)) t (in_expired t ((are t).0 has)))
 
   -- each of its transitions is a cancellation at its moment
-  pub due_cancelled : AllByRecursion (IsCancelledAt moment) (due (transitions_of es) moment)
-  due_cancelled =
-      all_from_in (IsCancelledAt moment) (due xs moment)
+  pub expired_cancelled : AllByRecursion (IsCancelledAt moment) (expired (transitions_of es) moment)
+  expired_cancelled =
+      all_from_in (IsCancelledAt moment) (expired xs moment)
       (λ y i.
-      let b = due_of y i in
+      let b = expired_of y i in
       (sym (ap (λ (z : Transition). z.new) (cleaned_made scheme es moment b.0 y b.3).3), (cleaned_about moment b.0 y b.3).1))
 
   -- ---- what it sends
@@ -175,9 +175,9 @@ module _ (scheme : Scheme) (es : List Entry) (made : Made scheme Itl es) (moment
   abbrev cancellations : TransactionId → List Message
   cancellations t = log_sends t (content_in (newest xs t)) [] column.CleanUp
 
-  sent_of : (y : Transition) → In y (due xs moment) → y.messages ≡ cancellations y.id
+  sent_of : (y : Transition) → In y (expired xs moment) → y.messages ≡ cancellations y.id
   sent_of y i =
-      let b = due_of y i in
+      let b = expired_of y i in
       let about = cleaned_about moment b.0 y b.3 in
       about.2 ∙ ap (λ o. log_sends b.0.id (content_in o) [] column.CleanUp) (sym b.1) ∙ ap cancellations (sym about.0)
 
@@ -188,6 +188,6 @@ module _ (scheme : Scheme) (es : List Entry) (made : Made scheme Itl es) (moment
       let rest = sent_each ys (λ z i. h z (inr i)) in
       λ i. first i ++ rest i
 
-  pub due_messages : (ids : List TransactionId) → map (λ x. x.id) (due (transitions_of es) moment) ≡ ids
-      → messages_of (due (transitions_of es) moment) ≡ flat_map (λ t. log_sends t (content_in (newest (transitions_of es) t)) [] column.CleanUp) ids
-  due_messages ids are = sent_each (due xs moment) sent_of ∙ ap (flat_map cancellations) are
+  pub expired_messages : (ids : List TransactionId) → map (λ x. x.id) (expired (transitions_of es) moment) ≡ ids
+      → messages_of (expired (transitions_of es) moment) ≡ flat_map (λ t. log_sends t (content_in (newest (transitions_of es) t)) [] column.CleanUp) ids
+  expired_messages ids are = sent_each (expired xs moment) sent_of ∙ ap (flat_map cancellations) are

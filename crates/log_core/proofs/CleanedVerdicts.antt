@@ -16,17 +16,17 @@ use Rattle.safety.proofs.MovesAndHistories.NewestTransitions.{Made}
 use Rattle.log_core.specs.Effects.{IsEffect, transfer_state_in}
 use Rattle.log_core.specs.Kept.{IsKept}
 use Rattle.log_core.specs.Readings.{of_transition}
-use Rattle.log_core.specs.Taking.{verdict_due}
+use Rattle.log_core.specs.Taking.{verdict_by_rules}
 use Rattle.log_core.specs.Transfers.{IsOfKnown}
 use Rattle.log_core.specs.declared.effect.Effect.TheVariants.{Cancel}
 use Rattle.log_core.specs.declared.tables.Tables.{Tables}
 use Rattle.log_core.proofs.CleanedInOrder.{all_from_in}
-use Rattle.log_core.proofs.CleanedUp.{checked_newest, due_cancelled, due_is}
+use Rattle.log_core.proofs.CleanedUp.{checked_newest, expired_cancelled, has_expired}
 
 abbrev ids_in : List Transition → List TransactionId
 ids_in xs = map (λ (x : Transition). x.id) xs
 
--- where nothing is due it is a repeat, and else it is recorded
+-- where nothing has expired it is a repeat, and else it is recorded
 none_cleaned : (scheme : Scheme) (es : List Entry) (xs : List Transition) → ids_in xs ≡ [] → log.clean_up scheme es xs ≡ IsRepeat
 none_cleaned scheme es [] e = refl
 none_cleaned scheme es (x ∷ xs) e = absurd (cc (e))
@@ -39,32 +39,32 @@ module _ (scheme : Scheme) (tables : Tables) where
   abbrev past : List Entry
   past = history scheme Itl tables.journal.items
 
-  due_clean : (moment : Moment) → verdict_due scheme tables (CleanUp moment) ≡ log.clean_up scheme past (log.due (transitions_of past) moment.seconds)
+  verdict_clean : (moment : Moment) → verdict_by_rules scheme tables (CleanUp moment) ≡ log.clean_up scheme past (log.expired (transitions_of past) moment.seconds)
   unfolding verdict
-  due_clean moment = refl
+  verdict_clean moment = refl
 
-  pub clean_up_repeats : (moment : Moment) → map (λ x. x.id) (log.due (transitions_of (history scheme Itl tables.journal.items)) moment.seconds) ≡ [] → verdict_due scheme tables (CleanUp moment) ≡ IsRepeat
-  clean_up_repeats moment none = due_clean moment ∙ none_cleaned scheme past (log.due (transitions_of past) moment.seconds) none
+  pub clean_up_repeats : (moment : Moment) → map (λ x. x.id) (log.expired (transitions_of (history scheme Itl tables.journal.items)) moment.seconds) ≡ [] → verdict_by_rules scheme tables (CleanUp moment) ≡ IsRepeat
+  clean_up_repeats moment none = verdict_clean moment ∙ none_cleaned scheme past (log.expired (transitions_of past) moment.seconds) none
 
-  pub clean_up_enters : (moment : Moment) (t : TransactionId) (ts : List TransactionId) → map (λ x. x.id) (log.due (transitions_of (history scheme Itl tables.journal.items)) moment.seconds) ≡ t ∷ ts
-      → verdict_due scheme tables (CleanUp moment) ≡ recorded_if_room scheme (history scheme Itl tables.journal.items) (log.due (transitions_of (history scheme Itl tables.journal.items)) moment.seconds)
-  clean_up_enters moment t ts some = due_clean moment ∙ some_cleaned scheme past (log.due (transitions_of past) moment.seconds) t ts some
+  pub clean_up_enters : (moment : Moment) (t : TransactionId) (ts : List TransactionId) → map (λ x. x.id) (log.expired (transitions_of (history scheme Itl tables.journal.items)) moment.seconds) ≡ t ∷ ts
+      → verdict_by_rules scheme tables (CleanUp moment) ≡ recorded_if_room scheme (history scheme Itl tables.journal.items) (log.expired (transitions_of (history scheme Itl tables.journal.items)) moment.seconds)
+  clean_up_enters moment t ts some = verdict_clean moment ∙ some_cleaned scheme past (log.expired (transitions_of past) moment.seconds) t ts some
 
-  module _ (moment : ℕ) (ids : Vec TransactionId Global) (are : map (λ x. x.id) (log.due (transitions_of (history scheme Itl tables.journal.items)) moment) ≡ ids.items) where
+  module _ (moment : ℕ) (ids : Vec TransactionId Global) (are : map (λ x. x.id) (log.expired (transitions_of (history scheme Itl tables.journal.items)) moment) ≡ ids.items) where
     made_so : Made scheme Itl past
     made_so = made_history scheme Itl tables.journal.items
 
     -- its transitions are what the cancellation of these asks for
-    pub clean_up_effect : IsEffect (log.due (transitions_of (history scheme Itl tables.journal.items)) moment) moment (Cancel ids)
-    clean_up_effect = (are, due_cancelled scheme past made_so moment)
+    pub clean_up_effect : IsEffect (log.expired (transitions_of (history scheme Itl tables.journal.items)) moment) moment (Cancel ids)
+    clean_up_effect = (are, expired_cancelled scheme past made_so moment)
 
     -- each of these was known
     pub clean_up_known : IsKept scheme tables → IsOfKnown (transfer_state_in tables) (Cancel ids)
     clean_up_known kept =
         all_from_in (λ t. is_some (transfer_state_in tables t) ≡ true) ids.items
         (λ t i.
-        let y = In_map (λ (x : Transition). x.id) t (log.due (transitions_of past) moment) (subst (In t) (sym are) i) in
-        let since = due_is scheme past made_so moment y.0 y.1 in
+        let y = In_map (λ (x : Transition). x.id) t (log.expired (transitions_of past) moment) (subst (In t) (sym are) i) in
+        let since = has_expired scheme past made_so moment y.0 y.1 in
         let x = checked_newest (transitions_of past) since.0 y.0.id since.1 in
         let stands : is_some (transfer_state_in tables y.0.id) ≡ true = ap is_some (kept.kept.transfers y.0.id ∙ ap (option_map of_transition) x.1) in
         subst (λ u. is_some (transfer_state_in tables u) ≡ true) y.2 stands)

@@ -24,7 +24,7 @@ use Rattle.wire.specs.declared.message.Request.{Request}
 use Rattle.scheme.specs.declared.registries.Scheme.{Scheme}
 use Rattle.protocol.specs.AtLog.{ledger, log_answer, log_refusals}
 use Rattle.protocol.specs.Checks.{log_findings}
-use Rattle.protocol.specs.Cores.{IsDueOrNoMemory}
+use Rattle.protocol.specs.Cores.{IsExpectedOrNoMemory}
 use Rattle.protocol.specs.Deciding as decide
 use Rattle.protocol.specs.Deciding.{IsLate, IsRefused, IsRepeat, by_row, content_in, recorded_if_room, column_of_proposal}
 use Rattle.protocol.specs.Decisions.{decided}
@@ -37,17 +37,17 @@ use Rattle.checks.specs.Refusing.{first_of}
 use Rattle.log_core.specs.Effects.{transfer_state_content, transfer_state_in}
 use Rattle.log_core.specs.Kept.{IsKept}
 use Rattle.log_core.specs.Readings.{of_transition}
-use Rattle.log_core.specs.Taking.{verdict_due}
+use Rattle.log_core.specs.Taking.{verdict_by_rules}
 use Rattle.log_core.specs.Transfers.{known_transfer_state}
 use Rattle.log_core.specs.declared.tables.Tables.{Tables}
 use Rattle.log_core.proofs.FirstCauses.{refuse_first, refuse_none}
-use Rattle.log_core.proofs.TakenInputs.{GivenUp, due_so}
+use Rattle.log_core.proofs.TakenInputs.{GivenUp, verdict_so}
 
 -- ---- a decision by a row
 
-settled : {X : Type 0} (d due : Result X Refusal) (x : X) → IsDueOrNoMemory d due → d ≡ Ok x → due ≡ Ok x
-settled d due x (inl e) h = sym e ∙ h
-settled d due x (inr e) h = let clashing = sym e ∙ h in absurd (cc (clashing))
+settled : {X : Type 0} (d expected : Result X Refusal) (x : X) → IsExpectedOrNoMemory d expected → d ≡ Ok x → expected ≡ Ok x
+settled d expected x (inl e) h = sym e ∙ h
+settled d expected x (inr e) h = let clashing = sym e ∙ h in absurd (cc (clashing))
 
 module _ (scheme : Scheme) (tables : Tables) (input : Input) (to : Status → Transition) (row : Row) (d : Result Decision Refusal) where
   abbrev past : List Entry
@@ -57,18 +57,18 @@ module _ (scheme : Scheme) (tables : Tables) (input : Input) (to : Status → Tr
   pub record Decides : Type 0 where
     pub messages : List Message
     pub sends : (new : Status) → (to new).messages ≡ messages
-    pub is : IsDueOrNoMemory d (decided row messages)
-    pub due_is : verdict_due scheme tables input ≡ by_row scheme past to row
+    pub is : IsExpectedOrNoMemory d (decided row messages)
+    pub verdict_is : verdict_by_rules scheme tables input ≡ by_row scheme past to row
 
   module _ (h : Decides) where
     by_decision : (x : Decision) → d ≡ Ok x → decided row h.messages ≡ Ok x
     by_decision x e = settled d (decided row h.messages) x h.is e
 
     -- a decision that moves: the row does, and its transition is to be recorded
-    pub moves : (new : Status) (ms : List Message) → d ≡ Ok (decision.Moves new ms) → (row ≡ rows.Move new) × (verdict_due scheme tables input ≡ recorded_if_room scheme past (to new ∷ [])) × (ms ≡ messages_of (to new ∷ []))
+    pub moves : (new : Status) (ms : List Message) → d ≡ Ok (decision.Moves new ms) → (row ≡ rows.Move new) × (verdict_by_rules scheme tables input ≡ recorded_if_room scheme past (to new ∷ [])) × (ms ≡ messages_of (to new ∷ []))
     moves new ms e =
         let g = go row (by_decision (decision.Moves new ms) e) in
-        (g.0, h.due_is ∙ ap (by_row scheme past to) g.0, g.1 ∙ sym (h.sends new) ∙ sym (append-nil (to new).messages))
+        (g.0, h.verdict_is ∙ ap (by_row scheme past to) g.0, g.1 ∙ sym (h.sends new) ∙ sym (append-nil (to new).messages))
       where
         go : (r : Row) → decided r h.messages ≡ Ok (decision.Moves new ms) → (r ≡ rows.Move new) × (ms ≡ h.messages)
         go (rows.Move old) i = (cc (i), cc (i))
@@ -76,8 +76,8 @@ module _ (scheme : Scheme) (tables : Tables) (input : Input) (to : Status → Tr
         go rows.Late i = absurd (cc (i))
         go rows.Refused i = absurd (cc (i))
 
-    pub repeats : d ≡ Ok decision.Repeat → verdict_due scheme tables input ≡ IsRepeat
-    repeats e = h.due_is ∙ ap (by_row scheme past to) (go row (by_decision decision.Repeat e))
+    pub repeats : d ≡ Ok decision.Repeat → verdict_by_rules scheme tables input ≡ IsRepeat
+    repeats e = h.verdict_is ∙ ap (by_row scheme past to) (go row (by_decision decision.Repeat e))
       where
         go : (r : Row) → decided r h.messages ≡ Ok decision.Repeat → r ≡ rows.Repeat
         go (rows.Move new) i = absurd (cc (i))
@@ -85,8 +85,8 @@ module _ (scheme : Scheme) (tables : Tables) (input : Input) (to : Status → Tr
         go rows.Late i = absurd (cc (i))
         go rows.Refused i = absurd (cc (i))
 
-    pub comes_late : d ≡ Ok decision.Late → verdict_due scheme tables input ≡ IsLate
-    comes_late e = h.due_is ∙ ap (by_row scheme past to) (go row (by_decision decision.Late e))
+    pub comes_late : d ≡ Ok decision.Late → verdict_by_rules scheme tables input ≡ IsLate
+    comes_late e = h.verdict_is ∙ ap (by_row scheme past to) (go row (by_decision decision.Late e))
       where
         go : (r : Row) → decided r h.messages ≡ Ok decision.Late → r ≡ rows.Late
         go (rows.Move new) i = absurd (cc (i))
@@ -98,7 +98,7 @@ module _ (scheme : Scheme) (tables : Tables) (input : Input) (to : Status → Tr
     given_up r e =
         elim h.is [
           | inr memory ↦ let same = sym e ∙ memory in inl (cc (same))
-          | inl is ↦ let f = go row (sym is ∙ e) in inr (h.due_is ∙ ap (by_row scheme past to) f.0 ∙ ap (λ (n : ℕ). IsRefused n) f.1)
+          | inl is ↦ let f = go row (sym is ∙ e) in inr (h.verdict_is ∙ ap (by_row scheme past to) f.0 ∙ ap (λ (n : ℕ). IsRefused n) f.1)
         ]
       where
         go : (q : Row) → decided q h.messages ≡ Err r → (q ≡ rows.Refused) × (no_row ≡ r.code)
@@ -135,15 +135,15 @@ module _ (scheme : Scheme) (tables : Tables) (kept : IsKept scheme tables) where
   abbrev pub IsWelcome : Message → Type 0
   IsWelcome m = first_of (log_refusals scheme (history scheme Itl tables.journal.items) m) ≡ None
 
-  answered : (m : Message) (moment : Moment) → IsWelcome m → verdict_due scheme tables (Received m moment) ≡ log_answer scheme (history scheme Itl tables.journal.items) moment.seconds m
+  answered : (m : Message) (moment : Moment) → IsWelcome m → verdict_by_rules scheme tables (Received m moment) ≡ log_answer scheme (history scheme Itl tables.journal.items) moment.seconds m
   answered m moment welcome =
       let es = history scheme Itl tables.journal.items in
-      due_so scheme tables (Received m moment) ∙ refuse_none (log_refusals scheme es m) (log_answer scheme es moment.seconds m) welcome
+      verdict_so scheme tables (Received m moment) ∙ refuse_none (log_refusals scheme es m) (log_answer scheme es moment.seconds m) welcome
 
-  pub refused : (m : Message) (moment : Moment) (code : ℕ) → first_of (log_refusals scheme (history scheme Itl tables.journal.items) m) ≡ Some code → verdict_due scheme tables (Received m moment) ≡ IsRefused code
+  pub refused : (m : Message) (moment : Moment) (code : ℕ) → first_of (log_refusals scheme (history scheme Itl tables.journal.items) m) ≡ Some code → verdict_by_rules scheme tables (Received m moment) ≡ IsRefused code
   refused m moment code first =
       let es = history scheme Itl tables.journal.items in
-      due_so scheme tables (Received m moment) ∙ refuse_first (log_refusals scheme es m) (log_answer scheme es moment.seconds m) code first
+      verdict_so scheme tables (Received m moment) ∙ refuse_first (log_refusals scheme es m) (log_answer scheme es moment.seconds m) code first
 
   -- its transition to a status, and the row
   abbrev pub comes_to : TransactionId → Option Content → List ℕ → Moment → RowInput → Status → Transition
@@ -159,41 +159,41 @@ module _ (scheme : Scheme) (tables : Tables) (kept : IsKept scheme tables) where
   proposal_column p = column_of_proposal (content_in (last p.id)) (findings p)
 
   pub proposal_decided : (p : Proposal) (moment : Moment) (d : Result Decision Refusal) → IsWelcome (message.Proposal p)
-      → IsDueOrNoMemory d (decided (log_row (known_transfer_state (transfer_state_in tables p.id)) (column_of_proposal (transfer_state_content (transfer_state_in tables p.id)) (findings p))) (log_sends p.id (Some p.content) (findings p) (column_of_proposal (transfer_state_content (transfer_state_in tables p.id)) (findings p))))
+      → IsExpectedOrNoMemory d (decided (log_row (known_transfer_state (transfer_state_in tables p.id)) (column_of_proposal (transfer_state_content (transfer_state_in tables p.id)) (findings p))) (log_sends p.id (Some p.content) (findings p) (column_of_proposal (transfer_state_content (transfer_state_in tables p.id)) (findings p))))
       → Decides scheme tables (Received (message.Proposal p) moment) (comes_to p.id (Some p.content) (findings p) moment (proposal_column p)) (row_at p.id (proposal_column p)) d
   proposal_decided p moment d welcome is =
       record {
         messages = log_sends p.id (Some p.content) (findings p) (proposal_column p);
         sends = λ new. refl;
-        is = subst (λ k. IsDueOrNoMemory d (decided (log_row (decide.known (last p.id)) (column_of_proposal k (findings p))) (log_sends p.id (Some p.content) (findings p) (column_of_proposal k (findings p))))) (content_so p.id)
-            (subst (λ k. IsDueOrNoMemory d (decided (log_row k (column_of_proposal (transfer_state_content (transfer_state_in tables p.id)) (findings p))) (log_sends p.id (Some p.content) (findings p) (column_of_proposal (transfer_state_content (transfer_state_in tables p.id)) (findings p))))) (known_so p.id) is);
-        due_is = answered (message.Proposal p) moment welcome;
+        is = subst (λ k. IsExpectedOrNoMemory d (decided (log_row (decide.known (last p.id)) (column_of_proposal k (findings p))) (log_sends p.id (Some p.content) (findings p) (column_of_proposal k (findings p))))) (content_so p.id)
+            (subst (λ k. IsExpectedOrNoMemory d (decided (log_row k (column_of_proposal (transfer_state_content (transfer_state_in tables p.id)) (findings p))) (log_sends p.id (Some p.content) (findings p) (column_of_proposal (transfer_state_content (transfer_state_in tables p.id)) (findings p))))) (known_so p.id) is);
+        verdict_is = answered (message.Proposal p) moment welcome;
       }
 
   told_decided : (t : TransactionId) (codes : List ℕ) (col : RowInput) (moment : Moment) (input : Input) (d : Result Decision Refusal)
-      → verdict_due scheme tables input ≡ by_row scheme (history scheme Itl tables.journal.items) (comes_to t (content_in (last t)) codes moment col) (row_at t col)
-      → IsDueOrNoMemory d (decided (log_row (known_transfer_state (transfer_state_in tables t)) col) (log_sends t (transfer_state_content (transfer_state_in tables t)) codes col))
+      → verdict_by_rules scheme tables input ≡ by_row scheme (history scheme Itl tables.journal.items) (comes_to t (content_in (last t)) codes moment col) (row_at t col)
+      → IsExpectedOrNoMemory d (decided (log_row (known_transfer_state (transfer_state_in tables t)) col) (log_sends t (transfer_state_content (transfer_state_in tables t)) codes col))
       → Decides scheme tables input (comes_to t (content_in (last t)) codes moment col) (row_at t col) d
-  told_decided t codes col moment input d due_is is =
+  told_decided t codes col moment input d verdict_is is =
       record {
         messages = log_sends t (content_in (last t)) codes col;
         sends = λ new. refl;
-        is = subst (λ k. IsDueOrNoMemory d (decided (row_at t col) (log_sends t k codes col))) (content_so t)
-            (subst (λ k. IsDueOrNoMemory d (decided (log_row k col) (log_sends t (transfer_state_content (transfer_state_in tables t)) codes col))) (known_so t) is);
-        due_is = due_is;
+        is = subst (λ k. IsExpectedOrNoMemory d (decided (row_at t col) (log_sends t k codes col))) (content_so t)
+            (subst (λ k. IsExpectedOrNoMemory d (decided (log_row k col) (log_sends t (transfer_state_content (transfer_state_in tables t)) codes col))) (known_so t) is);
+        verdict_is = verdict_is;
       }
 
   abbrev pub notified_column : Notification → RowInput
   notified_column n = column.Notified (notified_status n.notified)
 
   pub notified_decided : (n : Notification) (moment : Moment) (d : Result Decision Refusal) → IsWelcome (message.Notification n)
-      → IsDueOrNoMemory d (decided (log_row (known_transfer_state (transfer_state_in tables n.id)) (notified_column n)) (log_sends n.id (transfer_state_content (transfer_state_in tables n.id)) (notified_codes n.notified) (notified_column n)))
+      → IsExpectedOrNoMemory d (decided (log_row (known_transfer_state (transfer_state_in tables n.id)) (notified_column n)) (log_sends n.id (transfer_state_content (transfer_state_in tables n.id)) (notified_codes n.notified) (notified_column n)))
       → Decides scheme tables (Received (message.Notification n) moment) (comes_to n.id (content_in (last n.id)) (notified_codes n.notified) moment (notified_column n)) (row_at n.id (notified_column n)) d
   notified_decided n moment d welcome is =
       told_decided n.id (notified_codes n.notified) (notified_column n) moment (Received (message.Notification n) moment) d (answered (message.Notification n) moment welcome) is
 
   pub request_decided : (r : Request) (moment : Moment) (d : Result Decision Refusal) → IsWelcome (message.Request r)
-      → IsDueOrNoMemory d (decided (log_row (known_transfer_state (transfer_state_in tables r.id)) column.Request) (log_sends r.id (transfer_state_content (transfer_state_in tables r.id)) [] column.Request))
+      → IsExpectedOrNoMemory d (decided (log_row (known_transfer_state (transfer_state_in tables r.id)) column.Request) (log_sends r.id (transfer_state_content (transfer_state_in tables r.id)) [] column.Request))
       → Decides scheme tables (Received (message.Request r) moment) (comes_to r.id (content_in (last r.id)) [] moment column.Request) (row_at r.id column.Request) d
   request_decided r moment d welcome is =
       told_decided r.id [] column.Request moment (Received (message.Request r) moment) d (answered (message.Request r) moment welcome) is

@@ -40,7 +40,7 @@ use Rattle.safety.proofs.OneLog.OwnersInLog.{IsBusy, log_live}
 use Rattle.log_core.specs.Effects.{Carried, IsCancelledAt, IsEffect, IsSettled, came_to, transfer_state_content, handed_over, is_among, transfer_state_in}
 use Rattle.log_core.specs.Kept.{AreKept, IsKept, waiting_cmp}
 use Rattle.log_core.specs.Readings.{TransferState, last_order, of_transition, under_way}
-use Rattle.log_core.specs.Taking.{verdict_due}
+use Rattle.log_core.specs.Taking.{verdict_by_rules}
 use Rattle.log_core.specs.Transfers.{IsOfKnown}
 use Rattle.log_core.specs.declared.effect.Effect.{Effect}
 use Rattle.log_core.specs.declared.effect.Effect.TheVariants.{Begin, Cancel, Settle}
@@ -70,7 +70,7 @@ as_moves _ h = absurd h
 
 -- ---- one record more
 
-pub kept_recorded : (scheme : Scheme) (tables tables' : Tables) (input : Input) (front : List Transition) → IsKept scheme tables → verdict_due scheme tables input ≡ IsRecorded front → tables'.journal.items ≡ tables.journal.items ++ input ∷ []
+pub kept_recorded : (scheme : Scheme) (tables tables' : Tables) (input : Input) (front : List Transition) → IsKept scheme tables → verdict_by_rules scheme tables input ≡ IsRecorded front → tables'.journal.items ≡ tables.journal.items ++ input ∷ []
     → AreKept scheme (entry input front ∷ history scheme Itl tables.journal.items) tables' → IsKept scheme tables'
 kept_recorded scheme tables tables' input front kept enters journal more =
     let old = tables.journal.items in
@@ -226,7 +226,7 @@ module _ (scheme : Scheme) (es : List Entry) (tables tables' : Tables) (kept : A
       (λ t i. all_in (λ u. is_some (transfer_state_in tables u) ≡ true) ids.items t known i)
       sent carried.allotments carried.orders carried.transfers carried.under_way carried.book carried.checked
 
-pub kept_moved : (scheme : Scheme) (tables tables' : Tables) (input : Input) (xs : List Transition) (effect : Effect) (moment : ℕ) → IsKept scheme tables → verdict_due scheme tables input ≡ IsRecorded xs → IsMessageOrCleanUp input
+pub kept_moved : (scheme : Scheme) (tables tables' : Tables) (input : Input) (xs : List Transition) (effect : Effect) (moment : ℕ) → IsKept scheme tables → verdict_by_rules scheme tables input ≡ IsRecorded xs → IsMessageOrCleanUp input
     → IsEffect xs moment effect → IsOfKnown (transfer_state_in tables) effect → Carried effect moment tables tables' → tables'.journal.items ≡ tables.journal.items ++ input ∷ []
     → tables'.outbox ≡ tables.outbox ++ Sends (messages_of xs) ∷ [] → IsKept scheme tables'
 kept_moved scheme tables tables' input xs effect moment kept enters given h known carried journal sent =

@@ -23,7 +23,7 @@ use Rattle.outbox.specs.Sending.{Acknowledges, Sends, Sent}
 use Rattle.log_core.specs.Effects.{transfer_state_in}
 use Rattle.log_core.specs.Kept.{AreKept, IsKept, waiting_cmp}
 use Rattle.log_core.specs.Readings.{last_order}
-use Rattle.log_core.specs.Taking.{verdict_due}
+use Rattle.log_core.specs.Taking.{verdict_by_rules}
 use Rattle.log_core.specs.declared.tables.Tables.{Tables}
 use Rattle.log_core.specs.declared.waiting.Waiting.{Waiting}
 use Rattle.log_core.proofs.KeptByMoves.{kept_recorded}
@@ -55,7 +55,7 @@ ordered : (b may : Bool) (o : Option Bool) → cond b (Some may) o ≡ option_or
 ordered true may o = refl
 ordered false may o = refl
 
-pub kept_eligible : (scheme : Scheme) (tables tables' : Tables) (c : Code) (may : Bool) → IsKept scheme tables → verdict_due scheme tables (Eligible c may) ≡ IsRecorded [] → tables'.register.allotments ≡ tables.register.allotments
+pub kept_eligible : (scheme : Scheme) (tables tables' : Tables) (c : Code) (may : Bool) → IsKept scheme tables → verdict_by_rules scheme tables (Eligible c may) ≡ IsRecorded [] → tables'.register.allotments ≡ tables.register.allotments
     → tables'.register.book ≡ tables.register.book → tables'.register.under_way ≡ tables.register.under_way
     → ((d : Code) → tree.get code_cmp tables'.register.orders d ≡ (if same_code c d then Some may else tree.get code_cmp tables.register.orders d)) → HaveSameTransfers tables tables'
     → tables'.journal.items ≡ tables.journal.items ++ Eligible c may ∷ [] → tables'.outbox ≡ tables.outbox ++ Sends [] ∷ [] → IsKept scheme tables'
@@ -65,7 +65,7 @@ kept_eligible scheme tables tables' c may kept entered allotments book under_way
     (unmoved_kept scheme es tables tables' kept.kept (Eligible c may) (Sends []) refl allotments book under_way
     (λ d. orders d ∙ ap (λ (o : Option Bool). if same_code c d then Some may else o) (kept.kept.orders d) ∙ ordered (same_code c d) may (last_order es d)) same sent)
 
-pub kept_acknowledged : (scheme : Scheme) (tables tables' : Tables) (key : Number) → IsKept scheme tables → verdict_due scheme tables (Ack key) ≡ IsRecorded [] → tables'.register ≡ tables.register → HaveSameTransfers tables tables'
+pub kept_acknowledged : (scheme : Scheme) (tables tables' : Tables) (key : Number) → IsKept scheme tables → verdict_by_rules scheme tables (Ack key) ≡ IsRecorded [] → tables'.register ≡ tables.register → HaveSameTransfers tables tables'
     → tables'.journal.items ≡ tables.journal.items ++ Ack key ∷ [] → tables'.outbox ≡ tables.outbox ++ Acknowledges key.value ∷ [] → IsKept scheme tables'
 kept_acknowledged scheme tables tables' key kept entered register same journal sent =
     let es = history scheme Itl tables.journal.items in

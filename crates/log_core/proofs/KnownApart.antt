@@ -29,7 +29,7 @@ use Rattle.safety.proofs.OneLog.OwnersInLog.{IsBusy, log_live}
 use Rattle.log_core.specs.Effects.{IsEffect, IsSettled, transfer_state_content, transfer_state_in}
 use Rattle.log_core.specs.Kept.{IsKept}
 use Rattle.log_core.specs.Readings.{of_transition}
-use Rattle.log_core.specs.Taking.{verdict_due}
+use Rattle.log_core.specs.Taking.{verdict_by_rules}
 use Rattle.log_core.specs.Transfers.{AreApart}
 use Rattle.log_core.specs.declared.effect.Effect.{Effect}
 use Rattle.log_core.specs.declared.effect.Effect.TheVariants.{Begin, Cancel, Settle}
@@ -72,7 +72,7 @@ module _ (scheme : Scheme) where
       cancelled_more x xs ended old y k (inl e) busy known = absurd (ended (subst (λ (z : Transition). IsBusy z.new) (sym e) busy))
       cancelled_more x xs ended old y k (inr i) busy known = old y k i busy known
 
-module _ (scheme : Scheme) (tables : Tables) (input : Input) (xs : List Transition) (moment : ℕ) (enters : verdict_due scheme tables input ≡ IsRecorded xs) where
+module _ (scheme : Scheme) (tables : Tables) (input : Input) (xs : List Transition) (moment : ℕ) (enters : verdict_by_rules scheme tables input ≡ IsRecorded xs) where
   abbrev past : List Entry
   past = history scheme Itl tables.journal.items
 

@@ -20,16 +20,16 @@ use Rattle.protocol.specs.declared.node_core.Stepped.TheVariants as stepped
 use Rattle.outbox.specs.Outgoing.{outgoing}
 use Rattle.log_core.specs.Kept.{IsKept}
 use Rattle.log_core.specs.Readings.{is_checked_since, last_order, of_transition, owner, under_way}
-use Rattle.log_core.specs.Taking.{Takes, verdict_due}
+use Rattle.log_core.specs.Taking.{Takes, verdict_by_rules}
 use Rattle.log_core.specs.Transfers.{AreSame}
 use Rattle.log_core.specs.declared.tables.Tables.{Tables}
 
 pub are_same : (tables : Tables) → AreSame tables tables
 are_same tables = record { journal = refl; allotments = refl; book = refl; under_way = refl; orders = λ c. refl; transfers = λ t. refl; checked = λ w. refl; outbox = refl }
 
-pub due_so : (scheme : Scheme) (tables : Tables) (input : Input) → verdict_due scheme tables input ≡ log_verdict scheme (history scheme Itl tables.journal.items) input
+pub verdict_so : (scheme : Scheme) (tables : Tables) (input : Input) → verdict_by_rules scheme tables input ≡ log_verdict scheme (history scheme Itl tables.journal.items) input
 unfolding verdict
-due_so scheme tables input = refl
+verdict_so scheme tables input = refl
 
 module _ (scheme : Scheme) where
   abbrev past : List Input → List Entry
@@ -54,7 +54,7 @@ module _ (scheme : Scheme) where
 
   -- why an input may be given up
   abbrev pub GivenUp : Tables → Input → ℕ → Type 0
-  GivenUp tables input code = (code ≡ out_of_memory) ⊎ (verdict_due scheme tables input ≡ IsRefused code)
+  GivenUp tables input code = (code ≡ out_of_memory) ⊎ (verdict_by_rules scheme tables input ≡ IsRefused code)
 
   pub takes_refused : (tables tables' : Tables) (input : Input) (r : Refusal) → IsKept scheme tables → AreSame tables tables' → GivenUp tables input r.code → Takes scheme tables tables' input (Err r)
   takes_refused tables tables' input r h same why =
@@ -73,27 +73,27 @@ module _ (scheme : Scheme) where
   takes_err tables tables' input (Ok x) P h same e why = absurd e
   takes_err tables tables' input (Err r) P h same e why = takes_refused tables tables' input r h same (why r e)
 
-  pub takes_repeat : (tables : Tables) (input : Input) → IsKept scheme tables → verdict_due scheme tables input ≡ IsRepeat → Takes scheme tables tables input (Ok stepped.Repeat)
+  pub takes_repeat : (tables : Tables) (input : Input) → IsKept scheme tables → verdict_by_rules scheme tables input ≡ IsRepeat → Takes scheme tables tables input (Ok stepped.Repeat)
   takes_repeat tables input h is = record { answer_is = inl (ap (answer_of (length tables.journal.items)) (sym is)); journal_is = refl; kept = h }
 
-  pub takes_late : (tables : Tables) (input : Input) → IsKept scheme tables → verdict_due scheme tables input ≡ IsLate → Takes scheme tables tables input (Ok stepped.Late)
+  pub takes_late : (tables : Tables) (input : Input) → IsKept scheme tables → verdict_by_rules scheme tables input ≡ IsLate → Takes scheme tables tables input (Ok stepped.Late)
   takes_late tables input h is = record { answer_is = inl (ap (answer_of (length tables.journal.items)) (sym is)); journal_is = refl; kept = h }
 
-  pub takes_recorded : (tables tables' : Tables) (input : Input) (xs : List Transition) (place : ℕ) → verdict_due scheme tables input ≡ IsRecorded xs → place ≡ length tables.journal.items → tables'.journal.items ≡ tables.journal.items ++ input ∷ [] → IsKept scheme tables'
+  pub takes_recorded : (tables tables' : Tables) (input : Input) (xs : List Transition) (place : ℕ) → verdict_by_rules scheme tables input ≡ IsRecorded xs → place ≡ length tables.journal.items → tables'.journal.items ≡ tables.journal.items ++ input ∷ [] → IsKept scheme tables'
       → Takes scheme tables tables' input (Ok (stepped.Recorded place))
   takes_recorded tables tables' input xs place is at more h =
       record { answer_is = inl (ap (λ n. Ok (stepped.Recorded n)) at ∙ ap (answer_of (length tables.journal.items)) (sym is)); journal_is = more; kept = h }
 
   -- ---- room in the journal
 
-  full_refuses : (tables : Tables) (input : Input) (xs : List Transition) → verdict_due scheme tables input ≡ recorded_if_room scheme (past tables.journal.items) xs → nat_le scheme.records (length tables.journal.items) ≡ true → verdict_due scheme tables input ≡ IsRefused journal_full
+  full_refuses : (tables : Tables) (input : Input) (xs : List Transition) → verdict_by_rules scheme tables input ≡ recorded_if_room scheme (past tables.journal.items) xs → nat_le scheme.records (length tables.journal.items) ≡ true → verdict_by_rules scheme tables input ≡ IsRefused journal_full
   full_refuses tables input xs is full = is ∙ ap (λ n. cond (nat_le scheme.records n) (IsRefused journal_full) (IsRecorded xs)) (length_history scheme Itl tables.journal.items) ∙ ap (λ b. cond b (IsRefused journal_full) (IsRecorded xs)) full
 
-  pub room_enters : (tables : Tables) (input : Input) (xs : List Transition) → verdict_due scheme tables input ≡ recorded_if_room scheme (past tables.journal.items) xs → nat_le scheme.records (length tables.journal.items) ≡ false → verdict_due scheme tables input ≡ IsRecorded xs
+  pub room_enters : (tables : Tables) (input : Input) (xs : List Transition) → verdict_by_rules scheme tables input ≡ recorded_if_room scheme (past tables.journal.items) xs → nat_le scheme.records (length tables.journal.items) ≡ false → verdict_by_rules scheme tables input ≡ IsRecorded xs
   room_enters tables input xs is room = is ∙ ap (λ n. cond (nat_le scheme.records n) (IsRefused journal_full) (IsRecorded xs)) (length_history scheme Itl tables.journal.items) ∙ ap (λ b. cond b (IsRefused journal_full) (IsRecorded xs)) room
 
   -- a copy of the input is refused where the journal is full or memory ran out
-  pub unfitting : (tables : Tables) (input : Input) (xs : List Transition) (code : ℕ) → verdict_due scheme tables input ≡ recorded_if_room scheme (past tables.journal.items) xs
+  pub unfitting : (tables : Tables) (input : Input) (xs : List Transition) (code : ℕ) → verdict_by_rules scheme tables input ≡ recorded_if_room scheme (past tables.journal.items) xs
       → (code ≡ out_of_memory) ⊎ ((code ≡ journal_full) × (nat_le scheme.records (length tables.journal.items) ≡ true)) → GivenUp tables input code
   unfitting tables input xs code is (inl memory) = inl memory
   unfitting tables input xs code is (inr full) = inr (full_refuses tables input xs is full.1 ∙ ap (λ n. IsRefused n) (sym full.0))
@@ -107,12 +107,12 @@ module _ (scheme : Scheme) where
   IsOrder (CloseAccount n) = Unit {0}
   IsOrder _ = ⊥
 
-  order_refused : (tables : Tables) (order : Input) → IsOrder order → verdict_due scheme tables order ≡ IsRefused no_row
-  order_refused tables (Propose o) h = due_so scheme tables (Propose o)
-  order_refused tables (Request t) h = due_so scheme tables (Request t)
-  order_refused tables (OpenAccount n) h = due_so scheme tables (OpenAccount n)
-  order_refused tables (CloseAccount n) h = due_so scheme tables (CloseAccount n)
+  order_refused : (tables : Tables) (order : Input) → IsOrder order → verdict_by_rules scheme tables order ≡ IsRefused no_row
+  order_refused tables (Propose o) h = verdict_so scheme tables (Propose o)
+  order_refused tables (Request t) h = verdict_so scheme tables (Request t)
+  order_refused tables (OpenAccount n) h = verdict_so scheme tables (OpenAccount n)
+  order_refused tables (CloseAccount n) h = verdict_so scheme tables (CloseAccount n)
   order_refused tables _ h = absurd h
 
   pub takes_order : (tables tables' : Tables) (input order : Input) → IsKept scheme tables → AreSame tables tables' → input ≡ order → IsOrder order → Takes scheme tables tables' input (Err (record { code = no_row }))
-  takes_order tables tables' input order h same is of = takes_refused tables tables' input (record { code = no_row }) h same (inr (ap (verdict_due scheme tables) is ∙ order_refused tables order of))
+  takes_order tables tables' input order h same is of = takes_refused tables tables' input (record { code = no_row }) h same (inr (ap (verdict_by_rules scheme tables) is ∙ order_refused tables order of))

@@ -5,7 +5,7 @@ use Rattle.units.specs.declared.refusal.Refusal.{Refusal}
 use Rattle.wire.specs.declared.input.Input.{Input}
 use Rattle.wire.specs.declared.input.Input.TheVariants.{CleanUp, Received}
 use Rattle.scheme.specs.declared.registries.Scheme.{Scheme}
-use Rattle.protocol.specs.Cores.{IsDueOrNoMemory, after, answer}
+use Rattle.protocol.specs.Cores.{IsExpectedOrNoMemory, after, answer}
 use Rattle.protocol.specs.Deciding.{Verdict}
 use Rattle.protocol.specs.Verdict.{verdict, history}
 use Rattle.protocol.specs.declared.node_core.Stepped.{Stepped}
@@ -13,8 +13,8 @@ use Rattle.log_core.specs.Kept.{IsKept}
 use Rattle.log_core.specs.declared.tables.Tables.{Tables}
 
 -- the verdict on the input after the tables' journal
-abbrev pub verdict_due : Scheme → Tables → Input → Verdict
-verdict_due scheme tables input = verdict scheme Itl (history scheme Itl tables.journal.items) input
+abbrev pub verdict_by_rules : Scheme → Tables → Input → Verdict
+verdict_by_rules scheme tables input = verdict scheme Itl (history scheme Itl tables.journal.items) input
 
 -- an input that may make transitions: an acknowledgement and an order on eligibility make none, and each other one is
 -- refused
@@ -23,8 +23,8 @@ IsMessageOrCleanUp (Received m moment) = Unit {0}
 IsMessageOrCleanUp (CleanUp moment) = Unit {0}
 IsMessageOrCleanUp _ = ⊥
 
--- the result is what is due, the journal has the input where it was recorded, and the tables follow the journal
+-- the result is the expected one, the journal has the input where it was recorded, and the tables follow the journal
 pub record Takes (scheme : Scheme) (tables tables' : Tables) (input : Input) (result : Result Stepped Refusal) : Type 0 where
-  pub answer_is : IsDueOrNoMemory result (answer scheme Itl tables.journal.items input)
+  pub answer_is : IsExpectedOrNoMemory result (answer scheme Itl tables.journal.items input)
   pub journal_is : tables'.journal.items ≡ after tables.journal.items input result
   pub kept : IsKept scheme tables'

@@ -49,7 +49,7 @@ fn aged(
 }
 
 /// The same in ascending order of code and number; or `NoMemory`.
-fn due(
+fn expired(
     alloc: Global,
     checked: &BTreeSet<Waiting>,
     moment: Moment,
@@ -81,7 +81,7 @@ fn cancellations(
 }
 
 impl Tables {
-    /// Takes a clean-up of that moment: one record for all transactions that are due, and a repeat where none is.
+    /// Takes a clean-up of that moment: one record for all transactions that have expired, and a repeat where none is.
     pub(crate) fn clean_up(
         &mut self,
         alloc: Global,
@@ -93,7 +93,7 @@ impl Tables {
         requires input { input.now ≡ inputs.CleanUp moment }
         ensures { Takes scheme.now self.old self.new input.now result }
     {
-        let ids = due(alloc, &self.checked, moment)?;
+        let ids = expired(alloc, &self.checked, moment)?;
         if ids.is_empty() {
             return Ok(Stepped::Repeat);
         }

@@ -4,7 +4,7 @@ ghost use Rattle.status.specs.Rows.{log_row};
 ghost use Rattle.status.specs.declared.rows.RowInput.TheVariants as column;
 ghost use Rattle.wire.specs.NotifiedStatuses.{notified_codes, notified_status};
 ghost use Rattle.protocol.specs.Checks.{Ledger, log_findings};
-ghost use Rattle.protocol.specs.Cores.{IsDueOrNoMemory};
+ghost use Rattle.protocol.specs.Cores.{IsExpectedOrNoMemory};
 ghost use Rattle.protocol.specs.Deciding.{column_of_proposal};
 ghost use Rattle.protocol.specs.Decisions.{decided};
 ghost use Rattle.protocol.specs.Effects.{log_sends};
@@ -58,7 +58,7 @@ impl Tables {
     ) -> Result<Decision, Refusal>
         ensures { (known_so : Ledger) (found : List ℕ) → Registers scheme.now self.now.register known_so
             → found ≡ log_findings scheme.now known_so id.code proposed.now
-            → IsDueOrNoMemory result
+            → IsExpectedOrNoMemory result
             (decided (log_row (known_transfer_state (transfer_state_in self.now id))
             (column_of_proposal (transfer_state_content (transfer_state_in self.now id)) found))
             (log_sends id (Some proposed.now) found
@@ -111,7 +111,7 @@ impl Tables {
         id: TransactionId,
         notified: &NotifiedStatus,
     ) -> Result<Decision, Refusal>
-        ensures { IsDueOrNoMemory result
+        ensures { IsExpectedOrNoMemory result
             (decided (log_row (known_transfer_state (transfer_state_in self.now id))
             (column.Notified (notified_status notified.now)))
             (log_sends id (transfer_state_content (transfer_state_in self.now id)) (notified_codes notified.now)
@@ -134,7 +134,7 @@ impl Tables {
 
     /// What the table says to a request. Fails with `NO_ROW` where the table has no such row, and with `OUT_OF_MEMORY`.
     pub(crate) fn on_request(&self, alloc: Global, id: TransactionId) -> Result<Decision, Refusal>
-        ensures { IsDueOrNoMemory result
+        ensures { IsExpectedOrNoMemory result
             (decided (log_row (known_transfer_state (transfer_state_in self.now id)) column.Request)
             (log_sends id (transfer_state_content (transfer_state_in self.now id)) [] column.Request)) }
     {

@@ -95,7 +95,7 @@ impl NodeCore for LogCore {
     ghost use Rattle.units.specs.declared.code.Node.TheVariants.{Itl};
     ghost use Rattle.status.specs.declared.status.Status.TheVariants as words;
     ghost use Rattle.protocol.specs.Claims.{IsEnd};
-    ghost use Rattle.protocol.specs.Cores.{IsDueOrNoMemory, after, answer};
+    ghost use Rattle.protocol.specs.Cores.{IsExpectedOrNoMemory, after, answer};
     ghost use Rattle.protocol.specs.Deciding.{IsRecorded};
     ghost use Rattle.protocol.specs.History.{Transition, book_owner, carries, stands};
     ghost use Rattle.protocol.specs.Verdict.{verdict};
@@ -121,7 +121,7 @@ impl NodeCore for LogCore {
     /// initiator owned each of its units before; and a transaction that was Rejected, Terminated, Cancelled or
     /// Completed is so after.
     fn step(&mut self, input: &Input) -> Result<Stepped, Refusal>
-        ensures answer { IsDueOrNoMemory result (answer self.old.scheme Itl self.old.journal input.now) }
+        ensures answer { IsExpectedOrNoMemory result (answer self.old.scheme Itl self.old.journal input.now) }
         ensures journal { self.new.journal ≡ after self.old.journal input.now result }
         ensures scheme { self.new.scheme ≡ self.old.scheme }
         ensures owned { (xs : List Transition) → verdict self.old.scheme Itl (past self.old) input.now ≡ IsRecorded xs

@@ -8,7 +8,7 @@ ghost use Rattle.units.specs.declared.code.Node.TheVariants.{Itl};
 ghost use Rattle.wire.specs.declared.input.Input.TheVariants as inputs;
 ghost use Rattle.log_core.specs.Effects.{IsEffect, transfer_state_in};
 ghost use Rattle.log_core.specs.Kept.{IsKept};
-ghost use Rattle.log_core.specs.Taking.{IsMessageOrCleanUp, Takes, verdict_due};
+ghost use Rattle.log_core.specs.Taking.{IsMessageOrCleanUp, Takes, verdict_by_rules};
 ghost use Rattle.log_core.specs.Transfers.{IsOfKnown};
 
 use crate::effect::Effect;
@@ -64,7 +64,7 @@ impl Tables {
         requires kept { IsKept scheme.now self.old }
         requires input { IsMessageOrCleanUp input.now }
         requires transitions { (xs : List Transition)
-            × (verdict_due scheme.now self.old input.now
+            × (verdict_by_rules scheme.now self.old input.now
             ≡ recorded_if_room scheme.now (history scheme.now Itl self.old.journal.items) xs)
             × (messages ≡ messages_of xs) × IsEffect xs moment.seconds effect }
         requires known { IsOfKnown (transfer_state_in self.old) effect }

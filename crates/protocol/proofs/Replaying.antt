@@ -13,7 +13,7 @@ use Rattle.scheme.specs.declared.registries.Scheme.{Scheme}
 use Rattle.protocol.specs.Deciding.{IsRecorded}
 use Rattle.protocol.specs.History.{Transition}
 use Rattle.protocol.specs.Verdict.{verdict, history}
-use Rattle.protocol.specs.Cores.{answer_of, HasFault, IsDueOrNoMemory, IsFirstNotRecorded, Replays, answer}
+use Rattle.protocol.specs.Cores.{answer_of, HasFault, IsExpectedOrNoMemory, IsFirstNotRecorded, Replays, answer}
 use Rattle.protocol.specs.declared.node_core.Stepped.{Stepped}
 use Rattle.protocol.specs.declared.node_core.Stepped.TheVariants.{Recorded, Repeat, Late}
 use Rattle.protocol.specs.declared.replay_fault.ReplayFault.{ReplayFault}
@@ -64,22 +64,22 @@ IsRefusal (Ok Repeat) = Unit {0}
 IsRefusal (Ok Late) = Unit {0}
 IsRefusal (Err refusal) = refusal.code ≡ out_of_memory → ⊥
 
-not_recorded : (due : Result Stepped Refusal) (k : ℕ) → IsRefusal due → due ≡ Ok (Recorded k) → ⊥
+not_recorded : (expected : Result Stepped Refusal) (k : ℕ) → IsRefusal expected → expected ≡ Ok (Recorded k) → ⊥
 not_recorded (Ok (Recorded place)) k h e = h
 not_recorded (Ok Repeat) k h e = absurd (cc (e))
 not_recorded (Ok Late) k h e = absurd (cc (e))
 not_recorded (Err refusal) k h e = absurd (cc (e))
 
-is_due : (result due : Result Stepped Refusal) → IsRefusal result → IsDueOrNoMemory result due → result ≡ due
-is_due result due h (inl e) = e
-is_due result due h (inr e) = absurd (subst IsRefusal e h refl)
+is_expected : (result expected : Result Stepped Refusal) → IsRefusal result → IsExpectedOrNoMemory result expected → result ≡ expected
+is_expected result expected h (inl e) = e
+is_expected result expected h (inr e) = absurd (subst IsRefusal e h refl)
 
 -- what is refused isn't recorded at its place
-pub refused_at : (scheme : Scheme) (n : Node) (j : List Input) (i : Input) (k : ℕ) (result : Result Stepped Refusal) → Replays scheme n j → IsDueOrNoMemory result (answer scheme n j i) → IsRefusal result → k ≡ length j
+pub refused_at : (scheme : Scheme) (n : Node) (j : List Input) (i : Input) (k : ℕ) (result : Result Stepped Refusal) → Replays scheme n j → IsExpectedOrNoMemory result (answer scheme n j i) → IsRefusal result → k ≡ length j
     → IsFirstNotRecorded scheme n (j ++ i ∷ []) k
-refused_at scheme n j i k result h due refusal place =
+refused_at scheme n j i k result h expected refusal place =
     subst (IsFirstNotRecorded scheme n (j ++ i ∷ [])) (sym place)
-    (not_recorded_next scheme n j i [] h (not_recorded (answer scheme n j i) (length j) (subst IsRefusal (is_due result (answer scheme n j i) refusal due) refusal)))
+    (not_recorded_next scheme n j i [] h (not_recorded (answer scheme n j i) (length j) (subst IsRefusal (is_expected result (answer scheme n j i) refusal expected) refusal)))
 
 -- a record that isn't recorded among the first ones isn't recorded in the whole
 pub not_recorded_more : (scheme : Scheme) (n : Node) (j rest : List Input) (k : ℕ) → IsFirstNotRecorded scheme n j k → IsFirstNotRecorded scheme n (j ++ rest) k

@@ -10,7 +10,7 @@ use Rattle.protocol.specs.Verdict.{verdict}
 use Rattle.protocol.specs.World.{World, opening, step, outcomes}
 use Rattle.protocol.proofs.WorkedScheme.{nz, jp, nz_node, jp_node, all_units, nz1, nz2, scheme_s, a_second_before, a_day_after, ten_days_after, propose, clean_up, commit, post, deliver, transfer, after, status, holds, spendable, reserved, place, in_account, owed, message_at, notification, posted, held_units, spendable_units, owed_units}
 
--- ---- a transfer is due a day after it was checked, to the second
+-- ---- a transfer has expired a day after it was checked, to the second
 
 abbrev clean_up_boundary_events : List WorldEvent
 clean_up_boundary_events = take 5 transfer ++ clean_up a_second_before ∷ clean_up a_day_after ∷ commit Itl 1 ∷ []
@@ -35,7 +35,7 @@ pub clean_up_boundary_statuses : (status clean_up_boundary_world nz_node nz1 ≡
 unfolding step verdict
 clean_up_boundary_statuses = (refl, refl, refl)
 
--- ---- one that is accepted is not due
+-- ---- one that is accepted does not expire
 
 abbrev clean_up_after_accepted_events : List WorldEvent
 clean_up_after_accepted_events = take 11 transfer ++ clean_up ten_days_after ∷ drop 11 transfer

@@ -62,17 +62,17 @@ returned_held = (refl, refl, refl, refl, refl, refl, refl, refl)
 
 -- ---- two transfers, of which the second comes to the log first, are cancelled by one record
 
-abbrev two_due_events : List WorldEvent
-two_due_events = propose nz 1 jp 7 (block 1 10 ∷ []) ∷ propose nz 1 jp 7 (block 11 20 ∷ []) ∷ commit nz_node 2 ∷ post nz_node 1 ∷ post nz_node 0 ∷ deliver 0 ∷ deliver 1
+abbrev two_expired_events : List WorldEvent
+two_expired_events = propose nz 1 jp 7 (block 1 10 ∷ []) ∷ propose nz 1 jp 7 (block 11 20 ∷ []) ∷ commit nz_node 2 ∷ post nz_node 1 ∷ post nz_node 0 ∷ deliver 0 ∷ deliver 1
     ∷ commit Itl 2 ∷ clean_up a_day_after ∷ clean_up a_day_after ∷ commit Itl 1 ∷ []
 
-pub two_cleaned_up : outcomes (opening scheme_s) two_due_events
+pub two_cleaned_up : outcomes (opening scheme_s) two_expired_events
     ≡ Recorded 0 ∷ Recorded 1 ∷ Done ∷ Done ∷ Done ∷ Recorded 0 ∷ Recorded 1 ∷ Done ∷ Recorded 2 ∷ Repeat ∷ Done ∷ []
 unfolding step verdict
 two_cleaned_up = refl
 
-pub two_cleaned_up_messages : (message_at (after two_due_events) Itl 2 ≡ Some (notification Itl nz_node nz1 notified.Cancelled)) × (message_at (after two_due_events) Itl 3 ≡ Some (notification Itl jp_node nz1 notified.Cancelled))
-    × (message_at (after two_due_events) Itl 4 ≡ Some (notification Itl nz_node nz2 notified.Cancelled)) × (message_at (after two_due_events) Itl 5 ≡ Some (notification Itl jp_node nz2 notified.Cancelled))
+pub two_cleaned_up_messages : (message_at (after two_expired_events) Itl 2 ≡ Some (notification Itl nz_node nz1 notified.Cancelled)) × (message_at (after two_expired_events) Itl 3 ≡ Some (notification Itl jp_node nz1 notified.Cancelled))
+    × (message_at (after two_expired_events) Itl 4 ≡ Some (notification Itl nz_node nz2 notified.Cancelled)) × (message_at (after two_expired_events) Itl 5 ≡ Some (notification Itl jp_node nz2 notified.Cancelled))
 unfolding step verdict
 two_cleaned_up_messages = (refl, refl, refl, refl)
 

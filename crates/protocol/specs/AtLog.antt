@@ -120,10 +120,10 @@ by_id (x ∷ xs) = put_transition x (by_id xs)
 abbrev pub cleaned : ℕ → Transition → List Transition
 cleaned moment x = moved_by (moved x.id x.content moment (log_sends x.id x.content [] column.CleanUp)) (log_row (known (Some x)) column.CleanUp)
 
-abbrev pub due : List Transition → ℕ → List Transition
-due xs moment = flat_map (cleaned moment) (by_id (filter (is_old moment) (newest_of_each xs)))
+abbrev pub expired : List Transition → ℕ → List Transition
+expired xs moment = flat_map (cleaned moment) (by_id (filter (is_old moment) (newest_of_each xs)))
 
--- a repeat where nothing is due
+-- a repeat where nothing has expired
 abbrev pub clean_up : Scheme → List Entry → List Transition → Verdict
 clean_up scheme es [] = IsRepeat
 clean_up scheme es (x ∷ xs) = recorded_if_room scheme es (x ∷ xs)
@@ -141,7 +141,7 @@ eligible_refusals scheme c = (not (has_member scheme c), unknown_registry) ∷ [
 
 -- inputs of a registry are refused by `no_row`
 abbrev pub log_verdict : Scheme → List Entry → Input → Verdict
-log_verdict scheme es (CleanUp t) = clean_up scheme es (due (transitions_of es) t.seconds)
+log_verdict scheme es (CleanUp t) = clean_up scheme es (expired (transitions_of es) t.seconds)
 log_verdict scheme es (Eligible c may) = refuse (eligible_refusals scheme c) (cond (same_bool (is_eligible scheme es c) may) IsRepeat (recorded_if_room scheme es []))
 log_verdict scheme es (Ack n) = acknowledge scheme es n.value
 log_verdict scheme es (Received m t) = log_message scheme es t.seconds m

@@ -21,13 +21,13 @@ answer_of place IsRepeat = Ok Repeat
 answer_of place IsLate = Ok Late
 answer_of place (IsRefused code) = Err (record { code = code })
 
--- what is due for an input after a journal
+-- what a core is to return for an input after a journal
 abbrev pub answer : Scheme → Node → List Input → Input → Result Stepped Refusal
 answer scheme n journal input = answer_of (length journal) (verdict scheme n (history scheme n journal) input)
 
--- the result is the one that is due, or out of memory in its place
-abbrev pub IsDueOrNoMemory : {X : Type 0} → Result X Refusal → Result X Refusal → Type 0
-IsDueOrNoMemory result due = (result ≡ due) ⊎ (result ≡ Err (record { code = out_of_memory }))
+-- the result is the expected one, or out of memory in its place
+abbrev pub IsExpectedOrNoMemory : {X : Type 0} → Result X Refusal → Result X Refusal → Type 0
+IsExpectedOrNoMemory result expected = (result ≡ expected) ⊎ (result ≡ Err (record { code = out_of_memory }))
 
 -- the journal after that result for an input
 abbrev pub after : List Input → Input → Result Stepped Refusal → List Input

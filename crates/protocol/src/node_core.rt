@@ -25,7 +25,7 @@ pub trait NodeCore: Drop {
     ghost use Rattle.scheme.specs.declared.registries.Scheme.{Scheme};
     ghost use Rattle.protocol.specs.History.{sends, stands, transitions_of, is_acknowledged};
     ghost use Rattle.protocol.specs.Verdict.{history};
-    ghost use Rattle.protocol.specs.Cores.{IsDueOrNoMemory, Replays, after, answer};
+    ghost use Rattle.protocol.specs.Cores.{IsExpectedOrNoMemory, Replays, after, answer};
     ghost use Rattle.protocol.specs.Unacknowledged.{IsLeastFrom, awaits};
 
     /// The scheme that it goes by.
@@ -49,12 +49,12 @@ pub trait NodeCore: Drop {
         ensures value { result.now ≡ journal_of self.now }
         ensures replays { Replays (scheme_of self.now) (node_of self.now) (journal_of self.now) };
 
-    /// Takes an input, and returns what is due for it after the journal: it is recorded, at the place that is
+    /// Takes an input, and returns what is expected after the journal: it is recorded, at the place that is
     /// returned, or it is a repeat, or late, or it is refused for the reason that the code tells. Refusal
     /// `OUT_OF_MEMORY` may come in place of any of these. Where the input isn't recorded, nothing has changed.
     fn step(&mut self, input: &Input) -> Result<Stepped, Refusal>
         ensures memory { IfErr result (λ refusal. refusal.code ≡ out_of_memory → lacked_memory self.old input.now) }
-        ensures answer { IsDueOrNoMemory result
+        ensures answer { IsExpectedOrNoMemory result
             (answer (scheme_of self.old) (node_of self.old) (journal_of self.old) input.now) }
         ensures journal { journal_of self.new ≡ after (journal_of self.old) input.now result }
         ensures scheme { scheme_of self.new ≡ scheme_of self.old }

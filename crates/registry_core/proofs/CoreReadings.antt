@@ -17,7 +17,7 @@ use Rattle.wire.specs.declared.input.Input.{Input}
 use Rattle.wire.specs.declared.input.Input.TheVariants.{CleanUp, Eligible}
 use Rattle.wire.specs.declared.message.Message.{Message}
 use Rattle.scheme.specs.declared.registries.Scheme.{Scheme}
-use Rattle.protocol.specs.Cores.{IsDueOrNoMemory, answer}
+use Rattle.protocol.specs.Cores.{IsExpectedOrNoMemory, answer}
 use Rattle.protocol.specs.History as history
 use Rattle.protocol.specs.History.{Transition, at_start, credits, gives, holds, reserved, sends, spendable, stands}
 use Rattle.protocol.specs.Unacknowledged.{IsLeastFrom, awaits}
@@ -143,10 +143,10 @@ free_spendable r s free held reserved_is =
 
 -- ---- inputs that no registry records
 
-pub clean_up_refused : (r : Core) (input : Input) (moment : Moment) → input ≡ CleanUp moment → IsDueOrNoMemory (Err (record { code = no_row })) (answer r.scheme (Registry r.code) r.journal input)
+pub clean_up_refused : (r : Core) (input : Input) (moment : Moment) → input ≡ CleanUp moment → IsExpectedOrNoMemory (Err (record { code = no_row })) (answer r.scheme (Registry r.code) r.journal input)
 unfolding verdict
 clean_up_refused r input moment is = inl (sym (ap (answer r.scheme (Registry r.code) r.journal) is))
 
-pub eligible_refused : (r : Core) (input : Input) (d : Code) (may : Bool) → input ≡ Eligible d may → IsDueOrNoMemory (Err (record { code = no_row })) (answer r.scheme (Registry r.code) r.journal input)
+pub eligible_refused : (r : Core) (input : Input) (d : Code) (may : Bool) → input ≡ Eligible d may → IsExpectedOrNoMemory (Err (record { code = no_row })) (answer r.scheme (Registry r.code) r.journal input)
 unfolding verdict
 eligible_refused r input d may is = inl (sym (ap (answer r.scheme (Registry r.code) r.journal) is))

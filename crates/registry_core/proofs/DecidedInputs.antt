@@ -29,7 +29,7 @@ use Rattle.scheme.specs.declared.registries.Scheme.{Scheme}
 use Rattle.status.specs.declared.moment.Moment.{Moment}
 use Rattle.protocol.specs.AtRegistry.{holding, holds_some, registry_answer, registry_refusals, unless_held}
 use Rattle.protocol.specs.Checks.{Causes}
-use Rattle.protocol.specs.Cores.{IsDueOrNoMemory}
+use Rattle.protocol.specs.Cores.{IsExpectedOrNoMemory}
 use Rattle.protocol.specs.Deciding as decide
 use Rattle.protocol.specs.Effects.{acquirer_sends, initiator_sends}
 use Rattle.units.proofs.Lists.OneValue.{clash}
@@ -46,14 +46,14 @@ use Rattle.safety.proofs.ListLemmas.TestsOfSameness.{status_of_same}
 use Rattle.registry_core.specs.Effects.{IsEffect, ending}
 use Rattle.registry_core.specs.Kept.{IsKept}
 use Rattle.registry_core.specs.Readings.{is_foreign}
-use Rattle.registry_core.specs.Taking.{verdict_due}
+use Rattle.registry_core.specs.Taking.{verdict_by_rules}
 use Rattle.registry_core.specs.declared.tables.Tables.{Tables}
 use Rattle.registry_core.proofs.DecisionsAndVerdicts.{unless_enters, unless_late, unless_moves as causes_move, unless_refused, unless_repeat}
 use Rattle.registry_core.proofs.FirstRefusals.{first_none, refuse_first, refuse_none}
 use Rattle.registry_core.proofs.KnownHoldings.{knows}
 use Rattle.registry_core.proofs.RecordedEntries.{entered_made, replays_entered}
 use Rattle.registry_core.proofs.TablesSayHistory.{foreign_there_so}
-use Rattle.registry_core.proofs.TakenInputs.{GivenUp, due_so}
+use Rattle.registry_core.proofs.TakenInputs.{GivenUp, verdict_so}
 
 -- what the holdings know is what the history says
 pub knows_so : (scheme : Scheme) (c : Code) (tables : Tables) → IsKept scheme c tables → Knows scheme c tables.holdings (holding scheme c (history scheme (Registry c) tables.journal.items))
@@ -64,8 +64,8 @@ knows_so scheme c tables kept =
 -- ---- a decision, where the verdict on the input goes by that row after those causes
 
 module _ (scheme : Scheme) (c : Code) (tables : Tables) (input : Input) (to : Status → Transition) (cs : Causes) (row : Row) (ms : List Message) (d : Result Decision Refusal)
-    (is : IsDueOrNoMemory d (unless cs (decided row ms)))
-    (row_is : verdict_due scheme c tables input ≡ refuse cs (by_row scheme (history scheme (Registry c) tables.journal.items) to row)) where
+    (is : IsExpectedOrNoMemory d (unless cs (decided row ms)))
+    (row_is : verdict_by_rules scheme c tables input ≡ refuse cs (by_row scheme (history scheme (Registry c) tables.journal.items) to row)) where
   pub given_up : (r : Refusal) → d ≡ Err r → GivenUp scheme c tables input r.code
   given_up r h =
       elim (unless_refused scheme (history scheme (Registry c) tables.journal.items) to cs row ms d r is h) [
@@ -73,7 +73,7 @@ module _ (scheme : Scheme) (c : Code) (tables : Tables) (input : Input) (to : St
         | inr e ↦ inr (row_is ∙ e)
       ]
 
-  pub moves : (new : Status) (ms' : List Message) → d ≡ Ok (decision.Moves new ms') → verdict_due scheme c tables input ≡ recorded_if_room scheme (history scheme (Registry c) tables.journal.items) (to new ∷ [])
+  pub moves : (new : Status) (ms' : List Message) → d ≡ Ok (decision.Moves new ms') → verdict_by_rules scheme c tables input ≡ recorded_if_room scheme (history scheme (Registry c) tables.journal.items) (to new ∷ [])
   moves new ms' h = row_is ∙ unless_enters scheme (history scheme (Registry c) tables.journal.items) to cs row ms ms' new d is h
 
   pub sends : (new : Status) (ms' : List Message) → d ≡ Ok (decision.Moves new ms') → ms' ≡ ms
@@ -82,10 +82,10 @@ module _ (scheme : Scheme) (c : Code) (tables : Tables) (input : Input) (to : St
   pub row_moves : (new : Status) (ms' : List Message) → d ≡ Ok (decision.Moves new ms') → row ≡ Move new
   row_moves new ms' h = (causes_move cs row ms ms' new d is h).1
 
-  pub repeats : d ≡ Ok decision.Repeat → verdict_due scheme c tables input ≡ IsRepeat
+  pub repeats : d ≡ Ok decision.Repeat → verdict_by_rules scheme c tables input ≡ IsRepeat
   repeats h = row_is ∙ unless_repeat scheme (history scheme (Registry c) tables.journal.items) to cs row ms d is h
 
-  pub comes_late : d ≡ Ok decision.Late → verdict_due scheme c tables input ≡ IsLate
+  pub comes_late : d ≡ Ok decision.Late → verdict_by_rules scheme c tables input ≡ IsLate
   comes_late h = row_is ∙ unless_late scheme (history scheme (Registry c) tables.journal.items) to cs row ms d is h
 
 -- ---- messages
@@ -158,12 +158,12 @@ module _ (scheme : Scheme) (c : Code) (tables : Tables) (kept : IsKept scheme c 
   unasked_acquirer (Stands Accepted) = refl
 
   -- no registry takes a request
-  pub request_refused : (r : Request) (moment : Moment) → first_of (registry_refusals c (history scheme (Registry c) tables.journal.items) (message.Request r)) ≡ None → verdict_due scheme c tables (Received (message.Request r) moment) ≡ IsRefused no_row
+  pub request_refused : (r : Request) (moment : Moment) → first_of (registry_refusals c (history scheme (Registry c) tables.journal.items) (message.Request r)) ≡ None → verdict_by_rules scheme c tables (Received (message.Request r) moment) ≡ IsRefused no_row
   request_refused r moment none =
       let es = history scheme (Registry c) tables.journal.items in
       let last = newest (transitions_of es) r.id in
       let to = decide.moved r.id (content_in last) moment.seconds in
-      due_so scheme c tables (Received (message.Request r) moment)
+      verdict_so scheme c tables (Received (message.Request r) moment)
       ∙ refuse_none (registry_refusals c es (message.Request r)) (registry_answer scheme c es moment.seconds (message.Request r)) (first_none (registry_refusals c es (message.Request r)) none)
       ∙ (elim (cases_Bool (same_code r.id.code c)) [
         | inl own ↦ cond-true (same_code r.id.code c) _ _ own ∙ ap (by_row scheme es (to (initiator_sends c r.id (content_in last) column.Request))) (unasked_initiator (known last))
@@ -172,7 +172,7 @@ module _ (scheme : Scheme) (c : Code) (tables : Tables) (kept : IsKept scheme c 
             ∙ ap (by_row scheme es (to (acquirer_sends c r.id [] column.Request))) (ap (unless_held (holds_some scheme c (transitions_of es) (content_in last))) (unasked_acquirer (known last)) ∙ unheld_refused (holds_some scheme c (transitions_of es) (content_in last)))
       ])
 
-  pub message_refused : (m : Message) (moment : Moment) (code : ℕ) → first_of (registry_refusals c (history scheme (Registry c) tables.journal.items) m) ≡ Some code → verdict_due scheme c tables (Received m moment) ≡ IsRefused code
+  pub message_refused : (m : Message) (moment : Moment) (code : ℕ) → first_of (registry_refusals c (history scheme (Registry c) tables.journal.items) m) ≡ Some code → verdict_by_rules scheme c tables (Received m moment) ≡ IsRefused code
   message_refused m moment code first =
       let es = history scheme (Registry c) tables.journal.items in
-      due_so scheme c tables (Received m moment) ∙ refuse_first (registry_refusals c es m) (registry_answer scheme c es moment.seconds m) code first
+      verdict_so scheme c tables (Received m moment) ∙ refuse_first (registry_refusals c es m) (registry_answer scheme c es moment.seconds m) code first

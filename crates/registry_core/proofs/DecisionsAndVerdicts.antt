@@ -9,7 +9,7 @@ use Rattle.status.specs.declared.status.Status.{Status}
 use Rattle.wire.specs.declared.message.Message.{Message}
 use Rattle.scheme.specs.declared.registries.Scheme.{Scheme}
 use Rattle.protocol.specs.Checks.{Causes}
-use Rattle.protocol.specs.Cores.{IsDueOrNoMemory}
+use Rattle.protocol.specs.Cores.{IsExpectedOrNoMemory}
 use Rattle.protocol.specs.Deciding.{IsLate, IsRefused, IsRepeat, Verdict, by_row, recorded_if_room, refuse}
 use Rattle.protocol.specs.Decisions.{decided, unless}
 use Rattle.protocol.specs.History.{Entry, Transition}
@@ -20,16 +20,16 @@ use Rattle.registry_core.proofs.FirstRefusals.{refuse_none}
 
 -- ---- out of memory is the one other result
 
-settled : {X : Type 0} (d due : Result X Refusal) (x : X) → IsDueOrNoMemory d due → d ≡ Ok x → due ≡ Ok x
-settled d due x (inl e) h = sym e ∙ h
-settled d due x (inr e) h = let no = sym e ∙ h in absurd (cc (no))
+settled : {X : Type 0} (d expected : Result X Refusal) (x : X) → IsExpectedOrNoMemory d expected → d ≡ Ok x → expected ≡ Ok x
+settled d expected x (inl e) h = sym e ∙ h
+settled d expected x (inr e) h = let no = sym e ∙ h in absurd (cc (no))
 
-code_of_err : {X : Type 0} (due : Result X Refusal) (r s : Refusal) → due ≡ Err r → due ≡ Err s → r.code ≡ s.code
-code_of_err due r s e h = cc (e, h)
+code_of_err : {X : Type 0} (expected : Result X Refusal) (r s : Refusal) → expected ≡ Err r → expected ≡ Err s → r.code ≡ s.code
+code_of_err expected r s e h = cc (e, h)
 
-failed : {X : Type 0} (d due : Result X Refusal) (r : Refusal) → IsDueOrNoMemory d due → d ≡ Err r → (r.code ≡ out_of_memory) ⊎ (due ≡ Err r)
-failed d due r (inl e) h = inr (sym e ∙ h)
-failed d due r (inr e) h = inl (code_of_err d r (record { code = out_of_memory }) h e)
+failed : {X : Type 0} (d expected : Result X Refusal) (r : Refusal) → IsExpectedOrNoMemory d expected → d ≡ Err r → (r.code ≡ out_of_memory) ⊎ (expected ≡ Err r)
+failed d expected r (inl e) h = inr (sym e ∙ h)
+failed d expected r (inr e) h = inl (code_of_err d r (record { code = out_of_memory }) h e)
 
 -- ---- causes
 
@@ -70,11 +70,11 @@ row_late rows.Late ms h = refl
 row_late rows.Refused ms h = absurd (cc (h))
 
 -- a decision that moves is by a row that does, with its messages
-pub decided_moves : (row : Row) (ms ms' : List Message) (new : Status) (d : Result Decision Refusal) → IsDueOrNoMemory d (decided row ms) → d ≡ Ok (decision.Moves new ms') → (row ≡ rows.Move new) × (ms' ≡ ms)
+pub decided_moves : (row : Row) (ms ms' : List Message) (new : Status) (d : Result Decision Refusal) → IsExpectedOrNoMemory d (decided row ms) → d ≡ Ok (decision.Moves new ms') → (row ≡ rows.Move new) × (ms' ≡ ms)
 decided_moves row ms ms' new d is h = row_moves row ms ms' new (settled d (decided row ms) (decision.Moves new ms') is h)
 
 -- the same after causes, of which none stands
-pub unless_moves : (cs : Causes) (row : Row) (ms ms' : List Message) (new : Status) (d : Result Decision Refusal) → IsDueOrNoMemory d (unless cs (decided row ms)) → d ≡ Ok (decision.Moves new ms')
+pub unless_moves : (cs : Causes) (row : Row) (ms ms' : List Message) (new : Status) (d : Result Decision Refusal) → IsExpectedOrNoMemory d (unless cs (decided row ms)) → d ≡ Ok (decision.Moves new ms')
     → NoneStands cs × (row ≡ rows.Move new) × (ms' ≡ ms)
 unless_moves cs row ms ms' new d is h =
     let u = unless_ok cs (decided row ms) (decision.Moves new ms') (settled d (unless cs (decided row ms)) (decision.Moves new ms') is h) in
@@ -90,16 +90,16 @@ module _ (scheme : Scheme) (es : List Entry) (to : Status → Transition) where
 
   -- ---- a role that a row decides for
 
-  pub decided_enters : (row : Row) (ms ms' : List Message) (new : Status) (d : Result Decision Refusal) → IsDueOrNoMemory d (decided row ms) → d ≡ Ok (decision.Moves new ms') → by_row scheme es to row ≡ recorded_if_room scheme es (to new ∷ [])
+  pub decided_enters : (row : Row) (ms ms' : List Message) (new : Status) (d : Result Decision Refusal) → IsExpectedOrNoMemory d (decided row ms) → d ≡ Ok (decision.Moves new ms') → by_row scheme es to row ≡ recorded_if_room scheme es (to new ∷ [])
   decided_enters row ms ms' new d is h = ap (by_row scheme es to) (decided_moves row ms ms' new d is h).0
 
-  pub decided_repeat : (row : Row) (ms : List Message) (d : Result Decision Refusal) → IsDueOrNoMemory d (decided row ms) → d ≡ Ok decision.Repeat → by_row scheme es to row ≡ IsRepeat
+  pub decided_repeat : (row : Row) (ms : List Message) (d : Result Decision Refusal) → IsExpectedOrNoMemory d (decided row ms) → d ≡ Ok decision.Repeat → by_row scheme es to row ≡ IsRepeat
   decided_repeat row ms d is h = ap (by_row scheme es to) (row_repeats row ms (settled d (decided row ms) decision.Repeat is h))
 
-  pub decided_late : (row : Row) (ms : List Message) (d : Result Decision Refusal) → IsDueOrNoMemory d (decided row ms) → d ≡ Ok decision.Late → by_row scheme es to row ≡ IsLate
+  pub decided_late : (row : Row) (ms : List Message) (d : Result Decision Refusal) → IsExpectedOrNoMemory d (decided row ms) → d ≡ Ok decision.Late → by_row scheme es to row ≡ IsLate
   decided_late row ms d is h = ap (by_row scheme es to) (row_late row ms (settled d (decided row ms) decision.Late is h))
 
-  pub decided_refused : (row : Row) (ms : List Message) (d : Result Decision Refusal) (r : Refusal) → IsDueOrNoMemory d (decided row ms) → d ≡ Err r → (r.code ≡ out_of_memory) ⊎ (by_row scheme es to row ≡ IsRefused r.code)
+  pub decided_refused : (row : Row) (ms : List Message) (d : Result Decision Refusal) (r : Refusal) → IsExpectedOrNoMemory d (decided row ms) → d ≡ Err r → (r.code ≡ out_of_memory) ⊎ (by_row scheme es to row ≡ IsRefused r.code)
   decided_refused row ms d r is h =
       elim (failed d (decided row ms) r is h) [
         | inl none ↦ inl none
@@ -108,23 +108,23 @@ module _ (scheme : Scheme) (es : List Entry) (to : Status → Transition) where
 
   -- ---- the same after the causes of refusals
 
-  unless_row : (cs : Causes) (row : Row) (ms : List Message) (d : Result Decision Refusal) (x : Decision) (v : Verdict) → (decided row ms ≡ Ok x → by_row scheme es to row ≡ v) → IsDueOrNoMemory d (unless cs (decided row ms)) → d ≡ Ok x
+  unless_row : (cs : Causes) (row : Row) (ms : List Message) (d : Result Decision Refusal) (x : Decision) (v : Verdict) → (decided row ms ≡ Ok x → by_row scheme es to row ≡ v) → IsExpectedOrNoMemory d (unless cs (decided row ms)) → d ≡ Ok x
       → refuse cs (by_row scheme es to row) ≡ v
   unless_row cs row ms d x v by is h =
       let u = unless_ok cs (decided row ms) x (settled d (unless cs (decided row ms)) x is h) in
       refuse_none cs (by_row scheme es to row) u.0 ∙ by u.1
 
-  pub unless_enters : (cs : Causes) (row : Row) (ms ms' : List Message) (new : Status) (d : Result Decision Refusal) → IsDueOrNoMemory d (unless cs (decided row ms)) → d ≡ Ok (decision.Moves new ms')
+  pub unless_enters : (cs : Causes) (row : Row) (ms ms' : List Message) (new : Status) (d : Result Decision Refusal) → IsExpectedOrNoMemory d (unless cs (decided row ms)) → d ≡ Ok (decision.Moves new ms')
       → refuse cs (by_row scheme es to row) ≡ recorded_if_room scheme es (to new ∷ [])
   unless_enters cs row ms ms' new d is h = unless_row cs row ms d (decision.Moves new ms') (recorded_if_room scheme es (to new ∷ [])) (λ e. ap (by_row scheme es to) (row_moves row ms ms' new e).0) is h
 
-  pub unless_repeat : (cs : Causes) (row : Row) (ms : List Message) (d : Result Decision Refusal) → IsDueOrNoMemory d (unless cs (decided row ms)) → d ≡ Ok decision.Repeat → refuse cs (by_row scheme es to row) ≡ IsRepeat
+  pub unless_repeat : (cs : Causes) (row : Row) (ms : List Message) (d : Result Decision Refusal) → IsExpectedOrNoMemory d (unless cs (decided row ms)) → d ≡ Ok decision.Repeat → refuse cs (by_row scheme es to row) ≡ IsRepeat
   unless_repeat cs row ms d is h = unless_row cs row ms d decision.Repeat IsRepeat (λ e. ap (by_row scheme es to) (row_repeats row ms e)) is h
 
-  pub unless_late : (cs : Causes) (row : Row) (ms : List Message) (d : Result Decision Refusal) → IsDueOrNoMemory d (unless cs (decided row ms)) → d ≡ Ok decision.Late → refuse cs (by_row scheme es to row) ≡ IsLate
+  pub unless_late : (cs : Causes) (row : Row) (ms : List Message) (d : Result Decision Refusal) → IsExpectedOrNoMemory d (unless cs (decided row ms)) → d ≡ Ok decision.Late → refuse cs (by_row scheme es to row) ≡ IsLate
   unless_late cs row ms d is h = unless_row cs row ms d decision.Late IsLate (λ e. ap (by_row scheme es to) (row_late row ms e)) is h
 
-  pub unless_refused : (cs : Causes) (row : Row) (ms : List Message) (d : Result Decision Refusal) (r : Refusal) → IsDueOrNoMemory d (unless cs (decided row ms)) → d ≡ Err r
+  pub unless_refused : (cs : Causes) (row : Row) (ms : List Message) (d : Result Decision Refusal) (r : Refusal) → IsExpectedOrNoMemory d (unless cs (decided row ms)) → d ≡ Err r
       → (r.code ≡ out_of_memory) ⊎ (refuse cs (by_row scheme es to row) ≡ IsRefused r.code)
   unless_refused cs row ms d r is h =
       elim (failed d (unless cs (decided row ms)) r is h) [

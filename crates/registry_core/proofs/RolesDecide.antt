@@ -30,7 +30,7 @@ use Rattle.wire.specs.declared.message.Proposal.{Proposal}
 use Rattle.scheme.specs.declared.registries.Scheme.{Scheme}
 use Rattle.protocol.specs.AtRegistry.{content_of, holding, registry_refusals, unless_held}
 use Rattle.protocol.specs.Checks.{Causes, Holding, acquirer_findings}
-use Rattle.protocol.specs.Cores.{IsDueOrNoMemory}
+use Rattle.protocol.specs.Cores.{IsExpectedOrNoMemory}
 use Rattle.protocol.specs.Deciding.{by_row, content_in, recorded_if_room, moved, column_of_proposal, refuse}
 use Rattle.protocol.specs.Decisions.{decided, unless}
 use Rattle.protocol.specs.Effects.{acquirer_sends, initiator_sends}
@@ -48,14 +48,14 @@ use Rattle.acquirer.specs.Transfers as acquirer
 use Rattle.safety.proofs.OneRegistry.TransactionEnds.{own_code}
 use Rattle.registry_core.specs.Effects.{IsEffect, ending}
 use Rattle.registry_core.specs.Kept.{IsKept}
-use Rattle.registry_core.specs.Taking.{Takes, verdict_due}
+use Rattle.registry_core.specs.Taking.{Takes, verdict_by_rules}
 use Rattle.registry_core.specs.declared.effect.Effect.{Effect}
 use Rattle.registry_core.specs.declared.tables.Tables.{Tables}
 use Rattle.registry_core.proofs.DecidedInputs.{comes_late, ending_effect, given_up, knows_so, moves, repeats, row_moves, sends, welcome_foreign}
 use Rattle.registry_core.proofs.FirstRefusals.{order_refused}
 use Rattle.registry_core.proofs.RowsOfInputs.{arrive_row, finish_row, propose_row, request_row, settle_row}
 use Rattle.registry_core.proofs.TablesSayHistory.{foreign_known_so}
-use Rattle.registry_core.proofs.TakenInputs.{GivenUp, are_same, due_so, takes_err, takes_late, takes_repeat}
+use Rattle.registry_core.proofs.TakenInputs.{GivenUp, are_same, verdict_so, takes_err, takes_late, takes_repeat}
 
 -- the history of the tables' journal
 abbrev past : Scheme → Code → Tables → List Entry
@@ -67,8 +67,8 @@ pub record Decided (scheme : Scheme) (c : Code) (tables : Tables) (input : Input
   pub causes : Causes
   pub row : Row
   pub messages : List Message
-  pub is : IsDueOrNoMemory d (unless causes (decided row messages))
-  pub row_is : verdict_due scheme c tables input ≡ refuse causes (by_row scheme (past scheme c tables) to row)
+  pub is : IsExpectedOrNoMemory d (unless causes (decided row messages))
+  pub row_is : verdict_by_rules scheme c tables input ≡ refuse causes (by_row scheme (past scheme c tables) to row)
   pub sent : (new : Status) → (to new).messages ≡ messages
 
 -- ---- what the tables do
@@ -85,7 +85,7 @@ module _ {scheme : Scheme} {c : Code} {tables : Tables} {input : Input} {to : St
   takes_too_late h = takes_late scheme c tables input kept (comes_late scheme c tables input to by.causes by.row by.messages d by.is by.row_is h)
 
   pub moves_so : (effect : Effect) {given : Input} {new : Status} {ms : List Message} → input ≡ given → d ≡ Ok (decision.Moves new ms) → IsEffect c (past scheme c tables) given (to new) effect
-      → (x : Transition) × (verdict_due scheme c tables input ≡ recorded_if_room scheme (past scheme c tables) (x ∷ [])) × (ms ≡ x.messages) × IsEffect c (past scheme c tables) input x effect
+      → (x : Transition) × (verdict_by_rules scheme c tables input ≡ recorded_if_room scheme (past scheme c tables) (x ∷ [])) × (ms ≡ x.messages) × IsEffect c (past scheme c tables) input x effect
   moves_so effect {given} {new} {ms} is h e = (
     to new,
     moves scheme c tables input to by.causes by.row by.messages d by.is by.row_is new ms h,
@@ -112,7 +112,7 @@ module _ {scheme : Scheme} {c : Code} {tables : Tables} (kept : IsKept scheme c 
       elim (subst (λ l. (code ≡ out_of_memory) ⊎ (first_of (order_refusals scheme c h l o) ≡ Some code)) kept.kept.last
       (subst (λ e. Knows scheme e tables.holdings h → (code ≡ out_of_memory) ⊎ (first_of (order_refusals scheme e h tables.initiator.last o) ≡ Some code)) kept.kept.initiator (why h) (knows_so scheme c tables kept))) [
         | inl memory ↦ inl memory
-        | inr first ↦ inr (ap (verdict_due scheme c tables) given ∙ due_so scheme c tables (Propose o) ∙ order_refused scheme c (past scheme c tables) o code first)
+        | inr first ↦ inr (ap (verdict_by_rules scheme c tables) given ∙ verdict_so scheme c tables (Propose o) ∙ order_refused scheme c (past scheme c tables) o code first)
       ]
 
   abbrev pub to_propose : Order → TransactionId → Status → Transition
@@ -120,7 +120,7 @@ module _ {scheme : Scheme} {c : Code} {tables : Tables} (kept : IsKept scheme c 
 
   pub proposed : {input : Input} {d : Result Decision Refusal} {o : Order} {t : TransactionId} {k : Content} → input ≡ Propose o → ((q : Holding) → Knows scheme tables.initiator.code tables.holdings q → first_of (order_refusals scheme tables.initiator.code q tables.initiator.last o) ≡ None)
       → id_at tables.initiator.code (tables.initiator.last + 1) ≡ Some t → k ≡ content_of o
-      → IsDueOrNoMemory d (decided (initiator_row (initiator.known_transfer (get tables.initiator.transfers t)) column.Propose) (initiator_sends tables.initiator.code t (Some k) column.Propose)) → Decided scheme c tables input (to_propose o t) d
+      → IsExpectedOrNoMemory d (decided (initiator_row (initiator.known_transfer (get tables.initiator.transfers t)) column.Propose) (initiator_sends tables.initiator.code t (Some k) column.Propose)) → Decided scheme c tables input (to_propose o t) d
   proposed {input} {d} {o} {t} {k} given passes number content decides =
       let at = subst (λ l. id_at c (l + 1) ≡ Some t) kept.kept.last (subst (λ e. id_at e (tables.initiator.last + 1) ≡ Some t) kept.kept.initiator number) in
       let row = initiator_row (initiator.known_transfer (get tables.initiator.transfers t)) column.Propose in
@@ -128,8 +128,8 @@ module _ {scheme : Scheme} {c : Code} {tables : Tables} (kept : IsKept scheme c 
         causes = [];
         row = row;
         messages = initiator_sends c t (Some (content_of o)) column.Propose;
-        is = subst (λ x. IsDueOrNoMemory d (decided row (initiator_sends c t (Some x) column.Propose))) content (subst (λ e. IsDueOrNoMemory d (decided row (initiator_sends e t (Some k) column.Propose))) kept.kept.initiator decides);
-        row_is = ap (verdict_due scheme c tables) given ∙ propose_row scheme c tables kept o t (order_passes o passes) at (own_code scheme c (proposals (past scheme c tables) + 1) t at);
+        is = subst (λ x. IsExpectedOrNoMemory d (decided row (initiator_sends c t (Some x) column.Propose))) content (subst (λ e. IsExpectedOrNoMemory d (decided row (initiator_sends e t (Some k) column.Propose))) kept.kept.initiator decides);
+        row_is = ap (verdict_by_rules scheme c tables) given ∙ propose_row scheme c tables kept o t (order_passes o passes) at (own_code scheme c (proposals (past scheme c tables) + 1) t at);
         sent = λ new. refl;
       }
 
@@ -138,7 +138,7 @@ module _ {scheme : Scheme} {c : Code} {tables : Tables} (kept : IsKept scheme c 
   to_ask t = moved t (content_in (newest (transitions_of (past scheme c tables)) t)) 0 (initiator_sends c t (content_in (newest (transitions_of (past scheme c tables)) t)) (initiator.column_of_request (get tables.initiator.transfers t)))
 
   pub requested : {input : Input} {d : Result Decision Refusal} {t : TransactionId} → input ≡ Request t
-      → ((k : Option Content) → IsDueOrNoMemory d (unless (initiator.cancellation_refusals tables.initiator t)
+      → ((k : Option Content) → IsExpectedOrNoMemory d (unless (initiator.cancellation_refusals tables.initiator t)
       (decided (initiator_row (initiator.known_transfer (get tables.initiator.transfers t)) (initiator.column_of_request (get tables.initiator.transfers t))) (initiator_sends tables.initiator.code t k (initiator.column_of_request (get tables.initiator.transfers t))))))
       → Decided scheme c tables input (to_ask t) d
   requested {input} {d} {t} given decides =
@@ -149,8 +149,8 @@ module _ {scheme : Scheme} {c : Code} {tables : Tables} (kept : IsKept scheme c 
         causes = initiator.cancellation_refusals tables.initiator t;
         row = row;
         messages = initiator_sends c t last asks;
-        is = subst (λ e. IsDueOrNoMemory d (unless (initiator.cancellation_refusals tables.initiator t) (decided row (initiator_sends e t last asks)))) kept.kept.initiator (decides last);
-        row_is = ap (verdict_due scheme c tables) given ∙ request_row scheme c tables kept t;
+        is = subst (λ e. IsExpectedOrNoMemory d (unless (initiator.cancellation_refusals tables.initiator t) (decided row (initiator_sends e t last asks)))) kept.kept.initiator (decides last);
+        row_is = ap (verdict_by_rules scheme c tables) given ∙ request_row scheme c tables kept t;
         sent = λ new. refl;
       }
 
@@ -162,7 +162,7 @@ module _ {scheme : Scheme} {c : Code} {tables : Tables} (kept : IsKept scheme c 
 
   pub arrived : {input : Input} {d : Result Decision Refusal} {p : Proposal} {moment : Moment} → input ≡ Received (message.Proposal p) moment → first_of (registry_refusals c (past scheme c tables) (message.Proposal p)) ≡ None
       → ((q : Holding) (found : List ℕ) → Knows scheme tables.acquirer.code tables.holdings q → found ≡ acquirer_findings scheme tables.acquirer.code q p.content
-      → IsDueOrNoMemory d (decided (acquirer_row (acquirer.known_transfer (get tables.acquirer.transfers p.id)) (column_of_proposal (acquirer.kept_content (get tables.acquirer.transfers p.id)) found))
+      → IsExpectedOrNoMemory d (decided (acquirer_row (acquirer.known_transfer (get tables.acquirer.transfers p.id)) (column_of_proposal (acquirer.kept_content (get tables.acquirer.transfers p.id)) found))
       (acquirer_sends tables.acquirer.code p.id found (column_of_proposal (acquirer.kept_content (get tables.acquirer.transfers p.id)) found))))
       → Decided scheme c tables input (to_arrive p moment) d
   arrived {input} {d} {p} {moment} given welcome decides =
@@ -174,8 +174,8 @@ module _ {scheme : Scheme} {c : Code} {tables : Tables} (kept : IsKept scheme c 
         causes = [];
         row = row;
         messages = acquirer_sends c p.id found finds;
-        is = subst (λ e. Knows scheme e tables.holdings h → found ≡ acquirer_findings scheme e h p.content → IsDueOrNoMemory d (decided row (acquirer_sends e p.id found finds))) kept.kept.acquirer (decides h found) (knows_so scheme c tables kept) refl;
-        row_is = ap (verdict_due scheme c tables) given ∙ arrive_row scheme c tables kept p moment found welcome (welcome_foreign c (past scheme c tables) p welcome) refl;
+        is = subst (λ e. Knows scheme e tables.holdings h → found ≡ acquirer_findings scheme e h p.content → IsExpectedOrNoMemory d (decided row (acquirer_sends e p.id found finds))) kept.kept.acquirer (decides h found) (knows_so scheme c tables kept) refl;
+        row_is = ap (verdict_by_rules scheme c tables) given ∙ arrive_row scheme c tables kept p moment found welcome (welcome_foreign c (past scheme c tables) p welcome) refl;
         sent = λ new. refl;
       }
 
@@ -185,7 +185,7 @@ module _ {scheme : Scheme} {c : Code} {tables : Tables} (kept : IsKept scheme c 
 
   pub settled : {input : Input} {d : Result Decision Refusal} {n : Notification} {moment : Moment} {told : Status} → input ≡ Received (message.Notification n) moment → first_of (registry_refusals c (past scheme c tables) (message.Notification n)) ≡ None → same_code n.id.code c ≡ true
       → told ≡ notified_status n.notified
-      → ((k : Option Content) → IsDueOrNoMemory d (decided (initiator_row (initiator.known_transfer (get tables.initiator.transfers n.id)) (Notified told)) (initiator_sends tables.initiator.code n.id k (Notified told))))
+      → ((k : Option Content) → IsExpectedOrNoMemory d (decided (initiator_row (initiator.known_transfer (get tables.initiator.transfers n.id)) (Notified told)) (initiator_sends tables.initiator.code n.id k (Notified told))))
       → Decided scheme c tables input (to_settle n moment) d
   settled {input} {d} {n} {moment} {told} given welcome own is decides =
       let last = content_in (newest (transitions_of (past scheme c tables)) n.id) in
@@ -194,9 +194,9 @@ module _ {scheme : Scheme} {c : Code} {tables : Tables} (kept : IsKept scheme c 
         causes = [];
         row = row;
         messages = initiator_sends c n.id last (Notified (notified_status n.notified));
-        is = subst (λ e. IsDueOrNoMemory d (decided row (initiator_sends e n.id last (Notified (notified_status n.notified))))) kept.kept.initiator
-            (subst (λ s. IsDueOrNoMemory d (decided (initiator_row (initiator.known_transfer (get tables.initiator.transfers n.id)) (Notified s)) (initiator_sends tables.initiator.code n.id last (Notified s)))) is (decides last));
-        row_is = ap (verdict_due scheme c tables) given ∙ settle_row scheme c tables kept n moment welcome own;
+        is = subst (λ e. IsExpectedOrNoMemory d (decided row (initiator_sends e n.id last (Notified (notified_status n.notified))))) kept.kept.initiator
+            (subst (λ s. IsExpectedOrNoMemory d (decided (initiator_row (initiator.known_transfer (get tables.initiator.transfers n.id)) (Notified s)) (initiator_sends tables.initiator.code n.id last (Notified s)))) is (decides last));
+        row_is = ap (verdict_by_rules scheme c tables) given ∙ settle_row scheme c tables kept n moment welcome own;
         sent = λ new. refl;
       }
 
@@ -228,7 +228,7 @@ module _ {scheme : Scheme} {c : Code} {tables : Tables} (kept : IsKept scheme c 
         row = finish_row_of n;
         messages = [];
         is = inl (finish_decides n is decides);
-        row_is = ap (verdict_due scheme c tables) given ∙ finish_row scheme c tables kept n moment welcome foreign;
+        row_is = ap (verdict_by_rules scheme c tables) given ∙ finish_row scheme c tables kept n moment welcome foreign;
         sent = λ new. refl;
       }
 

@@ -35,11 +35,11 @@ use Rattle.checks.specs.Refusing.{first_of, order_refusals}
 use Rattle.initiator.specs.Transfers as initiator
 use Rattle.acquirer.specs.Transfers as acquirer
 use Rattle.registry_core.specs.Kept.{IsKept}
-use Rattle.registry_core.specs.Taking.{verdict_due}
+use Rattle.registry_core.specs.Taking.{verdict_by_rules}
 use Rattle.registry_core.specs.declared.tables.Tables.{Tables}
 use Rattle.registry_core.proofs.FirstRefusals.{first_none, order_causes, refuse_none}
 use Rattle.registry_core.proofs.TablesSayHistory.{foreign_content_so, foreign_known_so, own_column_so, own_known_so, own_stands_so, own_there_so}
-use Rattle.registry_core.proofs.TakenInputs.{due_so}
+use Rattle.registry_core.proofs.TakenInputs.{verdict_so}
 
 module _ (scheme : Scheme) (c : Code) (tables : Tables) (kept : IsKept scheme c tables) where
   abbrev es : List Entry
@@ -47,10 +47,10 @@ module _ (scheme : Scheme) (c : Code) (tables : Tables) (kept : IsKept scheme c 
 
   -- an order whose causes of a refusal don't hold
   pub propose_row : (o : Order) (t : TransactionId) → first_of (order_refusals scheme c (holding scheme c es) (proposals es) o) ≡ None → id_at c (proposals es + 1) ≡ Some t → same_code t.code c ≡ true
-      → verdict_due scheme c tables (Propose o)
+      → verdict_by_rules scheme c tables (Propose o)
       ≡ by_row scheme es (decide.moved t (Some (content_of o)) 0 (initiator_sends c t (Some (content_of o)) column.Propose)) (initiator_row (initiator.known_transfer (map.get tables.initiator.transfers t)) column.Propose)
   propose_row o t none is own =
-      due_so scheme c tables (Propose o)
+      verdict_so scheme c tables (Propose o)
       ∙ refuse_none (propose_refusals scheme c (holding scheme c es) o) (new_transfer_verdict scheme c es (content_of o) (id_at c (proposals es + 1))) (order_causes scheme c es o none)
       ∙ ap (new_transfer_verdict scheme c es (content_of o)) is
       ∙ ap (λ k. by_row scheme es (decide.moved t (Some (content_of o)) 0 (initiator_sends c t (Some (content_of o)) column.Propose)) (initiator_row k column.Propose)) (sym (own_known_so scheme c tables kept t own))
@@ -61,7 +61,7 @@ module _ (scheme : Scheme) (c : Code) (tables : Tables) (kept : IsKept scheme c 
       (decide.moved t (content_in (newest (transitions_of es) t)) 0 (initiator_sends c t (content_in (newest (transitions_of es) t)) (initiator.column_of_request (map.get tables.initiator.transfers t))))
       (initiator_row (initiator.known_transfer (map.get tables.initiator.transfers t)) (initiator.column_of_request (map.get tables.initiator.transfers t)))
 
-  own_request : (t : TransactionId) → same_code t.code c ≡ true → verdict_due scheme c tables (Request t) ≡ refuse (initiator.cancellation_refusals tables.initiator t) (asked_row t)
+  own_request : (t : TransactionId) → same_code t.code c ≡ true → verdict_by_rules scheme c tables (Request t) ≡ refuse (initiator.cancellation_refusals tables.initiator t) (asked_row t)
   own_request t own =
       let col = sym (own_column_so scheme c tables kept t own) in
       let k = sym (own_known_so scheme c tables kept t own) in
@@ -71,18 +71,18 @@ module _ (scheme : Scheme) (c : Code) (tables : Tables) (kept : IsKept scheme c 
       let code = sym kept.kept.initiator in
       let there = own_there_so scheme c tables kept t own in
       let stood = sym (own_stands_so scheme c tables kept t own) in
-      due_so scheme c tables (Request t) ∙ (λ i. cond (not (same_code t.code (code i) && there i)) (IsRefused not_proposed_here) (cond (not (stood i)) (IsRefused no_longer_proposed) (body i)))
+      verdict_so scheme c tables (Request t) ∙ (λ i. cond (not (same_code t.code (code i) && there i)) (IsRefused not_proposed_here) (cond (not (stood i)) (IsRefused no_longer_proposed) (body i)))
 
   -- one of another registry is refused by both
-  foreign_request : (t : TransactionId) → same_code t.code c ≡ false → verdict_due scheme c tables (Request t) ≡ refuse (initiator.cancellation_refusals tables.initiator t) (asked_row t)
+  foreign_request : (t : TransactionId) → same_code t.code c ≡ false → verdict_by_rules scheme c tables (Request t) ≡ refuse (initiator.cancellation_refusals tables.initiator t) (asked_row t)
   foreign_request t other =
       let theirs : same_code t.code tables.initiator.code ≡ false = ap (same_code t.code) kept.kept.initiator ∙ other in
       let rest = refuse ((not (stands_at (transitions_of es) t Proposed), no_longer_proposed) ∷ []) (in_role scheme c es t (newest (transitions_of es) t) 0 (request_column es t)) in
       let rest' = refuse ((not (initiator.is_still_proposed (map.get tables.initiator.transfers t)), no_longer_proposed) ∷ []) (asked_row t) in
-      due_so scheme c tables (Request t) ∙ (λ i. cond (not (other i && is_known (transitions_of es) t)) (IsRefused not_proposed_here) rest)
+      verdict_so scheme c tables (Request t) ∙ (λ i. cond (not (other i && is_known (transitions_of es) t)) (IsRefused not_proposed_here) rest)
       ∙ sym (λ i. cond (not (theirs i && is_some (map.get tables.initiator.transfers t))) (IsRefused not_proposed_here) rest')
 
-  pub request_row : (t : TransactionId) → verdict_due scheme c tables (Request t) ≡ refuse (initiator.cancellation_refusals tables.initiator t) (asked_row t)
+  pub request_row : (t : TransactionId) → verdict_by_rules scheme c tables (Request t) ≡ refuse (initiator.cancellation_refusals tables.initiator t) (asked_row t)
   request_row t =
       elim (cases_Bool (same_code t.code c)) [
         | inl own ↦ own_request t own
@@ -92,11 +92,11 @@ module _ (scheme : Scheme) (c : Code) (tables : Tables) (kept : IsKept scheme c 
   -- ---- messages that aren't refused for what they are
 
   pub arrive_row : (p : Proposal) (moment : Moment) (found : List ℕ) → first_of (registry_refusals c es (message.Proposal p)) ≡ None → same_code p.id.code c ≡ false → found ≡ acquirer_findings scheme c (holding scheme c es) p.content
-      → verdict_due scheme c tables (Received (message.Proposal p) moment)
+      → verdict_by_rules scheme c tables (Received (message.Proposal p) moment)
       ≡ by_row scheme es (decide.moved p.id (Some p.content) moment.seconds (acquirer_sends c p.id found (column_of_proposal (acquirer.kept_content (map.get tables.acquirer.transfers p.id)) found)))
       (acquirer_row (acquirer.known_transfer (map.get tables.acquirer.transfers p.id)) (column_of_proposal (acquirer.kept_content (map.get tables.acquirer.transfers p.id)) found))
   arrive_row p moment found none foreign is =
-      due_so scheme c tables (Received (message.Proposal p) moment)
+      verdict_so scheme c tables (Received (message.Proposal p) moment)
       ∙ refuse_none (registry_refusals c es (message.Proposal p)) (registry_answer scheme c es moment.seconds (message.Proposal p)) (first_none (registry_refusals c es (message.Proposal p)) none)
       ∙ ap (arrival scheme c es p.id (newest (transitions_of es) p.id) p.content moment.seconds) (sym is)
       ∙ ap (λ k. by_row scheme es (decide.moved p.id (Some p.content) moment.seconds (acquirer_sends c p.id found (column_of_proposal k found))) (acquirer_row (decide.known (newest (transitions_of es) p.id)) (column_of_proposal k found))) (sym (foreign_content_so scheme c tables kept p.id foreign))
@@ -104,13 +104,13 @@ module _ (scheme : Scheme) (c : Code) (tables : Tables) (kept : IsKept scheme c 
       (acquirer_row k (column_of_proposal (acquirer.kept_content (map.get tables.acquirer.transfers p.id)) found))) (sym (foreign_known_so scheme c tables kept p.id foreign))
 
   heard : (n : Notification) (moment : Moment) → first_of (registry_refusals c es (message.Notification n)) ≡ None
-      → verdict_due scheme c tables (Received (message.Notification n) moment) ≡ in_role scheme c es n.id (newest (transitions_of es) n.id) moment.seconds (Notified (notified_status n.notified))
+      → verdict_by_rules scheme c tables (Received (message.Notification n) moment) ≡ in_role scheme c es n.id (newest (transitions_of es) n.id) moment.seconds (Notified (notified_status n.notified))
   heard n moment none =
-      due_so scheme c tables (Received (message.Notification n) moment)
+      verdict_so scheme c tables (Received (message.Notification n) moment)
       ∙ refuse_none (registry_refusals c es (message.Notification n)) (registry_answer scheme c es moment.seconds (message.Notification n)) (first_none (registry_refusals c es (message.Notification n)) none)
 
   pub settle_row : (n : Notification) (moment : Moment) → first_of (registry_refusals c es (message.Notification n)) ≡ None → same_code n.id.code c ≡ true
-      → verdict_due scheme c tables (Received (message.Notification n) moment)
+      → verdict_by_rules scheme c tables (Received (message.Notification n) moment)
       ≡ by_row scheme es (decide.moved n.id (content_in (newest (transitions_of es) n.id)) moment.seconds (initiator_sends c n.id (content_in (newest (transitions_of es) n.id)) (Notified (notified_status n.notified))))
       (initiator_row (initiator.known_transfer (map.get tables.initiator.transfers n.id)) (Notified (notified_status n.notified)))
   settle_row n moment none own =
@@ -120,7 +120,7 @@ module _ (scheme : Scheme) (c : Code) (tables : Tables) (kept : IsKept scheme c 
 
   -- as the acquirer's table says, and not while a unit is held
   pub finish_row : (n : Notification) (moment : Moment) → first_of (registry_refusals c es (message.Notification n)) ≡ None → same_code n.id.code c ≡ false
-      → verdict_due scheme c tables (Received (message.Notification n) moment)
+      → verdict_by_rules scheme c tables (Received (message.Notification n) moment)
       ≡ by_row scheme es (decide.moved n.id (content_in (newest (transitions_of es) n.id)) moment.seconds [])
       (unless_held (option_map_or (λ k. list_any (λ p. (holding scheme c es).is_held p.unit) (pieces k.units)) (acquirer.kept_content (map.get tables.acquirer.transfers n.id)) false)
       (acquirer_row (acquirer.known_transfer (map.get tables.acquirer.transfers n.id)) (Notified (notified_status n.notified))))

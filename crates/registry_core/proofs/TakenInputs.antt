@@ -20,7 +20,7 @@ use Rattle.protocol.specs.declared.node_core.Stepped.TheVariants as stepped
 use Rattle.outbox.specs.Outgoing.{outgoing}
 use Rattle.registry_core.specs.Kept.{IsKept}
 use Rattle.registry_core.specs.Readings.{foreign_row, is_foreign, is_own, unit_holding_at, own_row, row_at, account_status_at}
-use Rattle.registry_core.specs.Taking.{Takes, verdict_due}
+use Rattle.registry_core.specs.Taking.{Takes, verdict_by_rules}
 use Rattle.registry_core.specs.declared.tables.Tables.{Tables}
 
 -- tables that say the same
@@ -34,9 +34,9 @@ pub record AreSame (tables tables' : Tables) : Type 0 where
 pub are_same : (tables : Tables) → AreSame tables tables
 are_same tables = record { journal = refl; holdings = refl; initiator = refl; acquirer = refl; outbox = refl }
 
-pub due_so : (scheme : Scheme) (c : Code) (tables : Tables) (input : Input) → verdict_due scheme c tables input ≡ registry_verdict scheme c (history scheme (Registry c) tables.journal.items) input
+pub verdict_so : (scheme : Scheme) (c : Code) (tables : Tables) (input : Input) → verdict_by_rules scheme c tables input ≡ registry_verdict scheme c (history scheme (Registry c) tables.journal.items) input
 unfolding verdict
-due_so scheme c tables input = refl
+verdict_so scheme c tables input = refl
 
 module _ (scheme : Scheme) (c : Code) where
   abbrev past : List Input → List Entry
@@ -62,7 +62,7 @@ module _ (scheme : Scheme) (c : Code) where
 
   -- why an input may be given up
   abbrev pub GivenUp : Tables → Input → ℕ → Type 0
-  GivenUp tables input code = (code ≡ out_of_memory) ⊎ (verdict_due scheme c tables input ≡ IsRefused code)
+  GivenUp tables input code = (code ≡ out_of_memory) ⊎ (verdict_by_rules scheme c tables input ≡ IsRefused code)
 
   pub takes_refused : (tables tables' : Tables) (input : Input) (r : Refusal) → IsKept scheme c tables → AreSame tables tables' → GivenUp tables input r.code → Takes scheme c tables tables' input (Err r)
   takes_refused tables tables' input r h same why =
@@ -81,27 +81,27 @@ module _ (scheme : Scheme) (c : Code) where
   takes_err tables tables' input (Ok x) P h same e why = absurd e
   takes_err tables tables' input (Err r) P h same e why = takes_refused tables tables' input r h same (why r e)
 
-  pub takes_repeat : (tables : Tables) (input : Input) → IsKept scheme c tables → verdict_due scheme c tables input ≡ IsRepeat → Takes scheme c tables tables input (Ok stepped.Repeat)
+  pub takes_repeat : (tables : Tables) (input : Input) → IsKept scheme c tables → verdict_by_rules scheme c tables input ≡ IsRepeat → Takes scheme c tables tables input (Ok stepped.Repeat)
   takes_repeat tables input h is = record { answer_is = inl (ap (answer_of (length tables.journal.items)) (sym is)); journal_is = refl; kept = h }
 
-  pub takes_late : (tables : Tables) (input : Input) → IsKept scheme c tables → verdict_due scheme c tables input ≡ IsLate → Takes scheme c tables tables input (Ok stepped.Late)
+  pub takes_late : (tables : Tables) (input : Input) → IsKept scheme c tables → verdict_by_rules scheme c tables input ≡ IsLate → Takes scheme c tables tables input (Ok stepped.Late)
   takes_late tables input h is = record { answer_is = inl (ap (answer_of (length tables.journal.items)) (sym is)); journal_is = refl; kept = h }
 
-  pub takes_recorded : (tables tables' : Tables) (input : Input) (xs : List Transition) (place : ℕ) → verdict_due scheme c tables input ≡ IsRecorded xs → place ≡ length tables.journal.items → tables'.journal.items ≡ tables.journal.items ++ input ∷ [] → IsKept scheme c tables'
+  pub takes_recorded : (tables tables' : Tables) (input : Input) (xs : List Transition) (place : ℕ) → verdict_by_rules scheme c tables input ≡ IsRecorded xs → place ≡ length tables.journal.items → tables'.journal.items ≡ tables.journal.items ++ input ∷ [] → IsKept scheme c tables'
       → Takes scheme c tables tables' input (Ok (stepped.Recorded place))
   takes_recorded tables tables' input xs place is at more h =
       record { answer_is = inl (ap (λ n. Ok (stepped.Recorded n)) at ∙ ap (answer_of (length tables.journal.items)) (sym is)); journal_is = more; kept = h }
 
   -- ---- room in the journal
 
-  full_refuses : (tables : Tables) (input : Input) (xs : List Transition) → verdict_due scheme c tables input ≡ recorded_if_room scheme (past tables.journal.items) xs → nat_le scheme.records (length tables.journal.items) ≡ true → verdict_due scheme c tables input ≡ IsRefused journal_full
+  full_refuses : (tables : Tables) (input : Input) (xs : List Transition) → verdict_by_rules scheme c tables input ≡ recorded_if_room scheme (past tables.journal.items) xs → nat_le scheme.records (length tables.journal.items) ≡ true → verdict_by_rules scheme c tables input ≡ IsRefused journal_full
   full_refuses tables input xs is full = is ∙ ap (λ n. cond (nat_le scheme.records n) (IsRefused journal_full) (IsRecorded xs)) (length_history scheme (Registry c) tables.journal.items) ∙ ap (λ b. cond b (IsRefused journal_full) (IsRecorded xs)) full
 
-  pub room_enters : (tables : Tables) (input : Input) (xs : List Transition) → verdict_due scheme c tables input ≡ recorded_if_room scheme (past tables.journal.items) xs → nat_le scheme.records (length tables.journal.items) ≡ false → verdict_due scheme c tables input ≡ IsRecorded xs
+  pub room_enters : (tables : Tables) (input : Input) (xs : List Transition) → verdict_by_rules scheme c tables input ≡ recorded_if_room scheme (past tables.journal.items) xs → nat_le scheme.records (length tables.journal.items) ≡ false → verdict_by_rules scheme c tables input ≡ IsRecorded xs
   room_enters tables input xs is room = is ∙ ap (λ n. cond (nat_le scheme.records n) (IsRefused journal_full) (IsRecorded xs)) (length_history scheme (Registry c) tables.journal.items) ∙ ap (λ b. cond b (IsRefused journal_full) (IsRecorded xs)) room
 
   -- a copy of the input is refused where the journal is full or memory ran out
-  pub unfitting : (tables : Tables) (input : Input) (xs : List Transition) (code : ℕ) → verdict_due scheme c tables input ≡ recorded_if_room scheme (past tables.journal.items) xs
+  pub unfitting : (tables : Tables) (input : Input) (xs : List Transition) (code : ℕ) → verdict_by_rules scheme c tables input ≡ recorded_if_room scheme (past tables.journal.items) xs
       → (code ≡ out_of_memory) ⊎ ((code ≡ journal_full) × (nat_le scheme.records (length tables.journal.items) ≡ true)) → GivenUp tables input code
   unfitting tables input xs code is (inl memory) = inl memory
   unfitting tables input xs code is (inr full) = inr (full_refuses tables input xs is full.1 ∙ ap (λ n. IsRefused n) (sym full.0))

@@ -8,7 +8,7 @@ ghost use Rattle.units.specs.declared.code.Node.TheVariants.{Registry};
 ghost use Rattle.wire.specs.declared.input.Input.TheVariants as inputs;
 ghost use Rattle.registry_core.specs.Effects.{IsEffect, IsReservable};
 ghost use Rattle.registry_core.specs.Kept.{IsKept};
-ghost use Rattle.registry_core.specs.Taking.{Takes, verdict_due};
+ghost use Rattle.registry_core.specs.Taking.{Takes, verdict_by_rules};
 
 use crate::effect::{Effect, carry_out};
 use accounts::Holdings;
@@ -64,7 +64,7 @@ impl Tables {
     ) -> Result<Stepped, Refusal>
         requires kept { IsKept scheme.now code self.old }
         requires row { (x : Transition)
-            × (verdict_due scheme.now code self.old input.now
+            × (verdict_by_rules scheme.now code self.old input.now
             ≡ recorded_if_room scheme.now (history scheme.now (Registry code) self.old.journal.items) (x ∷ []))
             × (messages ≡ x.messages)
             × IsEffect code (history scheme.now (Registry code) self.old.journal.items) input.now x effect }

@@ -15,7 +15,7 @@ use Rattle.protocol.specs.Verdict.{history}
 use Rattle.protocol.specs.declared.node_core.Stepped.{Stepped}
 use Rattle.desk.specs.Calls.{Takes}
 use Rattle.desk.specs.Desks.{IsTakeOf}
-use Rattle.desk.specs.Due.{told_of, stopped}
+use Rattle.desk.specs.Expected.{told_of, stopped}
 use Rattle.desk.specs.Telling.{kept}
 use Rattle.desk.specs.Views.{StateView, SeatView}
 use Rattle.desk.specs.declared.notes.Note.{Note}
@@ -64,7 +64,7 @@ judged_result messages m moment old new result takes false e f =
     absurd (not_false _ (ap (λ (r : Result Stepped Refusal). is_without_journal (told_of r)) stops) f)
 judged_result messages m moment old new result takes true e f =
     elim ((takes.1 e).0) [
-      | inl due ↦ subst (λ (r : Result Stepped Refusal). IsJudged (told_of r)) (sym due) (judged_verdict message_code (length old.journal) _ (λ code. messages old.scheme old.node (history old.scheme old.node old.journal) m moment code))
+      | inl expected ↦ subst (λ (r : Result Stepped Refusal). IsJudged (told_of r)) (sym expected) (judged_verdict message_code (length old.journal) _ (λ code. messages old.scheme old.node (history old.scheme old.node old.journal) m moment code))
       | inr lacks ↦ absurd (not_false _ (ap (λ (r : Result Stepped Refusal). is_without_journal (told_of r)) lacks) f)
     ]
 

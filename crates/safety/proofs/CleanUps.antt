@@ -1,4 +1,4 @@
--- What a clean-up takes. A test for one transaction is carried from the outside of `due` to its inside: through what
+-- What a clean-up takes. A test for one transaction is carried from the outside of `expired` to its inside: through what
 -- the table says of each, through the sort, and through the age, down to the newest transition of each transaction, of
 -- which one at most passes. Order is carried the other way: the newest ones are of different transactions, the sort puts
 -- such in ascending order, and what the table says of each is of the same transaction.
@@ -20,7 +20,7 @@ use Rattle.status.specs.declared.id.TransactionId.{TransactionId}
 use Rattle.status.specs.declared.rows.Row.{Row}
 use Rattle.status.specs.declared.rows.Row.TheVariants.{Late, Move, Refused, Repeat}
 use Rattle.status.specs.declared.rows.RowInput.TheVariants as column
-use Rattle.protocol.specs.AtLog.{by_id, cleaned, due, is_old, newest_of_each, put_transition}
+use Rattle.protocol.specs.AtLog.{by_id, cleaned, expired, is_old, newest_of_each, put_transition}
 use Rattle.protocol.specs.Deciding.{known, moved, moved_by}
 use Rattle.protocol.specs.Effects.{log_sends}
 use Rattle.protocol.specs.History.{Transition, newest}
@@ -253,7 +253,7 @@ ascending_cleaned moment (x ∷ xs) h =
     of_cleaned (λ ys. Pairwise Before (ys ++ flat_map (cleaned moment) xs)) moment x rest
     (λ y same. (subst (λ u. AllByRecursion (λ (z : Transition). id_cmp u z.id ≡ Less) (flat_map (cleaned moment) xs)) (sym same) later, rest))
 
--- ---- what is due
+-- ---- what has expired
 
 module _ (xs : List Transition) (moment : ℕ) where
   -- those that are old enough are of different transactions
@@ -276,13 +276,13 @@ module _ (xs : List Transition) (moment : ℕ) where
       ∙ filter_swap (is_of t) (is_old moment) (newest_of_each xs)
       ∙ ap (filter (is_old moment)) (newest_alone xs t)
 
-  -- what is due of each transaction
-  pub due_of_each : (t : TransactionId) → filter (λ x. same_id x.id t) (due xs moment) ≡ option_map_or (λ y. cond (is_old moment y) (cleaned moment y) []) (newest xs t) []
-  due_of_each t =
+  -- what has expired of each transaction
+  pub expired_of_each : (t : TransactionId) → filter (λ x. same_id x.id t) (expired xs moment) ≡ option_map_or (λ y. cond (is_old moment y) (cleaned moment y) []) (newest xs t) []
+  expired_of_each t =
       filter_flat (is_of t) (cleaned moment) (filter_cleaned t moment) (by_id (filter (is_old moment) (newest_of_each xs)))
       ∙ ap (flat_map (cleaned moment)) (sorted_of t)
       ∙ of_newest (newest xs t)
 
-  -- what is due stands in the order of identifiers
-  pub ascending_due : Pairwise (λ a b. id_cmp a.id b.id ≡ Less) (due xs moment)
-  ascending_due = ascending_cleaned moment (by_id (filter (is_old moment) (newest_of_each xs))) (ascending_by_id (filter (is_old moment) (newest_of_each xs)) old_differ)
+  -- what has expired stands in the order of identifiers
+  pub ascending_expired : Pairwise (λ a b. id_cmp a.id b.id ≡ Less) (expired xs moment)
+  ascending_expired = ascending_cleaned moment (by_id (filter (is_old moment) (newest_of_each xs))) (ascending_by_id (filter (is_old moment) (newest_of_each xs)) old_differ)

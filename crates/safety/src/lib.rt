@@ -16,7 +16,7 @@ mod weaving;
 
 pub use agreement::nodes_agree;
 pub use canonical_blocks::canonical_form_keeps_units;
-pub use clean_ups::clean_up_takes_what_is_due;
+pub use clean_ups::clean_up_takes_what_has_expired;
 pub use counting::{completed_once, numbers_are_new, registry_counts_once};
 pub use debts::debts_are_owed;
 pub use deliveries::deliveries_are_welcome;

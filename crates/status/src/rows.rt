@@ -36,7 +36,7 @@ pub enum RowInput {
     /// A notification of that status. One of Completed at the acquirer is meant where none of the
     /// transaction's units is held there.
     Notified(Status),
-    /// A clean-up that finds the transaction due.
+    /// A clean-up that finds the transaction expired.
     CleanUp,
     /// An order to ask for cancellation, the first for its transaction.
     RequestOrder,

@@ -41,7 +41,8 @@ pub trait NodeStore {
     ///
     /// Fails with `Device` or `Full` where the device failed or has no room: the batch is there as a whole or not at
     /// all, and a reopening settles which. Fails with `NoMemory` where memory ran out: the content is as it was.
-    /// After each of these a reopening is due. Fails with `Reopen`, and changes nothing, where one was due before.
+    /// After each of these the store must be opened again. Fails with `Reopen`, and changes nothing, where it had to be
+    /// before.
     fn append(&mut self, batch: &[Input]) -> Result<(), StoreFault>
         ensures appends { Appends is_honest content may_hold must_reopen self.old self.new batch.now result }
         ensures count { faults self.new ≡ faults_after (faults self.old) result }
@@ -52,8 +53,8 @@ pub trait NodeStore {
     ///
     /// Fails with `Damaged(p)` where place p is the least that is missing while a later one is there, or whose text
     /// is no record's, and with `NoMemory` where memory ran out: the store goes on as it was. Fails with `Device` or
-    /// `Full` where the device failed: a reopening is due, and finds the same content. Fails with `Reopen`, and
-    /// changes nothing, where one was due before.
+    /// `Full` where the device failed: the store must be opened again, and a reopening finds the same content. Fails
+    /// with `Reopen`, and changes nothing, where it had to be before.
     fn load(&mut self) -> Result<Vec<Input>, StoreFault>
         ensures loads { Loads is_honest content may_hold must_reopen self.old self.new 0 (content self.old) result }
         ensures count { faults self.new ≡ faults_after (faults self.old) result }
@@ -71,9 +72,9 @@ pub trait NodeStore {
         ensures own { is_honest self.new → must_reopen self.new ≡ false → is_own self.old → is_own self.new };
 
     /// Opens the store again, whether or not it must be. After `Ok` the content is one that it could hold before.
-    /// After an error, which is never `Reopen`, a reopening is still due. After `WrongNode`, `WrongVersion`, and
-    /// `Damaged(p)` where `p` isn't 0, it finds what one before could find. What it finds after the other errors isn't
-    /// said here.
+    /// After an error, which is never `Reopen`, it must still be opened again. After `WrongNode`, `WrongVersion`, and
+    /// `Damaged(p)` where `p` isn't 0, the next reopening finds what one before could find. What it finds after the
+    /// other errors isn't said here.
     fn reopen(&mut self) -> Result<(), StoreFault>
         ensures reopens { Reopens is_honest content may_hold must_reopen self.old self.new result }
         ensures count { faults self.new ≡ faults_after (faults self.old) result }

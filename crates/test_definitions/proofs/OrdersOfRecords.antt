@@ -13,7 +13,7 @@ use Rattle.protocol.specs.declared.event.WorldEvent.TheVariants.{Take, Commit, P
 use Rattle.protocol.specs.declared.node_core.Stepped.{Stepped}
 use Rattle.protocol.specs.declared.node_core.Stepped.TheVariants.{Recorded}
 use Rattle.protocol.specs.declared.replay_fault.ReplayFault.TheVariants.{NotRecorded, NoMemory}
-use Rattle.protocol.specs.Cores.{HasFault, IsAt, IsDueOrNoMemory, IsFirstNotRecorded, Replays, answer}
+use Rattle.protocol.specs.Cores.{HasFault, IsAt, IsExpectedOrNoMemory, IsFirstNotRecorded, Replays, answer}
 use Rattle.protocol.specs.Plausible.{AllSent, IsPlausible}
 use Rattle.protocol.specs.Refusing.{MessagesRefusedBy, NeverRefusedBy}
 use Rattle.protocol.specs.Verdict.{verdict}
@@ -168,25 +168,25 @@ faults_of_journals = (second_not_recorded, tt)
 pub faults_at : IsAt 1 (NotRecorded 1) × IsAt 1 NoMemory × (IsAt 1 (NotRecorded 2) → ⊥)
 faults_at = (refl, tt, λ e. let same : ◌≡◌ {A = ℕ} 2 1 = e in omega arith)
 
--- ---- what is due, or out of memory in its place
+-- ---- what is expected, or out of memory in its place
 
-abbrev due : Result Stepped Refusal
-due = Ok (Recorded 0)
+abbrev expected : Result Stepped Refusal
+expected = Ok (Recorded 0)
 
-pub due_or_memory : IsDueOrNoMemory due due × IsDueOrNoMemory (Err (record { code = 50 })) due
-due_or_memory = (inl refl, inr refl)
+pub expected_or_memory : IsExpectedOrNoMemory expected expected × IsExpectedOrNoMemory (Err (record { code = 50 })) expected
+expected_or_memory = (inl refl, inr refl)
 
-pub repeat_is_not_due : IsDueOrNoMemory again due → ⊥
-repeat_is_not_due (inl e) = cc (e)
-repeat_is_not_due (inr e) = cc (e)
+pub repeat_is_not_expected : IsExpectedOrNoMemory again expected → ⊥
+repeat_is_not_expected (inl e) = cc (e)
+repeat_is_not_expected (inr e) = cc (e)
 
 abbrev code_of : Result Stepped Refusal → ℕ
 code_of (Ok x) = 0
 code_of (Err r) = r.code
 
-pub refusal_is_not_due : IsDueOrNoMemory (Err (record { code = 46 })) due → ⊥
-refusal_is_not_due (inl e) = cc (e)
-refusal_is_not_due (inr e) = let code : ◌≡◌ {A = ℕ} 46 50 = ap code_of e in omega arith
+pub refusal_is_not_expected : IsExpectedOrNoMemory (Err (record { code = 46 })) expected → ⊥
+refusal_is_not_expected (inl e) = cc (e)
+refusal_is_not_expected (inr e) = let code : ◌≡◌ {A = ℕ} 46 50 = ap code_of e in omega arith
 
 -- ---- journals that aren't even plausible
 

@@ -77,7 +77,7 @@ fn next_message(rt: &impl Abort, link: &Link, from: usize, to: usize) -> Option<
     Some((key, message.copy().expect(rt, "memory")))
 }
 
-/// Sends what is due between these places, a message again where it wasn't received. The sender takes an
+/// Sends what is unacknowledged between these nodes, a message again where it wasn't received. The sender takes an
 /// acknowledgement, which it commits with its next records. Returns how many were sent.
 fn send_between(rt: &impl Abort, alloc: Global, link: &mut Link, from: usize, to: usize) -> usize {
     for sent in 0..MOST {
@@ -94,7 +94,7 @@ fn send_between(rt: &impl Abort, alloc: Global, link: &mut Link, from: usize, to
     MOST
 }
 
-/// Sends what is due between all nodes. Returns how many messages were sent.
+/// Sends what is unacknowledged between all nodes. Returns how many messages were sent.
 fn send_round(rt: &impl Abort, alloc: Global, link: &mut Link) -> usize {
     let mut sent: usize = 0;
     for from in 0..3 {

@@ -1,4 +1,4 @@
--- What following comes to, once no node is due: the journals are gone through, or no events lead to them.
+-- What following comes to, once no node is pending: the journals are gone through, or no events lead to them.
 use Rattle.std.proofs.Common.{◌≡◌, ℕ, ◌<◌, ◌≤◌, List, [], ◌∷◌, ◌++◌, true, Some, None, Ok, inl, inr, refl, sym, ap, subst, ◌∙◌, length, map, take, arith, length-append, append-nil, append_assoc}
 use Rattle.std.specs.Prelude.{slice_get, slice_index_or, ◌⊎◌}
 use Rattle.std.proofs.lemmas.Bool.{cases_Bool}
@@ -47,7 +47,7 @@ no_more : (xs : List Input) → length xs ≤ 0 → xs ≡ []
 no_more [] e = refl
 no_more (x ∷ xs) e = absurd (omega arith)
 
--- ---- no node is due
+-- ---- no node is pending
 
 module _ (scheme : Scheme) (journals : Node → List Input) (w : World) (events : List WorldEvent) (places : TransactionId → List ℕ) (posted : List ℕ) (f : Follows scheme journals w events places posted []) (quiet : IsQuiet w) where
   stuck : IsStuck w journals
@@ -107,8 +107,8 @@ module _ (scheme : Scheme) (journals : Node → List Input) (w : World) (events 
 
 module _ (scheme : Scheme) (w : World) (n : Node) (quiet : IsQuiet w) (scheme_is : w.scheme ≡ scheme) (node : is_node scheme n ≡ true) where
   -- what the node records, its verdict says so
-  due_of : (e : WorldEvent) (input : Input) (place : ℕ) → Gives w e n input → (step w e).outcome ≡ Recorded place → answer scheme n (committed_at w n) input ≡ Ok (stepped.Recorded (length (committed_at w n)))
-  due_of e input place gives recorded =
+  answer_of_step : (e : WorldEvent) (input : Input) (place : ℕ) → Gives w e n input → (step w e).outcome ≡ Recorded place → answer scheme n (committed_at w n) input ≡ Ok (stepped.Recorded (length (committed_at w n)))
+  answer_of_step e input place gives recorded =
       let idle = quiet.idle n (ap (λ (z : Scheme). is_node z n) scheme_is ∙ node) in
       let came : (at_node w (station w n) (take_input w.scheme input)).outcome ≡ Recorded place = subst (λ (z : Stepped). z.outcome ≡ Recorded place) (gives_step w e n input place gives recorded) recorded in
       let says = take_says w.scheme n idle.at input place (found_at_node n w.stations idle.at idle.is) idle.settled (subst (λ o. (at_node w o (take_input w.scheme input)).outcome ≡ Recorded place) idle.is came) in
@@ -138,16 +138,16 @@ module _ (scheme : Scheme) (w : World) (n : Node) (quiet : IsQuiet w) (scheme_is
                 first.refused
                 (subst (λ (z : Input). answer scheme n (take (length (ks n)) (js n)) z ≡ Ok (stepped.Recorded (length (ks n)))) (sym same)
                 (subst (λ k. answer scheme n (take k (js n)) input ≡ Ok (stepped.Recorded k)) (sym count)
-                (subst (λ (xs : List Input). answer scheme n xs input ≡ Ok (stepped.Recorded (length (committed_at w n)))) (sym before) (due_of e input place gives recorded))))
+                (subst (λ (xs : List Input). answer scheme n xs input ≡ Ok (stepped.Recorded (length (committed_at w n)))) (sym before) (answer_of_step e input place gives recorded))))
           ]
 
 -- a node's journal is as the core recorded it, or goes on beyond it
 abbrev GoesOn : Scheme → (Node → List Input) → (Node → List Input) → Node → Type 0
 GoesOn scheme js ks n = (js n ≡ ks n) ⊎ ((is_node scheme n ≡ true) × IsAhead scheme n (js n) (ks n))
 
-follows_beyond : (scheme : Scheme) (js ks : Node → List Input) (w : World) (events : List WorldEvent) (places : TransactionId → List ℕ) (posted : List ℕ) (due : List Node) → IsQuiet w → w.scheme ≡ scheme → ((n : Node) → GoesOn scheme js ks n)
-    → Follows scheme ks w events places posted due → Follows scheme js w events places posted due
-follows_beyond scheme js ks w events places posted due quiet scheme_is goes f = record {
+follows_beyond : (scheme : Scheme) (js ks : Node → List Input) (w : World) (events : List WorldEvent) (places : TransactionId → List ℕ) (posted : List ℕ) (pending : List Node) → IsQuiet w → w.scheme ≡ scheme → ((n : Node) → GoesOn scheme js ks n)
+    → Follows scheme ks w events places posted pending → Follows scheme js w events places posted pending
+follows_beyond scheme js ks w events places posted pending quiet scheme_is goes f = record {
   led = f.led;
   front = λ n. front_of n (goes n);
   placed = f.placed;
@@ -187,7 +187,7 @@ shorter scheme js ks n (inr a) = omega (arith, ap length a.1.is, length-append (
 
 -- ---- by what following keeps
 
-module _ (scheme : Scheme) (js ks : List (List Input)) (f : Following) (i : IsFollowing scheme f) (none_due : f.due.items ≡ []) (whole_is : (n : Node) → whole_at f.world n ≡ journal_of scheme ks n) (ahead : AreAhead scheme js ks)
+module _ (scheme : Scheme) (js ks : List (List Input)) (f : Following) (i : IsFollowing scheme f) (none_pending : f.pending.items ≡ []) (whole_is : (n : Node) → whole_at f.world n ≡ journal_of scheme ks n) (ahead : AreAhead scheme js ks)
     (counts : List ℕ) (counts_are : counts ≡ map (λ j. length j) js) (ns : List Node) (are : ns ≡ nodes scheme) where
   scheme_kept : f.world.scheme ≡ scheme
   scheme_kept = ap (λ (z : World). z.scheme) i.follows.follows.led ∙ run_scheme (opening scheme) f.events.items
@@ -196,7 +196,7 @@ module _ (scheme : Scheme) (js ks : List (List Input)) (f : Following) (i : IsFo
   over =
       follows_beyond scheme (journal_of scheme js) (journal_of scheme ks) (without_tails f.world) f.events.items (places_of f) f.posted.items [] i.quiet scheme_kept (goes_on scheme js ks ahead)
       (follows_journals scheme (whole_at f.world) (journal_of scheme ks) (without_tails f.world) f.events.items (places_of f) f.posted.items [] (λ n. sym (whole_is n))
-      (subst (λ z. Follows scheme (whole_at f.world) (without_tails f.world) f.events.items (places_of f) f.posted.items z) none_due i.follows.follows))
+      (subst (λ z. Follows scheme (whole_at f.world) (without_tails f.world) f.events.items (places_of f) f.posted.items z) none_pending i.follows.follows))
 
   count_is : (n : Node) → count_at scheme counts n ≡ length (journal_of scheme js n)
   count_is n = ap (λ (ks : List ℕ). count_at scheme ks n) counts_are ∙ counted scheme js n

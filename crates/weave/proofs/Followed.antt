@@ -31,7 +31,7 @@ use Rattle.weave.proofs.Waiting.{waits_on}
 
 -- ---- one record more
 
-module _ (scheme : Scheme) (journals : Node → List Input) (w : World) (events : List WorldEvent) (places : TransactionId → List ℕ) (posted : List ℕ) (due : List Node) (f : Follows scheme journals w events places posted due) where
+module _ (scheme : Scheme) (journals : Node → List Input) (w : World) (events : List WorldEvent) (places : TransactionId → List ℕ) (posted : List ℕ) (pending : List Node) (f : Follows scheme journals w events places posted pending) where
   pub all_placed : AllPlaced w
   all_placed = subst AllPlaced (sym f.led) (run_placed (opening scheme) events (opening_placed scheme))
 
@@ -45,10 +45,10 @@ module _ (scheme : Scheme) (journals : Node → List Input) (w : World) (events 
     a : Advances w (run w (e ∷ Commit n 1 ∷ [])) n input
     a = advances w e n input place all_placed quiet gives recorded
 
-    waits_still : Contains due n → (m : Node) → Contains due m ⊎ Waits (run w (e ∷ Commit n 1 ∷ [])) journals m
+    waits_still : Contains pending n → (m : Node) → Contains pending m ⊎ Waits (run w (e ∷ Commit n 1 ∷ [])) journals m
     waits_still own m =
         elim (cases_Bool (same_node n m)) [
-          | inl y ↦ inl (subst (Contains due) (node_of_same n m y) own)
+          | inl y ↦ inl (subst (Contains pending) (node_of_same n m y) own)
           | inr other ↦
               elim (f.waits m) [
                 | inl h ↦ inl h
@@ -63,7 +63,7 @@ module _ (scheme : Scheme) (journals : Node → List Input) (w : World) (events 
               ]
         ]
 
-    pub follows_taken : Contains due n → Follows scheme journals (run w (e ∷ Commit n 1 ∷ [])) (events ++ e ∷ Commit n 1 ∷ []) places posted due
+    pub follows_taken : Contains pending n → Follows scheme journals (run w (e ∷ Commit n 1 ∷ [])) (events ++ e ∷ Commit n 1 ∷ []) places posted pending
     follows_taken own = record {
       led = ap (λ (z : World). run z (e ∷ Commit n 1 ∷ [])) f.led ∙ sym (run_append (opening scheme) events (e ∷ Commit n 1 ∷ []));
       front = front_on w (run w (e ∷ Commit n 1 ∷ [])) n input a journals rest left f.front;
@@ -93,17 +93,17 @@ places_more places more bag p put all k q is =
     pick true ks h = contains_left ks (length bag ∷ []) k h
     pick false ks h = h
 
-pub follows_posted : (scheme : Scheme) (journals : Node → List Input) (w : World) (events : List WorldEvent) (places more : TransactionId → List ℕ) (posted : List ℕ) (due : List Node) (n : Node) (key : ℕ) (m : Message)
-    → Follows scheme journals w events places posted due → Contains due n → next_message w n key ≡ Some m
+pub follows_posted : (scheme : Scheme) (journals : Node → List Input) (w : World) (events : List WorldEvent) (places more : TransactionId → List ℕ) (posted : List ℕ) (pending : List Node) (n : Node) (key : ℕ) (m : Message)
+    → Follows scheme journals w events places posted pending → Contains pending n → next_message w n key ≡ Some m
     → ((t : TransactionId) → more t ≡ (if same_id (transaction m) t then places t ++ length w.bag ∷ [] else places t))
-    → Follows scheme journals (with_message w n key m) (events ++ Post n key ∷ []) more posted (due ++ receiver m ∷ [])
-follows_posted scheme journals w events places more posted due n key m f own is put = record {
+    → Follows scheme journals (with_message w n key m) (events ++ Post n key ∷ []) more posted (pending ++ receiver m ∷ [])
+follows_posted scheme journals w events places more posted pending n key m f own is put = record {
   led = sym (posts w n key m is) ∙ ap (λ (z : World). run z (Post n key ∷ [])) f.led ∙ sym (run_append (opening scheme) events (Post n key ∷ []));
   front = f.front;
   placed = places_more places more w.bag (record { node = n; key = key; message = m }) put f.placed;
   counted = f.counted;
   counts = f.counts;
-  waits = waits_more w n key m journals due own f.waits;
+  waits = waits_more w n key m journals pending own f.waits;
 }
 
 -- ---- what is left

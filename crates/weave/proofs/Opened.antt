@@ -1,4 +1,4 @@
--- The opening world, with the journals of cores as tails: nothing is followed yet, and each node of the scheme is due.
+-- The opening world, with the journals of cores as tails: nothing is followed yet, and each node of the scheme is pending.
 use Rattle.std.proofs.Common.{◌≡◌, ℕ, zero, suc, ◌+◌, List, [], ◌∷◌, ◌++◌, Bool, true, false, cond, Vec, Global, Some, None, inl, inr, refl, sym, ap, subst, ◌∙◌, length, map, replicate, arith, get_or, append_assoc, length-append}
 use Rattle.std.specs.BTreeMap as tree
 use Rattle.std.specs.BTreeMap.{BTreeMap}
@@ -113,16 +113,16 @@ whole_is scheme cores nodes_are n =
 
 -- ---- nothing is followed yet
 
-pub opened : (scheme : Scheme) (cores : List Core) (f : Following) → map node_of cores ≡ nodes scheme → f.world ≡ uncommitted scheme cores → f.events.items ≡ [] → ((t : TransactionId) → places_of f t ≡ []) → f.posted.items ≡ replicate (length f.due.items) 0
-    → length f.posted.items ≡ length f.due.items → f.due.items ≡ nodes scheme → IsFollowing scheme f
-opened scheme cores f nodes_are world events places posted count due = record {
+pub opened : (scheme : Scheme) (cores : List Core) (f : Following) → map node_of cores ≡ nodes scheme → f.world ≡ uncommitted scheme cores → f.events.items ≡ [] → ((t : TransactionId) → places_of f t ≡ []) → f.posted.items ≡ replicate (length f.pending.items) 0
+    → length f.posted.items ≡ length f.pending.items → f.pending.items ≡ nodes scheme → IsFollowing scheme f
+opened scheme cores f nodes_are world events places posted count pending = record {
   follows = record {
     follows = record {
       led = subst (λ es. without_tails f.world ≡ run (opening scheme) es) (sym events) bare;
       front = λ n. (whole_at f.world n, subst (λ (w : World). whole_at f.world n ≡ committed_at w n ++ whole_at f.world n) (sym bare) (ap (λ j. j ++ whole_at f.world n) (sym (none_committed scheme n))));
       placed = λ k p is. let none : None ≡ Some p = sym (ap (λ (w : World). slice_get w.bag k) world) ∙ is in absurd (cc (none));
-      counted = count ∙ ap length due;
-      counts = λ k n is. let none : slice_index f.posted.items k ≡ 0 = ap (λ ks. slice_index ks k) posted ∙ zeros (length f.due.items) k in omega (arith, none);
+      counted = count ∙ ap length pending;
+      counts = λ k n is. let none : slice_index f.posted.items k ≡ 0 = ap (λ ks. slice_index ks k) posted ∙ zeros (length f.pending.items) k in omega (arith, none);
       waits = waits;
     };
     nodes_are = ap (λ (w : World). map (λ (s : Station). s.node) w.stations) world ∙ stations_are scheme cores nodes_are;
@@ -133,12 +133,12 @@ opened scheme cores f nodes_are world events places posted count due = record {
     bare : without_tails f.world ≡ opening scheme
     bare = ap without_tails world ∙ is_opening scheme cores nodes_are
 
-    waits : (n : Node) → Contains f.due.items n ⊎ Waits (without_tails f.world) (whole_at f.world) n
+    waits : (n : Node) → Contains f.pending.items n ⊎ Waits (without_tails f.world) (whole_at f.world) n
     waits n =
         elim (cases_Bool (is_node scheme n)) [
           | inl node ↦
               let at = node_at scheme n node in
-              inl (subst (λ ns. Contains ns n) (sym due) (contains_in (nodes scheme) n (In_slice_get (nodes scheme) at.0 n at.1)))
+              inl (subst (λ ns. Contains ns n) (sym pending) (contains_in (nodes scheme) n (In_slice_get (nodes scheme) at.0 n at.1)))
           | inr outside ↦
               let nothing : whole_at f.world n ≡ [] = ap (λ (w : World). whole_at w n) world ∙ whole_is scheme cores nodes_are n ∙ nodes_alone scheme (map node_cores.journal_of cores) n outside in
               inr (λ input rest left. absurd (no_first _ rest input (sym left ∙ nothing)))

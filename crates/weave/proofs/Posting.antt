@@ -132,18 +132,18 @@ same_for w n key m k other_sender other_receiver = record {
         clash (same_node (receiver m) k) (subst (λ z. same_node (receiver m) z ≡ true) here (same_node-refl (receiver m))) other_receiver
     only p (inr h) to = absurd h
 
--- the receiver is due now
-pub waits_more : (w : World) (n : Node) (key : ℕ) (m : Message) (journals : Node → List Input) (due : List Node) → Contains due n → ((k : Node) → Contains due k ⊎ Waits w journals k)
-    → (k : Node) → Contains (due ++ receiver m ∷ []) k ⊎ Waits (with_message w n key m) journals k
-waits_more w n key m journals due own waits k =
+-- the receiver is pending now
+pub waits_more : (w : World) (n : Node) (key : ℕ) (m : Message) (journals : Node → List Input) (pending : List Node) → Contains pending n → ((k : Node) → Contains pending k ⊎ Waits w journals k)
+    → (k : Node) → Contains (pending ++ receiver m ∷ []) k ⊎ Waits (with_message w n key m) journals k
+waits_more w n key m journals pending own waits k =
     elim (cases_Bool (same_node n k)) [
-      | inl y ↦ inl (contains_left due (receiver m ∷ []) k (subst (Contains due) (node_of_same n k y) own))
+      | inl y ↦ inl (contains_left pending (receiver m ∷ []) k (subst (Contains pending) (node_of_same n k y) own))
       | inr other ↦
           elim (cases_Bool (same_node (receiver m) k)) [
-            | inl z ↦ inl (subst (Contains (due ++ receiver m ∷ [])) (node_of_same (receiver m) k z) (contains_last due (receiver m)))
+            | inl z ↦ inl (subst (Contains (pending ++ receiver m ∷ [])) (node_of_same (receiver m) k z) (contains_last pending (receiver m)))
             | inr apart ↦
                 elim (waits k) [
-                  | inl h ↦ inl (contains_left due (receiver m ∷ []) k h)
+                  | inl h ↦ inl (contains_left pending (receiver m ∷ []) k h)
                   | inr h ↦ inr (waits_on w (with_message w n key m) k (same_for w n key m k other apart) journals h)
                 ]
           ]

@@ -42,13 +42,13 @@ use Rattle.weave.proofs.Tried.{stands_last}
 
 -- ---- what is kept, by other names
 
-pub follows_same : (scheme : Scheme) (w v : World) (events es : List WorldEvent) (places ps : TransactionId → List ℕ) (posted po : List ℕ) (due du : List Node)
-    → v ≡ w → es ≡ events → ((t : TransactionId) → ps t ≡ places t) → po ≡ posted → du ≡ due → Follows scheme (whole_at w) (without_tails w) events places posted due → Follows scheme (whole_at v) (without_tails v) es ps po du
-follows_same scheme w v events es places ps posted po due du world_is events_are places_are posted_are due_are f =
-    subst (λ (z : World). Follows scheme (whole_at z) (without_tails z) es ps po du) (sym world_is)
-    (subst (λ z. Follows scheme (whole_at w) (without_tails w) z ps po du) (sym events_are)
-    (subst (λ z. Follows scheme (whole_at w) (without_tails w) events ps z du) (sym posted_are)
-    (subst (λ z. Follows scheme (whole_at w) (without_tails w) events ps posted z) (sym due_are)
+pub follows_same : (scheme : Scheme) (w v : World) (events es : List WorldEvent) (places ps : TransactionId → List ℕ) (posted po : List ℕ) (pending ns : List Node)
+    → v ≡ w → es ≡ events → ((t : TransactionId) → ps t ≡ places t) → po ≡ posted → ns ≡ pending → Follows scheme (whole_at w) (without_tails w) events places posted pending → Follows scheme (whole_at v) (without_tails v) es ps po ns
+follows_same scheme w v events es places ps posted po pending ns world_is events_are places_are posted_are pending_are f =
+    subst (λ (z : World). Follows scheme (whole_at z) (without_tails z) es ps po ns) (sym world_is)
+    (subst (λ z. Follows scheme (whole_at w) (without_tails w) z ps po ns) (sym events_are)
+    (subst (λ z. Follows scheme (whole_at w) (without_tails w) events ps z ns) (sym posted_are)
+    (subst (λ z. Follows scheme (whole_at w) (without_tails w) events ps posted z) (sym pending_are)
     (record {
       led = f.led;
       front = f.front;
@@ -62,9 +62,9 @@ waits_journals : (w : World) (js ks : Node → List Input) (n : Node) → ks n �
 waits_journals w js ks n same h input rest left = h input rest (sym same ∙ left)
 
 -- the journals are the same at each node
-pub follows_journals : (scheme : Scheme) (js ks : Node → List Input) (w : World) (events : List WorldEvent) (places : TransactionId → List ℕ) (posted : List ℕ) (due : List Node) → ((n : Node) → ks n ≡ js n)
-    → Follows scheme js w events places posted due → Follows scheme ks w events places posted due
-follows_journals scheme js ks w events places posted due same f = record {
+pub follows_journals : (scheme : Scheme) (js ks : Node → List Input) (w : World) (events : List WorldEvent) (places : TransactionId → List ℕ) (posted : List ℕ) (pending : List Node) → ((n : Node) → ks n ≡ js n)
+    → Follows scheme js w events places posted pending → Follows scheme ks w events places posted pending
+follows_journals scheme js ks w events places posted pending same f = record {
   led = f.led;
   front = λ n. ((f.front n).0, same n ∙ (f.front n).1);
   placed = f.placed;
@@ -73,11 +73,11 @@ follows_journals scheme js ks w events places posted due same f = record {
   waits = λ n. elim (f.waits n) [ inl h ↦ inl h | inr h ↦ inr (waits_journals w js ks n (same n) h) ];
 }
 
--- as much is due, by another name
-pub with_due : (scheme : Scheme) (f g : Following) (due du : List Node) → g.world ≡ f.world → g.events.items ≡ f.events.items → ((t : TransactionId) → places_of g t ≡ places_of f t) → g.posted.items ≡ f.posted.items → due ≡ du
-    → IsFollowingWith scheme f due → IsFollowingWith scheme g du
-with_due scheme f g due du world_is events_are places_are posted_are due_are i = record {
-  follows = follows_same scheme f.world g.world f.events.items g.events.items (places_of f) (places_of g) f.posted.items g.posted.items due du world_is events_are places_are posted_are (sym due_are) i.follows;
+-- as much is pending, by another name
+pub with_pending : (scheme : Scheme) (f g : Following) (pending ns : List Node) → g.world ≡ f.world → g.events.items ≡ f.events.items → ((t : TransactionId) → places_of g t ≡ places_of f t) → g.posted.items ≡ f.posted.items → pending ≡ ns
+    → IsFollowingWith scheme f pending → IsFollowingWith scheme g ns
+with_pending scheme f g pending ns world_is events_are places_are posted_are pending_are i = record {
+  follows = follows_same scheme f.world g.world f.events.items g.events.items (places_of f) (places_of g) f.posted.items g.posted.items pending ns world_is events_are places_are posted_are (sym pending_are) i.follows;
   nodes_are = ap (λ (z : World). map (λ (x : Station). x.node) z.stations) world_is ∙ i.nodes_are;
 }
 
@@ -111,27 +111,27 @@ module _ (w : World) (journals : Node → List Input) (n : Node) where
 
 -- ---- the node rests
 
-pub follows_rests : (scheme : Scheme) (journals : Node → List Input) (w : World) (events : List WorldEvent) (places : TransactionId → List ℕ) (posted : List ℕ) (due : List Node) (n : Node)
-    → Follows scheme journals w events places posted (due ++ n ∷ []) → Waits w journals n → Follows scheme journals w events places posted due
-follows_rests scheme journals w events places posted due n f waits = record {
+pub follows_rests : (scheme : Scheme) (journals : Node → List Input) (w : World) (events : List WorldEvent) (places : TransactionId → List ℕ) (posted : List ℕ) (pending : List Node) (n : Node)
+    → Follows scheme journals w events places posted (pending ++ n ∷ []) → Waits w journals n → Follows scheme journals w events places posted pending
+follows_rests scheme journals w events places posted pending n f waits = record {
   led = f.led;
   front = f.front;
   placed = f.placed;
   counted = f.counted;
   counts = f.counts;
-  waits = λ m. elim (f.waits m) [ inl h ↦ cases m (In_cases m due (n ∷ []) (In_contains (due ++ n ∷ []) m h)) | inr h ↦ inr h ];
+  waits = λ m. elim (f.waits m) [ inl h ↦ cases m (In_cases m pending (n ∷ []) (In_contains (pending ++ n ∷ []) m h)) | inr h ↦ inr h ];
 }
   where
-    cases : (m : Node) → In m due ⊎ In m (n ∷ []) → Contains due m ⊎ Waits w journals m
-    cases m (inl h) = inl (contains_in due m h)
+    cases : (m : Node) → In m pending ⊎ In m (n ∷ []) → Contains pending m ⊎ Waits w journals m
+    cases m (inl h) = inl (contains_in pending m h)
     cases m (inr (inl e)) = inr (subst (Waits w journals) e waits)
     cases m (inr (inr h)) = absurd h
 
-module _ (scheme : Scheme) (f : Following) (n : Node) (follows : IsFollowingWith scheme f (f.due.items ++ n ∷ [])) (quiet : IsQuiet (without_tails f.world)) where
+module _ (scheme : Scheme) (f : Following) (n : Node) (follows : IsFollowingWith scheme f (f.pending.items ++ n ∷ [])) (quiet : IsQuiet (without_tails f.world)) where
   pub rests : Waits (without_tails f.world) (whole_at f.world) n → IsFollowing scheme f
   rests waits = record {
     follows = record {
-      follows = follows_rests scheme (whole_at f.world) (without_tails f.world) f.events.items (places_of f) f.posted.items f.due.items n follows.follows waits;
+      follows = follows_rests scheme (whole_at f.world) (without_tails f.world) f.events.items (places_of f) f.posted.items f.pending.items n follows.follows waits;
       nodes_are = follows.nodes_are;
     };
     quiet = quiet;
@@ -144,7 +144,7 @@ module _ (scheme : Scheme) (f : Following) (n : Node) (follows : IsFollowingWith
   pub rests_nowhere : place_of scheme n ≡ None → IsFollowing scheme f
   rests_nowhere none =
       let outside : is_node f.world.scheme n ≡ false = ap (λ (z : Scheme). is_node z n) scheme_is ∙ sym (node_there scheme n) ∙ ap is_some none in
-      let nothing : whole_at f.world n ≡ [] = whole_none f.world n (all_placed scheme (whole_at f.world) (without_tails f.world) f.events.items (places_of f) f.posted.items (f.due.items ++ n ∷ []) follows.follows n ∙ outside) in
+      let nothing : whole_at f.world n ≡ [] = whole_none f.world n (all_placed scheme (whole_at f.world) (without_tails f.world) f.events.items (places_of f) f.posted.items (f.pending.items ++ n ∷ []) follows.follows n ∙ outside) in
       rests (waits_end (without_tails f.world) (whole_at f.world) n (ap (λ (xs : List Input). slice_get xs (length (committed_at (without_tails f.world) n))) nothing))
 
   -- it is one, which is idle without its tail
@@ -156,7 +156,7 @@ module _ (scheme : Scheme) (f : Following) (n : Node) (follows : IsFollowingWith
 
 -- ---- the node takes a record
 
-module _ (scheme : Scheme) (f g : Following) (n : Node) (e : WorldEvent) (at : ℕ) (follows : IsFollowingWith scheme f (f.due.items ++ n ∷ [])) (quiet : IsQuiet (without_tails f.world)) (place : place_of scheme n ≡ Some at) (by : IsNextBy f.world n e)
+module _ (scheme : Scheme) (f g : Following) (n : Node) (e : WorldEvent) (at : ℕ) (follows : IsFollowingWith scheme f (f.pending.items ++ n ∷ [])) (quiet : IsQuiet (without_tails f.world)) (place : place_of scheme n ≡ Some at) (by : IsNextBy f.world n e)
     (t : Takes f g n e) where
   there : (s : Station) × (station f.world n ≡ Some s) × (s.runs ≡ true)
   there = idle_there scheme f n follows quiet at place
@@ -175,19 +175,19 @@ module _ (scheme : Scheme) (f g : Following) (n : Node) (e : WorldEvent) (at : �
       next_of there.0.committed there.0.tail by.input
       (sym (ap (λ o. slice_get (whole o) (length there.0.committed)) there.1) ∙ ap (λ (xs : List Input). slice_get (whole_at f.world n) (length xs)) (sym committed_is) ∙ by.next)
 
-  due : answer f.world.scheme n there.0.committed by.input ≡ Ok (stepped.Recorded (length (committed_at f.world n)))
-  due = ap (λ (xs : List Input). answer f.world.scheme n xs by.input) (sym committed_is) ∙ by.recorded
+  answer_is : answer f.world.scheme n there.0.committed by.input ≡ Ok (stepped.Recorded (length (committed_at f.world n)))
+  answer_is = ap (λ (xs : List Input). answer f.world.scheme n xs by.input) (sym committed_is) ∙ by.recorded
 
   fits : Fits (without_tails f.world) e n by.input
   fits = fits_idle f.world e n by.input by.fits
 
   recorded : (step (without_tails f.world) e).outcome ≡ Recorded (length (there.0.committed ++ []))
-  recorded = is_recorded (without_tails f.world) n (idle_station there.0) by.input e (length (committed_at f.world n)) here there.2 refl fits due
+  recorded = is_recorded (without_tails f.world) n (idle_station there.0) by.input e (length (committed_at f.world n)) here there.2 refl fits answer_is
 
   goes_on : without_tails g.world ≡ run (without_tails f.world) (e ∷ Commit n 1 ∷ [])
   goes_on =
       ap without_tails t.world ∙ commit_idle f.world n there.0 by.input there.1 there.2 tail.0 tail.1
-      ∙ sym (takes_and_commits (without_tails f.world) n (idle_station there.0) by.input e (length (committed_at f.world n)) here there.2 refl fits due)
+      ∙ sym (takes_and_commits (without_tails f.world) n (idle_station there.0) by.input e (length (committed_at f.world n)) here there.2 refl fits answer_is)
 
   left : whole_at f.world n ≡ committed_at (without_tails f.world) n ++ by.input ∷ tail.0
   left = ap whole there.1 ∙ ap (λ (xs : List Input). there.0.committed ++ xs) tail.1 ∙ ap (λ o. committed_part o ++ by.input ∷ tail.0) (sym here)
@@ -198,26 +198,26 @@ module _ (scheme : Scheme) (f g : Following) (n : Node) (e : WorldEvent) (at : �
   one_input : Advances (without_tails f.world) (without_tails g.world) n by.input
   one_input =
       subst (λ (z : World). Advances (without_tails f.world) z n by.input) (sym goes_on)
-      (taken_advances scheme (whole_at f.world) (without_tails f.world) f.events.items (places_of f) f.posted.items (f.due.items ++ n ∷ []) follows.follows n by.input tail.0 e (length (there.0.committed ++ [])) quiet left fits.gives recorded)
+      (taken_advances scheme (whole_at f.world) (without_tails f.world) f.events.items (places_of f) f.posted.items (f.pending.items ++ n ∷ []) follows.follows n by.input tail.0 e (length (there.0.committed ++ [])) quiet left fits.gives recorded)
 
   few : slice_index g.posted.items at ≤ sent_count (without_tails f.world) n
   few = subst (λ k. k ≤ sent_count (without_tails f.world) n) (sym (ap (λ ks. slice_index ks at) t.posted)) (follows.follows.counts at n (node_of_place scheme n at place))
 
-  goes_with : Follows scheme (whole_at g.world) (without_tails g.world) (f.events.items ++ e ∷ Commit n 1 ∷ []) (places_of f) f.posted.items (f.due.items ++ n ∷ [])
+  goes_with : Follows scheme (whole_at g.world) (without_tails g.world) (f.events.items ++ e ∷ Commit n 1 ∷ []) (places_of f) f.posted.items (f.pending.items ++ n ∷ [])
   goes_with =
-      follows_journals scheme (whole_at f.world) (whole_at g.world) (without_tails g.world) (f.events.items ++ e ∷ Commit n 1 ∷ []) (places_of f) f.posted.items (f.due.items ++ n ∷ []) takes_whole
-      (subst (λ (z : World). Follows scheme (whole_at f.world) z (f.events.items ++ e ∷ Commit n 1 ∷ []) (places_of f) f.posted.items (f.due.items ++ n ∷ [])) (sym goes_on)
-      (follows_taken scheme (whole_at f.world) (without_tails f.world) f.events.items (places_of f) f.posted.items (f.due.items ++ n ∷ []) follows.follows n by.input tail.0 e (length (there.0.committed ++ [])) quiet left fits.gives recorded
-      (contains_last f.due.items n)))
+      follows_journals scheme (whole_at f.world) (whole_at g.world) (without_tails g.world) (f.events.items ++ e ∷ Commit n 1 ∷ []) (places_of f) f.posted.items (f.pending.items ++ n ∷ []) takes_whole
+      (subst (λ (z : World). Follows scheme (whole_at f.world) z (f.events.items ++ e ∷ Commit n 1 ∷ []) (places_of f) f.posted.items (f.pending.items ++ n ∷ [])) (sym goes_on)
+      (follows_taken scheme (whole_at f.world) (without_tails f.world) f.events.items (places_of f) f.posted.items (f.pending.items ++ n ∷ []) follows.follows n by.input tail.0 e (length (there.0.committed ++ [])) quiet left fits.gives recorded
+      (contains_last f.pending.items n)))
 
   pub takes_posting : IsPosting scheme g n (slice_index g.posted.items at)
   takes_posting = record {
     follows = record {
-      follows = follows_same scheme g.world g.world (f.events.items ++ e ∷ Commit n 1 ∷ []) g.events.items (places_of f) (places_of g) f.posted.items g.posted.items (f.due.items ++ n ∷ []) g.due.items refl t.events t.places t.posted t.due goes_with;
+      follows = follows_same scheme g.world g.world (f.events.items ++ e ∷ Commit n 1 ∷ []) g.events.items (places_of f) (places_of g) f.posted.items g.posted.items (f.pending.items ++ n ∷ []) g.pending.items refl t.events t.places t.posted t.pending goes_with;
       nodes_are = ap (λ (z : World). map (λ (x : Station). x.node) z.stations) t.world ∙ commit_nodes f.world n ∙ follows.nodes_are;
     };
     node = subst (λ (z : Scheme). is_node z n ≡ true) (sym one_input.scheme) one_input.node;
-    due = subst (λ (ns : List Node). Contains ns n) (sym t.due) (contains_last f.due.items n);
+    pending = subst (λ (ns : List Node). Contains ns n) (sym t.pending) (contains_last f.pending.items n);
     posted = posted_to (without_tails f.world) (without_tails g.world) n by.input one_input quiet (slice_index g.posted.items at) few;
     few = let more = sent_more (without_tails f.world) (without_tails g.world) n by.input one_input n in omega (arith, few);
   }
@@ -237,8 +237,8 @@ posts_same f g n key p = ap (λ (z : World). z.stations) p.world
 pub posts_by : (f g : Following) (n : Node) (key : ℕ) (m : Message) (p : Posted) (id : TransactionId) (to : Node) (bag : List Posted) → next_message f.world n key ≡ Some m → g.world ≡ with_message f.world n key m → bag ≡ f.world.bag
     → Some p ≡ slice_get g.world.bag (length bag) → id ≡ transaction p.message → to ≡ receiver p.message
     → ((t : TransactionId) → places_of g t ≡ (if same_id id t then places_of f t ++ length bag ∷ [] else places_of f t)) → g.events.items ≡ f.events.items ++ Post n key ∷ [] → g.posted.items ≡ f.posted.items
-    → g.due.items ≡ f.due.items ++ to ∷ [] → Posts f g n key
-posts_by f g n key m p id to bag next world bag_is last id_is to_is places events posted due = record {
+    → g.pending.items ≡ f.pending.items ++ to ∷ [] → Posts f g n key
+posts_by f g n key m p id to bag next world bag_is last id_is to_is places events posted pending = record {
   message = m;
   next = next;
   world = world;
@@ -246,7 +246,7 @@ posts_by f g n key m p id to bag next world bag_is last id_is to_is places event
   places = λ t. places t ∙ ap (λ (z : TransactionId). if same_id z t then places_of f t ++ length bag ∷ [] else places_of f t) (id_is ∙ ap (λ (z : Posted). transaction z.message) same)
       ∙ ap (λ (b : List Posted). if same_id (transaction m) t then places_of f t ++ length b ∷ [] else places_of f t) bag_is;
   posted = posted;
-  due = due ∙ ap (λ (z : Node). f.due.items ++ z ∷ []) (to_is ∙ ap (λ (z : Posted). receiver z.message) same);
+  pending = pending ∙ ap (λ (z : Node). f.pending.items ++ z ∷ []) (to_is ∙ ap (λ (z : Posted). receiver z.message) same);
 }
   where
     same : p ≡ record { node = n; key = key; message = m }
@@ -263,12 +263,12 @@ module _ (scheme : Scheme) (f g : Following) (n : Node) (key : ℕ) (i : IsPosti
       let longer : World = with_message f.world n key p.message in
       record {
         follows = record {
-          follows = follows_same scheme longer g.world (f.events.items ++ Post n key ∷ []) g.events.items (places_of g) (places_of g) f.posted.items g.posted.items (f.due.items ++ receiver p.message ∷ []) g.due.items p.world p.events (λ t. refl) p.posted p.due
-              (follows_posted scheme (whole_at f.world) (without_tails f.world) f.events.items (places_of f) (places_of g) f.posted.items f.due.items n key p.message i.follows.follows i.due next p.places);
+          follows = follows_same scheme longer g.world (f.events.items ++ Post n key ∷ []) g.events.items (places_of g) (places_of g) f.posted.items g.posted.items (f.pending.items ++ receiver p.message ∷ []) g.pending.items p.world p.events (λ t. refl) p.posted p.pending
+              (follows_posted scheme (whole_at f.world) (without_tails f.world) f.events.items (places_of f) (places_of g) f.posted.items f.pending.items n key p.message i.follows.follows i.pending next p.places);
           nodes_are = ap (λ (z : World). map (λ (x : Station). x.node) z.stations) p.world ∙ i.follows.nodes_are;
         };
         node = subst (λ (z : World). is_node z.scheme n ≡ true) (sym p.world) i.node;
-        due = subst (λ (ns : List Node). Contains ns n) (sym p.due) (contains_left f.due.items (receiver p.message ∷ []) n i.due);
+        pending = subst (λ (ns : List Node). Contains ns n) (sym p.pending) (contains_left f.pending.items (receiver p.message ∷ []) n i.pending);
         posted = subst (λ (z : World). IsPostedTo (without_tails z) n (key + 1)) (sym p.world) (posted_more (without_tails f.world) n key p.message next i.posted);
         few = subst (λ (z : World). key + 1 ≤ sent_count (without_tails z) n) (sym p.world)
             (let below = slice_get_within (sends (committed_of (without_tails f.world) n)) key p.message (is_sent (without_tails f.world) n key p.message next) in omega (arith, below));
@@ -282,10 +282,10 @@ module _ (scheme : Scheme) (f g : Following) (n : Node) (key : ℕ) (i : IsPosti
 
   -- how many were posted is written down
   pub stored : (at : ℕ) → place_of scheme n ≡ Some at → at < length f.posted.items → IsQuiet (without_tails f.world) → g.world ≡ f.world → g.events.items ≡ f.events.items → ((t : TransactionId) → places_of g t ≡ places_of f t)
-      → g.posted.items ≡ set f.posted.items at key → g.due.items ≡ f.due.items → IsFollowing scheme g
-  stored at place within quiet world_is events_are places_are posted_are due_are = record {
+      → g.posted.items ≡ set f.posted.items at key → g.pending.items ≡ f.pending.items → IsFollowing scheme g
+  stored at place within quiet world_is events_are places_are posted_are pending_are = record {
     follows = record {
-      follows = follows_same scheme f.world g.world f.events.items g.events.items (places_of f) (places_of g) (set f.posted.items at key) g.posted.items f.due.items g.due.items world_is events_are places_are posted_are due_are (record {
+      follows = follows_same scheme f.world g.world f.events.items g.events.items (places_of f) (places_of g) (set f.posted.items at key) g.posted.items f.pending.items g.pending.items world_is events_are places_are posted_are pending_are (record {
         led = i.follows.follows.led;
         front = i.follows.follows.front;
         placed = i.follows.follows.placed;

@@ -202,12 +202,12 @@ says place IsLate k e = absurd (cc (e))
 says place (IsRefused code) k e = absurd (cc (e))
 
 module _ (w : World) (n : Node) (s : Station) (input : Input) (e : WorldEvent) (k : ℕ) (is : station w n ≡ Some s) (runs : s.runs ≡ true) (settled : s.tail ≡ []) (fits : Fits w e n input)
-    (due : answer w.scheme n s.committed input ≡ Ok (stepped.Recorded k)) where
+    (answer_is : answer w.scheme n s.committed input ≡ Ok (stepped.Recorded k)) where
   own : s.node ≡ n
   own = found_at_node n w.stations s is
 
   verdict_is : (xs : List Transition) × (verdict w.scheme n (history w.scheme n s.committed) input ≡ IsRecorded xs)
-  verdict_is = says (length s.committed) (verdict w.scheme n (history w.scheme n s.committed) input) k due
+  verdict_is = says (length s.committed) (verdict w.scheme n (history w.scheme n s.committed) input) k answer_is
 
   turn : Turn
   turn = answered s input (IsRecorded verdict_is.0)

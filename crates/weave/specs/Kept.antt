@@ -23,21 +23,21 @@ places_of f t = option_map_or (λ v. v.items) (tree.get id_cmp f.places t) []
 
 -- ---- what is kept
 
--- the committed journals are followed so far, where these nodes are due: the nodes' whole journals are to be reached
-pub record IsFollowingWith (scheme : Scheme) (f : Following) (due : List Node) : Type 0 where
-  pub follows : Follows scheme (whole_at f.world) (without_tails f.world) f.events.items (places_of f) f.posted.items due
+-- the committed journals are followed so far, where these nodes are pending: the nodes' whole journals are to be reached
+pub record IsFollowingWith (scheme : Scheme) (f : Following) (pending : List Node) : Type 0 where
+  pub follows : Follows scheme (whole_at f.world) (without_tails f.world) f.events.items (places_of f) f.posted.items pending
   pub nodes_are : map (λ s. s.node) f.world.stations ≡ nodes scheme
 
 -- and nothing that was sent is left to post
 pub record IsFollowing (scheme : Scheme) (f : Following) : Type 0 where
-  pub follows : IsFollowingWith scheme f f.due.items
+  pub follows : IsFollowingWith scheme f f.pending.items
   pub quiet : IsQuiet (without_tails f.world)
 
 -- the node's messages are posted below that key, and all those of others
 pub record IsPosting (scheme : Scheme) (f : Following) (n : Node) (key : ℕ) : Type 0 where
-  pub follows : IsFollowingWith scheme f f.due.items
+  pub follows : IsFollowingWith scheme f f.pending.items
   pub node : is_node f.world.scheme n ≡ true
-  pub due : Contains f.due.items n
+  pub pending : Contains f.pending.items n
   pub posted : IsPostedTo (without_tails f.world) n key
   pub few : key ≤ sent_count (without_tails f.world) n
 
@@ -51,15 +51,15 @@ left_in w ns = left_of (whole_at w) (without_tails w) ns
 
 -- ---- what a step changes
 
--- the node's next record is committed, the event is noted, and the node is due again
+-- the node's next record is committed, the event is noted, and the node is pending again
 pub record Takes (f g : Following) (n : Node) (e : WorldEvent) : Type 0 where
   pub world : g.world ≡ (step f.world (Commit n 1)).world
   pub events : g.events.items ≡ f.events.items ++ e ∷ Commit n 1 ∷ []
   pub places : (t : TransactionId) → places_of g t ≡ places_of f t
   pub posted : g.posted.items ≡ f.posted.items
-  pub due : g.due.items ≡ f.due.items ++ n ∷ []
+  pub pending : g.pending.items ≡ f.pending.items ++ n ∷ []
 
--- the message with that key is posted, and its receiver is due
+-- the message with that key is posted, and its receiver is pending
 pub record Posts (f g : Following) (n : Node) (key : ℕ) : Type 0 where
   pub message : Message
   pub next : next_message f.world n key ≡ Some message
@@ -67,18 +67,18 @@ pub record Posts (f g : Following) (n : Node) (key : ℕ) : Type 0 where
   pub events : g.events.items ≡ f.events.items ++ Post n key ∷ []
   pub places : (t : TransactionId) → places_of g t ≡ (if same_id (transaction message) t then places_of f t ++ length f.world.bag ∷ [] else places_of f t)
   pub posted : g.posted.items ≡ f.posted.items
-  pub due : g.due.items ≡ f.due.items ++ receiver message ∷ []
+  pub pending : g.pending.items ≡ f.pending.items ++ receiver message ∷ []
 
 abbrev pub HasPosted : Following → Following → Node → ℕ → Progress → Type 0
 HasPosted f g n key Advanced = Posts f g n key
 HasPosted f g n key Rests = (next_message f.world n key ≡ None) × (g ≡ f)
 
--- the world went on and fewer records are left, or it stands still and so does what is due
+-- the world went on and fewer records are left, or it stands still and so does what is pending
 abbrev pub IsFewer : List Node → Following → Following → Progress → Type 0
 IsFewer ns f g Advanced = left_in g.world ns < left_in f.world ns
 IsFewer ns f g Rests = g ≡ f
 
--- the world went on and fewer records are left, or no node is due
+-- the world went on and fewer records are left, or no node is pending
 abbrev pub IsFewerOrDone : List Node → Following → Following → Progress → Type 0
 IsFewerOrDone ns f g Advanced = left_in g.world ns < left_in f.world ns
-IsFewerOrDone ns f g Rests = g.due.items ≡ []
+IsFewerOrDone ns f g Rests = g.pending.items ≡ []

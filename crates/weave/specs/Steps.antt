@@ -90,14 +90,14 @@ AreAllPlaced places bag = (k : ℕ) (p : Posted) → slice_get bag k ≡ Some p 
 -- ---- how far the journals are followed
 
 -- the events lead to the world, the committed journals are the first records of these, the messages of the bag are
--- placed, no node posted more messages than it sent, and each node that isn't due waits
-pub record Follows (scheme : Scheme) (journals : Node → List Input) (w : World) (events : List WorldEvent) (places : TransactionId → List ℕ) (posted : List ℕ) (due : List Node) : Type 0 where
+-- placed, no node posted more messages than it sent, and each node that isn't pending waits
+pub record Follows (scheme : Scheme) (journals : Node → List Input) (w : World) (events : List WorldEvent) (places : TransactionId → List ℕ) (posted : List ℕ) (pending : List Node) : Type 0 where
   pub led : w ≡ run (opening scheme) events
   pub front : ArePrefixes (committed_at w) journals
   pub placed : AreAllPlaced places w.bag
   pub counted : length posted ≡ length (nodes scheme)
   pub counts : (k : ℕ) (n : Node) → slice_get (nodes scheme) k ≡ Some n → slice_index posted k ≤ sent_count w n
-  pub waits : (n : Node) → Contains due n ⊎ Waits w journals n
+  pub waits : (n : Node) → Contains pending n ⊎ Waits w journals n
 
 -- what isn't a node of the scheme has no journal
 abbrev pub HasNodesAlone : Scheme → (Node → List Input) → Type 0

@@ -45,7 +45,7 @@ pub(crate) struct Following {
     /// How many messages each node posted, by the node's place.
     pub posted: Vec<u64>,
     /// The nodes that have to be looked at. At all others the next record waits, or none is left.
-    pub due: Vec<Node>,
+    pub pending: Vec<Node>,
 }
 
 /// Posts the node's message with that key, if there is one.
@@ -60,18 +60,18 @@ fn apply_post(world: &mut World, node: Node, key: u64) -> Result<Outcome, NoMemo
 
 impl Following {
     /// The node commits its next record. Returns the event by which it does, where there is room for two events and for
-    /// a node that is due.
+    /// a node more that has to be looked at.
     fn commit_next(&mut self, node: Node) -> Result<WorldEvent, NoMemory>
         ensures event { IfOk result (λ e. e ≡ Commit node 1) }
         ensures world { OnOk result (self.new.world ≡ (step self.old.world (Commit node 1)).world) }
         ensures same { OnOk result ((self.new.events.items ≡ self.old.events.items)
-            × (self.new.due.items ≡ self.old.due.items) × (self.new.places ≡ self.old.places)
+            × (self.new.pending.items ≡ self.old.pending.items) × (self.new.places ≡ self.old.places)
             × (self.new.posted ≡ self.old.posted)) }
         ensures events { OnOk result (vec_len self.new.events + 2 ≤ vec_capacity self.new.events) }
-        ensures due { OnOk result (vec_len self.new.due < vec_capacity self.new.due) }
+        ensures pending { OnOk result (vec_len self.new.pending < vec_capacity self.new.pending) }
     {
         self.events.reserve(2)?;
-        self.due.reserve(1)?;
+        self.pending.reserve(1)?;
         let commit = WorldEvent::Commit { node, count: 1 };
         match self.world.apply(&commit) {
             Ok(_) => Ok(commit),
@@ -82,7 +82,7 @@ impl Following {
         }
     }
 
-    /// The node commits its next record, which the event gives it. Then the node is due again.
+    /// The node commits its next record, which the event gives it. Then the node has to be looked at again.
     fn take(&mut self, node: Node, event: WorldEvent) -> Result<(), NoMemory>
         ensures { OnOk result (Takes self.old self.new node event) }
     {
@@ -95,11 +95,11 @@ impl Following {
         };
         self.events.push_reserved(event);
         self.events.push_reserved(commit);
-        self.due.push_reserved(node);
+        self.pending.push_reserved(node);
         Ok(())
     }
 
-    /// Posts the node's message with that key, if there is one. Then its receiver is due.
+    /// Posts the node's message with that key, if there is one. Then its receiver has to be looked at.
     fn post_one(&mut self, node: Node, key: u64) -> Result<Progress, NoMemory>
         ensures { IfOk result (HasPosted self.old self.new node key) }
     {
@@ -116,7 +116,7 @@ impl Following {
         add_place(self.alloc, &mut self.places, id, place)?;
         self.events.reserve(1)?;
         self.events.push_reserved(WorldEvent::Post { node, key });
-        self.due.push(receiver)?;
+        self.pending.push(receiver)?;
         Ok(Progress::Advanced)
     }
 
@@ -151,9 +151,9 @@ impl Following {
     }
 
     /// The node commits the next record of its journal and posts what it sends, if an event gives it the record now.
-    /// Then the node is due again.
+    /// Then the node has to be looked at again.
     fn record_next(&mut self, scheme: &Scheme, node: Node) -> Result<Progress, NoMemory>
-        requires follows { IsFollowingWith scheme.now self.old (self.old.due.items ++ node ∷ []) }
+        requires follows { IsFollowingWith scheme.now self.old (self.old.pending.items ++ node ∷ []) }
         requires quiet { IsQuiet (without_tails self.old.world) }
         ensures follows { IfOk result (λ progress. IsFollowing scheme.now self.new) }
         ensures whole { IfOk result (λ progress. HasWholeSame self.old.world self.new.world) }
@@ -170,14 +170,14 @@ impl Following {
         Ok(Progress::Advanced)
     }
 
-    /// One of the nodes that are due records its next record, if any of them does.
+    /// One of the nodes that have to be looked at records its next record, if any of them does.
     fn advance(&mut self, scheme: &Scheme) -> Result<Progress, NoMemory>
         requires { IsFollowing scheme.now self.old }
         ensures follows { IfOk result (λ progress. IsFollowing scheme.now self.new) }
         ensures whole { IfOk result (λ progress. HasWholeSame self.old.world self.new.world) }
         ensures fewer { IfOk result (IsFewerOrDone (nodes scheme.now) self.old self.new) }
     {
-        while let Some(node) = self.due.pop() {
+        while let Some(node) = self.pending.pop() {
             if let Progress::Advanced = self.record_next(scheme, node)? {
                 return Ok(Progress::Advanced);
             }
@@ -193,14 +193,14 @@ impl Following {
         ensures whole { IfOk result (λ f. (n : Node)
             → whole_at f.world n ≡ journal_of scheme.now (map node_cores.journal_of cores.items) n) }
     {
-        let due = nodes_of(alloc, scheme)?;
+        let pending = nodes_of(alloc, scheme)?;
         Ok(Following {
             alloc,
             world: World::uncommitted(alloc, scheme, cores)?,
             events: Vec::new(alloc),
             places: BTreeMap::new(alloc),
-            posted: vec![in alloc; 0; due.len()]?,
-            due,
+            posted: vec![in alloc; 0; pending.len()]?,
+            pending,
         })
     }
 }
@@ -217,7 +217,7 @@ pub(crate) fn follow<W: Watch>(
     ensures follows { IfOk result (IsFollowing scheme.now) }
     ensures whole { IfOk result (λ f. (n : Node)
         → whole_at f.world n ≡ journal_of scheme.now (map node_cores.journal_of cores.items) n) }
-    ensures done { IfOk result (λ f. f.due.items ≡ []) }
+    ensures done { IfOk result (λ f. f.pending.items ≡ []) }
 {
     let mut following = Following::new(alloc, scheme, cores)?;
     while let Progress::Advanced = following.advance(scheme)? {

@@ -47,7 +47,7 @@ use Rattle.protocol.specs.Deciding.{Verdict, IsRecorded, IsRepeat, IsRefused, re
 use Rattle.protocol.specs.Effects.{notifies, requests, initiator_sends, log_sends, acquirer_sends}
 use Rattle.protocol.specs.AtRegistry.{holding, content_of, new_transfer_verdict, arrival, in_role, unless_held, holds_some, is_checked, request_refusals, request_column, registry_refusals, registry_answer, registry_message, open_refusals, close_refusals, registry_verdict}
 use Rattle.protocol.specs.AtLog as log
-use Rattle.protocol.specs.AtLog.{ledger, is_proposed, is_no_registry, is_from_another, log_refusals, log_answer, log_message, newest_of_each, is_old, put_transition, by_id, cleaned, due, clean_up, same_bool, eligible_refusals, log_verdict}
+use Rattle.protocol.specs.AtLog.{ledger, is_proposed, is_no_registry, is_from_another, log_refusals, log_answer, log_message, newest_of_each, is_old, put_transition, by_id, cleaned, expired, clean_up, same_bool, eligible_refusals, log_verdict}
 use Rattle.protocol.specs.Verdict.{transitions_made}
 use Rattle.safety.proofs.MovesAndHistories.TransitionForms.{moved, proposed, asking, arrived, settled_messages, bare, checked, told_to, cancelled, forestalled}
 use Rattle.units.proofs.Lists.Membership.{In, In_cond, In_filter, In_flat_map}
@@ -464,7 +464,7 @@ module _ (scheme : Scheme) (es : List Entry) where
   log_moves (CleanUp moment) x h =
       let all = transitions_of es in
       let old = filter (is_old moment.seconds) (newest_of_each all) in
-      let g = In_flat_map (cleaned moment.seconds) x (by_id old) (clean_made (due all moment.seconds) x h) in
+      let g = In_flat_map (cleaned moment.seconds) x (by_id old) (clean_made (expired all moment.seconds) x h) in
       let i = In_filter (is_old moment.seconds) (newest_of_each all) g.0 (In_by_id g.0 old g.1) in
       let m = cleaned_made moment.seconds g.0 x g.2 in
       subst (λ q. LogMove scheme es (CleanUp moment) q) m.3 (cancels (CleanUp moment) moment g.0.id g.0 m.0 (cleans moment g.0.id) (In_newest g.0 all i.0) m.1 m.2)

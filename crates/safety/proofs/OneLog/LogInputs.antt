@@ -18,7 +18,7 @@ use Rattle.wire.specs.declared.input.Input.TheVariants.{Propose, Request as Ask,
 use Rattle.wire.specs.declared.message.Message.{Message}
 use Rattle.wire.specs.declared.message.Message.TheVariants as message
 use Rattle.scheme.specs.declared.registries.Scheme.{Scheme}
-use Rattle.protocol.specs.AtLog.{log_refusals, log_answer, newest_of_each, is_old, by_id, cleaned, due, clean_up, same_bool, eligible_refusals, log_verdict}
+use Rattle.protocol.specs.AtLog.{log_refusals, log_answer, newest_of_each, is_old, by_id, cleaned, expired, clean_up, same_bool, eligible_refusals, log_verdict}
 use Rattle.protocol.specs.Checks.{Causes, codes_of}
 use Rattle.protocol.specs.Deciding.{IsRecorded, IsRepeat, IsRefused, recorded_if_room, known, by_row, ack_refusals}
 use Rattle.protocol.specs.History.{Transition, Entry, transitions_of, newest, is_acknowledged, is_eligible}
@@ -69,7 +69,7 @@ module _ (scheme : Scheme) (es : List Entry) where
       go false i = all x i
 
   shape : (input : Input) → Shaped (made_of (log_verdict scheme es input))
-  shape (CleanUp t) = inr (shape_clean (due (transitions_of es) t.seconds) (all_cleaned t.seconds (by_id (filter (is_old t.seconds) (newest_of_each (transitions_of es))))))
+  shape (CleanUp t) = inr (shape_clean (expired (transitions_of es) t.seconds) (all_cleaned t.seconds (by_id (filter (is_old t.seconds) (newest_of_each (transitions_of es))))))
   shape (Eligible c may) =
       inl
       (single_refuse (eligible_refusals scheme c) (cond (same_bool (is_eligible scheme es c) may) IsRepeat (recorded_if_room scheme es []))

@@ -1,5 +1,5 @@
 use Rattle.std.proofs.Common.{◌≤◌, ◌<◌, ◌++◌, ◌∷◌, [], length, inl, inr, refl, sym, ap, subst, ◌∙◌}
-use Rattle.log_core.specs.Taking.{verdict_due}
+use Rattle.log_core.specs.Taking.{verdict_by_rules}
 use Rattle.log_core.proofs.TakenInputs.{GivenUp, are_same, takes_err, takes_refused, takes_repeat, takes_recorded, room_enters, unfitting}
 use Rattle.log_core.proofs.AcknowledgedKeys.{ack_again, ack_enters, ack_unknown}
 use Rattle.log_core.proofs.KeptByOrders.{kept_acknowledged}
@@ -12,7 +12,7 @@ returns-then-sends-key c =
     let i = c.args.input.now in
     let kept = c.requires.kept in
     let below = subst (λ n. n ≤ c.args.key.value) c.sends.ensures c.if-sends-key.true in
-    takes_refused s was was i (record { code = 46 }) kept (are_same was) (inr (ap (verdict_due s was) c.requires.input ∙ ack_unknown s was kept c.args.key below))
+    takes_refused s was was i (record { code = 46 }) kept (are_same was) (inr (ap (verdict_by_rules s was) c.requires.input ∙ ack_unknown s was kept c.args.key below))
 
 pub returns-then-is_acknowledged : goal.returns-then-is_acknowledged
 returns-then-is_acknowledged c =
@@ -21,7 +21,7 @@ returns-then-is_acknowledged c =
     let i = c.args.input.now in
     let kept = c.requires.kept in
     let above = subst (λ n. c.args.key.value < n) c.sends.ensures c.if-sends-key.false in
-    takes_repeat s was i kept (ap (verdict_due s was) c.requires.input ∙ ack_again s was kept c.args.key above (sym c.is_acknowledged.ensures ∙ c.if-is_acknowledged.true))
+    takes_repeat s was i kept (ap (verdict_by_rules s was) c.requires.input ∙ ack_again s was kept c.args.key above (sym c.is_acknowledged.ensures ∙ c.if-is_acknowledged.true))
 
 pub returns-in_err-record : goal.returns-in_err-record
 returns-in_err-record c =
@@ -30,7 +30,7 @@ returns-in_err-record c =
     let i = c.args.input.now in
     let kept = c.requires.kept in
     let above = subst (λ n. c.args.key.value < n) c.sends.ensures c.if-sends-key.false in
-    let enters = ap (verdict_due s was) c.requires.input ∙ ack_enters s was kept c.args.key above (sym c.is_acknowledged.ensures ∙ c.if-is_acknowledged.false) in
+    let enters = ap (verdict_by_rules s was) c.requires.input ∙ ack_enters s was kept c.args.key above (sym c.is_acknowledged.ensures ∙ c.if-is_acknowledged.false) in
     takes_err s was was i c.from_residual.result _ kept (are_same was) c.from_residual.ensures.1
     (λ r e. subst (λ q. GivenUp s was i q.code) (sym e) (unfitting s was i [] c.in_err-record.field-0.0.code enters c.in_err-record.ensures.err))
 
@@ -47,10 +47,10 @@ returns c =
     let i = c.args.input.now in
     let kept = c.requires.kept in
     let above = subst (λ n. c.args.key.value < n) c.sends.ensures c.if-sends-key.false in
-    let enters = ap (verdict_due s was) c.requires.input ∙ ack_enters s was kept c.args.key above (sym c.is_acknowledged.ensures ∙ c.if-is_acknowledged.false) in
+    let enters = ap (verdict_by_rules s was) c.requires.input ∙ ack_enters s was kept c.args.key above (sym c.is_acknowledged.ensures ∙ c.if-is_acknowledged.false) in
     let entered = room_enters s was i [] enters c.in_ok-record.ensures.ok in
     let more = c.push_reserved.ensures.items ∙ ap (λ js. js ++ c.in_ok-record.record ∷ []) c.reserve.ensures.items ∙ ap (λ j. was.journal.items ++ j ∷ []) c.in_ok-record.ensures.copy in
     let place = c.len-place.ensures ∙ c.reserve.new.self.ok.0 ∙ ap length c.reserve.ensures.items in
     takes_recorded s was _ i [] c.len-place.result entered place more
-    (kept_acknowledged s was _ c.args.key kept (sym (ap (verdict_due s was) c.requires.input) ∙ entered) refl (record { transfers = λ t. refl; checked = λ w. refl })
+    (kept_acknowledged s was _ c.args.key kept (sym (ap (verdict_by_rules s was) c.requires.input) ∙ entered) refl (record { transfers = λ t. refl; checked = λ w. refl })
     (more ∙ ap (λ j. was.journal.items ++ j ∷ []) c.requires.input) c.in_default.ensures.ok)

@@ -4,11 +4,11 @@ use Rattle.units.specs.declared.code.Node.TheVariants.{Itl}
 use Rattle.protocol.specs.AtLog as log
 use Rattle.protocol.specs.History.{transitions_of}
 use Rattle.protocol.specs.Verdict.{history}
-use Rattle.log_core.specs.Taking.{verdict_due}
+use Rattle.log_core.specs.Taking.{verdict_by_rules}
 use Rattle.safety.proofs.MovesAndHistories.LongerHistories.{made_history}
 use Rattle.log_core.proofs.AgedTransfers.{cancelled_sends, none_listed, some_listed}
-use Rattle.log_core.proofs.CleanedUp.{due_messages}
-use Rattle.log_core.proofs.CleanedIds.{due_ids}
+use Rattle.log_core.proofs.CleanedUp.{expired_messages}
+use Rattle.log_core.proofs.CleanedIds.{expired_ids}
 use Rattle.log_core.proofs.CleanedVerdicts.{clean_up_effect, clean_up_enters, clean_up_known, clean_up_repeats}
 use Rattle.log_core.proofs.TakenInputs.{takes_repeat}
 use Rattle.log_core.proofs.tables.Tables.clean_up.Goals as goal
@@ -20,8 +20,8 @@ returns-then-is_empty c =
     let kept = c.requires.kept in
     let a = c.in_ok-ids.ensures.aged in
     let ids = c.in_ok-ids.ids in
-    let are = due_ids s was kept c.args.moment.seconds a.1.front a.1.rest a.1.parts c.due.ensures.ordered a.1.aged a.1.young ids.items (subst (λ l. IsPermutation l ids.items) (sym a.1.held) a.2) c.in_ok-ids.ensures.sorted in
-    takes_repeat s was c.args.input.now kept (ap (verdict_due s was) c.requires.input ∙ clean_up_repeats s was c.args.moment (are ∙ none_listed ids.items ids.len ids.ok.0 (sym c.is_empty.ensures ∙ c.if-is_empty.true)))
+    let are = expired_ids s was kept c.args.moment.seconds a.1.front a.1.rest a.1.parts c.expired.ensures.ordered a.1.aged a.1.young ids.items (subst (λ l. IsPermutation l ids.items) (sym a.1.held) a.2) c.in_ok-ids.ensures.sorted in
+    takes_repeat s was c.args.input.now kept (ap (verdict_by_rules s was) c.requires.input ∙ clean_up_repeats s was c.args.moment (are ∙ none_listed ids.items ids.len ids.ok.0 (sym c.is_empty.ensures ∙ c.if-is_empty.true)))
 
 pub record-requires-clause-transitions : goal.record-requires-clause-transitions
 record-requires-clause-transitions c =
@@ -30,13 +30,13 @@ record-requires-clause-transitions c =
     let kept = c.requires.kept in
     let a = c.in_ok-ids.ensures.aged in
     let ids = c.in_ok-ids.ids in
-    let are = due_ids s was kept c.args.moment.seconds a.1.front a.1.rest a.1.parts c.due.ensures.ordered a.1.aged a.1.young ids.items (subst (λ l. IsPermutation l ids.items) (sym a.1.held) a.2) c.in_ok-ids.ensures.sorted in
+    let are = expired_ids s was kept c.args.moment.seconds a.1.front a.1.rest a.1.parts c.expired.ensures.ordered a.1.aged a.1.young ids.items (subst (λ l. IsPermutation l ids.items) (sym a.1.held) a.2) c.in_ok-ids.ensures.sorted in
     let some = some_listed ids.items ids.len ids.ok.0 (sym c.is_empty.ensures ∙ c.if-is_empty.false) in
     let xs = transitions_of (history s Itl was.journal.items) in (
-      log.due xs c.args.moment.seconds,
-      ap (verdict_due s was) c.requires.input ∙ clean_up_enters s was c.args.moment some.0 some.1 (are ∙ some.2),
+      log.expired xs c.args.moment.seconds,
+      ap (verdict_by_rules s was) c.requires.input ∙ clean_up_enters s was c.args.moment some.0 some.1 (are ∙ some.2),
       c.in_ok-messages.ensures ∙ cancelled_sends s was kept c.as_slice.result.now ids.items c.as_slice.ensures.value
-          ∙ sym (due_messages s (history s Itl was.journal.items) (made_history s Itl was.journal.items) c.args.moment.seconds ids.items are),
+          ∙ sym (expired_messages s (history s Itl was.journal.items) (made_history s Itl was.journal.items) c.args.moment.seconds ids.items are),
       clean_up_effect s was c.args.moment.seconds ids are,
     )
 
@@ -47,5 +47,5 @@ record-requires-clause-known c =
     let kept = c.requires.kept in
     let a = c.in_ok-ids.ensures.aged in
     let ids = c.in_ok-ids.ids in
-    let are = due_ids s was kept c.args.moment.seconds a.1.front a.1.rest a.1.parts c.due.ensures.ordered a.1.aged a.1.young ids.items (subst (λ l. IsPermutation l ids.items) (sym a.1.held) a.2) c.in_ok-ids.ensures.sorted in
+    let are = expired_ids s was kept c.args.moment.seconds a.1.front a.1.rest a.1.parts c.expired.ensures.ordered a.1.aged a.1.young ids.items (subst (λ l. IsPermutation l ids.items) (sym a.1.held) a.2) c.in_ok-ids.ensures.sorted in
     clean_up_known s was c.args.moment.seconds ids are kept

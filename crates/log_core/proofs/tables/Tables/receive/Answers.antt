@@ -3,7 +3,7 @@ use Rattle.units.specs.declared.code.Node.TheVariants.{Itl}
 use Rattle.protocol.specs.AtLog.{log_refusals}
 use Rattle.protocol.specs.Verdict.{history}
 use Rattle.checks.specs.Refusing.{first_of}
-use Rattle.log_core.specs.Taking.{verdict_due}
+use Rattle.log_core.specs.Taking.{verdict_by_rules}
 use Rattle.log_core.proofs.DecidedMessages.{refused}
 use Rattle.log_core.proofs.TakenInputs.{are_same, takes_refused}
 use Rattle.log_core.proofs.tables.Tables.receive.Goals as goal
@@ -16,7 +16,7 @@ returns-in-Some c =
     let es = history s Itl was.journal.items in
     let first = c.message_refusal.ensures es kept.kept.transfers in
     takes_refused s was was c.args.input.now (record { code = c.in-Some.refused }) kept (are_same was)
-    (inr (ap (verdict_due s was) c.requires.input ∙ refused s was kept c.args.message.now c.args.moment c.in-Some.refused (sym first ∙ c.in-Some.is)))
+    (inr (ap (verdict_by_rules s was) c.requires.input ∙ refused s was kept c.args.message.now c.args.moment c.in-Some.refused (sym first ∙ c.in-Some.is)))
 
 pub check-requires-clause-welcome : goal.check-requires-clause-welcome
 check-requires-clause-welcome c =

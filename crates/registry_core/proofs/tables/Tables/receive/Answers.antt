@@ -4,7 +4,7 @@ use Rattle.wire.specs.declared.input.Input.TheVariants.{Received}
 use Rattle.protocol.specs.Verdict.{history}
 use Rattle.checks.specs.Refusing.{first_of}
 use Rattle.protocol.specs.AtRegistry.{registry_refusals}
-use Rattle.registry_core.specs.Taking.{verdict_due}
+use Rattle.registry_core.specs.Taking.{verdict_by_rules}
 use Rattle.registry_core.proofs.DecidedInputs.{message_refused, request_refused}
 use Rattle.registry_core.proofs.TakenInputs.{are_same, takes_refused}
 use Rattle.registry_core.proofs.tables.Tables.receive.Goals as goal
@@ -19,7 +19,7 @@ returns-in-Some c =
     let es = history s (Registry k) was.journal.items in
     let first = c.message_refusal.ensures es kept.kept.own kept.kept.foreign in
     takes_refused s k was was i (record { code = c.in-Some.refused }) kept (are_same was)
-    (inr (ap (verdict_due s k was) c.requires.input.1 ∙ message_refused s k was kept c.args.message.now c.requires.input.0 c.in-Some.refused (sym first ∙ c.in-Some.is)))
+    (inr (ap (verdict_by_rules s k was) c.requires.input.1 ∙ message_refused s k was kept c.args.message.now c.requires.input.0 c.in-Some.refused (sym first ∙ c.in-Some.is)))
 
 pub arrive-requires-clause-input : goal.arrive-requires-clause-input
 arrive-requires-clause-input c = (c.requires.input.0, c.requires.input.1 ∙ ap (λ m. Received m c.requires.input.0) c.in-Proposal.is)
@@ -58,5 +58,5 @@ returns-in-Request c =
     let kept = c.requires.kept in
     let es = history s (Registry k) was.journal.items in
     let first = c.message_refusal.ensures es kept.kept.own kept.kept.foreign in
-    takes_refused s k was was i (record { code = 46 }) kept (are_same was) (inr (ap (verdict_due s k was) (c.requires.input.1 ∙ ap (λ m. Received m c.requires.input.0) c.in-Request.is)
+    takes_refused s k was was i (record { code = 46 }) kept (are_same was) (inr (ap (verdict_by_rules s k was) (c.requires.input.1 ∙ ap (λ m. Received m c.requires.input.0) c.in-Request.is)
     ∙ request_refused s k was kept c.in-Request.field-0 c.requires.input.0 (ap (λ m. first_of (registry_refusals k es m)) (sym c.in-Request.is) ∙ sym first ∙ c.in_default.is)))

@@ -9,4 +9,4 @@ invariant-loop-node l = record {
 }
 
 abbrev pub decreases-loop-node : goal.decreases-loop-node
-decreases-loop-node l = vec_len l.self.due
+decreases-loop-node l = vec_len l.self.pending

@@ -18,5 +18,5 @@ returns c =
           ∙ append_assoc f.events.items (c.args.event ∷ []) (Commit c.args.node 1 ∷ []);
       places = λ t. rw same.2;
       posted = rw same.3;
-      due = c.push_reserved-3.ensures.items ∙ ap (λ (ns : List Node). ns ++ c.args.node ∷ []) same.1;
+      pending = c.push_reserved-3.ensures.items ∙ ap (λ (ns : List Node). ns ++ c.args.node ∷ []) same.1;
     }

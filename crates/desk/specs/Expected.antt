@@ -1,4 +1,4 @@
--- What is due for what a state is asked, after a journal.
+-- What is expected for what a state is asked, after a journal.
 use Rattle.std.specs.Prelude.{List, if◌then◌else◌, Result, Ok, Err}
 use Rattle.units.specs.RefusalCodes.{node_stopped}
 use Rattle.units.specs.declared.code.Node.{Node}
@@ -22,9 +22,9 @@ told_of (Ok stepped) = Step stepped
 told_of (Err refusal) = Refused refusal
 
 -- what a node of one thread tells after a journal
-abbrev pub due : Scheme → Node → List Input → Asked → Told
-due scheme n journal (Take input) = told_of (answer scheme n journal input)
-due scheme n journal (Query id) = Status (stands (transitions_of (history scheme n journal)) id)
+abbrev pub expected : Scheme → Node → List Input → Asked → Told
+expected scheme n journal (Take input) = told_of (answer scheme n journal input)
+expected scheme n journal (Query id) = Status (stands (transitions_of (history scheme n journal)) id)
 
 -- the refusal of a node that has stopped
 abbrev pub stopped : Refusal

@@ -10,14 +10,14 @@ use Rattle.status.specs.declared.id.TransactionId.{TransactionId}
 use Rattle.acquirer.specs.Transfers.{is_awaited_by}
 use Rattle.acquirer.specs.contracts.awaited.AwaitedOrd.TheImpl.{cmp-value as awaited-order}
 use Rattle.acquirer.specs.declared.awaited.Awaited.{Awaited}
-use Rattle.acquirer.specs.declared.transfer.Transfer.{Transfer}
+use Rattle.acquirer.specs.declared.transfer.IncomingTransfer.{IncomingTransfer}
 
 -- by account, and then by identifier
 abbrev pub awaited_cmp : Awaited → Awaited → Ordering
 awaited_cmp = awaited-order.it
 
 -- the set has the transfers that were accepted, each by its account
-abbrev pub AreAwaited : BTreeMap TransactionId Transfer → BTreeSet Awaited → Type 0
+abbrev pub AreAwaited : BTreeMap TransactionId IncomingTransfer → BTreeSet Awaited → Type 0
 AreAwaited transfers awaited = (q : Awaited) → contains awaited_cmp awaited q ≡ is_awaited_by q.account (tree.get id_cmp transfers q.id)
 
 -- the place is that one

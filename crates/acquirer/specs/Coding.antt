@@ -7,10 +7,10 @@ use Rattle.units.specs.declared.code.Code.{Code}
 use Rattle.status.specs.Id.{id_cmp}
 use Rattle.status.specs.contracts.id.TransactionId as id
 use Rattle.acquirer.specs.Transfers.{AcquirerView}
-use Rattle.acquirer.specs.contracts.transfer.Transfer as transfer
-use Rattle.acquirer.specs.declared.transfer.Transfer.{Transfer}
+use Rattle.acquirer.specs.contracts.transfer.IncomingTransfer as transfer
+use Rattle.acquirer.specs.declared.transfer.IncomingTransfer.{IncomingTransfer}
 
 -- as the registry and the map
 abbrev pub acquiring_code : Coded AcquirerView
 acquiring_code =
-    code_by (Code × map.FinMap id_cmp Transfer) (coded× code.the_row.coded (map.code id.the_row.coded transfer.the_row.coded)) (λ a. (a.code, a.transfers)) (λ p. record { code = p.0; transfers = p.1 }) (λ _. refl)
+    code_by (Code × map.FinMap id_cmp IncomingTransfer) (coded× code.the_row.coded (map.code id.the_row.coded transfer.the_row.coded)) (λ a. (a.code, a.transfers)) (λ p. record { code = p.0; transfers = p.1 }) (λ _. refl)

@@ -12,32 +12,32 @@ use Rattle.status.specs.declared.rows.RecordedStatus.{RecordedStatus}
 use Rattle.status.specs.declared.rows.RecordedStatus.TheVariants.{Unknown, Bare, Stands}
 use Rattle.status.specs.declared.status.Status.{Status}
 use Rattle.status.specs.declared.status.Status.TheVariants.{Accepted}
-use Rattle.acquirer.specs.declared.transfer.Transfer.{Transfer}
+use Rattle.acquirer.specs.declared.transfer.IncomingTransfer.{IncomingTransfer}
 
 -- the registry, and the transfers to it
 pub record AcquirerView : Type 0 where
   pub code : Code
-  pub transfers : FinMap id_cmp Transfer
+  pub transfers : FinMap id_cmp IncomingTransfer
 
 -- what the table asks of a transfer
-abbrev pub known_of : Transfer → RecordedStatus
+abbrev pub known_of : IncomingTransfer → RecordedStatus
 known_of x = option_map_or (λ k. Stands x.status) x.content Bare
 
-abbrev pub known_transfer : Option Transfer → RecordedStatus
+abbrev pub known_transfer : Option IncomingTransfer → RecordedStatus
 known_transfer x = option_map_or known_of x Unknown
 
 -- its content, where it is known
-abbrev pub kept_content : Option Transfer → Option Content
+abbrev pub kept_content : Option IncomingTransfer → Option Content
 kept_content x = option_and_then (λ y. y.content) x
 
 -- it was accepted, and its units are to go to that account
-abbrev pub is_awaited_by : ℕ → Option Transfer → Bool
+abbrev pub is_awaited_by : ℕ → Option IncomingTransfer → Bool
 is_awaited_by account x = option_map_or (λ y. same_status y.status Accepted && option_map_or (λ k. k.to_account == account) y.content false) x false
 
 -- the transfer when it has come to that status
-abbrev pub finished : Status → Transfer → Transfer
+abbrev pub finished : Status → IncomingTransfer → IncomingTransfer
 finished new x = record x { status = new }
 
 -- the transfers by their identifiers
-unfoldable pub transfers_by_id : BTreeMap TransactionId Transfer → FinMap id_cmp Transfer
+unfoldable pub transfers_by_id : BTreeMap TransactionId IncomingTransfer → FinMap id_cmp IncomingTransfer
 transfers_by_id transfers = from_entries transfers.entries

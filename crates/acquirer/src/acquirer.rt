@@ -33,7 +33,7 @@ ghost use Rattle.acquirer.specs.Transfers.{is_awaited_by, kept_content, finished
 use crate::awaited::{Awaited, first_awaited};
 use crate::messages::on_proposal;
 use crate::table::{finish, put};
-use crate::transfer::Transfer;
+use crate::transfer::IncomingTransfer;
 use accounts::Holdings;
 use checks::{acquirer_findings, holds_some};
 use protocol::Decision;
@@ -51,7 +51,7 @@ use wire::AcquirerCodes;
 #[derive(Debug, Drop)]
 pub struct Acquirer {
     code: Code,
-    transfers: BTreeMap<TransactionId, Transfer>,
+    transfers: BTreeMap<TransactionId, IncomingTransfer>,
     awaited: BTreeSet<Awaited>,
 }
 
@@ -102,7 +102,7 @@ impl Acquirer {
     }
 
     /// The transfer with that identifier.
-    fn transfer(&self, id: TransactionId) -> Option<&Transfer>
+    fn transfer(&self, id: TransactionId) -> Option<&IncomingTransfer>
         ensures { option_copied result ≡ map.get self.now.transfers id }
     {
         self.transfers.get(&id)
@@ -259,7 +259,7 @@ impl Acquirer {
             (record { status = new; content = Some content }) else map.get self.old.transfers t))) }
         ensures err { OnErr result (self.new ≡ self.old) }
     {
-        let transfer = Transfer {
+        let transfer = IncomingTransfer {
             status: new,
             content: Some(content),
         };
@@ -276,7 +276,7 @@ impl Acquirer {
             (record { status = words.Cancelled; content = None }) else map.get self.old.transfers t))) }
         ensures err { OnErr result (self.new ≡ self.old) }
     {
-        let transfer = Transfer {
+        let transfer = IncomingTransfer {
             status: Status::Cancelled,
             content: None,
         };

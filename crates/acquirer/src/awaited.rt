@@ -8,7 +8,7 @@ ghost use Rattle.status.specs.Id.{id_cmp, same_id};
 ghost use Rattle.std.specs.Ordering.{is_gt};
 ghost use Rattle.status.specs.declared.id.TransactionId.{TransactionId};
 
-use crate::transfer::Transfer;
+use crate::transfer::IncomingTransfer;
 use status::{Status, TransactionId};
 use std::collections::BTreeSet;
 use units::NoMemory;
@@ -21,7 +21,7 @@ pub(crate) struct Awaited {
 }
 
 /// The place of a transfer among those that are awaited, or `None` where it isn't.
-pub(crate) fn awaited_of(id: TransactionId, transfer: &Transfer) -> Option<Awaited>
+pub(crate) fn awaited_of(id: TransactionId, transfer: &IncomingTransfer) -> Option<Awaited>
     ensures { (q : Awaited) → is_awaited_place q result ≡ (same_id id q.id && is_awaited_by q.account
         (Some transfer.now)) }
 {

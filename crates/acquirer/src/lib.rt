@@ -8,4 +8,4 @@ mod table;
 mod transfer;
 
 pub use acquirer::Acquirer;
-pub use transfer::Transfer;
+pub use transfer::IncomingTransfer;

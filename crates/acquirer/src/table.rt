@@ -10,16 +10,16 @@ ghost use Rattle.status.specs.declared.id.TransactionId.{TransactionId};
 ghost use Rattle.status.specs.declared.status.Status.TheVariants as words;
 
 use crate::awaited::{Awaited, awaited_of, forget, remember};
-use crate::transfer::Transfer;
+use crate::transfer::IncomingTransfer;
 use status::{Status, TransactionId};
 use std::collections::{BTreeMap, BTreeSet};
 use units::NoMemory;
 
 /// The transfer is in the table. After `NoMemory` nothing has changed.
 fn insert(
-    transfers: &mut BTreeMap<TransactionId, Transfer>,
+    transfers: &mut BTreeMap<TransactionId, IncomingTransfer>,
     id: TransactionId,
-    transfer: Transfer,
+    transfer: IncomingTransfer,
 ) -> Result<(), NoMemory>
     ensures ok { OnOk result ((t : TransactionId)
         → tree.get id_cmp transfers.new t ≡ (if same_id id t then Some transfer else tree.get id_cmp transfers.old t)) }
@@ -31,10 +31,10 @@ fn insert(
 
 /// A transfer more. After `NoMemory` nothing has changed.
 pub(crate) fn put(
-    transfers: &mut BTreeMap<TransactionId, Transfer>,
+    transfers: &mut BTreeMap<TransactionId, IncomingTransfer>,
     awaited: &mut BTreeSet<Awaited>,
     id: TransactionId,
-    transfer: Transfer,
+    transfer: IncomingTransfer,
 ) -> Result<(), NoMemory>
     requires absent { tree.get id_cmp transfers.old id ≡ None }
     requires kept { AreAwaited transfers.old awaited.old }
@@ -53,7 +53,10 @@ pub(crate) fn put(
 }
 
 /// The place of the transfer with that identifier among those that are awaited, or `None` where it isn't.
-fn place_in(transfers: &BTreeMap<TransactionId, Transfer>, id: TransactionId) -> Option<Awaited>
+fn place_in(
+    transfers: &BTreeMap<TransactionId, IncomingTransfer>,
+    id: TransactionId,
+) -> Option<Awaited>
     ensures { (q : Awaited) → is_awaited_place q result ≡ (same_id id q.id && is_awaited_by q.account
         (tree.get id_cmp transfers.now id)) }
 {
@@ -64,7 +67,11 @@ fn place_in(transfers: &BTreeMap<TransactionId, Transfer>, id: TransactionId) ->
 }
 
 /// The transfer has that status.
-fn set_status(transfers: &mut BTreeMap<TransactionId, Transfer>, id: TransactionId, new: Status)
+fn set_status(
+    transfers: &mut BTreeMap<TransactionId, IncomingTransfer>,
+    id: TransactionId,
+    new: Status,
+)
     ensures { (t : TransactionId)
         → tree.get id_cmp transfers.new t
         ≡ (if same_id id t then option_map (finished new)
@@ -77,7 +84,7 @@ fn set_status(transfers: &mut BTreeMap<TransactionId, Transfer>, id: Transaction
 
 /// The transfer has come to that status, which isn't Accepted.
 pub(crate) fn finish(
-    transfers: &mut BTreeMap<TransactionId, Transfer>,
+    transfers: &mut BTreeMap<TransactionId, IncomingTransfer>,
     awaited: &mut BTreeSet<Awaited>,
     id: TransactionId,
     new: Status,

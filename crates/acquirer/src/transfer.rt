@@ -7,12 +7,12 @@ use status::{Content, RecordedStatus, RowInput, Status};
 /// What an acquirer knows of a transfer to it: where it stands, and its content, which is `None` where it was
 /// cancelled before its proposal came.
 #[derive(Debug, Drop)]
-pub struct Transfer {
+pub struct IncomingTransfer {
     pub status: Status,
     pub content: Option<Content>,
 }
 
-impl Transfer {
+impl IncomingTransfer {
     /// What the table asks of it.
     pub(crate) fn known(&self) -> RecordedStatus
         ensures { result ≡ transfers.known_of self.now }

@@ -7,10 +7,10 @@ use Rattle.units.specs.declared.code.Code.{Code}
 use Rattle.status.specs.Id.{id_cmp}
 use Rattle.status.specs.contracts.id.TransactionId as id
 use Rattle.initiator.specs.Transfers.{InitiatorView}
-use Rattle.initiator.specs.contracts.transfer.Transfer as transfer
-use Rattle.initiator.specs.declared.transfer.Transfer.{Transfer}
+use Rattle.initiator.specs.contracts.transfer.OutgoingTransfer as transfer
+use Rattle.initiator.specs.declared.transfer.OutgoingTransfer.{OutgoingTransfer}
 
 -- as the registry, the number and the map
 abbrev pub initiating_code : Coded InitiatorView
 initiating_code =
-    code_by (Code × (ℕ × map.FinMap id_cmp Transfer)) (coded× code.the_row.coded (coded× coded_ℕ (map.code id.the_row.coded transfer.the_row.coded))) (λ i. (i.code, (i.last, i.transfers))) (λ p. record { code = p.0; last = p.1.0; transfers = p.1.1 }) (λ _. refl)
+    code_by (Code × (ℕ × map.FinMap id_cmp OutgoingTransfer)) (coded× code.the_row.coded (coded× coded_ℕ (map.code id.the_row.coded transfer.the_row.coded))) (λ i. (i.code, (i.last, i.transfers))) (λ p. record { code = p.0; last = p.1.0; transfers = p.1.1 }) (λ _. refl)

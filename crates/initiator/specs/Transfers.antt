@@ -18,28 +18,28 @@ use Rattle.status.specs.declared.status.Status.TheVariants.{Proposed}
 use Rattle.protocol.specs.Checks.{Causes}
 use Rattle.initiator.specs.declared.transfer.Cancellation.{Cancellation}
 use Rattle.initiator.specs.declared.transfer.Cancellation.TheVariants.{NotAsked, Asked}
-use Rattle.initiator.specs.declared.transfer.Transfer.{Transfer}
+use Rattle.initiator.specs.declared.transfer.OutgoingTransfer.{OutgoingTransfer}
 
 -- the registry, the last transaction number that it gave (0 before the first), and its transfers
 pub record InitiatorView : Type 0 where
   pub code : Code
   pub last : ℕ
-  pub transfers : FinMap id_cmp Transfer
+  pub transfers : FinMap id_cmp OutgoingTransfer
 
 -- a new transfer
-abbrev pub opened : Transfer
+abbrev pub opened : OutgoingTransfer
 opened = record { status = Proposed; cancellation = NotAsked }
 
 -- the transfer when its cancellation was asked for
-abbrev pub asked : Transfer → Transfer
+abbrev pub asked : OutgoingTransfer → OutgoingTransfer
 asked x = record x { cancellation = Asked }
 
 -- the transfer when it has come to that status
-abbrev pub settled : Status → Transfer → Transfer
+abbrev pub settled : Status → OutgoingTransfer → OutgoingTransfer
 settled new x = record x { status = new }
 
 -- what the table asks of a transfer: an initiator always has its content
-abbrev pub known_transfer : Option Transfer → RecordedStatus
+abbrev pub known_transfer : Option OutgoingTransfer → RecordedStatus
 known_transfer x = option_map_or (λ y. Stands y.status) x Unknown
 
 abbrev pub is_asked : Cancellation → Bool
@@ -47,15 +47,15 @@ is_asked NotAsked = false
 is_asked Asked = true
 
 -- the column of an order to ask for cancellation: the first one for its transfer, or another
-abbrev pub column_of_request : Option Transfer → RowInput
+abbrev pub column_of_request : Option OutgoingTransfer → RowInput
 column_of_request x = cond (option_map_or (λ y. is_asked y.cancellation) x false) RepeatedRequestOrder RequestOrder
 
 -- stands Proposed
-abbrev pub is_still_proposed : Option Transfer → Bool
+abbrev pub is_still_proposed : Option OutgoingTransfer → Bool
 is_still_proposed x = option_map_or (λ y. same_status y.status Proposed) x false
 
 -- the transfers by their identifiers
-unfoldable pub transfers_by_id : BTreeMap TransactionId Transfer → FinMap id_cmp Transfer
+unfoldable pub transfers_by_id : BTreeMap TransactionId OutgoingTransfer → FinMap id_cmp OutgoingTransfer
 transfers_by_id transfers = from_entries transfers.entries
 
 -- why an order to ask for a transfer's cancellation is refused

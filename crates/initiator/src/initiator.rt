@@ -26,7 +26,7 @@ ghost use Rattle.initiator.specs.Transfers.{opened, asked, settled, known_transf
 
 use crate::messages::{on_notified, on_proposing, on_request};
 use crate::table::{ask, forget, open, settle};
-use crate::transfer::{Transfer, is_proposed, known, request_column};
+use crate::transfer::{OutgoingTransfer, is_proposed, known, request_column};
 use accounts::Holdings;
 use checks::{NewTransfer, propose_check};
 use protocol::Decision;
@@ -44,7 +44,7 @@ use units::{Code, Refusal};
 pub struct Initiator {
     code: Code,
     last: u32,
-    transfers: BTreeMap<TransactionId, Transfer>,
+    transfers: BTreeMap<TransactionId, OutgoingTransfer>,
 }
 
 impl Model for Initiator {
@@ -72,7 +72,7 @@ impl Initiator {
     }
 
     /// The transfer with that identifier.
-    fn transfer(&self, id: TransactionId) -> Option<Transfer>
+    fn transfer(&self, id: TransactionId) -> Option<OutgoingTransfer>
         ensures { result ≡ map.get self.now.transfers id }
     {
         self.transfers.get(&id).copied()

@@ -7,4 +7,4 @@ mod table;
 mod transfer;
 
 pub use initiator::Initiator;
-pub use transfer::{Cancellation, Transfer};
+pub use transfer::{Cancellation, OutgoingTransfer};

@@ -5,21 +5,21 @@ ghost use Rattle.initiator.specs.Transfers.{asked, opened, settled};
 ghost use Rattle.status.specs.Id.{id_cmp, same_id};
 ghost use Rattle.status.specs.declared.id.TransactionId.{TransactionId};
 
-use crate::transfer::{Cancellation, Transfer};
+use crate::transfer::{Cancellation, OutgoingTransfer};
 use status::{Status, TransactionId};
 use std::collections::BTreeMap;
 use units::NoMemory;
 
 /// A new transfer. After `NoMemory` nothing has changed.
 pub(crate) fn open(
-    transfers: &mut BTreeMap<TransactionId, Transfer>,
+    transfers: &mut BTreeMap<TransactionId, OutgoingTransfer>,
     id: TransactionId,
 ) -> Result<(), NoMemory>
     ensures ok { OnOk result ((t : TransactionId)
         → tree.get id_cmp transfers.new t ≡ (if same_id id t then Some opened else tree.get id_cmp transfers.old t)) }
     ensures err { OnErr result (transfers.new.entries ≡ transfers.old.entries) }
 {
-    let transfer = Transfer {
+    let transfer = OutgoingTransfer {
         status: Status::Proposed,
         cancellation: Cancellation::NotAsked,
     };
@@ -28,7 +28,7 @@ pub(crate) fn open(
 }
 
 /// Takes the transfer out.
-pub(crate) fn forget(transfers: &mut BTreeMap<TransactionId, Transfer>, id: TransactionId)
+pub(crate) fn forget(transfers: &mut BTreeMap<TransactionId, OutgoingTransfer>, id: TransactionId)
     ensures { (t : TransactionId)
         → tree.get id_cmp transfers.new t ≡ (if same_id id t then None else tree.get id_cmp transfers.old t) }
 {
@@ -36,7 +36,7 @@ pub(crate) fn forget(transfers: &mut BTreeMap<TransactionId, Transfer>, id: Tran
 }
 
 /// The transfer's cancellation was asked for.
-pub(crate) fn ask(transfers: &mut BTreeMap<TransactionId, Transfer>, id: TransactionId)
+pub(crate) fn ask(transfers: &mut BTreeMap<TransactionId, OutgoingTransfer>, id: TransactionId)
     ensures { (t : TransactionId)
         → tree.get id_cmp transfers.new t
         ≡ (if same_id id t then option_map asked
@@ -49,7 +49,7 @@ pub(crate) fn ask(transfers: &mut BTreeMap<TransactionId, Transfer>, id: Transac
 
 /// The transfer has come to that status.
 pub(crate) fn settle(
-    transfers: &mut BTreeMap<TransactionId, Transfer>,
+    transfers: &mut BTreeMap<TransactionId, OutgoingTransfer>,
     id: TransactionId,
     new: Status,
 )

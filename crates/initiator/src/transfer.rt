@@ -15,13 +15,13 @@ pub enum Cancellation {
 
 /// What an initiator knows of a transfer of its own: where it stands, and whether its cancellation was asked for.
 #[derive(Clone, Copy, Debug, PartialEq, Eq)]
-pub struct Transfer {
+pub struct OutgoingTransfer {
     pub status: Status,
     pub cancellation: Cancellation,
 }
 
 /// What the table asks of a transfer.
-pub(crate) fn known(transfer: Option<Transfer>) -> RecordedStatus
+pub(crate) fn known(transfer: Option<OutgoingTransfer>) -> RecordedStatus
     ensures { result ≡ transfers.known_transfer transfer }
 {
     match transfer {
@@ -31,7 +31,7 @@ pub(crate) fn known(transfer: Option<Transfer>) -> RecordedStatus
 }
 
 /// Whether it stands Proposed.
-pub(crate) fn is_proposed(transfer: Option<Transfer>) -> bool
+pub(crate) fn is_proposed(transfer: Option<OutgoingTransfer>) -> bool
     ensures { result ≡ transfers.is_still_proposed transfer }
 {
     match transfer {
@@ -41,7 +41,7 @@ pub(crate) fn is_proposed(transfer: Option<Transfer>) -> bool
 }
 
 /// The column of an order to ask for its cancellation.
-pub(crate) fn request_column(transfer: Option<Transfer>) -> RowInput
+pub(crate) fn request_column(transfer: Option<OutgoingTransfer>) -> RowInput
     ensures value { result ≡ transfers.column_of_request transfer }
     ensures either { (result ≡ words.RequestOrder) ⊎ (result ≡ words.RepeatedRequestOrder) }
 {

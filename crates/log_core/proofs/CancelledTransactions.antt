@@ -14,7 +14,7 @@ use Rattle.checks.specs.declared.register.UnderWay.{UnderWay}
 use Rattle.units.proofs.Lists.OneValue.{clash}
 use Rattle.log_core.specs.Effects.{is_among}
 use Rattle.log_core.specs.Transfers.{came_at}
-use Rattle.log_core.specs.declared.transfer.Transfer.{Transfer}
+use Rattle.log_core.specs.declared.transfer.LoggedTransfer.{LoggedTransfer}
 
 or_false : (b : Bool) → (b || false) ≡ b
 or_false true = refl
@@ -60,7 +60,7 @@ labels_alike : {M : Type 0} (f g : M → Bool) (o : Option M) → ((m : M) → f
 labels_alike f g None h = refl
 labels_alike f g (Some m) h = ap (λ b. cond b (Some m) None) (h m)
 
-twice_came : (moment : Moment) (x : Transfer) → came_at Cancelled moment (came_at Cancelled moment x) ≡ came_at Cancelled moment x
+twice_came : (moment : Moment) (x : LoggedTransfer) → came_at Cancelled moment (came_at Cancelled moment x) ≡ came_at Cancelled moment x
 twice_came moment x = refl
 
 pub none_labelled_yet : (o : Option UnderWay) → o ≡ labels_that (λ u. not (is_among [] u.id)) o
@@ -68,7 +68,7 @@ none_labelled_yet None = refl
 none_labelled_yet (Some u) = refl
 
 module _ (ids : List TransactionId) (i : ℕ) (id : TransactionId) (lt : i < length ids) (is : id ≡ get_or ids i id) where
-  pub changed_after : (t : TransactionId) (moment : Moment) (old now : Option Transfer) → now ≡ cond (is_among (take i ids) t) (option_map (came_at Cancelled moment) old) old
+  pub changed_after : (t : TransactionId) (moment : Moment) (old now : Option LoggedTransfer) → now ≡ cond (is_among (take i ids) t) (option_map (came_at Cancelled moment) old) old
       → cond (same_id id t) (option_map (came_at Cancelled moment) now) now ≡ cond (is_among (take (i + 1) ids) t) (option_map (came_at Cancelled moment) old) old
   changed_after t moment old now h =
       ap (λ o. cond (same_id id t) (option_map (came_at Cancelled moment) o) o) h ∙ changed_more (came_at Cancelled moment) (twice_came moment) (is_among (take i ids) t) (same_id id t) old

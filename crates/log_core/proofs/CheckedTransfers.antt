@@ -22,7 +22,7 @@ use Rattle.log_core.specs.Effects.{transfer_state_content}
 use Rattle.log_core.specs.Kept.{waiting_cmp}
 use Rattle.log_core.specs.Readings.{TransferState, of_transfer}
 use Rattle.log_core.specs.Transfers.{AreLabelled, AreWaiting, stands_checked_since, is_waiting_place, transfer_state_of}
-use Rattle.log_core.specs.declared.transfer.Transfer.{Transfer}
+use Rattle.log_core.specs.declared.transfer.LoggedTransfer.{LoggedTransfer}
 use Rattle.log_core.specs.declared.waiting.Waiting.{Waiting}
 
 -- ---- a place that is taken out
@@ -44,11 +44,11 @@ none_there false there h = refl
 is_since : (since : ℕ) (o : Option TransferState) (x : TransferState) → o ≡ Some x → stands_checked_since since o ≡ true → (x.since == since) ≡ true
 is_since since o x e h = (and_parts (same_status x.status Checked) (x.since == since) (ap (stands_checked_since since) (sym e) ∙ h)).1
 
-module _ (transfers : BTreeMap TransactionId Transfer) (checked : BTreeSet Waiting) (waiting : AreWaiting transfers checked) (id : TransactionId) where
+module _ (transfers : BTreeMap TransactionId LoggedTransfer) (checked : BTreeSet Waiting) (waiting : AreWaiting transfers checked) (id : TransactionId) where
   there_of : (w : Waiting) → same_id id w.id ≡ true → contains waiting_cmp checked w ≡ stands_checked_since w.since.seconds (transfer_state_of transfers id)
   there_of w same = waiting w ∙ ap (λ t. stands_checked_since w.since.seconds (transfer_state_of transfers t)) (sym (id_of_same id w.id same))
 
-  pub stops : (x : Transfer) → tree.get id_cmp transfers id ≡ Some x → (w : Waiting)
+  pub stops : (x : LoggedTransfer) → tree.get id_cmp transfers id ≡ Some x → (w : Waiting)
       → (contains waiting_cmp checked w && not (is_waiting_place w (record { since = x.since; id = id }))) ≡ (not (same_id id w.id) && contains waiting_cmp checked w)
   stops x is w =
       taken_out (same_id id w.id) (x.since.seconds == w.since.seconds) (contains waiting_cmp checked w)
@@ -71,7 +71,7 @@ none_labelled passes None h = refl
 none_labelled passes (Some m) h = ap (λ b. cond (not b) (Some m) None) (sym (h m refl))
 
 -- the transfer's units are those of its content
-pub labelled_content : (transfers : BTreeMap TransactionId Transfer) (under_way : finite.FinMap unit_cmp UnderWay) (id : TransactionId) (k : Option Content) → AreLabelled transfers under_way → k ≡ transfer_state_content (transfer_state_of transfers id)
+pub labelled_content : (transfers : BTreeMap TransactionId LoggedTransfer) (under_way : finite.FinMap unit_cmp UnderWay) (id : TransactionId) (k : Option Content) → AreLabelled transfers under_way → k ≡ transfer_state_content (transfer_state_of transfers id)
     → (s : Serial) (u : UnderWay) → finite.get under_way s ≡ Some u → same_id u.id id ≡ true → has_serial k s ≡ true
 labelled_content transfers under_way id k labelled is s u e same =
     ap (λ c. has_serial c s) (is ∙ ap (λ t. transfer_state_content (transfer_state_of transfers t)) (sym (id_of_same u.id id same))) ∙ labelled s u e

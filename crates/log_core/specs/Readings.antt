@@ -14,7 +14,7 @@ use Rattle.scheme.specs.declared.registries.Scheme.{Scheme}
 use Rattle.checks.specs.declared.register.Owner.{Owner}
 use Rattle.checks.specs.declared.register.UnderWay.{UnderWay}
 use Rattle.protocol.specs.History.{Transition, Entry, newest, stands_at, carries, book_owner, allows}
-use Rattle.log_core.specs.declared.transfer.Transfer.{Transfer}
+use Rattle.log_core.specs.declared.transfer.LoggedTransfer.{LoggedTransfer}
 
 -- ---- a unit
 
@@ -33,7 +33,7 @@ pub record TransferState : Type 0 where
 abbrev pub of_transition : Transition → TransferState
 of_transition x = record { status = x.new; content = x.content; since = x.moment }
 
-abbrev pub of_transfer : Transfer → TransferState
+abbrev pub of_transfer : LoggedTransfer → TransferState
 of_transfer x = record { status = x.status; content = x.content; since = x.since.seconds }
 
 -- it stands Checked since that second

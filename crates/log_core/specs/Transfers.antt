@@ -28,15 +28,15 @@ use Rattle.log_core.specs.Readings.{TransferState, of_transfer}
 use Rattle.log_core.specs.declared.effect.Effect.{Effect}
 use Rattle.log_core.specs.declared.effect.Effect.TheVariants.{Begin, Settle, Cancel}
 use Rattle.log_core.specs.declared.tables.Tables.{Tables}
-use Rattle.log_core.specs.declared.transfer.Transfer.{Transfer}
+use Rattle.log_core.specs.declared.transfer.LoggedTransfer.{LoggedTransfer}
 use Rattle.log_core.specs.declared.waiting.Waiting.{Waiting}
 
 -- where a transaction stands
-abbrev pub transfer_state_of : BTreeMap TransactionId Transfer → TransactionId → Option TransferState
+abbrev pub transfer_state_of : BTreeMap TransactionId LoggedTransfer → TransactionId → Option TransferState
 transfer_state_of transfers t = option_map of_transfer (tree.get id_cmp transfers t)
 
 -- the transaction came to that status then
-abbrev pub came_at : Status → Moment → Transfer → Transfer
+abbrev pub came_at : Status → Moment → LoggedTransfer → LoggedTransfer
 came_at new moment x = record x { status = new; since = moment }
 
 -- what the status table asks of a transaction
@@ -52,11 +52,11 @@ abbrev pub is_waiting_place : Waiting → Waiting → Bool
 is_waiting_place w p = (p.since.seconds == w.since.seconds) && same_id p.id w.id
 
 -- the set has the transactions that stand Checked, each by its moment
-abbrev pub AreWaiting : BTreeMap TransactionId Transfer → BTreeSet Waiting → Type 0
+abbrev pub AreWaiting : BTreeMap TransactionId LoggedTransfer → BTreeSet Waiting → Type 0
 AreWaiting transfers checked = (w : Waiting) → contains waiting_cmp checked w ≡ stands_checked_since w.since.seconds (transfer_state_of transfers w.id)
 
 -- a unit that is under way is one of its transfer's
-abbrev pub AreLabelled : BTreeMap TransactionId Transfer → finite.FinMap unit_cmp UnderWay → Type 0
+abbrev pub AreLabelled : BTreeMap TransactionId LoggedTransfer → finite.FinMap unit_cmp UnderWay → Type 0
 AreLabelled transfers under_way = (s : Serial) (u : UnderWay) → finite.get under_way s ≡ Some u → has_serial (transfer_state_content (transfer_state_of transfers u.id)) s ≡ true
 
 -- ---- what an effect may be carried out on

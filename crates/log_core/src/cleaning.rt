@@ -16,7 +16,7 @@ ghost use Rattle.log_core.specs.Transfers.{transfer_state_of};
 use crate::effect::Effect;
 use crate::messages::push_cancelled;
 use crate::tables::Tables;
-use crate::transfer::Transfer;
+use crate::transfer::LoggedTransfer;
 use crate::transfers::content;
 use crate::waiting::Waiting;
 use protocol::Stepped;
@@ -67,7 +67,7 @@ fn expired(
 /// What follows the cancellation of each of the transactions, in their order; or `NoMemory`.
 fn cancellations(
     alloc: Global,
-    transfers: &BTreeMap<TransactionId, Transfer>,
+    transfers: &BTreeMap<TransactionId, LoggedTransfer>,
     ids: &[TransactionId],
 ) -> Result<Items<Message>, NoMemory>
     ensures { IfOk result (λ messages. messages ≡ flat_map (λ t. log_sends t (transfer_state_content

@@ -6,7 +6,7 @@ ghost use Rattle.log_core.specs.Transfers.{AreApart, AreLabelled, AreSame, AreWa
 
 use crate::moving::{begin, cancel, settle};
 use crate::tables::Tables;
-use crate::transfer::Transfer;
+use crate::transfer::LoggedTransfer;
 use status::{Content, Moment, Status, TransactionId};
 use units::Refusal;
 
@@ -47,7 +47,7 @@ impl Tables {
         let (transfers, checked) = (&mut self.transfers, &mut self.checked);
         match effect {
             Effect::Begin { id, new, content } => {
-                let transfer = Transfer {
+                let transfer = LoggedTransfer {
                     status: new,
                     content,
                     since: moment,

@@ -16,7 +16,7 @@ ghost use Rattle.log_core.specs.Transfers.{AreLabelled, AreWaiting, IsApart, cam
 ghost use Rattle.log_core.specs.declared.waiting.Waiting as declared;
 
 use crate::register;
-use crate::transfer::Transfer;
+use crate::transfer::LoggedTransfer;
 use crate::transfers::{content, put, set_status, take_out};
 use crate::waiting::{Waiting, forget, remember};
 use checks::{Owner, UnderWay};
@@ -55,10 +55,10 @@ fn start(
 /// nothing has changed.
 pub(crate) fn begin(
     under_way: &mut UnitMap<UnderWay>,
-    transfers: &mut BTreeMap<TransactionId, Transfer>,
+    transfers: &mut BTreeMap<TransactionId, LoggedTransfer>,
     checked: &mut BTreeSet<Waiting>,
     id: TransactionId,
-    transfer: Transfer,
+    transfer: LoggedTransfer,
 ) -> Result<(), NoMemory>
     requires absent { tree.get id_cmp transfers.old id ≡ None }
     requires waiting { AreWaiting transfers.old checked.old }
@@ -93,7 +93,7 @@ pub(crate) fn begin(
 
 /// The place of the transaction among those that stand Checked isn't there any more.
 fn stop_waiting(
-    transfers: &BTreeMap<TransactionId, Transfer>,
+    transfers: &BTreeMap<TransactionId, LoggedTransfer>,
     checked: &mut BTreeSet<Waiting>,
     id: TransactionId,
 )
@@ -109,7 +109,7 @@ fn stop_waiting(
 
 /// The transaction comes to that status, which isn't Checked. Takes no memory.
 fn leave(
-    transfers: &mut BTreeMap<TransactionId, Transfer>,
+    transfers: &mut BTreeMap<TransactionId, LoggedTransfer>,
     checked: &mut BTreeSet<Waiting>,
     id: TransactionId,
     new: Status,
@@ -132,7 +132,7 @@ fn leave(
 /// The transaction comes to that status, which isn't Checked, and its units aren't under way any more. Takes no memory.
 fn finish(
     under_way: &mut UnitMap<UnderWay>,
-    transfers: &mut BTreeMap<TransactionId, Transfer>,
+    transfers: &mut BTreeMap<TransactionId, LoggedTransfer>,
     checked: &mut BTreeSet<Waiting>,
     id: TransactionId,
     new: Status,
@@ -161,7 +161,7 @@ fn finish(
 pub(crate) fn settle(
     book: &mut UnitMap<Owner>,
     under_way: &mut UnitMap<UnderWay>,
-    transfers: &mut BTreeMap<TransactionId, Transfer>,
+    transfers: &mut BTreeMap<TransactionId, LoggedTransfer>,
     checked: &mut BTreeSet<Waiting>,
     id: TransactionId,
     new: Status,
@@ -202,7 +202,7 @@ pub(crate) fn settle(
 /// Each of the transactions is Cancelled, and its units aren't under way any more. Takes no memory.
 pub(crate) fn cancel(
     under_way: &mut UnitMap<UnderWay>,
-    transfers: &mut BTreeMap<TransactionId, Transfer>,
+    transfers: &mut BTreeMap<TransactionId, LoggedTransfer>,
     checked: &mut BTreeSet<Waiting>,
     ids: &[TransactionId],
     moment: Moment,

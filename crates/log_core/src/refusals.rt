@@ -14,7 +14,7 @@ ghost use Rattle.log_core.specs.Readings.{of_transition};
 ghost use Rattle.log_core.specs.Transfers.{transfer_state_of};
 
 use crate::registries::is_member;
-use crate::transfer::Transfer;
+use crate::transfer::LoggedTransfer;
 use crate::transfers::{content, status};
 use scheme::Scheme;
 use status::{Content, Status, TransactionId};
@@ -61,7 +61,7 @@ fn is_proposed(status: ProposalStatus) -> bool
 
 /// Whether a transaction has another content than that one.
 fn has_other(
-    transfers: &BTreeMap<TransactionId, Transfer>,
+    transfers: &BTreeMap<TransactionId, LoggedTransfer>,
     id: TransactionId,
     other: &Content,
 ) -> bool
@@ -76,7 +76,7 @@ fn has_other(
 }
 
 /// Whether a record is about the transaction.
-fn is_known(transfers: &BTreeMap<TransactionId, Transfer>, id: TransactionId) -> bool
+fn is_known(transfers: &BTreeMap<TransactionId, LoggedTransfer>, id: TransactionId) -> bool
     ensures { (es : List Entry)
         → transfer_state_of transfers.now id ≡ option_map of_transition (newest (transitions_of es) id)
         → result ≡ history.is_known (transitions_of es) id }
@@ -108,7 +108,7 @@ fn is_from_another(from: Node, id: TransactionId, content: Option<&Content>, tol
 /// Why the log refuses a proposal, before its table is asked; or `None`.
 pub(crate) fn proposal_refusal(
     scheme: &Scheme,
-    transfers: &BTreeMap<TransactionId, Transfer>,
+    transfers: &BTreeMap<TransactionId, LoggedTransfer>,
     proposal: &Proposal,
 ) -> Option<u16>
     ensures { (es : List Entry) → ((t : Id)
@@ -136,7 +136,7 @@ pub(crate) fn proposal_refusal(
 /// Why the log refuses a notification, before its table is asked; or `None`.
 pub(crate) fn notification_refusal(
     scheme: &Scheme,
-    transfers: &BTreeMap<TransactionId, Transfer>,
+    transfers: &BTreeMap<TransactionId, LoggedTransfer>,
     notification: &Notification,
 ) -> Option<u16>
     ensures { (es : List Entry) → ((t : Id)
@@ -179,7 +179,7 @@ pub(crate) fn request_refusal(scheme: &Scheme, request: &Request) -> Option<u16>
 /// Why the log refuses a message, before its table is asked; or `None`.
 pub(crate) fn message_refusal(
     scheme: &Scheme,
-    transfers: &BTreeMap<TransactionId, Transfer>,
+    transfers: &BTreeMap<TransactionId, LoggedTransfer>,
     message: &Message,
 ) -> Option<u16>
     ensures { (es : List Entry) → ((t : Id)

@@ -13,7 +13,7 @@ ghost use Rattle.log_core.specs.Transfers.{IsOfKnown};
 
 use crate::effect::Effect;
 use crate::registries::{is_eligible, is_member, order};
-use crate::transfer::Transfer;
+use crate::transfer::LoggedTransfer;
 use crate::waiting::Waiting;
 use checks::Register;
 use outbox::Outbox;
@@ -32,7 +32,7 @@ use wire::{Input, Message, Number};
 pub(crate) struct Tables {
     pub journal: Vec<Input>,
     pub register: Register,
-    pub transfers: BTreeMap<TransactionId, Transfer>,
+    pub transfers: BTreeMap<TransactionId, LoggedTransfer>,
     pub checked: BTreeSet<Waiting>,
     pub outbox: Outbox,
 }

@@ -7,13 +7,13 @@ use status::{Content, Moment, RecordedStatus, Status};
 
 /// A transaction: its status, its content where that is known, and since when it has that status.
 #[derive(Debug, Drop)]
-pub(crate) struct Transfer {
+pub(crate) struct LoggedTransfer {
     pub status: Status,
     pub content: Option<Content>,
     pub since: Moment,
 }
 
-impl Transfer {
+impl LoggedTransfer {
     /// What the status table asks of it.
     pub(crate) fn known(&self) -> RecordedStatus
         ensures { result ≡ transfers.known_transfer_state (Some (of_transfer self.now)) }

@@ -7,16 +7,16 @@ ghost use Rattle.log_core.specs.Effects.{transfer_state_content};
 ghost use Rattle.status.specs.Id.{id_cmp, same_id};
 ghost use Rattle.status.specs.declared.id.TransactionId.{TransactionId};
 
-use crate::transfer::Transfer;
+use crate::transfer::LoggedTransfer;
 use status::{Content, Moment, RecordedStatus, Status, TransactionId};
 use std::collections::BTreeMap;
 use units::NoMemory;
 
 /// The transaction is in the table. After `NoMemory` nothing has changed.
 pub(crate) fn put(
-    transfers: &mut BTreeMap<TransactionId, Transfer>,
+    transfers: &mut BTreeMap<TransactionId, LoggedTransfer>,
     id: TransactionId,
-    transfer: Transfer,
+    transfer: LoggedTransfer,
 ) -> Result<(), NoMemory>
     ensures ok { OnOk result ((t : TransactionId)
         → tree.get id_cmp transfers.new t ≡ (if same_id id t then Some transfer else tree.get id_cmp transfers.old t)) }
@@ -27,7 +27,7 @@ pub(crate) fn put(
 }
 
 /// Takes the transaction out.
-pub(crate) fn take_out(transfers: &mut BTreeMap<TransactionId, Transfer>, id: TransactionId)
+pub(crate) fn take_out(transfers: &mut BTreeMap<TransactionId, LoggedTransfer>, id: TransactionId)
     ensures { (t : TransactionId)
         → tree.get id_cmp transfers.new t ≡ (if same_id id t then None else tree.get id_cmp transfers.old t) }
 {
@@ -36,7 +36,7 @@ pub(crate) fn take_out(transfers: &mut BTreeMap<TransactionId, Transfer>, id: Tr
 
 /// The transaction has that status since that moment.
 pub(crate) fn set_status(
-    transfers: &mut BTreeMap<TransactionId, Transfer>,
+    transfers: &mut BTreeMap<TransactionId, LoggedTransfer>,
     id: TransactionId,
     new: Status,
     moment: Moment,
@@ -54,7 +54,7 @@ pub(crate) fn set_status(
 
 /// What the status table asks of the transaction.
 pub(crate) fn known(
-    transfers: &BTreeMap<TransactionId, Transfer>,
+    transfers: &BTreeMap<TransactionId, LoggedTransfer>,
     id: TransactionId,
 ) -> RecordedStatus
     ensures { result ≡ asked.known_transfer_state (transfer_state_of transfers.now id) }
@@ -67,7 +67,7 @@ pub(crate) fn known(
 
 /// The content of the transaction, or `None` where none is recorded.
 pub(crate) fn content(
-    transfers: &BTreeMap<TransactionId, Transfer>,
+    transfers: &BTreeMap<TransactionId, LoggedTransfer>,
     id: TransactionId,
 ) -> Option<&Content>
     ensures { option_copied result ≡ transfer_state_content (transfer_state_of transfers.now id) }
@@ -78,7 +78,7 @@ pub(crate) fn content(
 
 /// Where the transaction stands, or `None` where no record is about it.
 pub(crate) fn status(
-    transfers: &BTreeMap<TransactionId, Transfer>,
+    transfers: &BTreeMap<TransactionId, LoggedTransfer>,
     id: TransactionId,
 ) -> Option<Status>
     ensures { result ≡ option_map (λ x. x.status) (transfer_state_of transfers.now id) }

@@ -45,10 +45,10 @@ use Rattle.outbox.specs.Sending.{Sends, Sent}
 use Rattle.initiator.specs.Transfers as initiator
 use Rattle.initiator.specs.Transfers.{InitiatorView}
 use Rattle.initiator.specs.declared.transfer.Cancellation.TheVariants.{Asked, NotAsked}
-use Rattle.initiator.specs.declared.transfer.Transfer.{Transfer as Outgoing}
+use Rattle.initiator.specs.declared.transfer.OutgoingTransfer.{OutgoingTransfer}
 use Rattle.acquirer.specs.Transfers as acquirer
 use Rattle.acquirer.specs.Transfers.{AcquirerView}
-use Rattle.acquirer.specs.declared.transfer.Transfer.{Transfer as Incoming}
+use Rattle.acquirer.specs.declared.transfer.IncomingTransfer.{IncomingTransfer}
 use Rattle.safety.proofs.MovesAndHistories.NewestTransitions.{Made, newest_id}
 use Rattle.safety.proofs.MovesAndHistories.TableMoves.{NoneStands, RegistryMove, arrives, asks, bares, finishes, proposes, settles}
 use Rattle.safety.proofs.MovesAndHistories.TableRows.{acquirer_from}
@@ -82,11 +82,11 @@ kept_recorded scheme c tables tables' input xs kept enters journal more =
     }
 
 -- a row with the status and whether its cancellation was asked for
-abbrev own_with : Status → Bool → Outgoing
+abbrev own_with : Status → Bool → OutgoingTransfer
 own_with status b = record { status = status; cancellation = cond b Asked NotAsked }
 
 pub rows_same : (es hs : List Entry) (t : TransactionId) → is_requested hs t ≡ is_requested es t → own_row hs t ≡ own_row es t
-rows_same es hs t e = let row : Bool → Transition → Outgoing = λ b x. own_with x.new b in ap row e
+rows_same es hs t e = let row : Bool → Transition → OutgoingTransfer = λ b x. own_with x.new b in ap row e
 
 cancelled_open : (told : Status) → told ≡ Cancelled → told ≡ Completed → ⊥
 cancelled_open told status done = let e : Cancelled ≡ Completed = sym status ∙ done in cc (e)
@@ -126,7 +126,7 @@ module _ (scheme : Scheme) (c : Code) (es : List Entry) (tables tables' : Tables
       let x = proposed c t (content_of o) in
       let e = entry (Propose o) (x ∷ []) in
       let own = own_code scheme c (proposals es + 1) t is in
-      let changed = subst (λ u. ChangedAt u (λ (y : Option Outgoing). Some initiator.opened) tables.initiator.transfers tables'.initiator.transfers) (sym id) carried.2 in
+      let changed = subst (λ u. ChangedAt u (λ (y : Option OutgoingTransfer). Some initiator.opened) tables.initiator.transfers tables'.initiator.transfers) (sym id) carried.2 in
       let row : initiator.opened ≡ own_row (e ∷ es) t x = ap (own_with Proposed) (sym (requested_kept e es refl t ∙ unknown_unrequested scheme c es entered t fresh)) in
       let back = sym id in
       let units = sym content in
@@ -139,7 +139,7 @@ module _ (scheme : Scheme) (c : Code) (es : List Entry) (tables tables' : Tables
         initiator = carried.0 ∙ kept.initiator;
         last = carried.1 ∙ ap (λ (u : TransactionId). u.number) back ∙ id_at-number c (proposals es + 1) t is ∙ sym (proposals_more e es o refl);
         own = row_put (is_own c) (own_row es) (own_row (e ∷ es)) x (transitions_of es) (λ u k d. rows_same es (e ∷ es) u (requested_kept e es refl u)) (map.get tables.initiator.transfers) (map.get tables'.initiator.transfers) own
-            kept.own (λ u. changed u ∙ ap (λ (r : Outgoing). if same_id t u then Some r else map.get tables.initiator.transfers u) row);
+            kept.own (λ u. changed u ∙ ap (λ (r : OutgoingTransfer). if same_id t u then Some r else map.get tables.initiator.transfers u) row);
         acquirer = ap (λ (a : AcquirerView). a.code) carried.3 ∙ kept.acquirer;
         foreign = foreign_stays x own carried.3;
         sent = sent_so (Propose o) x refl sent;
@@ -211,10 +211,10 @@ module _ (scheme : Scheme) (c : Code) (es : List Entry) (tables tables' : Tables
       let x = arrived c p.id p.content moment.seconds found in
       let input = Received (message.Proposal p) moment in
       let e = entry input (x ∷ []) in
-      let changed = subst (λ u. ChangedAt u (λ (y : Option Incoming). Some (record { status = new; content = Some content })) tables.acquirer.transfers tables'.acquirer.transfers) (sym same) carried.2 in
+      let changed = subst (λ u. ChangedAt u (λ (y : Option IncomingTransfer). Some (record { status = new; content = Some content })) tables.acquirer.transfers tables'.acquirer.transfers) (sym same) carried.2 in
       let came = sym status in
       let with = sym units in
-      let row : ◌≡◌ {A = Incoming} (record { status = new; content = Some content }) (foreign_row p.id x) = λ i. record { status = came i; content = Some (with i) } in
+      let row : ◌≡◌ {A = IncomingTransfer} (record { status = new; content = Some content }) (foreign_row p.id x) = λ i. record { status = came i; content = Some (with i) } in
       record {
         unit_holdings = λ s. ap (λ h. map.get h.unit_holdings s) carried.3 ∙ kept.unit_holdings s ∙ sym (unit_holding_arrived scheme c es made_so p.id p.content moment.seconds found none other s);
         accounts = accounts_so e refl (ap (λ h. h.accounts) carried.3);
@@ -223,7 +223,7 @@ module _ (scheme : Scheme) (c : Code) (es : List Entry) (tables tables' : Tables
         own = own_stays e x refl other carried.0;
         acquirer = carried.1 ∙ kept.acquirer;
         foreign = row_put (is_foreign c) foreign_row foreign_row x (transitions_of es) (λ u k d. refl) (map.get tables.acquirer.transfers) (map.get tables'.acquirer.transfers) (ap not other) kept.foreign
-            (λ u. changed u ∙ ap (λ (r : Incoming). if same_id p.id u then Some r else map.get tables.acquirer.transfers u) row);
+            (λ u. changed u ∙ ap (λ (r : IncomingTransfer). if same_id p.id u then Some r else map.get tables.acquirer.transfers u) row);
         sent = sent_so input x refl sent;
       }
 
@@ -234,7 +234,7 @@ module _ (scheme : Scheme) (c : Code) (es : List Entry) (tables tables' : Tables
       let x = bare n.id moment.seconds in
       let input = Received (message.Notification n) moment in
       let e = entry input (x ∷ []) in
-      let changed = subst (λ u. ChangedAt u (λ (y : Option Incoming). Some (record { status = Cancelled; content = None })) tables.acquirer.transfers tables'.acquirer.transfers) (sym same) carried.2 in
+      let changed = subst (λ u. ChangedAt u (λ (y : Option IncomingTransfer). Some (record { status = Cancelled; content = None })) tables.acquirer.transfers tables'.acquirer.transfers) (sym same) carried.2 in
       record {
         unit_holdings = λ s. ap (λ h. map.get h.unit_holdings s) carried.3 ∙ kept.unit_holdings s ∙ sym (unit_holding_bare scheme c es made_so n.id moment.seconds none other s);
         accounts = accounts_so e refl (ap (λ h. h.accounts) carried.3);

@@ -24,7 +24,7 @@ use Rattle.protocol.specs.Verdict.{history, verdict}
 use Rattle.outbox.specs.Outgoing.{did, outgoing}
 use Rattle.outbox.specs.Sending.{Acknowledges, Sends, Sent}
 use Rattle.initiator.specs.Transfers.{InitiatorView}
-use Rattle.initiator.specs.declared.transfer.Transfer.{Transfer as Outgoing}
+use Rattle.initiator.specs.declared.transfer.OutgoingTransfer.{OutgoingTransfer}
 use Rattle.acquirer.specs.Transfers.{AcquirerView}
 use Rattle.registry_core.specs.Kept.{AreKept, IsKept}
 use Rattle.registry_core.specs.Readings.{foreign_row, is_foreign, is_own, unit_holding_at, own_row, row_at, account_status_at}
@@ -45,7 +45,7 @@ module _ (scheme : Scheme) (c : Code) (es : List Entry) (tables tables' : Tables
       → AreKept scheme c (entry input [] ∷ es) tables'
   unmoved_kept input done asks proposes does initiating acquiring unit_holdings accounts sent =
       let e = entry input [] in
-      let read : (TransactionId → Transition → Outgoing) → TransactionId → Option Outgoing = λ row t. row_at (is_own c) row (transitions_of es) t in
+      let read : (TransactionId → Transition → OutgoingTransfer) → TransactionId → Option OutgoingTransfer = λ row t. row_at (is_own c) row (transitions_of es) t in
       record {
         unit_holdings = λ s. ap (λ m. map.get m s) unit_holdings ∙ kept.unit_holdings s;
         accounts = accounts;
@@ -54,7 +54,7 @@ module _ (scheme : Scheme) (c : Code) (es : List Entry) (tables tables' : Tables
         own = λ t.
             ap (λ (i : InitiatorView). map.get i.transfers t) initiating
             ∙ kept.own t
-            ∙ ap (λ (row : Transition → Outgoing). cond (is_own c t) (option_map row (newest (transitions_of es) t)) None) (sym (rows_same es (e ∷ es) t (requested_kept e es asks t)));
+            ∙ ap (λ (row : Transition → OutgoingTransfer). cond (is_own c t) (option_map row (newest (transitions_of es) t)) None) (sym (rows_same es (e ∷ es) t (requested_kept e es asks t)));
         acquirer = ap (λ (a : AcquirerView). a.code) acquiring ∙ kept.acquirer;
         foreign = λ t. ap (λ (a : AcquirerView). map.get a.transfers t) acquiring ∙ kept.foreign t;
         sent = sent ∙ ap (λ (l : List Sent). l ++ done ∷ []) kept.sent ∙ ap (λ (d : Sent). outgoing es ++ d ∷ []) (sym does);

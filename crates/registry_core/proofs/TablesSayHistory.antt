@@ -21,9 +21,9 @@ use Rattle.protocol.specs.History.{Entry, Transition, is_known, is_requested, ne
 use Rattle.protocol.specs.Verdict.{history}
 use Rattle.initiator.specs.Transfers as initiator
 use Rattle.initiator.specs.declared.transfer.Cancellation.TheVariants.{Asked, NotAsked}
-use Rattle.initiator.specs.declared.transfer.Transfer.{Transfer as Outgoing}
+use Rattle.initiator.specs.declared.transfer.OutgoingTransfer.{OutgoingTransfer}
 use Rattle.acquirer.specs.Transfers as acquirer
-use Rattle.acquirer.specs.declared.transfer.Transfer.{Transfer as Incoming}
+use Rattle.acquirer.specs.declared.transfer.IncomingTransfer.{IncomingTransfer}
 use Rattle.safety.proofs.MovesAndHistories.NewestTransitions.{Made}
 use Rattle.registry_core.specs.declared.tables.Tables.{Tables}
 use Rattle.registry_core.specs.Kept.{IsKept}
@@ -59,11 +59,11 @@ own_stands_of : (es : List Entry) (xs : List Transition) (t : TransactionId) (o 
 own_stands_of es xs t None e = ap (λ (o : Option Transition). option_map_or (λ s. same_status s Proposed) (option_map (λ (x : Transition). x.new) o) false) (sym e)
 own_stands_of es xs t (Some x) e = ap (λ (o : Option Transition). option_map_or (λ s. same_status s Proposed) (option_map (λ (x : Transition). x.new) o) false) (sym e)
 
-own_status_of : (es : List Entry) (t : TransactionId) (o : Option Transition) → option_map (λ (x : Transition). x.new) o ≡ option_map (λ (y : Outgoing). y.status) (option_map (own_row es t) o)
+own_status_of : (es : List Entry) (t : TransactionId) (o : Option Transition) → option_map (λ (x : Transition). x.new) o ≡ option_map (λ (y : OutgoingTransfer). y.status) (option_map (own_row es t) o)
 own_status_of es t None = refl
 own_status_of es t (Some x) = refl
 
-foreign_status_of : (t : TransactionId) (o : Option Transition) → option_map (λ (x : Transition). x.new) o ≡ option_map (λ (y : Incoming). y.status) (option_map (foreign_row t) o)
+foreign_status_of : (t : TransactionId) (o : Option Transition) → option_map (λ (x : Transition). x.new) o ≡ option_map (λ (y : IncomingTransfer). y.status) (option_map (foreign_row t) o)
 foreign_status_of t None = refl
 foreign_status_of t (Some x) = refl
 
@@ -106,7 +106,7 @@ module _ (scheme : Scheme) (c : Code) (tables : Tables) (kept : IsKept scheme c 
 
   -- the column of an order to ask for cancellation
   own_asked : (t : TransactionId) (o : Option Transition) → newest (transitions_of (past scheme c tables)) t ≡ o
-      → option_map_or (λ (y : Outgoing). initiator.is_asked y.cancellation) (option_map (own_row (past scheme c tables) t) o) false ≡ is_requested (past scheme c tables) t
+      → option_map_or (λ (y : OutgoingTransfer). initiator.is_asked y.cancellation) (option_map (own_row (past scheme c tables) t) o) false ≡ is_requested (past scheme c tables) t
   own_asked t None e = sym (unknown_unrequested scheme c (past scheme c tables) recorded t e)
   own_asked t (Some x) e = asked_so (is_requested (past scheme c tables) t)
 
@@ -128,10 +128,10 @@ module _ (scheme : Scheme) (c : Code) (tables : Tables) (kept : IsKept scheme c 
 
   -- its status
   pub own_status_so : (t : TransactionId) → same_code t.code c ≡ true → stands (transitions_of (past scheme c tables)) t ≡ option_map (λ x. x.status) (map.get tables.initiator.transfers t)
-  own_status_so t own = own_status_of (past scheme c tables) t (newest (transitions_of (past scheme c tables)) t) ∙ ap (option_map (λ (y : Outgoing). y.status)) (sym (own_row_so t own))
+  own_status_so t own = own_status_of (past scheme c tables) t (newest (transitions_of (past scheme c tables)) t) ∙ ap (option_map (λ (y : OutgoingTransfer). y.status)) (sym (own_row_so t own))
 
   pub foreign_status_so : (t : TransactionId) → same_code t.code c ≡ false → stands (transitions_of (past scheme c tables)) t ≡ option_map (λ x. x.status) (map.get tables.acquirer.transfers t)
-  foreign_status_so t other = foreign_status_of t (newest (transitions_of (past scheme c tables)) t) ∙ ap (option_map (λ (y : Incoming). y.status)) (sym (foreign_row_so t other))
+  foreign_status_so t other = foreign_status_of t (newest (transitions_of (past scheme c tables)) t) ∙ ap (option_map (λ (y : IncomingTransfer). y.status)) (sym (foreign_row_so t other))
 
   -- the accounts that are awaited
   pub awaited_has_row : (n : ℕ) → is_awaited c (transitions_of (past scheme c tables)) n ≡ true → (t : TransactionId) × (acquirer.is_awaited_by n (map.get tables.acquirer.transfers t) ≡ true)

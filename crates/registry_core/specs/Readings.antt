@@ -11,8 +11,8 @@ use Rattle.accounts.specs.declared.unit_holding.AccountStatus.{AccountStatus}
 use Rattle.accounts.specs.declared.unit_holding.AccountStatus.TheVariants.{Open, Closed}
 use Rattle.scheme.specs.declared.registries.Scheme.{Scheme}
 use Rattle.initiator.specs.declared.transfer.Cancellation.TheVariants.{Asked, NotAsked}
-use Rattle.initiator.specs.declared.transfer.Transfer.{Transfer as Outgoing}
-use Rattle.acquirer.specs.declared.transfer.Transfer.{Transfer as Incoming}
+use Rattle.initiator.specs.declared.transfer.OutgoingTransfer.{OutgoingTransfer}
+use Rattle.acquirer.specs.declared.transfer.IncomingTransfer.{IncomingTransfer}
 use Rattle.protocol.specs.History.{Transition, Entry, newest, is_requested, stands_at, carries, holds, Place, place, is_closed}
 use Rattle.protocol.specs.Registries.{has_account}
 
@@ -49,8 +49,8 @@ abbrev pub is_foreign : Code → TransactionId → Bool
 is_foreign c t = not (same_code t.code c)
 
 -- what the initiator and the acquirer keep of a transaction
-abbrev pub own_row : List Entry → TransactionId → Transition → Outgoing
+abbrev pub own_row : List Entry → TransactionId → Transition → OutgoingTransfer
 own_row es t x = record { status = x.new; cancellation = cond (is_requested es t) Asked NotAsked }
 
-abbrev pub foreign_row : TransactionId → Transition → Incoming
+abbrev pub foreign_row : TransactionId → Transition → IncomingTransfer
 foreign_row t x = record { status = x.new; content = x.content }

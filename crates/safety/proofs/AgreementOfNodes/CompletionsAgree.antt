@@ -86,7 +86,7 @@ completed_once scheme c p done = each_move scheme c (λ xs. NoRepeat (picked p x
 -- ---- the two registries of a transfer
 
 -- what an acquirer has of a transfer, its initiator has
-pub record Transfer (scheme : Scheme) (f : Node → List Entry) (c : Code) (t : TransactionId) (x : Transition) : Type 0 where
+pub record AgreedTransfer (scheme : Scheme) (f : Node → List Entry) (c : Code) (t : TransactionId) (x : Transition) : Type 0 where
   pub content : Content
   pub is : x.content ≡ Some content
   pub here : content.acquirer ≡ c
@@ -111,7 +111,7 @@ module _ (scheme : Scheme) (f : Node → List Entry) (causal : Causal scheme f) 
       let o = offered scheme t.code (f (Registry t.code)) (causal.made (Registry t.code)) got.proposal (offered_sent Itl (Registry t.code) t proposal.Proposed k got) in
       (o.0, subst (λ z. newest (at_registry f t.code) z ≡ Some o.0) got.about o.1, o.2 ∙ ap Some got.content)
 
-  pub transfer : (c : Code) (t : TransactionId) (x : Transition) → newest (at_registry f c) t ≡ Some x → same_code t.code c ≡ false → x.new ≡ Completed → Transfer scheme f c t x
+  pub transfer : (c : Code) (t : TransactionId) (x : Transition) → newest (at_registry f c) t ≡ Some x → same_code t.code c ≡ false → x.new ≡ Completed → AgreedTransfer scheme f c t x
   transfer c t x last foreign done =
       elim (known scheme c (f (Registry c)) (causal.made (Registry c)) t x last foreign) [
         | inl e ↦ let y : Completed ≡ Cancelled = sym done ∙ e.0 in absurd (cc (y))

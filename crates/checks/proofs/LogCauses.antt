@@ -18,14 +18,14 @@ use Rattle.protocol.specs.Registries.{allotted, has_member}
 use Rattle.checks.proofs.LabelledUnits.{same_tests}
 use Rattle.checks.specs.Following.{is_of_other, unit_causes}
 use Rattle.checks.specs.Knowing.{Registers, starts_eligible}
-use Rattle.checks.specs.declared.register.Owner.{Owner}
+use Rattle.checks.specs.declared.register.BookEntry.{BookEntry}
 use Rattle.checks.specs.declared.register.Register.{Register}
 
-pub owner_of_same : (a b : Owner) → same_code a.registry b.registry ≡ true → a ≡ b
+pub owner_of_same : (a b : BookEntry) → same_code a.registry b.registry ≡ true → a ≡ b
 owner_of_same a b e = let same = code_of_same a.registry b.registry e in λ i. record { registry = same i }
 
 -- owners are known of the allotted units
-owner_alike : (c : Code) (o : Option Owner) (holder : Option Holder) → is_some (option_map (λ (x : Owner). x.registry) o) ≡ is_some holder → is_of_other c o ≡ is_of_another holder (option_map (λ x. x.registry) o) c
+owner_alike : (c : Code) (o : Option BookEntry) (holder : Option Holder) → is_some (option_map (λ (x : BookEntry). x.registry) o) ≡ is_some holder → is_of_other c o ≡ is_of_another holder (option_map (λ x. x.registry) o) c
 owner_alike c None None e = refl
 owner_alike c None (Some h) e = absurd (true≢false (sym e))
 owner_alike c (Some o) None e = absurd (true≢false e)

@@ -15,7 +15,7 @@ use Rattle.scheme.specs.declared.registries.Scheme.{Scheme}
 use Rattle.protocol.specs.Checks.{Causes, Holding, is_out_of_range, has_other_kind}
 use Rattle.protocol.specs.Pieces.{pieces, repeats}
 use Rattle.protocol.specs.Registries.{has_member, has_account}
-use Rattle.checks.specs.declared.register.Owner.{Owner}
+use Rattle.checks.specs.declared.register.BookEntry.{BookEntry}
 use Rattle.checks.specs.declared.register.Register.{Register}
 
 -- by its blocks alone
@@ -44,7 +44,7 @@ receiver_refusals scheme c o =
 -- ---- at the log
 
 -- owned by another registry
-abbrev pub is_of_other : Code → Option Owner → Bool
+abbrev pub is_of_other : Code → Option BookEntry → Bool
 is_of_other c owner = option_map_or (λ o. not (same_code o.registry c)) owner false
 
 -- what is found in the units

@@ -14,4 +14,4 @@ pub use acquirer::{acquirer_findings, holds_some};
 pub use blocks::has_repeats;
 pub use log::log_findings;
 pub use order::{NewTransfer, propose_check};
-pub use register::{Owner, Register, UnderWay};
+pub use register::{BookEntry, Register, UnderWay};

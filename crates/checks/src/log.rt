@@ -16,7 +16,7 @@ ghost use Rattle.checks.specs.Knowing.{Registers, starts_eligible};
 
 use crate::blocks::has_repeats;
 use crate::findings::note;
-use crate::register::{Owner, Register, UnderWay};
+use crate::register::{BookEntry, Register, UnderWay};
 use crate::registries::is_no_acquirer;
 use scheme::{Holder, Scheme};
 use status::Content;
@@ -37,7 +37,7 @@ fn is_unallotted(allotments: &UnitMap<Holder>, block: &Block) -> bool
 }
 
 /// Whether another registry owns one of the block's units.
-fn is_of_another(book: &UnitMap<Owner>, registry: Code, block: &Block) -> bool
+fn is_of_another(book: &UnitMap<BookEntry>, registry: Code, block: &Block) -> bool
     ensures { result ≡ list_any (λ p. is_of_other registry (map.get book.now p.unit)) (pieces_of block.now.raw) }
 {
     book.has_some_of(block, |owner| owner.registry != registry)
@@ -67,7 +67,7 @@ fn has_unallotted(allotments: &UnitMap<Holder>, blocks: &[Block]) -> bool
 }
 
 /// Whether another registry owns one of the blocks' units.
-fn has_other_owner(book: &UnitMap<Owner>, registry: Code, blocks: &[Block]) -> bool
+fn has_other_owner(book: &UnitMap<BookEntry>, registry: Code, blocks: &[Block]) -> bool
     ensures { result ≡ list_any
         (λ b. list_any (λ p. is_of_other registry (map.get book.now p.unit)) (pieces_of b.raw)) blocks.now }
 {

@@ -6,9 +6,9 @@ use status::TransactionId;
 use std::collections::BTreeMap;
 use units::{Code, Label, UnitMap};
 
-/// Which registry owns a unit.
+/// An entry of the log's book: which registry owns a unit.
 #[derive(Clone, Copy, Debug, PartialEq, Eq)]
-pub struct Owner {
+pub struct BookEntry {
     pub registry: Code,
 }
 
@@ -24,21 +24,21 @@ pub struct Register {
     /// Who holds each allotted unit at the start.
     pub allotments: UnitMap<Holder>,
     /// Who owns each allotted unit.
-    pub book: UnitMap<Owner>,
+    pub book: UnitMap<BookEntry>,
     /// The transfer that each unit under way is in.
     pub under_way: UnitMap<UnderWay>,
     /// Whether a registry may take part in transfers, as the last order for it says.
     pub orders: BTreeMap<Code, bool>,
 }
 
-impl Label for Owner {
+impl Label for BookEntry {
     ghost group = { λ _. 0 };
 
     fn group(&self) -> u64 {
         0
     }
 
-    fn is_same(&self, other: &Owner) -> bool {
+    fn is_same(&self, other: &BookEntry) -> bool {
         self == other
     }
 }

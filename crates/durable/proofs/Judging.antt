@@ -22,8 +22,8 @@ use Rattle.sqlite.specs.Program.{overlay}
 use Rattle.sqlite.specs.Effect.{Database, Reads}
 use Rattle.sqlite.proofs.Callers.{one_permutation}
 use Rattle.wire.specs.Records.{number_of}
-use Rattle.store_tables.specs.declared.owner_row.Owner.{Owner}
-use Rattle.store_tables.specs.declared.owner_row.Owner.TheVariants.{Nobody, OtherFormat, OtherNode, ThisNode}
+use Rattle.store_tables.specs.declared.owner_row.FileOwner.{FileOwner}
+use Rattle.store_tables.specs.declared.owner_row.FileOwner.TheVariants.{Nobody, OtherFormat, OtherNode, ThisNode}
 use Rattle.store_tables.specs.Tables.{TableOrder, about_tree, entries_tree, store_schema}
 use Rattle.store_tables.specs.Slots.{place_of, body_of, AreEntries}
 use Rattle.store_tables.specs.OwnerRow.{IsOwnerIn}
@@ -63,7 +63,7 @@ first_is rows row format name first is = let e = sym first ∙ ap (λ xs. slice_
 only_row : (rows : List Row) (row : Row) (format : ℤ) (name : List ℕ) → rows ≡ row ∷ [] → rows ≡ owned format name ∷ [] → row ≡ owned format name
 only_row rows row format name a b = let e = sym a ∙ b in cc
 
-told : (node : List ℕ) (order : TableOrder) (db : Database) (rows : List Row) (owner : Owner) → db.schema ≡ store_schema order → IsOwnerIn node rows owner
+told : (node : List ℕ) (order : TableOrder) (db : Database) (rows : List Row) (owner : FileOwner) → db.schema ≡ store_schema order → IsOwnerIn node rows owner
     → ((db.trees (about_tree order) ≡ []) × (rows ≡ [])) ⊎ ((format : ℤ) × (name : List ℕ) × (db.trees (about_tree order) ≡ owned format name ∷ []) × (rows ≡ (Int format ∷ Words name ∷ []) ∷ []))
     → IsOwner node db owner
 told node order db rows Nobody has is (inl none) = (order, has, none.0)
@@ -88,7 +88,7 @@ told node order db rows (ThisNode format) has is (inr it) =
     let name : Words it.1 ≡ Words node = sym (ap (λ (row : Row). column row 1) same) ∙ is.3 in
     (order, has, it.2 ∙ (rw (number, name) refl))
 
-pub owner_told : (node : List ℕ) (names : List (List ℕ)) (db : Database) (rows : List Row) (owner : Owner) (has : HasRows db) → Reads (shows (owner_query (about_tree has.0)) names) db [] rows
+pub owner_told : (node : List ℕ) (names : List (List ℕ)) (db : Database) (rows : List Row) (owner : FileOwner) (has : HasRows db) → Reads (shows (owner_query (about_tree has.0)) names) db [] rows
     → IsOwnerIn node rows owner → IsOwner node db owner
 owner_told node names db rows owner has reads is =
     let tree = about_tree has.0 in

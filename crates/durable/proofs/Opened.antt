@@ -13,7 +13,7 @@ use Rattle.store_tables.specs.Tables.{TableOrder, AboutFirst, about_tree, entrie
 use Rattle.durable.specs.Opening.{about_schema, IsOpened, IsBare, HasAbout, IsEmpty, HasFresh, HasRows, IsOwner, HasLeastOrGreatest}
 use Rattle.store_tables.specs.Within.{IsWithin}
 use Rattle.store_tables.specs.OwnerRow.{IsOwnerIn, IsPlaceIn}
-use Rattle.store_tables.specs.declared.owner_row.Owner.{Owner}
+use Rattle.store_tables.specs.declared.owner_row.FileOwner.{FileOwner}
 use Rattle.store_tables.proofs.Texts.{about_text, entries_text}
 use Rattle.durable.proofs.OpeningTexts.{about_command, about_plain, entries_command, entries_plain, own_text, own_terms, own_is, own_plain, shows, owner_query, first_row, owner_text, owner_is, owner_plain, least_text, least_is, least_plain, greatest_text, greatest_is, greatest_plain}
 use Rattle.store_tables.proofs.Steps.{shown_unchanged}
@@ -67,7 +67,7 @@ asked_crash sql old new opened has plain only survives clean db left = elim (sur
   | inr commits ↦ absurd (never_commits sql [] old db (here sql old opened has plain) commits)
 ]
 
-pub owner_found : (node : List ℕ) (old new : State) (rows : List Row) (owner : Owner) → IsOpened old → HasRows old.committed → Shown owner_text [] old new rows → IsOwnerIn node rows owner
+pub owner_found : (node : List ℕ) (old new : State) (rows : List Row) (owner : FileOwner) → IsOpened old → HasRows old.committed → Shown owner_text [] old new rows → IsOwnerIn node rows owner
     → IsOwner node old.committed owner
 owner_found node old new rows owner opened has shown is =
     let order = has.0 in

@@ -10,7 +10,7 @@ use Rattle.stores.specs.declared.fault.StoreFault.TheVariants.{Damaged, WrongNod
 use Rattle.wire.specs.Records.{number_of}
 use Rattle.wire.specs.declared.record_format.RecordFormat.{RecordFormat}
 use Rattle.durable.specs.declared.opening.Contents.TheVariants.{NoRow, OwnStore}
-use Rattle.store_tables.specs.declared.owner_row.Owner.TheVariants.{Nobody, OtherFormat, OtherNode, ThisNode}
+use Rattle.store_tables.specs.declared.owner_row.FileOwner.TheVariants.{Nobody, OtherFormat, OtherNode, ThisNode}
 use Rattle.store_tables.specs.Held.{IsStoreIn}
 use Rattle.store_tables.specs.Slots.{place_of, slots_from, AreEntries}
 use Rattle.durable.specs.Opening.{HasRows, IsLeastOrGreatest, HasLeastOrGreatest, places_in, IsOwner, IsVerdict, IsNegative}

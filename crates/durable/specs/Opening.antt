@@ -13,8 +13,8 @@ use Rattle.sqlite.specs.State.{HasCleanDisk, State}
 use Rattle.sqlite.specs.Store.{Ghosts}
 use Rattle.stores.specs.declared.fault.StoreFault.{StoreFault}
 use Rattle.stores.specs.declared.fault.StoreFault.TheVariants.{Device, Full, Damaged, WrongNode, WrongVersion, Reopen, NoMemory}
-use Rattle.store_tables.specs.declared.owner_row.Owner.{Owner}
-use Rattle.store_tables.specs.declared.owner_row.Owner.TheVariants.{Nobody, OtherFormat, OtherNode, ThisNode}
+use Rattle.store_tables.specs.declared.owner_row.FileOwner.{FileOwner}
+use Rattle.store_tables.specs.declared.owner_row.FileOwner.TheVariants.{Nobody, OtherFormat, OtherNode, ThisNode}
 use Rattle.durable.specs.declared.opening.Contents.{Contents}
 use Rattle.durable.specs.declared.opening.Contents.TheVariants.{NoRow, OwnStore}
 use Rattle.store_tables.specs.Tables.{TableOrder, AboutFirst, about_tree, entries_tree, about, about_table, store_schema, no_schema, IsStoreSchema, order_in}
@@ -135,7 +135,7 @@ abbrev pub HasLeastOrGreatest : Bool → Database → Option ℤ → Type 0
 HasLeastOrGreatest greatest db place = (order : TableOrder) × (db.schema ≡ store_schema order) × IsLeastOrGreatest greatest (db.trees (entries_tree order)) place
 
 -- whose the file is
-abbrev pub IsOwner : List ℕ → Database → Owner → Type 0
+abbrev pub IsOwner : List ℕ → Database → FileOwner → Type 0
 IsOwner node db Nobody = (order : TableOrder) × (db.schema ≡ store_schema order) × (db.trees (about_tree order) ≡ [])
 IsOwner node db OtherFormat = HasOtherFormat db
 IsOwner node db OtherNode = (HasOtherFormat db → ⊥) × HasOtherNode node db

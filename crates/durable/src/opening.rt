@@ -21,7 +21,7 @@ use sqlite::types::ValueRef;
 use sqlite::{Alter, Connection, Error as SqlError, Row, Transaction};
 use std::alloc::Global;
 use store_migration::{Watch, migrate};
-use store_tables::{Owner, Tables, fault_of, owner_in, place_in, tables_of};
+use store_tables::{FileOwner, Tables, fault_of, owner_in, place_in, tables_of};
 use stores::StoreFault;
 use wire::RecordFormat;
 
@@ -151,7 +151,7 @@ fn ask<S: Alter>(conn: &mut Connection<S>, sql: &str) -> Result<Vec<Row>, StoreF
 }
 
 /// Whose the file is.
-fn find_owner<S: Alter>(conn: &mut Connection<S>, node: &str) -> Result<Owner, StoreFault>
+fn find_owner<S: Alter>(conn: &mut Connection<S>, node: &str) -> Result<FileOwner, StoreFault>
     requires opened { HasCleanDisk (state S.Store conn.old) → IsOpened (state S.Store conn.old)
         × HasRows (state S.Store conn.old).committed }
     ensures reads { OnlyReads S.Store conn.old conn.new }
@@ -218,7 +218,7 @@ enum Contents {
 }
 
 /// What both tables have, or why they are no store of the node that asks.
-fn verdict(owner: Owner, least: Option<i64>) -> Result<Contents, StoreFault>
+fn verdict(owner: FileOwner, least: Option<i64>) -> Result<Contents, StoreFault>
     ensures never { IfErr result (λ e. e ≢ StoreFault.Reopen) }
     ensures places { IfErr result (λ e. (p : ℕ) → e ≡ StoreFault.Damaged p → p ≡ 0) }
     ensures judged { IfErr result (λ e. (e ≢ StoreFault.NoMemory) × (is_device_fault e ≡ false)) }
@@ -229,11 +229,11 @@ fn verdict(owner: Owner, least: Option<i64>) -> Result<Contents, StoreFault>
         return Err(StoreFault::Damaged(0));
     }
     match (owner, least) {
-        (Owner::Nobody, Some(_)) => Err(StoreFault::Damaged(0)),
-        (Owner::Nobody, None) => Ok(Contents::NoRow),
-        (Owner::OtherFormat, _) => Err(StoreFault::WrongVersion),
-        (Owner::OtherNode, _) => Err(StoreFault::WrongNode),
-        (Owner::ThisNode(format), _) => Ok(Contents::OwnStore(format)),
+        (FileOwner::Nobody, Some(_)) => Err(StoreFault::Damaged(0)),
+        (FileOwner::Nobody, None) => Ok(Contents::NoRow),
+        (FileOwner::OtherFormat, _) => Err(StoreFault::WrongVersion),
+        (FileOwner::OtherNode, _) => Err(StoreFault::WrongNode),
+        (FileOwner::ThisNode(format), _) => Ok(Contents::OwnStore(format)),
     }
 }
 

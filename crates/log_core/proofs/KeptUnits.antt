@@ -15,7 +15,7 @@ use Rattle.status.specs.declared.status.Status.{Status}
 use Rattle.status.specs.declared.status.Status.TheVariants.{Accepted, Cancelled, Checked, Completed, Proposed, Rejected, Terminated}
 use Rattle.wire.specs.declared.input.Input.{Input}
 use Rattle.scheme.specs.declared.registries.Scheme.{Scheme}
-use Rattle.checks.specs.declared.register.Owner.{Owner}
+use Rattle.checks.specs.declared.register.BookEntry.{BookEntry}
 use Rattle.checks.specs.declared.register.UnderWay.{UnderWay}
 use Rattle.protocol.specs.History.{Entry, Transition, book_owner, carries, has_serial, newest, transitions_of}
 use Rattle.units.proofs.Lists.Membership.{In}
@@ -36,7 +36,7 @@ entry input xs = record { input = input; transitions = xs }
 -- ---- who owns a unit
 
 -- the owner as the book labels it
-abbrev owner_label : Code → Owner
+abbrev owner_label : Code → BookEntry
 owner_label c = record { registry = c }
 
 abbrev acquirer_in : Option Content → Option Code

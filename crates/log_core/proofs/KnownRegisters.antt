@@ -13,7 +13,7 @@ use Rattle.wire.specs.declared.input.Input.{Input}
 use Rattle.scheme.specs.declared.members.Holder.{Holder}
 use Rattle.scheme.specs.declared.registries.Scheme.{Scheme}
 use Rattle.checks.specs.Knowing.{Registers, starts_eligible}
-use Rattle.checks.specs.declared.register.Owner.{Owner}
+use Rattle.checks.specs.declared.register.BookEntry.{BookEntry}
 use Rattle.protocol.specs.AtLog.{ledger}
 use Rattle.protocol.specs.History.{Entry, Transition, allows, book_owner, carries, has_serial, is_eligible, transitions_of}
 use Rattle.protocol.specs.Registries.{allotted}
@@ -98,7 +98,7 @@ eligible_so scheme (e ∷ es) c = ap (unwrap_or (allows c e.input)) (eligible_so
 
 -- ---- of the tables
 
-owner_read : (o : Option Code) → o ≡ option_map (λ (w : Owner). w.registry) (option_map (λ (c : Code). record { registry = c }) o)
+owner_read : (o : Option Code) → o ≡ option_map (λ (w : BookEntry). w.registry) (option_map (λ (c : Code). record { registry = c }) o)
 owner_read None = refl
 owner_read (Some c) = refl
 
@@ -108,7 +108,7 @@ registers_so scheme tables kept =
     let xs = transitions_of es in
     record {
       allotments = kept.kept.allotments;
-      owner = λ s. owner_read (book_owner scheme xs s) ∙ ap (option_map (λ (w : Owner). w.registry)) (sym (kept.kept.book s));
+      owner = λ s. owner_read (book_owner scheme xs s) ∙ ap (option_map (λ (w : BookEntry). w.registry)) (sym (kept.kept.book s));
       owned = λ s. owned_so scheme s es (made_history scheme Itl tables.journal.items);
       is_busy = λ s. any_found (is_under_way_with xs s) (λ (x : Transition). record { id = x.id }) xs ∙ ap is_some (sym (kept.kept.under_way s));
       is_eligible = λ c. eligible_so scheme es c ∙ ap (λ o. unwrap_or o (starts_eligible scheme c)) (sym (kept.kept.orders c));

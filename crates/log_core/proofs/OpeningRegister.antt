@@ -20,7 +20,7 @@ use Rattle.status.specs.Id.{id_cmp}
 use Rattle.wire.specs.declared.input.Input.{Input}
 use Rattle.scheme.specs.declared.members.Holder.{Holder}
 use Rattle.scheme.specs.declared.registries.Scheme.{Scheme}
-use Rattle.checks.specs.declared.register.Owner.{Owner}
+use Rattle.checks.specs.declared.register.BookEntry.{BookEntry}
 use Rattle.protocol.specs.Cores.{Replays}
 use Rattle.protocol.specs.Registries.{allotted}
 use Rattle.protocol.specs.Verdict.{history}
@@ -35,13 +35,13 @@ with_none None = refl
 with_none (Some x) = refl
 
 -- before any of the intervals, no unit has an owner in the book
-pub none_yet : (holders : map.FinMap unit_cmp Holder) (book : map.FinMap unit_cmp Owner) (entries left : List (Serial × Span Holder)) → left ≡ entries → book ≡ map.empty
+pub none_yet : (holders : map.FinMap unit_cmp Holder) (book : map.FinMap unit_cmp BookEntry) (entries left : List (Serial × Span Holder)) → left ≡ entries → book ≡ map.empty
     → ((s : Serial) → label_at (intervals_of entries) s ≡ map.get holders s) → (s : Serial) → option_map owner_of (map.get holders s) ≡ option_or (option_map owner_of (label_at (intervals_of left) s)) (map.get book s)
 none_yet holders book entries left is empty means s =
     ap (option_map owner_of) (sym (means s) ∙ ap (λ es. label_at (intervals_of es) s) (sym is)) ∙ with_none (option_map owner_of (label_at (intervals_of left) s))
     ∙ ap (option_or (option_map owner_of (label_at (intervals_of left) s))) (sym (ap (λ m. map.get m s) empty ∙ get-empty unit_cmp s))
 
-pub owners_so : (scheme : Scheme) (holders : map.FinMap unit_cmp Holder) (book : map.FinMap unit_cmp Owner) → ((s : Serial) → map.get holders s ≡ allotted scheme s) → ((s : Serial) → map.get book s ≡ option_map owner_of (map.get holders s))
+pub owners_so : (scheme : Scheme) (holders : map.FinMap unit_cmp Holder) (book : map.FinMap unit_cmp BookEntry) → ((s : Serial) → map.get holders s ≡ allotted scheme s) → ((s : Serial) → map.get book s ≡ option_map owner_of (map.get holders s))
     → (s : Serial) → map.get book s ≡ owner scheme [] s
 owners_so scheme holders book starts owned s = owned s ∙ ap (option_map owner_of) (starts s) ∙ go (allotted scheme s)
   where

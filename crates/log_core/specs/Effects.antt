@@ -12,7 +12,7 @@ use Rattle.status.specs.Status.{same_status}
 use Rattle.status.specs.declared.id.TransactionId.{TransactionId}
 use Rattle.status.specs.declared.status.Status.{Status}
 use Rattle.status.specs.declared.status.Status.TheVariants.{Checked, Accepted, Rejected, Cancelled, Completed}
-use Rattle.checks.specs.declared.register.Owner.{Owner}
+use Rattle.checks.specs.declared.register.BookEntry.{BookEntry}
 use Rattle.checks.specs.declared.register.UnderWay.{UnderWay}
 use Rattle.protocol.specs.History.{Transition, has_serial}
 use Rattle.log_core.specs.Kept.{waiting_cmp}
@@ -59,7 +59,7 @@ transfer_state_content (Some x) = x.content
 transfer_state_content None = None
 
 -- the acquirer's, where the unit is in the transfer
-abbrev pub handed_over : Option Content → Serial → Option Owner → Option Owner
+abbrev pub handed_over : Option Content → Serial → Option BookEntry → Option BookEntry
 handed_over (Some k) s owner = if has_serial (Some k) s then Some (record { registry = k.acquirer }) else owner
 handed_over None s owner = owner
 
@@ -76,7 +76,7 @@ under_way_after (Settle id new) s old = if same_status new Accepted then old els
 under_way_after (Cancel ids) s old = labels_that (λ u. not (is_among ids.items u.id)) old
 
 -- who owns each unit
-abbrev pub owner_after : Effect → (TransactionId → Option TransferState) → Serial → Option Owner → Option Owner
+abbrev pub owner_after : Effect → (TransactionId → Option TransferState) → Serial → Option BookEntry → Option BookEntry
 owner_after (Settle id new) transfer_state s old = if same_status new Completed then handed_over (transfer_state_content (transfer_state id)) s old else old
 owner_after _ transfer_state s old = old
 

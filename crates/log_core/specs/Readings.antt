@@ -11,7 +11,7 @@ use Rattle.status.specs.declared.status.Status.{Status}
 use Rattle.status.specs.declared.status.Status.TheVariants.{Checked, Accepted}
 use Rattle.scheme.specs.declared.members.Holder.{Holder}
 use Rattle.scheme.specs.declared.registries.Scheme.{Scheme}
-use Rattle.checks.specs.declared.register.Owner.{Owner}
+use Rattle.checks.specs.declared.register.BookEntry.{BookEntry}
 use Rattle.checks.specs.declared.register.UnderWay.{UnderWay}
 use Rattle.protocol.specs.History.{Transition, Entry, newest, stands_at, carries, book_owner, allows}
 use Rattle.log_core.specs.declared.transfer.LoggedTransfer.{LoggedTransfer}
@@ -19,7 +19,7 @@ use Rattle.log_core.specs.declared.transfer.LoggedTransfer.{LoggedTransfer}
 -- ---- a unit
 
 -- who owns the unit
-abbrev pub owner : Scheme → List Transition → Serial → Option Owner
+abbrev pub owner : Scheme → List Transition → Serial → Option BookEntry
 owner scheme xs s = option_map (λ c. record { registry = c }) (book_owner scheme xs s)
 
 -- ---- what the code follows; no public contract cites what stands below
@@ -49,7 +49,7 @@ abbrev pub under_way : List Transition → Serial → Option UnderWay
 under_way xs s = option_map (λ x. record { id = x.id }) (find (is_under_way_with xs s) xs)
 
 -- the registry that holds it at the start
-abbrev pub owner_of : Holder → Owner
+abbrev pub owner_of : Holder → BookEntry
 owner_of h = record { registry = h.registry }
 
 -- the last order on whether it may take part in transfers

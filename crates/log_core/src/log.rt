@@ -12,7 +12,7 @@ ghost use Rattle.log_core.specs.Readings.{owner};
 use crate::opening::opening_tables;
 use crate::tables::Tables;
 use crate::transfers::status;
-use checks::Owner;
+use checks::BookEntry;
 use protocol::{NodeCore, Stepped};
 use scheme::Scheme;
 use status::{Status, TransactionId};
@@ -69,7 +69,7 @@ impl LogCore {
 
     /// Who owns which units, as intervals by their first units: none shares a unit with another, and neighbours with
     /// one owner are one.
-    pub fn pieces(&self) -> &BTreeMap<Unit, Span<Owner>>
+    pub fn pieces(&self) -> &BTreeMap<Unit, Span<BookEntry>>
         ensures kept { AreKept (intervals_of result.now.entries) }
         ensures joined { AreCanonical (λ _. 0) (intervals_of result.now.entries) }
         ensures means { (u : Serial)

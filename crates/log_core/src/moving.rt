@@ -19,7 +19,7 @@ use crate::register;
 use crate::transfer::LoggedTransfer;
 use crate::transfers::{content, put, set_status, take_out};
 use crate::waiting::{Waiting, forget, remember};
-use checks::{Owner, UnderWay};
+use checks::{BookEntry, UnderWay};
 use status::{Content, Moment, Status, TransactionId};
 use std::collections::{BTreeMap, BTreeSet};
 use units::{NoMemory, UnitMap};
@@ -159,7 +159,7 @@ fn finish(
 /// A transaction that is known comes to that status, which isn't Checked. Its units are the acquirer's where it is
 /// Completed, and aren't under way any more but where it is Accepted. After `NoMemory` nothing has changed.
 pub(crate) fn settle(
-    book: &mut UnitMap<Owner>,
+    book: &mut UnitMap<BookEntry>,
     under_way: &mut UnitMap<UnderWay>,
     transfers: &mut BTreeMap<TransactionId, LoggedTransfer>,
     checked: &mut BTreeSet<Waiting>,

@@ -12,7 +12,7 @@ ghost use Rattle.log_core.specs.Kept.{IsKept};
 ghost use Rattle.log_core.specs.Readings.{owner, owner_of};
 
 use crate::tables::Tables;
-use checks::{Owner, Register};
+use checks::{BookEntry, Register};
 use outbox::Outbox;
 use scheme::{Holder, Scheme};
 use std::alloc::Global;
@@ -35,12 +35,12 @@ fn block_at(unit: Unit, span: Span<Holder>) -> Block
 }
 
 /// The book in which each unit is its holder's; or `NoMemory`.
-fn opening_book(alloc: Global, allotments: &UnitMap<Holder>) -> Result<UnitMap<Owner>, NoMemory>
+fn opening_book(alloc: Global, allotments: &UnitMap<Holder>) -> Result<UnitMap<BookEntry>, NoMemory>
     ensures { IfOk result (λ book. (s : Serial) → map.get book s ≡ option_map owner_of (map.get allotments.now s)) }
 {
     let mut book = UnitMap::new(alloc);
     for (unit, span) in allotments.pieces() {
-        let owner = Owner {
+        let owner = BookEntry {
             registry: span.label.registry,
         };
         book.set(&block_at(*unit, *span), Some(owner))?;

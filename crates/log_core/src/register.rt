@@ -9,7 +9,7 @@ ghost use Rattle.protocol.specs.History.{has_serial};
 ghost use Rattle.log_core.specs.Effects.{handed_over};
 ghost use Rattle.log_core.specs.Transfers.{IsApart};
 
-use checks::{Owner, UnderWay};
+use checks::{BookEntry, UnderWay};
 use status::{Content, TransactionId};
 use units::{NoMemory, UnitMap};
 
@@ -50,7 +50,7 @@ pub(crate) fn end(under_way: &mut UnitMap<UnderWay>, content: Option<&Content>, 
 
 /// The content's units are the acquirer's. After `NoMemory` nothing has changed.
 pub(crate) fn hand_over(
-    book: &mut UnitMap<Owner>,
+    book: &mut UnitMap<BookEntry>,
     content: Option<&Content>,
 ) -> Result<(), NoMemory>
     requires { IsApart (option_copied content) }
@@ -62,5 +62,5 @@ pub(crate) fn hand_over(
         return Ok(());
     };
     let registry = content.acquirer();
-    book.set_all(content.units(), |_| Some(Owner { registry }))
+    book.set_all(content.units(), |_| Some(BookEntry { registry }))
 }

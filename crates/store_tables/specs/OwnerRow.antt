@@ -4,15 +4,15 @@ use Rattle.sqlite.specs.declared.types.Value.TheVariants.{Int, Text as Words}
 use Rattle.sqlite.specs.Order.{Row, column}
 use Rattle.wire.specs.Records.{number_of}
 use Rattle.wire.specs.declared.record_format.RecordFormat.{RecordFormat}
-use Rattle.store_tables.specs.declared.owner_row.Owner.{Owner}
-use Rattle.store_tables.specs.declared.owner_row.Owner.TheVariants.{Nobody, OtherFormat, OtherNode, ThisNode}
+use Rattle.store_tables.specs.declared.owner_row.FileOwner.{FileOwner}
+use Rattle.store_tables.specs.declared.owner_row.FileOwner.TheVariants.{Nobody, OtherFormat, OtherNode, ThisNode}
 
 -- the row has that format
 abbrev pub HasFormat : RecordFormat → Row → Type 0
 HasFormat format row = column row 0 ≡ Int (pos (number_of format))
 
 -- whose a file is, by its format and its node
-abbrev pub IsOwnerIn : List ℕ → List Row → Owner → Type 0
+abbrev pub IsOwnerIn : List ℕ → List Row → FileOwner → Type 0
 IsOwnerIn node rows Nobody = rows ≡ []
 IsOwnerIn node rows OtherFormat = (row : Row) × (slice_get rows 0 ≡ Some row) × ((format : RecordFormat) → HasFormat format row → ⊥)
 IsOwnerIn node rows OtherNode = (row : Row) × (slice_get rows 0 ≡ Some row) × ((format : RecordFormat) × HasFormat format row) × (column row 1 ≡ Words node → ⊥)

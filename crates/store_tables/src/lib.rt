@@ -11,5 +11,5 @@ mod reading;
 pub use batch::append;
 pub use fault::fault_of;
 pub use layout::{Tables, tables_of};
-pub use owner_row::{Owner, owner_in, place_in};
+pub use owner_row::{FileOwner, owner_in, place_in};
 pub use reading::{bodies, rows_inside, rows_of};

@@ -14,7 +14,7 @@ use wire::RecordFormat;
 
 /// Whose the file is, where one node asks.
 #[derive(Clone, Copy)]
-pub enum Owner {
+pub enum FileOwner {
     /// There is no owner's row.
     Nobody,
     /// The format is none of a store.
@@ -60,19 +60,19 @@ fn has_node(row: &Row, node: &str) -> bool
 }
 
 /// Whose the file is, by the format and the node in the owner's row.
-pub fn owner_in(rows: &[Row], node: &str) -> Owner
+pub fn owner_in(rows: &[Row], node: &str) -> FileOwner
     ensures { IsOwnerIn node.now rows.now result }
 {
     let Some(row) = rows.first() else {
-        return Owner::Nobody;
+        return FileOwner::Nobody;
     };
     let Some(format) = format_of(row) else {
-        return Owner::OtherFormat;
+        return FileOwner::OtherFormat;
     };
     if has_node(row, node) {
-        Owner::ThisNode(format)
+        FileOwner::ThisNode(format)
     } else {
-        Owner::OtherNode
+        FileOwner::OtherNode
     }
 }
 

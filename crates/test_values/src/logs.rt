@@ -2,7 +2,7 @@
 
 use crate::cores::{Seen, scheme};
 use crate::same::assert_same;
-use checks::{Owner, Register};
+use checks::{BookEntry, Register};
 use log_core::LogCore;
 use protocol::scheme::Scheme;
 use protocol::units::{Block, Code, UnitMap};
@@ -32,7 +32,7 @@ pub fn opening_register(rt: &impl Abort, alloc: Global, scheme: &Scheme) -> Regi
     let mut book = UnitMap::new(alloc);
     book.set(
         &Block::read("NZ:1:1-100:AAU").expect(rt, "a block"),
-        Some(Owner { registry }),
+        Some(BookEntry { registry }),
     )
     .expect(rt, "memory");
     Register {

@@ -1,5 +1,5 @@
 use Rattle.std.proofs.Common.{◌≡◌, subst, rules}
-use Rattle.store_tables.specs.declared.owner_row.Owner.TheVariants.{OtherFormat, OtherNode, ThisNode}
+use Rattle.store_tables.specs.declared.owner_row.FileOwner.TheVariants.{OtherFormat, OtherNode, ThisNode}
 use Rattle.durable.specs.Opening.{IsOwner, IsNegative}
 use Rattle.durable.proofs.Verdicts.{below_zero, other_format, other_node, a_store}
 use Rattle.durable.proofs.opening.verdict.Goals as goal

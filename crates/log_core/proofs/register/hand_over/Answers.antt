@@ -3,7 +3,7 @@ use Rattle.std.specs.FinMap.{get}
 use Rattle.std.specs.Option.{option_copied}
 use Rattle.std.proofs.lemmas.Result.{on_ok_weaker}
 use Rattle.units.specs.declared.block.Block.{Block}
-use Rattle.checks.specs.declared.register.Owner.{Owner}
+use Rattle.checks.specs.declared.register.BookEntry.{BookEntry}
 use Rattle.log_core.specs.Effects.{handed_over}
 use Rattle.log_core.proofs.LabelledBlocks.{one_label}
 use Rattle.log_core.proofs.register.hand_over.Goals as goal
@@ -13,7 +13,7 @@ set_all-requires-clause-apart c = c.requires c.in-Some.content.now c.units.resul
 
 pub returns-clause-ok : goal.returns-clause-ok
 returns-clause-ok c =
-    let label : Owner = record { registry = c.in-Some.content.now.acquirer } in
+    let label : BookEntry = record { registry = c.in-Some.content.now.acquirer } in
     let all = c.set_all.ensures.ok (λ (b : Block). Some label) (λ b r h. search (rules, h)) in
     on_ok_weaker c.set_all.result
     (λ h s. h s ∙ one_label label c.units.result.now c.in-Some.content.now.units s (get c.args.book.now s) c.units.ensures.value

@@ -12,13 +12,13 @@ use Rattle.log_core.specs.Effects.{Carried, IsEffect, owner_after, transfer_stat
 use Rattle.log_core.specs.Kept.{IsKept, waiting_cmp}
 use Rattle.log_core.specs.Taking.{verdict_by_rules}
 use Rattle.log_core.specs.Transfers.{AreApart, transfer_state_of}
-use Rattle.log_core.specs.declared.effect.Effect.{Effect}
-use Rattle.log_core.specs.declared.effect.Effect.TheVariants.{Begin, Settle, Cancel}
+use Rattle.log_core.specs.declared.effect.LogEffect.{LogEffect}
+use Rattle.log_core.specs.declared.effect.LogEffect.TheVariants.{Begin, Settle, Cancel}
 use Rattle.log_core.specs.declared.tables.Tables.{Tables}
 use Rattle.log_core.proofs.KnownApart.{begin_apart, settle_apart}
 use Rattle.log_core.proofs.KnownEffects.{settled_unchecked}
 
-pub effect_apart : (scheme : Scheme) (tables : Tables) (input : Input) (xs : List Transition) (effect : Effect) (moment : ℕ) → IsKept scheme tables → verdict_by_rules scheme tables input ≡ IsRecorded xs → IsEffect xs moment effect
+pub effect_apart : (scheme : Scheme) (tables : Tables) (input : Input) (xs : List Transition) (effect : LogEffect) (moment : ℕ) → IsKept scheme tables → verdict_by_rules scheme tables input ≡ IsRecorded xs → IsEffect xs moment effect
     → AreApart (transfer_state_in tables) effect
 effect_apart scheme tables input xs (Begin id new content) moment kept enters h =
     λ stands k blocks is units. begin_apart scheme tables input xs moment enters id new k blocks (subst (λ c. IsEffect xs moment (Begin id new c)) is h) (status_of_same new Checked stands) units
@@ -33,7 +33,7 @@ abbrev pub HaveSameRows : Tables → Tables → Type 0
 HaveSameRows tables tables' = (tables'.register ≡ tables.register) × (tables'.transfers ≡ tables.transfers) × (tables'.checked ≡ tables.checked)
 
 -- to them an effect does the same
-pub same_carried : (effect : Effect) (moment : ℕ) (before other after tables' : Tables) → HaveSameRows other before → HaveSameRows after tables' → Carried effect moment before after → Carried effect moment other tables'
+pub same_carried : (effect : LogEffect) (moment : ℕ) (before other after tables' : Tables) → HaveSameRows other before → HaveSameRows after tables' → Carried effect moment before after → Carried effect moment other tables'
 same_carried effect moment before other after tables' was is h =
     let transfer_states : transfer_state_in before ≡ transfer_state_in other = λ i t. transfer_state_of (was.1 i) t in
     record {

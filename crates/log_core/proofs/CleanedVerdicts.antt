@@ -18,7 +18,7 @@ use Rattle.log_core.specs.Kept.{IsKept}
 use Rattle.log_core.specs.Readings.{of_transition}
 use Rattle.log_core.specs.Taking.{verdict_by_rules}
 use Rattle.log_core.specs.Transfers.{IsOfKnown}
-use Rattle.log_core.specs.declared.effect.Effect.TheVariants.{Cancel}
+use Rattle.log_core.specs.declared.effect.LogEffect.TheVariants.{Cancel}
 use Rattle.log_core.specs.declared.tables.Tables.{Tables}
 use Rattle.log_core.proofs.CleanedInOrder.{all_from_in}
 use Rattle.log_core.proofs.CleanedUp.{checked_newest, expired_cancelled, has_expired}

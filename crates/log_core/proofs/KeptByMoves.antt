@@ -42,8 +42,8 @@ use Rattle.log_core.specs.Kept.{AreKept, IsKept, waiting_cmp}
 use Rattle.log_core.specs.Readings.{TransferState, last_order, of_transition, under_way}
 use Rattle.log_core.specs.Taking.{verdict_by_rules}
 use Rattle.log_core.specs.Transfers.{IsOfKnown}
-use Rattle.log_core.specs.declared.effect.Effect.{Effect}
-use Rattle.log_core.specs.declared.effect.Effect.TheVariants.{Begin, Cancel, Settle}
+use Rattle.log_core.specs.declared.effect.LogEffect.{LogEffect}
+use Rattle.log_core.specs.declared.effect.LogEffect.TheVariants.{Begin, Cancel, Settle}
 use Rattle.log_core.specs.declared.tables.Tables.{Tables}
 use Rattle.log_core.specs.declared.waiting.Waiting.{Waiting}
 use Rattle.log_core.proofs.KeptTransfers.{transfer_state_begun, transfer_state_came, waits_begun, waits_ended}
@@ -195,7 +195,7 @@ module _ (scheme : Scheme) (es : List Entry) (tables tables' : Tables) (kept : A
         sent = sent_so front sent;
       }
 
-  moved_kept : (front : List Transition) (effect : Effect) (moment : ℕ) → Made scheme Itl (entry input front ∷ es) → IsEffect front moment effect → IsOfKnown (transfer_state_in tables) effect → Carried effect moment tables tables'
+  moved_kept : (front : List Transition) (effect : LogEffect) (moment : ℕ) → Made scheme Itl (entry input front ∷ es) → IsEffect front moment effect → IsOfKnown (transfer_state_in tables) effect → Carried effect moment tables tables'
       → tables'.outbox ≡ tables.outbox ++ Sends (messages_of front) ∷ [] → AreKept scheme (entry input front ∷ es) tables'
   moved_kept front (Begin id new content) moment transitions_made h known carried sent =
       let x = h.0 in
@@ -207,7 +207,7 @@ module _ (scheme : Scheme) (es : List Entry) (tables tables' : Tables) (kept : A
       subst (λ (f : List Transition). AreKept scheme (entry input f ∷ es) tables') (sym h.1)
       (begun_kept x (subst (λ (f : List Transition). Made scheme Itl (entry input f ∷ es)) h.1 transitions_made)
       (subst (λ (f : List Transition). tables'.outbox ≡ tables.outbox ++ Sends (messages_of f) ∷ []) h.1 sent) fresh (λ settled. h.6 (subst IsSettled h.3 settled))
-      (subst (λ (e : Effect). Carried e x.moment tables tables') same (subst (λ m. Carried (Begin id new content) m tables tables') (sym h.5) carried)))
+      (subst (λ (e : LogEffect). Carried e x.moment tables tables') same (subst (λ m. Carried (Begin id new content) m tables tables') (sym h.5) carried)))
     where
       unknown_newest : (o : Option Transition) → option_map of_transition o ≡ None → o ≡ None
       unknown_newest None e = refl
@@ -220,13 +220,13 @@ module _ (scheme : Scheme) (es : List Entry) (tables tables' : Tables) (kept : A
       subst (λ (f : List Transition). AreKept scheme (entry input f ∷ es) tables') (sym h.1)
       (settled_kept x (subst (λ (f : List Transition). Made scheme Itl (entry input f ∷ es)) h.1 transitions_made)
       (subst (λ (f : List Transition). tables'.outbox ≡ tables.outbox ++ Sends (messages_of f) ∷ []) h.1 sent) (subst IsSettled new_is h.5)
-      (subst (λ (e : Effect). Carried e x.moment tables tables') same (subst (λ m. Carried (Settle id new) m tables tables') (sym h.4) carried)))
+      (subst (λ (e : LogEffect). Carried e x.moment tables tables') same (subst (λ m. Carried (Settle id new) m tables tables') (sym h.4) carried)))
   moved_kept front (Cancel ids) moment transitions_made h known carried sent =
       cancelled_kept front ids.items moment transitions_made h.0 (λ z i. all_in (IsCancelledAt moment) front z h.1 i)
       (λ t i. all_in (λ u. is_some (transfer_state_in tables u) ≡ true) ids.items t known i)
       sent carried.allotments carried.orders carried.transfers carried.under_way carried.book carried.checked
 
-pub kept_moved : (scheme : Scheme) (tables tables' : Tables) (input : Input) (xs : List Transition) (effect : Effect) (moment : ℕ) → IsKept scheme tables → verdict_by_rules scheme tables input ≡ IsRecorded xs → IsMessageOrCleanUp input
+pub kept_moved : (scheme : Scheme) (tables tables' : Tables) (input : Input) (xs : List Transition) (effect : LogEffect) (moment : ℕ) → IsKept scheme tables → verdict_by_rules scheme tables input ≡ IsRecorded xs → IsMessageOrCleanUp input
     → IsEffect xs moment effect → IsOfKnown (transfer_state_in tables) effect → Carried effect moment tables tables' → tables'.journal.items ≡ tables.journal.items ++ input ∷ []
     → tables'.outbox ≡ tables.outbox ++ Sends (messages_of xs) ∷ [] → IsKept scheme tables'
 kept_moved scheme tables tables' input xs effect moment kept enters given h known carried journal sent =

@@ -31,8 +31,8 @@ use Rattle.log_core.specs.Kept.{IsKept}
 use Rattle.log_core.specs.Readings.{of_transition}
 use Rattle.log_core.specs.Taking.{verdict_by_rules}
 use Rattle.log_core.specs.Transfers.{AreApart}
-use Rattle.log_core.specs.declared.effect.Effect.{Effect}
-use Rattle.log_core.specs.declared.effect.Effect.TheVariants.{Begin, Cancel, Settle}
+use Rattle.log_core.specs.declared.effect.LogEffect.{LogEffect}
+use Rattle.log_core.specs.declared.effect.LogEffect.TheVariants.{Begin, Cancel, Settle}
 use Rattle.log_core.specs.declared.tables.Tables.{Tables}
 use Rattle.log_core.proofs.KeptUnits.{entry}
 use Rattle.log_core.proofs.KnownEffects.{settled_known, settled_unchecked}
@@ -102,7 +102,7 @@ module _ (scheme : Scheme) (tables : Tables) (input : Input) (xs : List Transiti
       apart_repeats blocks (ap (λ us. repeats (pieces us)) units ∙ fine)
 
   -- of each effect
-  pub apart_so : (effect : Effect) → IsKept scheme tables → IsEffect xs moment effect → AreApart (transfer_state_in tables) effect
+  pub apart_so : (effect : LogEffect) → IsKept scheme tables → IsEffect xs moment effect → AreApart (transfer_state_in tables) effect
   apart_so (Begin id new content) kept h = λ stands k blocks known units. begin_apart id new k blocks (begins id new content k known h) (status_of_same new Checked stands) units
     where
       begins : (id : TransactionId) (new : Status) (content : Option Content) (k : Content) → content ≡ Some k → IsEffect xs moment (Begin id new content) → IsEffect xs moment (Begin id new (Some k))

@@ -17,8 +17,8 @@ use Rattle.checks.specs.declared.register.UnderWay.{UnderWay}
 use Rattle.protocol.specs.History.{Transition, has_serial}
 use Rattle.log_core.specs.Kept.{waiting_cmp}
 use Rattle.log_core.specs.Readings.{TransferState, of_transfer}
-use Rattle.log_core.specs.declared.effect.Effect.{Effect}
-use Rattle.log_core.specs.declared.effect.Effect.TheVariants.{Begin, Settle, Cancel}
+use Rattle.log_core.specs.declared.effect.LogEffect.{LogEffect}
+use Rattle.log_core.specs.declared.effect.LogEffect.TheVariants.{Begin, Settle, Cancel}
 use Rattle.log_core.specs.declared.tables.Tables.{Tables}
 use Rattle.log_core.specs.declared.waiting.Waiting.{Waiting}
 
@@ -39,7 +39,7 @@ IsSettled Completed = Unit {0}
 IsSettled _ = ⊥
 
 -- the effect, at that second, is what the transitions ask for
-abbrev pub IsEffect : List Transition → ℕ → Effect → Type 0
+abbrev pub IsEffect : List Transition → ℕ → LogEffect → Type 0
 IsEffect xs moment (Begin id new content) =
     (x : Transition) × (xs ≡ x ∷ []) × (x.id ≡ id) × (x.new ≡ new) × (x.content ≡ content) × (x.moment ≡ moment) × (IsSettled new → ⊥)
 IsEffect xs moment (Settle id new) = (x : Transition) × (xs ≡ x ∷ []) × (x.id ≡ id) × (x.new ≡ new) × (x.moment ≡ moment) × IsSettled new
@@ -64,30 +64,30 @@ handed_over (Some k) s owner = if has_serial (Some k) s then Some (record { regi
 handed_over None s owner = owner
 
 -- each transaction's state
-abbrev pub transfer_state_after : Effect → ℕ → (TransactionId → Option TransferState) → TransactionId → Option TransferState
+abbrev pub transfer_state_after : LogEffect → ℕ → (TransactionId → Option TransferState) → TransactionId → Option TransferState
 transfer_state_after (Begin id new content) moment old t = if same_id id t then Some (record { status = new; content = content; since = moment }) else old t
 transfer_state_after (Settle id new) moment old t = if same_id id t then option_map (came_to new moment) (old t) else old t
 transfer_state_after (Cancel ids) moment old t = if is_among ids.items t then option_map (came_to Cancelled moment) (old t) else old t
 
 -- which transfer each unit is in
-abbrev pub under_way_after : Effect → Serial → Option UnderWay → Option UnderWay
+abbrev pub under_way_after : LogEffect → Serial → Option UnderWay → Option UnderWay
 under_way_after (Begin id new content) s old = if same_status new Checked && has_serial content s then Some (record { id = id }) else old
 under_way_after (Settle id new) s old = if same_status new Accepted then old else labels_that (λ u. not (same_id u.id id)) old
 under_way_after (Cancel ids) s old = labels_that (λ u. not (is_among ids.items u.id)) old
 
 -- who owns each unit
-abbrev pub owner_after : Effect → (TransactionId → Option TransferState) → Serial → Option BookEntry → Option BookEntry
+abbrev pub owner_after : LogEffect → (TransactionId → Option TransferState) → Serial → Option BookEntry → Option BookEntry
 owner_after (Settle id new) transfer_state s old = if same_status new Completed then handed_over (transfer_state_content (transfer_state id)) s old else old
 owner_after _ transfer_state s old = old
 
 -- which transactions stand Checked, and since when
-abbrev pub waits_after : Effect → ℕ → Waiting → Bool → Bool
+abbrev pub waits_after : LogEffect → ℕ → Waiting → Bool → Bool
 waits_after (Begin id new content) moment w old = (same_status new Checked && (same_id id w.id && (moment == w.since.seconds))) || old
 waits_after (Settle id new) moment w old = not (same_id id w.id) && old
 waits_after (Cancel ids) moment w old = not (is_among ids.items w.id) && old
 
 -- the effect, at that second, was carried out
-pub record Carried (effect : Effect) (moment : ℕ) (tables tables' : Tables) : Type 0 where
+pub record Carried (effect : LogEffect) (moment : ℕ) (tables tables' : Tables) : Type 0 where
   pub allotments : tables'.register.allotments ≡ tables.register.allotments
   pub orders : tables'.register.orders ≡ tables.register.orders
   pub transfers : (t : TransactionId) → transfer_state_in tables' t ≡ transfer_state_after effect moment (transfer_state_in tables) t

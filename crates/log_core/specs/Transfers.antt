@@ -25,8 +25,8 @@ use Rattle.protocol.specs.History.{has_serial}
 use Rattle.log_core.specs.Effects.{transfer_state_content, transfer_state_in}
 use Rattle.log_core.specs.Kept.{waiting_cmp}
 use Rattle.log_core.specs.Readings.{TransferState, of_transfer}
-use Rattle.log_core.specs.declared.effect.Effect.{Effect}
-use Rattle.log_core.specs.declared.effect.Effect.TheVariants.{Begin, Settle, Cancel}
+use Rattle.log_core.specs.declared.effect.LogEffect.{LogEffect}
+use Rattle.log_core.specs.declared.effect.LogEffect.TheVariants.{Begin, Settle, Cancel}
 use Rattle.log_core.specs.declared.tables.Tables.{Tables}
 use Rattle.log_core.specs.declared.transfer.LoggedTransfer.{LoggedTransfer}
 use Rattle.log_core.specs.declared.waiting.Waiting.{Waiting}
@@ -62,13 +62,13 @@ AreLabelled transfers under_way = (s : Serial) (u : UnderWay) → finite.get und
 -- ---- what an effect may be carried out on
 
 -- a transaction that begins wasn't known, and those that are cancelled were
-abbrev pub IsOfKnown : (TransactionId → Option TransferState) → Effect → Type 0
+abbrev pub IsOfKnown : (TransactionId → Option TransferState) → LogEffect → Type 0
 IsOfKnown old (Begin id new content) = old id ≡ None
 IsOfKnown old (Settle id new) = Unit {0}
 IsOfKnown old (Cancel ids) = AllByRecursion (λ t. is_some (old t) ≡ true) ids.items
 
 -- what takes a transaction back: one that is known is cancelled, and one that isn't begins Cancelled without a content
-abbrev pub IsWithdrawal : TransactionId → Option TransferState → Effect → Type 0
+abbrev pub IsWithdrawal : TransactionId → Option TransferState → LogEffect → Type 0
 IsWithdrawal t None effect = effect ≡ Begin t Cancelled None
 IsWithdrawal t (Some x) (Cancel ids) = ids.items ≡ t ∷ []
 IsWithdrawal t (Some x) _ = ⊥
@@ -78,7 +78,7 @@ abbrev pub IsApart : Option Content → Type 0
 IsApart content = (k : Content) (blocks : List Block) → content ≡ Some k → raws blocks ≡ k.units → AllApart blocks
 
 -- units that come under way, or that are handed over, are each in one block
-abbrev pub AreApart : (TransactionId → Option TransferState) → Effect → Type 0
+abbrev pub AreApart : (TransactionId → Option TransferState) → LogEffect → Type 0
 AreApart old (Begin id new content) = same_status new Checked ≡ true → IsApart content
 AreApart old (Settle id new) = (same_status new Checked ≡ false) × (same_status new Completed ≡ true → IsApart (transfer_state_content (old id)))
 AreApart old (Cancel ids) = Unit {0}

@@ -13,7 +13,7 @@ ghost use Rattle.log_core.specs.Kept.{IsKept, waiting_cmp};
 ghost use Rattle.log_core.specs.Taking.{Takes};
 ghost use Rattle.log_core.specs.Transfers.{transfer_state_of};
 
-use crate::effect::Effect;
+use crate::effect::LogEffect;
 use crate::messages::push_cancelled;
 use crate::tables::Tables;
 use crate::transfer::LoggedTransfer;
@@ -98,6 +98,6 @@ impl Tables {
             return Ok(Stepped::Repeat);
         }
         let messages = cancellations(alloc, &self.transfers, ids.as_slice())?;
-        self.record(scheme, input, Effect::Cancel(ids), moment, messages)
+        self.record(scheme, input, LogEffect::Cancel(ids), moment, messages)
     }
 }

@@ -12,7 +12,7 @@ use units::Refusal;
 
 /// What a record does to the log's transactions.
 #[derive(Debug, Drop)]
-pub(crate) enum Effect {
+pub(crate) enum LogEffect {
     /// A transaction that wasn't known has that status: Checked, and its units are under way, or Terminated, or
     /// Cancelled without a content.
     Begin {
@@ -32,7 +32,7 @@ pub(crate) enum Effect {
 impl Tables {
     /// Carries the effect out, at that moment. After `OUT_OF_MEMORY`, with which alone it fails, the tables say what
     /// they said.
-    pub(crate) fn carry_out(&mut self, effect: Effect, moment: Moment) -> Result<(), Refusal>
+    pub(crate) fn carry_out(&mut self, effect: LogEffect, moment: Moment) -> Result<(), Refusal>
         requires known { IsOfKnown (transfer_state_in self.old) effect }
         requires apart { AreApart (transfer_state_in self.old) effect }
         requires waiting { AreWaiting self.old.transfers self.old.checked }
@@ -46,7 +46,7 @@ impl Tables {
         let under_way = &mut self.register.under_way;
         let (transfers, checked) = (&mut self.transfers, &mut self.checked);
         match effect {
-            Effect::Begin { id, new, content } => {
+            LogEffect::Begin { id, new, content } => {
                 let transfer = LoggedTransfer {
                     status: new,
                     content,
@@ -54,11 +54,11 @@ impl Tables {
                 };
                 begin(under_way, transfers, checked, id, transfer)?;
             }
-            Effect::Settle { id, new } => {
+            LogEffect::Settle { id, new } => {
                 let book = &mut self.register.book;
                 settle(book, under_way, transfers, checked, id, new, moment)?;
             }
-            Effect::Cancel(ids) => cancel(under_way, transfers, checked, ids.as_slice(), moment),
+            LogEffect::Cancel(ids) => cancel(under_way, transfers, checked, ids.as_slice(), moment),
         }
         Ok(())
     }

@@ -11,7 +11,7 @@ ghost use Rattle.log_core.specs.Kept.{IsKept};
 ghost use Rattle.log_core.specs.Taking.{IsMessageOrCleanUp, Takes, verdict_by_rules};
 ghost use Rattle.log_core.specs.Transfers.{IsOfKnown};
 
-use crate::effect::Effect;
+use crate::effect::LogEffect;
 use crate::registries::{is_eligible, is_member, order};
 use crate::transfer::LoggedTransfer;
 use crate::waiting::Waiting;
@@ -57,7 +57,7 @@ impl Tables {
         &mut self,
         scheme: &Scheme,
         input: &Input,
-        effect: Effect,
+        effect: LogEffect,
         moment: Moment,
         messages: Items<Message>,
     ) -> Result<Stepped, Refusal>

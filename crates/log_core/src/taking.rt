@@ -11,7 +11,7 @@ ghost use Rattle.log_core.specs.Kept.{IsKept};
 ghost use Rattle.log_core.specs.Taking.{Takes};
 ghost use Rattle.log_core.specs.Transfers.{IsWithdrawal};
 
-use crate::effect::Effect;
+use crate::effect::LogEffect;
 use crate::refusals::message_refusal;
 use crate::tables::Tables;
 use crate::transfers::status;
@@ -94,7 +94,7 @@ impl Tables {
         match self.on_proposal(alloc, scheme, id, content)? {
             Decision::Moves { new, messages } => {
                 let content = Some(content.copy()?);
-                let effect = Effect::Begin { id, new, content };
+                let effect = LogEffect::Begin { id, new, content };
                 self.record(scheme, input, effect, moment, messages)
             }
             Decision::Repeat => Ok(Stepped::Repeat),
@@ -120,7 +120,7 @@ impl Tables {
         let id = notification.id;
         match self.on_notified(alloc, id, &notification.notified)? {
             Decision::Moves { new, messages } => {
-                let effect = Effect::Settle { id, new };
+                let effect = LogEffect::Settle { id, new };
                 self.record(scheme, input, effect, moment, messages)
             }
             Decision::Repeat => Ok(Stepped::Repeat),
@@ -155,11 +155,11 @@ impl Tables {
     }
 
     /// What a request by which a transaction moves does; or `NoMemory`.
-    fn withdrawal(&self, alloc: Global, id: TransactionId) -> Result<Effect, NoMemory>
+    fn withdrawal(&self, alloc: Global, id: TransactionId) -> Result<LogEffect, NoMemory>
         ensures { IfOk result (IsWithdrawal id (transfer_state_in self.now id)) }
     {
         if status(&self.transfers, id).is_none() {
-            return Ok(Effect::Begin {
+            return Ok(LogEffect::Begin {
                 id,
                 new: Status::Cancelled,
                 content: None,
@@ -167,6 +167,6 @@ impl Tables {
         }
         let mut ids = Vec::new(alloc);
         ids.push(id)?;
-        Ok(Effect::Cancel(ids))
+        Ok(LogEffect::Cancel(ids))
     }
 }

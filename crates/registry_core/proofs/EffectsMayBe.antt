@@ -29,8 +29,8 @@ use Rattle.safety.proofs.OneRegistry.UnitsCountedOnce.{and_second}
 use Rattle.registry_core.specs.Effects.{IsEffect, IsReservable, MayCarry}
 use Rattle.registry_core.specs.Kept.{AreKept, IsKept}
 use Rattle.registry_core.specs.Readings.{foreign_row, is_foreign, is_own, own_row, row_at}
-use Rattle.registry_core.specs.declared.effect.Effect.{Effect}
-use Rattle.registry_core.specs.declared.effect.Effect.TheVariants.{Arrive, Ask, Cancel, Complete, Forestall, Open, Settle}
+use Rattle.registry_core.specs.declared.effect.RegistryEffect.{RegistryEffect}
+use Rattle.registry_core.specs.declared.effect.RegistryEffect.TheVariants.{Arrive, Ask, Cancel, Complete, Forestall, Open, Settle}
 use Rattle.registry_core.specs.declared.tables.Tables.{Tables}
 use Rattle.registry_core.proofs.ApartContents.{awaited_apart}
 use Rattle.registry_core.proofs.UnitHoldingsAfterMoves.{units_absent}
@@ -118,7 +118,7 @@ module _ (scheme : Scheme) (c : Code) (es : List Entry) (tables : Tables) (kept 
   complete_may input x id (asks t q was own stood) h k known = absurd h
   complete_may input x id (arrives p moment found f s is none foreign mine) h k known = absurd h
 
-  pub move_may : (input : Input) (x : Transition) (effect : Effect) → RegistryMove scheme c es input x → IsEffect c es input x effect → IsReservable effect tables.holdings → MayCarry effect tables.initiator tables.acquirer tables.holdings
+  pub move_may : (input : Input) (x : Transition) (effect : RegistryEffect) → RegistryMove scheme c es input x → IsEffect c es input x effect → IsReservable effect tables.holdings → MayCarry effect tables.initiator tables.acquirer tables.holdings
   move_may input x (Open new_transfer) move h free = (open_may input x new_transfer move h, free)
   move_may input x (Arrive id new content) move h free = arrive_may input x id new content move h
   move_may input x (Forestall id) move h free = forestall_may input x id move h
@@ -127,7 +127,7 @@ module _ (scheme : Scheme) (c : Code) (es : List Entry) (tables : Tables) (kept 
   move_may input x (Settle id new) move h free = tt
   move_may input x (Cancel id) move h free = tt
 
-pub may_carry : (scheme : Scheme) (c : Code) (tables : Tables) (input : Input) (x : Transition) (effect : Effect) → IsKept scheme c tables → verdict scheme (Registry c) (history scheme (Registry c) tables.journal.items) input ≡ IsRecorded (x ∷ [])
+pub may_carry : (scheme : Scheme) (c : Code) (tables : Tables) (input : Input) (x : Transition) (effect : RegistryEffect) → IsKept scheme c tables → verdict scheme (Registry c) (history scheme (Registry c) tables.journal.items) input ≡ IsRecorded (x ∷ [])
     → IsEffect c (history scheme (Registry c) tables.journal.items) input x effect → IsReservable effect tables.holdings → MayCarry effect tables.initiator tables.acquirer tables.holdings
 may_carry scheme c tables input x effect kept enters h free =
     let es = history scheme (Registry c) tables.journal.items in

@@ -58,8 +58,8 @@ use Rattle.units.proofs.Lists.OneValue.{clash, one_some}
 use Rattle.registry_core.specs.Effects.{Carried, ChangedAt, IsEffect}
 use Rattle.registry_core.specs.Kept.{AreKept, IsKept}
 use Rattle.registry_core.specs.Readings.{foreign_row, is_foreign, is_own, own_row, row_at, account_status_at}
-use Rattle.registry_core.specs.declared.effect.Effect.{Effect}
-use Rattle.registry_core.specs.declared.effect.Effect.TheVariants.{Arrive, Ask, Cancel, Complete, Forestall, Open, Settle}
+use Rattle.registry_core.specs.declared.effect.RegistryEffect.{RegistryEffect}
+use Rattle.registry_core.specs.declared.effect.RegistryEffect.TheVariants.{Arrive, Ask, Cancel, Complete, Forestall, Open, Settle}
 use Rattle.registry_core.specs.declared.tables.Tables.{Tables}
 use Rattle.registry_core.proofs.EffectsMayBe.{entered_move, foreign_of, row_content}
 use Rattle.registry_core.proofs.UnitHoldingsAfterMoves.{unit_holding_arrived, unit_holding_asked, unit_holding_bare, unit_holding_credited, unit_holding_proposed, unit_holding_settled, unit_holding_unmoved}
@@ -322,7 +322,7 @@ module _ (scheme : Scheme) (c : Code) (es : List Entry) (tables tables' : Tables
   known_clash : {X : Type 0} (t id : TransactionId) (q : Transition) → t ≡ id → newest (transitions_of es) t ≡ Some q → is_known (transitions_of es) id ≡ false → X
   known_clash t id q same was none = clash (is_known (transitions_of es) id) (ap (is_known (transitions_of es)) (sym same) ∙ ap is_some was) none
 
-  pub moved_kept : (input : Input) (x : Transition) (effect : Effect) → RegistryMove scheme c es input x → IsEffect c es input x effect
+  pub moved_kept : (input : Input) (x : Transition) (effect : RegistryEffect) → RegistryMove scheme c es input x → IsEffect c es input x effect
       → Carried effect tables.initiator tables'.initiator tables.acquirer tables'.acquirer tables.holdings tables'.holdings → tables'.outbox ≡ tables.outbox ++ Sends x.messages ∷ []
       → AreKept scheme c (entry input (x ∷ []) ∷ es) tables'
   moved_kept input x (Open new_transfer) (proposes o t none is fresh) h carried sent = opened_kept o t new_transfer none is fresh h.0 (one_some (content_of o) new_transfer.content h.1) carried sent
@@ -345,7 +345,7 @@ module _ (scheme : Scheme) (c : Code) (es : List Entry) (tables tables' : Tables
   moved_kept input x (Cancel id) (settles n moment q told f was own move) h carried sent = foreign_clash n.id id h.0 own h.2
   moved_kept input x effect move h carried sent = absurd h
 
-pub kept_moved : (scheme : Scheme) (c : Code) (tables tables' : Tables) (input : Input) (x : Transition) (effect : Effect) → IsKept scheme c tables
+pub kept_moved : (scheme : Scheme) (c : Code) (tables tables' : Tables) (input : Input) (x : Transition) (effect : RegistryEffect) → IsKept scheme c tables
     → verdict scheme (Registry c) (history scheme (Registry c) tables.journal.items) input ≡ IsRecorded (x ∷ []) → IsEffect c (history scheme (Registry c) tables.journal.items) input x effect
     → Carried effect tables.initiator tables'.initiator tables.acquirer tables'.acquirer tables.holdings tables'.holdings → tables'.journal.items ≡ tables.journal.items ++ input ∷ []
     → tables'.outbox ≡ tables.outbox ++ Sends x.messages ∷ [] → IsKept scheme c tables'

@@ -49,7 +49,7 @@ use Rattle.safety.proofs.OneRegistry.TransactionEnds.{own_code}
 use Rattle.registry_core.specs.Effects.{IsEffect, ending}
 use Rattle.registry_core.specs.Kept.{IsKept}
 use Rattle.registry_core.specs.Taking.{Takes, verdict_by_rules}
-use Rattle.registry_core.specs.declared.effect.Effect.{Effect}
+use Rattle.registry_core.specs.declared.effect.RegistryEffect.{RegistryEffect}
 use Rattle.registry_core.specs.declared.tables.Tables.{Tables}
 use Rattle.registry_core.proofs.DecidedInputs.{comes_late, ending_effect, given_up, knows_so, moves, repeats, row_moves, sends, welcome_foreign}
 use Rattle.registry_core.proofs.FirstRefusals.{order_refused}
@@ -84,7 +84,7 @@ module _ {scheme : Scheme} {c : Code} {tables : Tables} {input : Input} {to : St
   pub takes_too_late : d ≡ Ok decision.Late → Takes scheme c tables tables input (Ok stepped.Late)
   takes_too_late h = takes_late scheme c tables input kept (comes_late scheme c tables input to by.causes by.row by.messages d by.is by.row_is h)
 
-  pub moves_so : (effect : Effect) {given : Input} {new : Status} {ms : List Message} → input ≡ given → d ≡ Ok (decision.Moves new ms) → IsEffect c (past scheme c tables) given (to new) effect
+  pub moves_so : (effect : RegistryEffect) {given : Input} {new : Status} {ms : List Message} → input ≡ given → d ≡ Ok (decision.Moves new ms) → IsEffect c (past scheme c tables) given (to new) effect
       → (x : Transition) × (verdict_by_rules scheme c tables input ≡ recorded_if_room scheme (past scheme c tables) (x ∷ [])) × (ms ≡ x.messages) × IsEffect c (past scheme c tables) input x effect
   moves_so effect {given} {new} {ms} is h e = (
     to new,
@@ -233,7 +233,7 @@ module _ {scheme : Scheme} {c : Code} {tables : Tables} (kept : IsKept scheme c 
       }
 
   -- what ends the transfer is the effect
-  pub finish_effect : {d : Result Decision Refusal} (n : Notification) (moment : Moment) {told new : Status} {ms : List Message} {effect : Effect} → first_of (registry_refusals c (past scheme c tables) (message.Notification n)) ≡ None
+  pub finish_effect : {d : Result Decision Refusal} (n : Notification) (moment : Moment) {told new : Status} {ms : List Message} {effect : RegistryEffect} → first_of (registry_refusals c (past scheme c tables) (message.Notification n)) ≡ None
       → same_code n.id.code c ≡ false → told ≡ notified_status n.notified
       → ((q : Holding) → Knows scheme tables.acquirer.code tables.holdings q → d ≡ decided (unless_held (is_held q n) (acquirer_row (acquirer.known_transfer (get tables.acquirer.transfers n.id)) (Notified told))) [])
       → d ≡ Ok (decision.Moves new ms) → effect ≡ ending (is_some (get tables.acquirer.transfers n.id)) n.id new → IsEffect c (past scheme c tables) (Received (message.Notification n) moment) (to_finish n moment new) effect

@@ -26,11 +26,11 @@ use Rattle.acquirer.specs.Crediting.{MayCredit}
 use Rattle.acquirer.specs.Transfers as acquirer
 use Rattle.acquirer.specs.Transfers.{AcquirerView}
 use Rattle.registry_core.specs.Readings.{is_own, is_foreign}
-use Rattle.registry_core.specs.declared.effect.Effect.{Effect}
-use Rattle.registry_core.specs.declared.effect.Effect.TheVariants.{Open, Ask, Settle, Arrive, Forestall, Complete, Cancel}
+use Rattle.registry_core.specs.declared.effect.RegistryEffect.{RegistryEffect}
+use Rattle.registry_core.specs.declared.effect.RegistryEffect.TheVariants.{Open, Ask, Settle, Arrive, Forestall, Complete, Cancel}
 
 -- the effect is what a transition by that input asks for
-abbrev pub IsEffect : Code → List Entry → Input → Transition → Effect → Type 0
+abbrev pub IsEffect : Code → List Entry → Input → Transition → RegistryEffect → Type 0
 IsEffect c es (Propose o) x (Open new_transfer) = (x.id ≡ new_transfer.id) × (x.content ≡ Some new_transfer.content)
 IsEffect c es (Request t) x (Ask id) = t ≡ id
 IsEffect c es (Received (message.Proposal p) moment) x (Arrive id new content) = (p.id ≡ id) × (x.new ≡ new) × (p.content ≡ content)
@@ -41,17 +41,17 @@ IsEffect c es (Received (message.Notification n) moment) x (Cancel id) = (n.id �
 IsEffect c es _ x _ = ⊥
 
 -- what ends a transfer to the registry, which it may know
-abbrev pub ending : Bool → TransactionId → Status → Effect
+abbrev pub ending : Bool → TransactionId → Status → RegistryEffect
 ending false id new = Forestall id
 ending true id new = cond (same_status new Completed) (Complete id) (Cancel id)
 
 -- what a new transfer asks for may be reserved
-abbrev pub IsReservable : Effect → HoldingsView → Type 0
+abbrev pub IsReservable : RegistryEffect → HoldingsView → Type 0
 IsReservable (Open new_transfer) held = (blocks : List Block) → raws blocks ≡ new_transfer.content.units → MayReserve held new_transfer.content.account blocks
 IsReservable _ held = Unit {0}
 
 -- what an effect may be carried out on
-abbrev pub MayCarry : Effect → InitiatorView → AcquirerView → HoldingsView → Type 0
+abbrev pub MayCarry : RegistryEffect → InitiatorView → AcquirerView → HoldingsView → Type 0
 MayCarry (Open new_transfer) i a held = (map.get i.transfers new_transfer.id ≡ None) × ((blocks : List Block) → raws blocks ≡ new_transfer.content.units → MayReserve held new_transfer.content.account blocks)
 MayCarry (Arrive id new content) i a held = map.get a.transfers id ≡ None
 MayCarry (Forestall id) i a held = map.get a.transfers id ≡ None
@@ -68,7 +68,7 @@ ChangedAt id change m m' = (t : TransactionId) → map.get m' t ≡ (if same_id 
 abbrev pub UnitHoldingsAre : HoldingsView → HoldingsView → (Serial → Option UnitHolding) → Type 0
 UnitHoldingsAre held held' unit_holding = (held'.accounts ≡ held.accounts) × ((s : Serial) → map.get held'.unit_holdings s ≡ unit_holding s)
 
-abbrev pub Carried : Effect → (i i' : InitiatorView) (a a' : AcquirerView) (held held' : HoldingsView) → Type 0
+abbrev pub Carried : RegistryEffect → (i i' : InitiatorView) (a a' : AcquirerView) (held held' : HoldingsView) → Type 0
 Carried (Open new_transfer) i i' a a' held held' =
     (i'.code ≡ i.code) × (i'.last ≡ new_transfer.id.number) × ChangedAt new_transfer.id (λ x. Some initiator.opened) i.transfers i'.transfers × (a' ≡ a)
     × UnitHoldingsAre held held' (λ s. if have_unit new_transfer.content.units s then option_map (reserved new_transfer.id) (map.get held.unit_holdings s) else map.get held.unit_holdings s)

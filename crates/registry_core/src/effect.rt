@@ -12,7 +12,7 @@ use units::Refusal;
 
 /// What a transition does to a registry's tables.
 #[derive(Drop)]
-pub(crate) enum Effect {
+pub(crate) enum RegistryEffect {
     /// The new transfer is Proposed, and its units are reserved.
     Open(NewTransfer),
     /// The cancellation of a transfer out of the registry was asked for.
@@ -41,7 +41,7 @@ pub(crate) fn carry_out(
     initiator: &mut Initiator,
     acquirer: &mut Acquirer,
     holdings: &mut Holdings,
-    effect: Effect,
+    effect: RegistryEffect,
 ) -> Result<(), Refusal>
     requires { MayCarry effect initiator.old acquirer.old holdings.old }
     ensures ok { OnOk result
@@ -51,13 +51,13 @@ pub(crate) fn carry_out(
     ensures refused { IfErr result (λ r. r.code ≡ out_of_memory) }
 {
     match effect {
-        Effect::Open(new_transfer) => initiator.open(holdings, &new_transfer)?,
-        Effect::Ask(id) => initiator.ask(id),
-        Effect::Settle { id, new } => initiator.settle(holdings, id, new),
-        Effect::Arrive { id, new, content } => acquirer.arrive(id, new, content)?,
-        Effect::Forestall(id) => acquirer.forestall(id)?,
-        Effect::Complete(id) => acquirer.complete(holdings, id)?,
-        Effect::Cancel(id) => acquirer.cancel(id),
+        RegistryEffect::Open(new_transfer) => initiator.open(holdings, &new_transfer)?,
+        RegistryEffect::Ask(id) => initiator.ask(id),
+        RegistryEffect::Settle { id, new } => initiator.settle(holdings, id, new),
+        RegistryEffect::Arrive { id, new, content } => acquirer.arrive(id, new, content)?,
+        RegistryEffect::Forestall(id) => acquirer.forestall(id)?,
+        RegistryEffect::Complete(id) => acquirer.complete(holdings, id)?,
+        RegistryEffect::Cancel(id) => acquirer.cancel(id),
     }
     Ok(())
 }

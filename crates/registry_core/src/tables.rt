@@ -10,7 +10,7 @@ ghost use Rattle.registry_core.specs.Effects.{IsEffect, IsReservable};
 ghost use Rattle.registry_core.specs.Kept.{IsKept};
 ghost use Rattle.registry_core.specs.Taking.{Takes, verdict_by_rules};
 
-use crate::effect::{Effect, carry_out};
+use crate::effect::{RegistryEffect, carry_out};
 use accounts::Holdings;
 use acquirer::Acquirer;
 use initiator::Initiator;
@@ -59,7 +59,7 @@ impl Tables {
         scheme: &Scheme,
         code: Code,
         input: &Input,
-        effect: Effect,
+        effect: RegistryEffect,
         messages: Items<Message>,
     ) -> Result<Stepped, Refusal>
         requires kept { IsKept scheme.now code self.old }

@@ -13,7 +13,7 @@ ghost use Rattle.wire.specs.declared.input.Input.TheVariants as inputs;
 ghost use Rattle.wire.specs.declared.message.Message.TheVariants as messages;
 ghost use Rattle.status.specs.declared.moment.Moment.{Moment};
 
-use crate::effect::Effect;
+use crate::effect::RegistryEffect;
 use crate::refusals::message_refusal;
 use crate::tables::Tables;
 use protocol::{Decision, Stepped};
@@ -43,7 +43,13 @@ impl Tables {
             .new_transfer(alloc, scheme, &self.holdings, order)?;
         match self.initiator.propose(alloc, &new_transfer)? {
             Decision::Moves { messages, .. } => {
-                self.record(scheme, code, input, Effect::Open(new_transfer), messages)
+                self.record(
+                    scheme,
+                    code,
+                    input,
+                    RegistryEffect::Open(new_transfer),
+                    messages,
+                )
             }
             Decision::Repeat => Ok(Stepped::Repeat),
             Decision::Late => Ok(Stepped::Late),
@@ -65,7 +71,7 @@ impl Tables {
     {
         match self.initiator.request(alloc, id)? {
             Decision::Moves { messages, .. } => {
-                self.record(scheme, code, input, Effect::Ask(id), messages)
+                self.record(scheme, code, input, RegistryEffect::Ask(id), messages)
             }
             Decision::Repeat => Ok(Stepped::Repeat),
             Decision::Late => Ok(Stepped::Late),
@@ -119,7 +125,7 @@ impl Tables {
         {
             Decision::Moves { new, messages } => {
                 let content = content.copy()?;
-                let effect = Effect::Arrive { id, new, content };
+                let effect = RegistryEffect::Arrive { id, new, content };
                 self.record(scheme, code, input, effect, messages)
             }
             Decision::Repeat => Ok(Stepped::Repeat),
@@ -170,7 +176,13 @@ impl Tables {
         let (id, told) = (notification.id, notification.notified.status());
         match self.initiator.notice(alloc, id, told)? {
             Decision::Moves { new, messages } => {
-                self.record(scheme, code, input, Effect::Settle { id, new }, messages)
+                self.record(
+                    scheme,
+                    code,
+                    input,
+                    RegistryEffect::Settle { id, new },
+                    messages,
+                )
             }
             Decision::Repeat => Ok(Stepped::Repeat),
             Decision::Late => Ok(Stepped::Late),
@@ -206,13 +218,13 @@ impl Tables {
     }
 
     /// What a notification by which a transfer to the registry comes to that status does.
-    fn ending(&self, id: TransactionId, new: Status) -> Effect
+    fn ending(&self, id: TransactionId, new: Status) -> RegistryEffect
         ensures { result ≡ ending (is_some (map.get self.now.acquirer.transfers id)) id new }
     {
         match self.acquirer.status_of(id) {
-            None => Effect::Forestall(id),
-            Some(_) if new == Status::Completed => Effect::Complete(id),
-            Some(_) => Effect::Cancel(id),
+            None => RegistryEffect::Forestall(id),
+            Some(_) if new == Status::Completed => RegistryEffect::Complete(id),
+            Some(_) => RegistryEffect::Cancel(id),
         }
     }
 }

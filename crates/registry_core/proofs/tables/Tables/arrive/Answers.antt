@@ -1,5 +1,5 @@
 use Rattle.std.proofs.Common.{Ok, refl, sym, ap, ◌∙◌}
-use Rattle.registry_core.specs.declared.effect.Effect.TheVariants.{Arrive}
+use Rattle.registry_core.specs.declared.effect.RegistryEffect.TheVariants.{Arrive}
 use Rattle.registry_core.proofs.RolesDecide.{arrived, moves_so, takes_again, takes_failed, takes_too_late}
 use Rattle.registry_core.proofs.tables.Tables.arrive.Goals as goal
 

@@ -1,5 +1,5 @@
 use Rattle.std.proofs.Common.{Ok, Some, refl, sym, ap, subst, ◌∙◌}
-use Rattle.registry_core.specs.declared.effect.Effect.TheVariants.{Open}
+use Rattle.registry_core.specs.declared.effect.RegistryEffect.TheVariants.{Open}
 use Rattle.registry_core.proofs.RolesDecide.{moves_so, order_given_up, proposed, takes_failed}
 use Rattle.registry_core.proofs.TakenInputs.{GivenUp, are_same, takes_err}
 use Rattle.registry_core.proofs.tables.Tables.propose.Goals as goal

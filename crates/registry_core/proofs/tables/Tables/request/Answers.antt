@@ -1,5 +1,5 @@
 use Rattle.std.proofs.Common.{Ok, refl, ap, ◌∙◌}
-use Rattle.registry_core.specs.declared.effect.Effect.TheVariants.{Ask}
+use Rattle.registry_core.specs.declared.effect.RegistryEffect.TheVariants.{Ask}
 use Rattle.registry_core.proofs.RolesDecide.{moves_so, requested, takes_again, takes_failed, takes_too_late}
 use Rattle.registry_core.proofs.tables.Tables.request.Goals as goal
 

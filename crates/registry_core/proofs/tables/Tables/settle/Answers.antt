@@ -1,5 +1,5 @@
 use Rattle.std.proofs.Common.{Ok, refl, ap, ◌∙◌}
-use Rattle.registry_core.specs.declared.effect.Effect.TheVariants.{Settle}
+use Rattle.registry_core.specs.declared.effect.RegistryEffect.TheVariants.{Settle}
 use Rattle.registry_core.proofs.RolesDecide.{moves_so, settled, takes_again, takes_failed, takes_too_late}
 use Rattle.registry_core.proofs.tables.Tables.settle.Goals as goal
 

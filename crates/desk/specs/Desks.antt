@@ -11,8 +11,8 @@ use Rattle.protocol.specs.Unacknowledged.{IsLeastFrom, awaits}
 use Rattle.desk.specs.declared.notes.Note.{Note}
 use Rattle.desk.specs.declared.notes.Told.{Told}
 use Rattle.desk.specs.declared.notes.Told.TheVariants.{Refused}
-use Rattle.desk.specs.declared.progress.Progress.{Progress}
-use Rattle.desk.specs.declared.progress.Progress.TheVariants.{Committed, Awaited, Stopped}
+use Rattle.desk.specs.declared.confirmation.Confirmation.{Confirmation}
+use Rattle.desk.specs.declared.confirmation.Confirmation.TheVariants.{Committed, Awaited, Stopped}
 use Rattle.desk.specs.Calls.{Tells}
 use Rattle.desk.specs.Expected.{status_told}
 use Rattle.desk.specs.Views.{StateView, committed_past, past}
@@ -39,13 +39,13 @@ pub record HasToSend (held : StateView) (peer : Node) (from : ℕ) (found : Opti
 -- ---- what the code follows; no public contract cites what stands below
 
 -- what is handed back is what was taken
-abbrev pub IsOf : Note → Progress → Type 0
+abbrev pub IsOf : Note → Confirmation → Type 0
 IsOf taken (Committed receipt) = receipt ≡ taken
 IsOf taken (Awaited back) = back ≡ taken
 IsOf taken Stopped = Unit {0}
 
 -- how far the first records of the state are committed, as many as `count` says
-abbrev pub IsProgress : StateView → ℕ → Progress → Type 0
-IsProgress held count (Committed receipt) = count ≤ held.committed
-IsProgress held count (Awaited back) = (held.committed < count) × (held.runs ≡ true)
-IsProgress held count Stopped = (held.committed < count) × (held.runs ≡ false)
+abbrev pub IsConfirmation : StateView → ℕ → Confirmation → Type 0
+IsConfirmation held count (Committed receipt) = count ≤ held.committed
+IsConfirmation held count (Awaited back) = (held.committed < count) × (held.runs ≡ true)
+IsConfirmation held count Stopped = (held.committed < count) × (held.runs ≡ false)

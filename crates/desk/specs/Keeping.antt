@@ -10,9 +10,9 @@ use Rattle.stores.specs.declared.fault.StoreFault.{StoreFault}
 use Rattle.stores.specs.declared.node_store.NodeStore.{Ghosts}
 use Rattle.wire.specs.declared.message.Message.{Message}
 use Rattle.desk.specs.Calls.{batch_of, committed_by, done}
-use Rattle.desk.specs.Desks.{HasToSend, IsProgress}
+use Rattle.desk.specs.Desks.{HasToSend, IsConfirmation}
 use Rattle.desk.specs.Views.{StateView}
-use Rattle.desk.specs.declared.progress.Progress.{Progress}
+use Rattle.desk.specs.declared.confirmation.Confirmation.{Confirmation}
 
 -- ---- what the places of a store have
 
@@ -107,5 +107,5 @@ fault_after fault (Ok count) = fault
 fault_after fault (Err told) = Some told
 
 -- as many records as `count` are committed, or they aren't, at some state of the run
-abbrev pub IsProgressOfRun : {S : Type 0} → Ghosts S → (Scheme → Node → List Input → ℕ → Type 0) → ℕ → Progress → Type 0
-IsProgressOfRun {S} g opened count progress = (kept : StoredView S) × IsOfRun g opened kept × IsProgress kept.state count progress
+abbrev pub IsConfirmationOfRun : {S : Type 0} → Ghosts S → (Scheme → Node → List Input → ℕ → Type 0) → ℕ → Confirmation → Type 0
+IsConfirmationOfRun {S} g opened count confirmation = (kept : StoredView S) × IsOfRun g opened kept × IsConfirmation kept.state count confirmation

@@ -2,11 +2,11 @@
 //! can't name the state, follow from them.
 ghost use Rattle.std.specs.Prelude.{◌≡◌, IfOk};
 ghost use Rattle.desk.specs.Desks.{IsOf, IsTakeOf};
-ghost use Rattle.desk.specs.Keeping.{IsAtDesk, IsCommit, IsKept, IsProgressOfRun, IsToSend, MayOpen, fault_after};
+ghost use Rattle.desk.specs.Keeping.{IsAtDesk, IsCommit, IsKept, IsConfirmationOfRun, IsToSend, MayOpen, fault_after};
 
+use crate::confirmation::Confirmation;
 use crate::notes::Asked;
 use crate::opening::Opening;
-use crate::progress::Progress;
 use crate::state::{State, Taken};
 use crate::stored::Stored;
 use protocol::NodeCore;
@@ -106,12 +106,12 @@ impl<O: Opening, C: NodeCore, S: NodeStore> AtDesk<O, C, S> {
         }
     }
 
-    /// As `progress_of` of the state.
-    pub(crate) fn progress_of(&self, taken: Taken) -> Progress
+    /// As `confirmation_of` of the state.
+    pub(crate) fn confirmation_of(&self, taken: Taken) -> Confirmation
         ensures same { IsOf taken result }
-        ensures progress { IsProgressOfRun S.NodeStore O.opened taken.length result }
+        ensures confirmation { IsConfirmationOfRun S.NodeStore O.opened taken.length result }
     {
-        self.stored.state().progress_of(taken)
+        self.stored.state().confirmation_of(taken)
     }
 
     /// As `stop` of the state.

@@ -2,15 +2,15 @@
 ghost use Rattle.std.specs.Prelude.{◌≡◌, max, Some, IfOk, MatchResult};
 ghost use Rattle.desk.specs.Desks.{IsOf, IsQueryOf, IsTakeOf, lacking};
 ghost use Rattle.desk.specs.Expected.{stopped};
-ghost use Rattle.desk.specs.Keeping.{AreStored, IsAtDesk, IsCommit, IsKept, IsProgressOfRun, IsToSend, MayOpen};
+ghost use Rattle.desk.specs.Keeping.{AreStored, IsAtDesk, IsCommit, IsKept, IsConfirmationOfRun, IsToSend, MayOpen};
 ghost use Rattle.desk.specs.Telling.{kept};
 
 use crate::at_desk::{AtDesk, BATCH};
 use crate::bell::Bell;
+use crate::confirmation::Confirmation;
 use crate::gate::{Gate, OpenGate, Spot};
 use crate::notes::{Asked, Told};
 use crate::opening::Opening;
-use crate::progress::Progress;
 use crate::seat::Seat;
 use crate::state::{Receipt, Taken};
 use crate::stored::Stored;
@@ -202,21 +202,21 @@ impl<O: Opening, C: NodeCore, S: NodeStore, B: Bell> Desk<O, C, S, B> {
         for _ in rt.forever() {
             // Read before the state is asked, so that no ring between the two is missed.
             let rings = self.bell.rings(rt);
-            match self.progress_locked(rt, awaited) {
-                Progress::Committed(receipt) => return Ok(receipt),
-                Progress::Stopped => return Err(Refusal { code: NODE_STOPPED }),
-                Progress::Awaited(back) => awaited = back,
+            match self.confirmation_locked(rt, awaited) {
+                Confirmation::Committed(receipt) => return Ok(receipt),
+                Confirmation::Stopped => return Err(Refusal { code: NODE_STOPPED }),
+                Confirmation::Awaited(back) => awaited = back,
             }
             self.bell.wait(rt, rings);
         }
         unreachable!()
     }
 
-    fn progress_locked<R: Wait>(&self, rt: &R, taken: Taken) -> Progress
+    fn confirmation_locked<R: Wait>(&self, rt: &R, taken: Taken) -> Confirmation
         ensures same { IsOf taken result }
-        ensures progress { IsProgressOfRun S.NodeStore O.opened taken.length result }
+        ensures confirmation { IsConfirmationOfRun S.NodeStore O.opened taken.length result }
     {
-        self.locked.lock(rt).progress_of(taken)
+        self.locked.lock(rt).confirmation_of(taken)
     }
 
     /// Appends the first records that aren't committed, at most `BATCH`, to the store, and returns how many: these

@@ -5,6 +5,7 @@
 mod at_desk;
 mod bell;
 mod clock;
+mod confirmation;
 mod counting;
 mod desk;
 mod gate;
@@ -14,7 +15,6 @@ mod loading;
 mod locked;
 mod notes;
 mod opening;
-mod progress;
 mod seat;
 mod settling;
 mod state;

@@ -1,10 +1,10 @@
 //! What a desk reads of its state while it holds the lock. The clauses of these functions say it of some state, so that
 //! those of the desk, which can't name the state, follow from them.
 ghost use Rattle.std.specs.Prelude.{◌≡◌, false};
-ghost use Rattle.desk.specs.Desks.{IsOf, IsProgress, IsQueryOf};
+ghost use Rattle.desk.specs.Desks.{IsOf, IsConfirmation, IsQueryOf};
 
+use crate::confirmation::Confirmation;
 use crate::notes::Asked;
-use crate::progress::Progress;
 use crate::state::{State, Taken};
 use protocol::NodeCore;
 use status::TransactionId;
@@ -19,18 +19,18 @@ impl<C: NodeCore> State<C> {
     }
 
     /// What has become of what was taken.
-    pub(crate) fn progress_of(&self, taken: Taken) -> Progress
+    pub(crate) fn confirmation_of(&self, taken: Taken) -> Confirmation
         ensures same { IsOf taken result }
-        ensures progress { IsProgress self.now taken.length result }
+        ensures confirmation { IsConfirmation self.now taken.length result }
     {
         match self.receipt(taken) {
-            Ok(receipt) => Progress::Committed(receipt),
+            Ok(receipt) => Confirmation::Committed(receipt),
             Err(back) => {
                 if self.is_running() {
-                    Progress::Awaited(back)
+                    Confirmation::Awaited(back)
                 } else {
                     drop(back);
-                    Progress::Stopped
+                    Confirmation::Stopped
                 }
             }
         }

@@ -30,8 +30,8 @@ use Rattle.weave.specs.Following.{committed_at}
 use Rattle.weave.specs.Kept.{HasPosted, HasWholeSame, IsFollowing, IsFollowingWith, IsPosting, Posts, Takes, left_in, places_of}
 use Rattle.weave.specs.Steps.{Fits, Follows, IsNextBy, IsNotRecorded, IsPostedTo, Waits, idle_station, next_message, sent_count, whole_at, with_message, without_tails}
 use Rattle.weave.specs.declared.following.Following.{Following}
-use Rattle.weave.specs.declared.following.Progress.{Progress}
-use Rattle.weave.specs.declared.following.Progress.TheVariants.{Advanced, Rests}
+use Rattle.weave.specs.declared.following.Visit.{Visit}
+use Rattle.weave.specs.declared.following.Visit.TheVariants.{Advanced, Rests}
 use Rattle.protocol.proofs.NodePlaces.{node_of_place, node_there}
 use Rattle.weave.proofs.Followed.{all_placed, fewer, follows_posted, follows_taken, left_journals, left_stations, taken_advances}
 use Rattle.weave.proofs.Lists.{contains_last, contains_left}
@@ -252,7 +252,7 @@ posts_by f g n key m p id to bag next world bag_is last id_is to_is places event
     same : p ≡ record { node = n; key = key; message = m }
     same = one_some p (record { node = n; key = key; message = m }) (last ∙ ap (λ (b : List Posted). slice_get g.world.bag (length b)) bag_is ∙ stands_last f.world g.world n key m world)
 
-pub posted_on : (f g : Following) (n : Node) (key : ℕ) (p : Progress) → (p ≡ Rests → ⊥) → HasPosted f g n key p → Posts f g n key
+pub posted_on : (f g : Following) (n : Node) (key : ℕ) (p : Visit) → (p ≡ Rests → ⊥) → HasPosted f g n key p → Posts f g n key
 posted_on f g n key Advanced went h = h
 posted_on f g n key Rests went h = absurd (went refl)
 
@@ -275,7 +275,7 @@ module _ (scheme : Scheme) (f g : Following) (n : Node) (key : ℕ) (i : IsPosti
       }
 
   -- none is left to post
-  pub posting_ends : (p : Progress) → p ≡ Rests → HasPosted f g n key p → IsPosting scheme g n key × IsQuiet (without_tails g.world)
+  pub posting_ends : (p : Visit) → p ≡ Rests → HasPosted f g n key p → IsPosting scheme g n key × IsQuiet (without_tails g.world)
   posting_ends p is h =
       let r : (next_message f.world n key ≡ None) × (g ≡ f) = subst (HasPosted f g n key) is h in
       subst (λ (z : Following). IsPosting scheme z n key × IsQuiet (without_tails z.world)) (sym r.1) (i, all_posted (without_tails f.world) n key i.node i.posted (next_same f.world n key ∙ r.0))

@@ -15,8 +15,8 @@ use Rattle.protocol.specs.declared.event.WorldEvent.{WorldEvent}
 use Rattle.protocol.specs.declared.event.WorldEvent.TheVariants.{Commit, Post}
 use Rattle.weave.specs.Steps.{Follows, IsPostedTo, left_of, next_message, sent_count, whole_at, with_message, without_tails}
 use Rattle.weave.specs.declared.following.Following.{Following}
-use Rattle.weave.specs.declared.following.Progress.{Progress}
-use Rattle.weave.specs.declared.following.Progress.TheVariants.{Advanced, Rests}
+use Rattle.weave.specs.declared.following.Visit.{Visit}
+use Rattle.weave.specs.declared.following.Visit.TheVariants.{Advanced, Rests}
 
 abbrev pub places_of : Following → TransactionId → List ℕ
 places_of f t = option_map_or (λ v. v.items) (tree.get id_cmp f.places t) []
@@ -69,16 +69,16 @@ pub record Posts (f g : Following) (n : Node) (key : ℕ) : Type 0 where
   pub posted : g.posted.items ≡ f.posted.items
   pub pending : g.pending.items ≡ f.pending.items ++ receiver message ∷ []
 
-abbrev pub HasPosted : Following → Following → Node → ℕ → Progress → Type 0
+abbrev pub HasPosted : Following → Following → Node → ℕ → Visit → Type 0
 HasPosted f g n key Advanced = Posts f g n key
 HasPosted f g n key Rests = (next_message f.world n key ≡ None) × (g ≡ f)
 
 -- the world went on and fewer records are left, or it stands still and so does what is pending
-abbrev pub IsFewer : List Node → Following → Following → Progress → Type 0
+abbrev pub IsFewer : List Node → Following → Following → Visit → Type 0
 IsFewer ns f g Advanced = left_in g.world ns < left_in f.world ns
 IsFewer ns f g Rests = g ≡ f
 
 -- the world went on and fewer records are left, or no node is pending
-abbrev pub IsFewerOrDone : List Node → Following → Following → Progress → Type 0
+abbrev pub IsFewerOrDone : List Node → Following → Following → Visit → Type 0
 IsFewerOrDone ns f g Advanced = left_in g.world ns < left_in f.world ns
 IsFewerOrDone ns f g Rests = g.pending.items ≡ []

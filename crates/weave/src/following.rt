@@ -22,9 +22,9 @@ use std::collections::BTreeMap;
 use units::{NoMemory, Node};
 use world::{Core, World};
 
-/// What a look at a node came to.
+/// What a visit of a node came to.
 #[derive(Clone, Copy)]
-pub(crate) enum Progress {
+pub(crate) enum Visit {
     /// The world went on.
     Advanced,
     /// The world is as it was: the next record waits, or none is left.
@@ -100,13 +100,13 @@ impl Following {
     }
 
     /// Posts the node's message with that key, if there is one. Then its receiver has to be looked at.
-    fn post_one(&mut self, node: Node, key: u64) -> Result<Progress, NoMemory>
+    fn post_one(&mut self, node: Node, key: u64) -> Result<Visit, NoMemory>
         ensures { IfOk result (HasPosted self.old self.new node key) }
     {
         let place = self.world.bag().len() as u64;
         match apply_post(&mut self.world, node, key)? {
             Outcome::Done => {}
-            _ => return Ok(Progress::Rests),
+            _ => return Ok(Visit::Rests),
         }
         let Some(posted) = self.world.bag_message(place) else {
             unreachable!()
@@ -117,7 +117,7 @@ impl Following {
         self.events.reserve(1)?;
         self.events.push_reserved(WorldEvent::Post { node, key });
         self.pending.push(receiver)?;
-        Ok(Progress::Advanced)
+        Ok(Visit::Advanced)
     }
 
     /// Posts the node's messages from that key on, and returns the key that the next one will have.
@@ -128,7 +128,7 @@ impl Following {
         ensures posted { OnOk result (self.new.posted.items ≡ self.old.posted.items) }
     {
         for key in first..u64::MAX {
-            if let Progress::Rests = self.post_one(node, key)? {
+            if let Visit::Rests = self.post_one(node, key)? {
                 return Ok(key);
             }
         }
@@ -152,37 +152,37 @@ impl Following {
 
     /// The node commits the next record of its journal and posts what it sends, if an event gives it the record now.
     /// Then the node has to be looked at again.
-    fn record_next(&mut self, scheme: &Scheme, node: Node) -> Result<Progress, NoMemory>
+    fn record_next(&mut self, scheme: &Scheme, node: Node) -> Result<Visit, NoMemory>
         requires follows { IsFollowingWith scheme.now self.old (self.old.pending.items ++ node ∷ []) }
         requires quiet { IsQuiet (without_tails self.old.world) }
-        ensures follows { IfOk result (λ progress. IsFollowing scheme.now self.new) }
-        ensures whole { IfOk result (λ progress. HasWholeSame self.old.world self.new.world) }
+        ensures follows { IfOk result (λ visit. IsFollowing scheme.now self.new) }
+        ensures whole { IfOk result (λ visit. HasWholeSame self.old.world self.new.world) }
         ensures fewer { IfOk result (IsFewer (nodes scheme.now) self.old self.new) }
     {
         let Some(at) = place_of(scheme, node) else {
-            return Ok(Progress::Rests);
+            return Ok(Visit::Rests);
         };
         let Some(event) = next_event(&self.world, &self.places, node)? else {
-            return Ok(Progress::Rests);
+            return Ok(Visit::Rests);
         };
         self.take(node, event)?;
         self.post_all(node, at)?;
-        Ok(Progress::Advanced)
+        Ok(Visit::Advanced)
     }
 
     /// One of the nodes that have to be looked at records its next record, if any of them does.
-    fn advance(&mut self, scheme: &Scheme) -> Result<Progress, NoMemory>
+    fn advance(&mut self, scheme: &Scheme) -> Result<Visit, NoMemory>
         requires { IsFollowing scheme.now self.old }
-        ensures follows { IfOk result (λ progress. IsFollowing scheme.now self.new) }
-        ensures whole { IfOk result (λ progress. HasWholeSame self.old.world self.new.world) }
+        ensures follows { IfOk result (λ visit. IsFollowing scheme.now self.new) }
+        ensures whole { IfOk result (λ visit. HasWholeSame self.old.world self.new.world) }
         ensures fewer { IfOk result (IsFewerOrDone (nodes scheme.now) self.old self.new) }
     {
         while let Some(node) = self.pending.pop() {
-            if let Progress::Advanced = self.record_next(scheme, node)? {
-                return Ok(Progress::Advanced);
+            if let Visit::Advanced = self.record_next(scheme, node)? {
+                return Ok(Visit::Advanced);
             }
         }
-        Ok(Progress::Rests)
+        Ok(Visit::Rests)
     }
 
     /// The opening world, with the cores' journals as tails. Each node has to be looked at.
@@ -220,7 +220,7 @@ pub(crate) fn follow<W: Watch>(
     ensures done { IfOk result (λ f. f.pending.items ≡ []) }
 {
     let mut following = Following::new(alloc, scheme, cores)?;
-    while let Progress::Advanced = following.advance(scheme)? {
+    while let Visit::Advanced = following.advance(scheme)? {
         watch.woven();
     }
     Ok(following)

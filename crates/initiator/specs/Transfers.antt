@@ -35,8 +35,8 @@ abbrev pub asked : OutgoingTransfer → OutgoingTransfer
 asked x = record x { cancellation = Asked }
 
 -- the transfer when it has come to that status
-abbrev pub settled : Status → OutgoingTransfer → OutgoingTransfer
-settled new x = record x { status = new }
+abbrev pub concluded : Status → OutgoingTransfer → OutgoingTransfer
+concluded new x = record x { status = new }
 
 -- what the table asks of a transfer: an initiator always has its content
 abbrev pub known_transfer : Option OutgoingTransfer → RecordedStatus

@@ -22,10 +22,10 @@ ghost use Rattle.protocol.specs.Decisions.{decided, unless};
 ghost use Rattle.protocol.specs.Effects.{initiator_sends};
 ghost use Rattle.checks.specs.Knowing.{Knows};
 ghost use Rattle.checks.specs.Refusing.{first_of, order_refusals};
-ghost use Rattle.initiator.specs.Transfers.{opened, asked, settled, known_transfer, column_of_request, cancellation_refusals};
+ghost use Rattle.initiator.specs.Transfers.{opened, asked, concluded, known_transfer, column_of_request, cancellation_refusals};
 
 use crate::messages::{on_notified, on_proposing, on_request};
-use crate::table::{ask, forget, open, settle};
+use crate::table::{ask, conclude, forget, open};
 use crate::transfer::{OutgoingTransfer, is_proposed, known, request_column};
 use accounts::Holdings;
 use checks::{NewTransfer, propose_check};
@@ -242,10 +242,10 @@ impl Initiator {
 
     /// The transfer has come to that status: its units leave the registry where it is Completed, and are free again
     /// at any other. Takes no memory.
-    pub fn settle(&mut self, holdings: &mut Holdings, id: TransactionId, new: Status)
+    pub fn conclude(&mut self, holdings: &mut Holdings, id: TransactionId, new: Status)
         ensures transfers { (t : TransactionId)
             → map.get self.new.transfers t
-            ≡ (if same_id id t then option_map (settled new)
+            ≡ (if same_id id t then option_map (concluded new)
             (map.get self.old.transfers t) else map.get self.old.transfers t) }
         ensures code { self.new.code ≡ self.old.code }
         ensures last { self.new.last ≡ self.old.last }
@@ -257,7 +257,7 @@ impl Initiator {
             (map.get holdings.old.unit_holdings s) else option_map (held.released id)
             (map.get holdings.old.unit_holdings s)) }
     {
-        settle(&mut self.transfers, id, new);
+        conclude(&mut self.transfers, id, new);
         if new == Status::Completed {
             holdings.remove(id);
         } else {

@@ -1,7 +1,7 @@
 //! The table of an initiator's transfers.
 ghost use Rattle.std.specs.BTreeMap as tree;
 ghost use Rattle.std.specs.Prelude.{◌≡◌, None, Some, OnErr, OnOk, option_map, if◌then◌else◌};
-ghost use Rattle.initiator.specs.Transfers.{asked, opened, settled};
+ghost use Rattle.initiator.specs.Transfers.{asked, opened, concluded};
 ghost use Rattle.status.specs.Id.{id_cmp, same_id};
 ghost use Rattle.status.specs.declared.id.TransactionId.{TransactionId};
 
@@ -48,14 +48,14 @@ pub(crate) fn ask(transfers: &mut BTreeMap<TransactionId, OutgoingTransfer>, id:
 }
 
 /// The transfer has come to that status.
-pub(crate) fn settle(
+pub(crate) fn conclude(
     transfers: &mut BTreeMap<TransactionId, OutgoingTransfer>,
     id: TransactionId,
     new: Status,
 )
     ensures { (t : TransactionId)
         → tree.get id_cmp transfers.new t
-        ≡ (if same_id id t then option_map (settled new)
+        ≡ (if same_id id t then option_map (concluded new)
         (tree.get id_cmp transfers.old t) else tree.get id_cmp transfers.old t) }
 {
     if let Some(transfer) = transfers.get_mut(&id) {

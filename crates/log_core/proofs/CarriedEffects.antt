@@ -13,18 +13,18 @@ use Rattle.log_core.specs.Kept.{IsKept, waiting_cmp}
 use Rattle.log_core.specs.Taking.{verdict_by_rules}
 use Rattle.log_core.specs.Transfers.{AreApart, transfer_state_of}
 use Rattle.log_core.specs.declared.effect.LogEffect.{LogEffect}
-use Rattle.log_core.specs.declared.effect.LogEffect.TheVariants.{Begin, Settle, Cancel}
+use Rattle.log_core.specs.declared.effect.LogEffect.TheVariants.{Begin, Advance, Cancel}
 use Rattle.log_core.specs.declared.tables.Tables.{Tables}
-use Rattle.log_core.proofs.KnownApart.{begin_apart, settle_apart}
-use Rattle.log_core.proofs.KnownEffects.{settled_unchecked}
+use Rattle.log_core.proofs.KnownApart.{begin_apart, advance_apart}
+use Rattle.log_core.proofs.KnownEffects.{advanced_unchecked}
 
 pub effect_apart : (scheme : Scheme) (tables : Tables) (input : Input) (xs : List Transition) (effect : LogEffect) (moment : ℕ) → IsKept scheme tables → verdict_by_rules scheme tables input ≡ IsRecorded xs → IsEffect xs moment effect
     → AreApart (transfer_state_in tables) effect
 effect_apart scheme tables input xs (Begin id new content) moment kept enters h =
     λ stands k blocks is units. begin_apart scheme tables input xs moment enters id new k blocks (subst (λ c. IsEffect xs moment (Begin id new c)) is h) (status_of_same new Checked stands) units
-effect_apart scheme tables input xs (Settle id new) moment kept enters h = (
-  settled_unchecked new h.5,
-  λ done k blocks is units. settle_apart scheme tables input xs moment enters id new k blocks kept h is units,
+effect_apart scheme tables input xs (Advance id new) moment kept enters h = (
+  advanced_unchecked new h.5,
+  λ done k blocks is units. advance_apart scheme tables input xs moment enters id new k blocks kept h is units,
 )
 effect_apart scheme tables input xs (Cancel ids) moment kept enters h = tt
 

@@ -45,9 +45,9 @@ use Rattle.log_core.proofs.TakenInputs.{GivenUp, verdict_so}
 
 -- ---- a decision by a row
 
-settled : {X : Type 0} (d expected : Result X Refusal) (x : X) → IsExpectedOrNoMemory d expected → d ≡ Ok x → expected ≡ Ok x
-settled d expected x (inl e) h = sym e ∙ h
-settled d expected x (inr e) h = let clashing = sym e ∙ h in absurd (cc (clashing))
+expected_ok : {X : Type 0} (d expected : Result X Refusal) (x : X) → IsExpectedOrNoMemory d expected → d ≡ Ok x → expected ≡ Ok x
+expected_ok d expected x (inl e) h = sym e ∙ h
+expected_ok d expected x (inr e) h = let clashing = sym e ∙ h in absurd (cc (clashing))
 
 module _ (scheme : Scheme) (tables : Tables) (input : Input) (to : Status → Transition) (row : Row) (d : Result Decision Refusal) where
   abbrev past : List Entry
@@ -62,7 +62,7 @@ module _ (scheme : Scheme) (tables : Tables) (input : Input) (to : Status → Tr
 
   module _ (h : Decides) where
     by_decision : (x : Decision) → d ≡ Ok x → decided row h.messages ≡ Ok x
-    by_decision x e = settled d (decided row h.messages) x h.is e
+    by_decision x e = expected_ok d (decided row h.messages) x h.is e
 
     -- a decision that moves: the row does, and its transition is to be recorded
     pub moves : (new : Status) (ms : List Message) → d ≡ Ok (decision.Moves new ms) → (row ≡ rows.Move new) × (verdict_by_rules scheme tables input ≡ recorded_if_room scheme past (to new ∷ [])) × (ms ≡ messages_of (to new ∷ []))

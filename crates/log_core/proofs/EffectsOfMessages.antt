@@ -16,21 +16,21 @@ use Rattle.protocol.specs.Deciding as decide
 use Rattle.protocol.specs.Deciding.{content_in, column_of_proposal}
 use Rattle.protocol.specs.History.{Transition}
 use Rattle.safety.proofs.MovesAndHistories.TableRows.{log_asked, log_from, log_notified, log_offered}
-use Rattle.log_core.specs.Effects.{IsEffect, IsSettled}
+use Rattle.log_core.specs.Effects.{IsEffect, IsAdvanced}
 use Rattle.log_core.specs.Readings.{TransferState, of_transition}
 use Rattle.log_core.specs.Transfers.{IsOfKnown, IsWithdrawal}
 use Rattle.log_core.specs.declared.effect.LogEffect.{LogEffect}
-use Rattle.log_core.specs.declared.effect.LogEffect.TheVariants.{Begin, Settle, Cancel}
+use Rattle.log_core.specs.declared.effect.LogEffect.TheVariants.{Begin, Advance, Cancel}
 
 module _ (t : TransactionId) (moment : Moment) (ms : List Message) (last : Option Transition) (new : Status) where
   -- ---- a proposal that moves is of a transaction that wasn't known
 
-  checked_unsettled : (found : List ℕ) → log_row (decide.known None) (column_of_proposal None found) ≡ Move new → IsSettled new → ⊥
-  checked_unsettled [] h s = let is : Checked ≡ new = cc (h) in subst IsSettled (sym is) s
-  checked_unsettled (c ∷ cs) h s = let is : Terminated ≡ new = cc (h) in subst IsSettled (sym is) s
+  checked_not_advanced : (found : List ℕ) → log_row (decide.known None) (column_of_proposal None found) ≡ Move new → IsAdvanced new → ⊥
+  checked_not_advanced [] h s = let is : Checked ≡ new = cc (h) in subst IsAdvanced (sym is) s
+  checked_not_advanced (c ∷ cs) h s = let is : Terminated ≡ new = cc (h) in subst IsAdvanced (sym is) s
 
-  offer_new : (o : Option Transition) (found : List ℕ) → log_row (decide.known o) (column_of_proposal (content_in o) found) ≡ Move new → (o ≡ None) × (IsSettled new → ⊥)
-  offer_new None found h = (refl, checked_unsettled found h)
+  offer_new : (o : Option Transition) (found : List ℕ) → log_row (decide.known o) (column_of_proposal (content_in o) found) ≡ Move new → (o ≡ None) × (IsAdvanced new → ⊥)
+  offer_new None found h = (refl, checked_not_advanced found h)
   offer_new (Some x) found h = absurd (log_offered x found new h)
 
   pub proposal_unknown : (found : List ℕ) → log_row (decide.known last) (column_of_proposal (content_in last) found) ≡ Move new → last ≡ None
@@ -40,19 +40,19 @@ module _ (t : TransactionId) (moment : Moment) (ms : List Message) (last : Optio
       → IsEffect (decide.moved t (Some k) moment.seconds ms new ∷ []) moment.seconds (Begin t new (Some k'))
   proposal_effect k k' found same h = (decide.moved t (Some k) moment.seconds ms new, refl, refl, refl, ap (λ x. Some x) (sym same), refl, (offer_new last found h).1)
 
-  -- ---- a notification that moves settles its transaction
+  -- ---- a notification that moves advances its transaction
 
-  settles : (a told : Status) → log_row (Stands a) (Notified told) ≡ Move new → IsSettled new
-  settles a told h =
+  advances : (a told : Status) → log_row (Stands a) (Notified told) ≡ Move new → IsAdvanced new
+  advances a told h =
       elim (log_from a told new h) [
-        | inl m ↦ elim m.2 [ inl e ↦ subst IsSettled (sym (m.1 ∙ e)) tt | inr e ↦ subst IsSettled (sym (m.1 ∙ e)) tt ]
-        | inr m ↦ subst IsSettled (sym m.1) tt
+        | inl m ↦ elim m.2 [ inl e ↦ subst IsAdvanced (sym (m.1 ∙ e)) tt | inr e ↦ subst IsAdvanced (sym (m.1 ∙ e)) tt ]
+        | inr m ↦ subst IsAdvanced (sym m.1) tt
       ]
 
-  pub notified_effect : (k : Option Content) (told : Status) → log_row (decide.known last) (Notified told) ≡ Move new → IsEffect (decide.moved t k moment.seconds ms new ∷ []) moment.seconds (Settle t new)
+  pub notified_effect : (k : Option Content) (told : Status) → log_row (decide.known last) (Notified told) ≡ Move new → IsEffect (decide.moved t k moment.seconds ms new ∷ []) moment.seconds (Advance t new)
   notified_effect k told h =
       let a = log_notified (decide.known last) told new h in
-      (decide.moved t k moment.seconds ms new, refl, refl, refl, refl, settles a.0 told (ap (λ x. log_row x (Notified told)) (sym a.1) ∙ h))
+      (decide.moved t k moment.seconds ms new, refl, refl, refl, refl, advances a.0 told (ap (λ x. log_row x (Notified told)) (sym a.1) ∙ h))
 
   -- ---- a request that moves cancels its transaction, which is known, or begins one
 
@@ -66,7 +66,7 @@ module _ (t : TransactionId) (moment : Moment) (ms : List Message) (last : Optio
           (decide.moved t None moment.seconds ms new, refl, refl, cancelled, refl, refl, λ s. s)
       go (Some x) (Cancel ids) cancelled is = (sym is, ((cancelled, refl), tt))
       go (Some x) (Begin id s k) cancelled is = absurd is
-      go (Some x) (Settle id s) cancelled is = absurd is
+      go (Some x) (Advance id s) cancelled is = absurd is
 
 -- a withdrawal is of what is known, or of what wasn't
 pub withdrawn_known : (t : TransactionId) (old : TransactionId → Option TransferState) (effect : LogEffect) → IsWithdrawal t (old t) effect → IsOfKnown old effect
@@ -76,4 +76,4 @@ withdrawn_known t old effect h = go (old t) effect refl h
     go None e was is = subst (IsOfKnown old) (sym is) was
     go (Some x) (Cancel ids) was is = subst (λ l. AllByRecursion (λ u. is_some (old u) ≡ true) l) (sym is) (ap is_some was, tt)
     go (Some x) (Begin id s k) was is = absurd is
-    go (Some x) (Settle id s) was is = absurd is
+    go (Some x) (Advance id s) was is = absurd is

@@ -37,19 +37,19 @@ use Rattle.safety.proofs.ListLemmas.TestsOfSameness.{status_of_same}
 use Rattle.safety.proofs.MovesAndHistories.LongerHistories.{made_history}
 use Rattle.safety.proofs.MovesAndHistories.NewestTransitions.{Made, made_log}
 use Rattle.safety.proofs.OneLog.OwnersInLog.{IsBusy, log_live}
-use Rattle.log_core.specs.Effects.{Carried, IsCancelledAt, IsEffect, IsSettled, came_to, transfer_state_content, handed_over, is_among, transfer_state_in}
+use Rattle.log_core.specs.Effects.{Carried, IsCancelledAt, IsEffect, IsAdvanced, came_to, transfer_state_content, handed_over, is_among, transfer_state_in}
 use Rattle.log_core.specs.Kept.{AreKept, IsKept, waiting_cmp}
 use Rattle.log_core.specs.Readings.{TransferState, last_order, of_transition, under_way}
 use Rattle.log_core.specs.Taking.{verdict_by_rules}
 use Rattle.log_core.specs.Transfers.{IsOfKnown}
 use Rattle.log_core.specs.declared.effect.LogEffect.{LogEffect}
-use Rattle.log_core.specs.declared.effect.LogEffect.TheVariants.{Begin, Cancel, Settle}
+use Rattle.log_core.specs.declared.effect.LogEffect.TheVariants.{Begin, Cancel, Advance}
 use Rattle.log_core.specs.declared.tables.Tables.{Tables}
 use Rattle.log_core.specs.declared.waiting.Waiting.{Waiting}
 use Rattle.log_core.proofs.KeptTransfers.{transfer_state_begun, transfer_state_came, waits_begun, waits_ended}
 use Rattle.log_core.proofs.KeptUnits.{entry, owner_handed, owner_kept, under_way_begun, under_way_ended, under_way_same}
 use Rattle.log_core.proofs.KnownContents.{move_keeps}
-use Rattle.log_core.proofs.KnownEffects.{all_in, here_first, here_second, ids_of, of_one, settled_ended, settled_known, settled_unchecked, unsettled}
+use Rattle.log_core.proofs.KnownEffects.{all_in, here_first, here_second, ids_of, of_one, advanced_ended, advanced_known, advanced_unchecked, not_advanced}
 use Rattle.log_core.proofs.KnownUnderWay.{some_is, mapped}
 
 -- an input on which transitions are recorded
@@ -96,9 +96,9 @@ module _ (scheme : Scheme) (es : List Entry) (tables tables' : Tables) (kept : A
   -- ---- a transaction that wasn't known
 
   module _ (x : Transition) (transitions_made : Made scheme Itl (entry input (x ∷ []) ∷ es)) (sent : tables'.outbox ≡ tables.outbox ++ Sends (messages_of (x ∷ [])) ∷ []) where
-    begun_kept : newest xs x.id ≡ None → (IsSettled x.new → ⊥) → Carried (Begin x.id x.new x.content) x.moment tables tables' → AreKept scheme (entry input (x ∷ []) ∷ es) tables'
-    begun_kept none unsettled_is carried =
-        let other = unsettled x.new unsettled_is in
+    begun_kept : newest xs x.id ≡ None → (IsAdvanced x.new → ⊥) → Carried (Begin x.id x.new x.content) x.moment tables tables' → AreKept scheme (entry input (x ∷ []) ∷ es) tables'
+    begun_kept none not_advanced_is carried =
+        let other = not_advanced x.new not_advanced_is in
         record {
           allotments = λ s. allotments_so carried.allotments s ∙ kept.allotments s;
           book = λ s.
@@ -120,10 +120,10 @@ module _ (scheme : Scheme) (es : List Entry) (tables tables' : Tables) (kept : A
 
     -- ---- a transaction that has come to Accepted, Rejected or Completed
 
-    settled_kept : IsSettled x.new → Carried (Settle x.id x.new) x.moment tables tables' → AreKept scheme (entry input (x ∷ []) ∷ es) tables'
-    settled_kept settled carried =
+    advanced_kept : IsAdvanced x.new → Carried (Advance x.id x.new) x.moment tables tables' → AreKept scheme (entry input (x ∷ []) ∷ es) tables'
+    advanced_kept advanced carried =
         let move = made_log scheme (entry input (x ∷ [])) es x transitions_made (inl refl) in
-        let known = settled_known scheme es input x move settled in
+        let known = advanced_known scheme es input x move advanced in
         let q = known.0 in
         let was = known.1 in
         let content = move_keeps scheme es input x q move was in
@@ -145,7 +145,7 @@ module _ (scheme : Scheme) (es : List Entry) (tables tables' : Tables) (kept : A
                     ∙ under_way_same scheme es s input x transitions_made q was (log_live scheme es input x q move was) (subst IsBusy (sym (status_of_same x.new Accepted y)) tt) content
                 | inr n ↦
                     cond-false (same_status x.new Accepted) (under_way xs s) (left s) n
-                    ∙ under_way_ended scheme es s input (x ∷ []) (λ t. same_id t x.id) transitions_made (here_second x) (λ z i. of_one (λ z. IsBusy z.new → ⊥) x z (settled_ended x.new settled n) i)
+                    ∙ under_way_ended scheme es s input (x ∷ []) (λ t. same_id t x.id) transitions_made (here_second x) (λ z i. of_one (λ z. IsBusy z.new → ⊥) x z (advanced_ended x.new advanced n) i)
               ]);
           orders = orders_so (x ∷ []) carried.orders;
           transfers = λ t.
@@ -156,7 +156,7 @@ module _ (scheme : Scheme) (es : List Entry) (tables tables' : Tables) (kept : A
           checked = λ w.
               carried.checked w
               ∙ ap (λ b. not (same_id x.id w.id) && b) (kept.checked w)
-              ∙ waits_ended (x ∷ []) xs (λ t. same_id x.id t) (here_first x) (λ z i. of_one (λ z. same_status z.new Checked ≡ false) x z (settled_unchecked x.new settled) i) w.since.seconds w.id;
+              ∙ waits_ended (x ∷ []) xs (λ t. same_id x.id t) (here_first x) (λ z i. of_one (λ z. same_status z.new Checked ≡ false) x z (advanced_unchecked x.new advanced) i) w.since.seconds w.id;
           sent = sent_so (x ∷ []) sent;
         }
 
@@ -206,21 +206,21 @@ module _ (scheme : Scheme) (es : List Entry) (tables tables' : Tables) (kept : A
       let same : Begin id new content ≡ Begin x.id x.new x.content = λ i. Begin (id_is i) (new_is i) (content_is i) in
       subst (λ (f : List Transition). AreKept scheme (entry input f ∷ es) tables') (sym h.1)
       (begun_kept x (subst (λ (f : List Transition). Made scheme Itl (entry input f ∷ es)) h.1 transitions_made)
-      (subst (λ (f : List Transition). tables'.outbox ≡ tables.outbox ++ Sends (messages_of f) ∷ []) h.1 sent) fresh (λ settled. h.6 (subst IsSettled h.3 settled))
+      (subst (λ (f : List Transition). tables'.outbox ≡ tables.outbox ++ Sends (messages_of f) ∷ []) h.1 sent) fresh (λ advanced. h.6 (subst IsAdvanced h.3 advanced))
       (subst (λ (e : LogEffect). Carried e x.moment tables tables') same (subst (λ m. Carried (Begin id new content) m tables tables') (sym h.5) carried)))
     where
       unknown_newest : (o : Option Transition) → option_map of_transition o ≡ None → o ≡ None
       unknown_newest None e = refl
       unknown_newest (Some q) e = absurd (cc (e))
-  moved_kept front (Settle id new) moment transitions_made h known carried sent =
+  moved_kept front (Advance id new) moment transitions_made h known carried sent =
       let x = h.0 in
       let id_is = sym h.2 in
       let new_is = sym h.3 in
-      let same : Settle id new ≡ Settle x.id x.new = λ i. Settle (id_is i) (new_is i) in
+      let same : Advance id new ≡ Advance x.id x.new = λ i. Advance (id_is i) (new_is i) in
       subst (λ (f : List Transition). AreKept scheme (entry input f ∷ es) tables') (sym h.1)
-      (settled_kept x (subst (λ (f : List Transition). Made scheme Itl (entry input f ∷ es)) h.1 transitions_made)
-      (subst (λ (f : List Transition). tables'.outbox ≡ tables.outbox ++ Sends (messages_of f) ∷ []) h.1 sent) (subst IsSettled new_is h.5)
-      (subst (λ (e : LogEffect). Carried e x.moment tables tables') same (subst (λ m. Carried (Settle id new) m tables tables') (sym h.4) carried)))
+      (advanced_kept x (subst (λ (f : List Transition). Made scheme Itl (entry input f ∷ es)) h.1 transitions_made)
+      (subst (λ (f : List Transition). tables'.outbox ≡ tables.outbox ++ Sends (messages_of f) ∷ []) h.1 sent) (subst IsAdvanced new_is h.5)
+      (subst (λ (e : LogEffect). Carried e x.moment tables tables') same (subst (λ m. Carried (Advance id new) m tables tables') (sym h.4) carried)))
   moved_kept front (Cancel ids) moment transitions_made h known carried sent =
       cancelled_kept front ids.items moment transitions_made h.0 (λ z i. all_in (IsCancelledAt moment) front z h.1 i)
       (λ t i. all_in (λ u. is_some (transfer_state_in tables u) ≡ true) ids.items t known i)

@@ -26,16 +26,16 @@ use Rattle.safety.proofs.MovesAndHistories.TableMoves.{LogMove, cancels, checks,
 use Rattle.safety.proofs.MovesAndHistories.TransitionForms.{checked_status}
 use Rattle.safety.proofs.OneLog.LogInputs.{each_log_move, none_stand}
 use Rattle.safety.proofs.OneLog.OwnersInLog.{IsBusy, log_live}
-use Rattle.log_core.specs.Effects.{IsEffect, IsSettled, transfer_state_content, transfer_state_in}
+use Rattle.log_core.specs.Effects.{IsEffect, IsAdvanced, transfer_state_content, transfer_state_in}
 use Rattle.log_core.specs.Kept.{IsKept}
 use Rattle.log_core.specs.Readings.{of_transition}
 use Rattle.log_core.specs.Taking.{verdict_by_rules}
 use Rattle.log_core.specs.Transfers.{AreApart}
 use Rattle.log_core.specs.declared.effect.LogEffect.{LogEffect}
-use Rattle.log_core.specs.declared.effect.LogEffect.TheVariants.{Begin, Cancel, Settle}
+use Rattle.log_core.specs.declared.effect.LogEffect.TheVariants.{Begin, Cancel, Advance}
 use Rattle.log_core.specs.declared.tables.Tables.{Tables}
 use Rattle.log_core.proofs.KeptUnits.{entry}
-use Rattle.log_core.proofs.KnownEffects.{settled_known, settled_unchecked}
+use Rattle.log_core.proofs.KnownEffects.{advanced_known, advanced_unchecked}
 use Rattle.std.specs.Prelude.{option_map}
 
 -- what stands Checked or Accepted has no unit twice
@@ -89,13 +89,13 @@ module _ (scheme : Scheme) (tables : Tables) (input : Input) (xs : List Transiti
       apart_repeats blocks (ap (λ us. repeats (pieces us)) units ∙ fine)
 
   -- a transfer that is Accepted, Rejected or Completed
-  pub settle_apart : (id : TransactionId) (new : Status) (k : Content) (blocks : List Block) → IsKept scheme tables → IsEffect xs moment (Settle id new) → transfer_state_content (transfer_state_in tables id) ≡ Some k → raws blocks ≡ k.units
+  pub advance_apart : (id : TransactionId) (new : Status) (k : Content) (blocks : List Block) → IsKept scheme tables → IsEffect xs moment (Advance id new) → transfer_state_content (transfer_state_in tables id) ≡ Some k → raws blocks ≡ k.units
       → AllApart blocks
-  settle_apart id new k blocks kept h known units =
+  advance_apart id new k blocks kept h known units =
       let x = h.0 in
       let here = subst (In x) (sym h.1) (inl refl) in
       let move = made_log scheme (entry input xs) past x made_so here in
-      let q = settled_known scheme past input x move (subst IsSettled (sym h.3) h.5) in
+      let q = advanced_known scheme past input x move (subst IsAdvanced (sym h.3) h.5) in
       let content : q.0.content ≡ Some k =
       sym (ap transfer_state_content (kept.kept.transfers id ∙ ap (λ t. option_map of_transition (newest (transitions_of past) t)) (sym h.2) ∙ ap (option_map of_transition) q.1)) ∙ known in
       let fine = contents_apart scheme past made_so.1 q.0 k (newest_id (transitions_of past) x.id q.0 q.1).0 (log_live scheme past input x q.0 move q.1) content in
@@ -107,5 +107,5 @@ module _ (scheme : Scheme) (tables : Tables) (input : Input) (xs : List Transiti
     where
       begins : (id : TransactionId) (new : Status) (content : Option Content) (k : Content) → content ≡ Some k → IsEffect xs moment (Begin id new content) → IsEffect xs moment (Begin id new (Some k))
       begins id new content k known = subst (λ o. IsEffect xs moment (Begin id new content) → IsEffect xs moment (Begin id new o)) known (λ e. e)
-  apart_so (Settle id new) kept h = (settled_unchecked new h.5, λ done k blocks known units. settle_apart id new k blocks kept h known units)
+  apart_so (Advance id new) kept h = (advanced_unchecked new h.5, λ done k blocks known units. advance_apart id new k blocks kept h known units)
   apart_so (Cancel ids) kept h = tt

@@ -17,48 +17,48 @@ use Rattle.safety.proofs.MovesAndHistories.NewestTransitions.{newest_id}
 use Rattle.safety.proofs.MovesAndHistories.TableMoves.{LogMove, cancels, checks, forestalls, passes}
 use Rattle.safety.proofs.MovesAndHistories.TransitionForms.{checked_status}
 use Rattle.safety.proofs.OneLog.OwnersInLog.{IsBusy}
-use Rattle.log_core.specs.Effects.{IsSettled, is_among}
+use Rattle.log_core.specs.Effects.{IsAdvanced, is_among}
 use Rattle.log_core.proofs.KeptTransfers.{AreOf}
 
 -- ---- what a status isn't
 
-pub unsettled : (s : Status) → (IsSettled s → ⊥) → (same_status s Accepted ≡ false) × (same_status s Completed ≡ false)
-unsettled Accepted h = absurd (h tt)
-unsettled Completed h = absurd (h tt)
-unsettled Rejected h = absurd (h tt)
-unsettled Proposed h = (refl, refl)
-unsettled Checked h = (refl, refl)
-unsettled Terminated h = (refl, refl)
-unsettled Cancelled h = (refl, refl)
+pub not_advanced : (s : Status) → (IsAdvanced s → ⊥) → (same_status s Accepted ≡ false) × (same_status s Completed ≡ false)
+not_advanced Accepted h = absurd (h tt)
+not_advanced Completed h = absurd (h tt)
+not_advanced Rejected h = absurd (h tt)
+not_advanced Proposed h = (refl, refl)
+not_advanced Checked h = (refl, refl)
+not_advanced Terminated h = (refl, refl)
+not_advanced Cancelled h = (refl, refl)
 
-pub settled_unchecked : (s : Status) → IsSettled s → same_status s Checked ≡ false
-settled_unchecked Accepted h = refl
-settled_unchecked Completed h = refl
-settled_unchecked Rejected h = refl
-settled_unchecked Proposed h = absurd h
-settled_unchecked Checked h = absurd h
-settled_unchecked Terminated h = absurd h
-settled_unchecked Cancelled h = absurd h
+pub advanced_unchecked : (s : Status) → IsAdvanced s → same_status s Checked ≡ false
+advanced_unchecked Accepted h = refl
+advanced_unchecked Completed h = refl
+advanced_unchecked Rejected h = refl
+advanced_unchecked Proposed h = absurd h
+advanced_unchecked Checked h = absurd h
+advanced_unchecked Terminated h = absurd h
+advanced_unchecked Cancelled h = absurd h
 
-pub settled_ended : (s : Status) → IsSettled s → same_status s Accepted ≡ false → IsBusy s → ⊥
-settled_ended Accepted h e b = let clashing : true ≡ false = e in cc (clashing)
-settled_ended Completed h e b = b
-settled_ended Rejected h e b = b
-settled_ended Proposed h e b = h
-settled_ended Checked h e b = h
-settled_ended Terminated h e b = h
-settled_ended Cancelled h e b = h
+pub advanced_ended : (s : Status) → IsAdvanced s → same_status s Accepted ≡ false → IsBusy s → ⊥
+advanced_ended Accepted h e b = let clashing : true ≡ false = e in cc (clashing)
+advanced_ended Completed h e b = b
+advanced_ended Rejected h e b = b
+advanced_ended Proposed h e b = h
+advanced_ended Checked h e b = h
+advanced_ended Terminated h e b = h
+advanced_ended Cancelled h e b = h
 
-checked_unsettled : (found : List ℕ) → IsSettled (checked_status found) → ⊥
-checked_unsettled [] h = h
-checked_unsettled (c ∷ cs) h = h
+checked_not_advanced : (found : List ℕ) → IsAdvanced (checked_status found) → ⊥
+checked_not_advanced [] h = h
+checked_not_advanced (c ∷ cs) h = h
 
 -- a transaction that has come to such a status was known
-pub settled_known : (scheme : Scheme) (es : List Entry) (input : Input) (x : Transition) → LogMove scheme es input x → IsSettled x.new → (q : Transition) × (newest (transitions_of es) x.id ≡ Some q)
-settled_known scheme es input x (checks p moment found f s is none member) h = absurd (checked_unsettled found h)
-settled_known scheme es input x (passes n moment q k new was content member right move) h = (q, ap (newest (transitions_of es)) (newest_id (transitions_of es) n.id q was).1 ∙ was)
-settled_known scheme es input x (cancels given moment t q k why was content stood) h = absurd h
-settled_known scheme es input x (forestalls r moment f member none) h = absurd h
+pub advanced_known : (scheme : Scheme) (es : List Entry) (input : Input) (x : Transition) → LogMove scheme es input x → IsAdvanced x.new → (q : Transition) × (newest (transitions_of es) x.id ≡ Some q)
+advanced_known scheme es input x (checks p moment found f s is none member) h = absurd (checked_not_advanced found h)
+advanced_known scheme es input x (passes n moment q k new was content member right move) h = (q, ap (newest (transitions_of es)) (newest_id (transitions_of es) n.id q was).1 ∙ was)
+advanced_known scheme es input x (cancels given moment t q k why was content stood) h = absurd h
+advanced_known scheme es input x (forestalls r moment f member none) h = absurd h
 
 -- ---- of which transactions the transitions are
 

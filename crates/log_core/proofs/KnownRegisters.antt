@@ -24,12 +24,12 @@ use Rattle.safety.proofs.MovesAndHistories.NewestTransitions.{Made}
 use Rattle.safety.proofs.MovesAndHistories.TableMoves.{LogMove}
 use Rattle.safety.proofs.OneLog.LogInputs.{each_log_move}
 use Rattle.safety.proofs.OneLog.OwnersInLog.{Busy, in_book, log_live}
-use Rattle.log_core.specs.Effects.{IsSettled}
+use Rattle.log_core.specs.Effects.{IsAdvanced}
 use Rattle.log_core.specs.Kept.{IsKept}
 use Rattle.log_core.specs.Readings.{is_under_way_with, last_order}
 use Rattle.log_core.specs.declared.tables.Tables.{Tables}
 use Rattle.log_core.proofs.KnownContents.{move_keeps}
-use Rattle.log_core.proofs.KnownEffects.{settled_known}
+use Rattle.log_core.proofs.KnownEffects.{advanced_known}
 use Rattle.log_core.proofs.KnownUnderWay.{any_found}
 
 -- ---- a unit has an owner exactly where it is allotted
@@ -48,7 +48,7 @@ module _ (scheme : Scheme) (s : Serial) where
   -- a unit of a transfer that is completed was owned
   completed_owned : (es : List Entry) (input : Input) (x : Transition) → Made scheme Itl es → LogMove scheme es input x → x.new ≡ Completed → carries x s ≡ true → book_owner scheme (transitions_of es) s ≡ Some x.id.code
   completed_owned es input x made move done has =
-      let known = settled_known scheme es input x move (subst IsSettled (sym done) tt) in
+      let known = advanced_known scheme es input x move (subst IsAdvanced (sym done) tt) in
       let content = move_keeps scheme es input x known.0 move known.1 in
       let busy : Busy s (transitions_of es) x.id =
       record {

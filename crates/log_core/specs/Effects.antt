@@ -18,7 +18,7 @@ use Rattle.protocol.specs.History.{Transition, has_serial}
 use Rattle.log_core.specs.Kept.{waiting_cmp}
 use Rattle.log_core.specs.Readings.{TransferState, of_transfer}
 use Rattle.log_core.specs.declared.effect.LogEffect.{LogEffect}
-use Rattle.log_core.specs.declared.effect.LogEffect.TheVariants.{Begin, Settle, Cancel}
+use Rattle.log_core.specs.declared.effect.LogEffect.TheVariants.{Begin, Advance, Cancel}
 use Rattle.log_core.specs.declared.tables.Tables.{Tables}
 use Rattle.log_core.specs.declared.waiting.Waiting.{Waiting}
 
@@ -31,18 +31,18 @@ is_among ids t = list_any (λ u. same_id u t) ids
 abbrev pub IsCancelledAt : ℕ → Transition → Type 0
 IsCancelledAt moment x = (x.new ≡ Cancelled) × (x.moment ≡ moment)
 
--- statuses to which a known transaction is settled
-abbrev pub IsSettled : Status → Type 0
-IsSettled Accepted = Unit {0}
-IsSettled Rejected = Unit {0}
-IsSettled Completed = Unit {0}
-IsSettled _ = ⊥
+-- statuses to which a known transaction advances
+abbrev pub IsAdvanced : Status → Type 0
+IsAdvanced Accepted = Unit {0}
+IsAdvanced Rejected = Unit {0}
+IsAdvanced Completed = Unit {0}
+IsAdvanced _ = ⊥
 
 -- the effect, at that second, is what the transitions ask for
 abbrev pub IsEffect : List Transition → ℕ → LogEffect → Type 0
 IsEffect xs moment (Begin id new content) =
-    (x : Transition) × (xs ≡ x ∷ []) × (x.id ≡ id) × (x.new ≡ new) × (x.content ≡ content) × (x.moment ≡ moment) × (IsSettled new → ⊥)
-IsEffect xs moment (Settle id new) = (x : Transition) × (xs ≡ x ∷ []) × (x.id ≡ id) × (x.new ≡ new) × (x.moment ≡ moment) × IsSettled new
+    (x : Transition) × (xs ≡ x ∷ []) × (x.id ≡ id) × (x.new ≡ new) × (x.content ≡ content) × (x.moment ≡ moment) × (IsAdvanced new → ⊥)
+IsEffect xs moment (Advance id new) = (x : Transition) × (xs ≡ x ∷ []) × (x.id ≡ id) × (x.new ≡ new) × (x.moment ≡ moment) × IsAdvanced new
 IsEffect xs moment (Cancel ids) = (map (λ x. x.id) xs ≡ ids.items) × AllByRecursion (IsCancelledAt moment) xs
 
 -- ---- what an effect leaves
@@ -66,24 +66,24 @@ handed_over None s owner = owner
 -- each transaction's state
 abbrev pub transfer_state_after : LogEffect → ℕ → (TransactionId → Option TransferState) → TransactionId → Option TransferState
 transfer_state_after (Begin id new content) moment old t = if same_id id t then Some (record { status = new; content = content; since = moment }) else old t
-transfer_state_after (Settle id new) moment old t = if same_id id t then option_map (came_to new moment) (old t) else old t
+transfer_state_after (Advance id new) moment old t = if same_id id t then option_map (came_to new moment) (old t) else old t
 transfer_state_after (Cancel ids) moment old t = if is_among ids.items t then option_map (came_to Cancelled moment) (old t) else old t
 
 -- which transfer each unit is in
 abbrev pub under_way_after : LogEffect → Serial → Option UnderWay → Option UnderWay
 under_way_after (Begin id new content) s old = if same_status new Checked && has_serial content s then Some (record { id = id }) else old
-under_way_after (Settle id new) s old = if same_status new Accepted then old else labels_that (λ u. not (same_id u.id id)) old
+under_way_after (Advance id new) s old = if same_status new Accepted then old else labels_that (λ u. not (same_id u.id id)) old
 under_way_after (Cancel ids) s old = labels_that (λ u. not (is_among ids.items u.id)) old
 
 -- who owns each unit
 abbrev pub owner_after : LogEffect → (TransactionId → Option TransferState) → Serial → Option BookEntry → Option BookEntry
-owner_after (Settle id new) transfer_state s old = if same_status new Completed then handed_over (transfer_state_content (transfer_state id)) s old else old
+owner_after (Advance id new) transfer_state s old = if same_status new Completed then handed_over (transfer_state_content (transfer_state id)) s old else old
 owner_after _ transfer_state s old = old
 
 -- which transactions stand Checked, and since when
 abbrev pub waits_after : LogEffect → ℕ → Waiting → Bool → Bool
 waits_after (Begin id new content) moment w old = (same_status new Checked && (same_id id w.id && (moment == w.since.seconds))) || old
-waits_after (Settle id new) moment w old = not (same_id id w.id) && old
+waits_after (Advance id new) moment w old = not (same_id id w.id) && old
 waits_after (Cancel ids) moment w old = not (is_among ids.items w.id) && old
 
 -- the effect, at that second, was carried out

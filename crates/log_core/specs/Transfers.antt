@@ -26,7 +26,7 @@ use Rattle.log_core.specs.Effects.{transfer_state_content, transfer_state_in}
 use Rattle.log_core.specs.Kept.{waiting_cmp}
 use Rattle.log_core.specs.Readings.{TransferState, of_transfer}
 use Rattle.log_core.specs.declared.effect.LogEffect.{LogEffect}
-use Rattle.log_core.specs.declared.effect.LogEffect.TheVariants.{Begin, Settle, Cancel}
+use Rattle.log_core.specs.declared.effect.LogEffect.TheVariants.{Begin, Advance, Cancel}
 use Rattle.log_core.specs.declared.tables.Tables.{Tables}
 use Rattle.log_core.specs.declared.transfer.LoggedTransfer.{LoggedTransfer}
 use Rattle.log_core.specs.declared.waiting.Waiting.{Waiting}
@@ -64,7 +64,7 @@ AreLabelled transfers under_way = (s : Serial) (u : UnderWay) → finite.get und
 -- a transaction that begins wasn't known, and those that are cancelled were
 abbrev pub IsOfKnown : (TransactionId → Option TransferState) → LogEffect → Type 0
 IsOfKnown old (Begin id new content) = old id ≡ None
-IsOfKnown old (Settle id new) = Unit {0}
+IsOfKnown old (Advance id new) = Unit {0}
 IsOfKnown old (Cancel ids) = AllByRecursion (λ t. is_some (old t) ≡ true) ids.items
 
 -- what takes a transaction back: one that is known is cancelled, and one that isn't begins Cancelled without a content
@@ -80,7 +80,7 @@ IsApart content = (k : Content) (blocks : List Block) → content ≡ Some k →
 -- units that come under way, or that are handed over, are each in one block
 abbrev pub AreApart : (TransactionId → Option TransferState) → LogEffect → Type 0
 AreApart old (Begin id new content) = same_status new Checked ≡ true → IsApart content
-AreApart old (Settle id new) = (same_status new Checked ≡ false) × (same_status new Completed ≡ true → IsApart (transfer_state_content (old id)))
+AreApart old (Advance id new) = (same_status new Checked ≡ false) × (same_status new Completed ≡ true → IsApart (transfer_state_content (old id)))
 AreApart old (Cancel ids) = Unit {0}
 
 -- tables that say the same

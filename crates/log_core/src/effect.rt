@@ -4,7 +4,7 @@ ghost use Rattle.units.specs.RefusalCodes.{out_of_memory};
 ghost use Rattle.log_core.specs.Effects.{Carried, transfer_state_in};
 ghost use Rattle.log_core.specs.Transfers.{AreApart, AreLabelled, AreSame, AreWaiting, IsOfKnown};
 
-use crate::moving::{begin, cancel, settle};
+use crate::moving::{advance, begin, cancel};
 use crate::tables::Tables;
 use crate::transfer::LoggedTransfer;
 use status::{Content, Moment, Status, TransactionId};
@@ -21,7 +21,7 @@ pub(crate) enum LogEffect {
         content: Option<Content>,
     },
     /// A transaction has come to that status: Accepted, or Rejected, or Completed, and its units are the acquirer's.
-    Settle {
+    Advance {
         id: TransactionId,
         new: Status,
     },
@@ -54,9 +54,9 @@ impl Tables {
                 };
                 begin(under_way, transfers, checked, id, transfer)?;
             }
-            LogEffect::Settle { id, new } => {
+            LogEffect::Advance { id, new } => {
                 let book = &mut self.register.book;
-                settle(book, under_way, transfers, checked, id, new, moment)?;
+                advance(book, under_way, transfers, checked, id, new, moment)?;
             }
             LogEffect::Cancel(ids) => cancel(under_way, transfers, checked, ids.as_slice(), moment),
         }

@@ -158,7 +158,7 @@ fn finish(
 
 /// A transaction that is known comes to that status, which isn't Checked. Its units are the acquirer's where it is
 /// Completed, and aren't under way any more but where it is Accepted. After `NoMemory` nothing has changed.
-pub(crate) fn settle(
+pub(crate) fn advance(
     book: &mut UnitMap<BookEntry>,
     under_way: &mut UnitMap<UnderWay>,
     transfers: &mut BTreeMap<TransactionId, LoggedTransfer>,

@@ -120,7 +120,7 @@ impl Tables {
         let id = notification.id;
         match self.on_notified(alloc, id, &notification.notified)? {
             Decision::Moves { new, messages } => {
-                let effect = LogEffect::Settle { id, new };
+                let effect = LogEffect::Advance { id, new };
                 self.record(scheme, input, effect, moment, messages)
             }
             Decision::Repeat => Ok(Stepped::Repeat),

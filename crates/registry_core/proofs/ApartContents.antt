@@ -15,7 +15,7 @@ use Rattle.protocol.specs.Pieces.{Piece, pieces, pieces_of, repeats, same_unit}
 use Rattle.wire.specs.declared.message.Proposal.{Proposal}
 use Rattle.wire.specs.declared.input.Input.TheVariants.{Received}
 use Rattle.units.specs.declared.code.Node.TheVariants.{Registry}
-use Rattle.safety.proofs.MovesAndHistories.TableMoves.{RegistryMove, arrives, asks, bares, finishes, proposes, refuse_made, settles}
+use Rattle.safety.proofs.MovesAndHistories.TableMoves.{RegistryMove, arrives, asks, bares, finishes, proposes, refuse_made, concludes}
 use Rattle.scheme.specs.declared.registries.Scheme.{Scheme}
 use Rattle.status.specs.declared.id.TransactionId.{TransactionId}
 use Rattle.units.proofs.Lists.OneValue.{clash, one_some}
@@ -76,7 +76,7 @@ module _ (scheme : Scheme) (c : Code) where
   apart_move es input x k (arrives p moment found f s is none foreign' mine) i old foreign known =
       subst (λ (z : Content). repeats (pieces z.units) ≡ false) (one_some p.content k known) (offered_apart es p moment x i)
   apart_move es input x k (bares n moment f cancelled none foreign') i old foreign known = absurd (cc (known))
-  apart_move es input x k (settles n moment q new f was own move) i old foreign known = old q k (newest_id (transitions_of es) n.id q was).0 foreign known
+  apart_move es input x k (concludes n moment q new f was own move) i old foreign known = old q k (newest_id (transitions_of es) n.id q was).0 foreign known
   apart_move es input x k (finishes n moment q new f was foreign' move none) i old foreign known = old q k (newest_id (transitions_of es) n.id q was).0 foreign known
 
   made_here : (e : Entry) (es : List Entry) → Made scheme (Registry c) (e ∷ es) → e.transitions ≡ transitions_made (registry_verdict scheme c es e.input)

@@ -20,9 +20,9 @@ use Rattle.registry_core.proofs.FirstRefusals.{refuse_none}
 
 -- ---- out of memory is the one other result
 
-settled : {X : Type 0} (d expected : Result X Refusal) (x : X) → IsExpectedOrNoMemory d expected → d ≡ Ok x → expected ≡ Ok x
-settled d expected x (inl e) h = sym e ∙ h
-settled d expected x (inr e) h = let no = sym e ∙ h in absurd (cc (no))
+expected_ok : {X : Type 0} (d expected : Result X Refusal) (x : X) → IsExpectedOrNoMemory d expected → d ≡ Ok x → expected ≡ Ok x
+expected_ok d expected x (inl e) h = sym e ∙ h
+expected_ok d expected x (inr e) h = let no = sym e ∙ h in absurd (cc (no))
 
 code_of_err : {X : Type 0} (expected : Result X Refusal) (r s : Refusal) → expected ≡ Err r → expected ≡ Err s → r.code ≡ s.code
 code_of_err expected r s e h = cc (e, h)
@@ -71,13 +71,13 @@ row_late rows.Refused ms h = absurd (cc (h))
 
 -- a decision that moves is by a row that does, with its messages
 pub decided_moves : (row : Row) (ms ms' : List Message) (new : Status) (d : Result Decision Refusal) → IsExpectedOrNoMemory d (decided row ms) → d ≡ Ok (decision.Moves new ms') → (row ≡ rows.Move new) × (ms' ≡ ms)
-decided_moves row ms ms' new d is h = row_moves row ms ms' new (settled d (decided row ms) (decision.Moves new ms') is h)
+decided_moves row ms ms' new d is h = row_moves row ms ms' new (expected_ok d (decided row ms) (decision.Moves new ms') is h)
 
 -- the same after causes, of which none stands
 pub unless_moves : (cs : Causes) (row : Row) (ms ms' : List Message) (new : Status) (d : Result Decision Refusal) → IsExpectedOrNoMemory d (unless cs (decided row ms)) → d ≡ Ok (decision.Moves new ms')
     → NoneStands cs × (row ≡ rows.Move new) × (ms' ≡ ms)
 unless_moves cs row ms ms' new d is h =
-    let u = unless_ok cs (decided row ms) (decision.Moves new ms') (settled d (unless cs (decided row ms)) (decision.Moves new ms') is h) in
+    let u = unless_ok cs (decided row ms) (decision.Moves new ms') (expected_ok d (unless cs (decided row ms)) (decision.Moves new ms') is h) in
     let m = row_moves row ms ms' new u.1 in
     (u.0, m.0, m.1)
 
@@ -94,10 +94,10 @@ module _ (scheme : Scheme) (es : List Entry) (to : Status → Transition) where
   decided_enters row ms ms' new d is h = ap (by_row scheme es to) (decided_moves row ms ms' new d is h).0
 
   pub decided_repeat : (row : Row) (ms : List Message) (d : Result Decision Refusal) → IsExpectedOrNoMemory d (decided row ms) → d ≡ Ok decision.Repeat → by_row scheme es to row ≡ IsRepeat
-  decided_repeat row ms d is h = ap (by_row scheme es to) (row_repeats row ms (settled d (decided row ms) decision.Repeat is h))
+  decided_repeat row ms d is h = ap (by_row scheme es to) (row_repeats row ms (expected_ok d (decided row ms) decision.Repeat is h))
 
   pub decided_late : (row : Row) (ms : List Message) (d : Result Decision Refusal) → IsExpectedOrNoMemory d (decided row ms) → d ≡ Ok decision.Late → by_row scheme es to row ≡ IsLate
-  decided_late row ms d is h = ap (by_row scheme es to) (row_late row ms (settled d (decided row ms) decision.Late is h))
+  decided_late row ms d is h = ap (by_row scheme es to) (row_late row ms (expected_ok d (decided row ms) decision.Late is h))
 
   pub decided_refused : (row : Row) (ms : List Message) (d : Result Decision Refusal) (r : Refusal) → IsExpectedOrNoMemory d (decided row ms) → d ≡ Err r → (r.code ≡ out_of_memory) ⊎ (by_row scheme es to row ≡ IsRefused r.code)
   decided_refused row ms d r is h =
@@ -111,7 +111,7 @@ module _ (scheme : Scheme) (es : List Entry) (to : Status → Transition) where
   unless_row : (cs : Causes) (row : Row) (ms : List Message) (d : Result Decision Refusal) (x : Decision) (v : Verdict) → (decided row ms ≡ Ok x → by_row scheme es to row ≡ v) → IsExpectedOrNoMemory d (unless cs (decided row ms)) → d ≡ Ok x
       → refuse cs (by_row scheme es to row) ≡ v
   unless_row cs row ms d x v by is h =
-      let u = unless_ok cs (decided row ms) x (settled d (unless cs (decided row ms)) x is h) in
+      let u = unless_ok cs (decided row ms) x (expected_ok d (unless cs (decided row ms)) x is h) in
       refuse_none cs (by_row scheme es to row) u.0 ∙ by u.1
 
   pub unless_enters : (cs : Causes) (row : Row) (ms ms' : List Message) (new : Status) (d : Result Decision Refusal) → IsExpectedOrNoMemory d (unless cs (decided row ms)) → d ≡ Ok (decision.Moves new ms')

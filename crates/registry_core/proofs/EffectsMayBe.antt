@@ -23,14 +23,14 @@ use Rattle.acquirer.specs.Crediting.{MayCredit}
 use Rattle.acquirer.specs.Transfers as acquirer
 use Rattle.units.proofs.Lists.Membership.{In}
 use Rattle.units.proofs.Lists.OneValue.{clash}
-use Rattle.safety.proofs.MovesAndHistories.TableMoves.{RegistryMove, arrives, asks, bares, finishes, proposes, registry_moves, settles}
+use Rattle.safety.proofs.MovesAndHistories.TableMoves.{RegistryMove, arrives, asks, bares, finishes, proposes, registry_moves, concludes}
 use Rattle.safety.proofs.MovesAndHistories.TableRows.{acquirer_from}
 use Rattle.safety.proofs.OneRegistry.UnitsCountedOnce.{and_second}
 use Rattle.registry_core.specs.Effects.{IsEffect, IsReservable, MayCarry}
 use Rattle.registry_core.specs.Kept.{AreKept, IsKept}
 use Rattle.registry_core.specs.Readings.{foreign_row, is_foreign, is_own, own_row, row_at}
 use Rattle.registry_core.specs.declared.effect.RegistryEffect.{RegistryEffect}
-use Rattle.registry_core.specs.declared.effect.RegistryEffect.TheVariants.{Arrive, Ask, Cancel, Complete, Forestall, Open, Settle}
+use Rattle.registry_core.specs.declared.effect.RegistryEffect.TheVariants.{Arrive, Ask, Cancel, Complete, Forestall, Open, Conclude}
 use Rattle.registry_core.specs.declared.tables.Tables.{Tables}
 use Rattle.registry_core.proofs.ApartContents.{awaited_apart}
 use Rattle.registry_core.proofs.UnitHoldingsAfterMoves.{units_absent}
@@ -79,7 +79,7 @@ module _ (scheme : Scheme) (c : Code) (es : List Entry) (tables : Tables) (kept 
   open_may input x new_transfer (asks t q was own stood) h = absurd h
   open_may input x new_transfer (arrives p moment found f s is none foreign mine) h = absurd h
   open_may input x new_transfer (bares n moment f cancelled none foreign) h = absurd h
-  open_may input x new_transfer (settles n moment q new f was own move) h = absurd h
+  open_may input x new_transfer (concludes n moment q new f was own move) h = absurd h
   open_may input x new_transfer (finishes n moment q new f was foreign move none) h = absurd h
 
   arrive_may : (input : Input) (x : Transition) (id : TransactionId) (told : Status) (content : Content) → RegistryMove scheme c es input x → IsEffect c es input x (Arrive id told content) → map.get tables.acquirer.transfers id ≡ None
@@ -87,12 +87,12 @@ module _ (scheme : Scheme) (c : Code) (es : List Entry) (tables : Tables) (kept 
   arrive_may input x id told content (proposes o t none is fresh) h = absurd h
   arrive_may input x id told content (asks t q was own stood) h = absurd h
   arrive_may input x id told content (bares n moment f cancelled none foreign) h = absurd h
-  arrive_may input x id told content (settles n moment q new f was own move) h = absurd h
+  arrive_may input x id told content (concludes n moment q new f was own move) h = absurd h
   arrive_may input x id told content (finishes n moment q new f was foreign move none) h = absurd h
 
   forestall_may : (input : Input) (x : Transition) (id : TransactionId) → RegistryMove scheme c es input x → IsEffect c es input x (Forestall id) → map.get tables.acquirer.transfers id ≡ None
   forestall_may input x id (bares n moment f cancelled none foreign) h = new_foreign id (none_is (newest (transitions_of es) id) h.1)
-  forestall_may input x id (settles n moment q new f was own move) h = new_foreign id (none_is (newest (transitions_of es) id) h.1)
+  forestall_may input x id (concludes n moment q new f was own move) h = new_foreign id (none_is (newest (transitions_of es) id) h.1)
   forestall_may input x id (finishes n moment q new f was foreign move none) h = new_foreign id (none_is (newest (transitions_of es) id) h.1)
   forestall_may input x id (proposes o t none is fresh) h = absurd h
   forestall_may input x id (asks t q was own stood) h = absurd h
@@ -112,7 +112,7 @@ module _ (scheme : Scheme) (c : Code) (es : List Entry) (tables : Tables) (kept 
         absent = λ s y. kept.unit_holdings s ∙ units_absent scheme c (transitions_of es) k (ap (holds_some scheme c (transitions_of es)) (sym content) ∙ free) s y;
       }
   complete_may input x id (bares n moment f cancelled none foreign) h k known = let e : Cancelled ≡ Completed = h.1 in absurd (cc (e))
-  complete_may input x id (settles n moment q new f was own move) h k known =
+  complete_may input x id (concludes n moment q new f was own move) h k known =
       clash (same_code id.code c) (subst (λ (u : TransactionId). same_code u.code c ≡ true) h.0 own) (foreign_of c id h.2)
   complete_may input x id (proposes o t none is fresh) h k known = absurd h
   complete_may input x id (asks t q was own stood) h k known = absurd h
@@ -124,7 +124,7 @@ module _ (scheme : Scheme) (c : Code) (es : List Entry) (tables : Tables) (kept 
   move_may input x (Forestall id) move h free = forestall_may input x id move h
   move_may input x (Complete id) move h free = complete_may input x id move h
   move_may input x (Ask id) move h free = tt
-  move_may input x (Settle id new) move h free = tt
+  move_may input x (Conclude id new) move h free = tt
   move_may input x (Cancel id) move h free = tt
 
 pub may_carry : (scheme : Scheme) (c : Code) (tables : Tables) (input : Input) (x : Transition) (effect : RegistryEffect) → IsKept scheme c tables → verdict scheme (Registry c) (history scheme (Registry c) tables.journal.items) input ≡ IsRecorded (x ∷ [])

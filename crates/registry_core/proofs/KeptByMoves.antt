@@ -50,19 +50,19 @@ use Rattle.acquirer.specs.Transfers as acquirer
 use Rattle.acquirer.specs.Transfers.{AcquirerView}
 use Rattle.acquirer.specs.declared.transfer.IncomingTransfer.{IncomingTransfer}
 use Rattle.safety.proofs.MovesAndHistories.NewestTransitions.{Made, newest_id}
-use Rattle.safety.proofs.MovesAndHistories.TableMoves.{NoneStands, RegistryMove, arrives, asks, bares, finishes, proposes, settles}
+use Rattle.safety.proofs.MovesAndHistories.TableMoves.{NoneStands, RegistryMove, arrives, asks, bares, finishes, proposes, concludes}
 use Rattle.safety.proofs.MovesAndHistories.TableRows.{acquirer_from}
-use Rattle.safety.proofs.MovesAndHistories.TransitionForms.{arrived, asking, bare, moved, proposed, settled_messages}
+use Rattle.safety.proofs.MovesAndHistories.TransitionForms.{arrived, asking, bare, moved, proposed, concluded_messages}
 use Rattle.safety.proofs.OneRegistry.TransactionEnds.{known, own_code}
 use Rattle.units.proofs.Lists.OneValue.{clash, one_some}
 use Rattle.registry_core.specs.Effects.{Carried, ChangedAt, IsEffect}
 use Rattle.registry_core.specs.Kept.{AreKept, IsKept}
 use Rattle.registry_core.specs.Readings.{foreign_row, is_foreign, is_own, own_row, row_at, account_status_at}
 use Rattle.registry_core.specs.declared.effect.RegistryEffect.{RegistryEffect}
-use Rattle.registry_core.specs.declared.effect.RegistryEffect.TheVariants.{Arrive, Ask, Cancel, Complete, Forestall, Open, Settle}
+use Rattle.registry_core.specs.declared.effect.RegistryEffect.TheVariants.{Arrive, Ask, Cancel, Complete, Forestall, Open, Conclude}
 use Rattle.registry_core.specs.declared.tables.Tables.{Tables}
 use Rattle.registry_core.proofs.EffectsMayBe.{entered_move, foreign_of, row_content}
-use Rattle.registry_core.proofs.UnitHoldingsAfterMoves.{unit_holding_arrived, unit_holding_asked, unit_holding_bare, unit_holding_credited, unit_holding_proposed, unit_holding_settled, unit_holding_unmoved}
+use Rattle.registry_core.proofs.UnitHoldingsAfterMoves.{unit_holding_arrived, unit_holding_asked, unit_holding_bare, unit_holding_credited, unit_holding_proposed, unit_holding_concluded, unit_holding_unmoved}
 use Rattle.registry_core.proofs.NewestById.{row_changed, row_kept, row_put}
 use Rattle.registry_core.proofs.RecordedEntries.{Entered, entered_made, replays_entered}
 use Rattle.registry_core.proofs.RequestedTransfers.{unknown_unrequested}
@@ -170,18 +170,18 @@ module _ (scheme : Scheme) (c : Code) (es : List Entry) (tables tables' : Tables
         sent = sent_so (Request t) x refl sent;
       }
 
-  settled_kept : (n : Notification) (moment : Moment) (q : Transition) (told : Status) (id : TransactionId) (new : Status) → newest (transitions_of es) n.id ≡ Some q → same_code n.id.code c ≡ true
+  concluded_kept : (n : Notification) (moment : Moment) (q : Transition) (told : Status) (id : TransactionId) (new : Status) → newest (transitions_of es) n.id ≡ Some q → same_code n.id.code c ≡ true
       → initiator_row (Stands q.new) (Notified (notified_status n.notified)) ≡ Move told → n.id ≡ id → told ≡ new
-      → Carried (Settle id new) tables.initiator tables'.initiator tables.acquirer tables'.acquirer tables.holdings tables'.holdings
-      → tables'.outbox ≡ tables.outbox ++ Sends (settled_messages c q.id told) ∷ []
-      → AreKept scheme c (entry (Received (message.Notification n) moment) (moved q told moment.seconds (settled_messages c q.id told) ∷ []) ∷ es) tables'
-  settled_kept n moment q told id new was own move same status carried sent =
-      let x = moved q told moment.seconds (settled_messages c q.id told) in
+      → Carried (Conclude id new) tables.initiator tables'.initiator tables.acquirer tables'.acquirer tables.holdings tables'.holdings
+      → tables'.outbox ≡ tables.outbox ++ Sends (concluded_messages c q.id told) ∷ []
+      → AreKept scheme c (entry (Received (message.Notification n) moment) (moved q told moment.seconds (concluded_messages c q.id told) ∷ []) ∷ es) tables'
+  concluded_kept n moment q told id new was own move same status carried sent =
+      let x = moved q told moment.seconds (concluded_messages c q.id told) in
       let input = Received (message.Notification n) moment in
       let e = entry input (x ∷ []) in
       let about : q.id ≡ n.id = (newest_id (transitions_of es) n.id q was).1 in
       let mine : same_code q.id.code c ≡ true = ap (λ (u : TransactionId). same_code u.code c) about ∙ own in
-      let changed = subst (λ u. ChangedAt u (option_map (initiator.settled new)) tables.initiator.transfers tables'.initiator.transfers) (sym (about ∙ same)) carried.2 in
+      let changed = subst (λ u. ChangedAt u (option_map (initiator.concluded new)) tables.initiator.transfers tables'.initiator.transfers) (sym (about ∙ same)) carried.2 in
       let requested = requested_kept e es refl q.id in
       let back = sym same in
       let came = sym status in
@@ -189,11 +189,11 @@ module _ (scheme : Scheme) (c : Code) (es : List Entry) (tables tables' : Tables
         unit_holdings = λ s.
             carried.4.1 s
             ∙ (λ i. if same_status (came i) Completed then labels_that (λ (unit_holding : UnitHolding). not (is_reserved_by (back i) unit_holding)) (kept.unit_holdings s i) else option_map (released (back i)) (kept.unit_holdings s i))
-            ∙ sym (unit_holding_settled scheme c es made_so n.id (notified_status n.notified) q told moment.seconds (settled_messages c q.id told) was own move s);
+            ∙ sym (unit_holding_concluded scheme c es made_so n.id (notified_status n.notified) q told moment.seconds (concluded_messages c q.id told) was own move s);
         accounts = accounts_so e refl carried.4.0;
         initiator = carried.0 ∙ kept.initiator;
         last = carried.1 ∙ kept.last ∙ sym (proposals_kept e es refl);
-        own = row_changed (is_own c) (own_row es) (own_row (e ∷ es)) x (transitions_of es) (λ u k d. rows_same es (e ∷ es) u (requested_kept e es refl u)) (initiator.settled new) q (map.get tables.initiator.transfers)
+        own = row_changed (is_own c) (own_row es) (own_row (e ∷ es)) x (transitions_of es) (λ u k d. rows_same es (e ∷ es) u (requested_kept e es refl u)) (initiator.concluded new) q (map.get tables.initiator.transfers)
             (map.get tables'.initiator.transfers) mine (ap (newest (transitions_of es)) about ∙ was) (λ i. own_with (status i) (requested i)) kept.own changed;
         acquirer = ap (λ (a : AcquirerView). a.code) carried.3 ∙ kept.acquirer;
         foreign = foreign_stays x mine carried.3;
@@ -327,22 +327,22 @@ module _ (scheme : Scheme) (c : Code) (es : List Entry) (tables tables' : Tables
       → AreKept scheme c (entry input (x ∷ []) ∷ es) tables'
   moved_kept input x (Open new_transfer) (proposes o t none is fresh) h carried sent = opened_kept o t new_transfer none is fresh h.0 (one_some (content_of o) new_transfer.content h.1) carried sent
   moved_kept input x (Ask id) (asks t q was own stood) h carried sent = asked_kept t q id was own stood h carried sent
-  moved_kept input x (Settle id new) (settles n moment q told f was own move) h carried sent = settled_kept n moment q told id new was own move h.0 h.1 carried sent
-  moved_kept input x (Settle id new) (bares n moment f cancelled none foreign) h carried sent =
+  moved_kept input x (Conclude id new) (concludes n moment q told f was own move) h carried sent = concluded_kept n moment q told id new was own move h.0 h.1 carried sent
+  moved_kept input x (Conclude id new) (bares n moment f cancelled none foreign) h carried sent =
       clash (same_code id.code c) h.2 (ap (λ (u : TransactionId). same_code u.code c) (sym h.0) ∙ foreign)
-  moved_kept input x (Settle id new) (finishes n moment q told f was foreign move none) h carried sent =
+  moved_kept input x (Conclude id new) (finishes n moment q told f was foreign move none) h carried sent =
       clash (same_code id.code c) h.2 (ap (λ (u : TransactionId). same_code u.code c) (sym h.0) ∙ foreign)
   moved_kept input x (Arrive id new content) (arrives p moment found f s is none foreign mine) h carried sent = arrived_kept p moment found id new content none foreign h.0 h.1 h.2 carried sent
   moved_kept input x (Forestall id) (bares n moment f cancelled none foreign) h carried sent = forestalled_kept n moment id none foreign h.0 carried sent
-  moved_kept input x (Forestall id) (settles n moment q told f was own move) h carried sent = known_clash n.id id q h.0 was h.1
+  moved_kept input x (Forestall id) (concludes n moment q told f was own move) h carried sent = known_clash n.id id q h.0 was h.1
   moved_kept input x (Forestall id) (finishes n moment q told f was foreign move none) h carried sent = known_clash n.id id q h.0 was h.1
   moved_kept input x (Complete id) (finishes n moment q told f was foreign move none) h carried sent = completed_kept n moment q told id was foreign move none h.0 h.1 carried sent
   moved_kept input x (Complete id) (bares n moment f cancelled none foreign) h carried sent = let e : Cancelled ≡ Completed = h.1 in absurd (cc (e))
-  moved_kept input x (Complete id) (settles n moment q told f was own move) h carried sent = foreign_clash n.id id h.0 own h.2
+  moved_kept input x (Complete id) (concludes n moment q told f was own move) h carried sent = foreign_clash n.id id h.0 own h.2
   moved_kept input x (Cancel id) (finishes n moment q told f was foreign move none) h carried sent = cancelled_kept n moment q told id was foreign move h.0 h.1 carried sent
   moved_kept input x (Cancel id) (bares n moment f cancelled none foreign) h carried sent =
       clash (is_known (transitions_of es) id) h.3 (ap (is_known (transitions_of es)) (sym h.0) ∙ ap is_some none)
-  moved_kept input x (Cancel id) (settles n moment q told f was own move) h carried sent = foreign_clash n.id id h.0 own h.2
+  moved_kept input x (Cancel id) (concludes n moment q told f was own move) h carried sent = foreign_clash n.id id h.0 own h.2
   moved_kept input x effect move h carried sent = absurd h
 
 pub kept_moved : (scheme : Scheme) (c : Code) (tables tables' : Tables) (input : Input) (x : Transition) (effect : RegistryEffect) → IsKept scheme c tables

@@ -10,7 +10,7 @@ use Rattle.protocol.specs.Deciding.{IsRecorded, recorded_if_room, known}
 use Rattle.protocol.specs.History.{Entry, Transition, closes, is_closed, newest, transitions_of}
 use Rattle.wire.specs.declared.input.Input.{Input}
 use Rattle.accounts.specs.declared.unit_holding.AccountStatus.TheVariants.{Open}
-use Rattle.safety.proofs.MovesAndHistories.TableMoves.{RegistryMove, arrives, asks, bares, finishes, proposes, settles}
+use Rattle.safety.proofs.MovesAndHistories.TableMoves.{RegistryMove, arrives, asks, bares, finishes, proposes, concludes}
 use Rattle.scheme.specs.declared.registries.Scheme.{Scheme}
 use Rattle.status.specs.declared.id.TransactionId.{TransactionId}
 use Rattle.protocol.specs.Checks.{acquirer_causes}
@@ -51,7 +51,7 @@ module _ (scheme : Scheme) (c : Code) where
       let same : p.content ≡ k = one_some p.content k known in
       (subst (λ (z : Content). account_status_at scheme c es z.to_account ≡ Some Open) same (account_status_open scheme c es p.content.to_account there shut), refl)
   accepted_now es input x k (bares n moment f cancelled none foreign') foreign new known = absurd (cc (new))
-  accepted_now es input x k (settles n moment q new' f was own move) foreign new known =
+  accepted_now es input x k (concludes n moment q new' f was own move) foreign new known =
       clash (same_code q.id.code c) (ap (λ (z : TransactionId). same_code z.code c) (newest_id (transitions_of es) n.id q was).1 ∙ own) foreign
   accepted_now es input x k (finishes n moment q new' f was foreign' move none) foreign new known =
       let m = acquirer_from q.new (notified_status n.notified) new' move in

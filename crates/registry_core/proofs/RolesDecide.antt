@@ -53,7 +53,7 @@ use Rattle.registry_core.specs.declared.effect.RegistryEffect.{RegistryEffect}
 use Rattle.registry_core.specs.declared.tables.Tables.{Tables}
 use Rattle.registry_core.proofs.DecidedInputs.{comes_late, ending_effect, given_up, knows_so, moves, repeats, row_moves, sends, welcome_foreign}
 use Rattle.registry_core.proofs.FirstRefusals.{order_refused}
-use Rattle.registry_core.proofs.RowsOfInputs.{arrive_row, finish_row, propose_row, request_row, settle_row}
+use Rattle.registry_core.proofs.RowsOfInputs.{arrive_row, finish_row, propose_row, request_row, conclude_row}
 use Rattle.registry_core.proofs.TablesSayHistory.{foreign_known_so}
 use Rattle.registry_core.proofs.TakenInputs.{GivenUp, are_same, verdict_so, takes_err, takes_late, takes_repeat}
 
@@ -180,14 +180,14 @@ module _ {scheme : Scheme} {c : Code} {tables : Tables} (kept : IsKept scheme c 
       }
 
   -- a notification on a transfer out of the registry
-  abbrev pub to_settle : Notification → Moment → Status → Transition
-  to_settle n moment = moved n.id (content_in (newest (transitions_of (past scheme c tables)) n.id)) moment.seconds (initiator_sends c n.id (content_in (newest (transitions_of (past scheme c tables)) n.id)) (Notified (notified_status n.notified)))
+  abbrev pub to_conclude : Notification → Moment → Status → Transition
+  to_conclude n moment = moved n.id (content_in (newest (transitions_of (past scheme c tables)) n.id)) moment.seconds (initiator_sends c n.id (content_in (newest (transitions_of (past scheme c tables)) n.id)) (Notified (notified_status n.notified)))
 
-  pub settled : {input : Input} {d : Result Decision Refusal} {n : Notification} {moment : Moment} {told : Status} → input ≡ Received (message.Notification n) moment → first_of (registry_refusals c (past scheme c tables) (message.Notification n)) ≡ None → same_code n.id.code c ≡ true
+  pub concluded : {input : Input} {d : Result Decision Refusal} {n : Notification} {moment : Moment} {told : Status} → input ≡ Received (message.Notification n) moment → first_of (registry_refusals c (past scheme c tables) (message.Notification n)) ≡ None → same_code n.id.code c ≡ true
       → told ≡ notified_status n.notified
       → ((k : Option Content) → IsExpectedOrNoMemory d (decided (initiator_row (initiator.known_transfer (get tables.initiator.transfers n.id)) (Notified told)) (initiator_sends tables.initiator.code n.id k (Notified told))))
-      → Decided scheme c tables input (to_settle n moment) d
-  settled {input} {d} {n} {moment} {told} given welcome own is decides =
+      → Decided scheme c tables input (to_conclude n moment) d
+  concluded {input} {d} {n} {moment} {told} given welcome own is decides =
       let last = content_in (newest (transitions_of (past scheme c tables)) n.id) in
       let row = initiator_row (initiator.known_transfer (get tables.initiator.transfers n.id)) (Notified (notified_status n.notified)) in
       record {
@@ -196,7 +196,7 @@ module _ {scheme : Scheme} {c : Code} {tables : Tables} (kept : IsKept scheme c 
         messages = initiator_sends c n.id last (Notified (notified_status n.notified));
         is = subst (λ e. IsExpectedOrNoMemory d (decided row (initiator_sends e n.id last (Notified (notified_status n.notified))))) kept.kept.initiator
             (subst (λ s. IsExpectedOrNoMemory d (decided (initiator_row (initiator.known_transfer (get tables.initiator.transfers n.id)) (Notified s)) (initiator_sends tables.initiator.code n.id last (Notified s)))) is (decides last));
-        row_is = ap (verdict_by_rules scheme c tables) given ∙ settle_row scheme c tables kept n moment welcome own;
+        row_is = ap (verdict_by_rules scheme c tables) given ∙ conclude_row scheme c tables kept n moment welcome own;
         sent = λ new. refl;
       }
 

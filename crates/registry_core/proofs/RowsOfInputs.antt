@@ -109,11 +109,11 @@ module _ (scheme : Scheme) (c : Code) (tables : Tables) (kept : IsKept scheme c 
       verdict_so scheme c tables (Received (message.Notification n) moment)
       ∙ refuse_none (registry_refusals c es (message.Notification n)) (registry_answer scheme c es moment.seconds (message.Notification n)) (first_none (registry_refusals c es (message.Notification n)) none)
 
-  pub settle_row : (n : Notification) (moment : Moment) → first_of (registry_refusals c es (message.Notification n)) ≡ None → same_code n.id.code c ≡ true
+  pub conclude_row : (n : Notification) (moment : Moment) → first_of (registry_refusals c es (message.Notification n)) ≡ None → same_code n.id.code c ≡ true
       → verdict_by_rules scheme c tables (Received (message.Notification n) moment)
       ≡ by_row scheme es (decide.moved n.id (content_in (newest (transitions_of es) n.id)) moment.seconds (initiator_sends c n.id (content_in (newest (transitions_of es) n.id)) (Notified (notified_status n.notified))))
       (initiator_row (initiator.known_transfer (map.get tables.initiator.transfers n.id)) (Notified (notified_status n.notified)))
-  settle_row n moment none own =
+  conclude_row n moment none own =
       heard n moment none ∙ cond-true (same_code n.id.code c) _ _ own
       ∙ ap (λ k. by_row scheme es (decide.moved n.id (content_in (newest (transitions_of es) n.id)) moment.seconds (initiator_sends c n.id (content_in (newest (transitions_of es) n.id)) (Notified (notified_status n.notified))))
       (initiator_row k (Notified (notified_status n.notified)))) (sym (own_known_so scheme c tables kept n.id own))

@@ -12,7 +12,7 @@ use Rattle.protocol.specs.History.{Transition, Entry, transitions_of, newest}
 use Rattle.units.proofs.Lists.Membership.{In}
 use Rattle.units.proofs.Lists.OneValue.{clash}
 use Rattle.safety.proofs.MovesAndHistories.NewestTransitions.{Made, newest_id}
-use Rattle.safety.proofs.MovesAndHistories.TableMoves.{RegistryMove, proposes, asks, arrives, bares, settles, finishes, newest_some}
+use Rattle.safety.proofs.MovesAndHistories.TableMoves.{RegistryMove, proposes, asks, arrives, bares, concludes, finishes, newest_some}
 use Rattle.safety.proofs.OneRegistry.TransactionEnds.{each_move}
 use Rattle.safety.proofs.OneRegistry.UnitsCountedOnce.{Local, local_history, local_move, newest_cons}
 use Rattle.status.specs.declared.id.TransactionId.{TransactionId}
@@ -61,7 +61,7 @@ module _ (scheme : Scheme) (c : Code) where
   follows_move es input x (asks t q was own stood) = follows_newest es t q x was refl refl
   follows_move es input x (arrives p moment found f s is none foreign mine) = inl none
   follows_move es input x (bares n moment f cancelled none foreign) = inl none
-  follows_move es input x (settles n moment q new f was own move) = follows_newest es n.id q x was refl refl
+  follows_move es input x (concludes n moment q new f was own move) = follows_newest es n.id q x was refl refl
   follows_move es input x (finishes n moment q new f was foreign move none) = follows_newest es n.id q x was refl refl
 
   pub sound_move : (es : List Entry) (input : Input) (x : Transition) → RegistryMove scheme c es input x → Sound scheme c (transitions_of es) → Sound scheme c (x ∷ transitions_of es)

@@ -121,11 +121,11 @@ module _ (scheme : Scheme) (c : Code) (es : List Entry) (made : Made scheme (Reg
       (ap (holds_some scheme c (transitions_of es)) (sym known) ∙ and_second (same_status new Completed) (holds_some scheme c (transitions_of es) x.content) none (ap (λ z. same_status z Completed) done)) units
 
   -- both ends of a transfer out of this registry at once
-  pub unit_holding_settled : (t : TransactionId) (told : Status) (x : Transition) (new : Status) (moment : ℕ) (messages : List Message) → newest (transitions_of es) t ≡ Some x → same_code t.code c ≡ true
+  pub unit_holding_concluded : (t : TransactionId) (told : Status) (x : Transition) (new : Status) (moment : ℕ) (messages : List Message) → newest (transitions_of es) t ≡ Some x → same_code t.code c ≡ true
       → initiator_row (Stands x.new) (Notified told) ≡ Move new → (s : Serial)
       → unit_holding_at scheme c (moved x new moment messages ∷ transitions_of es) s
       ≡ (if same_status new Completed then labels_that (λ unit_holding. not (is_reserved_by t unit_holding)) (unit_holding_at scheme c (transitions_of es) s) else option_map (released t) (unit_holding_at scheme c (transitions_of es) s))
-  unit_holding_settled t told x new moment messages was own move s =
+  unit_holding_concluded t told x new moment messages was own move s =
       let unit_holding = unit_holding_at scheme c (transitions_of es) s in
       elim (cases_Bool (same_status new Completed)) [
         | inl y ↦

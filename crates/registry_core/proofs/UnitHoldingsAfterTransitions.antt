@@ -9,7 +9,7 @@ use Rattle.registry_core.proofs.SoundHistories.{ContentsKept, Sound, follows_kee
 use Rattle.registry_core.proofs.StepsOfUnitHoldings.{Ends, covers_raws, foreign_unit_holding, moved_unit_holding, newly_reserved, released_unit_holding, removed_unit_holding, taken_unit_holding, waits_on}
 use Rattle.protocol.specs.History.{Entry, Transition, carries, credits, gives, has_serial, holds, newest, place, reserved, transitions_of}
 use Rattle.std.proofs.Common.{List, None, Some, [], ap, false, inl, inr, not, subst, sym, true, ◌&&◌, ◌∙◌, ◌∷◌, ◌≡◌}
-use Rattle.safety.proofs.OneRegistry.UnitsCountedOnce.{asked, again, quiet, Local, Waits, finished_move, free_content, initiator_new, newest_cons, settled_move}
+use Rattle.safety.proofs.OneRegistry.UnitsCountedOnce.{asked, again, quiet, Local, Waits, finished_move, free_content, initiator_new, newest_cons, concluded_move}
 use Rattle.safety.proofs.MovesAndHistories.NewestTransitions.{Made, newest_id}
 use Rattle.status.specs.declared.rows.Row.TheVariants.{Move}
 use Rattle.status.specs.declared.rows.RowInput.TheVariants.{Notified}
@@ -142,19 +142,19 @@ module _ (scheme : Scheme) (c : Code) (es : List Entry) (made : Made scheme (Reg
 
   -- ---- the end of a transfer out of this registry
 
-  settled_sound : (x q : Transition) (t : TransactionId) (told : Status) → newest (transitions_of es) t ≡ Some q → same_code t.code c ≡ true → x.id ≡ t → x.content ≡ q.content
+  concluded_sound : (x q : Transition) (t : TransactionId) (told : Status) → newest (transitions_of es) t ≡ Some q → same_code t.code c ≡ true → x.id ≡ t → x.content ≡ q.content
       → initiator_row (Stands q.new) (Notified told) ≡ Move x.new → Sound scheme c (x ∷ transitions_of es)
-  settled_sound x q t told was own about content move =
+  concluded_sound x q t told was own about content move =
       record {
         contents = keeps x q t was about content;
         local = λ u.
             subst (λ z. Local scheme c u (z ∷ transitions_of es)) (as_moved x q t was about content)
-            (settled_move scheme c u es t told x.moment q x.new x.messages was own move ((sound_history scheme c es made).local u));
+            (concluded_move scheme c u es t told x.moment q x.new x.messages was own move ((sound_history scheme c es made).local u));
       }
 
-  settled_ends : (x q : Transition) (t : TransactionId) (told : Status) → newest (transitions_of es) t ≡ Some q → same_code t.code c ≡ true → x.id ≡ t → x.content ≡ q.content
+  concluded_ends : (x q : Transition) (t : TransactionId) (told : Status) → newest (transitions_of es) t ≡ Some q → same_code t.code c ≡ true → x.id ≡ t → x.content ≡ q.content
       → initiator_row (Stands q.new) (Notified told) ≡ Move x.new → (s : Serial) → Ends scheme c s x (transitions_of es) q
-  settled_ends x q t told was own about content move s =
+  concluded_ends x q t told was own about content move s =
       (ap (newest (transitions_of es)) about ∙ was, (initiator_from q.new told x.new move).0, ap (λ (z : TransactionId). same_code z.code c) about ∙ own, content, initiator_new q.new told x.new move)
 
   -- without completion its units are released
@@ -163,7 +163,7 @@ module _ (scheme : Scheme) (c : Code) (es : List Entry) (made : Made scheme (Reg
       → unit_holding_at scheme c (x ∷ transitions_of es) s ≡ option_map (released t) (unit_holding_at scheme c (transitions_of es) s)
   unit_holding_after_release x q t told was own about content move open_end s =
       let xs = transitions_of es in
-      released_unit_holding scheme c s x xs q (settled_sound x q t told was own about content move) (sound_history scheme c es made) (settled_ends x q t told was own about content move s) open_end
+      released_unit_holding scheme c s x xs q (concluded_sound x q t told was own about content move) (sound_history scheme c es made) (concluded_ends x q t told was own about content move s) open_end
       ∙ ap (λ u. option_map (released u) (unit_holding_at scheme c xs s)) about
 
   -- with completion they are removed
@@ -172,7 +172,7 @@ module _ (scheme : Scheme) (c : Code) (es : List Entry) (made : Made scheme (Reg
       → unit_holding_at scheme c (x ∷ transitions_of es) s ≡ labels_that (λ unit_holding. not (is_reserved_by t unit_holding)) (unit_holding_at scheme c (transitions_of es) s)
   unit_holding_after_removal x q t told was own about content move done s =
       let xs = transitions_of es in
-      removed_unit_holding scheme c s x xs q (settled_sound x q t told was own about content move) (sound_history scheme c es made) (settled_ends x q t told was own about content move s) done
+      removed_unit_holding scheme c s x xs q (concluded_sound x q t told was own about content move) (sound_history scheme c es made) (concluded_ends x q t told was own about content move s) done
       ∙ ap (λ u. labels_that (λ unit_holding. not (is_reserved_by u unit_holding)) (unit_holding_at scheme c xs s)) about
 
   -- ---- the end of a transfer into this registry

@@ -27,14 +27,14 @@ use Rattle.acquirer.specs.Transfers as acquirer
 use Rattle.acquirer.specs.Transfers.{AcquirerView}
 use Rattle.registry_core.specs.Readings.{is_own, is_foreign}
 use Rattle.registry_core.specs.declared.effect.RegistryEffect.{RegistryEffect}
-use Rattle.registry_core.specs.declared.effect.RegistryEffect.TheVariants.{Open, Ask, Settle, Arrive, Forestall, Complete, Cancel}
+use Rattle.registry_core.specs.declared.effect.RegistryEffect.TheVariants.{Open, Ask, Conclude, Arrive, Forestall, Complete, Cancel}
 
 -- the effect is what a transition by that input asks for
 abbrev pub IsEffect : Code → List Entry → Input → Transition → RegistryEffect → Type 0
 IsEffect c es (Propose o) x (Open new_transfer) = (x.id ≡ new_transfer.id) × (x.content ≡ Some new_transfer.content)
 IsEffect c es (Request t) x (Ask id) = t ≡ id
 IsEffect c es (Received (message.Proposal p) moment) x (Arrive id new content) = (p.id ≡ id) × (x.new ≡ new) × (p.content ≡ content)
-IsEffect c es (Received (message.Notification n) moment) x (Settle id new) = (n.id ≡ id) × (x.new ≡ new) × (is_own c id ≡ true)
+IsEffect c es (Received (message.Notification n) moment) x (Conclude id new) = (n.id ≡ id) × (x.new ≡ new) × (is_own c id ≡ true)
 IsEffect c es (Received (message.Notification n) moment) x (Forestall id) = (n.id ≡ id) × (is_known (transitions_of es) id ≡ false)
 IsEffect c es (Received (message.Notification n) moment) x (Complete id) = (n.id ≡ id) × (x.new ≡ Completed) × (is_foreign c id ≡ true) × (is_known (transitions_of es) id ≡ true)
 IsEffect c es (Received (message.Notification n) moment) x (Cancel id) = (n.id ≡ id) × (x.new ≡ Cancelled) × (is_foreign c id ≡ true) × (is_known (transitions_of es) id ≡ true)
@@ -73,8 +73,8 @@ Carried (Open new_transfer) i i' a a' held held' =
     (i'.code ≡ i.code) × (i'.last ≡ new_transfer.id.number) × ChangedAt new_transfer.id (λ x. Some initiator.opened) i.transfers i'.transfers × (a' ≡ a)
     × UnitHoldingsAre held held' (λ s. if have_unit new_transfer.content.units s then option_map (reserved new_transfer.id) (map.get held.unit_holdings s) else map.get held.unit_holdings s)
 Carried (Ask id) i i' a a' held held' = (i'.code ≡ i.code) × (i'.last ≡ i.last) × ChangedAt id (option_map initiator.asked) i.transfers i'.transfers × (a' ≡ a) × (held' ≡ held)
-Carried (Settle id new) i i' a a' held held' =
-    (i'.code ≡ i.code) × (i'.last ≡ i.last) × ChangedAt id (option_map (initiator.settled new)) i.transfers i'.transfers × (a' ≡ a)
+Carried (Conclude id new) i i' a a' held held' =
+    (i'.code ≡ i.code) × (i'.last ≡ i.last) × ChangedAt id (option_map (initiator.concluded new)) i.transfers i'.transfers × (a' ≡ a)
     × UnitHoldingsAre held held' (λ s. if same_status new Completed then labels_that (λ unit_holding. not (is_reserved_by id unit_holding)) (map.get held.unit_holdings s) else option_map (released id) (map.get held.unit_holdings s))
 Carried (Arrive id new content) i i' a a' held held' =
     (i' ≡ i) × (a'.code ≡ a.code) × ChangedAt id (λ x. Some (record { status = new; content = Some content })) a.transfers a'.transfers × (held' ≡ held)

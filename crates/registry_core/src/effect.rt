@@ -18,7 +18,7 @@ pub(crate) enum RegistryEffect {
     /// The cancellation of a transfer out of the registry was asked for.
     Ask(TransactionId),
     /// A transfer out of the registry has come to that status.
-    Settle {
+    Conclude {
         id: TransactionId,
         new: Status,
     },
@@ -53,7 +53,7 @@ pub(crate) fn carry_out(
     match effect {
         RegistryEffect::Open(new_transfer) => initiator.open(holdings, &new_transfer)?,
         RegistryEffect::Ask(id) => initiator.ask(id),
-        RegistryEffect::Settle { id, new } => initiator.settle(holdings, id, new),
+        RegistryEffect::Conclude { id, new } => initiator.conclude(holdings, id, new),
         RegistryEffect::Arrive { id, new, content } => acquirer.arrive(id, new, content)?,
         RegistryEffect::Forestall(id) => acquirer.forestall(id)?,
         RegistryEffect::Complete(id) => acquirer.complete(holdings, id)?,

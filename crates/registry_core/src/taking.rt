@@ -150,14 +150,14 @@ impl Tables {
         ensures { Takes scheme.now code self.old self.new input.now result }
     {
         if notification.id.code == code {
-            self.settle(alloc, scheme, code, input, notification)
+            self.conclude(alloc, scheme, code, input, notification)
         } else {
             self.finish(alloc, scheme, code, input, notification)
         }
     }
 
     /// Takes a notification about a transfer out of the registry.
-    fn settle(
+    fn conclude(
         &mut self,
         alloc: Global,
         scheme: &Scheme,
@@ -180,7 +180,7 @@ impl Tables {
                     scheme,
                     code,
                     input,
-                    RegistryEffect::Settle { id, new },
+                    RegistryEffect::Conclude { id, new },
                     messages,
                 )
             }

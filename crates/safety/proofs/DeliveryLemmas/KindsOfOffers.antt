@@ -29,12 +29,12 @@ use Rattle.protocol.proofs.CanonicalBlocks.{canonical_no_repeats, canonical_from
 use Rattle.safety.proofs.AgreementOfNodes.CausalHistories.{Causal}
 use Rattle.safety.proofs.AgreementOfNodes.CompletionsAgree.{credited, offered_sent}
 use Rattle.units.proofs.Lists.SomePass.{list_any_none}
-use Rattle.safety.proofs.OneRegistry.TransactionEnds.{ends_last, known, settled_offers}
+use Rattle.safety.proofs.OneRegistry.TransactionEnds.{ends_last, known, concluded_offers}
 use Rattle.safety.proofs.OneLog.LogSendings.{is_of_other_kind, passed_on}
 use Rattle.safety.proofs.MovesAndHistories.NewestTransitions.{Made, Offered, offered_later, made_registry, one_proposal}
 use Rattle.units.proofs.Lists.Membership.{In, In_cases, In_left, In_right, In_find, In_flat_map}
 use Rattle.units.proofs.Lists.OneValue.{one_some}
-use Rattle.safety.proofs.MovesAndHistories.TableMoves.{RegistryMove, proposes, asks, arrives, bares, settles, finishes}
+use Rattle.safety.proofs.MovesAndHistories.TableMoves.{RegistryMove, proposes, asks, arrives, bares, concludes, finishes}
 use Rattle.protocol.proofs.UnitsOfBlocks.{piece_of_block}
 
 -- no unit of another kind than it was allotted with
@@ -128,7 +128,7 @@ module _ (scheme : Scheme) (c : Code) where
   offer_move es input x p made right (asks t q was own stood) (inl e) = absurd (cc (e))
   offer_move es input x p made right (asks t q was own stood) (inr h) = absurd h
   offer_move es input x p made right (bares n moment f cancelled none foreign) h = absurd h
-  offer_move es input x p made right (settles n moment q new f was own move) h = absurd (settled_offers c q.id new p h)
+  offer_move es input x p made right (concludes n moment q new f was own move) h = absurd (concluded_offers c q.id new p h)
   offer_move es input x p made right (finishes n moment q new f was foreign move none) h = absurd h
 
   offers_sound : (es : List Entry) → Made scheme (Registry c) es → OffersRight scheme es → (p : Proposal) → In (message.Proposal p) (sends es) → IsSound scheme p.content

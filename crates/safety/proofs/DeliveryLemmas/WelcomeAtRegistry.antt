@@ -111,9 +111,9 @@ proposed_or_not Terminated = inr (λ e. cc (e))
 proposed_or_not Cancelled = inr (λ e. cc (e))
 proposed_or_not Completed = inr (λ e. cc (e))
 
-settles_word : (now s : Status) → IsOwnStatus now → (now ≡ Proposed) ⊎ (word_to now ≡ s) → (s ≡ Completed → ⊥) → (s ≡ Proposed → ⊥) → (s ≡ Checked → ⊥) → initiator_row (Stands now) (Notified s) ≡ Refused → ⊥
-settles_word now s own (inl e) a b d h = told_first s a b d (subst (λ z. initiator_row (Stands z) (Notified s) ≡ Refused) e h)
-settles_word now s own (inr e) a b d h =
+concludes_word : (now s : Status) → IsOwnStatus now → (now ≡ Proposed) ⊎ (word_to now ≡ s) → (s ≡ Completed → ⊥) → (s ≡ Proposed → ⊥) → (s ≡ Checked → ⊥) → initiator_row (Stands now) (Notified s) ≡ Refused → ⊥
+concludes_word now s own (inl e) a b d h = told_first s a b d (subst (λ z. initiator_row (Stands z) (Notified s) ≡ Refused) e h)
+concludes_word now s own (inr e) a b d h =
     elim (proposed_or_not now) [
       | inl p ↦ told_first s a b d (subst (λ z. initiator_row (Stands z) (Notified s) ≡ Refused) p h)
       | inr other ↦ told_again now s own e other (subst (λ w. initiator_row (Stands now) (Notified w) ≡ Refused) (sym e) h)
@@ -210,7 +210,7 @@ module _ (scheme : Scheme) (f : Node → List Entry) (causal : Causal scheme f) 
         (subst (λ z. Welcome (in_role scheme c here n.id z moment.seconds (Notified s))) (sym last)
         (welcome_true (same_code n.id.code c) _ _ own
         (welcome_row scheme here _ _
-        (subst (λ z. initiator_row z (Notified s) ≡ Refused → ⊥) (sym (known_status x b.content b.known)) (settles_word x.new s status word not_completed not_proposed past.1)))))
+        (subst (λ z. initiator_row z (Notified s) ≡ Refused → ⊥) (sym (known_status x b.content b.known)) (concludes_word x.new s status word not_completed not_proposed past.1)))))
 
     -- to the acquirer
 

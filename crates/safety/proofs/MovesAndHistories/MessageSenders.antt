@@ -12,20 +12,20 @@ use Rattle.wire.specs.declared.message.Message.{Message}
 use Rattle.scheme.specs.declared.registries.Scheme.{Scheme}
 use Rattle.protocol.specs.History.{Transition, Entry, sends, messages_of}
 use Rattle.wire.specs.Parties.{sender}
-use Rattle.safety.proofs.MovesAndHistories.TransitionForms.{settled_messages, checked_message}
+use Rattle.safety.proofs.MovesAndHistories.TransitionForms.{concluded_messages, checked_message}
 use Rattle.safety.proofs.MovesAndHistories.NewestTransitions.{Made, made_registry, made_log}
 use Rattle.units.proofs.Lists.Membership.{In, In_cases, In_flat_map}
-use Rattle.safety.proofs.MovesAndHistories.TableMoves.{RegistryMove, proposes, asks, arrives, bares, settles, finishes, LogMove, checks, passes, cancels, forestalls}
+use Rattle.safety.proofs.MovesAndHistories.TableMoves.{RegistryMove, proposes, asks, arrives, bares, concludes, finishes, LogMove, checks, passes, cancels, forestalls}
 
-sender_settled : (c : Code) (u : TransactionId) (new : Status) (m : Message) → In m (settled_messages c u new) → sender m ≡ Registry c
-sender_settled c u Completed m (inl e) = ap sender (sym e)
-sender_settled c u Completed m (inr h) = absurd h
-sender_settled c u Proposed m h = absurd h
-sender_settled c u Checked m h = absurd h
-sender_settled c u Accepted m h = absurd h
-sender_settled c u Rejected m h = absurd h
-sender_settled c u Terminated m h = absurd h
-sender_settled c u Cancelled m h = absurd h
+sender_concluded : (c : Code) (u : TransactionId) (new : Status) (m : Message) → In m (concluded_messages c u new) → sender m ≡ Registry c
+sender_concluded c u Completed m (inl e) = ap sender (sym e)
+sender_concluded c u Completed m (inr h) = absurd h
+sender_concluded c u Proposed m h = absurd h
+sender_concluded c u Checked m h = absurd h
+sender_concluded c u Accepted m h = absurd h
+sender_concluded c u Rejected m h = absurd h
+sender_concluded c u Terminated m h = absurd h
+sender_concluded c u Cancelled m h = absurd h
 
 sender_registry : (scheme : Scheme) (c : Code) (es : List Entry) (input : Input) (x : Transition) (m : Message) → RegistryMove scheme c es input x → In m x.messages → sender m ≡ Registry c
 sender_registry scheme c es input x m (proposes o t none is fresh) (inl e) = ap sender (sym e)
@@ -35,7 +35,7 @@ sender_registry scheme c es input x m (arrives p moment found f s is none foreig
 sender_registry scheme c es input x m (asks t q old own stood) (inl e) = ap sender (sym e)
 sender_registry scheme c es input x m (asks t q old own stood) (inr h) = absurd h
 sender_registry scheme c es input x m (bares n moment f told none foreign) h = absurd h
-sender_registry scheme c es input x m (settles n moment q new f old own move) h = sender_settled c q.id new m h
+sender_registry scheme c es input x m (concludes n moment q new f old own move) h = sender_concluded c q.id new m h
 sender_registry scheme c es input x m (finishes n moment q new f old foreign move none) h = absurd h
 
 sender_checked : (t : TransactionId) (k : Content) (found : List ℕ) → sender (checked_message t k found) ≡ Itl

@@ -49,9 +49,9 @@ use Rattle.protocol.specs.AtRegistry.{holding, content_of, new_transfer_verdict,
 use Rattle.protocol.specs.AtLog as log
 use Rattle.protocol.specs.AtLog.{ledger, is_proposed, is_no_registry, is_from_another, log_refusals, log_answer, log_message, newest_of_each, is_old, put_transition, by_id, cleaned, expired, clean_up, same_bool, eligible_refusals, log_verdict}
 use Rattle.protocol.specs.Verdict.{transitions_made}
-use Rattle.safety.proofs.MovesAndHistories.TransitionForms.{moved, proposed, asking, arrived, settled_messages, bare, checked, told_to, cancelled, forestalled}
+use Rattle.safety.proofs.MovesAndHistories.TransitionForms.{moved, proposed, asking, arrived, concluded_messages, bare, checked, told_to, cancelled, forestalled}
 use Rattle.units.proofs.Lists.Membership.{In, In_cond, In_filter, In_flat_map}
-use Rattle.safety.proofs.MovesAndHistories.TableRows.{nothing_known, status_known, initiator_proposes, initiator_asks, initiator_asks_once, initiator_unasked, acquirer_unasked, initiator_notified, log_notified, acquirer_notified, log_asked, log_cleans, acquirer_offered, log_offered, unless_moves, settled_sends, passed_sends}
+use Rattle.safety.proofs.MovesAndHistories.TableRows.{nothing_known, status_known, initiator_proposes, initiator_asks, initiator_asks_once, initiator_unasked, acquirer_unasked, initiator_notified, log_notified, acquirer_notified, log_asked, log_cleans, acquirer_offered, log_offered, unless_moves, concluded_sends, passed_sends}
 
 -- none of the causes stands
 abbrev pub NoneStands : Causes → Type 0
@@ -67,9 +67,9 @@ pub data RegistryMove (scheme : Scheme) (c : Code) (es : List Entry) : Input →
       → RegistryMove scheme c es (Received (message.Proposal p) moment) (arrived c p.id p.content moment.seconds found)
   bares : (n : Notification) (moment : Moment) → n.from ≡ Itl → notified_status n.notified ≡ Cancelled → newest (transitions_of es) n.id ≡ None → same_code n.id.code c ≡ false
       → RegistryMove scheme c es (Received (message.Notification n) moment) (bare n.id moment.seconds)
-  settles : (n : Notification) (moment : Moment) (x : Transition) (new : Status) → n.from ≡ Itl → newest (transitions_of es) n.id ≡ Some x → same_code n.id.code c ≡ true
+  concludes : (n : Notification) (moment : Moment) (x : Transition) (new : Status) → n.from ≡ Itl → newest (transitions_of es) n.id ≡ Some x → same_code n.id.code c ≡ true
       → initiator_row (Stands x.new) (Notified (notified_status n.notified)) ≡ Move new
-      → RegistryMove scheme c es (Received (message.Notification n) moment) (moved x new moment.seconds (settled_messages c x.id new))
+      → RegistryMove scheme c es (Received (message.Notification n) moment) (moved x new moment.seconds (concluded_messages c x.id new))
   finishes : (n : Notification) (moment : Moment) (x : Transition) (new : Status) → n.from ≡ Itl → newest (transitions_of es) n.id ≡ Some x → same_code n.id.code c ≡ false
       → acquirer_row (Stands x.new) (Notified (notified_status n.notified)) ≡ Move new → (same_status new Completed && holds_some scheme c (transitions_of es) x.content) ≡ false
       → RegistryMove scheme c es (Received (message.Notification n) moment) (moved x new moment.seconds [])
@@ -139,10 +139,10 @@ of_newest (p ∷ ps) t x h =
     ]
 
 -- what a row of each role makes of a transaction that has a content
-pub settled_transition : (c : Code) (t : TransactionId) (x : Transition) (told new : Status) (moment : ℕ) → x.id ≡ t → initiator_row (Stands x.new) (Notified told) ≡ Move new
-    → decide.moved t x.content moment (initiator_sends c t x.content (Notified told)) new ≡ moved x new moment (settled_messages c x.id new)
-settled_transition c t x told new moment id row =
-    same_moved t x.id x.content x.content moment _ _ new (sym id) refl (settled_sends c t x.content x.new told new row ∙ ap (λ z. settled_messages c z new) (sym id))
+pub concluded_transition : (c : Code) (t : TransactionId) (x : Transition) (told new : Status) (moment : ℕ) → x.id ≡ t → initiator_row (Stands x.new) (Notified told) ≡ Move new
+    → decide.moved t x.content moment (initiator_sends c t x.content (Notified told)) new ≡ moved x new moment (concluded_messages c x.id new)
+concluded_transition c t x told new moment id row =
+    same_moved t x.id x.content x.content moment _ _ new (sym id) refl (concluded_sends c t x.content x.new told new row ∙ ap (λ z. concluded_messages c z new) (sym id))
 
 pub passed_transition : (t : TransactionId) (x : Transition) (k : Content) (said : NotifiedStatus) (new : Status) (moment : ℕ) → x.id ≡ t → x.content ≡ Some k → log_row (Stands x.new) (Notified (notified_status said)) ≡ Move new
     → decide.moved t x.content moment (log_sends t x.content (notified_codes said) (Notified (notified_status said))) new ≡ moved x new moment (notifies Itl (told_to x.id k new) x.id said ∷ [])
@@ -178,10 +178,10 @@ module _ (scheme : Scheme) (c : Code) (es : List Entry) where
       absurd (acquirer_offered q found g.0 g.1)
 
   -- a notification to the initiator
-  settle_made : (n : Notification) (moment : Moment) (last : Option Transition) (x : Transition) → n.from ≡ Itl → newest (transitions_of es) n.id ≡ last → same_code n.id.code c ≡ true
+  conclude_made : (n : Notification) (moment : Moment) (last : Option Transition) (x : Transition) → n.from ≡ Itl → newest (transitions_of es) n.id ≡ last → same_code n.id.code c ≡ true
       → In x (transitions_made (by_row scheme es (decide.moved n.id (content_in last) moment.seconds (initiator_sends c n.id (content_in last) (Notified (notified_status n.notified)))) (initiator_row (known last) (Notified (notified_status n.notified)))))
       → RegistryMove scheme c es (Received (message.Notification n) moment) x
-  settle_made n moment last x f e a h =
+  conclude_made n moment last x f e a h =
       let told = notified_status n.notified in
       let ms = initiator_sends c n.id (content_in last) (Notified told) in
       let g = by_row_made scheme es (decide.moved n.id (content_in last) moment.seconds ms) (initiator_row (known last) (Notified told)) x h in
@@ -191,10 +191,10 @@ module _ (scheme : Scheme) (c : Code) (es : List Entry) where
       let row : initiator_row (Stands q.new) (Notified told) ≡ Move g.0 = ap (λ z. initiator_row z (Notified told)) (ap Stands r.new ∙ sym k.1) ∙ g.1 in
       let id : q.id ≡ n.id = of_newest (transitions_of es) n.id q (e ∙ r.is) in
       let content : q.content ≡ content_in last = sym (ap content_in r.is) in
-      let sent : settled_messages c q.id g.0 ≡ ms = ap (λ z. settled_messages c z g.0) id ∙ sym (settled_sends c n.id (content_in last) q.new told g.0 row) in
+      let sent : concluded_messages c q.id g.0 ≡ ms = ap (λ z. concluded_messages c z g.0) id ∙ sym (concluded_sends c n.id (content_in last) q.new told g.0 row) in
       subst (λ y. RegistryMove scheme c es (Received (message.Notification n) moment) y)
-      (same_moved q.id n.id q.content (content_in last) moment.seconds (settled_messages c q.id g.0) ms g.0 id content sent ∙ g.2)
-      (settles n moment q g.0 f (e ∙ r.is) a row)
+      (same_moved q.id n.id q.content (content_in last) moment.seconds (concluded_messages c q.id g.0) ms g.0 id content sent ∙ g.2)
+      (concludes n moment q g.0 f (e ∙ r.is) a row)
 
   -- a notification to the acquirer
   finish_made : (n : Notification) (moment : Moment) (last : Option Transition) (x : Transition) → n.from ≡ Itl → newest (transitions_of es) n.id ≡ last → same_code n.id.code c ≡ false
@@ -226,7 +226,7 @@ module _ (scheme : Scheme) (c : Code) (es : List Entry) where
       → In x (transitions_made (in_role scheme c es n.id last moment.seconds (Notified (notified_status n.notified)))) → RegistryMove scheme c es (Received (message.Notification n) moment) x
   notified_made n moment last x f e h =
       elim (choice_made (same_code n.id.code c) _ _ x h) [
-        | inl i ↦ settle_made n moment last x f e i.0 i.1
+        | inl i ↦ conclude_made n moment last x f e i.0 i.1
         | inr i ↦ finish_made n moment last x f e i.0 i.1
       ]
 

@@ -28,7 +28,7 @@ use Rattle.protocol.specs.Deciding.{known, content_in, column_of_proposal}
 use Rattle.protocol.specs.Effects.{notifies, initiator_sends, log_sends}
 use Rattle.protocol.specs.History.{Transition}
 use Rattle.units.proofs.Lists.Membership.{In, filter_In}
-use Rattle.safety.proofs.MovesAndHistories.TransitionForms.{settled_messages, told_to}
+use Rattle.safety.proofs.MovesAndHistories.TransitionForms.{concluded_messages, told_to}
 
 pub log_from : (a told new : Status) → log_row (Stands a) (Notified told) ≡ Move new
     → ((a ≡ Checked) × (new ≡ told) × ((told ≡ Accepted) ⊎ (told ≡ Rejected))) ⊎ ((a ≡ Accepted) × (new ≡ Completed) × (told ≡ Completed))
@@ -312,10 +312,10 @@ unless_moves true Refused new h = absurd (cc (h))
 
 -- ---- what goes out
 
-pub settled_sends : (c : Code) (t : TransactionId) (k : Option Content) (a told new : Status) → initiator_row (Stands a) (Notified told) ≡ Move new → initiator_sends c t k (Notified told) ≡ settled_messages c t new
-settled_sends c t k a told new h = let m = initiator_from a told new h in subst (λ s. initiator_sends c t k (Notified s) ≡ settled_messages c t new) m.1 (go new a told h)
+pub concluded_sends : (c : Code) (t : TransactionId) (k : Option Content) (a told new : Status) → initiator_row (Stands a) (Notified told) ≡ Move new → initiator_sends c t k (Notified told) ≡ concluded_messages c t new
+concluded_sends c t k a told new h = let m = initiator_from a told new h in subst (λ s. initiator_sends c t k (Notified s) ≡ concluded_messages c t new) m.1 (go new a told h)
   where
-    go : (new a told : Status) → initiator_row (Stands a) (Notified told) ≡ Move new → initiator_sends c t k (Notified (word_to new)) ≡ settled_messages c t new
+    go : (new a told : Status) → initiator_row (Stands a) (Notified told) ≡ Move new → initiator_sends c t k (Notified (word_to new)) ≡ concluded_messages c t new
     go Completed a told h = refl
     go Rejected a told h = refl
     go Terminated a told h = refl

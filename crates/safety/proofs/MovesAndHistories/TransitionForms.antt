@@ -45,9 +45,9 @@ arrived c t k moment found = record {
 }
 
 -- what the initiator sends when its transfer has come to this status
-abbrev pub settled_messages : Code → TransactionId → Status → List Message
-settled_messages c t Completed = notifies (Registry c) Itl t notified.Completed ∷ []
-settled_messages c t _ = []
+abbrev pub concluded_messages : Code → TransactionId → Status → List Message
+concluded_messages c t Completed = notifies (Registry c) Itl t notified.Completed ∷ []
+concluded_messages c t _ = []
 
 -- cancelled before its proposal came
 abbrev pub bare : TransactionId → ℕ → Transition

@@ -19,7 +19,7 @@ use Rattle.safety.proofs.OneRegistry.TransactionEnds.{each_move, own_about}
 use Rattle.safety.proofs.MovesAndHistories.NewestTransitions.{Made}
 use Rattle.units.proofs.Lists.Membership.{In}
 use Rattle.units.proofs.Lists.OneValue.{clash}
-use Rattle.safety.proofs.MovesAndHistories.TableMoves.{RegistryMove, proposes, asks, arrives, bares, settles, finishes}
+use Rattle.safety.proofs.MovesAndHistories.TableMoves.{RegistryMove, proposes, asks, arrives, bares, concludes, finishes}
 use Rattle.safety.proofs.MovesAndHistories.TableRows.{initiator_from}
 
 abbrev pub IsOwnStatus : Status → Type 0
@@ -54,7 +54,7 @@ module _ (scheme : Scheme) (c : Code) where
   own_status_move es input x (asks t q old mine stood) own = tt
   own_status_move es input x (arrives p moment found f s is none foreign mine) own = clash (same_code p.id.code c) own foreign
   own_status_move es input x (bares n moment f cancelled none foreign) own = tt
-  own_status_move es input x (settles n moment q new f was mine move) own = own_status q.new (notified_status n.notified) new move
+  own_status_move es input x (concludes n moment q new f was mine move) own = own_status q.new (notified_status n.notified) new move
   own_status_move es input x (finishes n moment q new f was foreign move none) own = clash (same_code n.id.code c) (own_about scheme c es n.id q was own) foreign
 
   pub own_statuses : (es : List Entry) → Made scheme (Registry c) es → OwnStatuses (transitions_of es)

@@ -17,7 +17,7 @@ use Rattle.units.proofs.Lists.Membership.{In, In_cases}
 use Rattle.units.proofs.Lists.OneValue.{clash}
 use Rattle.protocol.proofs.CountsInLists.{count_no, count_yes}
 use Rattle.safety.proofs.MovesAndHistories.NewestTransitions.{Made, made_registry, newest_id}
-use Rattle.safety.proofs.MovesAndHistories.TableMoves.{RegistryMove, proposes, asks, arrives, bares, settles, finishes}
+use Rattle.safety.proofs.MovesAndHistories.TableMoves.{RegistryMove, proposes, asks, arrives, bares, concludes, finishes}
 
 module _ (scheme : Scheme) (c : Code) where
   abbrev IsNumbered : ℕ → Transition → Type 0
@@ -56,7 +56,7 @@ module _ (scheme : Scheme) (c : Code) where
       go input x (asks t q was mine stood) same own = there es t q (proposals (e ∷ es)) old (no_fewer e es) was own
       go input x (arrives p moment found f s is none' foreign mine) same own = clash (same_code p.id.code c) own foreign
       go input x (bares n moment f cancelled none' foreign) same own = clash (same_code n.id.code c) own foreign
-      go input x (settles n moment q new f was mine moves) same own = there es n.id q (proposals (e ∷ es)) old (no_fewer e es) was own
+      go input x (concludes n moment q new f was mine moves) same own = there es n.id q (proposals (e ∷ es)) old (no_fewer e es) was own
       go input x (finishes n moment q new f was foreign moves none') same own = there es n.id q (proposals (e ∷ es)) old (no_fewer e es) was own
 
   all_numbered : (es : List Entry) → Made scheme (Registry c) es → AreNumbered es

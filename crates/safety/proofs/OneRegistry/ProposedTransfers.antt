@@ -24,8 +24,8 @@ use Rattle.units.proofs.Lists.NoRepeats.{NoRepeat, no_repeat_append}
 use Rattle.units.proofs.Lists.OneValue.{clash}
 use Rattle.safety.proofs.MovesAndHistories.LongerHistories.{made_history}
 use Rattle.safety.proofs.MovesAndHistories.NewestTransitions.{Made, made_registry, newest_id}
-use Rattle.safety.proofs.MovesAndHistories.TableMoves.{RegistryMove, proposes, asks, arrives, bares, settles, finishes}
-use Rattle.safety.proofs.MovesAndHistories.TransitionForms.{settled_messages}
+use Rattle.safety.proofs.MovesAndHistories.TableMoves.{RegistryMove, proposes, asks, arrives, bares, concludes, finishes}
+use Rattle.safety.proofs.MovesAndHistories.TransitionForms.{concluded_messages}
 use Rattle.safety.proofs.OneRegistry.TransactionEnds.{offered, own_about}
 use Rattle.safety.proofs.OneRegistry.UnitsCountedOnce.{made_single}
 use Rattle.safety.proofs.WayToRest.SentByTransitions.{transition_sends}
@@ -51,14 +51,14 @@ proposals_In (message.Notification n ∷ ms) p (inr h) = proposals_In ms p h
 proposals_In (message.Request r ∷ ms) p (inl e) = absurd (cc (e))
 proposals_In (message.Request r ∷ ms) p (inr h) = proposals_In ms p h
 
-settled_none : (c : Code) (t : TransactionId) (new : Status) → proposals_in (settled_messages c t new ++ []) ≡ []
-settled_none c t Completed = refl
-settled_none c t Proposed = refl
-settled_none c t Checked = refl
-settled_none c t Accepted = refl
-settled_none c t Rejected = refl
-settled_none c t Terminated = refl
-settled_none c t Cancelled = refl
+concluded_none : (c : Code) (t : TransactionId) (new : Status) → proposals_in (concluded_messages c t new ++ []) ≡ []
+concluded_none c t Completed = refl
+concluded_none c t Proposed = refl
+concluded_none c t Checked = refl
+concluded_none c t Accepted = refl
+concluded_none c t Rejected = refl
+concluded_none c t Terminated = refl
+concluded_none c t Cancelled = refl
 
 -- the transactions of proposals
 abbrev pub ids : List Proposal → List TransactionId
@@ -79,7 +79,7 @@ module _ (scheme : Scheme) (c : Code) where
   proposed_move e es input x (asks t q was mine stood) i own old = proposed_later e es q.id (old q (newest_id (transitions_of es) t q was).0 own)
   proposed_move e es input x (arrives p moment found f s is none foreign mine) i own old = clash (same_code p.id.code c) own foreign
   proposed_move e es input x (bares n moment f cancelled none foreign) i own old = clash (same_code n.id.code c) own foreign
-  proposed_move e es input x (settles n moment q new f was mine move) i own old = proposed_later e es q.id (old q (newest_id (transitions_of es) n.id q was).0 own)
+  proposed_move e es input x (concludes n moment q new f was mine move) i own old = proposed_later e es q.id (old q (newest_id (transitions_of es) n.id q was).0 own)
   proposed_move e es input x (finishes n moment q new f was foreign move none) i own old = clash (same_code n.id.code c) (own_about scheme c es n.id q was own) foreign
 
   pub was_proposed : (es : List Entry) → Made scheme (Registry c) es → (x : Transition) → In x (transitions_of es) → same_code x.id.code c ≡ true → IsProposed es x.id
@@ -102,7 +102,7 @@ module _ (scheme : Scheme) (c : Code) where
   new_proposals es input x (asks t q was mine stood) = inl refl
   new_proposals es input x (arrives p moment found f s is none foreign mine) = inl refl
   new_proposals es input x (bares n moment f cancelled none foreign) = inl refl
-  new_proposals es input x (settles n moment q new f was mine move) = inl (settled_none c q.id new)
+  new_proposals es input x (concludes n moment q new f was mine move) = inl (concluded_none c q.id new)
   new_proposals es input x (finishes n moment q new f was foreign move none) = inl refl
 
   -- proposals of transactions that weren't there

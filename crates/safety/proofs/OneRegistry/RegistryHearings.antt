@@ -25,11 +25,11 @@ use Rattle.scheme.specs.declared.registries.Scheme.{Scheme}
 use Rattle.protocol.specs.AtRegistry.{holding}
 use Rattle.protocol.specs.Checks.{acquirer_findings}
 use Rattle.protocol.specs.History.{Transition, Entry, transitions_of, newest, sends, messages_of, proposals}
-use Rattle.safety.proofs.MovesAndHistories.TransitionForms.{arrived_status, arrived_notified, settled_messages}
+use Rattle.safety.proofs.MovesAndHistories.TransitionForms.{arrived_status, arrived_notified, concluded_messages}
 use Rattle.safety.proofs.MovesAndHistories.NewestTransitions.{Made, Heard, Offered, heard_later, offered_later, made_registry, newest_id, newest_append, newest_in, one_notified}
 use Rattle.units.proofs.Lists.Membership.{In, In_cases, In_flat_map}
 use Rattle.units.proofs.Lists.OneValue.{clash}
-use Rattle.safety.proofs.MovesAndHistories.TableMoves.{RegistryMove, proposes, asks, arrives, bares, settles, finishes}
+use Rattle.safety.proofs.MovesAndHistories.TableMoves.{RegistryMove, proposes, asks, arrives, bares, concludes, finishes}
 use Rattle.safety.proofs.MovesAndHistories.TableRows.{word_to, initiator_from, acquirer_from}
 
 -- what an acquirer was told when it went to this status
@@ -58,15 +58,15 @@ abbrev pub IsTaken : Option Transition → Type 0
 IsTaken None = ⊥
 IsTaken (Some x) = (x.new ≡ Accepted) ⊎ ((x.new ≡ Completed) ⊎ (x.new ≡ Cancelled))
 
-pub settled_notified : (c : Code) (u : TransactionId) (new : Status) (n : Notification) → In (message.Notification n) (settled_messages c u new) → notified_status n.notified ≡ Completed
-settled_notified c u Completed n (inl e) = let s = one_notified _ n e in sym (ap (λ (z : Notification). notified_status z.notified) s)
-settled_notified c u Completed n (inr h) = absurd h
-settled_notified c u Proposed n h = absurd h
-settled_notified c u Checked n h = absurd h
-settled_notified c u Accepted n h = absurd h
-settled_notified c u Rejected n h = absurd h
-settled_notified c u Terminated n h = absurd h
-settled_notified c u Cancelled n h = absurd h
+pub concluded_notified : (c : Code) (u : TransactionId) (new : Status) (n : Notification) → In (message.Notification n) (concluded_messages c u new) → notified_status n.notified ≡ Completed
+concluded_notified c u Completed n (inl e) = let s = one_notified _ n e in sym (ap (λ (z : Notification). notified_status z.notified) s)
+concluded_notified c u Completed n (inr h) = absurd h
+concluded_notified c u Proposed n h = absurd h
+concluded_notified c u Checked n h = absurd h
+concluded_notified c u Accepted n h = absurd h
+concluded_notified c u Rejected n h = absurd h
+concluded_notified c u Terminated n h = absurd h
+concluded_notified c u Cancelled n h = absurd h
 
 pub arrived_notified_status : (found : List ℕ) → notified_status (arrived_notified found) ≡ arrived_status found
 arrived_notified_status [] = refl
@@ -81,7 +81,7 @@ module _ (scheme : Scheme) (c : Code) where
   told_own_move es e t input x i (asks u q old mine stood) same own = inl refl
   told_own_move es e t input x i (arrives p moment found f s is none foreign mine) same own = own_and_foreign t p.id (sym same) own foreign
   told_own_move es e t input x i (bares n moment f cancelled none foreign) same own = own_and_foreign t n.id (sym same) own foreign
-  told_own_move es e t input x i (settles n moment q new f old mine move) same own =
+  told_own_move es e t input x i (concludes n moment q new f old mine move) same own =
       let m = initiator_from q.new (notified_status n.notified) new move in
       let about : n.id ≡ t = sym (newest_id (transitions_of es) n.id q old).1 ∙ same in
       inr (record { notification = n; got = inl (moment, i); sender = f; about = about; told = sym m.1 })
@@ -117,7 +117,7 @@ module _ (scheme : Scheme) (c : Code) where
       arrived_cause (y ∷ ys) offered = (p.content, offered, code_of_same p.content.acquirer c mine)
   told_move es e t input x i (asks u q old own stood) same foreign = own_and_foreign u t (sym (newest_id (transitions_of es) u q old).1 ∙ same) own foreign
   told_move es e t input x i (bares n moment f cancelled none foreign') same foreign = record { notification = n; got = inl (moment, i); sender = f; about = same; told = cancelled }
-  told_move es e t input x i (settles n moment q new f old own move) same foreign =
+  told_move es e t input x i (concludes n moment q new f old own move) same foreign =
       let about : n.id ≡ t = sym (newest_id (transitions_of es) n.id q old).1 ∙ same in
       own_and_foreign n.id t about own foreign
   told_move es e t input x i (finishes n moment q new f old foreign' move none) same foreign =
@@ -149,7 +149,7 @@ module _ (scheme : Scheme) (c : Code) where
       ap arrived_status (is ∙ ap (λ (z : Proposal). acquirer_findings scheme c (holding scheme c es) z.content) a)
   arrive_pair es i p moment x e (asks u q old own stood) = absurd (cc (e))
   arrive_pair es i p moment x e (bares n moment' f was none foreign) = absurd (cc (e))
-  arrive_pair es i p moment x e (settles n moment' q new f old own move) = absurd (cc (e))
+  arrive_pair es i p moment x e (concludes n moment' q new f old own move) = absurd (cc (e))
   arrive_pair es i p moment x e (finishes n moment' q new f old foreign move none) = absurd (cc (e))
 
   accepted_move : (es : List Entry) (input : Input) (q : Transition) (n : Notification) → RegistryMove scheme c es input q → In (message.Notification n) q.messages → notified_status n.notified ≡ Accepted
@@ -168,7 +168,7 @@ module _ (scheme : Scheme) (c : Code) where
   accepted_move es input q n (asks u p old own stood) (inl e) said = absurd (cc (e))
   accepted_move es input q n (asks u p old own stood) (inr h) said = absurd h
   accepted_move es input q n (bares m moment f was none foreign) h said = absurd h
-  accepted_move es input q n (settles m moment p new f old own move) h said = let x : Completed ≡ Accepted = sym (settled_notified c p.id new n h) ∙ said in absurd (cc (x))
+  accepted_move es input q n (concludes m moment p new f old own move) h said = let x : Completed ≡ Accepted = sym (concluded_notified c p.id new n h) ∙ said in absurd (cc (x))
   accepted_move es input q n (finishes m moment p new f old foreign move none) h said = absurd h
 
   taken_keeps : (es : List Entry) (input : Input) (x : Transition) → RegistryMove scheme c es input x → same_code x.id.code c ≡ false → IsTaken (newest (transitions_of es) x.id) → IsTaken (Some x)
@@ -178,7 +178,7 @@ module _ (scheme : Scheme) (c : Code) where
   taken_keeps es input x (arrives p moment found f s is none foreign' mine) foreign taken = absurd (subst IsTaken none taken)
   taken_keeps es input x (asks u q old own stood) foreign taken = own_and_foreign u q.id (sym (newest_id (transitions_of es) u q old).1) own foreign
   taken_keeps es input x (bares n moment f cancelled none foreign') foreign taken = absurd (subst IsTaken none taken)
-  taken_keeps es input x (settles n moment q new f old own move) foreign taken = own_and_foreign n.id q.id (sym (newest_id (transitions_of es) n.id q old).1) own foreign
+  taken_keeps es input x (concludes n moment q new f old own move) foreign taken = own_and_foreign n.id q.id (sym (newest_id (transitions_of es) n.id q old).1) own foreign
   taken_keeps es input x (finishes n moment q new f old foreign' move none) foreign taken =
       let m = acquirer_from q.new (notified_status n.notified) new move in
       elim m.2 [

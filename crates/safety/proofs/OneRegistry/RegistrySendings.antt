@@ -21,15 +21,15 @@ use Rattle.wire.specs.declared.message.Request.{Request}
 use Rattle.wire.specs.declared.message.ProposalStatus.TheVariants as proposal
 use Rattle.scheme.specs.declared.registries.Scheme.{Scheme}
 use Rattle.protocol.specs.History.{Transition, Entry, transitions_of, newest, sends, messages_of, proposals}
-use Rattle.safety.proofs.MovesAndHistories.TransitionForms.{arrived_status, settled_messages}
+use Rattle.safety.proofs.MovesAndHistories.TransitionForms.{arrived_status, concluded_messages}
 use Rattle.safety.proofs.OneRegistry.TransactionEnds.{single_same, own_code, newest_own}
 use Rattle.safety.proofs.MovesAndHistories.NewestTransitions.{Made, Offered, offered_later, made_registry, newest_id, newest_append, newest_in, one_notified, one_request}
 use Rattle.safety.proofs.OneRegistry.UnitsCountedOnce.{made_single}
 use Rattle.units.proofs.Lists.Membership.{In, In_cases, In_flat_map}
 use Rattle.units.proofs.Lists.OneValue.{clash}
-use Rattle.safety.proofs.MovesAndHistories.TableMoves.{RegistryMove, proposes, asks, arrives, bares, settles, finishes}
+use Rattle.safety.proofs.MovesAndHistories.TableMoves.{RegistryMove, proposes, asks, arrives, bares, concludes, finishes}
 use Rattle.safety.proofs.MovesAndHistories.TableRows.{acquirer_from}
-use Rattle.safety.proofs.OneRegistry.RegistryHearings.{settled_notified, arrived_notified_status}
+use Rattle.safety.proofs.OneRegistry.RegistryHearings.{concluded_notified, arrived_notified_status}
 
 arrived_answers : (found : List ℕ) → (arrived_status found ≡ Accepted) ⊎ (arrived_status found ≡ Rejected)
 arrived_answers [] = inl refl
@@ -62,12 +62,12 @@ module _ (scheme : Scheme) (c : Code) where
   says_move es e input x m i (asks t q old own stood) (inl h) = subst (Says (e ∷ es)) h (asks_log _ refl refl (subst (λ (z : TransactionId). same_code z.code c ≡ true) (sym (newest_id (transitions_of es) t q old).1) own))
   says_move es e input x m i (asks t q old own stood) (inr h) = absurd h
   says_move es e input x m i (bares n moment f cancelled none foreign) h = absurd h
-  says_move es e input x m i (settles n moment q new f was mine move) h = done new h
+  says_move es e input x m i (concludes n moment q new f was mine move) h = done new h
     where
       own : same_code q.id.code c ≡ true
       own = subst (λ (z : TransactionId). same_code z.code c ≡ true) (sym (newest_id (transitions_of es) n.id q was).1) mine
 
-      done : (new : Status) → In m (settled_messages c q.id new) → Says (e ∷ es) m
+      done : (new : Status) → In m (concluded_messages c q.id new) → Says (e ∷ es) m
       done Completed (inl h) = subst (Says (e ∷ es)) h (completes _ refl refl refl own)
       done Completed (inr h) = absurd h
       done Proposed h = absurd h
@@ -98,9 +98,9 @@ module _ (scheme : Scheme) (c : Code) where
   asked_move es input x r (arrives p moment found f s is none foreign mine) (inl e) = absurd (cc (e))
   asked_move es input x r (arrives p moment found f s is none foreign mine) (inr h) = absurd h
   asked_move es input x r (bares n moment f cancelled none foreign) h = absurd h
-  asked_move es input x r (settles n moment q new f was mine move) h = absurd (none new h)
+  asked_move es input x r (concludes n moment q new f was mine move) h = absurd (none new h)
     where
-      none : (new : Status) → In (message.Request r) (settled_messages c q.id new) → ⊥
+      none : (new : Status) → In (message.Request r) (concluded_messages c q.id new) → ⊥
       none Completed (inl e) = cc (e)
       none Completed (inr i) = i
       none Proposed i = i
@@ -144,7 +144,7 @@ module _ (scheme : Scheme) (c : Code) where
   rejected_move es input q n (asks t p old own stood) (inl e) said = absurd (cc (e))
   rejected_move es input q n (asks t p old own stood) (inr h) said = absurd h
   rejected_move es input q n (bares m moment f cancelled none foreign) h said = absurd h
-  rejected_move es input q n (settles m moment p new f was mine move) h said = let x : Completed ≡ Rejected = sym (settled_notified c p.id new n h) ∙ said in absurd (cc (x))
+  rejected_move es input q n (concludes m moment p new f was mine move) h said = let x : Completed ≡ Rejected = sym (concluded_notified c p.id new n h) ∙ said in absurd (cc (x))
   rejected_move es input q n (finishes m moment p new f was foreign move none) h said = absurd h
 
   stays_rejected : (es : List Entry) (input : Input) (x q : Transition) → RegistryMove scheme c es input x → newest (transitions_of es) x.id ≡ Some q → q.new ≡ Rejected → same_code x.id.code c ≡ false → ⊥
@@ -153,7 +153,7 @@ module _ (scheme : Scheme) (c : Code) where
   stays_rejected es input x q (bares n moment f cancelled none foreign') h was foreign = let e = sym none ∙ h in cc (e)
   stays_rejected es input x q (asks t p old own stood) h was foreign =
       clash (same_code t.code c) own (subst (λ (z : TransactionId). same_code z.code c ≡ false) (newest_id (transitions_of es) t p old).1 foreign)
-  stays_rejected es input x q (settles n moment p new f old own move) h was foreign =
+  stays_rejected es input x q (concludes n moment p new f old own move) h was foreign =
       clash (same_code n.id.code c) own (subst (λ (z : TransactionId). same_code z.code c ≡ false) (newest_id (transitions_of es) n.id p old).1 foreign)
   stays_rejected es input x q (finishes n moment p new f old foreign' move none) h was foreign =
       let same = newest_own scheme c es n.id p q old h in

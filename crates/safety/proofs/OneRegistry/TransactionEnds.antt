@@ -37,7 +37,7 @@ use Rattle.protocol.specs.Claims.{CompletedOnce}
 use Rattle.protocol.specs.History.{Transition, Entry, transitions_of, newest, sends, messages_of, proposals}
 use Rattle.protocol.specs.AtRegistry.{content_of}
 use Rattle.protocol.specs.AtLog.{is_no_registry, is_from_another}
-use Rattle.safety.proofs.MovesAndHistories.TransitionForms.{arrived_status, settled_messages, checked_status}
+use Rattle.safety.proofs.MovesAndHistories.TransitionForms.{arrived_status, concluded_messages, checked_status}
 use Rattle.units.proofs.Lists.SomePass.{list_any_not}
 use Rattle.protocol.proofs.CountsInLists.{number_none, count_no, count_yes}
 use Rattle.safety.proofs.MovesAndHistories.NewestTransitions.{Made, Got, Heard, Offered, heard_later, offered_later, made_registry, made_log, newest_append, newest_id, newest_in, one_notified, one_proposal}
@@ -45,7 +45,7 @@ use Rattle.safety.proofs.OneRegistry.UnitsCountedOnce.{made_single, Single}
 use Rattle.units.proofs.Lists.Membership.{In, In_cases, In_flat_map, In_left, In_right}
 use Rattle.units.proofs.Lists.OneValue.{one_some, clash}
 use Rattle.safety.proofs.ListLemmas.TestsOfSameness.{status_of_same}
-use Rattle.safety.proofs.MovesAndHistories.TableMoves.{RegistryMove, proposes, asks, arrives, bares, settles, finishes, LogMove, checks, passes, cancels, forestalls}
+use Rattle.safety.proofs.MovesAndHistories.TableMoves.{RegistryMove, proposes, asks, arrives, bares, concludes, finishes, LogMove, checks, passes, cancels, forestalls}
 use Rattle.units.proofs.Lists.Positions.{In_contains}
 use Rattle.safety.proofs.MovesAndHistories.TableRows.{initiator_from, acquirer_from, log_from}
 use Rattle.safety.proofs.OneRegistry.RegistryHearings.{arrived_notified_status}
@@ -55,25 +55,25 @@ arrived_open [] h = cc (h)
 arrived_open (n ∷ ns) h = cc (h)
 
 -- what an initiator sends where its transfer comes to stand so is that it completed
-settled_completed : (c : Code) (u : TransactionId) (new : Status) (n : Notification) → In (message.Notification n) (settled_messages c u new) → (u ≡ n.id) × (new ≡ Completed)
-settled_completed c u Completed n (inl e) = let s = one_notified _ n e in (ap (λ (z : Notification). z.id) s, refl)
-settled_completed c u Completed n (inr h) = absurd h
-settled_completed c u Proposed n h = absurd h
-settled_completed c u Checked n h = absurd h
-settled_completed c u Accepted n h = absurd h
-settled_completed c u Rejected n h = absurd h
-settled_completed c u Terminated n h = absurd h
-settled_completed c u Cancelled n h = absurd h
+concluded_completed : (c : Code) (u : TransactionId) (new : Status) (n : Notification) → In (message.Notification n) (concluded_messages c u new) → (u ≡ n.id) × (new ≡ Completed)
+concluded_completed c u Completed n (inl e) = let s = one_notified _ n e in (ap (λ (z : Notification). z.id) s, refl)
+concluded_completed c u Completed n (inr h) = absurd h
+concluded_completed c u Proposed n h = absurd h
+concluded_completed c u Checked n h = absurd h
+concluded_completed c u Accepted n h = absurd h
+concluded_completed c u Rejected n h = absurd h
+concluded_completed c u Terminated n h = absurd h
+concluded_completed c u Cancelled n h = absurd h
 
-pub settled_offers : (c : Code) (u : TransactionId) (new : Status) (p : Proposal) → In (message.Proposal p) (settled_messages c u new) → ⊥
-settled_offers c u Completed p (inl e) = cc (e)
-settled_offers c u Completed p (inr h) = h
-settled_offers c u Proposed p h = h
-settled_offers c u Checked p h = h
-settled_offers c u Accepted p h = h
-settled_offers c u Rejected p h = h
-settled_offers c u Terminated p h = h
-settled_offers c u Cancelled p h = h
+pub concluded_offers : (c : Code) (u : TransactionId) (new : Status) (p : Proposal) → In (message.Proposal p) (concluded_messages c u new) → ⊥
+concluded_offers c u Completed p (inl e) = cc (e)
+concluded_offers c u Completed p (inr h) = h
+concluded_offers c u Proposed p h = h
+concluded_offers c u Checked p h = h
+concluded_offers c u Accepted p h = h
+concluded_offers c u Rejected p h = h
+concluded_offers c u Terminated p h = h
+concluded_offers c u Cancelled p h = h
 
 -- two of the transitions of one input are the same
 pub single_same : (xs : List Transition) (x y : Transition) → Single xs → In x xs → In y xs → x ≡ y
@@ -136,7 +136,7 @@ module _ (scheme : Scheme) (c : Code) where
       cc (a)
   alive es input x y made (arrives p moment found f s is none foreign mine) h done = let e = sym none ∙ h in cc (e)
   alive es input x y made (bares n moment f cancelled none foreign) h done = let e = sym none ∙ h in cc (e)
-  alive es input x y made (settles n moment q new f was mine move) h done =
+  alive es input x y made (concludes n moment q new f was mine move) h done =
       let same = newest_own es n.id q y was h in
       let a : Proposed ≡ Completed = sym (initiator_from q.new (notified_status n.notified) new move).0 ∙ ap (λ (z : Transition). z.new) same ∙ done in
       cc (a)
@@ -205,7 +205,7 @@ module _ (scheme : Scheme) (c : Code) where
       record { content = a.content; is = a.is; acquirer_known = a.acquirer_known; acquirer_other = a.acquirer_other }
   own_move es input x (arrives p moment found f s is none foreign mine) old own = clash (same_code p.id.code c) own foreign
   own_move es input x (bares n moment f cancelled none foreign) old own = clash (same_code n.id.code c) own foreign
-  own_move es input x (settles n moment q new f was mine move) old own =
+  own_move es input x (concludes n moment q new f was mine move) old own =
       let a = old q (newest_id (transitions_of es) n.id q was).0 own in
       record { content = a.content; is = a.is; acquirer_known = a.acquirer_known; acquirer_other = a.acquirer_other }
   own_move es input x (finishes n moment q new f was foreign move none) old own = clash (same_code n.id.code c) (own_about es n.id q was own) foreign
@@ -235,7 +235,7 @@ module _ (scheme : Scheme) (c : Code) where
   offer_move es input x p (asks t q was own stood) (inl e) = absurd (cc (e))
   offer_move es input x p (asks t q was own stood) (inr h) = absurd h
   offer_move es input x p (bares n moment f cancelled none foreign) h = absurd h
-  offer_move es input x p (settles n moment q new f was mine move) h = absurd (settled_offers c q.id new p h)
+  offer_move es input x p (concludes n moment q new f was mine move) h = absurd (concluded_offers c q.id new p h)
   offer_move es input x p (finishes n moment q new f was foreign move none) h = absurd h
 
   own_keeps : (es : List Entry) (input : Input) (x y : Transition) → Made scheme (Registry c) es → RegistryMove scheme c es input x → newest (transitions_of es) x.id ≡ Some y
@@ -244,7 +244,7 @@ module _ (scheme : Scheme) (c : Code) where
   own_keeps es input x y made (asks t q was mine stood) h own = ap (λ (z : Transition). z.content) (newest_own es t q y was h)
   own_keeps es input x y made (arrives p moment found f s is none foreign mine) h own = clash (same_code p.id.code c) own foreign
   own_keeps es input x y made (bares n moment f cancelled none foreign) h own = clash (same_code n.id.code c) own foreign
-  own_keeps es input x y made (settles n moment q new f was mine move) h own = ap (λ (z : Transition). z.content) (newest_own es n.id q y was h)
+  own_keeps es input x y made (concludes n moment q new f was mine move) h own = ap (λ (z : Transition). z.content) (newest_own es n.id q y was h)
   own_keeps es input x y made (finishes n moment q new f was foreign move none) h own = clash (same_code n.id.code c) (own_about es n.id q was own) foreign
 
   -- what a registry proposed is the content of its transfer for good
@@ -286,8 +286,8 @@ module _ (scheme : Scheme) (c : Code) where
   completed_move es input x n (asks t q was own stood) (inl e) said = absurd (cc (e))
   completed_move es input x n (asks t q was own stood) (inr h) said = absurd h
   completed_move es input x n (bares m moment f cancelled none foreign) h said = absurd h
-  completed_move es input x n (settles m moment q new f was mine move) h said =
-      let g = settled_completed c q.id new n h in
+  completed_move es input x n (concludes m moment q new f was mine move) h said =
+      let g = concluded_completed c q.id new n h in
       (g.0, g.1, subst (λ (z : TransactionId). same_code z.code c ≡ true) (sym (newest_id (transitions_of es) m.id q was).1 ∙ g.0) mine)
   completed_move es input x n (finishes m moment q new f was foreign move none) h said = absurd h
 
@@ -336,7 +336,7 @@ module _ (scheme : Scheme) (c : Code) where
       let about : u ≡ t = sym (newest_id (transitions_of es) u q was).1 ∙ same in
       clash (same_code t.code c) (subst (λ (z : TransactionId). same_code z.code c ≡ true) about own) foreign
   known_move es e t input x i (bares n moment f cancelled none foreign') same foreign old = inl (refl, refl)
-  known_move es e t input x i (settles n moment q new f was own move) same foreign old =
+  known_move es e t input x i (concludes n moment q new f was own move) same foreign old =
       let about : n.id ≡ t = sym (newest_id (transitions_of es) n.id q was).1 ∙ same in
       clash (same_code t.code c) (subst (λ (z : TransactionId). same_code z.code c ≡ true) about own) foreign
   known_move es e t input x i (finishes n moment q new f was foreign' move none) same foreign old =

@@ -41,14 +41,14 @@ use Rattle.protocol.specs.Deciding.{Verdict, IsRecorded, IsRepeat, IsRefused, re
 use Rattle.protocol.specs.AtRegistry.{holding, is_place, content_of, new_transfer_verdict, in_role, unless_held, holds_some, request_refusals, request_column, registry_refusals, registry_answer, open_refusals, close_refusals, registry_verdict}
 use Rattle.protocol.specs.Claims.{CountedOnce}
 use Rattle.protocol.specs.Verdict.{verdict, transitions_made as made_of}
-use Rattle.safety.proofs.MovesAndHistories.TransitionForms.{proposed, asking, arrived, arrived_status, settled_messages, bare, moved}
+use Rattle.safety.proofs.MovesAndHistories.TransitionForms.{proposed, asking, arrived, arrived_status, concluded_messages, bare, moved}
 use Rattle.protocol.proofs.CanonicalBlocks.{canonical_piece}
 use Rattle.units.proofs.Lists.SomePass.{list_any_none, list_any_in}
 use Rattle.protocol.proofs.CountsInLists.{count_no, count_yes}
 use Rattle.safety.proofs.MovesAndHistories.NewestTransitions.{Made, made_registry, newest_id}
 use Rattle.units.proofs.Lists.Membership.{In}
 use Rattle.units.proofs.Lists.OneValue.{clash}
-use Rattle.safety.proofs.MovesAndHistories.TableMoves.{RegistryMove, proposes, asks, arrives, bares, settles, finishes}
+use Rattle.safety.proofs.MovesAndHistories.TableMoves.{RegistryMove, proposes, asks, arrives, bares, concludes, finishes}
 use Rattle.safety.proofs.MovesAndHistories.TableRows.{word_to, initiator_from, acquirer_from}
 use Rattle.protocol.proofs.UnitsOfBlocks.{piece_of}
 
@@ -289,9 +289,9 @@ module _ (scheme : Scheme) (c : Code) (s : Serial) where
             | inr e ↦ record { last = w.last; is = e.0; new = w.new; own = w.own; has = w.has }
           ]
 
-  pub settled_move : (es : List Entry) (t : TransactionId) (told : Status) (moment : ℕ) (q : Transition) (new : Status) (messages : List Message) → newest (transitions_of es) t ≡ Some q
+  pub concluded_move : (es : List Entry) (t : TransactionId) (told : Status) (moment : ℕ) (q : Transition) (new : Status) (messages : List Message) → newest (transitions_of es) t ≡ Some q
       → same_code t.code c ≡ true → initiator_row (Stands q.new) (Notified told) ≡ Move new → Local scheme c s (transitions_of es) → Local scheme c s (moved q new moment messages ∷ transitions_of es)
-  settled_move es t told moment q new messages old own move l =
+  concluded_move es t told moment q new messages old own move l =
       let about = newest_id (transitions_of es) t q old in
       let mine : same_code q.id.code c ≡ true = subst (λ (z : TransactionId). same_code z.code c ≡ true) (sym about.1) own in
       let credited : credits c s (moved q new moment messages) ≡ false =
@@ -349,7 +349,7 @@ module _ (scheme : Scheme) (c : Code) (s : Serial) where
   local_move es input x (asks t q old own stood) l =
       again (asking c q) q (transitions_of es) refl refl (subst (λ z. newest (transitions_of es) z ≡ Some q) (sym (newest_id (transitions_of es) t q old).1) old) stood refl l
   local_move es input x (bares n moment f cancelled none foreign) l = quiet (bare n.id moment.seconds) (transitions_of es) refl refl (λ e. cc (e)) l
-  local_move es input x (settles n moment q new f old own move) l = settled_move es n.id (notified_status n.notified) moment.seconds q new (settled_messages c q.id new) old own move l
+  local_move es input x (concludes n moment q new f old own move) l = concluded_move es n.id (notified_status n.notified) moment.seconds q new (concluded_messages c q.id new) old own move l
   local_move es input x (finishes n moment q new f old foreign move none) l = finished_move es n.id (notified_status n.notified) moment.seconds q new old foreign move none l
 
   pub local_history : (es : List Entry) → Made scheme (Registry c) es → Local scheme c s (transitions_of es)

@@ -36,7 +36,7 @@ use Rattle.protocol.specs.History.{Entry, Transition, newest, sends, transitions
 use Rattle.protocol.specs.Registries.{has_member}
 use Rattle.protocol.specs.WayOut.{IsOpen}
 use Rattle.protocol.specs.World.{World, run}
-use Rattle.safety.proofs.MovesAndHistories.TransitionForms.{arrived, arrived_status, settled_messages, checked, checked_status, told_to, moved}
+use Rattle.safety.proofs.MovesAndHistories.TransitionForms.{arrived, arrived_status, concluded_messages, checked, checked_status, told_to, moved}
 use Rattle.safety.proofs.AgreementOfNodes.CausalHistories.{Causal, completed_agrees, ended, heard_sent, log_said}
 use Rattle.safety.proofs.AgreementOfNodes.CompletionsAgree.{stands_so, log_has, initiator_has, offered_sent}
 use Rattle.safety.proofs.OneRegistry.TransactionEnds.{completed_sent, ends_last, known, own_contents, proposer, proposer_of}
@@ -274,24 +274,24 @@ module _ (scheme : Scheme) (moment : Moment) (t : TransactionId) where
       let says = answer_says l st answers (log_tells scheme t w x k s l log st e) in
       let sent : In (notifies Itl (Registry t.code) t says.0) (sends (committed_of w Itl)) =
       told_by scheme t w x k s Itl l (Registry t.code) says.0 log (subst (λ (z : TransactionId). In (notifies Itl (Registry z.code) l.id says.0) l.messages) (id_at scheme t w x k s Itl l log).1 says.2) in
-      let y : Transition = moved x (answered_to st) moment.seconds (settled_messages t.code x.id (answered_to st)) in
+      let y : Transition = moved x (answered_to st) moment.seconds (concluded_messages t.code x.id (answered_to st)) in
       let v =
       initiator_takes scheme moment w s.calm t.code t says.0 x k (answered_to st) s.content sent s.is (same_code-refl t.code) (table_at initiator_row x.new Proposed _ st waits says.1 ∙ answer_row st answers)
       (let a = room.1 t.code in omega arith) in
       let g : Went scheme w t (Registry t.code) y = send scheme w s.calm (notifies Itl (Registry t.code) t says.0) moment t y s.initiator sent v (id_at scheme t w x k s (Registry t.code) x s.is).1 in
       let next : Stage scheme (run w g.events) t y k = record { calm = g.calm; is = g.now; content = s.content; initiator = s.initiator; acquirer = s.acquirer; other = s.other } in
       let log_then = newest_next scheme t w (Registry t.code) Itl y (Some l) g refl log in
-      then_registry scheme t w t.code y 1 1 g (settles (run w g.events) y l st answers next refl log_then e (room_registry scheme t w t.code y 1 1 g room))
+      then_registry scheme t w t.code y 1 1 g (closes (run w g.events) y l st answers next refl log_then e (room_registry scheme t w t.code y 1 1 g room))
     where
-      settles : (v : World) (y l : Transition) (st : Status) → IsAnswer st → Stage scheme v t y k → y.new ≡ answered_to st → Last v Itl t l → l.new ≡ st → Room scheme v 1 1 → Closes scheme v t 1 1
-      settles v y l Accepted a next e log d room = close_owed v y k next room e
-      settles v y l Rejected a next e log d room = close_ended v y l k next (e ∙ sym d) log (inl d)
-      settles v y l Terminated a next e log d room = close_ended v y l k next (e ∙ sym d) log (inr d)
-      settles v y l Cancelled a next e log d room =
+      closes : (v : World) (y l : Transition) (st : Status) → IsAnswer st → Stage scheme v t y k → y.new ≡ answered_to st → Last v Itl t l → l.new ≡ st → Room scheme v 1 1 → Closes scheme v t 1 1
+      closes v y l Accepted a next e log d room = close_owed v y k next room e
+      closes v y l Rejected a next e log d room = close_ended v y l k next (e ∙ sym d) log (inl d)
+      closes v y l Terminated a next e log d room = close_ended v y l k next (e ∙ sym d) log (inr d)
+      closes v y l Cancelled a next e log d room =
           at_most scheme t v 0 1 1 1 (omega arith) (omega arith) (cancel_acquirer v y l k next (room_less scheme t v 0 1 1 1 (omega arith) (omega arith) room) e log d)
-      settles v y l Proposed a next e log d room = absurd a
-      settles v y l Checked a next e log d room = absurd a
-      settles v y l Completed a next e log d room = absurd a
+      closes v y l Proposed a next e log d room = absurd a
+      closes v y l Checked a next e log d room = absurd a
+      closes v y l Completed a next e log d room = absurd a
 
   -- the acquirer has answered
   acquirer_answered : (w : World) (x l p : Transition) (k : Content) → Stage scheme w t x k → Room scheme w 2 2 → x.new ≡ Proposed → Last w Itl t l → l.new ≡ Checked

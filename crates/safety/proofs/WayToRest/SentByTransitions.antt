@@ -21,13 +21,13 @@ use Rattle.scheme.specs.declared.registries.Scheme.{Scheme}
 use Rattle.protocol.specs.AtRegistry.{content_of}
 use Rattle.protocol.specs.Effects.{notifies, proposes as to_propose}
 use Rattle.protocol.specs.History.{Transition, Entry, transitions_of, sends, messages_of, proposals}
-use Rattle.safety.proofs.MovesAndHistories.TransitionForms.{arrived, arrived_status, settled_messages, checked, checked_status, told_to, moved}
+use Rattle.safety.proofs.MovesAndHistories.TransitionForms.{arrived, arrived_status, concluded_messages, checked, checked_status, told_to, moved}
 use Rattle.safety.proofs.OneRegistry.TransactionEnds.{each_move, own_code, own_about}
 use Rattle.safety.proofs.MovesAndHistories.NewestTransitions.{Made, made_registry, made_log, newest_id}
 use Rattle.safety.proofs.OneRegistry.UnitsCountedOnce.{initiator_new}
 use Rattle.units.proofs.Lists.Membership.{In, In_cases, In_left, In_right}
 use Rattle.units.proofs.Lists.OneValue.{clash, one_some}
-use Rattle.safety.proofs.MovesAndHistories.TableMoves.{RegistryMove, proposes, asks, arrives, bares, settles, finishes, LogMove, checks, passes, cancels, forestalls}
+use Rattle.safety.proofs.MovesAndHistories.TableMoves.{RegistryMove, proposes, asks, arrives, bares, concludes, finishes, LogMove, checks, passes, cancels, forestalls}
 use Rattle.safety.proofs.MovesAndHistories.TableRows.{log_from, acquirer_from}
 
 -- ---- a message of a transition is sent
@@ -70,21 +70,21 @@ SaysAtLog x Completed = (k : Content) × (x.content ≡ Some k) × Tells x Itl (
 SaysAtLog x s = Tells x Itl (Registry x.id.code) s
 
 module _ (scheme : Scheme) (c : Code) where
-  settled_says : (q : Transition) (moment : ℕ) (new : Status) → (new ≡ Proposed → ⊥) → SaysOwn c (moved q new moment (settled_messages c q.id new)) new
-  settled_says q moment Proposed h = tt
-  settled_says q moment Completed h = (notified.Completed, refl, inl refl)
-  settled_says q moment Checked h = tt
-  settled_says q moment Accepted h = tt
-  settled_says q moment Rejected h = tt
-  settled_says q moment Terminated h = tt
-  settled_says q moment Cancelled h = tt
+  concluded_says : (q : Transition) (moment : ℕ) (new : Status) → (new ≡ Proposed → ⊥) → SaysOwn c (moved q new moment (concluded_messages c q.id new)) new
+  concluded_says q moment Proposed h = tt
+  concluded_says q moment Completed h = (notified.Completed, refl, inl refl)
+  concluded_says q moment Checked h = tt
+  concluded_says q moment Accepted h = tt
+  concluded_says q moment Rejected h = tt
+  concluded_says q moment Terminated h = tt
+  concluded_says q moment Cancelled h = tt
 
   own_says : (es : List Entry) (input : Input) (x : Transition) → RegistryMove scheme c es input x → same_code x.id.code c ≡ true → SaysOwn c x x.new
   own_says es input x (proposes o t none is fresh) own = tt
   own_says es input x (asks t q old mine stood) own = tt
   own_says es input x (arrives p moment found f s is none foreign mine) own = clash (same_code p.id.code c) own foreign
   own_says es input x (bares n moment f told none foreign) own = clash (same_code n.id.code c) own foreign
-  own_says es input x (settles n moment q new f old mine move) own = settled_says q moment.seconds new (initiator_new q.new (notified_status n.notified) new move)
+  own_says es input x (concludes n moment q new f old mine move) own = concluded_says q moment.seconds new (initiator_new q.new (notified_status n.notified) new move)
   own_says es input x (finishes n moment q new f old foreign move none) own = clash (same_code n.id.code c) (own_about scheme c es n.id q old own) foreign
 
   other_says : (es : List Entry) (input : Input) (x : Transition) → RegistryMove scheme c es input x → same_code x.id.code c ≡ false → SaysOther c x x.new
@@ -96,7 +96,7 @@ module _ (scheme : Scheme) (c : Code) where
       go (n ∷ ns) = (notified.Rejected (n ∷ ns), refl, inl refl)
   other_says es input x (asks t q old own stood) foreign = clash (same_code q.id.code c) (subst (λ (z : TransactionId). same_code z.code c ≡ true) (sym (newest_id (transitions_of es) t q old).1) own) foreign
   other_says es input x (bares n moment f told none other) foreign = tt
-  other_says es input x (settles n moment q new f old mine move) foreign =
+  other_says es input x (concludes n moment q new f old mine move) foreign =
       clash (same_code q.id.code c) (subst (λ (z : TransactionId). same_code z.code c ≡ true) (sym (newest_id (transitions_of es) n.id q old).1) mine) foreign
   other_says es input x (finishes n moment q new f old other move none) foreign =
       let m = acquirer_from q.new (notified_status n.notified) new move in
@@ -125,7 +125,7 @@ module _ (scheme : Scheme) (c : Code) where
       let o = older q (newest_id (transitions_of es) t q old).0 own in (o.0, o.1, In_left _ (sends es) (messages_of e.transitions) o.2)
   offered_move e es input x (arrives p moment found f s is none foreign mine) i own older = clash (same_code p.id.code c) own foreign
   offered_move e es input x (bares n moment f told none foreign) i own older = clash (same_code n.id.code c) own foreign
-  offered_move e es input x (settles n moment q new f old mine move) i own older =
+  offered_move e es input x (concludes n moment q new f old mine move) i own older =
       let o = older q (newest_id (transitions_of es) n.id q old).0 own in (o.0, o.1, In_left _ (sends es) (messages_of e.transitions) o.2)
   offered_move e es input x (finishes n moment q new f old foreign move none) i own older = clash (same_code n.id.code c) (own_about scheme c es n.id q old own) foreign
 

@@ -4,7 +4,7 @@
 use Rattle.status.specs.declared.rows.Row.{Row}
 use Rattle.safety.proofs.MovesAndHistories.NewestTransitions.{newest_id}
 use Rattle.safety.proofs.MovesAndHistories.TableRows.{known_status, unless_same}
-use Rattle.safety.proofs.MovesAndHistories.TableMoves.{settled_transition, passed_transition, finished_transition}
+use Rattle.safety.proofs.MovesAndHistories.TableMoves.{concluded_transition, passed_transition, finished_transition}
 use Rattle.std.proofs.Common.{◌≡◌, ℕ, ◌+◌, ◌≤◌, List, [], ◌∷◌, true, false, Some, None, inl, inr, refl, sym, ap, subst, ◌∙◌, arith, length, Bool}
 use Rattle.std.specs.Prelude.{◌==◌, nat_le}
 use Rattle.std.proofs.lemmas.Bool.{cond-true, cond-false, cases_Bool, lt-leb, eqb-false}
@@ -40,7 +40,7 @@ use Rattle.protocol.specs.Registries.{is_node}
 use Rattle.protocol.specs.Verdict.{verdict}
 use Rattle.wire.specs.Parties.{receiver, sender}
 use Rattle.protocol.specs.World.{World}
-use Rattle.safety.proofs.MovesAndHistories.TransitionForms.{arrived, settled_messages, checked, told_to, moved}
+use Rattle.safety.proofs.MovesAndHistories.TransitionForms.{arrived, concluded_messages, checked, told_to, moved}
 use Rattle.safety.proofs.AgreementOfNodes.CausalHistories.{Causal}
 use Rattle.units.proofs.Lists.Membership.{In}
 use Rattle.safety.proofs.WorldLemmas.NodesWithStation.{committed_unplaced}
@@ -158,15 +158,15 @@ module _ (scheme : Scheme) (moment : Moment) (w : World) (calm : Calm scheme w) 
 
   pub initiator_takes : (c : Code) (t : TransactionId) (said : NotifiedStatus) (x : Transition) (k : Content) (new : Status) → x.content ≡ Some k → In (notifies Itl (Registry c) t said) (sends (committed_of w Itl))
       → Last w (Registry c) t x → same_code t.code c ≡ true → initiator_row (Stands x.new) (Notified (notified_status said)) ≡ Move new → length (committed_of w (Registry c)) + 1 ≤ scheme.records
-      → verdict scheme (Registry c) (committed_of w (Registry c)) (Received (notifies Itl (Registry c) t said) moment) ≡ IsRecorded (moved x new moment.seconds (settled_messages c x.id new) ∷ [])
+      → verdict scheme (Registry c) (committed_of w (Registry c)) (Received (notifies Itl (Registry c) t said) moment) ≡ IsRecorded (moved x new moment.seconds (concluded_messages c x.id new) ∷ [])
   initiator_takes c t said x k new content h is own move room =
       let es = committed_of w (Registry c) in
       let told = notified_status said in
       (notified_open c t said x h is).0
       ∙ cond-true (same_code t.code c) _ _ own
       ∙ ap (by_row scheme es (decide.moved t x.content moment.seconds (initiator_sends c t x.content (Notified told)))) (ap (λ z. initiator_row z (Notified told)) (known_status x k content) ∙ move)
-      ∙ ap (λ y. recorded_if_room scheme es (y ∷ [])) (settled_transition c t x told new moment.seconds (newest_id (transitions_of es) t x is).1 move)
-      ∙ enters_here scheme es (moved x new moment.seconds (settled_messages c x.id new) ∷ []) room
+      ∙ ap (λ y. recorded_if_room scheme es (y ∷ [])) (concluded_transition c t x told new moment.seconds (newest_id (transitions_of es) t x is).1 move)
+      ∙ enters_here scheme es (moved x new moment.seconds (concluded_messages c x.id new) ∷ []) room
 
   pub acquirer_takes : (c : Code) (t : TransactionId) (said : NotifiedStatus) (x : Transition) (k : Content) (new : Status) → x.content ≡ Some k → In (notifies Itl (Registry c) t said) (sends (committed_of w Itl))
       → Last w (Registry c) t x → same_code t.code c ≡ false → acquirer_row (Stands x.new) (Notified (notified_status said)) ≡ Move new → length (committed_of w (Registry c)) + 1 ≤ scheme.records

@@ -101,7 +101,7 @@ CHANGES = {
         Change("the greatest unit is out of range", CHECKS, "nat_lt last_unit b.last", "not (nat_lt b.last last_unit)", "last_units"),
         Change("sixteen blocks are too many", CHECKS, "nat_lt most_blocks (length o.units)", "not (nat_lt (length o.units) most_blocks)", "most_blocks"),
         Change("the greatest account is out of range", CHECKS, "nat_lt last_account o.to_account", "not (nat_lt o.to_account last_account)", "last_accounts"),
-        Change("an acquirer that isn't there", CHECKS, "not (has_member scheme o.to_registry) || same_code", "same_code", "acquirer_before_receiving_account"),
+        Change("an acquirer that isn't there", CHECKS, "not (has_member scheme o.acquirer) || same_code", "same_code", "acquirer_before_receiving_account"),
         swapped("range before block count", CHECKS, "wrong_block_count)", "block_out_of_range)", "block_count_before_range"),
         swapped("overlap before range", CHECKS, "block_out_of_range)", "blocks_overlap)", "range_before_overlap"),
         swapped("account before overlap", CHECKS, "blocks_overlap)", "account_not_open)", "overlap_before_account"),

@@ -149,7 +149,7 @@ def message_text(message):
     if message.kind != "proposal":
         return {**found, "call": "AcceptNotification", "codes": list(message.codes), "status": message.kind}
     units = [formats.block_text(it) for it in message.content.units]
-    parts = {"account": message.content.account, "to_account": message.content.to_account, "to_registry": message.content.to_registry}
+    parts = {"account": message.content.account, "to_account": message.content.to_account, "to_registry": message.content.acquirer}
     return {**found, **parts, "call": "AcceptProposal", "status": message.status, "units": units}
 
 
@@ -159,7 +159,7 @@ def record_text(given):
     if name == "message":
         parts = {"input": "received", "message": message_text(value[0]), "moment": value[1]}
     elif name == "propose":
-        parts = {"account": value.account, "input": name, "to_account": value.to_account, "to_registry": value.to_registry,
+        parts = {"account": value.account, "input": name, "to_account": value.to_account, "to_registry": value.acquirer,
                  "units": [formats.block_text(it) for it in value.units]}
     elif name == "request":
         parts = {"input": name, "transaction": formats.identifier_text(value)}

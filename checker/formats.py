@@ -13,7 +13,7 @@ NUMBER = re.compile(r"0|[1-9][0-9]{0,17}")
 EPOCH = datetime.datetime(1970, 1, 1, tzinfo=datetime.timezone.utc)
 
 Block = namedtuple("Block", "origin period first last kind")
-Order = namedtuple("Order", "account to_registry to_account units")
+Order = namedtuple("Order", "account acquirer to_account units")
 Event = namedtuple("Event", "name node words")
 
 

@@ -103,7 +103,7 @@ class Registry(Node):
             raise Refused(105)
         if any(self.held[piece][2] for piece, _ in pieces):
             raise Refused(106)
-        if order.to_registry not in self.registries or order.to_registry == self.name:
+        if order.acquirer not in self.registries or order.acquirer == self.name:
             raise Refused(107)
         if not 1 <= order.to_account <= LAST_ACCOUNT:
             raise Refused(108)
@@ -261,7 +261,7 @@ class Log(Node):
     def cancel(self, transaction):
         found = self.transfers[transaction]
         found.status = "Cancelled"
-        return [notification("Cancelled", ITL, to, transaction) for to in (transaction[0], found.content.to_registry)]
+        return [notification("Cancelled", ITL, to, transaction) for to in (transaction[0], found.content.acquirer)]
 
     def message(self, message, moment):
         found = self.transfers.get(message.transaction)
@@ -272,7 +272,7 @@ class Log(Node):
             return self.cancellation(message, found)
         if not found:
             raise Refused(47)
-        if message.kind in ("Accepted", "Rejected") and (found.content is None or message.sender != found.content.to_registry):
+        if message.kind in ("Accepted", "Rejected") and (found.content is None or message.sender != found.content.acquirer):
             raise Refused(44)
         if message.kind == "Completed" and message.sender != initiator:
             raise Refused(44)
@@ -283,14 +283,14 @@ class Log(Node):
             return LATE
         moves = {("Checked", "Accepted"): initiator, ("Checked", "Rejected"): initiator}
         if found.content is not None:
-            moves["Accepted", "Completed"] = found.content.to_registry
+            moves["Accepted", "Completed"] = found.content.acquirer
         if (found.status, message.kind) not in moves:
             raise Refused(46)
 
         def done():
             found.status = message.kind
             if message.kind == "Completed":
-                self.owner.update({piece: found.content.to_registry for block in found.content.units for piece in self.atoms.of(block)})
+                self.owner.update({piece: found.content.acquirer for block in found.content.units for piece in self.atoms.of(block)})
             return [notification(message.kind, ITL, moves[was, message.kind], message.transaction, message.codes)]
 
         was = found.status
@@ -323,7 +323,7 @@ class Log(Node):
             self.transfers[message.transaction] = Transfer(status, content, tuple(codes), moment)
             if codes:
                 return [notification(status, ITL, message.sender, message.transaction, codes)]
-            return [message._replace(sender=ITL, receiver=content.to_registry, status=status)]
+            return [message._replace(sender=ITL, receiver=content.acquirer, status=status)]
 
         return done
 
@@ -332,13 +332,13 @@ class Log(Node):
         under_way = {piece for it in self.transfers.values() if it.status in ("Checked", "Accepted")
                      for block in it.content.units for piece in self.atoms.of(block)}
         causes = {
-            201: content.to_registry not in self.registries or content.to_registry == initiator,
+            201: content.acquirer not in self.registries or content.acquirer == initiator,
             202: len({piece for piece, _ in pieces}) < len(pieces),
             203: any(piece not in self.allotted for piece, _ in pieces),
             204: any(piece in self.owner and self.owner[piece] != initiator for piece, _ in pieces),
             205: any(piece in under_way for piece, _ in pieces),
             206: any(piece in self.allotted and self.allotted[piece][1] != kind for piece, kind in pieces),
             207: not self.eligible_now[initiator],
-            208: not self.eligible_now.get(content.to_registry, True),
+            208: not self.eligible_now.get(content.acquirer, True),
         }
         return [code for code, holds in causes.items() if holds]

@@ -75,9 +75,9 @@ class World:
         owing = []
         proposed = sorted((at, it) for code in self.registries for at, it in self.nodes[code].transfers.items() if at[0] == code)
         for at, it in proposed:
-            others = [self.nodes[name].transfers.get(at) for name in (ITL, it.content.to_registry)]
+            others = [self.nodes[name].transfers.get(at) for name in (ITL, it.content.acquirer)]
             log, acquirer = (other.status if other else "none" for other in others)
-            found.append(f"transaction {identifier_text(at)} {at[0]} {it.status} ITL {log} {it.content.to_registry} {acquirer}")
+            found.append(f"transaction {identifier_text(at)} {at[0]} {it.status} ITL {log} {it.content.acquirer} {acquirer}")
             if it.status == "Completed" and acquirer != "Completed":
                 owing.append((at, it.content.units))
         for code in self.registries:

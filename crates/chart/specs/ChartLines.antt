@@ -31,7 +31,7 @@ yes_or_no may = if may then codes "yes" else codes "no"
 
 -- an order in few words; a moment is told in seconds
 abbrev pub order_text : Input → List ℕ
-order_text (Propose o) = codes "propose " ++ decimal o.account ++ codes " " ++ code_text o.to_registry ++ codes " " ++ decimal o.to_account ++ blocks_text o.units
+order_text (Propose o) = codes "propose " ++ decimal o.account ++ codes " " ++ code_text o.acquirer ++ codes " " ++ decimal o.to_account ++ blocks_text o.units
 order_text (Request t) = codes "request " ++ id_text t
 order_text (OpenAccount n) = codes "open " ++ decimal n.value
 order_text (CloseAccount n) = codes "close " ++ decimal n.value

@@ -20,7 +20,7 @@ fn push_propose(text: &mut String, order: &Order) -> Result<(), NoMemory>
     ensures { OnOk result (string_bytes text.new ≡ string_bytes text.old ++ order_text (Input.Propose order.now)) }
 {
     let account = order.account();
-    let registry = order.to_registry();
+    let registry = order.acquirer();
     let to_account = order.to_account();
     write!(text, "propose {account} {registry} {to_account}")?;
     push_blocks(text, order.units())

@@ -37,7 +37,7 @@ holding_refusals scheme c known account blocks =
 -- by where the units are to go
 abbrev pub receiver_refusals : Scheme → Code → Order → Causes
 receiver_refusals scheme c o =
-    (not (has_member scheme o.to_registry) || same_code o.to_registry c, no_such_acquirer)
+    (not (has_member scheme o.acquirer) || same_code o.acquirer c, no_such_acquirer)
     ∷ ((o.to_account == 0) || nat_lt last_account o.to_account, account_out_of_range)
     ∷ []
 

@@ -138,7 +138,7 @@ fn check_receiver(scheme: &Scheme, code: Code, order: &Order) -> Result<(), Refu
     ensures number { OnOk result (IsAccountNumber order.now.to_account) }
     ensures refused { IfErr result (λ r. first_of (receiver_refusals scheme.now code order.now) ≡ Some r.code) }
 {
-    if is_no_acquirer(scheme, code, order.to_registry()) {
+    if is_no_acquirer(scheme, code, order.acquirer()) {
         return Err(Refusal {
             code: NO_SUCH_ACQUIRER,
         });
@@ -178,7 +178,7 @@ fn new_content(order: &Order, units: Vec<Block>) -> Content
 {
     let content = Content::new(
         order.account(),
-        order.to_registry(),
+        order.acquirer(),
         order.to_account(),
         Items::from_vec(units),
     );

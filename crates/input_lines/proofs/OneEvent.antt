@@ -92,17 +92,17 @@ blocks_once (r ∷ b) (s ∷ c) p q e =
     ap (λ (x : RawBlock). x ∷ b) (raw_once r s p.0 q.0 h.0) ∙ ap (λ (l : List RawBlock). s ∷ l) (blocks_once b c p.1 q.1 h.1)
 
 order_once : (words : List (List ℕ)) (o q : Order) → IsOrder o → IsOrder q
-    → words ≡ decimal o.account ∷ code_text o.to_registry ∷ decimal o.to_account ∷ map raw_text o.units
-    → words ≡ decimal q.account ∷ code_text q.to_registry ∷ decimal q.to_account ∷ map raw_text q.units → o ≡ q
+    → words ≡ decimal o.account ∷ code_text o.acquirer ∷ decimal o.to_account ∷ map raw_text o.units
+    → words ≡ decimal q.account ∷ code_text q.acquirer ∷ decimal q.to_account ∷ map raw_text q.units → o ≡ q
 order_once words o q f g d e =
     let one = same_head words (decimal o.account) (decimal q.account) _ _ d e in
-    let two = same_head _ (code_text o.to_registry) (code_text q.to_registry) _ _ refl one.1 in
+    let two = same_head _ (code_text o.acquirer) (code_text q.acquirer) _ _ refl one.1 in
     let three = same_head _ (decimal o.to_account) (decimal q.to_account) _ _ refl two.1 in
     let account = number_same o.account q.account f.account g.account one.0 in
-    let to_registry = code_text_same o.to_registry q.to_registry two.0 in
+    let acquirer = code_text_same o.acquirer q.acquirer two.0 in
     let to_account = number_same o.to_account q.to_account f.to_account g.to_account three.0 in
     let units = blocks_once o.units q.units f.units g.units three.1 in
-    λ i. record { account = account i; to_registry = to_registry i; to_account = to_account i; units = units i }
+    λ i. record { account = account i; acquirer = acquirer i; to_account = to_account i; units = units i }
 
 node_once : (words : List (List ℕ)) (v : List ℕ) (m n : Node) (xs ys : List (List ℕ)) → words ≡ v ∷ node_text m ∷ xs → words ≡ v ∷ node_text n ∷ ys → (m ≡ n) × (xs ≡ ys)
 node_once words v m n xs ys p q =

@@ -30,7 +30,7 @@ pub record AreWithMoment (words front : List (List ℕ)) (moment : Moment) : Typ
 -- line
 abbrev pub AreInputWords : List (List ℕ) → Node → Input → Type 0
 AreInputWords words node (Propose o) =
-    (words ≡ codes "propose" ∷ node_text node ∷ decimal o.account ∷ code_text o.to_registry ∷ decimal o.to_account ∷ map raw_text o.units) × IsOrder o
+    (words ≡ codes "propose" ∷ node_text node ∷ decimal o.account ∷ code_text o.acquirer ∷ decimal o.to_account ∷ map raw_text o.units) × IsOrder o
 AreInputWords words node (Request id) = words ≡ codes "request" ∷ node_text node ∷ id_text id ∷ []
 AreInputWords words node (OpenAccount account) = words ≡ codes "open" ∷ node_text node ∷ decimal account.value ∷ []
 AreInputWords words node (CloseAccount account) = words ≡ codes "close" ∷ node_text node ∷ decimal account.value ∷ []

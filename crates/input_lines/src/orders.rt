@@ -42,9 +42,9 @@ fn parties<'w, 'a>(words: &'w [&'a str]) -> Option<(Node, u64, Code, u64, &'w [&
 {
     let (node, words) = node_first(words)?;
     let (account, words) = number_first(words)?;
-    let (to_registry, words) = code_first(words)?;
+    let (acquirer, words) = code_first(words)?;
     let (to_account, words) = number_first(words)?;
-    Some((node, account, to_registry, to_account, words))
+    Some((node, account, acquirer, to_account, words))
 }
 
 /// The order that the words after `propose` write.
@@ -53,9 +53,9 @@ pub(crate) fn propose(alloc: Global, words: &[&str]) -> Result<WorldEvent, Words
     ensures order { result ≡ Err WordsFault.Order → (e : WorldEvent) → AreWords (codes "propose" ∷ texts words.now) e
         → ⊥ }
 {
-    let (node, account, to_registry, to_account, words) = parties(words).ok_or(WordsFault::Order)?;
+    let (node, account, acquirer, to_account, words) = parties(words).ok_or(WordsFault::Order)?;
     let units = blocks(alloc, words)?;
-    match Order::new(account, to_registry, to_account, units) {
+    match Order::new(account, acquirer, to_account, units) {
         Some(order) => Ok(WorldEvent::Take {
             node,
             input: Input::Propose(order),

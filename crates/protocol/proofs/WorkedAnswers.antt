@@ -108,7 +108,7 @@ log_finds = (refl, refl)
 -- ---- a registry
 
 abbrev order : ℕ → ℕ → Input
-order first last = Propose (record { account = 1; to_registry = jp; to_account = 7; units = block first last ∷ [] })
+order first last = Propose (record { account = 1; acquirer = jp; to_account = 7; units = block first last ∷ [] })
 
 abbrev two_orders : List Input
 two_orders = order 1 10 ∷ order 11 20 ∷ []

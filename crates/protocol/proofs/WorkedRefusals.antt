@@ -227,7 +227,7 @@ all_free = record {
 }
 
 abbrev good : Order
-good = record { account = 1; to_registry = jp; to_account = 7; units = all_units }
+good = record { account = 1; acquirer = jp; to_account = 7; units = all_units }
 
 abbrev last_id : TransactionId
 last_id = record { code = nz; number = 999_999; in_range = number_from 999_999 refl }

@@ -159,7 +159,7 @@ ten_days_after = at 1_336_694_400 (lit≤ tt)
 -- ---- events
 
 abbrev pub propose : Code → ℕ → Code → ℕ → List RawBlock → WorldEvent
-propose c account to to_account units = Take (Registry c) (Propose (record { account = account; to_registry = to; to_account = to_account; units = units }))
+propose c account to to_account units = Take (Registry c) (Propose (record { account = account; acquirer = to; to_account = to_account; units = units }))
 
 abbrev pub number : (n : ℕ) → n < 10 ^ 18 → Number
 number n short = record { value = n; short = short }

@@ -52,7 +52,7 @@ holding scheme c es = record {
 -- ---- an order to transfer units
 
 abbrev pub content_of : Order → Content
-content_of o = record { account = o.account; acquirer = o.to_registry; to_account = o.to_account; units = canonical o.units }
+content_of o = record { account = o.account; acquirer = o.acquirer; to_account = o.to_account; units = canonical o.units }
 
 -- under the registry's next number, where one is left
 abbrev pub new_transfer_verdict : Scheme → Code → List Entry → Content → Option TransactionId → Verdict

@@ -52,7 +52,7 @@ propose_refusals scheme c known o =
     ∷ (not (has_account scheme c o.account) || known.is_closed o.account, account_not_open)
     ∷ (list_any (λ p. not (known.has o.account p)) (pieces o.units), unit_not_held)
     ∷ (list_any (λ p. known.is_reserved p.unit) (pieces o.units), unit_reserved)
-    ∷ (not (has_member scheme o.to_registry) || same_code o.to_registry c, no_such_acquirer)
+    ∷ (not (has_member scheme o.acquirer) || same_code o.acquirer c, no_such_acquirer)
     ∷ ((o.to_account == 0) || nat_lt last_account o.to_account, account_out_of_range)
     ∷ []
 

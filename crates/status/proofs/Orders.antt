@@ -24,17 +24,17 @@ same_ordered (x ∷ xs) (y ∷ ys) = rw (eq_raw x y, same_ordered xs ys) refl
 order_of_same : (a b : Order) → same_order a b ≡ true → a ≡ b
 order_of_same a b e =
     let h = and_parts (a.account == b.account) _ e in
-    let r = and_parts (same_code a.to_registry b.to_registry) _ h.1 in
+    let r = and_parts (same_code a.acquirer b.acquirer) _ h.1 in
     let t = and_parts (a.to_account == b.to_account) (same_blocks a.units b.units) r.1 in
     let accounts = eqb-true a.account b.account h.0 in
-    let registries = code_of_same a.to_registry b.to_registry r.0 in
+    let registries = code_of_same a.acquirer b.acquirer r.0 in
     let others = eqb-true a.to_account b.to_account t.0 in
     let blocks = blocks_of_same a.units b.units t.1 in
-    λ i. record { account = accounts i; to_registry = registries i; to_account = others i; units = blocks i }
+    λ i. record { account = accounts i; acquirer = registries i; to_account = others i; units = blocks i }
 
 same_order-refl : (a : Order) → same_order a a ≡ true
 same_order-refl a =
-    and_from (a.account == a.account) _ (eq-eqb a.account a.account refl) (and_from (same_code a.to_registry a.to_registry) _ (same_code-refl a.to_registry)
+    and_from (a.account == a.account) _ (eq-eqb a.account a.account refl) (and_from (same_code a.acquirer a.acquirer) _ (same_code-refl a.acquirer)
     (and_from (a.to_account == a.to_account) _ (eq-eqb a.to_account a.to_account refl) (same_blocks-refl a.units)))
 
 -- two orders are the same where the test says so

@@ -9,7 +9,7 @@ use Rattle.status.specs.Content.{same_blocks}
 
 pub record Order : Type 0 where
   pub account : ℕ
-  pub to_registry : Code
+  pub acquirer : Code
   pub to_account : ℕ
   pub units : List RawBlock
 
@@ -21,4 +21,4 @@ pub record IsOrder (o : Order) : Type 0 where
 
 -- blocks compared as lists
 abbrev pub same_order : Order → Order → Bool
-same_order a b = (a.account == b.account) && (same_code a.to_registry b.to_registry && ((a.to_account == b.to_account) && same_blocks a.units b.units))
+same_order a b = (a.account == b.account) && (same_code a.acquirer b.acquirer && ((a.to_account == b.to_account) && same_blocks a.units b.units))

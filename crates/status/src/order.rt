@@ -14,7 +14,7 @@ use units::{Code, Items, NoMemory, RawBlock};
 #[derive(Debug, Drop)]
 pub struct Order {
     account: u64,
-    to_registry: Code,
+    acquirer: Code,
     to_account: u64,
     units: Items<RawBlock>,
 }
@@ -25,10 +25,10 @@ impl Model for Order {
     ghost Value = { Asked };
 
     ghost view = { λ o. record
-        { account = o.account; to_registry = o.to_registry; to_account = o.to_account; units = o.units } };
+        { account = o.account; acquirer = o.acquirer; to_account = o.to_account; units = o.units } };
 
     ghost invariant = { λ o. IsOrder
-        (record { account = o.account; to_registry = o.to_registry; to_account = o.to_account; units = o.units }) };
+        (record { account = o.account; acquirer = o.acquirer; to_account = o.to_account; units = o.units }) };
 }
 
 fn are_short(blocks: &[RawBlock]) -> bool
@@ -52,21 +52,21 @@ impl Order {
     /// An order of these parts, or `None` where a number has more than `MOST_DIGITS` digits.
     pub fn new(
         account: u64,
-        to_registry: Code,
+        acquirer: Code,
         to_account: u64,
         units: Items<RawBlock>,
     ) -> Option<Order>
         ensures some { IfSome result
-            (λ o. o ≡ record { account = account; to_registry = to_registry; to_account = to_account; units = units }) }
+            (λ o. o ≡ record { account = account; acquirer = acquirer; to_account = to_account; units = units }) }
         ensures valid { IfSome result (λ o. IsOrder o) }
         ensures none { IfNone result
-            (IsOrder (record { account = account; to_registry = to_registry; to_account = to_account; units = units })
+            (IsOrder (record { account = account; acquirer = acquirer; to_account = to_account; units = units })
             → ⊥) }
     {
         if account < TOO_LONG && to_account < TOO_LONG && are_short(units.as_slice()) {
             Some(Order {
                 account,
-                to_registry,
+                acquirer,
                 to_account,
                 units,
             })
@@ -84,10 +84,10 @@ impl Order {
     }
 
     /// The registry that the units are to go to.
-    pub fn to_registry(&self) -> Code
-        ensures { result ≡ self.now.to_registry }
+    pub fn acquirer(&self) -> Code
+        ensures { result ≡ self.now.acquirer }
     {
-        self.to_registry
+        self.acquirer
     }
 
     /// The account there that the units are to go to.
@@ -112,7 +112,7 @@ impl Order {
         ensures meaning { IsTrue result ↔ self.now ≡ other.now }
     {
         self.account == other.account
-            && self.to_registry == other.to_registry
+            && self.acquirer == other.acquirer
             && self.to_account == other.to_account
             && are_same_blocks(self.units.as_slice(), other.units.as_slice())
     }
@@ -123,7 +123,7 @@ impl Order {
     {
         Ok(Order {
             account: self.account,
-            to_registry: self.to_registry,
+            acquirer: self.acquirer,
             to_account: self.to_account,
             units: self.units.copy()?,
         })

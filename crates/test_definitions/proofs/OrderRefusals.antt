@@ -137,7 +137,7 @@ all_free = record {
 }
 
 abbrev greatest : Order
-greatest = record { account = 1; to_registry = jp; to_account = 999_999_999; units = block 999_999_999_999_998 999_999_999_999_999 ∷ twelve ++ block 1 1 ∷ block 2 2 ∷ block 3 3 ∷ [] }
+greatest = record { account = 1; acquirer = jp; to_account = 999_999_999; units = block 999_999_999_999_998 999_999_999_999_999 ∷ twelve ++ block 1 1 ∷ block 2 2 ∷ block 3 3 ∷ [] }
 
 pub all_limits_at_once : codes_of (propose_refusals scheme_s nz all_free greatest) ≡ []
 all_limits_at_once = refl

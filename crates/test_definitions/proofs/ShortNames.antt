@@ -83,7 +83,7 @@ abbrev pub comes : Message → Input
 comes m = input.Received m first_of_may
 
 abbrev pub orders : ℕ → Code → ℕ → List RawBlock → Input
-orders account to to_account units = input.Propose (record { account = account; to_registry = to; to_account = to_account; units = units })
+orders account to to_account units = input.Propose (record { account = account; acquirer = to; to_account = to_account; units = units })
 
 -- ---- what a node answers to each of these inputs after the journal
 

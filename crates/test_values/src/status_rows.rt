@@ -267,7 +267,7 @@ fn assert_copied(
     assert!(rt; copy.same(order));
     let accounts = (copy.account(), copy.to_account());
     assert_same(rt, accounts, (account, to_account));
-    assert_same(rt, Some(copy.to_registry()), Code::read("JP"));
+    assert_same(rt, Some(copy.acquirer()), Code::read("JP"));
     assert_same(rt, copy.units().len(), 1);
     for block in copy.units() {
         assert_same(rt, (block.first, block.last), (first, last));

@@ -117,9 +117,9 @@ order_once f d a b h k =
     let q = k.0.1 in
     let accounts = whole_once d (codes "account") a.account b.account p.0 q.0 in
     let others = whole_once d (codes "to_account") a.to_account b.to_account p.1.1.0 q.1.1.0 in
-    let registries = code_once d (codes "to_registry") a.to_registry b.to_registry p.1.1.1.0 q.1.1.1.0 in
+    let registries = code_once d (codes "to_registry") a.acquirer b.acquirer p.1.1.1.0 q.1.1.1.0 in
     let lists = blocks_once d (codes "units") a.units b.units h.1.units k.1.units p.1.1.1.1.0 q.1.1.1.1.0 in
-    λ i. record { account = accounts i; to_registry = registries i; to_account = others i; units = lists i }
+    λ i. record { account = accounts i; acquirer = registries i; to_account = others i; units = lists i }
 
 -- one message at the key
 inner_once : (d : Data) (x y : Data) (m n : Message) → HasAt d (codes "message") x → HasAt d (codes "message") y → IsMessage x m → IsMessage y n → m ≡ n

@@ -41,7 +41,7 @@ AreUnitsWithin format _ = Unit {0}
 abbrev pub order_fields : Order → List Field
 order_fields o =
     (codes "account", whole o.account) ∷ (codes "input", string (codes "propose")) ∷ (codes "to_account", whole o.to_account)
-    ∷ (codes "to_registry", string (code_text o.to_registry)) ∷ (codes "units", blocks o.units) ∷ []
+    ∷ (codes "to_registry", string (code_text o.acquirer)) ∷ (codes "units", blocks o.units) ∷ []
 
 -- the fields of an input, keys in byte order; where it is a message received, with the value that writes it
 abbrev pub input_fields : Data → Input → List Field

@@ -43,9 +43,9 @@ fn order(alloc: Global, value: &Value, format: RecordFormat) -> Result<Order, Te
     }
     let account = whole_at(value, "account").ok_or(TextFault::Shape)?;
     let to_account = whole_at(value, "to_account").ok_or(TextFault::Shape)?;
-    let to_registry = code_at(value, "to_registry").ok_or(TextFault::Shape)?;
+    let acquirer = code_at(value, "to_registry").ok_or(TextFault::Shape)?;
     let units = raw_blocks(alloc, value)?;
-    Order::new(account, to_registry, to_account, units).ok_or(TextFault::Shape)
+    Order::new(account, acquirer, to_account, units).ok_or(TextFault::Shape)
 }
 
 /// The transaction of an order to ask for cancellation.

@@ -29,7 +29,7 @@ fn put_accounts(alloc: Global, map: &mut Map<String, Value>, order: &Order) -> R
     put_number(alloc, map, "account", order.account())?;
     put_text(alloc, map, "input", "propose")?;
     put_number(alloc, map, "to_account", order.to_account())?;
-    put_code(alloc, map, "to_registry", order.to_registry())
+    put_code(alloc, map, "to_registry", order.acquirer())
 }
 
 fn order_members(alloc: Global, order: &Order) -> Result<Map<String, Value>, NoMemory>

@@ -74,10 +74,10 @@ abbrev jp1 : TransactionId
 jp1 = record { code = jp; number = 1; in_range = number_from 1 refl }
 
 abbrev jp_asks : Input
-jp_asks = Propose (record { account = 1; to_registry = nz; to_account = 1; units = one_of jp ∷ [] })
+jp_asks = Propose (record { account = 1; acquirer = nz; to_account = 1; units = one_of jp ∷ [] })
 
 abbrev nz_asks : Input
-nz_asks = Propose (record { account = 1; to_registry = jp; to_account = 1; units = one_of nz ∷ [] })
+nz_asks = Propose (record { account = 1; acquirer = jp; to_account = 1; units = one_of nz ∷ [] })
 
 abbrev jp_content : Content
 jp_content = record { account = 1; acquirer = nz; to_account = 1; units = one_of jp ∷ [] }

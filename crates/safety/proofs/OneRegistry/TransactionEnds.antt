@@ -198,8 +198,8 @@ module _ (scheme : Scheme) (c : Code) where
 
   own_move : (es : List Entry) (input : Input) (x : Transition) → RegistryMove scheme c es input x → OwnContents scheme c (transitions_of es) → same_code x.id.code c ≡ true → OwnContent scheme c x
   own_move es input x (proposes o t none is fresh) old own =
-      let a = or_parts (not (has_member scheme o.to_registry)) (same_code o.to_registry c) none.1.1.1.1.1.1.0 in
-      record { content = content_of o; is = refl; acquirer_known = not-false (has_member scheme o.to_registry) a.0; acquirer_other = a.1 }
+      let a = or_parts (not (has_member scheme o.acquirer)) (same_code o.acquirer c) none.1.1.1.1.1.1.0 in
+      record { content = content_of o; is = refl; acquirer_known = not-false (has_member scheme o.acquirer) a.0; acquirer_other = a.1 }
   own_move es input x (asks t q was mine stood) old own =
       let a = old q (newest_id (transitions_of es) t q was).0 own in
       record { content = a.content; is = a.is; acquirer_known = a.acquirer_known; acquirer_other = a.acquirer_other }

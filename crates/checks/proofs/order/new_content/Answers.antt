@@ -12,7 +12,7 @@ pub unwrap-requires : goal.unwrap-requires
 unwrap-requires c =
     let o = c.args.order.now in
     let first = sym c.account.ensures.value in
-    let second = sym c.to_registry.ensures in
+    let second = sym c.acquirer.ensures in
     let third = sym c.to_account.ensures.value in
     let fourth = sym c.from_vec.ensures in
     let sound = is_content o c.args.units.items c.requires.units c.requires.blocks c.requires.account c.requires.to_account in

@@ -155,7 +155,7 @@ CHANGES = {
         Change("a request is one for every transaction", HISTORY, "is_request_of t (Request u) = same_id u t", "is_request_of t (Request u) = true", "requests_apart"),
         Change("an order is for every registry", HISTORY, "cond (same_code d c) (Some may) None", "Some may", "eligible_registries"),
         Change("the book moves with the acceptance", HISTORY, "cond (same_status x.new Completed && carries x s)", "cond (carries x s)", "owners_by_the_book"),
-        Change("units stay in the account that they were allotted to", HISTORY, "cond (credits c s x) (place_in s x.content) (place scheme c xs s)", "place scheme c xs s", "held_as_credited"),
+        Change("units stay in the account that they were allotted to", HISTORY, "cond (credits c s x) (position_in s x.content) (position scheme c xs s)", "position scheme c xs s", "held_as_credited"),
         Change("units stay reserved", HISTORY, "(stands_at xs x.id Proposed && carries x s)", "carries x s", "units_of_initiator"),
         Change("a unit that is held is credited", REGISTRY, "unless_held true (Move Completed) = Refused", "unless_held true (Move Completed) = Move Completed", "held_already"),
         Change("units that nobody was allotted aren't in an account", REGISTRY, " ++ flat_map (λ x. option_map_or (λ k. pieces k.units) x.content []) xs", "", "held_without_allotment"),

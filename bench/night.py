@@ -119,9 +119,9 @@ class Rehearsal:
         if world.bag:
             self.moment += self.random.choice((0, 0, 1, 60, 7_200))
             fresh = [at for at in range(len(world.bag)) if at not in self.delivered]
-            place = self.random.choice(fresh) if fresh and self.random.random() < 0.7 else self.random.randrange(len(world.bag) + 1)
-            self.delivered.add(place)
-            return f"deliver {place} {formats.moment_text(self.moment)}"
+            number = self.random.choice(fresh) if fresh and self.random.random() < 0.7 else self.random.randrange(len(world.bag) + 1)
+            self.delivered.add(number)
+            return f"deliver {number} {formats.moment_text(self.moment)}"
         return f"post {self.random.choice((*self.codes, formats.ITL))} {self.random.choice((0, 1))}"
 
     def stops(self):

@@ -21,10 +21,10 @@ class World:
     def apply(self, event):
         """The outcome of an event, in the words of a report."""
         if event.name == "deliver":
-            place, moment = event.words
-            if place >= len(self.bag) or self.bag[place].receiver in self.stopped:
+            number, moment = event.words
+            if number >= len(self.bag) or self.bag[number].receiver in self.stopped:
                 return "not possible"
-            message = self.bag[place]
+            message = self.bag[number]
             return self.nodes[message.receiver].take(Given("message", (message, moment)))
         if event.node not in self.nodes or (event.name in ORDERS and event.node == ITL):
             return "not possible"

@@ -1,3 +1,3 @@
 pub mod Tables
 pub mod AwaitedTransfers
-pub mod PlacesInOrder
+pub mod EntriesInOrder

@@ -1,7 +1,7 @@
 //! Transfers that accounts await.
 ghost use Rattle.std.specs.BTreeSet.{contains};
 ghost use Rattle.std.specs.Prelude.{◌≡◌, ◌||◌, ◌&&◌, not, ℕ, true, false, Some, IfSome, IfNone, OnOk, OnErr};
-ghost use Rattle.acquirer.specs.Awaiting.{awaited_cmp, is_awaited_place};
+ghost use Rattle.acquirer.specs.Awaiting.{awaited_cmp, is_awaited_entry};
 ghost use Rattle.acquirer.specs.Transfers.{is_awaited_by};
 ghost use Rattle.acquirer.specs.declared.awaited.Awaited.{Awaited};
 ghost use Rattle.status.specs.Id.{id_cmp, same_id};
@@ -20,9 +20,9 @@ pub(crate) struct Awaited {
     pub id: TransactionId,
 }
 
-/// The place of a transfer among those that are awaited, or `None` where it isn't.
+/// The entry of a transfer among those that are awaited, or `None` where it isn't.
 pub(crate) fn awaited_of(id: TransactionId, transfer: &IncomingTransfer) -> Option<Awaited>
-    ensures { (q : Awaited) → is_awaited_place q result ≡ (same_id id q.id && is_awaited_by q.account
+    ensures { (q : Awaited) → is_awaited_entry q result ≡ (same_id id q.id && is_awaited_by q.account
         (Some transfer.now)) }
 {
     let content = transfer.content.as_ref()?;
@@ -35,33 +35,33 @@ pub(crate) fn awaited_of(id: TransactionId, transfer: &IncomingTransfer) -> Opti
     })
 }
 
-/// The place is there, where there is one. After `NoMemory` nothing has changed.
+/// The entry is there, where there is one. After `NoMemory` nothing has changed.
 pub(crate) fn remember(
     awaited: &mut BTreeSet<Awaited>,
-    place: Option<Awaited>,
+    entry: Option<Awaited>,
 ) -> Result<(), NoMemory>
     ensures ok { OnOk result ((q : Awaited)
-        → contains awaited_cmp awaited.new q ≡ (contains awaited_cmp awaited.old q || is_awaited_place q place)) }
+        → contains awaited_cmp awaited.new q ≡ (contains awaited_cmp awaited.old q || is_awaited_entry q entry)) }
     ensures err { OnErr result ((q : Awaited)
         → contains awaited_cmp awaited.new q ≡ contains awaited_cmp awaited.old q) }
 {
-    if let Some(place) = place {
-        awaited.insert(place)?;
+    if let Some(entry) = entry {
+        awaited.insert(entry)?;
     }
     Ok(())
 }
 
-/// The place isn't there any more.
-pub(crate) fn forget(awaited: &mut BTreeSet<Awaited>, place: Option<Awaited>)
+/// The entry isn't there any more.
+pub(crate) fn forget(awaited: &mut BTreeSet<Awaited>, entry: Option<Awaited>)
     ensures { (q : Awaited) → contains awaited_cmp awaited.new q ≡ (contains awaited_cmp awaited.old q && not
-        (is_awaited_place q place)) }
+        (is_awaited_entry q entry)) }
 {
-    if let Some(place) = place {
-        awaited.remove(&place);
+    if let Some(entry) = entry {
+        awaited.remove(&entry);
     }
 }
 
-/// The place of the account before all its transfers.
+/// The entry of the account before all its transfers.
 fn start_of(account: u64) -> Awaited
     ensures account { result.account ≡ account }
     ensures least { (t : TransactionId) → is_gt (id_cmp result.id t) ≡ false }

@@ -1,7 +1,7 @@
 //! The table of the transfers to an acquirer, and which of them are awaited.
 ghost use Rattle.std.specs.BTreeMap as tree;
 ghost use Rattle.std.specs.Prelude.{◌≡◌, ◌&&◌, false, None, Some, OnErr, OnOk, option_map, if◌then◌else◌};
-ghost use Rattle.acquirer.specs.Awaiting.{AreAwaited, is_awaited_place};
+ghost use Rattle.acquirer.specs.Awaiting.{AreAwaited, is_awaited_entry};
 ghost use Rattle.acquirer.specs.Transfers.{is_awaited_by, finished};
 ghost use Rattle.acquirer.specs.declared.awaited.Awaited.{Awaited};
 ghost use Rattle.status.specs.Id.{id_cmp, same_id};
@@ -43,21 +43,21 @@ pub(crate) fn put(
     ensures err { OnErr result (transfers.new.entries ≡ transfers.old.entries) }
     ensures kept { AreAwaited transfers.new awaited.new }
 {
-    let place = awaited_of(id, &transfer);
-    remember(awaited, place)?;
+    let entry = awaited_of(id, &transfer);
+    remember(awaited, entry)?;
     if let Err(refused) = insert(transfers, id, transfer) {
-        forget(awaited, place);
+        forget(awaited, entry);
         return Err(refused);
     }
     Ok(())
 }
 
-/// The place of the transfer with that identifier among those that are awaited, or `None` where it isn't.
-fn place_in(
+/// The entry of the transfer with that identifier among those that are awaited, or `None` where it isn't.
+fn awaited_in(
     transfers: &BTreeMap<TransactionId, IncomingTransfer>,
     id: TransactionId,
 ) -> Option<Awaited>
-    ensures { (q : Awaited) → is_awaited_place q result ≡ (same_id id q.id && is_awaited_by q.account
+    ensures { (q : Awaited) → is_awaited_entry q result ≡ (same_id id q.id && is_awaited_by q.account
         (tree.get id_cmp transfers.now id)) }
 {
     match transfers.get(&id) {
@@ -97,6 +97,6 @@ pub(crate) fn finish(
         (tree.get id_cmp transfers.old t) else tree.get id_cmp transfers.old t) }
     ensures kept { AreAwaited transfers.new awaited.new }
 {
-    forget(awaited, place_in(transfers, id));
+    forget(awaited, awaited_in(transfers, id));
     set_status(transfers, id, new);
 }

@@ -30,7 +30,7 @@ module _ {S : Type 0} (g : Ghosts S) where
   pub all_same : (olds : List S) → AreUnwritten g olds olds
   all_same olds k old new was is = subst (IsUnwritten g old) (one_some old new (sym was ∙ is)) (kept_same old)
 
-  -- the store at a place was read, and those at other places are as they were
+  -- the store at an index was read, and those at other indices are as they were
   pub kept_more : (olds news : List S) (at : ℕ) (old new : S) → at < length news → slice_get olds at ≡ Some old → IsUnwritten g old new
       → AreUnwritten g olds news → AreUnwritten g olds (set news at new)
   kept_more olds news at old new below was kept all k o w iso isw =
@@ -71,7 +71,7 @@ module _ {S : Type 0} (g : Ghosts S) (scheme : Scheme) where
             all k m o w j before ism iso (sym (set_other news at k new apart) ∙ isw) (sym (front_get journals (journal ∷ []) k (omega (arith, before, count))) ∙ isj)
       ]
 
-  -- the store at a place was not read
+  -- the store at an index was not read
   pub fails_first : (ns : List Node) (olds news : List S) (journals : List (List Input)) (at : ℕ) (n : Node) (old new : S) → length journals ≡ at → at < length news → slice_get ns at ≡ Some n → slice_get olds at ≡ Some old
       → AreLoadedTo g at scheme ns olds news journals → (e : OpFault) → FailsToLoadAt g scheme n old new e
       → FailsToLoad g scheme ns olds (set news at new) e

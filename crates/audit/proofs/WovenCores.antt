@@ -11,13 +11,13 @@ use Rattle.units.specs.Code.{same_node}
 use Rattle.units.specs.declared.code.Node.{Node}
 use Rattle.protocol.specs.Input.{Input}
 use Rattle.protocol.specs.Scheme.{Scheme}
-use Rattle.units.proofs.Lists.FirstPlaces.{place_later}
+use Rattle.units.proofs.Lists.FirstIndices.{index_later}
 use Rattle.protocol.specs.Claims.{committed_part, whole}
 use Rattle.protocol.specs.Registries.{nodes}
 use Rattle.protocol.specs.Weave.{Projects, uncommitted}
 use Rattle.protocol.specs.World.{World, Station, journal, opening, station}
 use Rattle.protocol.specs.declared.event.WorldEvent.{WorldEvent}
-use Rattle.protocol.proofs.NodePlaces.{Differ, nodes_differ}
+use Rattle.protocol.proofs.NodeIndices.{Differ, nodes_differ}
 use Rattle.safety.proofs.WorldLemmas.SchemesKept.{run_scheme}
 use Rattle.safety.proofs.WorldLemmas.StationsAfterPut.{at}
 use Rattle.world.proofs.KeptWorlds.{not_same}
@@ -26,15 +26,15 @@ use Rattle.weave.specs.Following.{IsWoven, journal_of}
 abbrev nodes_in : List Station → List Node
 nodes_in ss = map (λ (s : Station). s.node) ss
 
--- what stands at the place of that node
+-- what stands at the index of that node
 abbrev placed : List (List Input) → List Node → Node → List Input
 placed js ns n = option_map_or (λ i. slice_index_or js i []) (position_from (λ m. same_node m n) 0 ns) []
 
 -- ---- a node that isn't among these
 
-no_place : (ns : List Node) (n : Node) (k : ℕ) → AllByRecursion (Differ n) ns → position_from (λ m. same_node m n) k ns ≡ None
-no_place [] n k all = refl
-no_place (m ∷ ms) n k all = cond-false (same_node m n) (Some k) (position_from (λ m. same_node m n) (k + 1) ms) (not_same n m all.0) ∙ no_place ms n (k + 1) all.1
+no_index : (ns : List Node) (n : Node) (k : ℕ) → AllByRecursion (Differ n) ns → position_from (λ m. same_node m n) k ns ≡ None
+no_index [] n k all = refl
+no_index (m ∷ ms) n k all = cond-false (same_node m n) (Some k) (position_from (λ m. same_node m n) (k + 1) ms) (not_same n m all.0) ∙ no_index ms n (k + 1) all.1
 
 no_station : (ss : List Station) (n : Node) → AllByRecursion (Differ n) (nodes_in ss) → at n ss ≡ None
 no_station [] n all = refl
@@ -65,10 +65,10 @@ all_placed (s ∷ ss) (j ∷ js) differ count each = ap (λ (l : List (List Inpu
         elim (cases_Bool (same_node s.node n)) [
           | inl here ↦
               let apart = subst (λ (m : Node). AllByRecursion (Differ m) (nodes_in ss)) (node_of_same s.node n here) differ.0 in
-              ap whole (no_station ss n apart) ∙ sym (ap (λ o. option_map_or (λ i. slice_index_or js i []) o []) (no_place (nodes_in ss) n 0 apart))
+              ap whole (no_station ss n apart) ∙ sym (ap (λ o. option_map_or (λ i. slice_index_or js i []) o []) (no_index (nodes_in ss) n 0 apart))
           | inr other ↦
               sym (ap whole (cond-false (same_node s.node n) (Some s) (at n ss) other)) ∙ each n
-              ∙ ap (λ o. option_map_or (λ i. slice_index_or (j ∷ js) i []) o []) (cond-false (same_node s.node n) (Some 0) (position_from (λ m. same_node m n) 1 (nodes_in ss)) other ∙ place_later (λ m. same_node m n) 0 (nodes_in ss))
+              ∙ ap (λ o. option_map_or (λ i. slice_index_or (j ∷ js) i []) o []) (cond-false (same_node s.node n) (Some 0) (position_from (λ m. same_node m n) 1 (nodes_in ss)) other ∙ index_later (λ m. same_node m n) 0 (nodes_in ss))
               ∙ later j js (position_from (λ m. same_node m n) 0 (nodes_in ss))
         ]
 

@@ -32,8 +32,8 @@ pub fn codes(alloc: Global) -> Result<Vec<Code>, Fault> {
 /// The text of the scheme of these registries, with as many records as a scheme allows.
 pub fn scheme_text(alloc: Global, codes: &[Code]) -> Result<String, Fault> {
     let mut text = format!(in alloc; "{{\"records\":1000000,\"registries\":[")?;
-    for (place, code) in codes.iter().enumerate() {
-        let comma = if place == 0 { "" } else { "," };
+    for (number, code) in codes.iter().enumerate() {
+        let comma = if number == 0 { "" } else { "," };
         let member = format!(in alloc;
             "{comma}{{\"accounts\":[{ACCOUNT}],\"allotted\":[{{\"account\":{ACCOUNT},\"units\":[\"{code}:1:1-{UNITS_OF_A_REGISTRY}:AAU\"]}}],\"code\":\"{code}\",\"eligible\":true,\"kinds\":[\"AAU\"]}}"
         )?;
@@ -77,25 +77,25 @@ const ROUND: [Step; 8] = [
 struct Round {
     initiator: Code,
     acquirer: Code,
-    place: u32,
+    number: u32,
 }
 
 impl Round {
-    /// The round of that place.
-    fn at(codes: &[Code], place: u32) -> Result<Round, Fault> {
-        let next = place.saturating_add(1);
-        let initiator = codes.get((place % REGISTRIES) as usize);
+    /// The round of that number.
+    fn at(codes: &[Code], number: u32) -> Result<Round, Fault> {
+        let next = number.saturating_add(1);
+        let initiator = codes.get((number % REGISTRIES) as usize);
         let acquirer = codes.get((next % REGISTRIES) as usize);
         Ok(Round {
             initiator: *initiator.ok_or(Fault::Input)?,
             acquirer: *acquirer.ok_or(Fault::Input)?,
-            place,
+            number,
         })
     }
 
     /// How many rounds of the initiator are before it.
     fn turn(&self) -> u32 {
-        self.place / REGISTRIES
+        self.number / REGISTRIES
     }
 
     fn id(&self) -> Result<TransactionId, Fault> {
@@ -133,7 +133,7 @@ impl Round {
             Sent::Accepted => 1,
             Sent::Completed => 2,
         };
-        ack_of(self.place, message)
+        ack_of(self.number, message)
     }
 
     fn input(&self, alloc: Global, step: Step) -> Result<Input, Fault> {
@@ -161,8 +161,8 @@ pub fn log_rounds_of(alloc: Global, codes: &[Code], count: u32) -> Result<Vec<In
 /// That many proposals, which all stand Checked then.
 pub fn proposals_of(alloc: Global, codes: &[Code], count: u32) -> Result<Vec<Input>, Fault> {
     let mut inputs = Vec::new(alloc);
-    for place in 0..count {
-        inputs.push(Round::at(codes, place)?.proposal(alloc)?)?;
+    for number in 0..count {
+        inputs.push(Round::at(codes, number)?.proposal(alloc)?)?;
     }
     Ok(inputs)
 }

@@ -17,23 +17,29 @@ const BLOCKS_OF_A_CALL: u64 = 16;
 /// What the next interval is found by: a step that shares no factor with the usual numbers of intervals.
 const STEP: u64 = 7_919;
 
-/// The kind of the interval at that place.
-fn kind_at(place: u64) -> Kind {
-    if place % 2 == 0 { Kind::Aau } else { Kind::Cer }
+/// The kind of the interval of that number.
+fn kind_at(number: u64) -> Kind {
+    if number % 2 == 0 {
+        Kind::Aau
+    } else {
+        Kind::Cer
+    }
 }
 
-/// The block of the interval at that place.
-fn block_at(origin: Code, place: u64) -> Result<Block, Fault> {
-    let first = place.saturating_mul(UNITS_OF_AN_INTERVAL).saturating_add(1);
+/// The block of the interval of that number.
+fn block_at(origin: Code, number: u64) -> Result<Block, Fault> {
+    let first = number
+        .saturating_mul(UNITS_OF_AN_INTERVAL)
+        .saturating_add(1);
     let last = first.saturating_add(UNITS_OF_AN_INTERVAL - 1);
-    Ok(Block::new(origin, Period::First, kind_at(place), first, last)?)
+    Ok(Block::new(origin, Period::First, kind_at(number), first, last)?)
 }
 
 /// A map of that many intervals, the kinds of neighbours different.
 fn map_of(alloc: Global, origin: Code, intervals: u64) -> Result<UnitMap<Kind>, Fault> {
     let mut kinds = UnitMap::new(alloc);
-    for place in 0..intervals {
-        let block = block_at(origin, place)?;
+    for number in 0..intervals {
+        let block = block_at(origin, number)?;
         kinds.set(&block, Some(block.raw.kind))?;
     }
     Ok(kinds)
@@ -43,13 +49,13 @@ fn map_of(alloc: Global, origin: Code, intervals: u64) -> Result<UnitMap<Kind>, 
 fn blocks_from(
     alloc: Global,
     origin: Code,
-    place: u64,
+    number: u64,
     intervals: u64,
 ) -> Result<Vec<Block>, Fault> {
     let stride = intervals / BLOCKS_OF_A_CALL;
     let mut blocks = Vec::new(alloc);
     for part in 0..BLOCKS_OF_A_CALL {
-        let at = place.saturating_add(part * stride) % intervals.max(1);
+        let at = number.saturating_add(part * stride) % intervals.max(1);
         blocks.push(block_at(origin, at)?)?;
     }
     Ok(blocks)
@@ -74,8 +80,8 @@ fn set_in_turn(
 ) -> Result<Taken, Fault> {
     let start = Instant::now(clock)?;
     for call in 0..CALLS {
-        let place = u64::from(call).saturating_mul(STEP) % intervals.max(1);
-        let blocks = blocks_from(alloc, origin, place, intervals)?;
+        let number = u64::from(call).saturating_mul(STEP) % intervals.max(1);
+        let blocks = blocks_from(alloc, origin, number, intervals)?;
         set_blocks(kinds, &blocks)?;
     }
     let time = start.elapsed(clock)?;

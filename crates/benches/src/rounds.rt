@@ -80,18 +80,18 @@ impl Nodes {
 #[derive(Clone, Copy)]
 struct Round {
     nodes: Nodes,
-    place: u32,
+    number: u32,
 }
 
 impl Round {
     /// The round's transaction of that registry.
     fn id(&self, code: Code) -> Result<TransactionId, Fault> {
-        let number = self.place.saturating_add(1);
+        let number = self.number.saturating_add(1);
         TransactionId::new(code, number).ok_or(Fault::Input)
     }
 
     fn order(&self, alloc: Global) -> Result<Input, Fault> {
-        let block = block_of(self.nodes.own, self.place)?;
+        let block = block_of(self.nodes.own, self.number)?;
         let units: Vec<RawBlock> = Vec::from_slice(alloc, &[block.raw])?;
         let order = Order::new(
             FULL_ACCOUNT,
@@ -104,7 +104,7 @@ impl Round {
 
     /// The other registry's proposal, as the log passes it on.
     fn proposal(&self, alloc: Global) -> Result<Input, Fault> {
-        let block = block_of(self.nodes.other, self.place)?;
+        let block = block_of(self.nodes.other, self.number)?;
         let units = Items::from_vec(Vec::from_slice(alloc, &[block])?);
         let content = Content::new(OTHER_ACCOUNT, self.nodes.own, FULL_ACCOUNT, units);
         received(Message::Proposal(Proposal {
@@ -133,7 +133,7 @@ impl Round {
             Sent::Completed => 1,
             Sent::Accepted => 2,
         };
-        ack_of(self.place, message)
+        ack_of(self.number, message)
     }
 
     fn input(&self, alloc: Global, step: Step) -> Result<Input, Fault> {
@@ -147,16 +147,16 @@ impl Round {
     }
 }
 
-/// The block of a registry's units that is transferred in its round of that place.
-pub fn block_of(origin: Code, place: u32) -> Result<Block, Fault> {
-    let first = u64::from(place)
+/// The block of a registry's units that is transferred in its round of that number.
+pub fn block_of(origin: Code, number: u32) -> Result<Block, Fault> {
+    let first = u64::from(number)
         .saturating_mul(UNITS_OF_A_ROUND)
         .saturating_add(1);
     let last = first.saturating_add(UNITS_OF_A_BLOCK - 1);
     Ok(Block::new(origin, Period::First, Kind::Aau, first, last)?)
 }
 
-/// The acknowledgement of the message of that place among those that the round of that place sends.
+/// The acknowledgement of the message of that number among those that the round of that number sends.
 pub fn ack_of(round: u32, message: u64) -> Result<Input, Fault> {
     let key = u64::from(round)
         .saturating_mul(MESSAGES_OF_A_ROUND)
@@ -177,7 +177,7 @@ pub fn rounds_of(alloc: Global, nodes: Nodes, count: u32) -> Result<Vec<Input>, 
         let steps = ROUND.len() as u32;
         let round = Round {
             nodes,
-            place: at / steps,
+            number: at / steps,
         };
         let step = ROUND[(at % steps) as usize];
         inputs.push(round.input(alloc, step)?)?;

@@ -26,16 +26,16 @@ const TAKERS: u32 = 4;
 /// How far one proposal's unit is from the next one's.
 const STEP: u64 = 2;
 
-/// An order to transfer the unit of that place to JP.
-fn proposal(alloc: Global, jp: Code, place: u64) -> Result<Input, Fault> {
+/// An order to transfer the unit of that number to JP.
+fn proposal(alloc: Global, jp: Code, number: u64) -> Result<Input, Fault> {
     let origin = code("NZ")?;
-    let number = place.saturating_mul(STEP).saturating_add(1);
+    let unit = number.saturating_mul(STEP).saturating_add(1);
     let block = RawBlock {
         origin,
         period: Period::First,
         kind: Kind::Aau,
-        first: number,
-        last: number,
+        first: unit,
+        last: unit,
     };
     order_of(alloc, jp, block)
 }
@@ -72,7 +72,7 @@ fn take_one<S: NodeStore, R: Wait + Clock>(
     }
 }
 
-/// Has the desk take the proposals of those places, and waits until the last one is committed.
+/// Has the desk take the proposals of those numbers, and waits until the last one is committed.
 fn take_each<S: NodeStore, R: Wait + Clock>(
     rt: &R,
     alloc: Global,
@@ -83,9 +83,9 @@ fn take_each<S: NodeStore, R: Wait + Clock>(
     count: u64,
 ) -> Result<(), Fault> {
     let end = first.saturating_add(count);
-    for place in first..end {
-        let input = proposal(alloc, jp, place)?;
-        let is_last = place.saturating_add(1) == end;
+    for number in first..end {
+        let input = proposal(alloc, jp, number)?;
+        let is_last = number.saturating_add(1) == end;
         if !take_one(rt, desk, seat, input, is_last) {
             return Err(Fault::Recorded);
         }
@@ -140,9 +140,9 @@ fn take_in_threads<S: NodeStore + Send, R: Threads + Wait + Clock + Sync>(
         rt,
         alloc,
         TAKERS as usize,
-        &|place| {
-            let first = (place as u64).saturating_mul(each);
-            let count = if place == 3 {
+        &|taker| {
+            let first = (taker as u64).saturating_mul(each);
+            let count = if taker == 3 {
                 each.saturating_add(more)
             } else {
                 each
@@ -227,9 +227,9 @@ fn commit_alone(stored: &mut NzStored) -> Result<(), StoreFault> {
 
 /// Has one thread record and commit that many proposals.
 fn run_alone(alloc: Global, stored: &mut NzStored, records: u32, jp: Code) -> Result<(), Fault> {
-    for place in 0..u64::from(records) {
-        take_alone(stored, proposal(alloc, jp, place)?);
-        if place % BATCH as u64 == 0 {
+    for number in 0..u64::from(records) {
+        take_alone(stored, proposal(alloc, jp, number)?);
+        if number % BATCH as u64 == 0 {
             commit_alone(stored)?;
         }
     }

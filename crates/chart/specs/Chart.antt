@@ -24,7 +24,7 @@ pub record Happening : Type 0 where
   pub outcome : Outcome
   pub message : Option Message
 
--- the message at a delivery's place of the bag
+-- the message with a delivery's number in the bag
 abbrev pub message_of : World → WorldEvent → Option Message
 message_of w (Deliver index moment) = option_map (λ p. p.message) (slice_get w.bag index)
 message_of w _ = None
@@ -47,13 +47,13 @@ abbrev pub arrives : Outcome → Bool
 arrives NotPossible = false
 arrives _ = true
 
--- the message at that place of the bag arrives
+-- the message with that number in the bag arrives
 abbrev pub delivers : ℕ → WorldEvent → Outcome → Bool
-delivers place (Deliver index moment) outcome = arrives outcome && (index == place)
-delivers place _ outcome = false
+delivers number (Deliver index moment) outcome = arrives outcome && (index == number)
+delivers number _ outcome = false
 
 abbrev pub is_delivered : List Happening → ℕ → Bool
-is_delivered hs place = list_any (λ h. delivers place h.event h.outcome) hs
+is_delivered hs number = list_any (λ h. delivers number h.event h.outcome) hs
 
 -- the messages of a bag that never arrived, in its order
 abbrev pub lost : List Happening → List Posted → List Message
@@ -108,10 +108,10 @@ pub record IsChart (scheme : Scheme) (events : List WorldEvent) (text : List ℕ
 
 -- ---- what the code follows; no public contract cites what stands below
 
--- what was told so far: the nodes of what happened, each once, which places of the bag were delivered, and the lines
+-- what was told so far: the nodes of what happened, each once, which numbers in the bag were delivered, and the lines
 pub record IsDrawn (hs : List Happening) (nodes : List Node) (delivered : ℕ → Bool) (lines : List ℕ) : Type 0 where
   pub named : nodes ≡ first_ones (flat_map happening_nodes hs)
-  pub marked : (place : ℕ) → delivered place ≡ is_delivered hs place
+  pub marked : (number : ℕ) → delivered number ≡ is_delivered hs number
   pub spelled : lines ≡ flat_map happening_line hs
 
 -- the same of the world that the events lead to

@@ -69,7 +69,7 @@ delivered_line m outcome = arrow (shape_of outcome) m ++ codes ", " ++ outcome_t
 abbrev pub lost_line : Message → List ℕ
 lost_line m = arrow (codes "-x") m ++ codes ", never delivered\n"
 
--- a message of the bag comes to its addressee; where the bag has none at that place, the log has a note
+-- a message of the bag comes to its addressee; where the bag has none with that number, the log has a note
 abbrev pub deliver_line : Option Message → ℕ → Outcome → List ℕ
 deliver_line (Some m) index outcome = delivered_line m outcome
 deliver_line None index outcome = note_line Itl (codes "deliver " ++ decimal index) outcome
@@ -79,7 +79,7 @@ abbrev pub post_line : Node → ℕ → Outcome → List ℕ
 post_line n key NotPossible = note_line n (codes "post " ++ decimal key) NotPossible
 post_line n key _ = []
 
--- the line of an event, of which the message at its place of the bag is known
+-- the line of an event, of which the message with its number in the bag is known
 abbrev pub event_line : Option Message → WorldEvent → Outcome → List ℕ
 event_line m (Take n input) outcome = note_line n (order_text input) outcome
 event_line m (Commit n count) outcome = note_line n (codes "commit " ++ decimal count) outcome

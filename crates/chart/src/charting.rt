@@ -35,7 +35,7 @@ use world::World;
 struct Drawing {
     /// The nodes that they name, each once.
     nodes: Vec<Node>,
-    /// The places of the bag whose messages arrived.
+    /// The numbers in the bag of the messages that arrived.
     delivered: BTreeSet<u64>,
     lines: String,
 }
@@ -106,30 +106,34 @@ fn arrives(outcome: Outcome) -> bool
     }
 }
 
-/// Marks a place of the bag, if what is delivered arrives.
-fn mark_place(delivered: &mut BTreeSet<u64>, place: u64, outcome: Outcome) -> Result<(), NoMemory>
+/// Marks a number in the bag, if what is delivered arrives.
+fn mark_delivered(
+    delivered: &mut BTreeSet<u64>,
+    number: u64,
+    outcome: Outcome,
+) -> Result<(), NoMemory>
     ensures { OnOk result ((k : ℕ)
-        → contains nat_cmp delivered.new k ≡ (contains nat_cmp delivered.old k || (arrives outcome && (place == k)))) }
+        → contains nat_cmp delivered.new k ≡ (contains nat_cmp delivered.old k || (arrives outcome && (number == k)))) }
 {
     if arrives(outcome) {
-        delivered.insert(place)?;
+        delivered.insert(number)?;
     }
     Ok(())
 }
 
-/// Marks the place of the bag whose message arrives by the event, if one does.
+/// Marks the number in the bag of the message that arrives by the event, if one does.
 fn mark(delivered: &mut BTreeSet<u64>, event: &WorldEvent, outcome: Outcome) -> Result<(), NoMemory>
     ensures { OnOk result ((k : ℕ)
         → contains nat_cmp delivered.new k ≡ (contains nat_cmp delivered.old k || delivers k event.now outcome)) }
 {
     match event {
-        WorldEvent::Deliver { message, .. } => mark_place(delivered, *message, outcome),
+        WorldEvent::Deliver { message, .. } => mark_delivered(delivered, *message, outcome),
         _ => Ok(()),
     }
 }
 
 impl Drawing {
-    /// Draws an event, and what it came to. The message is that at a delivery's place of the bag.
+    /// Draws an event, and what it came to. The message is that with a delivery's number in the bag.
     fn add(
         &mut self,
         message: Option<&Message>,
@@ -149,7 +153,7 @@ impl Drawing {
     }
 }
 
-/// The message at a delivery's place of the bag.
+/// The message with a delivery's number in the bag.
 fn message_of<'a>(world: &'a World, event: &WorldEvent) -> Option<&'a Message>
     ensures { option_copied result ≡ message_of world.now event.now }
 {
@@ -173,8 +177,8 @@ fn lost<'a>(
         → map (λ m. m.now) v.items ≡ lost hs bag.now) }
 {
     let mut lost = Vec::new(alloc);
-    for (place, posted) in bag.iter().enumerate() {
-        if !delivered.contains(&(place as u64)) {
+    for (number, posted) in bag.iter().enumerate() {
+        if !delivered.contains(&(number as u64)) {
             lost.push(&posted.message)?;
         }
     }

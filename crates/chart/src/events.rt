@@ -89,7 +89,7 @@ fn push_deliver(
 }
 
 /// Adds the line of an event and of what it came to. A message that is posted has no line of its own; one that is
-/// delivered is the one that the bag has at the event's place, or `None` where it has none there.
+/// delivered is the one that the bag has with the event's number, or `None` where it has none with it.
 ///
 /// # Errors
 ///

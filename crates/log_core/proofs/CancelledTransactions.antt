@@ -82,5 +82,5 @@ module _ (ids : List TransactionId) (i : ℕ) (id : TransactionId) (lt : i < len
       ∙ labels_alike (λ u. not (is_among (take i ids) u.id || same_id u.id id)) (λ u. not (is_among (take (i + 1) ids) u.id)) old
       (λ u. ap (λ b. not (is_among (take i ids) u.id || b)) (same_id_sym u.id id) ∙ ap not (sym (among_more ids i id u.id lt is)))
 
-  pub places_after : (t : TransactionId) (old now : Bool) → now ≡ (not (is_among (take i ids) t) && old) → (not (same_id id t) && now) ≡ (not (is_among (take (i + 1) ids) t) && old)
-  places_after t old now h = ap (λ b. not (same_id id t) && b) h ∙ not_more (is_among (take i ids) t) (same_id id t) old ∙ ap (λ b. not b && old) (sym (among_more ids i id t lt is))
+  pub entries_after : (t : TransactionId) (old now : Bool) → now ≡ (not (is_among (take i ids) t) && old) → (not (same_id id t) && now) ≡ (not (is_among (take (i + 1) ids) t) && old)
+  entries_after t old now h = ap (λ b. not (same_id id t) && b) h ∙ not_more (is_among (take i ids) t) (same_id id t) old ∙ ap (λ b. not b && old) (sym (among_more ids i id t lt is))

@@ -21,11 +21,11 @@ use Rattle.protocol.specs.History.{has_serial}
 use Rattle.log_core.specs.Effects.{transfer_state_content}
 use Rattle.log_core.specs.Kept.{waiting_cmp}
 use Rattle.log_core.specs.Readings.{TransferState, of_transfer}
-use Rattle.log_core.specs.Transfers.{AreLabelled, AreWaiting, stands_checked_since, is_waiting_place, transfer_state_of}
+use Rattle.log_core.specs.Transfers.{AreLabelled, AreWaiting, stands_checked_since, is_waiting_entry, transfer_state_of}
 use Rattle.log_core.specs.declared.transfer.LoggedTransfer.{LoggedTransfer}
 use Rattle.log_core.specs.declared.waiting.Waiting.{Waiting}
 
--- ---- a place that is taken out
+-- ---- an entry that is taken out
 
 taken_out : (same here there : Bool) → (same ≡ true → there ≡ true → here ≡ true) → (there && not (here && same)) ≡ (not same && there)
 taken_out true true true h = refl
@@ -49,7 +49,7 @@ module _ (transfers : BTreeMap TransactionId LoggedTransfer) (checked : BTreeSet
   there_of w same = waiting w ∙ ap (λ t. stands_checked_since w.since.seconds (transfer_state_of transfers t)) (sym (id_of_same id w.id same))
 
   pub stops : (x : LoggedTransfer) → tree.get id_cmp transfers id ≡ Some x → (w : Waiting)
-      → (contains waiting_cmp checked w && not (is_waiting_place w (record { since = x.since; id = id }))) ≡ (not (same_id id w.id) && contains waiting_cmp checked w)
+      → (contains waiting_cmp checked w && not (is_waiting_entry w (record { since = x.since; id = id }))) ≡ (not (same_id id w.id) && contains waiting_cmp checked w)
   stops x is w =
       taken_out (same_id id w.id) (x.since.seconds == w.since.seconds) (contains waiting_cmp checked w)
       (λ same there. is_since w.since.seconds (transfer_state_of transfers id) (of_transfer x) (ap (option_map of_transfer) is) (sym (there_of w same) ∙ there))
@@ -60,8 +60,8 @@ module _ (transfers : BTreeMap TransactionId LoggedTransfer) (checked : BTreeSet
   pub none_stops : tree.get id_cmp transfers id ≡ None → (w : Waiting) → contains waiting_cmp checked w ≡ (not (same_id id w.id) && contains waiting_cmp checked w)
   none_stops none w = none_there (same_id id w.id) (contains waiting_cmp checked w) (none_waits none w)
 
-  pub none_at_place : (since : Moment) → tree.get id_cmp transfers id ≡ None → (w : Waiting) → is_waiting_place w (record { since = since; id = id }) ≡ true → contains waiting_cmp checked w ≡ false
-  none_at_place since none w h = none_waits none w (and_parts (since.seconds == w.since.seconds) (same_id id w.id) h).1
+  pub none_at_entry : (since : Moment) → tree.get id_cmp transfers id ≡ None → (w : Waiting) → is_waiting_entry w (record { since = since; id = id }) ≡ true → contains waiting_cmp checked w ≡ false
+  none_at_entry since none w h = none_waits none w (and_parts (since.seconds == w.since.seconds) (same_id id w.id) h).1
 
 -- ---- units
 

@@ -47,9 +47,9 @@ known_transfer_state x = option_map_or (λ y. option_map_or (λ k. Stands y.stat
 abbrev pub stands_checked_since : ℕ → Option TransferState → Bool
 stands_checked_since since x = option_map_or (λ y. same_status y.status Checked && (y.since == since)) x false
 
--- the place is that one
-abbrev pub is_waiting_place : Waiting → Waiting → Bool
-is_waiting_place w p = (p.since.seconds == w.since.seconds) && same_id p.id w.id
+-- the entry is that one
+abbrev pub is_waiting_entry : Waiting → Waiting → Bool
+is_waiting_entry w p = (p.since.seconds == w.since.seconds) && same_id p.id w.id
 
 -- the set has the transactions that stand Checked, each by its moment
 abbrev pub AreWaiting : BTreeMap TransactionId LoggedTransfer → BTreeSet Waiting → Type 0

@@ -12,7 +12,7 @@ ghost use Rattle.status.specs.declared.status.Status.TheVariants as words;
 ghost use Rattle.protocol.specs.History.{has_serial};
 ghost use Rattle.log_core.specs.Effects.{transfer_state_content, handed_over, is_among};
 ghost use Rattle.log_core.specs.Kept.{waiting_cmp};
-ghost use Rattle.log_core.specs.Transfers.{AreLabelled, AreWaiting, IsApart, came_at, is_waiting_place, transfer_state_of};
+ghost use Rattle.log_core.specs.Transfers.{AreLabelled, AreWaiting, IsApart, came_at, is_waiting_entry, transfer_state_of};
 ghost use Rattle.log_core.specs.declared.waiting.Waiting as declared;
 
 use crate::register;
@@ -29,23 +29,23 @@ fn start(
     under_way: &mut UnitMap<UnderWay>,
     checked: &mut BTreeSet<Waiting>,
     content: Option<&Content>,
-    place: Waiting,
+    entry: Waiting,
 ) -> Result<(), NoMemory>
     requires apart { IsApart (option_copied content) }
-    requires absent { (w : declared.Waiting) → is_waiting_place w place ≡ true
+    requires absent { (w : declared.Waiting) → is_waiting_entry w entry ≡ true
         → contains waiting_cmp checked.old w ≡ false }
     ensures units { OnOk result ((s : Serial)
         → map.get under_way.new s
         ≡ (if has_serial (option_copied content.entry) s then Some
-        (record { id = place.id }) else map.get under_way.old s)) }
+        (record { id = entry.id }) else map.get under_way.old s)) }
     ensures waits { OnOk result ((w : declared.Waiting)
-        → contains waiting_cmp checked.new w ≡ (contains waiting_cmp checked.old w || is_waiting_place w place)) }
+        → contains waiting_cmp checked.new w ≡ (contains waiting_cmp checked.old w || is_waiting_entry w entry)) }
     ensures err { OnErr result ((under_way.new ≡ under_way.old)
         × ((w : declared.Waiting) → contains waiting_cmp checked.new w ≡ contains waiting_cmp checked.old w)) }
 {
-    remember(checked, place)?;
-    if let Err(refused) = register::begin(under_way, content, place.id) {
-        forget(checked, place);
+    remember(checked, entry)?;
+    if let Err(refused) = register::begin(under_way, content, entry.id) {
+        forget(checked, entry);
         return Err(refused);
     }
     Ok(())
@@ -72,7 +72,7 @@ pub(crate) fn begin(
     ensures waits { OnOk result ((w : declared.Waiting)
         → contains waiting_cmp checked.new w
         ≡ (contains waiting_cmp checked.old w ||
-        (same_status transfer.status words.Checked && is_waiting_place w
+        (same_status transfer.status words.Checked && is_waiting_entry w
         (record { since = transfer.since; id = id })))) }
     ensures err { OnErr result ((under_way.new ≡ under_way.old)
         × ((t : declared_id.TransactionId) → tree.get id_cmp transfers.new t ≡ tree.get id_cmp transfers.old t)
@@ -83,15 +83,15 @@ pub(crate) fn begin(
     if status != Status::Checked {
         return Ok(());
     }
-    let place = Waiting { since, id };
-    if let Err(refused) = start(under_way, checked, content(transfers, id), place) {
+    let entry = Waiting { since, id };
+    if let Err(refused) = start(under_way, checked, content(transfers, id), entry) {
         take_out(transfers, id);
         return Err(refused);
     }
     Ok(())
 }
 
-/// The place of the transaction among those that stand Checked isn't there any more.
+/// The entry of the transaction among those that stand Checked isn't there any more.
 fn stop_waiting(
     transfers: &BTreeMap<TransactionId, LoggedTransfer>,
     checked: &mut BTreeSet<Waiting>,

@@ -2,7 +2,7 @@
 ghost use Rattle.std.specs.BTreeSet.{contains};
 ghost use Rattle.std.specs.Prelude.{◌≡◌, ◌||◌, ◌&&◌, not, OnOk, OnErr};
 ghost use Rattle.log_core.specs.Kept.{waiting_cmp};
-ghost use Rattle.log_core.specs.Transfers.{is_waiting_place};
+ghost use Rattle.log_core.specs.Transfers.{is_waiting_entry};
 ghost use Rattle.log_core.specs.declared.waiting.Waiting as declared;
 
 use status::{Moment, TransactionId};
@@ -16,21 +16,21 @@ pub(crate) struct Waiting {
     pub id: TransactionId,
 }
 
-/// The place is there. After `NoMemory` nothing has changed.
-pub(crate) fn remember(checked: &mut BTreeSet<Waiting>, place: Waiting) -> Result<(), NoMemory>
+/// The entry is there. After `NoMemory` nothing has changed.
+pub(crate) fn remember(checked: &mut BTreeSet<Waiting>, entry: Waiting) -> Result<(), NoMemory>
     ensures ok { OnOk result ((w : declared.Waiting)
-        → contains waiting_cmp checked.new w ≡ (contains waiting_cmp checked.old w || is_waiting_place w place)) }
+        → contains waiting_cmp checked.new w ≡ (contains waiting_cmp checked.old w || is_waiting_entry w entry)) }
     ensures err { OnErr result ((w : declared.Waiting)
         → contains waiting_cmp checked.new w ≡ contains waiting_cmp checked.old w) }
 {
-    checked.insert(place)?;
+    checked.insert(entry)?;
     Ok(())
 }
 
-/// The place isn't there any more.
-pub(crate) fn forget(checked: &mut BTreeSet<Waiting>, place: Waiting)
+/// The entry isn't there any more.
+pub(crate) fn forget(checked: &mut BTreeSet<Waiting>, entry: Waiting)
     ensures { (w : declared.Waiting)
-        → contains waiting_cmp checked.new w ≡ (contains waiting_cmp checked.old w && not (is_waiting_place w place)) }
+        → contains waiting_cmp checked.new w ≡ (contains waiting_cmp checked.old w && not (is_waiting_entry w entry)) }
 {
-    checked.remove(&place);
+    checked.remove(&entry);
 }

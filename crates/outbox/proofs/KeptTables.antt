@@ -16,12 +16,12 @@ use Rattle.wire.specs.Parties.{receiver}
 use Rattle.wire.specs.declared.message.Message.{Message}
 use Rattle.protocol.specs.Unacknowledged.{awaits}
 use Rattle.outbox.specs.Kept.{AreCounts, IsKept, IsSentBefore, act, sent_in}
-use Rattle.outbox.specs.Places.{among, peer_of, place_cmp, place_of}
+use Rattle.outbox.specs.Awaiting.{among, peer_of, unacknowledged_cmp, unacknowledged_of}
 use Rattle.outbox.specs.Sending.{Sent, Sends, Acknowledges, acknowledges_key, is_key_acknowledged}
 use Rattle.outbox.specs.Totals.{total}
-use Rattle.outbox.specs.declared.place.Place.{Place}
+use Rattle.outbox.specs.declared.unacknowledged.Unacknowledged.{Unacknowledged}
 use Rattle.outbox.specs.declared.record.Record.{Record}
-use Rattle.outbox.proofs.PlacesOfMessages.{among_all, among_append, among_below, among_from, same_place}
+use Rattle.outbox.proofs.AwaitingMessages.{among_all, among_append, among_below, among_from, same_unacknowledged}
 use Rattle.outbox.proofs.Sendings.{acknowledged_below, counts_snoc, counts_front, length_sent_in, sent_in_snoc, total_all}
 
 -- ---- what is acknowledged
@@ -41,15 +41,15 @@ pub not_true : (b : Bool) → (b ≡ true → ⊥) → b ≡ false
 not_true true h = absurd (h refl)
 not_true false h = refl
 
--- what a set says at the place of a node's message
-pub at_place : (ps : BTreeSet Place) (ms : List Message) (acked : ℕ → Bool) (n : Node) (key : ℕ) → ((q : Place) → contains place_cmp ps q ≡ awaits ms acked (peer_of q.registry) q.key)
-    → contains place_cmp ps (place_of n key) ≡ awaits ms acked n key
-at_place ps ms acked Itl key h = h (place_of Itl key)
-at_place ps ms acked (Registry c) key h = h (place_of (Registry c) key)
+-- what a set says of a message to a node
+pub at_unacknowledged : (ps : BTreeSet Unacknowledged) (ms : List Message) (acked : ℕ → Bool) (n : Node) (key : ℕ) → ((q : Unacknowledged) → contains unacknowledged_cmp ps q ≡ awaits ms acked (peer_of q.registry) q.key)
+    → contains unacknowledged_cmp ps (unacknowledged_of n key) ≡ awaits ms acked n key
+at_unacknowledged ps ms acked Itl key h = h (unacknowledged_of Itl key)
+at_unacknowledged ps ms acked (Registry c) key h = h (unacknowledged_of (Registry c) key)
 
 -- ---- the same tables
 
-pub kept_same : (rs rs' : List Record) (ms ms' : List Message) (ps qs : BTreeSet Place) → IsKept (sent_in 0 rs ms) rs ms ps → rs' ≡ rs → ms' ≡ ms → ((q : Place) → contains place_cmp qs q ≡ contains place_cmp ps q)
+pub kept_same : (rs rs' : List Record) (ms ms' : List Message) (ps qs : BTreeSet Unacknowledged) → IsKept (sent_in 0 rs ms) rs ms ps → rs' ≡ rs → ms' ≡ ms → ((q : Unacknowledged) → contains unacknowledged_cmp qs q ≡ contains unacknowledged_cmp ps q)
     → IsKept (sent_in 0 rs' ms') rs' ms' qs
 kept_same rs rs' ms ms' ps qs kept records messages same =
     subst (λ (l : List Record). IsKept (sent_in 0 l ms') l ms' qs) (sym records)
@@ -58,14 +58,14 @@ kept_same rs rs' ms ms' ps qs kept records messages same =
 
 -- ---- one record more
 
-pub record Next (rs' : List Record) (ms' : List Message) (qs : BTreeSet Place) (S : List Sent) : Type 0 where
+pub record Next (rs' : List Record) (ms' : List Message) (qs : BTreeSet Unacknowledged) (S : List Sent) : Type 0 where
   pub kept : IsKept (sent_in 0 rs' ms') rs' ms' qs
   pub view : sent_in 0 rs' ms' ≡ S
 
 from_zero : (rs : List Record) (ms : List Message) → AreCounts 0 rs (length ms) → AreCounts 0 rs (0 + length ms)
 from_zero rs ms h = subst (AreCounts 0 rs) (sym (zero-add (length ms))) h
 
-awaits_all : (ms : List Message) (acked : ℕ → Bool) (q : Place) → awaits ms acked (peer_of q.registry) q.key ≡ (among 0 ms q && not (acked q.key))
+awaits_all : (ms : List Message) (acked : ℕ → Bool) (q : Unacknowledged) → awaits ms acked (peer_of q.registry) q.key ≡ (among 0 ms q && not (acked q.key))
 awaits_all ms acked q = ap (λ (b : Bool). b && not (acked q.key)) (among_all ms q)
 
 joined : (a b c : Bool) → (b ≡ true → c ≡ false) → ((a && not c) || b) ≡ ((a || b) && not c)
@@ -78,14 +78,14 @@ joined false true false h = refl
 joined false false c h = refl
 
 -- messages more
-sends_kept : (rs : List Record) (r : Record) (ms new : List Message) (ps qs : BTreeSet Place) → IsKept (sent_in 0 rs ms) rs ms ps → r.acknowledges ≡ None → r.sends ≡ length (ms ++ new)
-    → ((q : Place) → contains place_cmp qs q ≡ (contains place_cmp ps q || among (length ms) new q)) → Next (rs ++ r ∷ []) (ms ++ new) qs (sent_in 0 rs ms ++ Sends new ∷ [])
+sends_kept : (rs : List Record) (r : Record) (ms new : List Message) (ps qs : BTreeSet Unacknowledged) → IsKept (sent_in 0 rs ms) rs ms ps → r.acknowledges ≡ None → r.sends ≡ length (ms ++ new)
+    → ((q : Unacknowledged) → contains unacknowledged_cmp qs q ≡ (contains unacknowledged_cmp ps q || among (length ms) new q)) → Next (rs ++ r ∷ []) (ms ++ new) qs (sent_in 0 rs ms ++ Sends new ∷ [])
 sends_kept rs r ms new ps qs kept none count added =
     let S = sent_in 0 rs ms in
     let both : length (ms ++ new) ≡ length ms + length new = length-append ms new in
     let view : sent_in 0 (rs ++ r ∷ []) (ms ++ new) ≡ S ++ Sends new ∷ [] =
     sent_in_snoc 0 rs r ms new (from_zero rs ms kept.counted) (omega arith) ∙ ap (λ (a : Option ℕ). S ++ act a new ∷ []) none in
-    let later : (q : Place) → among (length ms) new q ≡ true → is_key_acknowledged S q.key ≡ false =
+    let later : (q : Unacknowledged) → among (length ms) new q ≡ true → is_key_acknowledged S q.key ≡ false =
     λ q h. let from : length ms ≤ q.key = among_from (length ms) new q h in not_true (is_key_acknowledged S q.key) (λ e. let before : q.key < length ms = acknowledged_below 0 rs ms (length ms) q.key kept.counted e in absurd (omega arith)) in
     record {
       view = view;
@@ -100,15 +100,15 @@ sends_kept rs r ms new ps qs kept none count added =
       });
     }
 
-pub next_sends : (rs rs' : List Record) (n : ℕ) (ms ms' new : List Message) (ps qs : BTreeSet Place) → IsKept (sent_in 0 rs ms) rs ms ps → rs' ≡ rs ++ record { sends = n; acknowledges = None } ∷ [] → ms' ≡ ms ++ new
-    → n ≡ length ms' → ((q : Place) → contains place_cmp qs q ≡ (contains place_cmp ps q || among (length ms) new q)) → Next rs' ms' qs (sent_in 0 rs ms ++ Sends new ∷ [])
+pub next_sends : (rs rs' : List Record) (n : ℕ) (ms ms' new : List Message) (ps qs : BTreeSet Unacknowledged) → IsKept (sent_in 0 rs ms) rs ms ps → rs' ≡ rs ++ record { sends = n; acknowledges = None } ∷ [] → ms' ≡ ms ++ new
+    → n ≡ length ms' → ((q : Unacknowledged) → contains unacknowledged_cmp qs q ≡ (contains unacknowledged_cmp ps q || among (length ms) new q)) → Next rs' ms' qs (sent_in 0 rs ms ++ Sends new ∷ [])
 next_sends rs rs' n ms ms' new ps qs kept records messages count added =
     let r : Record = record { sends = n; acknowledges = None } in
     subst (λ (l : List Record). Next l ms' qs (sent_in 0 rs ms ++ Sends new ∷ [])) (sym records)
     (subst (λ (l : List Message). Next (rs ++ r ∷ []) l qs (sent_in 0 rs ms ++ Sends new ∷ [])) (sym messages)
     (sends_kept rs r ms new ps qs kept refl (count ∙ ap length messages) added))
 
--- one place less
+-- one message less
 removed : (same at a c : Bool) → (at ≡ true → same ≡ false → a ≡ false) → cond (same && at) false (a && not c) ≡ (a && not (c || at))
 removed true true true true h = refl
 removed true true true false h = refl
@@ -120,13 +120,13 @@ removed false true false c h = refl
 removed false false a true h = refl
 removed false false a false h = refl
 
--- the message with the place's key is this one, so the place is among all messages only where it goes to its node
-among_one : (ms : List Message) (m : Message) (q : Place) → slice_get ms q.key ≡ Some m → among 0 ms q ≡ same_node (receiver m) (peer_of q.registry)
+-- the message with that key is this one, so it is among all messages only where it goes to its node
+among_one : (ms : List Message) (m : Message) (q : Unacknowledged) → slice_get ms q.key ≡ Some m → among 0 ms q ≡ same_node (receiver m) (peer_of q.registry)
 among_one ms m q e = sym (among_all ms q) ∙ ap (λ (o : Option Message). option_map_or (λ x. same_node (receiver x) (peer_of q.registry)) o false) e
 
-pub next_acknowledges : (rs rs' : List Record) (n key : ℕ) (ms : List Message) (m : Message) (ps qs : BTreeSet Place) → IsKept (sent_in 0 rs ms) rs ms ps
+pub next_acknowledges : (rs rs' : List Record) (n key : ℕ) (ms : List Message) (m : Message) (ps qs : BTreeSet Unacknowledged) → IsKept (sent_in 0 rs ms) rs ms ps
     → rs' ≡ rs ++ record { sends = n; acknowledges = Some key } ∷ [] → n ≡ length ms → slice_get ms key ≡ Some m
-    → ((q : Place) → contains place_cmp qs q ≡ cond (is_eq (place_cmp (place_of (receiver m) key) q)) false (contains place_cmp ps q)) → Next rs' ms qs (sent_in 0 rs ms ++ Acknowledges key ∷ [])
+    → ((q : Unacknowledged) → contains unacknowledged_cmp qs q ≡ cond (is_eq (unacknowledged_cmp (unacknowledged_of (receiver m) key) q)) false (contains unacknowledged_cmp ps q)) → Next rs' ms qs (sent_in 0 rs ms ++ Acknowledges key ∷ [])
 next_acknowledges rs rs' n key ms m ps qs kept records count here taken =
     let r : Record = record { sends = n; acknowledges = Some key } in
     let S = sent_in 0 rs ms in
@@ -139,7 +139,7 @@ next_acknowledges rs rs' n key ms m ps qs kept records count here taken =
         counted = subst (AreCounts 0 (rs ++ r ∷ [])) count (counts_snoc 0 rs r (length ms) kept.counted (omega arith) (count, below));
         awaited = λ q.
             taken q
-            ∙ ap (λ (b : Bool). cond b false (contains place_cmp ps q)) (same_place (receiver m) key q)
+            ∙ ap (λ (b : Bool). cond b false (contains unacknowledged_cmp ps q)) (same_unacknowledged (receiver m) key q)
             ∙ ap (λ (b : Bool). cond (same_node (receiver m) (peer_of q.registry) && (key == q.key)) false b) (kept.awaited q ∙ awaits_all ms (is_key_acknowledged S) q)
             ∙ removed (same_node (receiver m) (peer_of q.registry)) (key == q.key) (among 0 ms q) (is_key_acknowledged S q.key)
             (λ at other. among_one ms m q (subst (λ (k : ℕ). slice_get ms k ≡ Some m) (eqb-true key q.key at) here) ∙ other)
@@ -173,15 +173,15 @@ last_equal (a ∷ xs) (b ∷ ys) x y e =
     let r = last_equal xs ys x y rest in
     (λ i. first i ∷ r.0 i, r.1)
 
-among_until : (ms : List Message) (q : Place) → among 0 ms q ≡ true → q.key < length ms
+among_until : (ms : List Message) (q : Unacknowledged) → among 0 ms q ≡ true → q.key < length ms
 among_until ms q h = elim (cases_lt q.key (length ms)) [
   | inl below ↦ below
   | inr up ↦ absurd (true≢false (sym h ∙ sym (among_all ms q) ∙ ap (λ (o : Option Message). option_map_or (λ x. same_node (receiver x) (peer_of q.registry)) o false) (slice_get_past ms q.key up)))
 ]
 
-pub taken_back : (rs' rs : List Record) (popped : Option Record) (ms : List Message) (ps qs : BTreeSet Place) (earlier : List Sent) (last : List Message) → IsKept (sent_in 0 rs ms) rs ms ps
+pub taken_back : (rs' rs : List Record) (popped : Option Record) (ms : List Message) (ps qs : BTreeSet Unacknowledged) (earlier : List Sent) (last : List Message) → IsKept (sent_in 0 rs ms) rs ms ps
     → rs ≡ rs' ++ option_to_list popped → (popped ≡ None → length rs ≡ 0) → sent_in 0 rs ms ≡ earlier ++ Sends last ∷ []
-    → ((q : Place) → contains place_cmp qs q ≡ (contains place_cmp ps q && not (among (total 0 rs') (drop (total 0 rs') ms) q))) → Next rs' (take (total 0 rs') ms) qs earlier
+    → ((q : Unacknowledged) → contains unacknowledged_cmp qs q ≡ (contains unacknowledged_cmp ps q && not (among (total 0 rs') (drop (total 0 rs') ms) q))) → Next rs' (take (total 0 rs') ms) qs earlier
 taken_back rs' rs None ms ps qs earlier last kept records empty ends out =
     let nothing : length rs ≡ 0 = empty refl in
     let count : length (earlier ++ Sends last ∷ []) ≡ length rs = ap length (sym ends) ∙ length_sent_in 0 rs ms in
@@ -220,12 +220,12 @@ taken_back rs' rs (Some r) ms ps qs earlier last kept records empty ends out =
     }
 
 -- by a start that is told apart
-pub back_at : (rs' rs : List Record) (popped : Option Record) (ms ms' : List Message) (ps qs : BTreeSet Place) (start : ℕ) (earlier : List Sent) (last : List Message) → IsKept (sent_in 0 rs ms) rs ms ps
+pub back_at : (rs' rs : List Record) (popped : Option Record) (ms ms' : List Message) (ps qs : BTreeSet Unacknowledged) (start : ℕ) (earlier : List Sent) (last : List Message) → IsKept (sent_in 0 rs ms) rs ms ps
     → rs ≡ rs' ++ option_to_list popped → (popped ≡ None → length rs ≡ 0) → sent_in 0 rs ms ≡ earlier ++ Sends last ∷ [] → start ≡ total 0 rs' → ms' ≡ take start ms
-    → ((q : Place) → contains place_cmp qs q ≡ (contains place_cmp ps q && not (among start (drop start ms) q))) → Next rs' ms' qs earlier
+    → ((q : Unacknowledged) → contains unacknowledged_cmp qs q ≡ (contains unacknowledged_cmp ps q && not (among start (drop start ms) q))) → Next rs' ms' qs earlier
 back_at rs' rs popped ms ms' ps qs start earlier last kept records empty ends at front out =
     subst (λ (l : List Message). Next rs' l qs earlier) (sym (front ∙ ap (λ (n : ℕ). take n ms) at))
-    (taken_back rs' rs popped ms ps qs earlier last kept records empty ends (λ q. out q ∙ ap (λ (n : ℕ). contains place_cmp ps q && not (among n (drop n ms) q)) at))
+    (taken_back rs' rs popped ms ps qs earlier last kept records empty ends (λ q. out q ∙ ap (λ (n : ℕ). contains unacknowledged_cmp ps q && not (among n (drop n ms) q)) at))
 
 pub start_within : (rs' rs : List Record) (popped : Option Record) (all : ℕ) → AreCounts 0 rs all → rs ≡ rs' ++ option_to_list popped → total 0 rs' ≤ all
 start_within rs' rs None all h is =
@@ -251,12 +251,12 @@ none_past_records [] k e = omega arith
 none_past_records (x ∷ rs) zero e = absurd (cc (e))
 none_past_records (x ∷ rs) (suc k) e = let rest = none_past_records rs k e in omega arith
 
--- the message at a key is acknowledged where its place isn't kept
-pub acknowledged_at : (rs : List Record) (ms : List Message) (ps : BTreeSet Place) (key : ℕ) (m : Message) → IsKept (sent_in 0 rs ms) rs ms ps → slice_get ms key ≡ Some m
-    → not (contains place_cmp ps (place_of (receiver m) key)) ≡ is_key_acknowledged (sent_in 0 rs ms) key
+-- the message at a key is acknowledged where it isn't kept
+pub acknowledged_at : (rs : List Record) (ms : List Message) (ps : BTreeSet Unacknowledged) (key : ℕ) (m : Message) → IsKept (sent_in 0 rs ms) rs ms ps → slice_get ms key ≡ Some m
+    → not (contains unacknowledged_cmp ps (unacknowledged_of (receiver m) key)) ≡ is_key_acknowledged (sent_in 0 rs ms) key
 acknowledged_at rs ms ps key m kept at =
     let acked = is_key_acknowledged (sent_in 0 rs ms) key in
-    ap not (at_place ps ms (is_key_acknowledged (sent_in 0 rs ms)) (receiver m) key kept.awaited
+    ap not (at_unacknowledged ps ms (is_key_acknowledged (sent_in 0 rs ms)) (receiver m) key kept.awaited
     ∙ ap (λ (o : Option Message). option_map_or (λ x. same_node (receiver x) (receiver m)) o false && not acked) at
     ∙ ap (λ (b : Bool). b && not acked) (same_node-refl (receiver m)))
     ∙ not_not acked

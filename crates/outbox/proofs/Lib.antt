@@ -1,5 +1,5 @@
 pub mod Sendings
-pub mod PlacesOfMessages
+pub mod AwaitingMessages
 pub mod KeptTables
 pub mod LeastKeys
 pub mod OutgoingRecords

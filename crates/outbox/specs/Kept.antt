@@ -3,9 +3,9 @@ use Rattle.std.specs.Prelude.{◌≡◌, ℕ, ◌-◌, ◌<◌, ◌≤◌, List,
 use Rattle.std.specs.BTreeSet.{BTreeSet, contains}
 use Rattle.protocol.specs.Unacknowledged.{awaits}
 use Rattle.wire.specs.declared.message.Message.{Message}
-use Rattle.outbox.specs.Places.{peer_of, place_cmp}
+use Rattle.outbox.specs.Awaiting.{peer_of, unacknowledged_cmp}
 use Rattle.outbox.specs.Sending.{Sent, Sends, Acknowledges, is_key_acknowledged}
-use Rattle.outbox.specs.declared.place.Place.{Place}
+use Rattle.outbox.specs.declared.unacknowledged.Unacknowledged.{Unacknowledged}
 use Rattle.outbox.specs.declared.record.Record.{Record}
 
 abbrev pub act : Option ℕ → List Message → Sent
@@ -30,6 +30,6 @@ AreCounts before [] all = before ≡ all
 AreCounts before (r ∷ rs) all = (before ≤ r.sends) × IsSentBefore r.acknowledges before r.sends × AreCounts r.sends rs all
 
 -- the tables fit together
-pub record IsKept (sent : List Sent) (records : List Record) (ms : List Message) (places : BTreeSet Place) : Type 0 where
+pub record IsKept (sent : List Sent) (records : List Record) (ms : List Message) (unacknowledged : BTreeSet Unacknowledged) : Type 0 where
   pub counted : AreCounts 0 records (length ms)
-  pub awaited : (q : Place) → contains place_cmp places q ≡ awaits ms (is_key_acknowledged sent) (peer_of q.registry) q.key
+  pub awaited : (q : Unacknowledged) → contains unacknowledged_cmp unacknowledged q ≡ awaits ms (is_key_acknowledged sent) (peer_of q.registry) q.key

@@ -1,5 +1,5 @@
 pub mod Sending
-pub mod Places
+pub mod Awaiting
 pub mod Kept
 pub mod Totals
 pub mod Outgoing

@@ -5,9 +5,9 @@ ghost use Rattle.outbox.specs.Sending.{Sent, Sends, Acknowledges, EndsWithMessag
 ghost use Rattle.protocol.specs.Unacknowledged.{IsLeastFrom, awaits};
 ghost use Rattle.wire.specs.declared.message.Message.{Message};
 
-use crate::place::Place;
-use crate::places::{await_all, forget_from, place};
+use crate::awaiting::{await_all, forget_from, unacknowledged_of};
 use crate::record::{Record, record_at, sends_after};
+use crate::unacknowledged::Unacknowledged;
 use std::alloc::Global;
 use std::collections::BTreeSet;
 use std::marker::Model;
@@ -21,7 +21,7 @@ pub struct Outbox {
     messages: Vec<Message>,
     records: Vec<Record>,
     // Those that aren't acknowledged.
-    places: BTreeSet<Place>,
+    unacknowledged: BTreeSet<Unacknowledged>,
 }
 
 impl Model for Outbox {
@@ -35,7 +35,7 @@ impl Model for Outbox {
     ghost view = { λ s. sent_in 0 s.records.items s.messages.items };
 
     ghost invariant = { λ s. IsKept
-        (sent_in 0 s.records.items s.messages.items) s.records.items s.messages.items s.places };
+        (sent_in 0 s.records.items s.messages.items) s.records.items s.messages.items s.unacknowledged };
 }
 
 /// The message with that key.
@@ -53,7 +53,7 @@ impl Outbox {
         Outbox {
             messages: Vec::new(alloc),
             records: Vec::new(alloc),
-            places: BTreeSet::new(alloc),
+            unacknowledged: BTreeSet::new(alloc),
         }
     }
 
@@ -66,7 +66,7 @@ impl Outbox {
         self.records.reserve(1)?;
         let start = self.messages.len();
         self.messages.append(&mut messages)?;
-        if await_all(&mut self.places, start, &self.messages[start..]).is_err() {
+        if await_all(&mut self.unacknowledged, start, &self.messages[start..]).is_err() {
             self.messages.truncate(start);
             return Err(NoMemory);
         }
@@ -85,7 +85,7 @@ impl Outbox {
     {
         self.records.reserve(1)?;
         let peer = self.messages[key].receiver();
-        self.places.remove(&place(peer, key));
+        self.unacknowledged.remove(&unacknowledged_of(peer, key));
         self.records.push_reserved(Record {
             sends: self.messages.len(),
             acknowledges: Some(key),
@@ -101,7 +101,7 @@ impl Outbox {
     {
         self.records.pop();
         let start = sends_after(self.records.as_slice());
-        forget_from(&mut self.places, start, self.messages.as_slice());
+        forget_from(&mut self.unacknowledged, start, self.messages.as_slice());
         self.messages.truncate(start);
     }
 
@@ -117,7 +117,9 @@ impl Outbox {
         ensures { result ≡ sending.is_key_acknowledged self.now key }
     {
         match message_at(self.messages.as_slice(), key) {
-            Some(message) => !self.places.contains(&place(message.receiver(), key)),
+            Some(message) => !self
+                .unacknowledged
+                .contains(&unacknowledged_of(message.receiver(), key)),
             None => false,
         }
     }
@@ -155,8 +157,8 @@ impl Outbox {
         ensures { IsLeastFrom
             (awaits (sending.messages self.now) (sending.is_key_acknowledged self.now) peer) from result }
     {
-        let first = place(peer, from);
-        let found = self.places.range(first..).next()?;
+        let first = unacknowledged_of(peer, from);
+        let found = self.unacknowledged.range(first..).next()?;
         if found.registry == first.registry {
             Some(found.key)
         } else {

@@ -1,7 +1,7 @@
 pub mod Histories
 pub mod Replaying
 pub mod RefusedBy
-pub mod NodePlaces
+pub mod NodeIndices
 pub mod CountsInLists
 pub mod UnitsOfBlocks
 pub mod CanonicalBlocks

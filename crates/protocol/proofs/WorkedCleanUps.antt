@@ -8,7 +8,7 @@ use Rattle.protocol.specs.declared.event.Outcome.TheVariants.{Recorded, Repeat, 
 use Rattle.protocol.specs.declared.event.WorldEvent.{WorldEvent}
 use Rattle.protocol.specs.Verdict.{verdict}
 use Rattle.protocol.specs.World.{World, opening, step, outcomes}
-use Rattle.protocol.proofs.WorkedScheme.{nz, jp, nz_node, jp_node, all_units, nz1, nz2, scheme_s, a_second_before, a_day_after, ten_days_after, propose, clean_up, commit, post, deliver, transfer, after, status, holds, spendable, reserved, place, in_account, owed, message_at, notification, posted, held_units, spendable_units, owed_units}
+use Rattle.protocol.proofs.WorkedScheme.{nz, jp, nz_node, jp_node, all_units, nz1, nz2, scheme_s, a_second_before, a_day_after, ten_days_after, propose, clean_up, commit, post, deliver, transfer, after, status, holds, spendable, reserved, position, in_account, owed, message_at, notification, posted, held_units, spendable_units, owed_units}
 
 -- ---- a transfer has expired a day after it was checked, to the second
 
@@ -63,8 +63,8 @@ pub clean_up_after_accepted_at_jp : (holds clean_up_after_accepted_world jp 1 �
     × (spendable clean_up_after_accepted_world jp 100 ≡ true)
     × (reserved clean_up_after_accepted_world jp 1 ≡ false)
     × (reserved clean_up_after_accepted_world jp 100 ≡ false)
-    × (place clean_up_after_accepted_world jp 1 ≡ in_account 7)
-    × (place clean_up_after_accepted_world jp 100 ≡ in_account 7)
+    × (position clean_up_after_accepted_world jp 1 ≡ in_account 7)
+    × (position clean_up_after_accepted_world jp 100 ≡ in_account 7)
 unfolding step verdict
 clean_up_after_accepted_at_jp = (refl, refl, refl, refl, refl, refl, refl, refl, refl)
 
@@ -148,8 +148,8 @@ cancelled_before_the_answer_statuses = (refl, refl, refl)
 
 pub cancelled_before_the_answer_held : (spendable cancelled_before_the_answer_world nz 1 ≡ true)
     × (spendable cancelled_before_the_answer_world nz 100 ≡ true)
-    × (place cancelled_before_the_answer_world nz 1 ≡ in_account 1)
-    × (place cancelled_before_the_answer_world nz 100 ≡ in_account 1)
+    × (position cancelled_before_the_answer_world nz 1 ≡ in_account 1)
+    × (position cancelled_before_the_answer_world nz 100 ≡ in_account 1)
     × (holds cancelled_before_the_answer_world jp 1 ≡ false)
     × (holds cancelled_before_the_answer_world jp 100 ≡ false)
     × (owed cancelled_before_the_answer_world 1 ≡ 0)
@@ -238,8 +238,8 @@ pub stale_proposal_at_jp : (holds stale_proposal_world jp 1 ≡ true)
     × (spendable stale_proposal_world jp 100 ≡ true)
     × (reserved stale_proposal_world jp 1 ≡ false)
     × (reserved stale_proposal_world jp 100 ≡ false)
-    × (place stale_proposal_world jp 1 ≡ in_account 7)
-    × (place stale_proposal_world jp 100 ≡ in_account 7)
+    × (position stale_proposal_world jp 1 ≡ in_account 7)
+    × (position stale_proposal_world jp 100 ≡ in_account 7)
 unfolding step verdict
 stale_proposal_at_jp = (refl, refl, refl, refl, refl, refl, refl, refl, refl)
 

@@ -18,7 +18,7 @@ use Rattle.protocol.specs.declared.event.Outcome.TheVariants.{Recorded, Repeat, 
 use Rattle.protocol.specs.declared.event.WorldEvent.{WorldEvent}
 use Rattle.protocol.specs.Verdict.{verdict}
 use Rattle.protocol.specs.World.{World, opening, step, outcomes}
-use Rattle.protocol.proofs.WorkedScheme.{nz, jp, nz_node, jp_node, block_of, block, all_units, nz1, nz2, scheme_s, scheme_of_one, propose, number, open_account, close_account, ack, eligible, commit, post, deliver, transfer, after, status, holds, spendable, reserved, place, in_account, owed, notification, posted, held_units, spendable_units, owed_units}
+use Rattle.protocol.proofs.WorkedScheme.{nz, jp, nz_node, jp_node, block_of, block, all_units, nz1, nz2, scheme_s, scheme_of_one, propose, number, open_account, close_account, ack, eligible, commit, post, deliver, transfer, after, status, holds, spendable, reserved, position, in_account, owed, notification, posted, held_units, spendable_units, owed_units}
 
 -- ---- two orders share a unit
 
@@ -37,10 +37,10 @@ pub reserved_overlap_held : (holds reserved_overlap_world nz 1 ≡ true)
     × (holds reserved_overlap_world nz 60 ≡ true)
     × (holds reserved_overlap_world nz 61 ≡ true)
     × (holds reserved_overlap_world nz 100 ≡ true)
-    × (place reserved_overlap_world nz 1 ≡ in_account 1)
-    × (place reserved_overlap_world nz 60 ≡ in_account 1)
-    × (place reserved_overlap_world nz 61 ≡ in_account 1)
-    × (place reserved_overlap_world nz 100 ≡ in_account 1)
+    × (position reserved_overlap_world nz 1 ≡ in_account 1)
+    × (position reserved_overlap_world nz 60 ≡ in_account 1)
+    × (position reserved_overlap_world nz 61 ≡ in_account 1)
+    × (position reserved_overlap_world nz 100 ≡ in_account 1)
 unfolding step verdict
 reserved_overlap_held = (refl, refl, refl, refl, refl, refl, refl, refl)
 
@@ -118,10 +118,10 @@ pub receiving_account_closed_at_nz : (holds receiving_account_closed_world nz 1 
     × (spendable receiving_account_closed_world nz 41 ≡ true)
     × (spendable receiving_account_closed_world nz 60 ≡ true)
     × (spendable receiving_account_closed_world nz 100 ≡ true)
-    × (place receiving_account_closed_world nz 1 ≡ in_account 1)
-    × (place receiving_account_closed_world nz 41 ≡ in_account 1)
-    × (place receiving_account_closed_world nz 60 ≡ in_account 1)
-    × (place receiving_account_closed_world nz 100 ≡ in_account 1)
+    × (position receiving_account_closed_world nz 1 ≡ in_account 1)
+    × (position receiving_account_closed_world nz 41 ≡ in_account 1)
+    × (position receiving_account_closed_world nz 60 ≡ in_account 1)
+    × (position receiving_account_closed_world nz 100 ≡ in_account 1)
 unfolding step verdict
 receiving_account_closed_at_nz = (refl, refl, refl, refl, refl, refl, refl, refl, refl, refl, refl, refl)
 

@@ -8,7 +8,7 @@ use Rattle.protocol.specs.declared.event.Outcome.TheVariants.{Recorded, Repeat, 
 use Rattle.protocol.specs.declared.event.WorldEvent.{WorldEvent}
 use Rattle.protocol.specs.Verdict.{verdict}
 use Rattle.protocol.specs.World.{World, opening, step, outcomes}
-use Rattle.protocol.proofs.WorkedScheme.{nz, jp, nz_node, jp_node, block, all_units, nz1, nz2, scheme_s, propose, commit, post, deliver, crash, restart, transfer, after, status, holds, spendable, reserved, place, in_account, owed, content_of, held_units, spendable_units, owed_units, debts}
+use Rattle.protocol.proofs.WorkedScheme.{nz, jp, nz_node, jp_node, block, all_units, nz1, nz2, scheme_s, propose, commit, post, deliver, crash, restart, transfer, after, status, holds, spendable, reserved, position, in_account, owed, content_of, held_units, spendable_units, owed_units, debts}
 
 -- ---- all nodes complete it
 
@@ -38,8 +38,8 @@ pub one_transfer_at_jp : (holds one_transfer_world jp 1 ≡ true)
     × (spendable one_transfer_world jp 100 ≡ true)
     × (reserved one_transfer_world jp 1 ≡ false)
     × (reserved one_transfer_world jp 100 ≡ false)
-    × (place one_transfer_world jp 1 ≡ in_account 7)
-    × (place one_transfer_world jp 100 ≡ in_account 7)
+    × (position one_transfer_world jp 1 ≡ in_account 7)
+    × (position one_transfer_world jp 100 ≡ in_account 7)
 unfolding step verdict
 one_transfer_at_jp = (refl, refl, refl, refl, refl, refl, refl, refl, refl)
 
@@ -139,8 +139,8 @@ pub everything_again_at_jp : (holds everything_again_world jp 1 ≡ true)
     × (spendable everything_again_world jp 100 ≡ true)
     × (reserved everything_again_world jp 1 ≡ false)
     × (reserved everything_again_world jp 100 ≡ false)
-    × (place everything_again_world jp 1 ≡ in_account 7)
-    × (place everything_again_world jp 100 ≡ in_account 7)
+    × (position everything_again_world jp 1 ≡ in_account 7)
+    × (position everything_again_world jp 100 ≡ in_account 7)
 unfolding step verdict
 everything_again_at_jp = (refl, refl, refl, refl, refl, refl, refl, refl, refl)
 
@@ -194,8 +194,8 @@ pub crash_after_commit_at_jp : (holds crash_after_commit_world jp 1 ≡ true)
     × (spendable crash_after_commit_world jp 100 ≡ true)
     × (reserved crash_after_commit_world jp 1 ≡ false)
     × (reserved crash_after_commit_world jp 100 ≡ false)
-    × (place crash_after_commit_world jp 1 ≡ in_account 7)
-    × (place crash_after_commit_world jp 100 ≡ in_account 7)
+    × (position crash_after_commit_world jp 1 ≡ in_account 7)
+    × (position crash_after_commit_world jp 100 ≡ in_account 7)
 unfolding step verdict
 crash_after_commit_at_jp = (refl, refl, refl, refl, refl, refl, refl, refl, refl)
 

@@ -31,7 +31,7 @@ use Rattle.protocol.specs.declared.event.WorldEvent.{WorldEvent}
 use Rattle.protocol.specs.declared.event.WorldEvent.TheVariants.{Take, Commit, Post, Deliver, Crash, Restart}
 use Rattle.protocol.specs.Claims as claims
 use Rattle.protocol.specs.History as past
-use Rattle.protocol.specs.History.{Place, transitions_of}
+use Rattle.protocol.specs.History.{Position, transitions_of}
 use Rattle.protocol.specs.Pieces.{up_from}
 use Rattle.protocol.specs.World.{World, opening, run, station, sent}
 
@@ -238,10 +238,10 @@ spendable w c n = past.spendable w.scheme c (transitions_of (claims.live_of w (R
 abbrev pub reserved : World → Code → ℕ → Bool
 reserved w c n = past.reserved c (transitions_of (claims.live_of w (Registry c))) (unit n)
 
-abbrev pub place : World → Code → ℕ → Option Place
-place w c n = past.place w.scheme c (transitions_of (claims.live_of w (Registry c))) (unit n)
+abbrev pub position : World → Code → ℕ → Option Position
+position w c n = past.position w.scheme c (transitions_of (claims.live_of w (Registry c))) (unit n)
 
-abbrev pub in_account : ℕ → Option Place
+abbrev pub in_account : ℕ → Option Position
 in_account account = Some (record { account = account; kind = Aau })
 
 abbrev pub owed : World → ℕ → ℕ
@@ -254,7 +254,7 @@ message_at w n key = option_and_then (sent w.scheme key) (station w n)
 abbrev pub notification : Node → Node → TransactionId → NotifiedStatus → Message
 notification from to t notified = Notification (record { from = from; to = to; id = t; notified = notified })
 
--- the message at that place of the bag
+-- the message with that number in the bag
 abbrev pub posted : World → ℕ → Option Message
 posted w index = option_map (λ p. p.message) (slice_get w.bag index)
 

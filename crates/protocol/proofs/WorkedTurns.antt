@@ -28,7 +28,7 @@ use Rattle.units.specs.Canonical.{canonical}
 use Rattle.protocol.specs.Verdict.{verdict, history}
 use Rattle.protocol.specs.World.{World, opening, step, outcomes}
 use Rattle.protocol.proofs.WorkedAnswers.{au}
-use Rattle.protocol.proofs.WorkedScheme.{nz, jp, nz_node, jp_node, block, block_of, all_units, nz1, nz2, scheme_s, scheme_of_one, first_of_may, a_second_before, a_day_after, propose, number, open_account, close_account, clean_up, eligible, commit, post, deliver, crash, restart, transfer, after, status, holds, place, in_account, message_at, notification, held_units, spendable_units, owed_units}
+use Rattle.protocol.proofs.WorkedScheme.{nz, jp, nz_node, jp_node, block, block_of, all_units, nz1, nz2, scheme_s, scheme_of_one, first_of_may, a_second_before, a_day_after, propose, number, open_account, close_account, clean_up, eligible, commit, post, deliver, crash, restart, transfer, after, status, holds, position, in_account, message_at, notification, held_units, spendable_units, owed_units}
 
 abbrev jp1 : TransactionId
 jp1 = record { code = jp; number = 1; in_range = number_from 1 refl }
@@ -56,7 +56,7 @@ unfolding step verdict
 returned = refl
 
 pub returned_held : (held_units returned_world nz ≡ 50) × (held_units returned_world jp ≡ 50) × (spendable_units returned_world nz ≡ 50) × (owed_units returned_world ≡ 0)
-    × (place returned_world nz 1 ≡ in_account 2) × (place returned_world nz 50 ≡ in_account 2) × (place returned_world jp 51 ≡ in_account 7) × (holds returned_world nz 51 ≡ false)
+    × (position returned_world nz 1 ≡ in_account 2) × (position returned_world nz 50 ≡ in_account 2) × (position returned_world jp 51 ≡ in_account 7) × (holds returned_world nz 51 ≡ false)
 unfolding step verdict
 returned_held = (refl, refl, refl, refl, refl, refl, refl, refl)
 

@@ -31,20 +31,20 @@ use Rattle.scheme.specs.declared.registries.Scheme.{Scheme}
 use Rattle.units.specs.Canonical.{canonical}
 use Rattle.protocol.specs.Pieces.{Piece, pieces, repeats}
 use Rattle.protocol.specs.Registries.{has_account}
-use Rattle.protocol.specs.History.{Transition, Entry, Place, transitions_of, newest, stands_at, is_known, proposals, is_requested, holds, reserved, place, is_closed}
+use Rattle.protocol.specs.History.{Transition, Entry, Position, transitions_of, newest, stands_at, is_known, proposals, is_requested, holds, reserved, position, is_closed}
 use Rattle.protocol.specs.Checks.{Causes, Holding, propose_refusals, acquirer_findings}
 use Rattle.protocol.specs.Effects.{initiator_sends, acquirer_sends}
 use Rattle.protocol.specs.Deciding.{Verdict, IsRefused, refuse, recorded_if_room, known, content_in, column_of_proposal, moved, by_row, has_other, acknowledge}
 
 -- ---- what the checks ask, read off a history
 
-abbrev pub is_place : Option Place → ℕ → Piece → Bool
-is_place q account p = option_map_or (λ at. (at.account == account) && same_kind at.kind p.kind) q false
+abbrev pub is_position : Option Position → ℕ → Piece → Bool
+is_position q account p = option_map_or (λ at. (at.account == account) && same_kind at.kind p.kind) q false
 
 abbrev pub holding : Scheme → Code → List Entry → Holding
 holding scheme c es = record {
   is_closed = is_closed es;
-  has = λ account p. holds scheme c (transitions_of es) p.unit && is_place (place scheme c (transitions_of es) p.unit) account p;
+  has = λ account p. holds scheme c (transitions_of es) p.unit && is_position (position scheme c (transitions_of es) p.unit) account p;
   is_held = holds scheme c (transitions_of es);
   is_reserved = reserved c (transitions_of es);
 }
@@ -139,7 +139,7 @@ seen scheme xs = pieces (raws (all_blocks scheme.members)) ++ flat_map (λ x. op
 
 -- the account holds units
 abbrev pub is_used : Scheme → Code → List Transition → ℕ → Bool
-is_used scheme c xs account = list_any (λ p. holds scheme c xs p.unit && option_map_or (λ q. q.account == account) (place scheme c xs p.unit) false) (seen scheme xs)
+is_used scheme c xs account = list_any (λ p. holds scheme c xs p.unit && option_map_or (λ q. q.account == account) (position scheme c xs p.unit) false) (seen scheme xs)
 
 -- a transfer into the account stands Accepted
 abbrev pub is_awaited : Code → List Transition → ℕ → Bool

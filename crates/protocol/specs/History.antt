@@ -130,19 +130,19 @@ abbrev pub spendable : Scheme → Code → List Transition → Serial → Bool
 spendable scheme c xs s = holds scheme c xs s && not (reserved c xs s)
 
 -- the account and the kind of a unit that is held here: as credited last, else as allotted
-pub record Place : Type 0 where
+pub record Position : Type 0 where
   pub account : ℕ
   pub kind : Kind
 
-abbrev pub credited_place : Serial → Content → Option Place
-credited_place s k = option_map (λ b. record { account = k.to_account; kind = b.kind }) (find (λ b. has_unit b s) k.units)
+abbrev pub credited_position : Serial → Content → Option Position
+credited_position s k = option_map (λ b. record { account = k.to_account; kind = b.kind }) (find (λ b. has_unit b s) k.units)
 
-abbrev pub place_in : Serial → Option Content → Option Place
-place_in s k = option_and_then (credited_place s) k
+abbrev pub position_in : Serial → Option Content → Option Position
+position_in s k = option_and_then (credited_position s) k
 
-abbrev pub place : Scheme → Code → List Transition → Serial → Option Place
-place scheme c [] s = option_map (λ h. record { account = h.account; kind = h.kind }) (allotted scheme s)
-place scheme c (x ∷ xs) s = cond (credits c s x) (place_in s x.content) (place scheme c xs s)
+abbrev pub position : Scheme → Code → List Transition → Serial → Option Position
+position scheme c [] s = option_map (λ h. record { account = h.account; kind = h.kind }) (allotted scheme s)
+position scheme c (x ∷ xs) s = cond (credits c s x) (position_in s x.content) (position scheme c xs s)
 
 -- ---- what the log's book says
 

@@ -1,4 +1,4 @@
--- What the scheme says of a registry, and the scheme's nodes by their places.
+-- What the scheme says of a registry, and the scheme's nodes by their indices.
 use Rattle.std.specs.Prelude.{ℕ, Bool, true, false, List, ◌∷◌, map, Option, is_some}
 use Rattle.std.specs.List.{list_any, position_from}
 use Rattle.std.specs.Option.{option_map_or}
@@ -31,8 +31,8 @@ abbrev pub nodes : Scheme → List Node
 nodes scheme = Itl ∷ map (λ m. Registry m.code) scheme.members
 
 -- where the node stands among the nodes of the scheme, counted from 0
-abbrev pub place_of : Scheme → Node → Option ℕ
-place_of scheme node = position_from (λ n. same_node n node) 0 (nodes scheme)
+abbrev pub index_of : Scheme → Node → Option ℕ
+index_of scheme node = position_from (λ n. same_node n node) 0 (nodes scheme)
 
 -- who has the unit at the start
 abbrev pub allotted : Scheme → Serial → Option Holder

@@ -13,7 +13,7 @@ pub enum WorldEvent {
     Commit { node: Node, count: u64 },
     /// A node posts the message with that key into the bag.
     Post { node: Node, key: u64 },
-    /// The message at that place of the bag is delivered to its addressee, at that moment.
+    /// The message with that number in the bag is delivered to its addressee, at that moment.
     Deliver { message: u64, moment: Moment },
     /// A node stops. The first `kept` records of its tail are committed, the others are lost.
     Crash { node: Node, kept: u64 },

@@ -1,7 +1,7 @@
 //! The protocol of transfers, as definitions: what nodes record, return and send, and what a world of
 //! nodes does at each event. Start at `specs/Pieces.antt`; docs/DEFINITIONS.md leads on.
 //! Beside them what is asked of a node's core, journals taken into a core again, and the nodes of a scheme by their
-//! places.
+//! indices.
 #![tactic(auto)]
 
 mod decision;
@@ -15,7 +15,7 @@ mod resuming;
 pub use decision::Decision;
 pub use event::{Outcome, Posted, WorldEvent};
 pub use node_core::{NodeCore, Stepped};
-pub use nodes::{node_at, nodes_of, place_of};
+pub use nodes::{index_of, node_at, nodes_of};
 pub use refusals::refusals_have_causes;
 pub use replay_fault::ReplayFault;
 pub use resuming::{replay, resume};

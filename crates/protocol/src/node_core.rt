@@ -60,7 +60,7 @@ pub trait NodeCore: Drop {
         ensures scheme { scheme_of self.new ≡ scheme_of self.old }
         ensures node { node_of self.new ≡ node_of self.old };
 
-    /// The message with that key, or `None` where none has it. A message's key is its place among all that the
+    /// The message with that key, or `None` where none has it. A message's key is its number among all that the
     /// journal sends, counted from 0.
     fn outbox(&self, key: usize) -> Option<&Message>
         ensures { option_copied result

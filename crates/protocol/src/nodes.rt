@@ -1,6 +1,6 @@
-//! The nodes of a scheme and their places: the log, then the registries in the scheme's order.
+//! The nodes of a scheme and their indices: the log, then the registries in the scheme's order.
 ghost use Rattle.std.specs.Prelude.{◌≡◌, ◌<◌, IfOk, Some, length, slice_get};
-ghost use Rattle.protocol.specs.Registries.{nodes, place_of};
+ghost use Rattle.protocol.specs.Registries.{nodes, index_of};
 
 use scheme::Scheme;
 use std::alloc::Global;
@@ -19,27 +19,27 @@ pub fn nodes_of(alloc: Global, scheme: &Scheme) -> Result<Vec<Node>, NoMemory>
     Ok(nodes)
 }
 
-/// The place of that node among the nodes of the scheme, counted from 0: the log's is 0, then come the registries in
+/// The index of that node among the nodes of the scheme, counted from 0: the log's is 0, then come the registries in
 /// the scheme's order.
-pub fn place_of(scheme: &Scheme, node: Node) -> Option<usize>
-    ensures { result ≡ place_of scheme.now node }
+pub fn index_of(scheme: &Scheme, node: Node) -> Option<usize>
+    ensures { result ≡ index_of scheme.now node }
 {
     match node {
         Node::Itl => Some(0),
         Node::Registry(code) => {
-            let place = scheme.place(code)?;
-            Some(place + 1)
+            let index = scheme.index_of(code)?;
+            Some(index + 1)
         }
     }
 }
 
-/// The node at that place among the nodes of the scheme, of which there are more than that.
-pub fn node_at(scheme: &Scheme, place: usize) -> Node
-    requires { place < length (nodes scheme.now) }
-    ensures { slice_get (nodes scheme.now) place ≡ Some result }
+/// The node at that index among the nodes of the scheme, of which there are more than that.
+pub fn node_at(scheme: &Scheme, index: usize) -> Node
+    requires { index < length (nodes scheme.now) }
+    ensures { slice_get (nodes scheme.now) index ≡ Some result }
 {
-    if place == 0 {
+    if index == 0 {
         return Node::Itl;
     }
-    Node::Registry(scheme.registries()[place - 1].code)
+    Node::Registry(scheme.registries()[index - 1].code)
 }

@@ -31,7 +31,7 @@ use Rattle.registry_core.specs.Kept.{IsKept}
 use Rattle.registry_core.specs.Readings.{unit_holding_at, reserver, account_status_at}
 use Rattle.registry_core.specs.Registry.{IsReserving, RegistryCoreView as Core, moves, past}
 use Rattle.registry_core.specs.declared.tables.Tables.{Tables}
-use Rattle.registry_core.proofs.UnitHoldingsOfUnits.{waits_reserver, held_place, unit_holding_is_held, unit_holding_of_held, unit_holding_of_unheld, reserved_some, reserver_waits, unheld_reserver, waits_held}
+use Rattle.registry_core.proofs.UnitHoldingsOfUnits.{waits_reserver, held_position, unit_holding_is_held, unit_holding_of_held, unit_holding_of_unheld, reserved_some, reserver_waits, unheld_reserver, waits_held}
 use Rattle.registry_core.proofs.SoundHistories.{Sound, sound_history}
 use Rattle.safety.proofs.MovesAndHistories.NewestTransitions.{Made}
 use Rattle.registry_core.proofs.RecordedEntries.{entered_made, replays_entered}
@@ -66,7 +66,7 @@ once_counted scheme c xs s h =
 unit_holding_reserver : (scheme : Scheme) (c : Code) (xs : List Transition) (s : Serial) → Sound scheme c xs → option_and_then (λ (unit_holding : UnitHolding). unit_holding.reserving) (unit_holding_at scheme c xs s) ≡ reserver c xs s
 unit_holding_reserver scheme c xs s sound =
     elim (cases_Bool (holds scheme c xs s)) [
-      | inl y ↦ let q = held_place scheme c s xs y in ap (option_and_then (λ (unit_holding : UnitHolding). unit_holding.reserving)) (unit_holding_of_held scheme c s xs q.0 y q.1)
+      | inl y ↦ let q = held_position scheme c s xs y in ap (option_and_then (λ (unit_holding : UnitHolding). unit_holding.reserving)) (unit_holding_of_held scheme c s xs q.0 y q.1)
       | inr n ↦ ap (option_and_then (λ (unit_holding : UnitHolding). unit_holding.reserving)) (unit_holding_of_unheld scheme c s xs n) ∙ sym (unheld_reserver scheme c s xs sound n)
     ]
 

@@ -49,13 +49,13 @@ held_once : (b : Bool) → ((cond b 1 0 + 0) == (0 + 1)) ≡ b
 held_once true = refl
 held_once false = refl
 
-place_unit_holding : (h : Option Holder) → option_map (unit_holding_in None) (option_map (λ (h : Holder). record { account = h.account; kind = h.kind }) h) ≡ option_map held_free h
-place_unit_holding None = refl
-place_unit_holding (Some h) = refl
+position_unit_holding : (h : Option Holder) → option_map (unit_holding_in None) (option_map (λ (h : Holder). record { account = h.account; kind = h.kind }) h) ≡ option_map held_free h
+position_unit_holding None = refl
+position_unit_holding (Some h) = refl
 
 -- with no transition a unit is held as the scheme allots it
 pub opening_unit_holding : (scheme : Scheme) (c : Code) (s : Serial) → unit_holding_at scheme c [] s ≡ cond (is_with c (allotted scheme s)) (option_map held_free (allotted scheme s)) None
-opening_unit_holding scheme c s = λ i. cond (held_once (is_with c (allotted scheme s)) i) (place_unit_holding (allotted scheme s) i) None
+opening_unit_holding scheme c s = λ i. cond (held_once (is_with c (allotted scheme s)) i) (position_unit_holding (allotted scheme s) i) None
 
 -- ---- blocks that share no unit
 

@@ -30,11 +30,11 @@ entered_made scheme c (e ∷ es) h = (sym (ap transitions_made h.0), entered_mad
 
 -- ---- journals whose records are each recorded
 
-enters_made : (place k : ℕ) (v : Verdict) → answer_of place v ≡ Ok (Stepped.Recorded k) → v ≡ IsRecorded (transitions_made v)
-enters_made place k (IsRecorded xs) e = refl
-enters_made place k IsRepeat e = absurd (cc (e))
-enters_made place k IsLate e = absurd (cc (e))
-enters_made place k (IsRefused code) e = absurd (cc (e))
+enters_made : (position k : ℕ) (v : Verdict) → answer_of position v ≡ Ok (Stepped.Recorded k) → v ≡ IsRecorded (transitions_made v)
+enters_made position k (IsRecorded xs) e = refl
+enters_made position k IsRepeat e = absurd (cc (e))
+enters_made position k IsLate e = absurd (cc (e))
+enters_made position k (IsRefused code) e = absurd (cc (e))
 
 module _ (scheme : Scheme) (c : Code) where
   pub entered_snoc : (journal : List Input) (input : Input) (k : ℕ) → Entered scheme c (history scheme (Registry c) journal) → answer scheme (Registry c) journal input ≡ Ok (Stepped.Recorded k)

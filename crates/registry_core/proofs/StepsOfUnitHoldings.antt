@@ -1,11 +1,11 @@
 -- How each transition of a registry changes the unit holdings: a proposal reserves its units, an initiator's end
 -- releases or removes them, an acquirer's completion credits them, and all other transitions leave each unit holding
 -- as it is. Each lemma states the unit holding in the form in which the calls of `Holdings` do. The strategy: what is
--- held and where follows from counts and places, and who reserves from which transfers wait with the unit (`Waits`).
+-- held and where follows from counts and positions, and who reserves from which transfers wait with the unit (`Waits`).
 use Rattle.std.proofs.Common.{Bool, List, None, Option, Some, ap, cond, false, not, refl, subst, sym, true, ◌+◌, ◌==◌, ◌∙◌, ◌∷◌, ◌≡◌, arith, inl, inr, ◌&&◌, [], ◌||◌}
 use Rattle.units.specs.declared.code.Code.{Code}
 use Rattle.accounts.specs.declared.unit_holding.UnitHolding.{UnitHolding}
-use Rattle.protocol.specs.History.{Place, Transition, at_start, credits, gives, holds, newest, place, place_in, carries, has_serial, credited_place}
+use Rattle.protocol.specs.History.{Position, Transition, at_start, credits, gives, holds, newest, position, position_in, carries, has_serial, credited_position}
 use Rattle.scheme.specs.declared.registries.Scheme.{Scheme}
 use Rattle.units.specs.declared.block.Unit.{Unit as Serial}
 use Rattle.registry_core.proofs.SoundHistories.{Sound}
@@ -35,10 +35,10 @@ use Rattle.std.specs.Option.{option_or}
 
 -- ---- a unit holding by its three parts
 
-abbrev pub unit_holding_of : Bool → Option TransactionId → Option Place → Option UnitHolding
+abbrev pub unit_holding_of : Bool → Option TransactionId → Option Position → Option UnitHolding
 unit_holding_of held reserving q = cond held (option_map (unit_holding_in reserving) q) None
 
-pub newly_reserved : (h : Bool) (r : Option TransactionId) (q : Option Place) (t : TransactionId) → unit_holding_of h (Some t) q ≡ option_map (reserved_by t) (unit_holding_of h r q)
+pub newly_reserved : (h : Bool) (r : Option TransactionId) (q : Option Position) (t : TransactionId) → unit_holding_of h (Some t) q ≡ option_map (reserved_by t) (unit_holding_of h r q)
 newly_reserved true r None t = refl
 newly_reserved true r (Some q) t = refl
 newly_reserved false r q t = refl
@@ -48,7 +48,7 @@ abbrev let_go : TransactionId → Option TransactionId → Option TransactionId
 let_go t None = None
 let_go t (Some u) = cond (same_id u t) None (Some u)
 
-unit_holding_released : (r : Option TransactionId) (q : Place) (t : TransactionId) → unit_holding_in (let_go t r) q ≡ released t (unit_holding_in r q)
+unit_holding_released : (r : Option TransactionId) (q : Position) (t : TransactionId) → unit_holding_in (let_go t r) q ≡ released t (unit_holding_in r q)
 unit_holding_released None q t = refl
 unit_holding_released (Some u) q t = go (same_id u t)
   where
@@ -56,25 +56,25 @@ unit_holding_released (Some u) q t = go (same_id u t)
     go true = refl
     go false = refl
 
-newly_released : (h : Bool) (r : Option TransactionId) (q : Option Place) (t : TransactionId) → unit_holding_of h (let_go t r) q ≡ option_map (released t) (unit_holding_of h r q)
+newly_released : (h : Bool) (r : Option TransactionId) (q : Option Position) (t : TransactionId) → unit_holding_of h (let_go t r) q ≡ option_map (released t) (unit_holding_of h r q)
 newly_released true r None t = refl
 newly_released true r (Some q) t = ap (λ (unit_holding : UnitHolding). Some unit_holding) (unit_holding_released r q t)
 newly_released false r q t = refl
 
-stays : (r : Option TransactionId) (q : Place) (t : TransactionId) → is_the t r ≡ false → Some (unit_holding_in r q) ≡ labels_that (λ unit_holding. not (is_reserved_by t unit_holding)) (Some (unit_holding_in r q))
+stays : (r : Option TransactionId) (q : Position) (t : TransactionId) → is_the t r ≡ false → Some (unit_holding_in r q) ≡ labels_that (λ unit_holding. not (is_reserved_by t unit_holding)) (Some (unit_holding_in r q))
 stays r q t other = sym (cond-true (not (is_the t r)) (Some (unit_holding_in r q)) None (ap not other))
 
 -- those that the transaction doesn't reserve stay
-others_stay : (h : Bool) (r : Option TransactionId) (q : Option Place) (t : TransactionId) → is_the t r ≡ false → unit_holding_of h r q ≡ labels_that (λ unit_holding. not (is_reserved_by t unit_holding)) (unit_holding_of h r q)
+others_stay : (h : Bool) (r : Option TransactionId) (q : Option Position) (t : TransactionId) → is_the t r ≡ false → unit_holding_of h r q ≡ labels_that (λ unit_holding. not (is_reserved_by t unit_holding)) (unit_holding_of h r q)
 others_stay true r None t other = refl
 others_stay true r (Some q) t other = stays r q t other
 others_stay false r q t other = refl
 
-goes : (r : Option TransactionId) (q : Place) (t : TransactionId) → is_the t r ≡ true → None ≡ labels_that (λ unit_holding. not (is_reserved_by t unit_holding)) (Some (unit_holding_in r q))
+goes : (r : Option TransactionId) (q : Position) (t : TransactionId) → is_the t r ≡ true → None ≡ labels_that (λ unit_holding. not (is_reserved_by t unit_holding)) (Some (unit_holding_in r q))
 goes r q t own = sym (cond-false (not (is_the t r)) (Some (unit_holding_in r q)) None (ap not own))
 
 -- those that it reserves go
-own_go : (h : Bool) (r : Option TransactionId) (q : Option Place) (t : TransactionId) → is_the t r ≡ true → None ≡ labels_that (λ unit_holding. not (is_reserved_by t unit_holding)) (unit_holding_of h r q)
+own_go : (h : Bool) (r : Option TransactionId) (q : Option Position) (t : TransactionId) → is_the t r ≡ true → None ≡ labels_that (λ unit_holding. not (is_reserved_by t unit_holding)) (unit_holding_of h r q)
 own_go true r None t own = refl
 own_go true r (Some q) t own = goes r q t own
 own_go false r q t own = refl
@@ -98,7 +98,7 @@ kind_uncovered : (blocks : List Block) (s : Serial) → covers blocks s ≡ fals
 kind_uncovered blocks s h = none_is (kind_in blocks s) (sym (any_found (λ (b : Block). has_unit b.raw s) (λ (b : Block). b.raw.kind) blocks) ∙ h)
 
 -- a unit of the content, as it was credited
-credited_unit_holding : (k : Content) (blocks : List Block) → raws blocks ≡ k.units → (s : Serial) → option_map (unit_holding_in None) (credited_place s k) ≡ option_map (free_unit_holding k.to_account) (kind_in blocks s)
+credited_unit_holding : (k : Content) (blocks : List Block) → raws blocks ≡ k.units → (s : Serial) → option_map (unit_holding_in None) (credited_position s k) ≡ option_map (free_unit_holding k.to_account) (kind_in blocks s)
 credited_unit_holding k blocks units s =
     let put = λ (o : Option RawBlock). option_map (unit_holding_in None) (option_map (λ (b : RawBlock). record { account = k.to_account; kind = b.kind }) o) in
     ap put (ap (find (λ (b : RawBlock). has_unit b s)) (sym units) ∙ find_raws blocks s) ∙ go (find (λ (b : Block). has_unit b.raw s) blocks)
@@ -120,12 +120,12 @@ module _ (scheme : Scheme) (c : Code) (s : Serial) where
       ap (λ n. (at_start scheme c s + n) == (count_by (gives c s) (x ∷ xs) + 1)) (count_no (credits c s) x xs credited)
       ∙ ap (λ n. (at_start scheme c s + count_by (credits c s) xs) == (n + 1)) (count_no (gives c s) x xs given)
 
-  same_place : (x : Transition) (xs : List Transition) → credits c s x ≡ false → place scheme c (x ∷ xs) s ≡ place scheme c xs s
-  same_place x xs credited = cond-false (credits c s x) (place_in s x.content) (place scheme c xs s) credited
+  same_position : (x : Transition) (xs : List Transition) → credits c s x ≡ false → position scheme c (x ∷ xs) s ≡ position scheme c xs s
+  same_position x xs credited = cond-false (credits c s x) (position_in s x.content) (position scheme c xs s) credited
 
   pub moved_unit_holding : (x : Transition) (xs : List Transition) (r : Option TransactionId) → gives c s x ≡ false → credits c s x ≡ false → reserver c (x ∷ xs) s ≡ r
-      → unit_holding_at scheme c (x ∷ xs) s ≡ unit_holding_of (holds scheme c xs s) r (place scheme c xs s)
-  moved_unit_holding x xs r given credited by = λ i. unit_holding_of (same_hold x xs given credited i) (by i) (same_place x xs credited i)
+      → unit_holding_at scheme c (x ∷ xs) s ≡ unit_holding_of (holds scheme c xs s) r (position scheme c xs s)
+  moved_unit_holding x xs r given credited by = λ i. unit_holding_of (same_hold x xs given credited i) (by i) (same_position x xs credited i)
 
   -- a transfer of another transaction waits as before
   pub waits_on : (x : Transition) (xs : List Transition) (t : TransactionId) → same_id x.id t ≡ false → Waits c s xs t → Waits c s (x ∷ xs) t
@@ -186,7 +186,7 @@ module _ (scheme : Scheme) (c : Code) (s : Serial) where
   released_unit_holding x xs q sound old end unfinished =
       let given = and_left (same_status x.new Completed) (same_code x.id.code c && carries x s) unfinished in
       moved_unit_holding x xs (let_go x.id (reserver c xs s)) given (ended_credits x end.2) (ended_reserver x xs sound old end.4 (reserver c xs s) refl)
-      ∙ newly_released (holds scheme c xs s) (reserver c xs s) (place scheme c xs s) x.id
+      ∙ newly_released (holds scheme c xs s) (reserver c xs s) (position scheme c xs s) x.id
 
   -- the unit is gone
   given_hold : (x : Transition) (xs : List Transition) → Sound scheme c xs → gives c s x ≡ true → credits c s x ≡ false → holds scheme c (x ∷ xs) s ≡ false
@@ -210,7 +210,7 @@ module _ (scheme : Scheme) (c : Code) (s : Serial) where
             let given = and_from (same_status x.new Completed) (same_code x.id.code c && carries x s) done (and_from (same_code x.id.code c) (carries x s) end.2 y) in
             let by = waits_reserver scheme c s xs x.id old (ended_waited x xs q end y) in
             let own : is_the x.id (reserver c xs s) ≡ true = ap (is_the x.id) by ∙ same_id-refl x.id in
-            unit_holding_of_unheld scheme c s (x ∷ xs) (given_hold x xs old given (ended_credits x end.2)) ∙ own_go (holds scheme c xs s) (reserver c xs s) (place scheme c xs s) x.id own
+            unit_holding_of_unheld scheme c s (x ∷ xs) (given_hold x xs old given (ended_credits x end.2)) ∙ own_go (holds scheme c xs s) (reserver c xs s) (position scheme c xs s) x.id own
         | inr n ↦
             let given = and_right (same_status x.new Completed) (same_code x.id.code c && carries x s) (and_right (same_code x.id.code c) (carries x s) n) in
             let none = λ (w : Waits c s xs x.id).
@@ -219,7 +219,7 @@ module _ (scheme : Scheme) (c : Code) (s : Serial) where
             clash {X = ⊥} (carries x s) has n in
             let free = unreserved x xs old none (reserver c xs s) refl in
             moved_unit_holding x xs (reserver c xs s) given (ended_credits x end.2) (ended_reserver x xs sound old end.4 (reserver c xs s) refl ∙ free.1)
-            ∙ others_stay (holds scheme c xs s) (reserver c xs s) (place scheme c xs s) x.id free.0
+            ∙ others_stay (holds scheme c xs s) (reserver c xs s) (position scheme c xs s) x.id free.0
       ]
 
   -- ---- an acquirer takes units in
@@ -245,7 +245,7 @@ module _ (scheme : Scheme) (c : Code) (s : Serial) where
             let free = free_content scheme c s xs (Some k) y none in
             let hold = taken_hold x xs old given credited free in
             let by : reserver c (x ∷ xs) s ≡ None = foreign_reserver x xs sound old foreign ∙ unheld_reserver scheme c s xs old free in
-            let at : place scheme c (x ∷ xs) s ≡ credited_place s k = cond-true (credits c s x) (place_in s x.content) (place scheme c xs s) credited ∙ ap (place_in s) content in
+            let at : position scheme c (x ∷ xs) s ≡ credited_position s k = cond-true (credits c s x) (position_in s x.content) (position scheme c xs s) credited ∙ ap (position_in s) content in
             (λ i. unit_holding_of (hold i) (by i) (at i)) ∙ credited_unit_holding k blocks units s ∙ sym (or_none (option_map (free_unit_holding k.to_account) (kind_in blocks s)))
             ∙ ap (option_or (option_map (free_unit_holding k.to_account) (kind_in blocks s))) (sym (unit_holding_of_unheld scheme c s xs free))
         | inr n ↦

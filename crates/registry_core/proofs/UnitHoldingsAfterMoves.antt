@@ -3,7 +3,7 @@ use Rattle.units.specs.declared.block.Block.{Block}
 use Rattle.units.specs.declared.code.Code.{Code}
 use Rattle.status.specs.declared.status.Status.TheVariants.{Completed, Proposed}
 use Rattle.status.specs.Content.{Content, raws}
-use Rattle.protocol.specs.History.{Entry, Transition, holds, newest, place, proposals, reserved, transitions_of}
+use Rattle.protocol.specs.History.{Entry, Transition, holds, newest, position, proposals, reserved, transitions_of}
 use Rattle.std.proofs.Common.{List, None, Some, [], ap, false, not, refl, subst, sym, true, ℕ, ◌&&◌, ◌+◌, ◌∙◌, ◌∷◌, ◌≡◌, inl, inr}
 use Rattle.safety.proofs.MovesAndHistories.NewestTransitions.{Made, newest_id}
 use Rattle.wire.specs.declared.message.Message.{Message}
@@ -23,7 +23,7 @@ use Rattle.std.proofs.lemmas.Bool.{and_parts, false_from_ne_true, not-false, cas
 use Rattle.safety.proofs.OneRegistry.UnitsCountedOnce.{and_second, arrived_quiet, free_content}
 use Rattle.safety.proofs.MovesAndHistories.TransitionForms.{arrived, asking, bare, moved, proposed}
 use Rattle.protocol.proofs.CanonicalBlocks.{canonical_piece}
-use Rattle.protocol.specs.AtRegistry.{content_of, holding, holds_some, is_place}
+use Rattle.protocol.specs.AtRegistry.{content_of, holding, holds_some, is_position}
 use Rattle.units.specs.Unit.{covers, have_unit}
 use Rattle.registry_core.proofs.StepsOfUnitHoldings.{covers_raws}
 use Rattle.accounts.specs.Holdings.{free_unit_holding, is_reserved_by, kind_in, released, reserved as reserved_by}
@@ -49,10 +49,10 @@ pub proposed_free : (scheme : Scheme) (c : Code) (es : List Entry) (o : Order) �
 proposed_free scheme c es o none s h =
     let xs = transitions_of es in
     let p = canonical_piece o.units none.1.0 s h in
-    let held = not-false (holds scheme c xs p.0.unit && is_place (place scheme c xs p.0.unit) o.account p.0)
-    (list_any_none (λ (q : Piece). not (holds scheme c xs q.unit && is_place (place scheme c xs q.unit) o.account q)) (pieces o.units) p.0 none.1.1.1.1.0 p.1) in
+    let held = not-false (holds scheme c xs p.0.unit && is_position (position scheme c xs p.0.unit) o.account p.0)
+    (list_any_none (λ (q : Piece). not (holds scheme c xs q.unit && is_position (position scheme c xs q.unit) o.account q)) (pieces o.units) p.0 none.1.1.1.1.0 p.1) in
     let free = list_any_none (λ (q : Piece). reserved c xs q.unit) (pieces o.units) p.0 none.1.1.1.1.1.0 p.1 in (
-      subst (λ z. holds scheme c xs z ≡ true) p.2 (and_parts (holds scheme c xs p.0.unit) (is_place (place scheme c xs p.0.unit) o.account p.0) held).0,
+      subst (λ z. holds scheme c xs z ≡ true) p.2 (and_parts (holds scheme c xs p.0.unit) (is_position (position scheme c xs p.0.unit) o.account p.0) held).0,
       subst (λ z. reserved c xs z ≡ false) p.2 free,
     )
 

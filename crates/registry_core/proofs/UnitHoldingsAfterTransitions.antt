@@ -7,7 +7,7 @@ use Rattle.status.specs.declared.status.Status.TheVariants.{Completed, Proposed}
 use Rattle.status.specs.Content.{Content, raws}
 use Rattle.registry_core.proofs.SoundHistories.{ContentsKept, Sound, follows_keeps, sound_history}
 use Rattle.registry_core.proofs.StepsOfUnitHoldings.{Ends, covers_raws, foreign_unit_holding, moved_unit_holding, newly_reserved, released_unit_holding, removed_unit_holding, taken_unit_holding, waits_on}
-use Rattle.protocol.specs.History.{Entry, Transition, carries, credits, gives, has_serial, holds, newest, place, reserved, transitions_of}
+use Rattle.protocol.specs.History.{Entry, Transition, carries, credits, gives, has_serial, holds, newest, position, reserved, transitions_of}
 use Rattle.std.proofs.Common.{List, None, Some, [], ap, false, inl, inr, not, subst, sym, true, ◌&&◌, ◌∙◌, ◌∷◌, ◌≡◌}
 use Rattle.safety.proofs.OneRegistry.UnitsCountedOnce.{asked, again, quiet, Local, Waits, finished_move, free_content, initiator_new, newest_cons, concluded_move}
 use Rattle.safety.proofs.MovesAndHistories.NewestTransitions.{Made, newest_id}
@@ -80,7 +80,7 @@ module _ (scheme : Scheme) (c : Code) (es : List Entry) (made : Made scheme (Reg
         | inl y ↦
             let w : Waits c s (x ∷ xs) x.id = record { last = x; is = cond-true (same_id x.id x.id) (Some x) (newest xs x.id) (same_id-refl x.id); new = new; own = own; has = carried s ∙ y } in
             moved_unit_holding scheme c s x xs (Some x.id) (quiet_gives c s x open_end) (quiet_credits c s x open_end) (waits_reserver scheme c s (x ∷ xs) x.id sound w)
-            ∙ newly_reserved (holds scheme c xs s) (reserver c xs s) (place scheme c xs s) x.id
+            ∙ newly_reserved (holds scheme c xs s) (reserver c xs s) (position scheme c xs s) x.id
             ∙ sym (cond-true (have_unit k.units s) (option_map (reserved_by x.id) unit_holding) unit_holding y)
         | inr n ↦
             moved_unit_holding scheme c s x xs (reserver c xs s) (quiet_gives c s x open_end) (quiet_credits c s x open_end)

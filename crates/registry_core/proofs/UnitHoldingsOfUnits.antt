@@ -1,5 +1,5 @@
 -- The unit holding of a unit after a history: which transfer reserves it, that a unit that is reserved is held, and
--- that one that is held has a place.
+-- that one that is held has a position.
 use Rattle.std.proofs.Common.{Bool, List, None, Option, Some, [], ◌&&◌, ◌+◌, ◌||◌, ◌∙◌, ◌∷◌, ◌≡◌, ◌≤◌, ap, arith, cond, false, inl, inr, not, refl, subst, sym, true}
 use Rattle.units.specs.declared.code.Code.{Code}
 use Rattle.status.specs.declared.status.Status.TheVariants.{Completed, Proposed}
@@ -7,7 +7,7 @@ use Rattle.status.specs.Content.{Content}
 use Rattle.scheme.specs.declared.members.Holder.{Holder}
 use Rattle.units.proofs.Lists.Membership.{In, In_find}
 use Rattle.accounts.specs.declared.unit_holding.UnitHolding.{UnitHolding}
-use Rattle.protocol.specs.History.{Place, Transition, at_start, credited_place, has_serial, is_status, is_with, place_in, stands_at, carries, credits, gives, holds, place, reserved}
+use Rattle.protocol.specs.History.{Position, Transition, at_start, credited_position, has_serial, is_status, is_with, position_in, stands_at, carries, credits, gives, holds, position, reserved}
 use Rattle.scheme.specs.declared.registries.Scheme.{Scheme}
 use Rattle.units.specs.declared.block.Unit.{Unit as Serial}
 use Rattle.registry_core.proofs.SoundHistories.{Sound}
@@ -50,36 +50,36 @@ mapped f (Some x) y e = (x, refl, cc (e))
 
 -- ---- where a unit is
 
--- blocks with the unit give it a place
-carried_place : (s : Serial) (k : Option Content) → has_serial k s ≡ true → (q : Place) × (place_in s k ≡ Some q)
-carried_place s None e = absurd (cc (e))
-carried_place s (Some k) e = some_is (credited_place s k) (sym (any_found (λ b. has_unit b s) (λ b. record { account = k.to_account; kind = b.kind }) k.units) ∙ e)
+-- blocks with the unit give it a position
+carried_position : (s : Serial) (k : Option Content) → has_serial k s ≡ true → (q : Position) × (position_in s k ≡ Some q)
+carried_position s None e = absurd (cc (e))
+carried_position s (Some k) e = some_is (credited_position s k) (sym (any_found (λ b. has_unit b s) (λ b. record { account = k.to_account; kind = b.kind }) k.units) ∙ e)
 
-allotted_place : (c : Code) (h : Option Holder) → 1 ≤ cond (is_with c h) 1 0 + 0 → (q : Place) × (option_map (λ (h : Holder). record { account = h.account; kind = h.kind }) h ≡ Some q)
-allotted_place c None e = absurd (omega arith)
-allotted_place c (Some h) e = (record { account = h.account; kind = h.kind }, refl)
+allotted_position : (c : Code) (h : Option Holder) → 1 ≤ cond (is_with c h) 1 0 + 0 → (q : Position) × (option_map (λ (h : Holder). record { account = h.account; kind = h.kind }) h ≡ Some q)
+allotted_position c None e = absurd (omega arith)
+allotted_position c (Some h) e = (record { account = h.account; kind = h.kind }, refl)
 
 module _ (scheme : Scheme) (c : Code) (s : Serial) where
-  -- a unit that was allotted or came has a place
-  came_place : (xs : List Transition) → 1 ≤ at_start scheme c s + count_by (credits c s) xs → (q : Place) × (place scheme c xs s ≡ Some q)
-  came_place [] e = allotted_place c (allotted scheme s) e
-  came_place (x ∷ xs) e =
+  -- a unit that was allotted or came has a position
+  came_position : (xs : List Transition) → 1 ≤ at_start scheme c s + count_by (credits c s) xs → (q : Position) × (position scheme c xs s ≡ Some q)
+  came_position [] e = allotted_position c (allotted scheme s) e
+  came_position (x ∷ xs) e =
       elim (cases_Bool (credits c s x)) [
         | inl y ↦
             let carried = (and_parts (not (same_code x.id.code c)) (carries x s) (and_parts (same_status x.new Completed) (not (same_code x.id.code c) && carries x s) y).1).1 in
-            let q = carried_place s x.content carried in
-            (q.0, cond-true (credits c s x) (place_in s x.content) (place scheme c xs s) y ∙ q.1)
+            let q = carried_position s x.content carried in
+            (q.0, cond-true (credits c s x) (position_in s x.content) (position scheme c xs s) y ∙ q.1)
         | inr n ↦
             let same = count_no (credits c s) x xs n in
-            let q = came_place xs (omega arith) in
-            (q.0, cond-false (credits c s x) (place_in s x.content) (place scheme c xs s) n ∙ q.1)
+            let q = came_position xs (omega arith) in
+            (q.0, cond-false (credits c s x) (position_in s x.content) (position scheme c xs s) n ∙ q.1)
       ]
 
-  -- a unit that is held has a place
-  pub held_place : (xs : List Transition) → holds scheme c xs s ≡ true → (q : Place) × (place scheme c xs s ≡ Some q)
-  held_place xs h =
+  -- a unit that is held has a position
+  pub held_position : (xs : List Transition) → holds scheme c xs s ≡ true → (q : Position) × (position scheme c xs s ≡ Some q)
+  held_position xs h =
       let e = eqb-true (at_start scheme c s + count_by (credits c s) xs) (count_by (gives c s) xs + 1) h in
-      came_place xs (omega arith)
+      came_position xs (omega arith)
 
   -- ---- the transfer that reserves it
 
@@ -151,23 +151,23 @@ module _ (scheme : Scheme) (c : Code) (s : Serial) where
 
   -- ---- the unit holding
 
-  pub unit_holding_of_held : (xs : List Transition) (q : Place) → holds scheme c xs s ≡ true → place scheme c xs s ≡ Some q → unit_holding_at scheme c xs s ≡ Some (unit_holding_in (reserver c xs s) q)
-  unit_holding_of_held xs q h e = cond-true (holds scheme c xs s) (option_map (unit_holding_in (reserver c xs s)) (place scheme c xs s)) None h ∙ ap (option_map (unit_holding_in (reserver c xs s))) e
+  pub unit_holding_of_held : (xs : List Transition) (q : Position) → holds scheme c xs s ≡ true → position scheme c xs s ≡ Some q → unit_holding_at scheme c xs s ≡ Some (unit_holding_in (reserver c xs s) q)
+  unit_holding_of_held xs q h e = cond-true (holds scheme c xs s) (option_map (unit_holding_in (reserver c xs s)) (position scheme c xs s)) None h ∙ ap (option_map (unit_holding_in (reserver c xs s))) e
 
   pub unit_holding_of_unheld : (xs : List Transition) → holds scheme c xs s ≡ false → unit_holding_at scheme c xs s ≡ None
-  unit_holding_of_unheld xs h = cond-false (holds scheme c xs s) (option_map (unit_holding_in (reserver c xs s)) (place scheme c xs s)) None h
+  unit_holding_of_unheld xs h = cond-false (holds scheme c xs s) (option_map (unit_holding_in (reserver c xs s)) (position scheme c xs s)) None h
 
   -- a unit has a unit holding exactly when it is held
   pub unit_holding_is_held : (xs : List Transition) → is_some (unit_holding_at scheme c xs s) ≡ holds scheme c xs s
   unit_holding_is_held xs =
       elim (cases_Bool (holds scheme c xs s)) [
-        | inl y ↦ let q = held_place xs y in ap is_some (unit_holding_of_held xs q.0 y q.1) ∙ sym y
+        | inl y ↦ let q = held_position xs y in ap is_some (unit_holding_of_held xs q.0 y q.1) ∙ sym y
         | inr n ↦ ap is_some (unit_holding_of_unheld xs n) ∙ sym n
       ]
 
   -- what a unit holding says
-  pub unit_holding_parts : (xs : List Transition) (unit_holding : UnitHolding) → unit_holding_at scheme c xs s ≡ Some unit_holding → (holds scheme c xs s ≡ true) × ((q : Place) × (place scheme c xs s ≡ Some q) × (unit_holding_in (reserver c xs s) q ≡ unit_holding))
+  pub unit_holding_parts : (xs : List Transition) (unit_holding : UnitHolding) → unit_holding_at scheme c xs s ≡ Some unit_holding → (holds scheme c xs s ≡ true) × ((q : Position) × (position scheme c xs s ≡ Some q) × (unit_holding_in (reserver c xs s) q ≡ unit_holding))
   unit_holding_parts xs unit_holding h =
       let y : holds scheme c xs s ≡ true = sym (unit_holding_is_held xs) ∙ ap is_some h in
-      let q = held_place xs y in
+      let q = held_position xs y in
       (y, (q.0, q.1, one_some (unit_holding_in (reserver c xs s) q.0) unit_holding (sym (unit_holding_of_held xs q.0 y q.1) ∙ h)))

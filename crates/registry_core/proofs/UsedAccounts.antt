@@ -16,14 +16,14 @@ use Rattle.units.proofs.Lists.Membership.{In, In_left, In_right}
 use Rattle.accounts.specs.declared.unit_holding.UnitHolding.{UnitHolding}
 use Rattle.scheme.specs.declared.members.SchemeRegistry.{SchemeRegistry}
 use Rattle.protocol.specs.Pieces.{Piece, pieces}
-use Rattle.protocol.specs.History.{Place, Transition, at_start, carries, credits, gives, has_serial, holds, is_with, place}
+use Rattle.protocol.specs.History.{Position, Transition, at_start, carries, credits, gives, has_serial, holds, is_with, position}
 use Rattle.scheme.specs.declared.registries.Scheme.{Scheme}
 use Rattle.units.specs.declared.block.Unit.{Unit as Serial}
 use Rattle.scheme.specs.Order.{all_blocks, blocks_of}
 use Rattle.protocol.specs.Registries.{allotted}
 use Rattle.scheme.specs.Allotted.{holder, allotted_in}
 use Rattle.std.proofs.lemmas.Bool.{and_from, and_parts, cases_Bool, eq-eqb, eqb-true}
-use Rattle.registry_core.proofs.UnitHoldingsOfUnits.{any_found, held_place, unit_holding_of_held, unit_holding_parts}
+use Rattle.registry_core.proofs.UnitHoldingsOfUnits.{any_found, held_position, unit_holding_of_held, unit_holding_parts}
 use Rattle.std.specs.List.{count_by}
 use Rattle.units.specs.Unit.{covers, has_unit}
 use Rattle.registry_core.proofs.StepsOfUnitHoldings.{covers_raws}
@@ -106,15 +106,15 @@ pub record UnitHoldingIn (scheme : Scheme) (c : Code) (xs : List Transition) (ac
   pub account_is : unit_holding.account ≡ account
 
 module _ (scheme : Scheme) (c : Code) (xs : List Transition) (account : ℕ) where
-  abbrev is_in_account : Option Place → Bool
+  abbrev is_in_account : Option Position → Bool
   is_in_account q = option_map_or (λ q. q.account == account) q false
 
   pub used_unit_holding : is_used scheme c xs account ≡ true → UnitHoldingIn scheme c xs account
   used_unit_holding h =
-      let p = list_any_some (λ (p : Piece). holds scheme c xs p.unit && is_in_account (place scheme c xs p.unit)) (seen scheme xs) h in
+      let p = list_any_some (λ (p : Piece). holds scheme c xs p.unit && is_in_account (position scheme c xs p.unit)) (seen scheme xs) h in
       let s = p.0.unit in
-      let parts = and_parts (holds scheme c xs s) (is_in_account (place scheme c xs s)) p.2 in
-      let q = held_place scheme c s xs parts.0 in
+      let parts = and_parts (holds scheme c xs s) (is_in_account (position scheme c xs s)) p.2 in
+      let q = held_position scheme c s xs parts.0 in
       record {
         unit = s;
         unit_holding = unit_holding_in (reserver c xs s) q.0;
@@ -128,10 +128,10 @@ module _ (scheme : Scheme) (c : Code) (xs : List Transition) (account : ℕ) whe
       let q = parts.1 in
       let p = held_seen l.unit scheme c xs parts.0 in
       let here : q.0.account ≡ account = ap (λ (unit_holding : UnitHolding). unit_holding.account) q.2 ∙ l.account_is in
-      let at : is_in_account (place scheme c xs l.unit) ≡ true = ap is_in_account q.1 ∙ eq-eqb q.0.account account here in
-      let both = and_from (holds scheme c xs l.unit) (is_in_account (place scheme c xs l.unit)) parts.0 at in
-      list_any_in (λ (p : Piece). holds scheme c xs p.unit && is_in_account (place scheme c xs p.unit)) (seen scheme xs) p.0 p.1
-      (subst (λ (s : Serial). (holds scheme c xs s && is_in_account (place scheme c xs s)) ≡ true) (sym p.2) both)
+      let at : is_in_account (position scheme c xs l.unit) ≡ true = ap is_in_account q.1 ∙ eq-eqb q.0.account account here in
+      let both = and_from (holds scheme c xs l.unit) (is_in_account (position scheme c xs l.unit)) parts.0 at in
+      list_any_in (λ (p : Piece). holds scheme c xs p.unit && is_in_account (position scheme c xs p.unit)) (seen scheme xs) p.0 p.1
+      (subst (λ (s : Serial). (holds scheme c xs s && is_in_account (position scheme c xs s)) ≡ true) (sym p.2) both)
 
   -- as holdings say it
   pub used_units : (held : HoldingsView) → ((s : Serial) → map.get held.unit_holdings s ≡ unit_holding_at scheme c xs s) → is_used scheme c xs account ≡ true → HasUnits held account

@@ -13,7 +13,7 @@ use Rattle.scheme.specs.declared.registries.Scheme.{Scheme}
 use Rattle.initiator.specs.declared.transfer.Cancellation.TheVariants.{Asked, NotAsked}
 use Rattle.initiator.specs.declared.transfer.OutgoingTransfer.{OutgoingTransfer}
 use Rattle.acquirer.specs.declared.transfer.IncomingTransfer.{IncomingTransfer}
-use Rattle.protocol.specs.History.{Transition, Entry, newest, is_requested, stands_at, carries, holds, Place, place, is_closed}
+use Rattle.protocol.specs.History.{Transition, Entry, newest, is_requested, stands_at, carries, holds, Position, position, is_closed}
 use Rattle.protocol.specs.Registries.{has_account}
 
 -- a transfer out of this registry that stands Proposed, with the unit
@@ -24,12 +24,12 @@ waits c xs s x = same_code x.id.code c && (stands_at xs x.id Proposed && carries
 abbrev pub reserver : Code → List Transition → Serial → Option TransactionId
 reserver c xs s = option_map (λ x. x.id) (find (waits c xs s) xs)
 
-abbrev pub unit_holding_in : Option TransactionId → Place → UnitHolding
+abbrev pub unit_holding_in : Option TransactionId → Position → UnitHolding
 unit_holding_in reserving q = record { account = q.account; kind = q.kind; reserving = reserving }
 
 -- how the unit is held
 abbrev pub unit_holding_at : Scheme → Code → List Transition → Serial → Option UnitHolding
-unit_holding_at scheme c xs s = cond (holds scheme c xs s) (option_map (unit_holding_in (reserver c xs s)) (place scheme c xs s)) None
+unit_holding_at scheme c xs s = cond (holds scheme c xs s) (option_map (unit_holding_in (reserver c xs s)) (position scheme c xs s)) None
 
 -- how the account stands, where the registry has it
 abbrev pub account_status_at : Scheme → Code → List Entry → ℕ → Option AccountStatus

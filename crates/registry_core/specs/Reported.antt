@@ -6,14 +6,14 @@ use Rattle.units.specs.declared.block.Unit.{Unit as Serial}
 use Rattle.accounts.specs.Lines.{unit_holding_interval}
 use Rattle.accounts.specs.declared.unit_holding.HeldBlock.{HeldBlock}
 use Rattle.accounts.specs.declared.unit_holding.UnitHolding.{UnitHolding}
-use Rattle.protocol.specs.History.{holds, place}
+use Rattle.protocol.specs.History.{holds, position}
 use Rattle.registry_core.specs.Readings.{reserver}
 use Rattle.registry_core.specs.Registry.{RegistryCoreView, moves}
 
 -- the unit is held in that account with that kind, and that transfer reserves it, or none
 pub record IsHeldSo (r : RegistryCoreView) (s : Serial) (unit_holding : UnitHolding) : Type 0 where
   pub held : holds r.scheme r.code (moves r) s ≡ true
-  pub placed : place r.scheme r.code (moves r) s ≡ Some (record { account = unit_holding.account; kind = unit_holding.kind })
+  pub placed : position r.scheme r.code (moves r) s ≡ Some (record { account = unit_holding.account; kind = unit_holding.kind })
   pub reserved : reserver r.code (moves r) s ≡ unit_holding.reserving
 
 -- one of the lines has the unit, in that account with that kind, reserved so

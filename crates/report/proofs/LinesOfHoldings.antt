@@ -15,13 +15,13 @@ use Rattle.units.specs.declared.block.Unit.{Unit as Serial}
 use Rattle.registry_core.specs.Lines.{unit_holding_interval}
 use Rattle.registry_core.specs.HeldBlock.{HeldBlock}
 use Rattle.registry_core.specs.UnitHolding.{UnitHolding}
-use Rattle.protocol.specs.History.{Place, holds}
+use Rattle.protocol.specs.History.{Position, holds}
 use Rattle.protocol.proofs.CountsInLists.{count_yes, count_no, number_none, number_one}
 use Rattle.units.proofs.Lists.Membership.{In}
 use Rattle.units.proofs.Lists.OneValue.{clash, one_some}
 use Rattle.units.proofs.Lists.Positions.{In_contains, contains_in}
 use Rattle.units.proofs.Lists.SomePass.{list_any_not}
-use Rattle.registry_core.proofs.UnitHoldingsOfUnits.{held_place}
+use Rattle.registry_core.proofs.UnitHoldingsOfUnits.{held_position}
 use Rattle.registry_core.specs.Readings.{reserver}
 use Rattle.registry_core.specs.Registry.{RegistryCoreView, moves}
 use Rattle.registry_core.specs.Reported.{AreHoldings, IsHeldSo}
@@ -125,11 +125,11 @@ module _ (r : RegistryCoreView) (lines : List HeldBlock) (are : AreHoldings r li
       let a = (held_so l i x).placed in
       let b = (held_so k j y).placed in
       let same = one_some _ _ (sym a ∙ b) in
-      ap (λ (p : Place). p.account) same
+      ap (λ (p : Position). p.account) same
 
   in_some_line : holds r.scheme r.code (moves r) s ≡ true → 1 ≤ count_by (has s) lines
   in_some_line h =
-      let p = held_place r.scheme r.code s (moves r) h in
+      let p = held_position r.scheme r.code s (moves r) h in
       let unit_holding : UnitHolding = record { account = p.0.account; kind = p.0.kind; reserving = reserver r.code (moves r) s } in
       let held : IsHeldSo r s unit_holding = record { held = h; placed = p.1; reserved = refl } in
       let so = (are.exact s unit_holding).0 held in

@@ -73,8 +73,8 @@ impl Scheme {
         self.members.as_slice()
     }
 
-    /// The place of the registry of that code among the registries.
-    pub fn place(&self, code: Code) -> Option<usize>
+    /// The index of the registry of that code among the registries.
+    pub fn index_of(&self, code: Code) -> Option<usize>
         ensures { result ≡ position_from (λ m. same_code m.code code) 0 self.now.members }
     {
         self.registries()
@@ -86,8 +86,8 @@ impl Scheme {
     pub fn member(&self, code: Code) -> Option<&SchemeRegistry>
         ensures { option_copied result ≡ member self.now.members code }
     {
-        let place = self.place(code)?;
-        self.registries().get(place)
+        let index = self.index_of(code)?;
+        self.registries().get(index)
     }
 
     /// Who holds the unit at the start.

@@ -1,2 +1,2 @@
 pub mod Loopback
-pub mod Places
+pub mod Addresses

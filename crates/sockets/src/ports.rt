@@ -1,7 +1,7 @@
 //! Where all nodes accept connections, and what connects to them there.
 ghost use Rattle.std.specs.Prelude.{◌≡◌, ◌++◌, ◌∷◌, [], Some, IfOk, zip, OnErr, OnOk};
 ghost use Rattle.std.specs.Io.Buffered.{reader_inner};
-ghost use Rattle.sockets.specs.Places.{address_of};
+ghost use Rattle.sockets.specs.Addresses.{address_of};
 
 use crate::dialled::{Dialled, dial_at};
 use crate::port::Port;
@@ -20,16 +20,16 @@ const READ_AT_ONCE: usize = 256;
 pub struct Ports<'a, R: Net> {
     net: &'a R,
     alloc: Global,
-    places: Vec<(Node, SocketAddr)>,
+    addresses: Vec<(Node, SocketAddr)>,
 }
 
 impl<'a, R: Net> Model for Ports<'a, R> {
     ghost use Rattle.std.specs.Prelude.{List};
-    ghost use Rattle.sockets.specs.Places.{Place};
+    ghost use Rattle.sockets.specs.Addresses.{NodeAddress};
 
-    ghost Value = { List Place };
+    ghost Value = { List NodeAddress };
 
-    ghost view = { λ p. p.places.items };
+    ghost view = { λ p. p.addresses.items };
 }
 
 impl<'a, R: Net> Ports<'a, R> {
@@ -40,7 +40,7 @@ impl<'a, R: Net> Ports<'a, R> {
         Ports {
             net,
             alloc,
-            places: Vec::new(alloc),
+            addresses: Vec::new(alloc),
         }
     }
 
@@ -53,7 +53,7 @@ impl<'a, R: Net> Ports<'a, R> {
         ensures ok { OnOk result (self.new ≡ self.old ++ (node, port.now) ∷ []) }
         ensures err { OnErr result (self.new ≡ self.old) }
     {
-        self.places.push((node, port.address()))?;
+        self.addresses.push((node, port.address()))?;
         Ok(())
     }
 
@@ -81,7 +81,7 @@ impl<'a, R: Net> Ports<'a, R> {
     pub fn address_of(&self, node: Node) -> Option<SocketAddr>
         ensures { result ≡ address_of self.now node }
     {
-        let (_, address) = self.places.iter().find(|place| place.0 == node)?;
+        let (_, address) = self.addresses.iter().find(|entry| entry.0 == node)?;
         Some(*address)
     }
 }
@@ -93,8 +93,8 @@ impl<'a, R: Net<Stream = TcpStream>> Dial for Ports<'a, R> {
     type Writer = Dialled;
 
     // Both directions are of a connection that was made to where the node accepts connections.
-    ghost leads = { λ places peer reader writer. (address_of places peer ≡ Some (reader_inner reader))
-        × (address_of places peer ≡ Some writer) };
+    ghost leads = { λ addresses peer reader writer. (address_of addresses peer ≡ Some (reader_inner reader))
+        × (address_of addresses peer ≡ Some writer) };
 
     fn connect(&self, peer: Node) -> Option<(BufReader<Dialled>, Dialled)> {
         let address = self.address_of(peer)?;

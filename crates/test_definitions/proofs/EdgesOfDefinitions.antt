@@ -1,9 +1,9 @@
--- What single definitions come to where nothing is known: no registry, no owner, no content, no place, and no moment.
+-- What single definitions come to where nothing is known: no registry, no owner, no content, no position, and no moment.
 use Rattle.std.proofs.Common.{◌≡◌, false, [], ◌∷◌, None, map, refl}
 use Rattle.units.specs.declared.block.Kind.TheVariants.{Aau}
 use Rattle.wire.specs.declared.input.Input.TheVariants.{Request}
 use Rattle.status.specs.declared.status.Status.TheVariants.{Accepted}
-use Rattle.protocol.specs.AtRegistry.{holds_some, is_awaited, is_place}
+use Rattle.protocol.specs.AtRegistry.{holds_some, is_awaited, is_position}
 use Rattle.protocol.specs.Checks.{is_owner}
 use Rattle.protocol.specs.Claims.{is_received}
 use Rattle.protocol.specs.History.{is_eligible, transitions_of}
@@ -35,7 +35,7 @@ first_piece = record { unit = unit 1; kind = Aau }
 pub nothing_awaited : is_awaited jp (record { id = nz1; new = Accepted; content = None; moment = 0; messages = [] } ∷ []) 7 ≡ false
 nothing_awaited = refl
 
-pub in_no_account : is_place None 1 first_piece ≡ false
+pub in_no_account : is_position None 1 first_piece ≡ false
 in_no_account = refl
 
 -- a transfer without content goes to nobody who could have received it

@@ -15,7 +15,7 @@ use Rattle.protocol.specs.Checks.{log_findings}
 use Rattle.protocol.specs.Claims.{committed_of, live_of, holders, owed}
 use Rattle.protocol.specs.History.{transitions_of, stands}
 use Rattle.protocol.specs.Pieces.{pieces, repeats}
-use Rattle.protocol.specs.Registries.{nodes, place_of, is_node}
+use Rattle.protocol.specs.Registries.{nodes, index_of, is_node}
 use Rattle.protocol.specs.Verdict.{verdict}
 use Rattle.protocol.specs.World.{World, step}
 use Rattle.std.specs.Prelude.{take}
@@ -83,12 +83,12 @@ other_units_at_nodes = (refl, refl, refl)
 
 -- ---- where units are, in a world: before, on the way, after
 
-abbrev places_in : World → ℕ → List ℕ
-places_in w n = holders w.scheme (live_of w) (unit n) ∷ owed w.scheme (live_of w) (unit n) ∷ []
+abbrev counts_in : World → ℕ → List ℕ
+counts_in w n = holders w.scheme (live_of w) (unit n) ∷ owed w.scheme (live_of w) (unit n) ∷ []
 
-pub one_place : (map (places_in (after [])) (1 ∷ 100 ∷ 101 ∷ []) ≡ (1 ∷ 0 ∷ []) ∷ (1 ∷ 0 ∷ []) ∷ (0 ∷ 0 ∷ []) ∷ [])
-    × (map (places_in (after (take 13 transfer))) (1 ∷ 100 ∷ 101 ∷ []) ≡ (0 ∷ 1 ∷ []) ∷ (0 ∷ 1 ∷ []) ∷ (0 ∷ 0 ∷ []) ∷ [])
-    × (map (places_in (after transfer)) (1 ∷ 100 ∷ 101 ∷ []) ≡ (1 ∷ 0 ∷ []) ∷ (1 ∷ 0 ∷ []) ∷ (0 ∷ 0 ∷ []) ∷ [])
+pub one_place : (map (counts_in (after [])) (1 ∷ 100 ∷ 101 ∷ []) ≡ (1 ∷ 0 ∷ []) ∷ (1 ∷ 0 ∷ []) ∷ (0 ∷ 0 ∷ []) ∷ [])
+    × (map (counts_in (after (take 13 transfer))) (1 ∷ 100 ∷ 101 ∷ []) ≡ (0 ∷ 1 ∷ []) ∷ (0 ∷ 1 ∷ []) ∷ (0 ∷ 0 ∷ []) ∷ [])
+    × (map (counts_in (after transfer)) (1 ∷ 100 ∷ 101 ∷ []) ≡ (1 ∷ 0 ∷ []) ∷ (1 ∷ 0 ∷ []) ∷ (0 ∷ 0 ∷ []) ∷ [])
 unfolding step verdict
 one_place = (refl, refl, refl)
 
@@ -103,8 +103,8 @@ pub tails_in_views : (stands (transitions_of (live_of (after (take 1 transfer)) 
 unfolding step verdict
 tails_in_views = (refl, refl, refl, refl, refl, refl)
 
--- ---- the nodes of a scheme, and their places
+-- ---- the nodes of a scheme, and their indices
 
-pub nodes_in_order : (nodes scheme_t ≡ Itl ∷ au_node ∷ jp_node ∷ nz_node ∷ []) × (map (place_of scheme_t) (Itl ∷ au_node ∷ jp_node ∷ nz_node ∷ []) ≡ Some 0 ∷ Some 1 ∷ Some 2 ∷ Some 3 ∷ [])
-    × (place_of scheme_s (Registry au) ≡ None) × (map (is_node scheme_s) (Itl ∷ jp_node ∷ nz_node ∷ Registry au ∷ []) ≡ true ∷ true ∷ true ∷ false ∷ [])
+pub nodes_in_order : (nodes scheme_t ≡ Itl ∷ au_node ∷ jp_node ∷ nz_node ∷ []) × (map (index_of scheme_t) (Itl ∷ au_node ∷ jp_node ∷ nz_node ∷ []) ≡ Some 0 ∷ Some 1 ∷ Some 2 ∷ Some 3 ∷ [])
+    × (index_of scheme_s (Registry au) ≡ None) × (map (is_node scheme_s) (Itl ∷ jp_node ∷ nz_node ∷ Registry au ∷ []) ≡ true ∷ true ∷ true ∷ false ∷ [])
 nodes_in_order = (refl, refl, refl, refl)

@@ -45,7 +45,7 @@ pub room_beside_the_tail : HasRoom ordered 3 → 1 + 3 ≤ 1000
 unfolding step verdict
 room_beside_the_tail room = room nz_node
 
--- ---- what an event gives: the message at its place in the bag, to whom it is for
+-- ---- what an event gives: the message by its number in the bag, to whom it is for
 
 abbrev proposal_posted : World
 proposal_posted = after (take 3 transfer)

@@ -10,7 +10,7 @@ use protocol::wire::{Input, Message, Number, Reply, ReplyCode};
 use std::alloc::Global;
 use std::process::Abort;
 
-/// The place of NZ among the nodes.
+/// The index of NZ among the nodes.
 const NZ: usize = 2;
 
 /// How many messages a node sends to another one, at most, and how many rounds there are, at most.
@@ -35,13 +35,13 @@ fn refused_as_stopped(rt: &impl Abort) -> Reply {
     Reply::Refused(ReplyCode::new(NODE_STOPPED).expect(rt, "a code of a reply"))
 }
 
-/// Has the node at that place take the message and commit it, and returns its reply.
-fn reply_at(rt: &impl Abort, link: &mut Link, place: usize, message: &Message) -> Reply {
+/// Has the node at that index take the message and commit it, and returns its reply.
+fn reply_at(rt: &impl Abort, link: &mut Link, at: usize, message: &Message) -> Reply {
     let message = message.copy().expect(rt, "memory");
     let moment = MOMENT;
-    let told = link.take(rt, place, Input::Received { message, moment });
+    let told = link.take(rt, at, Input::Received { message, moment });
     let stops = link.stops;
-    link.commit(rt, place);
+    link.commit(rt, at);
     if link.stops != stops {
         return refused_as_stopped(rt);
     }
@@ -56,21 +56,21 @@ fn line_of(reply: Reply) -> &'static [u8] {
     }
 }
 
-/// Sends the message to the node at that place, over bytes in memory. Returns whether it was received.
+/// Sends the message to the node at that index, over bytes in memory. Returns whether it was received.
 fn is_received(
     rt: &impl Abort,
     alloc: Global,
     link: &mut Link,
-    place: usize,
+    at: usize,
     message: &Message,
 ) -> bool {
-    let reply = reply_at(rt, link, place, message);
+    let reply = reply_at(rt, link, at, message);
     let mut reader = Counted::new(line_of(reply));
     let mut writer = Counted::new(Vec::new(alloc));
     exchange(alloc, &mut reader, &mut writer, message) == Exchange::Answered(Reply::Received)
 }
 
-/// A copy of the next message between these places, with its key.
+/// A copy of the next message between these nodes, with its key.
 fn next_message(rt: &impl Abort, link: &Link, from: usize, to: usize) -> Option<(usize, Message)> {
     let peer = link.state(rt, to).node();
     let (key, message) = link.state(rt, from).next_send(peer, 0)?;
@@ -128,8 +128,8 @@ pub fn transfer(rt: &impl Abort, alloc: Global, link: &mut Link) {
     for _ in 0..MOST {
         let stops = link.stops;
         let sent = send_round(rt, alloc, link);
-        for place in 0..3 {
-            link.commit(rt, place);
+        for at in 0..3 {
+            link.commit(rt, at);
         }
         if sent == 0 && link.stops == stops {
             return;

@@ -157,23 +157,23 @@ impl Link {
         self.stores.push(store).expect(rt, "memory");
     }
 
-    /// The state of the node at that place.
-    pub fn state(&self, rt: &impl Abort, place: usize) -> &State<Core> {
-        self.states.get(place).expect(rt, "a state")
+    /// The state of the node at that index.
+    pub fn state(&self, rt: &impl Abort, at: usize) -> &State<Core> {
+        self.states.get(at).expect(rt, "a state")
     }
 
-    /// Has the node at that place take an input.
-    pub fn take(&mut self, rt: &impl Abort, place: usize, input: Input) -> Told {
-        let state = self.states.get_mut(place).expect(rt, "a state");
+    /// Has the node at that index take an input.
+    pub fn take(&mut self, rt: &impl Abort, at: usize, input: Input) -> Told {
+        let state = self.states.get_mut(at).expect(rt, "a state");
         let taken = state.take(input);
         let told = taken.told();
         drop(taken);
         told
     }
 
-    /// How many records the node at that place has committed, and how many it has.
-    fn counts(&self, rt: &impl Abort, place: usize) -> (usize, usize) {
-        let state = self.state(rt, place);
+    /// How many records the node at that index has committed, and how many it has.
+    fn counts(&self, rt: &impl Abort, at: usize) -> (usize, usize) {
+        let state = self.state(rt, at);
         let batch = state.batch(BATCH).expect(rt, "memory");
         let length = batch.len();
         drop(batch);
@@ -181,35 +181,35 @@ impl Link {
         (committed, committed.saturating_add(length))
     }
 
-    /// Has the node at that place commit what isn't committed. Where its store fails, the node is opened again: its
+    /// Has the node at that index commit what isn't committed. Where its store fails, the node is opened again: its
     /// store has what was committed before, or the whole batch too, and the records of all stores are those of a run.
-    pub fn commit(&mut self, rt: &impl Abort, place: usize) {
-        let counts = self.counts(rt, place);
-        let state = self.states.get_mut(place).expect(rt, "a state");
-        let store = self.stores.get_mut(place).expect(rt, "a store");
+    pub fn commit(&mut self, rt: &impl Abort, at: usize) {
+        let counts = self.counts(rt, at);
+        let state = self.states.get_mut(at).expect(rt, "a state");
+        let store = self.stores.get_mut(at).expect(rt, "a store");
         if let Err(fault) = commit_to(state, store) {
             assert!(rt; fault == StoreFault::Device);
-            self.restart(rt, place, counts);
+            self.restart(rt, at, counts);
             let _table = self.table(rt);
         }
     }
 
-    /// Opens the stopped node at that place again. It had so many committed records, and so many with the last batch.
-    fn restart(&mut self, rt: &impl Abort, place: usize, counts: (usize, usize)) {
+    /// Opens the stopped node at that index again. It had so many committed records, and so many with the last batch.
+    fn restart(&mut self, rt: &impl Abort, at: usize, counts: (usize, usize)) {
         self.stops = self.stops.saturating_add(1);
-        if place >= self.stores.len() || place >= self.states.len() {
+        if at >= self.stores.len() || at >= self.states.len() {
             return;
         }
-        let files = closed(self.stores.remove(place));
-        let node = self.state(rt, place).node();
+        let files = closed(self.stores.remove(at));
+        let node = self.state(rt, at).node();
         let mut store = open_again(rt, self.alloc, files, node);
         let state = state_of(rt, self.alloc, node, &mut store);
         let records = state.committed().len();
         assert!(rt; records == counts.0 || records == counts.1);
-        let slot = self.states.get_mut(place).expect(rt, "a state");
+        let slot = self.states.get_mut(at).expect(rt, "a state");
         drop(mem::replace(slot, state));
-        assert!(rt; place <= self.stores.len());
-        self.stores.insert(place, store).expect(rt, "memory");
+        assert!(rt; at <= self.stores.len());
+        self.stores.insert(at, store).expect(rt, "memory");
     }
 
     /// The table of a run that leads to the records of all stores.

@@ -177,8 +177,8 @@ fn a_line_has_a_mebibyte(rt: HostRuntime) {
 fn long_order(rt: &impl Abort, alloc: Global) -> String {
     let mut text = String::new(alloc);
     text.push_str("propose NZ 1 JP 7 ").expect(rt, "memory");
-    for place in 0..16 {
-        if place > 0 {
+    for number in 0..16 {
+        if number > 0 {
             text.push_str(" ").expect(rt, "memory");
         }
         text.push_str("NZ:1:100000000000000-100000000000000:tCER")

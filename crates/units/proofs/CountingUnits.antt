@@ -169,6 +169,6 @@ module _ {M : Type 0} where
   kept_range (i ∷ is) zero d kept h = kept.0
   kept_range (i ∷ is) (suc k) d kept h = kept_range is k d kept.2 (omega arith)
 
-  -- an interval that stands at a place of the list
+  -- an interval that stands at an index of the list
   pub range_at : (is : List (Interval M)) (k : ℕ) (i : Interval M) → AreKept is → k < length is → i ≡ get_or is k i → IsRange i.first i.last
   range_at is k i kept h e = subst (λ (j : Interval M). IsRange j.first j.last) (sym e) (kept_range is k i kept h)

@@ -7,4 +7,4 @@ pub mod Comparisons
 pub mod NoRepeats
 pub mod Permutations
 pub mod OrderedMaps
-pub mod FirstPlaces
+pub mod FirstIndices

@@ -31,7 +31,7 @@ module _ {M : Type 0} where
         | inr ge ↦ parted.apart k l s t e f (in_true_from k s l (record { line = x.line ∙ sym y.line; low = ge; high = omega arith }))
       ]
 
-  -- ---- labels by places in the list
+  -- ---- labels by indices in the list
 
   pub labelled_at : (es : List (Serial × Span M)) (d : Serial × Span M) (u : Serial) (m : M) → label_at (intervals_of es) u ≡ Some m
       → (i : ℕ) × (i < length es) × (has (at (get_or es i d)) u ≡ true) × ((get_or es i d).1.label ≡ m)
@@ -62,17 +62,17 @@ module _ {M : Type 0} where
     pub means : AreParted (get unit_cmp m) → Mean (get unit_cmp m) (labels_in m)
     means parted = record {
       gives = λ k u s e h.
-          let place = (btree_map_get_iff units_total exact_units m ordered k s).0 e in
+          let index = (btree_map_get_iff units_total exact_units m ordered k s).0 e in
           let d : Serial × Span M = (k, s) in
           all_labelled m.entries d u s.label (λ i lt g.
           let there = held_at i d lt in
           let same = one_span (get unit_cmp m) parted k (get_or m.entries i d).0 u s (get_or m.entries i d).1 e there h g in
           let both : Some s ≡ Some (get_or m.entries i d).1 = sym e ∙ ap (get unit_cmp m) same ∙ there in
-          cc (both)) place.0 place.1 (subst (λ (x : Serial × Span M). has (at x) u ≡ true) (sym place.2) h);
+          cc (both)) index.0 index.1 (subst (λ (x : Serial × Span M). has (at x) u ≡ true) (sym index.2) h);
       given = λ u label e.
           let d : Serial × Span M = (u, record { last = 0; label = label }) in
-          let place = labelled_at m.entries d u label e in
-          ((get_or m.entries place.0 d).0, (get_or m.entries place.0 d).1, held_at place.0 d place.1, place.2);
+          let index = labelled_at m.entries d u label e in
+          ((get_or m.entries index.0 d).0, (get_or m.entries index.0 d).1, held_at index.0 d index.1, index.2);
     }
 
     rises : (i j : ℕ) (d : Serial × Span M) → i < j → j < length m.entries → Before (get_or m.entries i d).0 (get_or m.entries j d).0
@@ -100,8 +100,8 @@ module _ {M : Type 0} where
       none : (u : Serial) → has (at x) u ≡ true → (o : Option M) → label_at (intervals_of es) u ≡ o → o ≡ None
       none u here None e = refl
       none u here (Some m) e =
-          let place = labelled_at es x u m e in
-          absurd (once zero (suc place.0) x u (omega arith) (omega (arith, place.1)) here place.2)
+          let index = labelled_at es x u m e in
+          absurd (once zero (suc index.0) x u (omega arith) (omega (arith, index.1)) here index.2)
 
   abbrev Steps : List (Serial × Span M) → Type 0
   Steps es = (i : ℕ) (d : Serial × Span M) → i + 1 < length es → (unit_cmp (numbered (at (get_or es i d)) (get_or es i d).1.last) (get_or es (i + 1) d).0 ≡ Less) × (GoesOn (at (get_or es i d)) (at (get_or es (i + 1) d)) → ⊥)

@@ -11,7 +11,7 @@ use Rattle.scheme.specs.declared.registries.Scheme.{Scheme}
 use Rattle.protocol.specs.Claims.{DeliversWelcome, committed_of, committed_part, live_of, whole}
 use Rattle.protocol.specs.Cores.{answer, answer_of}
 use Rattle.protocol.specs.Headline.{IsSafe}
-use Rattle.protocol.specs.Registries.{is_node, nodes, place_of}
+use Rattle.protocol.specs.Registries.{is_node, nodes, index_of}
 use Rattle.protocol.specs.WayOut.{WayOut}
 use Rattle.protocol.specs.Weave.{Gives, IsQuiet, IsStuck, Projects, uncommitted}
 use Rattle.protocol.specs.World.{World, Station, Stepped, at_node, opening, run, station, step, take_input}
@@ -27,14 +27,14 @@ use Rattle.safety.proofs.WorldLemmas.SchemesKept.{run_scheme}
 use Rattle.safety.proofs.WorldLemmas.StationsAfterPut.{found_at_node}
 use Rattle.weave.specs.Ahead.{AreAhead, IsAhead}
 use Rattle.weave.specs.Following.{HasFollowed, HasNoEvents, IsFirstLeft, IsStuckAt, IsWoven, committed_at, journal_of}
-use Rattle.weave.specs.Kept.{IsFollowing, places_of}
+use Rattle.weave.specs.Kept.{IsFollowing, numbers_of}
 use Rattle.weave.specs.Left.{AreDoneBelow, IsLeft, count_at}
 use Rattle.weave.specs.Steps.{Follows, HasNodesAlone, Waits, whole_at, without_tails}
 use Rattle.weave.specs.declared.following.Following.{Following}
 use Rattle.weave.proofs.Followed.{all_placed}
 use Rattle.weave.proofs.Lists.{get_at, take_front}
-use Rattle.protocol.proofs.NodePlaces.{node_at, node_of_place, node_there, place_within}
-use Rattle.weave.proofs.NodePlaces.{counted, journal_is, nodes_alone, none_there}
+use Rattle.protocol.proofs.NodeIndices.{node_at, node_of_index, node_there, index_within}
+use Rattle.weave.proofs.NodeIndices.{counted, journal_is, nodes_alone, none_there}
 use Rattle.weave.proofs.OneMore.{take_says}
 use Rattle.weave.proofs.Rounds.{follows_journals, next_is}
 use Rattle.weave.proofs.Tails.{committed_same, settled_is}
@@ -49,7 +49,7 @@ no_more (x ∷ xs) e = absurd (omega arith)
 
 -- ---- no node is pending
 
-module _ (scheme : Scheme) (journals : Node → List Input) (w : World) (events : List WorldEvent) (places : TransactionId → List ℕ) (posted : List ℕ) (f : Follows scheme journals w events places posted []) (quiet : IsQuiet w) where
+module _ (scheme : Scheme) (journals : Node → List Input) (w : World) (events : List WorldEvent) (numbers : TransactionId → List ℕ) (posted : List ℕ) (f : Follows scheme journals w events numbers posted []) (quiet : IsQuiet w) where
   stuck : IsStuck w journals
   stuck n input rest e place left gives recorded =
       elim (f.waits n) [
@@ -99,7 +99,7 @@ module _ (scheme : Scheme) (journals : Node → List Input) (w : World) (events 
                 (done_same n (done at.0 n (slice_get_within (nodes scheme) at.0 n at.1) at.1), ap uncommitted idle.is ∙ idle.settled)
             | inr outside ↦
                 let none : station w n ≡ None =
-                none_there (station w n) (all_placed scheme journals w events places posted [] f n ∙ ap (λ (z : Scheme). is_node z n) same_scheme ∙ outside) in
+                none_there (station w n) (all_placed scheme journals w events numbers posted [] f n ∙ ap (λ (z : Scheme). is_node z n) same_scheme ∙ outside) in
                 (ap committed_part none ∙ sym (alone n outside), ap uncommitted none)
           ]
 
@@ -145,12 +145,12 @@ module _ (scheme : Scheme) (w : World) (n : Node) (quiet : IsQuiet w) (scheme_is
 abbrev GoesOn : Scheme → (Node → List Input) → (Node → List Input) → Node → Type 0
 GoesOn scheme js ks n = (js n ≡ ks n) ⊎ ((is_node scheme n ≡ true) × IsAhead scheme n (js n) (ks n))
 
-follows_beyond : (scheme : Scheme) (js ks : Node → List Input) (w : World) (events : List WorldEvent) (places : TransactionId → List ℕ) (posted : List ℕ) (pending : List Node) → IsQuiet w → w.scheme ≡ scheme → ((n : Node) → GoesOn scheme js ks n)
-    → Follows scheme ks w events places posted pending → Follows scheme js w events places posted pending
-follows_beyond scheme js ks w events places posted pending quiet scheme_is goes f = record {
+follows_beyond : (scheme : Scheme) (js ks : Node → List Input) (w : World) (events : List WorldEvent) (numbers : TransactionId → List ℕ) (posted : List ℕ) (pending : List Node) → IsQuiet w → w.scheme ≡ scheme → ((n : Node) → GoesOn scheme js ks n)
+    → Follows scheme ks w events numbers posted pending → Follows scheme js w events numbers posted pending
+follows_beyond scheme js ks w events numbers posted pending quiet scheme_is goes f = record {
   led = f.led;
   front = λ n. front_of n (goes n);
-  placed = f.placed;
+  numbered = f.numbered;
   counted = f.counted;
   counts = f.counts;
   waits = λ n. elim (f.waits n) [ inl h ↦ inl h | inr h ↦ inr (waits_of n (goes n) h) ];
@@ -168,14 +168,14 @@ goes_on : (scheme : Scheme) (js ks : List (List Input)) → AreAhead scheme js k
 goes_on scheme js ks a n =
     elim (cases_Bool (is_node scheme n)) [
       | inl node ↦
-          let place = some_there (place_of scheme n) (node_there scheme n ∙ node) in
-          let below = place_within scheme n place.0 place.1 in
-          let one = a.each place.0 n (slice_index_or js place.0 []) (slice_index_or ks place.0 []) (node_of_place scheme n place.0 place.1)
-          (get_at js place.0 [] (omega (arith, below, a.journals_count))) (get_at ks place.0 [] (omega (arith, below, a.recorded_count))) in
+          let index = some_there (index_of scheme n) (node_there scheme n ∙ node) in
+          let below = index_within scheme n index.0 index.1 in
+          let one = a.each index.0 n (slice_index_or js index.0 []) (slice_index_or ks index.0 []) (node_of_index scheme n index.0 index.1)
+          (get_at js index.0 [] (omega (arith, below, a.journals_count))) (get_at ks index.0 [] (omega (arith, below, a.recorded_count))) in
           inr (
             node,
-            subst (λ (xs : List Input). IsAhead scheme n xs (journal_of scheme ks n)) (sym (journal_is scheme n place.0 place.1 js))
-                (subst (λ (xs : List Input). IsAhead scheme n (slice_index_or js place.0 []) xs) (sym (journal_is scheme n place.0 place.1 ks)) one),
+            subst (λ (xs : List Input). IsAhead scheme n xs (journal_of scheme ks n)) (sym (journal_is scheme n index.0 index.1 js))
+                (subst (λ (xs : List Input). IsAhead scheme n (slice_index_or js index.0 []) xs) (sym (journal_is scheme n index.0 index.1 ks)) one),
           )
       | inr outside ↦ inl (nodes_alone scheme js n outside ∙ sym (nodes_alone scheme ks n outside))
     ]
@@ -192,18 +192,18 @@ module _ (scheme : Scheme) (js ks : List (List Input)) (f : Following) (i : IsFo
   scheme_kept : f.world.scheme ≡ scheme
   scheme_kept = ap (λ (z : World). z.scheme) i.follows.follows.led ∙ run_scheme (opening scheme) f.events.items
 
-  over : Follows scheme (journal_of scheme js) (without_tails f.world) f.events.items (places_of f) f.posted.items []
+  over : Follows scheme (journal_of scheme js) (without_tails f.world) f.events.items (numbers_of f) f.posted.items []
   over =
-      follows_beyond scheme (journal_of scheme js) (journal_of scheme ks) (without_tails f.world) f.events.items (places_of f) f.posted.items [] i.quiet scheme_kept (goes_on scheme js ks ahead)
-      (follows_journals scheme (whole_at f.world) (journal_of scheme ks) (without_tails f.world) f.events.items (places_of f) f.posted.items [] (λ n. sym (whole_is n))
-      (subst (λ z. Follows scheme (whole_at f.world) (without_tails f.world) f.events.items (places_of f) f.posted.items z) none_pending i.follows.follows))
+      follows_beyond scheme (journal_of scheme js) (journal_of scheme ks) (without_tails f.world) f.events.items (numbers_of f) f.posted.items [] i.quiet scheme_kept (goes_on scheme js ks ahead)
+      (follows_journals scheme (whole_at f.world) (journal_of scheme ks) (without_tails f.world) f.events.items (numbers_of f) f.posted.items [] (λ n. sym (whole_is n))
+      (subst (λ z. Follows scheme (whole_at f.world) (without_tails f.world) f.events.items (numbers_of f) f.posted.items z) none_pending i.follows.follows))
 
   count_is : (n : Node) → count_at scheme counts n ≡ length (journal_of scheme js n)
   count_is n = ap (λ (ks : List ℕ). count_at scheme ks n) counts_are ∙ counted scheme js n
 
   pub fault_of : (n : Node) (place : ℕ) → IsLeft f.world (count_at scheme counts) ns n place → IsStuckAt scheme (journal_of scheme js) n place × HasNoEvents scheme (journal_of scheme js)
   fault_of n place l =
-      no_events scheme (journal_of scheme js) (without_tails f.world) f.events.items (places_of f) f.posted.items over i.quiet n place
+      no_events scheme (journal_of scheme js) (without_tails f.world) f.events.items (numbers_of f) f.posted.items over i.quiet n place
       (record {
         at = l.at;
         is = subst (λ (zs : List Node). slice_get zs l.at ≡ Some n) are l.is;
@@ -222,7 +222,7 @@ module _ (scheme : Scheme) (js ks : List (List Input)) (f : Following) (i : IsFo
         omega (arith, few, count_is m, ap length (committed_same f.world m))
 
     projected : Projects scheme f.events.items (journal_of scheme js)
-    projected = projects scheme (journal_of scheme js) (without_tails f.world) f.events.items (places_of f) f.posted.items over i.quiet (nodes_alone scheme js) all_done
+    projected = projects scheme (journal_of scheme js) (without_tails f.world) f.events.items (numbers_of f) f.posted.items over i.quiet (nodes_alone scheme js) all_done
 
     -- nothing is left of a tail
     no_tail : (n : Node) (s : Station) → station f.world n ≡ Some s → s.tail ≡ []

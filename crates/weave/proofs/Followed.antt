@@ -23,7 +23,7 @@ use Rattle.safety.proofs.WorldLemmas.NodesWithStation.{AllPlaced, opening_placed
 use Rattle.safety.proofs.WorldLemmas.QuietWorlds.{run_append}
 use Rattle.weave.specs.Following.{committed_at}
 use Rattle.weave.specs.Kept.{left_in}
-use Rattle.weave.specs.Steps.{AreAllPlaced, Follows, Waits, left_of, next_message, whole_at, with_message, without_tails}
+use Rattle.weave.specs.Steps.{AreAllNumbered, Follows, Waits, left_of, next_message, whole_at, with_message, without_tails}
 use Rattle.weave.proofs.Lists.{contains_left, contains_last, one_more}
 use Rattle.weave.proofs.OneMore.{Advances, advances, committed_elsewhere, committed_here, front_on, sent_more}
 use Rattle.weave.proofs.Posting.{posts, waits_more}
@@ -31,7 +31,7 @@ use Rattle.weave.proofs.Waiting.{waits_on}
 
 -- ---- one record more
 
-module _ (scheme : Scheme) (journals : Node → List Input) (w : World) (events : List WorldEvent) (places : TransactionId → List ℕ) (posted : List ℕ) (pending : List Node) (f : Follows scheme journals w events places posted pending) where
+module _ (scheme : Scheme) (journals : Node → List Input) (w : World) (events : List WorldEvent) (numbers : TransactionId → List ℕ) (posted : List ℕ) (pending : List Node) (f : Follows scheme journals w events numbers posted pending) where
   pub all_placed : AllPlaced w
   all_placed = subst AllPlaced (sym f.led) (run_placed (opening scheme) events (opening_placed scheme))
 
@@ -63,11 +63,11 @@ module _ (scheme : Scheme) (journals : Node → List Input) (w : World) (events 
               ]
         ]
 
-    pub follows_taken : Contains pending n → Follows scheme journals (run w (e ∷ Commit n 1 ∷ [])) (events ++ e ∷ Commit n 1 ∷ []) places posted pending
+    pub follows_taken : Contains pending n → Follows scheme journals (run w (e ∷ Commit n 1 ∷ [])) (events ++ e ∷ Commit n 1 ∷ []) numbers posted pending
     follows_taken own = record {
       led = ap (λ (z : World). run z (e ∷ Commit n 1 ∷ [])) f.led ∙ sym (run_append (opening scheme) events (e ∷ Commit n 1 ∷ []));
       front = front_on w (run w (e ∷ Commit n 1 ∷ [])) n input a journals rest left f.front;
-      placed = subst (AreAllPlaced places) (sym a.bag) f.placed;
+      numbered = subst (AreAllNumbered numbers) (sym a.bag) f.numbered;
       counted = f.counted;
       counts = λ k m is. let few = f.counts k m is in let more = sent_more w (run w (e ∷ Commit n 1 ∷ [])) n input a m in omega arith;
       waits = waits_still own;
@@ -75,32 +75,32 @@ module _ (scheme : Scheme) (journals : Node → List Input) (w : World) (events 
 
 -- ---- one message more
 
-places_more : (places more : TransactionId → List ℕ) (bag : List Posted) (p : Posted) → ((t : TransactionId) → more t ≡ (if same_id (transaction p.message) t then places t ++ length bag ∷ [] else places t))
-    → AreAllPlaced places bag → AreAllPlaced more (bag ++ p ∷ [])
-places_more places more bag p put all k q is =
+numbers_more : (numbers more : TransactionId → List ℕ) (bag : List Posted) (p : Posted) → ((t : TransactionId) → more t ≡ (if same_id (transaction p.message) t then numbers t ++ length bag ∷ [] else numbers t))
+    → AreAllNumbered numbers bag → AreAllNumbered more (bag ++ p ∷ [])
+numbers_more numbers more bag p put all k q is =
     elim (one_more bag p q k is) [
       | inl old ↦
           let t = transaction q.message in
-          subst (λ (ks : List ℕ). Contains ks k) (sym (put t)) (pick (same_id (transaction p.message) t) (places t) (all k q old.1))
+          subst (λ (ks : List ℕ). Contains ks k) (sym (put t)) (pick (same_id (transaction p.message) t) (numbers t) (all k q old.1))
       | inr new ↦
           let t = transaction p.message in
-          let here : more t ≡ places t ++ length bag ∷ [] = put t ∙ cond-true (same_id t t) (places t ++ length bag ∷ []) (places t) (same_id-refl t) in
+          let here : more t ≡ numbers t ++ length bag ∷ [] = put t ∙ cond-true (same_id t t) (numbers t ++ length bag ∷ []) (numbers t) (same_id-refl t) in
           subst (λ (z : Posted). Contains (more (transaction z.message)) k) new.1
-          (subst (λ (ks : List ℕ). Contains ks k) (sym here) (subst (Contains (places t ++ length bag ∷ [])) (sym new.0) (contains_last (places t) (length bag))))
+          (subst (λ (ks : List ℕ). Contains ks k) (sym here) (subst (Contains (numbers t ++ length bag ∷ [])) (sym new.0) (contains_last (numbers t) (length bag))))
     ]
   where
     pick : (b : Bool) (ks : List ℕ) → Contains ks k → Contains (cond b (ks ++ length bag ∷ []) ks) k
     pick true ks h = contains_left ks (length bag ∷ []) k h
     pick false ks h = h
 
-pub follows_posted : (scheme : Scheme) (journals : Node → List Input) (w : World) (events : List WorldEvent) (places more : TransactionId → List ℕ) (posted : List ℕ) (pending : List Node) (n : Node) (key : ℕ) (m : Message)
-    → Follows scheme journals w events places posted pending → Contains pending n → next_message w n key ≡ Some m
-    → ((t : TransactionId) → more t ≡ (if same_id (transaction m) t then places t ++ length w.bag ∷ [] else places t))
+pub follows_posted : (scheme : Scheme) (journals : Node → List Input) (w : World) (events : List WorldEvent) (numbers more : TransactionId → List ℕ) (posted : List ℕ) (pending : List Node) (n : Node) (key : ℕ) (m : Message)
+    → Follows scheme journals w events numbers posted pending → Contains pending n → next_message w n key ≡ Some m
+    → ((t : TransactionId) → more t ≡ (if same_id (transaction m) t then numbers t ++ length w.bag ∷ [] else numbers t))
     → Follows scheme journals (with_message w n key m) (events ++ Post n key ∷ []) more posted (pending ++ receiver m ∷ [])
-follows_posted scheme journals w events places more posted pending n key m f own is put = record {
+follows_posted scheme journals w events numbers more posted pending n key m f own is put = record {
   led = sym (posts w n key m is) ∙ ap (λ (z : World). run z (Post n key ∷ [])) f.led ∙ sym (run_append (opening scheme) events (Post n key ∷ []));
   front = f.front;
-  placed = places_more places more w.bag (record { node = n; key = key; message = m }) put f.placed;
+  numbered = numbers_more numbers more w.bag (record { node = n; key = key; message = m }) put f.numbered;
   counted = f.counted;
   counts = f.counts;
   waits = waits_more w n key m journals pending own f.waits;

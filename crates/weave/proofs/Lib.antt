@@ -7,7 +7,7 @@ pub mod Posting
 pub mod Followed
 pub mod Tried
 pub mod Rounds
-pub mod NodePlaces
+pub mod NodeIndices
 pub mod Ends
 pub mod NextEvents
 pub mod Opened

@@ -33,11 +33,11 @@ use Rattle.world.specs.Cores as node_cores
 use Rattle.world.specs.declared.any_core.Core.{Core}
 use Rattle.world.specs.Stations.{uncommitted, uncommitted_station}
 use Rattle.weave.specs.Following.{committed_at, journal_of}
-use Rattle.weave.specs.Kept.{IsFollowing, places_of}
+use Rattle.weave.specs.Kept.{IsFollowing, numbers_of}
 use Rattle.weave.specs.Steps.{Waits, idle_station, whole_at, without_tails}
 use Rattle.weave.specs.declared.following.Following.{Following}
-use Rattle.protocol.proofs.NodePlaces.{node_at}
-use Rattle.weave.proofs.NodePlaces.{nodes_alone}
+use Rattle.protocol.proofs.NodeIndices.{node_at}
+use Rattle.weave.proofs.NodeIndices.{nodes_alone}
 
 nothing_sent : (scheme : Scheme) (n : Node) (key : ℕ) (m : Message) → slice_get (sends (committed_of (opening scheme) n)) key ≡ Some m → ⊥
 nothing_sent scheme n key m is =
@@ -113,14 +113,14 @@ whole_is scheme cores nodes_are n =
 
 -- ---- nothing is followed yet
 
-pub opened : (scheme : Scheme) (cores : List Core) (f : Following) → map node_of cores ≡ nodes scheme → f.world ≡ uncommitted scheme cores → f.events.items ≡ [] → ((t : TransactionId) → places_of f t ≡ []) → f.posted.items ≡ replicate (length f.pending.items) 0
+pub opened : (scheme : Scheme) (cores : List Core) (f : Following) → map node_of cores ≡ nodes scheme → f.world ≡ uncommitted scheme cores → f.events.items ≡ [] → ((t : TransactionId) → numbers_of f t ≡ []) → f.posted.items ≡ replicate (length f.pending.items) 0
     → length f.posted.items ≡ length f.pending.items → f.pending.items ≡ nodes scheme → IsFollowing scheme f
-opened scheme cores f nodes_are world events places posted count pending = record {
+opened scheme cores f nodes_are world events numbers posted count pending = record {
   follows = record {
     follows = record {
       led = subst (λ es. without_tails f.world ≡ run (opening scheme) es) (sym events) bare;
       front = λ n. (whole_at f.world n, subst (λ (w : World). whole_at f.world n ≡ committed_at w n ++ whole_at f.world n) (sym bare) (ap (λ j. j ++ whole_at f.world n) (sym (none_committed scheme n))));
-      placed = λ k p is. let none : None ≡ Some p = sym (ap (λ (w : World). slice_get w.bag k) world) ∙ is in absurd (cc (none));
+      numbered = λ k p is. let none : None ≡ Some p = sym (ap (λ (w : World). slice_get w.bag k) world) ∙ is in absurd (cc (none));
       counted = count ∙ ap length pending;
       counts = λ k n is. let none : slice_index f.posted.items k ≡ 0 = ap (λ ks. slice_index ks k) posted ∙ zeros (length f.pending.items) k in omega (arith, none);
       waits = waits;

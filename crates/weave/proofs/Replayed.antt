@@ -42,7 +42,7 @@ resumed_first scheme s n m old journal recorded fault k is_scheme is_node none s
 
 -- ---- one after another
 
--- so far, by their places
+-- so far, by their indices
 abbrev pub AreAheadSoFar : Scheme → (journals recorded : List (List Input)) → Type 0
 AreAheadSoFar scheme journals recorded =
     (k : ℕ) (n : Node) (long short : List Input) → slice_get (nodes scheme) k ≡ Some n → slice_get journals k ≡ Some long → slice_get recorded k ≡ Some short → IsAhead scheme n long short
@@ -53,9 +53,9 @@ ahead_more scheme js shorts at n j short count isn isj one all k m long last ism
     elim (one_more shorts short last k iss) [
       | inl old ↦ all k m long last ism isl old.1
       | inr new ↦
-          let place : k ≡ at = new.0 ∙ count in
-          let node : Some n ≡ Some m = sym isn ∙ subst (λ z. slice_get (nodes scheme) z ≡ Some m) place ism in
-          let journal : Some j ≡ Some long = sym isj ∙ subst (λ z. slice_get js z ≡ Some long) place isl in
+          let index : k ≡ at = new.0 ∙ count in
+          let node : Some n ≡ Some m = sym isn ∙ subst (λ z. slice_get (nodes scheme) z ≡ Some m) index ism in
+          let journal : Some j ≡ Some long = sym isj ∙ subst (λ z. slice_get js z ≡ Some long) index isl in
           subst (λ z. IsAhead scheme z long last) (one_some n m node)
           (subst (λ z. IsAhead scheme n z last) (one_some j long journal) (subst (IsAhead scheme n j) new.1 one))
     ]

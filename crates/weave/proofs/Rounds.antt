@@ -15,7 +15,7 @@ use Rattle.protocol.specs.declared.event.Posted.{Posted}
 use Rattle.protocol.specs.Claims.{committed_of, committed_part, whole}
 use Rattle.protocol.specs.Cores.{answer}
 use Rattle.protocol.specs.History.{sends}
-use Rattle.protocol.specs.Registries.{is_node, nodes, place_of}
+use Rattle.protocol.specs.Registries.{is_node, nodes, index_of}
 use Rattle.protocol.specs.Weave.{IsQuiet}
 use Rattle.protocol.specs.World.{Station, World, opening, run, station, step}
 use Rattle.protocol.specs.declared.event.Outcome.TheVariants.{Recorded}
@@ -27,12 +27,12 @@ use Rattle.units.proofs.Lists.OneValue.{one_some}
 use Rattle.units.proofs.Lists.Positions.{In_contains, contains_in}
 use Rattle.safety.proofs.WorldLemmas.SchemesKept.{run_scheme}
 use Rattle.weave.specs.Following.{committed_at}
-use Rattle.weave.specs.Kept.{HasPosted, HasWholeSame, IsFollowing, IsFollowingWith, IsPosting, Posts, Takes, left_in, places_of}
+use Rattle.weave.specs.Kept.{HasPosted, HasWholeSame, IsFollowing, IsFollowingWith, IsPosting, Posts, Takes, left_in, numbers_of}
 use Rattle.weave.specs.Steps.{Fits, Follows, IsNextBy, IsNotRecorded, IsPostedTo, Waits, idle_station, next_message, sent_count, whole_at, with_message, without_tails}
 use Rattle.weave.specs.declared.following.Following.{Following}
 use Rattle.weave.specs.declared.following.Visit.{Visit}
 use Rattle.weave.specs.declared.following.Visit.TheVariants.{Advanced, Rests}
-use Rattle.protocol.proofs.NodePlaces.{node_of_place, node_there}
+use Rattle.protocol.proofs.NodeIndices.{node_of_index, node_there}
 use Rattle.weave.proofs.Followed.{all_placed, fewer, follows_posted, follows_taken, left_journals, left_stations, taken_advances}
 use Rattle.weave.proofs.Lists.{contains_last, contains_left}
 use Rattle.weave.proofs.OneMore.{Advances, posted_to, sent_more}
@@ -42,9 +42,9 @@ use Rattle.weave.proofs.Tried.{stands_last}
 
 -- ---- what is kept, by other names
 
-pub follows_same : (scheme : Scheme) (w v : World) (events es : List WorldEvent) (places ps : TransactionId → List ℕ) (posted po : List ℕ) (pending ns : List Node)
-    → v ≡ w → es ≡ events → ((t : TransactionId) → ps t ≡ places t) → po ≡ posted → ns ≡ pending → Follows scheme (whole_at w) (without_tails w) events places posted pending → Follows scheme (whole_at v) (without_tails v) es ps po ns
-follows_same scheme w v events es places ps posted po pending ns world_is events_are places_are posted_are pending_are f =
+pub follows_same : (scheme : Scheme) (w v : World) (events es : List WorldEvent) (numbers ps : TransactionId → List ℕ) (posted po : List ℕ) (pending ns : List Node)
+    → v ≡ w → es ≡ events → ((t : TransactionId) → ps t ≡ numbers t) → po ≡ posted → ns ≡ pending → Follows scheme (whole_at w) (without_tails w) events numbers posted pending → Follows scheme (whole_at v) (without_tails v) es ps po ns
+follows_same scheme w v events es numbers ps posted po pending ns world_is events_are numbers_are posted_are pending_are f =
     subst (λ (z : World). Follows scheme (whole_at z) (without_tails z) es ps po ns) (sym world_is)
     (subst (λ z. Follows scheme (whole_at w) (without_tails w) z ps po ns) (sym events_are)
     (subst (λ z. Follows scheme (whole_at w) (without_tails w) events ps z ns) (sym posted_are)
@@ -52,7 +52,7 @@ follows_same scheme w v events es places ps posted po pending ns world_is events
     (record {
       led = f.led;
       front = f.front;
-      placed = λ k p is. subst (λ (ks : List ℕ). Contains ks k) (sym (places_are _)) (f.placed k p is);
+      numbered = λ k p is. subst (λ (ks : List ℕ). Contains ks k) (sym (numbers_are _)) (f.numbered k p is);
       counted = f.counted;
       counts = f.counts;
       waits = f.waits;
@@ -62,22 +62,22 @@ waits_journals : (w : World) (js ks : Node → List Input) (n : Node) → ks n �
 waits_journals w js ks n same h input rest left = h input rest (sym same ∙ left)
 
 -- the journals are the same at each node
-pub follows_journals : (scheme : Scheme) (js ks : Node → List Input) (w : World) (events : List WorldEvent) (places : TransactionId → List ℕ) (posted : List ℕ) (pending : List Node) → ((n : Node) → ks n ≡ js n)
-    → Follows scheme js w events places posted pending → Follows scheme ks w events places posted pending
-follows_journals scheme js ks w events places posted pending same f = record {
+pub follows_journals : (scheme : Scheme) (js ks : Node → List Input) (w : World) (events : List WorldEvent) (numbers : TransactionId → List ℕ) (posted : List ℕ) (pending : List Node) → ((n : Node) → ks n ≡ js n)
+    → Follows scheme js w events numbers posted pending → Follows scheme ks w events numbers posted pending
+follows_journals scheme js ks w events numbers posted pending same f = record {
   led = f.led;
   front = λ n. ((f.front n).0, same n ∙ (f.front n).1);
-  placed = f.placed;
+  numbered = f.numbered;
   counted = f.counted;
   counts = f.counts;
   waits = λ n. elim (f.waits n) [ inl h ↦ inl h | inr h ↦ inr (waits_journals w js ks n (same n) h) ];
 }
 
 -- as much is pending, by another name
-pub with_pending : (scheme : Scheme) (f g : Following) (pending ns : List Node) → g.world ≡ f.world → g.events.items ≡ f.events.items → ((t : TransactionId) → places_of g t ≡ places_of f t) → g.posted.items ≡ f.posted.items → pending ≡ ns
+pub with_pending : (scheme : Scheme) (f g : Following) (pending ns : List Node) → g.world ≡ f.world → g.events.items ≡ f.events.items → ((t : TransactionId) → numbers_of g t ≡ numbers_of f t) → g.posted.items ≡ f.posted.items → pending ≡ ns
     → IsFollowingWith scheme f pending → IsFollowingWith scheme g ns
-with_pending scheme f g pending ns world_is events_are places_are posted_are pending_are i = record {
-  follows = follows_same scheme f.world g.world f.events.items g.events.items (places_of f) (places_of g) f.posted.items g.posted.items pending ns world_is events_are places_are posted_are (sym pending_are) i.follows;
+with_pending scheme f g pending ns world_is events_are numbers_are posted_are pending_are i = record {
+  follows = follows_same scheme f.world g.world f.events.items g.events.items (numbers_of f) (numbers_of g) f.posted.items g.posted.items pending ns world_is events_are numbers_are posted_are (sym pending_are) i.follows;
   nodes_are = ap (λ (z : World). map (λ (x : Station). x.node) z.stations) world_is ∙ i.nodes_are;
 }
 
@@ -111,12 +111,12 @@ module _ (w : World) (journals : Node → List Input) (n : Node) where
 
 -- ---- the node rests
 
-pub follows_rests : (scheme : Scheme) (journals : Node → List Input) (w : World) (events : List WorldEvent) (places : TransactionId → List ℕ) (posted : List ℕ) (pending : List Node) (n : Node)
-    → Follows scheme journals w events places posted (pending ++ n ∷ []) → Waits w journals n → Follows scheme journals w events places posted pending
-follows_rests scheme journals w events places posted pending n f waits = record {
+pub follows_rests : (scheme : Scheme) (journals : Node → List Input) (w : World) (events : List WorldEvent) (numbers : TransactionId → List ℕ) (posted : List ℕ) (pending : List Node) (n : Node)
+    → Follows scheme journals w events numbers posted (pending ++ n ∷ []) → Waits w journals n → Follows scheme journals w events numbers posted pending
+follows_rests scheme journals w events numbers posted pending n f waits = record {
   led = f.led;
   front = f.front;
-  placed = f.placed;
+  numbered = f.numbered;
   counted = f.counted;
   counts = f.counts;
   waits = λ m. elim (f.waits m) [ inl h ↦ cases m (In_cases m pending (n ∷ []) (In_contains (pending ++ n ∷ []) m h)) | inr h ↦ inr h ];
@@ -131,7 +131,7 @@ module _ (scheme : Scheme) (f : Following) (n : Node) (follows : IsFollowingWith
   pub rests : Waits (without_tails f.world) (whole_at f.world) n → IsFollowing scheme f
   rests waits = record {
     follows = record {
-      follows = follows_rests scheme (whole_at f.world) (without_tails f.world) f.events.items (places_of f) f.posted.items f.pending.items n follows.follows waits;
+      follows = follows_rests scheme (whole_at f.world) (without_tails f.world) f.events.items (numbers_of f) f.posted.items f.pending.items n follows.follows waits;
       nodes_are = follows.nodes_are;
     };
     quiet = quiet;
@@ -141,25 +141,25 @@ module _ (scheme : Scheme) (f : Following) (n : Node) (follows : IsFollowingWith
   scheme_is = ap (λ (z : World). z.scheme) follows.follows.led ∙ run_scheme (opening scheme) f.events.items
 
   -- it is no node of the scheme
-  pub rests_nowhere : place_of scheme n ≡ None → IsFollowing scheme f
+  pub rests_nowhere : index_of scheme n ≡ None → IsFollowing scheme f
   rests_nowhere none =
       let outside : is_node f.world.scheme n ≡ false = ap (λ (z : Scheme). is_node z n) scheme_is ∙ sym (node_there scheme n) ∙ ap is_some none in
-      let nothing : whole_at f.world n ≡ [] = whole_none f.world n (all_placed scheme (whole_at f.world) (without_tails f.world) f.events.items (places_of f) f.posted.items (f.pending.items ++ n ∷ []) follows.follows n ∙ outside) in
+      let nothing : whole_at f.world n ≡ [] = whole_none f.world n (all_placed scheme (whole_at f.world) (without_tails f.world) f.events.items (numbers_of f) f.posted.items (f.pending.items ++ n ∷ []) follows.follows n ∙ outside) in
       rests (waits_end (without_tails f.world) (whole_at f.world) n (ap (λ (xs : List Input). slice_get xs (length (committed_at (without_tails f.world) n))) nothing))
 
   -- it is one, which is idle without its tail
-  pub idle_there : (at : ℕ) → place_of scheme n ≡ Some at → (s : Station) × (station f.world n ≡ Some s) × (s.runs ≡ true)
-  idle_there at place =
-      let idle = quiet.idle n (ap (λ (z : Scheme). is_node z n) scheme_is ∙ sym (node_there scheme n) ∙ ap is_some place) in
+  pub idle_there : (at : ℕ) → index_of scheme n ≡ Some at → (s : Station) × (station f.world n ≡ Some s) × (s.runs ≡ true)
+  idle_there at index =
+      let idle = quiet.idle n (ap (λ (z : Scheme). is_node z n) scheme_is ∙ sym (node_there scheme n) ∙ ap is_some index) in
       let raw = raw_station (station f.world n) idle.at (sym (station_idle f.world n) ∙ idle.is) in
       (raw.0, raw.1, raw.2 ∙ idle.runs)
 
 -- ---- the node takes a record
 
-module _ (scheme : Scheme) (f g : Following) (n : Node) (e : WorldEvent) (at : ℕ) (follows : IsFollowingWith scheme f (f.pending.items ++ n ∷ [])) (quiet : IsQuiet (without_tails f.world)) (place : place_of scheme n ≡ Some at) (by : IsNextBy f.world n e)
+module _ (scheme : Scheme) (f g : Following) (n : Node) (e : WorldEvent) (at : ℕ) (follows : IsFollowingWith scheme f (f.pending.items ++ n ∷ [])) (quiet : IsQuiet (without_tails f.world)) (index : index_of scheme n ≡ Some at) (by : IsNextBy f.world n e)
     (t : Takes f g n e) where
   there : (s : Station) × (station f.world n ≡ Some s) × (s.runs ≡ true)
-  there = idle_there scheme f n follows quiet at place
+  there = idle_there scheme f n follows quiet at index
 
   s : Station
   s = there.0
@@ -198,22 +198,22 @@ module _ (scheme : Scheme) (f g : Following) (n : Node) (e : WorldEvent) (at : �
   one_input : Advances (without_tails f.world) (without_tails g.world) n by.input
   one_input =
       subst (λ (z : World). Advances (without_tails f.world) z n by.input) (sym goes_on)
-      (taken_advances scheme (whole_at f.world) (without_tails f.world) f.events.items (places_of f) f.posted.items (f.pending.items ++ n ∷ []) follows.follows n by.input tail.0 e (length (there.0.committed ++ [])) quiet left fits.gives recorded)
+      (taken_advances scheme (whole_at f.world) (without_tails f.world) f.events.items (numbers_of f) f.posted.items (f.pending.items ++ n ∷ []) follows.follows n by.input tail.0 e (length (there.0.committed ++ [])) quiet left fits.gives recorded)
 
   few : slice_index g.posted.items at ≤ sent_count (without_tails f.world) n
-  few = subst (λ k. k ≤ sent_count (without_tails f.world) n) (sym (ap (λ ks. slice_index ks at) t.posted)) (follows.follows.counts at n (node_of_place scheme n at place))
+  few = subst (λ k. k ≤ sent_count (without_tails f.world) n) (sym (ap (λ ks. slice_index ks at) t.posted)) (follows.follows.counts at n (node_of_index scheme n at index))
 
-  goes_with : Follows scheme (whole_at g.world) (without_tails g.world) (f.events.items ++ e ∷ Commit n 1 ∷ []) (places_of f) f.posted.items (f.pending.items ++ n ∷ [])
+  goes_with : Follows scheme (whole_at g.world) (without_tails g.world) (f.events.items ++ e ∷ Commit n 1 ∷ []) (numbers_of f) f.posted.items (f.pending.items ++ n ∷ [])
   goes_with =
-      follows_journals scheme (whole_at f.world) (whole_at g.world) (without_tails g.world) (f.events.items ++ e ∷ Commit n 1 ∷ []) (places_of f) f.posted.items (f.pending.items ++ n ∷ []) takes_whole
-      (subst (λ (z : World). Follows scheme (whole_at f.world) z (f.events.items ++ e ∷ Commit n 1 ∷ []) (places_of f) f.posted.items (f.pending.items ++ n ∷ [])) (sym goes_on)
-      (follows_taken scheme (whole_at f.world) (without_tails f.world) f.events.items (places_of f) f.posted.items (f.pending.items ++ n ∷ []) follows.follows n by.input tail.0 e (length (there.0.committed ++ [])) quiet left fits.gives recorded
+      follows_journals scheme (whole_at f.world) (whole_at g.world) (without_tails g.world) (f.events.items ++ e ∷ Commit n 1 ∷ []) (numbers_of f) f.posted.items (f.pending.items ++ n ∷ []) takes_whole
+      (subst (λ (z : World). Follows scheme (whole_at f.world) z (f.events.items ++ e ∷ Commit n 1 ∷ []) (numbers_of f) f.posted.items (f.pending.items ++ n ∷ [])) (sym goes_on)
+      (follows_taken scheme (whole_at f.world) (without_tails f.world) f.events.items (numbers_of f) f.posted.items (f.pending.items ++ n ∷ []) follows.follows n by.input tail.0 e (length (there.0.committed ++ [])) quiet left fits.gives recorded
       (contains_last f.pending.items n)))
 
   pub takes_posting : IsPosting scheme g n (slice_index g.posted.items at)
   takes_posting = record {
     follows = record {
-      follows = follows_same scheme g.world g.world (f.events.items ++ e ∷ Commit n 1 ∷ []) g.events.items (places_of f) (places_of g) f.posted.items g.posted.items (f.pending.items ++ n ∷ []) g.pending.items refl t.events t.places t.posted t.pending goes_with;
+      follows = follows_same scheme g.world g.world (f.events.items ++ e ∷ Commit n 1 ∷ []) g.events.items (numbers_of f) (numbers_of g) f.posted.items g.posted.items (f.pending.items ++ n ∷ []) g.pending.items refl t.events t.numbers t.posted t.pending goes_with;
       nodes_are = ap (λ (z : World). map (λ (x : Station). x.node) z.stations) t.world ∙ commit_nodes f.world n ∙ follows.nodes_are;
     };
     node = subst (λ (z : Scheme). is_node z n ≡ true) (sym one_input.scheme) one_input.node;
@@ -225,7 +225,7 @@ module _ (scheme : Scheme) (f g : Following) (n : Node) (e : WorldEvent) (at : �
   -- and fewer records are left
   pub takes_fewer : (v : World) → v.stations ≡ g.world.stations → left_in v (nodes scheme) < left_in f.world (nodes scheme)
   takes_fewer v same =
-      let less = fewer (whole_at f.world) (without_tails f.world) (without_tails g.world) n by.input tail.0 one_input left (nodes scheme) (In_slice_get (nodes scheme) at n (node_of_place scheme n at place)) in
+      let less = fewer (whole_at f.world) (without_tails f.world) (without_tails g.world) n by.input tail.0 one_input left (nodes scheme) (In_slice_get (nodes scheme) at n (node_of_index scheme n at index)) in
       omega (arith, less, left_stations g.world v same (nodes scheme), left_journals (whole_at f.world) (whole_at g.world) (without_tails g.world) takes_whole (nodes scheme))
 
 -- ---- its messages are posted
@@ -236,15 +236,15 @@ posts_same f g n key p = ap (λ (z : World). z.stations) p.world
 -- a message found last in the bag
 pub posts_by : (f g : Following) (n : Node) (key : ℕ) (m : Message) (p : Posted) (id : TransactionId) (to : Node) (bag : List Posted) → next_message f.world n key ≡ Some m → g.world ≡ with_message f.world n key m → bag ≡ f.world.bag
     → Some p ≡ slice_get g.world.bag (length bag) → id ≡ transaction p.message → to ≡ receiver p.message
-    → ((t : TransactionId) → places_of g t ≡ (if same_id id t then places_of f t ++ length bag ∷ [] else places_of f t)) → g.events.items ≡ f.events.items ++ Post n key ∷ [] → g.posted.items ≡ f.posted.items
+    → ((t : TransactionId) → numbers_of g t ≡ (if same_id id t then numbers_of f t ++ length bag ∷ [] else numbers_of f t)) → g.events.items ≡ f.events.items ++ Post n key ∷ [] → g.posted.items ≡ f.posted.items
     → g.pending.items ≡ f.pending.items ++ to ∷ [] → Posts f g n key
-posts_by f g n key m p id to bag next world bag_is last id_is to_is places events posted pending = record {
+posts_by f g n key m p id to bag next world bag_is last id_is to_is numbers events posted pending = record {
   message = m;
   next = next;
   world = world;
   events = events;
-  places = λ t. places t ∙ ap (λ (z : TransactionId). if same_id z t then places_of f t ++ length bag ∷ [] else places_of f t) (id_is ∙ ap (λ (z : Posted). transaction z.message) same)
-      ∙ ap (λ (b : List Posted). if same_id (transaction m) t then places_of f t ++ length b ∷ [] else places_of f t) bag_is;
+  numbers = λ t. numbers t ∙ ap (λ (z : TransactionId). if same_id z t then numbers_of f t ++ length bag ∷ [] else numbers_of f t) (id_is ∙ ap (λ (z : Posted). transaction z.message) same)
+      ∙ ap (λ (b : List Posted). if same_id (transaction m) t then numbers_of f t ++ length b ∷ [] else numbers_of f t) bag_is;
   posted = posted;
   pending = pending ∙ ap (λ (z : Node). f.pending.items ++ z ∷ []) (to_is ∙ ap (λ (z : Posted). receiver z.message) same);
 }
@@ -263,8 +263,8 @@ module _ (scheme : Scheme) (f g : Following) (n : Node) (key : ℕ) (i : IsPosti
       let longer : World = with_message f.world n key p.message in
       record {
         follows = record {
-          follows = follows_same scheme longer g.world (f.events.items ++ Post n key ∷ []) g.events.items (places_of g) (places_of g) f.posted.items g.posted.items (f.pending.items ++ receiver p.message ∷ []) g.pending.items p.world p.events (λ t. refl) p.posted p.pending
-              (follows_posted scheme (whole_at f.world) (without_tails f.world) f.events.items (places_of f) (places_of g) f.posted.items f.pending.items n key p.message i.follows.follows i.pending next p.places);
+          follows = follows_same scheme longer g.world (f.events.items ++ Post n key ∷ []) g.events.items (numbers_of g) (numbers_of g) f.posted.items g.posted.items (f.pending.items ++ receiver p.message ∷ []) g.pending.items p.world p.events (λ t. refl) p.posted p.pending
+              (follows_posted scheme (whole_at f.world) (without_tails f.world) f.events.items (numbers_of f) (numbers_of g) f.posted.items f.pending.items n key p.message i.follows.follows i.pending next p.numbers);
           nodes_are = ap (λ (z : World). map (λ (x : Station). x.node) z.stations) p.world ∙ i.follows.nodes_are;
         };
         node = subst (λ (z : World). is_node z.scheme n ≡ true) (sym p.world) i.node;
@@ -281,14 +281,14 @@ module _ (scheme : Scheme) (f g : Following) (n : Node) (key : ℕ) (i : IsPosti
       subst (λ (z : Following). IsPosting scheme z n key × IsQuiet (without_tails z.world)) (sym r.1) (i, all_posted (without_tails f.world) n key i.node i.posted (next_same f.world n key ∙ r.0))
 
   -- how many were posted is written down
-  pub stored : (at : ℕ) → place_of scheme n ≡ Some at → at < length f.posted.items → IsQuiet (without_tails f.world) → g.world ≡ f.world → g.events.items ≡ f.events.items → ((t : TransactionId) → places_of g t ≡ places_of f t)
+  pub stored : (at : ℕ) → index_of scheme n ≡ Some at → at < length f.posted.items → IsQuiet (without_tails f.world) → g.world ≡ f.world → g.events.items ≡ f.events.items → ((t : TransactionId) → numbers_of g t ≡ numbers_of f t)
       → g.posted.items ≡ set f.posted.items at key → g.pending.items ≡ f.pending.items → IsFollowing scheme g
-  stored at place within quiet world_is events_are places_are posted_are pending_are = record {
+  stored at index within quiet world_is events_are numbers_are posted_are pending_are = record {
     follows = record {
-      follows = follows_same scheme f.world g.world f.events.items g.events.items (places_of f) (places_of g) (set f.posted.items at key) g.posted.items f.pending.items g.pending.items world_is events_are places_are posted_are pending_are (record {
+      follows = follows_same scheme f.world g.world f.events.items g.events.items (numbers_of f) (numbers_of g) (set f.posted.items at key) g.posted.items f.pending.items g.pending.items world_is events_are numbers_are posted_are pending_are (record {
         led = i.follows.follows.led;
         front = i.follows.follows.front;
-        placed = i.follows.follows.placed;
+        numbered = i.follows.follows.numbered;
         counted = length-set f.posted.items at key ∙ i.follows.follows.counted;
         counts = λ k m is. counts_set k m is;
         waits = i.follows.follows.waits;
@@ -305,7 +305,7 @@ module _ (scheme : Scheme) (f g : Following) (n : Node) (key : ℕ) (i : IsPosti
       counts_set k m is =
           elim (same_or_not k at) [
             | inl e ↦
-                let here : Some n ≡ Some m = sym (node_of_place scheme n at place) ∙ subst (λ z. slice_get (nodes scheme) z ≡ Some m) e is in
+                let here : Some n ≡ Some m = sym (node_of_index scheme n at index) ∙ subst (λ z. slice_get (nodes scheme) z ≡ Some m) e is in
                 let written : slice_index (set f.posted.items at key) k ≡ key = subst (λ z. slice_index (set f.posted.items at key) z ≡ key) (sym e) (get_or-set_same f.posted.items at key 0 within) in
                 subst (λ z. slice_index (set f.posted.items at key) k ≤ sent_count (without_tails f.world) z) (one_some n m here) (omega (arith, written, i.few))
             | inr ne ↦

@@ -26,7 +26,7 @@ use Rattle.units.proofs.Lists.Membership.{In, In_find}
 use Rattle.units.proofs.Lists.OneValue.{one_some}
 use Rattle.safety.proofs.WorldLemmas.QuietWorlds.{takes}
 use Rattle.safety.proofs.WorldLemmas.StationsAfterPut.{at, at_elsewhere, at_put, found_at_node}
-use Rattle.protocol.proofs.NodePlaces.{Differ, nodes_differ}
+use Rattle.protocol.proofs.NodeIndices.{Differ, nodes_differ}
 use Rattle.weave.specs.Following.{committed_at}
 use Rattle.weave.specs.Steps.{Fits, idle_station, next_message, whole_at, without_tails}
 use Rattle.weave.proofs.Turns.{taken, deliver_at}

@@ -16,7 +16,7 @@ use Rattle.protocol.specs.declared.event.Outcome.TheVariants.{Done, NotPossible,
 use Rattle.protocol.specs.declared.event.Posted.{Posted}
 use Rattle.protocol.specs.declared.event.WorldEvent.TheVariants.{Deliver, Post, Take}
 use Rattle.units.proofs.Lists.Positions.{last_at}
-use Rattle.weave.specs.Steps.{AreAllPlaced, Fits, HasMessage, IsNotRecorded, next_message, with_message}
+use Rattle.weave.specs.Steps.{AreAllNumbered, Fits, HasMessage, IsNotRecorded, next_message, with_message}
 use Rattle.weave.proofs.Turns.{message_none, order_any, taken}
 
 abbrev pub came : World → Outcome → Stepped
@@ -67,8 +67,8 @@ post_goes w v n key does = post_done w v n key (next_message w n key) does
 pub stands_last : (w v : World) (n : Node) (key : ℕ) (m : Message) → v ≡ with_message w n key m → slice_get v.bag (length w.bag) ≡ Some (record { node = n; key = key; message = m })
 stands_last w v n key m is = ap (λ (z : World). slice_get z.bag (length w.bag)) is ∙ last_at w.bag (record { node = n; key = key; message = m })
 
--- ---- a message found by the places of its transaction
+-- ---- a message found by the numbers of its transaction
 
-pub not_placed : (places : TransactionId → List ℕ) (bag : List Posted) (m : Message) (ks : List ℕ) → AreAllPlaced places bag → places (transaction m) ≡ ks → ((k : ℕ) → Contains ks k → HasMessage bag m k → ⊥) → (k : ℕ) → HasMessage bag m k → ⊥
-not_placed places bag m ks all are none k h =
-    none k (subst (λ (xs : List ℕ). Contains xs k) are (subst (λ (z : Message). Contains (places (transaction z)) k) h.2 (all k h.0 h.1))) h
+pub not_numbered : (numbers : TransactionId → List ℕ) (bag : List Posted) (m : Message) (ks : List ℕ) → AreAllNumbered numbers bag → numbers (transaction m) ≡ ks → ((k : ℕ) → Contains ks k → HasMessage bag m k → ⊥) → (k : ℕ) → HasMessage bag m k → ⊥
+not_numbered numbers bag m ks all are none k h =
+    none k (subst (λ (xs : List ℕ). Contains xs k) are (subst (λ (z : Message). Contains (numbers (transaction z)) k) h.2 (all k h.0 h.1))) h

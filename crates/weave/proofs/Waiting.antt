@@ -58,7 +58,7 @@ module _ (w v : World) (n : Node) (same : IsSameFor w v n) where
       none (Take n input) place (refl, refl)
       (sym (order_step input) ∙ subst (λ z. (step v (Take n z)).outcome ≡ Recorded place) g.1 (subst (λ z. (step v (Take z order)).outcome ≡ Recorded place) g.0 r))
   not_recorded_on input none (Deliver index moment) place g r =
-      let found = positions.place_of w.bag g.0 (same.bag g.0 (In_slice_get v.bag index g.0 g.1) g.2) in
+      let found = positions.index_of w.bag g.0 (same.bag g.0 (In_slice_get v.bag index g.0 g.1) g.2) in
       none (Deliver found.0 moment) place (g.0, found.1, g.2, g.3)
       (ap (λ (z : Stepped). z.outcome) (deliver_at w found.0 moment n g.0 found.1 g.2) ∙ ap (λ z. (taken w n z).outcome) g.3 ∙ sym (taken_same input)
       ∙ sym (ap (λ (z : Stepped). z.outcome) (gives_step v (Deliver index moment) n input place g r)) ∙ r)

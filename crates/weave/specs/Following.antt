@@ -4,7 +4,7 @@ use Rattle.std.specs.Option.{option_map_or}
 use Rattle.units.specs.declared.code.Node.{Node}
 use Rattle.wire.specs.declared.input.Input.{Input}
 use Rattle.scheme.specs.declared.registries.Scheme.{Scheme}
-use Rattle.protocol.specs.Registries.{nodes, place_of}
+use Rattle.protocol.specs.Registries.{nodes, index_of}
 use Rattle.protocol.specs.Claims.{DeliversWelcome, committed_of, committed_part, live_of}
 use Rattle.protocol.specs.Headline.{IsSafe}
 use Rattle.protocol.specs.WayOut.{WayOut}
@@ -17,7 +17,7 @@ use Rattle.weave.specs.declared.fault.WeaveFault.TheVariants.{Stuck, NoMemory}
 -- ---- the journals, one for each node: the log's, then those of the registries in the scheme's order
 
 abbrev pub journal_of : Scheme → List (List Input) → Node → List Input
-journal_of scheme journals n = option_map_or (λ k. slice_index_or journals k []) (place_of scheme n) []
+journal_of scheme journals n = option_map_or (λ k. slice_index_or journals k []) (index_of scheme n) []
 
 abbrev pub committed_at : World → Node → List Input
 committed_at w n = committed_part (station w n)
@@ -47,7 +47,7 @@ pub record IsStuckAt (scheme : Scheme) (journals : Node → List Input) (n : Nod
   pub stuck : IsStuck (run (opening scheme) events) journals
   pub first : IsFirstLeft (run (opening scheme) events) journals n place
 
--- the events lead to the journals and to the world, in which no tonne is in two places and none is lost, and from which
+-- the events lead to the journals and to the world, in which no tonne is in two numbers and none is lost, and from which
 -- there is a way out
 pub record IsWoven (scheme : Scheme) (journals : Node → List Input) (events : List WorldEvent) (w : World) : Type 0 where
   pub projects : Projects scheme events journals

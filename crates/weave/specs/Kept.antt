@@ -18,14 +18,14 @@ use Rattle.weave.specs.declared.following.Following.{Following}
 use Rattle.weave.specs.declared.following.Visit.{Visit}
 use Rattle.weave.specs.declared.following.Visit.TheVariants.{Advanced, Rests}
 
-abbrev pub places_of : Following → TransactionId → List ℕ
-places_of f t = option_map_or (λ v. v.items) (tree.get id_cmp f.places t) []
+abbrev pub numbers_of : Following → TransactionId → List ℕ
+numbers_of f t = option_map_or (λ v. v.items) (tree.get id_cmp f.numbers t) []
 
 -- ---- what is kept
 
 -- the committed journals are followed so far, where these nodes are pending: the nodes' whole journals are to be reached
 pub record IsFollowingWith (scheme : Scheme) (f : Following) (pending : List Node) : Type 0 where
-  pub follows : Follows scheme (whole_at f.world) (without_tails f.world) f.events.items (places_of f) f.posted.items pending
+  pub follows : Follows scheme (whole_at f.world) (without_tails f.world) f.events.items (numbers_of f) f.posted.items pending
   pub nodes_are : map (λ s. s.node) f.world.stations ≡ nodes scheme
 
 -- and nothing that was sent is left to post
@@ -55,7 +55,7 @@ left_in w ns = left_of (whole_at w) (without_tails w) ns
 pub record Takes (f g : Following) (n : Node) (e : WorldEvent) : Type 0 where
   pub world : g.world ≡ (step f.world (Commit n 1)).world
   pub events : g.events.items ≡ f.events.items ++ e ∷ Commit n 1 ∷ []
-  pub places : (t : TransactionId) → places_of g t ≡ places_of f t
+  pub numbers : (t : TransactionId) → numbers_of g t ≡ numbers_of f t
   pub posted : g.posted.items ≡ f.posted.items
   pub pending : g.pending.items ≡ f.pending.items ++ n ∷ []
 
@@ -65,7 +65,7 @@ pub record Posts (f g : Following) (n : Node) (key : ℕ) : Type 0 where
   pub next : next_message f.world n key ≡ Some message
   pub world : g.world ≡ with_message f.world n key message
   pub events : g.events.items ≡ f.events.items ++ Post n key ∷ []
-  pub places : (t : TransactionId) → places_of g t ≡ (if same_id (transaction message) t then places_of f t ++ length f.world.bag ∷ [] else places_of f t)
+  pub numbers : (t : TransactionId) → numbers_of g t ≡ (if same_id (transaction message) t then numbers_of f t ++ length f.world.bag ∷ [] else numbers_of f t)
   pub posted : g.posted.items ≡ f.posted.items
   pub pending : g.pending.items ≡ f.pending.items ++ receiver message ∷ []
 

@@ -3,13 +3,13 @@ use Rattle.std.specs.Option.{option_map_or}
 use Rattle.std.specs.Prelude.{◌≡◌, ◌<◌, ◌≤◌, ℕ, List, length, slice_get, slice_index, Some}
 use Rattle.units.specs.declared.code.Node.{Node}
 use Rattle.scheme.specs.declared.registries.Scheme.{Scheme}
-use Rattle.protocol.specs.Registries.{place_of}
+use Rattle.protocol.specs.Registries.{index_of}
 use Rattle.protocol.specs.World.{World}
 use Rattle.weave.specs.Following.{committed_at}
 
--- how many records the journal of a node has, by the node's place
+-- how many records the journal of a node has, by the node's index
 abbrev pub count_at : Scheme → List ℕ → Node → ℕ
-count_at scheme counts n = option_map_or (λ k. slice_index counts k) (place_of scheme n) 0
+count_at scheme counts n = option_map_or (λ k. slice_index counts k) (index_of scheme n) 0
 
 -- none of the first nodes has a record left
 abbrev pub AreDoneBelow : World → (Node → ℕ) → List Node → ℕ → Type 0

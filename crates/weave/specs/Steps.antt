@@ -79,22 +79,22 @@ with_message w n key m = record w { bag = w.bag ++ record { node = n; key = key;
 abbrev pub sent_count : World → Node → ℕ
 sent_count w n = length (sends (committed_of w n))
 
--- the bag has the message at that place
+-- the bag has the message with that number
 abbrev pub HasMessage : List Posted → Message → ℕ → Type 0
 HasMessage bag m k = (p : Posted) × (slice_get bag k ≡ Some p) × (p.message ≡ m)
 
--- each message of the bag stands among the places of its transaction
-abbrev pub AreAllPlaced : (TransactionId → List ℕ) → List Posted → Type 0
-AreAllPlaced places bag = (k : ℕ) (p : Posted) → slice_get bag k ≡ Some p → Contains (places (transaction p.message)) k
+-- each message of the bag stands among the numbers of its transaction
+abbrev pub AreAllNumbered : (TransactionId → List ℕ) → List Posted → Type 0
+AreAllNumbered numbers bag = (k : ℕ) (p : Posted) → slice_get bag k ≡ Some p → Contains (numbers (transaction p.message)) k
 
 -- ---- how far the journals are followed
 
 -- the events lead to the world, the committed journals are the first records of these, the messages of the bag are
--- placed, no node posted more messages than it sent, and each node that isn't pending waits
-pub record Follows (scheme : Scheme) (journals : Node → List Input) (w : World) (events : List WorldEvent) (places : TransactionId → List ℕ) (posted : List ℕ) (pending : List Node) : Type 0 where
+-- numbered, no node posted more messages than it sent, and each node that isn't pending waits
+pub record Follows (scheme : Scheme) (journals : Node → List Input) (w : World) (events : List WorldEvent) (numbers : TransactionId → List ℕ) (posted : List ℕ) (pending : List Node) : Type 0 where
   pub led : w ≡ run (opening scheme) events
   pub front : ArePrefixes (committed_at w) journals
-  pub placed : AreAllPlaced places w.bag
+  pub numbered : AreAllNumbered numbers w.bag
   pub counted : length posted ≡ length (nodes scheme)
   pub counts : (k : ℕ) (n : Node) → slice_get (nodes scheme) k ≡ Some n → slice_index posted k ≤ sent_count w n
   pub waits : (n : Node) → Contains pending n ⊎ Waits w journals n

@@ -2,7 +2,7 @@
 ghost use Rattle.std.specs.Prelude.{◌≡◌, ◌<◌, ◌≤◌, ◌+◌, ◌++◌, ◌∷◌, [], All, IfOk, OnOk, Some, length, map, slice_index, vec_capacity, vec_len};
 ghost use Rattle.units.specs.declared.code.Node.{Node};
 ghost use Rattle.scheme.specs.declared.registries.Scheme.{Scheme};
-ghost use Rattle.protocol.specs.Registries.{nodes, place_of};
+ghost use Rattle.protocol.specs.Registries.{nodes, index_of};
 ghost use Rattle.protocol.specs.Weave.{IsQuiet};
 ghost use Rattle.protocol.specs.World.{step};
 ghost use Rattle.protocol.specs.declared.event.WorldEvent.TheVariants.{Commit, Post};
@@ -12,9 +12,9 @@ ghost use Rattle.weave.specs.Kept.{HasPosted, IsFewer, IsFewerOrDone, IsFollowin
 ghost use Rattle.weave.specs.Steps.{whole_at, without_tails};
 
 use crate::giving::next_event;
-use crate::places::add_place;
+use crate::numbers::add_number;
 use crate::watch::Watch;
-use protocol::{Outcome, WorldEvent, nodes_of, place_of};
+use protocol::{Outcome, WorldEvent, index_of, nodes_of};
 use scheme::Scheme;
 use status::TransactionId;
 use std::alloc::Global;
@@ -40,9 +40,9 @@ pub(crate) struct Following {
     pub world: World,
     /// These lead to the world without its tails.
     pub events: Vec<WorldEvent>,
-    /// Where the bag has the messages of each transaction.
-    pub places: BTreeMap<TransactionId, Vec<u64>>,
-    /// How many messages each node posted, by the node's place.
+    /// The numbers in the bag of the messages of each transaction.
+    pub numbers: BTreeMap<TransactionId, Vec<u64>>,
+    /// How many messages each node posted, by the node's index.
     pub posted: Vec<u64>,
     /// The nodes that have to be looked at. At all others the next record waits, or none is left.
     pub pending: Vec<Node>,
@@ -65,7 +65,7 @@ impl Following {
         ensures event { IfOk result (λ e. e ≡ Commit node 1) }
         ensures world { OnOk result (self.new.world ≡ (step self.old.world (Commit node 1)).world) }
         ensures same { OnOk result ((self.new.events.items ≡ self.old.events.items)
-            × (self.new.pending.items ≡ self.old.pending.items) × (self.new.places ≡ self.old.places)
+            × (self.new.pending.items ≡ self.old.pending.items) × (self.new.numbers ≡ self.old.numbers)
             × (self.new.posted ≡ self.old.posted)) }
         ensures events { OnOk result (vec_len self.new.events + 2 ≤ vec_capacity self.new.events) }
         ensures pending { OnOk result (vec_len self.new.pending < vec_capacity self.new.pending) }
@@ -103,17 +103,17 @@ impl Following {
     fn post_one(&mut self, node: Node, key: u64) -> Result<Visit, NoMemory>
         ensures { IfOk result (HasPosted self.old self.new node key) }
     {
-        let place = self.world.bag().len() as u64;
+        let number = self.world.bag().len() as u64;
         match apply_post(&mut self.world, node, key)? {
             Outcome::Done => {}
             _ => return Ok(Visit::Rests),
         }
-        let Some(posted) = self.world.bag_message(place) else {
+        let Some(posted) = self.world.bag_message(number) else {
             unreachable!()
         };
         let id = posted.message.transaction();
         let receiver = posted.message.receiver();
-        add_place(self.alloc, &mut self.places, id, place)?;
+        add_number(self.alloc, &mut self.numbers, id, number)?;
         self.events.reserve(1)?;
         self.events.push_reserved(WorldEvent::Post { node, key });
         self.pending.push(receiver)?;
@@ -136,10 +136,10 @@ impl Following {
         Err(NoMemory)
     }
 
-    /// Posts what the node at that place has sent and not posted.
+    /// Posts what the node at that index has sent and not posted.
     fn post_all(&mut self, node: Node, at: usize) -> Result<(), NoMemory>
         requires { at < length self.old.posted.items }
-        ensures follows { (scheme : Scheme) → place_of scheme node ≡ Some at
+        ensures follows { (scheme : Scheme) → index_of scheme node ≡ Some at
             → IsPosting scheme self.old node (slice_index self.old.posted.items at)
             → OnOk result (IsFollowing scheme self.new) }
         ensures stations { OnOk result (self.new.world.stations ≡ self.old.world.stations) }
@@ -159,10 +159,10 @@ impl Following {
         ensures whole { IfOk result (λ visit. HasWholeSame self.old.world self.new.world) }
         ensures fewer { IfOk result (IsFewer (nodes scheme.now) self.old self.new) }
     {
-        let Some(at) = place_of(scheme, node) else {
+        let Some(at) = index_of(scheme, node) else {
             return Ok(Visit::Rests);
         };
-        let Some(event) = next_event(&self.world, &self.places, node)? else {
+        let Some(event) = next_event(&self.world, &self.numbers, node)? else {
             return Ok(Visit::Rests);
         };
         self.take(node, event)?;
@@ -198,7 +198,7 @@ impl Following {
             alloc,
             world: World::uncommitted(alloc, scheme, cores)?,
             events: Vec::new(alloc),
-            places: BTreeMap::new(alloc),
+            numbers: BTreeMap::new(alloc),
             posted: vec![in alloc; 0; pending.len()]?,
             pending,
         })

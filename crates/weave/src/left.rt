@@ -3,7 +3,7 @@ ghost use Rattle.std.specs.Prelude.{◌≡◌, IfNone, IfSome, length};
 ghost use Rattle.weave.specs.Left.{AreDoneBelow, IsLeft, count_at};
 
 use crate::records::committed_count;
-use protocol::place_of;
+use protocol::index_of;
 use scheme::Scheme;
 use units::Node;
 use world::World;
@@ -15,11 +15,11 @@ pub(crate) struct Left {
     pub place: usize,
 }
 
-/// How many records the journal of that node has, by the node's place.
+/// How many records the journal of that node has, by the node's index.
 fn record_count(scheme: &Scheme, counts: &[usize], node: Node) -> usize
     ensures { result ≡ count_at scheme.now counts.now node }
 {
-    match place_of(scheme, node) {
+    match index_of(scheme, node) {
         Some(at) => counts.get(at).copied().unwrap_or(0),
         None => 0,
     }

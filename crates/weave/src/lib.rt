@@ -6,7 +6,7 @@ mod fault;
 mod following;
 mod giving;
 mod left;
-mod places;
+mod numbers;
 mod records;
 mod watch;
 mod weaving;

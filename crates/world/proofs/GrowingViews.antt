@@ -51,7 +51,7 @@ cons_append : {Y : Type 0} (o : Option Y) (ys zs : List Y) → cons_option o (ys
 cons_append None ys zs = refl
 cons_append (Some y) ys zs = refl
 
--- what one place more gives, if there is such a place
+-- what one index more gives, if there is such an index
 next : {X Y : Type 0} (f : X → Option Y) (xs : List X) (k : ℕ) → filter_map f (take (suc k) xs) ≡ filter_map f (take k xs) ++ option_to_list (option_and_then f (slice_get xs k))
 next f [] zero = refl
 next f [] (suc k) = refl

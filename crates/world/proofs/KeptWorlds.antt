@@ -15,37 +15,37 @@ use Rattle.units.specs.declared.code.Node.{Node}
 use Rattle.units.proofs.Same.{node_of_same, same_node-refl}
 use Rattle.wire.specs.declared.message.Message.{Message}
 use Rattle.scheme.specs.declared.registries.Scheme.{Scheme}
-use Rattle.protocol.specs.Registries.{is_node, nodes, place_of}
+use Rattle.protocol.specs.Registries.{is_node, nodes, index_of}
 use Rattle.protocol.specs.World.{Station, posted, sent, station, was_posted}
 use Rattle.protocol.specs.declared.event.Outcome.TheVariants.{Done, NotPossible}
 use Rattle.protocol.specs.declared.event.Posted.{Posted}
-use Rattle.protocol.proofs.NodePlaces.{Differ, node_there, nodes_differ}
+use Rattle.protocol.proofs.NodeIndices.{Differ, node_there, nodes_differ}
 use Rattle.world.specs.Cores.{node_of, scheme_of}
 use Rattle.world.specs.Kept.{AreKept, IsFresh, IsKept, world_of}
 use Rattle.world.specs.Stations.{station_of}
 use Rattle.world.specs.declared.station.Station.{Station as Kept}
-use Rattle.world.proofs.Places.{StandsAt, is_of, IsPlace, place_find, place_found, place_node, place_none, place_within, same_seen}
+use Rattle.world.proofs.Indices.{StandsAt, is_of, IsIndex, index_find, index_found, index_node, index_none, index_within, same_seen}
 use Rattle.world.proofs.PlacedStations.{placed, unplaced}
 use Rattle.world.proofs.Worlds.{after}
 
 -- ---- where a node stands
 
-pub found : (scheme : Scheme) (ss : List Kept) (bag : List Posted) (n : Node) (at : ℕ) → AreKept scheme ss bag → Some at ≡ place_of scheme n → IsPlace ss n at
-found scheme ss bag n at k e = place_found ss n at (placed scheme ss n at k.nodes_are e)
+pub found : (scheme : Scheme) (ss : List Kept) (bag : List Posted) (n : Node) (at : ℕ) → AreKept scheme ss bag → Some at ≡ index_of scheme n → IsIndex ss n at
+found scheme ss bag n at k e = index_found ss n at (placed scheme ss n at k.nodes_are e)
 
-pub missing : (scheme : Scheme) (ss : List Kept) (bag : List Posted) (n : Node) → AreKept scheme ss bag → None ≡ place_of scheme n → position_from (is_of n) 0 ss ≡ None
+pub missing : (scheme : Scheme) (ss : List Kept) (bag : List Posted) (n : Node) → AreKept scheme ss bag → None ≡ index_of scheme n → position_from (is_of n) 0 ss ≡ None
 missing scheme ss bag n k e = unplaced scheme ss n k.nodes_are e
 
-pub at_place : (scheme : Scheme) (ss : List Kept) (bag : List Posted) (n : Node) (at : ℕ) (s : Kept) → AreKept scheme ss bag → Some at ≡ place_of scheme n → s ≡ get_or ss at s → IsKept scheme bag s
-at_place scheme ss bag n at s k e is = subst (IsKept scheme bag) (sym is) (All-get_or (IsKept scheme bag) ss at s (place_within ss n at (found scheme ss bag n at k e)) k.kept)
+pub at_index : (scheme : Scheme) (ss : List Kept) (bag : List Posted) (n : Node) (at : ℕ) (s : Kept) → AreKept scheme ss bag → Some at ≡ index_of scheme n → s ≡ get_or ss at s → IsKept scheme bag s
+at_index scheme ss bag n at s k e is = subst (IsKept scheme bag) (sym is) (All-get_or (IsKept scheme bag) ss at s (index_within ss n at (found scheme ss bag n at k e)) k.kept)
 
 -- ---- whether a message was posted
 
-pub marked_here : (scheme : Scheme) (ss : List Kept) (bag : List Posted) (n : Node) (at key : ℕ) (s : Kept) → AreKept scheme ss bag → Some at ≡ place_of scheme n → s ≡ get_or ss at s
+pub marked_here : (scheme : Scheme) (ss : List Kept) (bag : List Posted) (n : Node) (at key : ℕ) (s : Kept) → AreKept scheme ss bag → Some at ≡ index_of scheme n → s ≡ get_or ss at s
     → contains nat_cmp s.posted key ≡ was_posted (world_of scheme ss bag) n key
 marked_here scheme ss bag n at key s k e is =
-    (at_place scheme ss bag n at s k e is).marked key
-    ∙ ap (λ m. was_posted (world_of scheme ss bag) m key) (ap (λ (s : Kept). node_of s.core) is ∙ place_node ss n at s (found scheme ss bag n at k e))
+    (at_index scheme ss bag n at s k e is).marked key
+    ∙ ap (λ m. was_posted (world_of scheme ss bag) m key) (ap (λ (s : Kept). node_of s.core) is ∙ index_node ss n at s (found scheme ss bag n at k e))
 
 other_node : (scheme : Scheme) (n m : Node) (b : Bool) → is_node scheme n ≡ false → is_node scheme m ≡ true → (same_node m n && b) ≡ false
 other_node scheme n m b outside inside = pick (same_node m n) refl
@@ -58,7 +58,7 @@ other_node scheme n m b outside inside = pick (same_node m n) refl
     pick false e = refl
 
 -- a node that isn't of the scheme posted nothing
-pub posted_nothing : (scheme : Scheme) (ss : List Kept) (bag : List Posted) (n : Node) (key : ℕ) → AreKept scheme ss bag → None ≡ place_of scheme n → false ≡ was_posted (world_of scheme ss bag) n key
+pub posted_nothing : (scheme : Scheme) (ss : List Kept) (bag : List Posted) (n : Node) (key : ℕ) → AreKept scheme ss bag → None ≡ index_of scheme n → false ≡ was_posted (world_of scheme ss bag) n key
 posted_nothing scheme ss bag n key k e =
     let outside : is_node scheme n ≡ false = sym (node_there scheme n) ∙ ap is_some (sym e) in
     sym (list_any_none (λ (p : Posted). same_node p.node n && (p.key == key)) bag
@@ -87,10 +87,10 @@ kept_station scheme bag old new same k = record {
 same_nodes : (ss : List Kept) (at : ℕ) (old new : Kept) → old ≡ get_or ss at old → node_of new.core ≡ node_of old.core → map (λ (s : Kept). node_of s.core) (set ss at new) ≡ map (λ (s : Kept). node_of s.core) ss
 same_nodes ss at old new is e = map-set_same (λ (s : Kept). node_of s.core) ss at new old (e ∙ ap (λ (s : Kept). node_of s.core) is)
 
-pub kept_turn : (scheme : Scheme) (ss : List Kept) (bag : List Posted) (n : Node) (at : ℕ) (old new : Kept) → AreKept scheme ss bag → Some at ≡ place_of scheme n → old ≡ get_or ss at old → Stays old new → AreKept scheme (set ss at new) bag
+pub kept_turn : (scheme : Scheme) (ss : List Kept) (bag : List Posted) (n : Node) (at : ℕ) (old new : Kept) → AreKept scheme ss bag → Some at ≡ index_of scheme n → old ≡ get_or ss at old → Stays old new → AreKept scheme (set ss at new) bag
 kept_turn scheme ss bag n at old new k e is same = record {
   nodes_are = same_nodes ss at old new is same.node ∙ k.nodes_are;
-  kept = All-set (IsKept scheme bag) ss at new (kept_station scheme bag old new same (at_place scheme ss bag n at old k e is)) k.kept;
+  kept = All-set (IsKept scheme bag) ss at new (kept_station scheme bag old new same (at_index scheme ss bag n at old k e is)) k.kept;
   among = k.among;
 }
 
@@ -144,13 +144,13 @@ kept_from scheme bag p (s ∷ ss) (suc at) new stands differ k one =
     (kept_other scheme bag p s (not_same (node_of s.core) p.node stands.0) (All-head (IsKept scheme bag) s ss k))
     (kept_from scheme bag p ss at new stands.1 differ.1 (All-tail (IsKept scheme bag) s ss k) one)
 
--- the station at that place has the key now
-pub kept_post : (scheme : Scheme) (ss : List Kept) (bag : List Posted) (at : ℕ) (p : Posted) (old new : Kept) → AreKept scheme ss bag → Some at ≡ place_of scheme p.node → old ≡ get_or ss at old → new.core ≡ old.core
+-- the station at that index has the key now
+pub kept_post : (scheme : Scheme) (ss : List Kept) (bag : List Posted) (at : ℕ) (p : Posted) (old new : Kept) → AreKept scheme ss bag → Some at ≡ index_of scheme p.node → old ≡ get_or ss at old → new.core ≡ old.core
     → ((key : ℕ) → contains nat_cmp new.posted key ≡ (contains nat_cmp old.posted key || (p.key == key))) → AreKept scheme (set ss at new) (bag ++ p ∷ [])
 kept_post scheme ss bag at p old new k e is core marks =
     let here = found scheme ss bag p.node at k e in
-    let one = at_place scheme ss bag p.node at old k e is in
-    let node : node_of new.core ≡ p.node = ap node_of core ∙ ap (λ (s : Kept). node_of s.core) is ∙ place_node ss p.node at old here in
+    let one = at_index scheme ss bag p.node at old k e is in
+    let node : node_of new.core ≡ p.node = ap node_of core ∙ ap (λ (s : Kept). node_of s.core) is ∙ index_node ss p.node at old here in
     let own : same_node p.node (node_of new.core) ≡ true = ap (same_node p.node) node ∙ same_node-refl p.node in
     let inside : is_node scheme p.node ≡ true = sym (node_there scheme p.node) ∙ ap is_some (sym e) in
     record {
@@ -167,14 +167,14 @@ kept_post scheme ss bag at p old new k e is core marks =
       among = All-push (λ (p : Posted). is_node scheme p.node ≡ true) bag p k.among inside;
     }
 
--- what the node of that place sends
-sends_from : (scheme : Scheme) (ss : List Kept) (bag : List Posted) (n : Node) (at key : ℕ) (s : Kept) (o : Option Message) → AreKept scheme ss bag → Some at ≡ place_of scheme n → s ≡ get_or ss at s
+-- what the node of that index sends
+sends_from : (scheme : Scheme) (ss : List Kept) (bag : List Posted) (n : Node) (at key : ℕ) (s : Kept) (o : Option Message) → AreKept scheme ss bag → Some at ≡ index_of scheme n → s ≡ get_or ss at s
     → o ≡ sent (scheme_of s.core) key (station_of s) → option_and_then (sent scheme key) (station (world_of scheme ss bag) n) ≡ o
 sends_from scheme ss bag n at key s o k e is so =
-    ap (option_and_then (sent scheme key)) (place_find ss n at s (found scheme ss bag n at k e) ∙ ap (λ (s : Kept). Some (station_of s)) (sym is))
-    ∙ sym (so ∙ ap (λ z. sent z key (station_of s)) (at_place scheme ss bag n at s k e is).scheme_is)
+    ap (option_and_then (sent scheme key)) (index_find ss n at s (found scheme ss bag n at k e) ∙ ap (λ (s : Kept). Some (station_of s)) (sym is))
+    ∙ sym (so ∙ ap (λ z. sent z key (station_of s)) (at_index scheme ss bag n at s k e is).scheme_is)
 
-pub posts : (scheme : Scheme) (ss : List Kept) (bag : List Posted) (n : Node) (at key : ℕ) (message : Message) (s old new : Kept) → AreKept scheme ss bag → Some at ≡ place_of scheme n → s ≡ get_or ss at s
+pub posts : (scheme : Scheme) (ss : List Kept) (bag : List Posted) (n : Node) (at key : ℕ) (message : Message) (s old new : Kept) → AreKept scheme ss bag → Some at ≡ index_of scheme n → s ≡ get_or ss at s
     → Some message ≡ sent (scheme_of s.core) key (station_of s) → old ≡ get_or ss at old → station_of new ≡ station_of old
     → after (world_of scheme (set ss at new) (bag ++ record { node = n; key = key; message = message } ∷ [])) Done ≡ posted (world_of scheme ss bag) n key (option_and_then (sent scheme key) (station (world_of scheme ss bag) n))
 posts scheme ss bag n at key message s old new k e is some was same =
@@ -182,14 +182,14 @@ posts scheme ss bag n at key message s old new k e is some was same =
     ap (λ (l : List Station). after (record w { stations = l; bag = bag ++ record { node = n; key = key; message = message } ∷ [] }) Done) (same_seen ss at old new was same)
     ∙ sym (ap (posted w n key) (sends_from scheme ss bag n at key s (Some message) k e is some))
 
-pub posts_none : (scheme : Scheme) (ss : List Kept) (bag : List Posted) (n : Node) (at key : ℕ) (s : Kept) → AreKept scheme ss bag → Some at ≡ place_of scheme n → s ≡ get_or ss at s → None ≡ sent (scheme_of s.core) key (station_of s)
+pub posts_none : (scheme : Scheme) (ss : List Kept) (bag : List Posted) (n : Node) (at key : ℕ) (s : Kept) → AreKept scheme ss bag → Some at ≡ index_of scheme n → s ≡ get_or ss at s → None ≡ sent (scheme_of s.core) key (station_of s)
     → after (world_of scheme ss bag) NotPossible ≡ posted (world_of scheme ss bag) n key (option_and_then (sent scheme key) (station (world_of scheme ss bag) n))
 posts_none scheme ss bag n at key s k e is none = sym (ap (posted (world_of scheme ss bag) n key) (sends_from scheme ss bag n at key s None k e is none))
 
-pub posts_nowhere : (scheme : Scheme) (ss : List Kept) (bag : List Posted) (n : Node) (key : ℕ) → AreKept scheme ss bag → None ≡ place_of scheme n
+pub posts_nowhere : (scheme : Scheme) (ss : List Kept) (bag : List Posted) (n : Node) (key : ℕ) → AreKept scheme ss bag → None ≡ index_of scheme n
     → after (world_of scheme ss bag) NotPossible ≡ posted (world_of scheme ss bag) n key (option_and_then (sent scheme key) (station (world_of scheme ss bag) n))
 posts_nowhere scheme ss bag n key k e =
-    sym (ap (λ o. posted (world_of scheme ss bag) n key (option_and_then (sent scheme key) o)) (place_none ss n (missing scheme ss bag n k e)))
+    sym (ap (λ o. posted (world_of scheme ss bag) n key (option_and_then (sent scheme key) o)) (index_none ss n (missing scheme ss bag n k e)))
 
 -- ---- the opening world
 

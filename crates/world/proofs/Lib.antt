@@ -1,6 +1,6 @@
 pub mod TailsOfJournals
 pub mod CrashedStations
-pub mod Places
+pub mod Indices
 pub mod Opening
 pub mod Worlds
 pub mod KeptWorlds

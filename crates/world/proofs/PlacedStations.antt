@@ -1,4 +1,4 @@
--- The station of a node, by the node's place among the nodes of the scheme.
+-- The station of a node, by the node's index among the nodes of the scheme.
 use Rattle.std.proofs.Common.{◌≡◌, ℕ, Bool, true, false, List, [], ◌∷◌, map, find, Some, None, cond, is_some, refl, sym, ap, ◌∙◌}
 use Rattle.std.specs.List.{position_from}
 use Rattle.units.specs.Code.{same_code, same_node}
@@ -8,26 +8,26 @@ use Rattle.units.specs.declared.code.Node.TheVariants.{Itl, Registry}
 use Rattle.scheme.specs.Order.{member}
 use Rattle.scheme.specs.declared.members.SchemeRegistry.{SchemeRegistry}
 use Rattle.scheme.specs.declared.registries.Scheme.{Scheme}
-use Rattle.units.proofs.Lists.FirstPlaces.{place_map}
-use Rattle.protocol.specs.Registries.{is_node, nodes, place_of}
+use Rattle.units.proofs.Lists.FirstIndices.{index_map}
+use Rattle.protocol.specs.Registries.{is_node, nodes, index_of}
 use Rattle.protocol.specs.World as worlds
 use Rattle.world.specs.Cores.{node_of}
 use Rattle.world.specs.declared.station.Station.{Station}
 use Rattle.world.specs.Stations.{station_of}
-use Rattle.world.proofs.Places.{is_of}
+use Rattle.world.proofs.Indices.{is_of}
 
 abbrev pub AreNodes : Scheme → List Station → Type 0
 AreNodes scheme ss = map (λ s. node_of s.core) ss ≡ nodes scheme
 
--- a place among the nodes is the place of the station
-position : (scheme : Scheme) (ss : List Station) (n : Node) → AreNodes scheme ss → position_from (is_of n) 0 ss ≡ place_of scheme n
-position scheme ss n are = sym (place_map (λ (s : Station). node_of s.core) (λ x. same_node x n) 0 ss) ∙ ap (position_from (λ x. same_node x n) 0) are
+-- an index among the nodes is the index of the station
+same_index : (scheme : Scheme) (ss : List Station) (n : Node) → AreNodes scheme ss → position_from (is_of n) 0 ss ≡ index_of scheme n
+same_index scheme ss n are = sym (index_map (λ (s : Station). node_of s.core) (λ x. same_node x n) 0 ss) ∙ ap (position_from (λ x. same_node x n) 0) are
 
-pub placed : (scheme : Scheme) (ss : List Station) (n : Node) (at : ℕ) → AreNodes scheme ss → Some at ≡ place_of scheme n → position_from (is_of n) 0 ss ≡ Some at
-placed scheme ss n at are e = position scheme ss n are ∙ sym e
+pub placed : (scheme : Scheme) (ss : List Station) (n : Node) (at : ℕ) → AreNodes scheme ss → Some at ≡ index_of scheme n → position_from (is_of n) 0 ss ≡ Some at
+placed scheme ss n at are e = same_index scheme ss n are ∙ sym e
 
-pub unplaced : (scheme : Scheme) (ss : List Station) (n : Node) → AreNodes scheme ss → None ≡ place_of scheme n → position_from (is_of n) 0 ss ≡ None
-unplaced scheme ss n are e = position scheme ss n are ∙ sym e
+pub unplaced : (scheme : Scheme) (ss : List Station) (n : Node) → AreNodes scheme ss → None ≡ index_of scheme n → position_from (is_of n) 0 ss ≡ None
+unplaced scheme ss n are e = same_index scheme ss n are ∙ sym e
 
 -- ---- which nodes have a station
 

@@ -16,7 +16,7 @@ use Rattle.protocol.specs.World.{Station, World, Turn, Stepped, station, put, at
 use Rattle.world.specs.Cores.{node_of}
 use Rattle.world.specs.Kept.{world_of}
 use Rattle.world.specs.Stations.{station_of}
-use Rattle.world.proofs.Places.{is_of, IsPlace, place_find, place_put, place_node, place_none, same_seen}
+use Rattle.world.proofs.Indices.{is_of, IsIndex, index_find, index_put, index_node, index_none, same_seen}
 
 abbrev pub after : World → Outcome → Stepped
 after w o = record { world = w; outcome = o }
@@ -24,19 +24,19 @@ after w o = record { world = w; outcome = o }
 abbrev pub turn : Kept → Outcome → Turn
 turn s o = record { station = station_of s; outcome = o }
 
-pub turned : (scheme : Scheme) (ss : List Kept) (bag : List Posted) (n : Node) (at : ℕ) (old new : Kept) (o : Outcome) (f : Station → Turn) → IsPlace ss n at → old ≡ get_or ss at old → node_of new.core ≡ node_of old.core
+pub turned : (scheme : Scheme) (ss : List Kept) (bag : List Posted) (n : Node) (at : ℕ) (old new : Kept) (o : Outcome) (f : Station → Turn) → IsIndex ss n at → old ≡ get_or ss at old → node_of new.core ≡ node_of old.core
     → turn new o ≡ f (station_of old) → after (world_of scheme (set ss at new) bag) o ≡ at_node (world_of scheme ss bag) (station (world_of scheme ss bag) n) f
-turned scheme ss bag n at old new o f place is node does =
+turned scheme ss bag n at old new o f index is node does =
     let w = world_of scheme ss bag in
-    let here : station w n ≡ Some (station_of old) = place_find ss n at old place ∙ ap (λ (s : Kept). Some (station_of s)) (sym is) in
-    let its : node_of new.core ≡ n = node ∙ ap (λ (s : Kept). node_of s.core) is ∙ place_node ss n at old place in
-    ap (λ (l : List Station). after (record w { stations = l }) o) (sym (place_put ss n at new its place))
+    let here : station w n ≡ Some (station_of old) = index_find ss n at old index ∙ ap (λ (s : Kept). Some (station_of s)) (sym is) in
+    let its : node_of new.core ≡ n = node ∙ ap (λ (s : Kept). node_of s.core) is ∙ index_node ss n at old index in
+    ap (λ (l : List Station). after (record w { stations = l }) o) (sym (index_put ss n at new its index))
     ∙ ap (λ (t : Turn). after (put w t.station) t.outcome) does
     ∙ sym (ap (λ (x : Option Station). at_node w x f) here)
 
 pub absent : (scheme : Scheme) (ss : List Kept) (bag : List Posted) (n : Node) (f : Station → Turn) → position_from (is_of n) 0 ss ≡ None
     → after (world_of scheme ss bag) NotPossible ≡ at_node (world_of scheme ss bag) (station (world_of scheme ss bag) n) f
-absent scheme ss bag n f none = sym (ap (λ (x : Option Station). at_node (world_of scheme ss bag) x f) (place_none ss n none))
+absent scheme ss bag n f none = sym (ap (λ (x : Option Station). at_node (world_of scheme ss bag) x f) (index_none ss n none))
 
 pub still : (scheme : Scheme) (ss : List Kept) (bag : List Posted) (at : ℕ) (old new : Kept) → old ≡ get_or ss at old → station_of new ≡ station_of old → world_of scheme (set ss at new) bag ≡ world_of scheme ss bag
 still scheme ss bag at old new is e = ap (λ (l : List Station). record (world_of scheme ss bag) { stations = l }) (same_seen ss at old new is e)

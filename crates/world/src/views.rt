@@ -18,7 +18,7 @@ ghost use Rattle.world.specs.Stocks.{AreStocks, HoldsIf};
 use crate::any_core::Core;
 use crate::station::Station;
 use crate::world::World;
-use protocol::{NodeCore, Posted, place_of};
+use protocol::{NodeCore, Posted, index_of};
 use registry_core::RegistryCore;
 use registry_core::accounts::HeldBlock;
 use scheme::Scheme;
@@ -102,7 +102,7 @@ impl World {
         ensures node { IfSome result (λ s. node_of s.now.core ≡ node) }
         ensures none { IfNone result (live_of self.now node ≡ []) }
     {
-        let at = place_of(&self.scheme, node)?;
+        let at = index_of(&self.scheme, node)?;
         Some(&self.stations[at])
     }
 
@@ -132,7 +132,7 @@ impl World {
         Some(&station.core.journal()[..station.committed])
     }
 
-    /// The message at that place of the bag, with the node that posted it and its key there.
+    /// The message with that number in the bag, with the node that posted it and its key there.
     pub fn bag_message(&self, index: u64) -> Option<&Posted>
         ensures { option_copied result ≡ slice_get self.now.bag index }
     {

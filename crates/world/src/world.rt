@@ -14,7 +14,7 @@ ghost use Rattle.world.specs.Stations.{uncommitted};
 use crate::any_core::Core;
 use crate::station::Station;
 use crate::stations::{cores_of, opening_stations, uncommitted_stations};
-use protocol::{Outcome, Posted, WorldEvent, place_of};
+use protocol::{Outcome, Posted, WorldEvent, index_of};
 use scheme::Scheme;
 use status::Moment;
 use std::alloc::Global;
@@ -129,7 +129,7 @@ impl World {
     fn was_posted(&self, node: Node, key: u64) -> bool
         ensures { result ≡ was_posted self.now node key }
     {
-        match place_of(&self.scheme, node) {
+        match index_of(&self.scheme, node) {
             Some(at) => self.stations[at].posted.contains(&key),
             None => false,
         }
@@ -158,7 +158,7 @@ impl World {
             ≡ at_node self.old (station self.old node) (take_input self.old.scheme input.now)) }
         ensures err { OnErr result (self.new ≡ self.old) }
     {
-        match place_of(&self.scheme, node) {
+        match index_of(&self.scheme, node) {
             Some(at) => self.stations[at].take(input),
             None => Ok(Outcome::NotPossible),
         }
@@ -180,7 +180,7 @@ impl World {
     fn commit(&mut self, node: Node, count: u64) -> Outcome
         ensures { record { world = self.new; outcome = result } ≡ step self.old (WorldEvent.Commit node count) }
     {
-        match place_of(&self.scheme, node) {
+        match index_of(&self.scheme, node) {
             Some(at) => self.stations[at].commit(count),
             None => Outcome::NotPossible,
         }
@@ -191,7 +191,7 @@ impl World {
             (λ o. record { world = self.new; outcome = o } ≡ step self.old (WorldEvent.Crash node kept)) }
         ensures err { OnErr result (self.new ≡ self.old) }
     {
-        match place_of(&self.scheme, node) {
+        match index_of(&self.scheme, node) {
             Some(at) => self.stations[at].crash(kept),
             None => Ok(Outcome::NotPossible),
         }
@@ -200,7 +200,7 @@ impl World {
     fn restart(&mut self, node: Node) -> Outcome
         ensures { record { world = self.new; outcome = result } ≡ step self.old (WorldEvent.Restart node) }
     {
-        match place_of(&self.scheme, node) {
+        match index_of(&self.scheme, node) {
             Some(at) => self.stations[at].restart(),
             None => Outcome::NotPossible,
         }
@@ -211,7 +211,7 @@ impl World {
             (λ o. record { world = self.new; outcome = o } ≡ step self.old (WorldEvent.Post node key)) }
         ensures err { OnErr result (self.new ≡ self.old) }
     {
-        let Some(at) = place_of(&self.scheme, node) else {
+        let Some(at) = index_of(&self.scheme, node) else {
             return Ok(Outcome::NotPossible);
         };
         let Some(message) = copied(self.stations[at].sent(key))? else {

@@ -96,7 +96,7 @@ module _ (scheme : Scheme) (f : Node → List Entry) (causal : Causal scheme f) 
             agrees_from t Completed tt (log_said (Registry c) t Completed p)
       ]
 
-  -- the log stands at one place
+  -- the log has one status
   differs : (t : TransactionId) (s : Status) → LogAgrees f t → (IsAgreed s → ⊥) → LogSays f t s → ⊥
   differs t s a bad l =
       let e = sym a.1 ∙ l.1 in

@@ -20,9 +20,9 @@ use Rattle.wire.specs.declared.message.Proposal.{Proposal}
 use Rattle.wire.specs.declared.message.ProposalStatus.TheVariants as proposal
 use Rattle.scheme.specs.declared.members.Holder.{Holder}
 use Rattle.scheme.specs.declared.registries.Scheme.{Scheme}
-use Rattle.protocol.specs.AtRegistry.{is_place}
+use Rattle.protocol.specs.AtRegistry.{is_position}
 use Rattle.protocol.specs.Checks.{has_other_kind}
-use Rattle.protocol.specs.History.{Transition, Entry, Place, transitions_of, sends, messages_of, credits, holds, credited_place, place_in, place}
+use Rattle.protocol.specs.History.{Transition, Entry, Position, transitions_of, sends, messages_of, credits, holds, credited_position, position_in, position}
 use Rattle.protocol.specs.Pieces.{Piece, pieces, pieces_of, repeats}
 use Rattle.protocol.specs.Registries.{allotted}
 use Rattle.protocol.proofs.CanonicalBlocks.{canonical_no_repeats, canonical_from}
@@ -51,40 +51,40 @@ pieces_in [] b p i h = absurd i
 pieces_in (c ∷ cs) b p (inl e) h = In_left p (pieces_of c) (pieces cs) (subst (λ z. In p (pieces_of z)) (sym e) h)
 pieces_in (c ∷ cs) b p (inr i) h = In_right p (pieces_of c) (pieces cs) (pieces_in cs b p i h)
 
-one_place : (p q : Place) → Some p ≡ Some q → p ≡ q
+one_place : (p q : Position) → Some p ≡ Some q → p ≡ q
 one_place p q e = cc (e)
 
 module _ (scheme : Scheme) (s : Serial) where
-  abbrev PlaceRight : Option Place → Type 0
-  PlaceRight o = (q : Place) → o ≡ Some q → has_other_kind (allotted scheme s) q.kind ≡ false
+  abbrev PositionRight : Option Position → Type 0
+  PositionRight o = (q : Position) → o ≡ Some q → has_other_kind (allotted scheme s) q.kind ≡ false
 
-  start_right : (o : Option Holder) → allotted scheme s ≡ o → PlaceRight (option_map (λ (h : Holder). record { account = h.account; kind = h.kind }) o)
+  start_right : (o : Option Holder) → allotted scheme s ≡ o → PositionRight (option_map (λ (h : Holder). record { account = h.account; kind = h.kind }) o)
   start_right None e q h = absurd (cc (h))
   start_right (Some a) e q h =
-      let kind : a.kind ≡ q.kind = ap (λ (z : Place). z.kind) (one_place _ q h) in
+      let kind : a.kind ≡ q.kind = ap (λ (z : Position). z.kind) (one_place _ q h) in
       subst (λ o. has_other_kind o q.kind ≡ false) (sym e) (subst (λ k. not (same_kind a.kind k) ≡ false) kind (ap not (eq-eqb (kind_index a.kind) (kind_index a.kind) refl)))
 
-  credited_right : (k : Content) → AreRight scheme (pieces k.units) → PlaceRight (credited_place s k)
+  credited_right : (k : Content) → AreRight scheme (pieces k.units) → PositionRight (credited_position s k)
   credited_right k right q h = go (find (λ (b : RawBlock). has_unit b s) k.units) refl h
     where
       go : (o : Option RawBlock) → find (λ (b : RawBlock). has_unit b s) k.units ≡ o → option_map (λ (b : RawBlock). record { account = k.to_account; kind = b.kind }) o ≡ Some q → has_other_kind (allotted scheme s) q.kind ≡ false
       go None e i = absurd (cc (i))
       go (Some b) e i =
-          let kind : b.kind ≡ q.kind = ap (λ (z : Place). z.kind) (one_place _ q i) in
+          let kind : b.kind ≡ q.kind = ap (λ (z : Position). z.kind) (one_place _ q i) in
           let found = In_find (λ (b : RawBlock). has_unit b s) k.units b e in
           subst (λ z. has_other_kind (allotted scheme s) z ≡ false) kind
           (right (record { unit = s; kind = b.kind }) (pieces_in k.units b (record { unit = s; kind = b.kind }) found.0 (piece_of_block b s found.1)))
 
-  -- the place of a unit has the kind that it was allotted with, where what was credited had it
-  place_right : (c : Code) (xs : List Transition) → ((x : Transition) → In x xs → credits c s x ≡ true → (k : Content) → x.content ≡ Some k → AreRight scheme (pieces k.units)) → PlaceRight (place scheme c xs s)
-  place_right c [] right q h = start_right (allotted scheme s) refl q h
-  place_right c (x ∷ xs) right q h =
+  -- the position of a unit has the kind that it was allotted with, where what was credited had it
+  position_right : (c : Code) (xs : List Transition) → ((x : Transition) → In x xs → credits c s x ≡ true → (k : Content) → x.content ≡ Some k → AreRight scheme (pieces k.units)) → PositionRight (position scheme c xs s)
+  position_right c [] right q h = start_right (allotted scheme s) refl q h
+  position_right c (x ∷ xs) right q h =
       elim (cases_Bool (credits c s x)) [
-        | inl y ↦ came x.content refl (sym (cond-true (credits c s x) (place_in s x.content) (place scheme c xs s) y) ∙ h) y
-        | inr n ↦ place_right c xs (λ z i. right z (inr i)) q (sym (cond-false (credits c s x) (place_in s x.content) (place scheme c xs s) n) ∙ h)
+        | inl y ↦ came x.content refl (sym (cond-true (credits c s x) (position_in s x.content) (position scheme c xs s) y) ∙ h) y
+        | inr n ↦ position_right c xs (λ z i. right z (inr i)) q (sym (cond-false (credits c s x) (position_in s x.content) (position scheme c xs s) n) ∙ h)
       ]
     where
-      came : (o : Option Content) → x.content ≡ o → place_in s o ≡ Some q → credits c s x ≡ true → has_other_kind (allotted scheme s) q.kind ≡ false
+      came : (o : Option Content) → x.content ≡ o → position_in s o ≡ Some q → credits c s x ≡ true → has_other_kind (allotted scheme s) q.kind ≡ false
       came None e i y = absurd (cc (i))
       came (Some k) e i y = credited_right k (right x (inl refl) y k e) q i
 
@@ -103,12 +103,12 @@ module _ (scheme : Scheme) (c : Code) where
         | inr z ↦ subst (λ (w : Content). AreRight scheme (pieces w.units)) (one_some z.content k (sym z.is ∙ is)) (right x.id z.content z.got)
       ]
 
-  held_kind : (es : List Entry) → Made scheme (Registry c) es → OffersRight scheme es → (account : ℕ) (p : Piece) (o : Option Place) → place scheme c (transitions_of es) p.unit ≡ o → is_place o account p ≡ true
+  held_kind : (es : List Entry) → Made scheme (Registry c) es → OffersRight scheme es → (account : ℕ) (p : Piece) (o : Option Position) → position scheme c (transitions_of es) p.unit ≡ o → is_position o account p ≡ true
       → is_of_other_kind scheme p ≡ false
   held_kind es made right account p None e h = absurd (cc (h))
   held_kind es made right account p (Some q) e h =
       subst (λ k. has_other_kind (allotted scheme p.unit) k ≡ false) (kind_of_same q.kind p.kind (and_parts (q.account == account) (same_kind q.kind p.kind) h).1)
-      (place_right scheme p.unit c (transitions_of es) (credited_kinds es made right p.unit) q e)
+      (position_right scheme p.unit c (transitions_of es) (credited_kinds es made right p.unit) q e)
 
   offer_move : (es : List Entry) (input : Input) (x : Transition) (p : Proposal) → Made scheme (Registry c) es → OffersRight scheme es → RegistryMove scheme c es input x → In (message.Proposal p) x.messages → IsSound scheme p.content
   offer_move es input x p made right (proposes o t none is fresh) (inl e) =
@@ -117,9 +117,9 @@ module _ (scheme : Scheme) (c : Code) where
       (record {
         kinds = λ q i.
             let has =
-            not-false (holds scheme c xs q.unit && is_place (place scheme c xs q.unit) o.account q)
-            (list_any_none (λ (v : Piece). not (holds scheme c xs v.unit && is_place (place scheme c xs v.unit) o.account v)) (pieces o.units) q none.1.1.1.1.0 (canonical_from o.units none.1.0 q i)) in
-            held_kind es made right o.account q (place scheme c xs q.unit) refl (and_parts (holds scheme c xs q.unit) (is_place (place scheme c xs q.unit) o.account q) has).1;
+            not-false (holds scheme c xs q.unit && is_position (position scheme c xs q.unit) o.account q)
+            (list_any_none (λ (v : Piece). not (holds scheme c xs v.unit && is_position (position scheme c xs v.unit) o.account v)) (pieces o.units) q none.1.1.1.1.0 (canonical_from o.units none.1.0 q i)) in
+            held_kind es made right o.account q (position scheme c xs q.unit) refl (and_parts (holds scheme c xs q.unit) (is_position (position scheme c xs q.unit) o.account q) has).1;
         apart = canonical_no_repeats o.units none.1.0 none.1.1.0;
       })
   offer_move es input x p made right (proposes o t none is fresh) (inr h) = absurd h

@@ -25,7 +25,7 @@ use Rattle.protocol.specs.declared.event.WorldEvent.TheVariants.{Take, Deliver}
 use Rattle.units.proofs.Lists.SomePass.{list_any_in}
 use Rattle.safety.proofs.JournalWeaves.EventsFromOrders.{ack_below}
 use Rattle.safety.proofs.JournalWeaves.OrdersFromEvents.{always_next}
-use Rattle.units.proofs.Lists.Positions.{In_contains, place_of, some_at}
+use Rattle.units.proofs.Lists.Positions.{In_contains, index_of, some_at}
 use Rattle.safety.proofs.WorldLemmas.QuietWorlds.{takes}
 use Rattle.safety.proofs.WorldLemmas.StationsAfterPut.{found_at_node}
 
@@ -65,9 +65,9 @@ module _ (w : World) (all : IsQuiet w) where
       → WasSent w.scheme (λ m. committed_part (station w m)) n input → GetsRecorded n input
   unfolding step verdict
   next_recorded n (Received m moment) xs node says sent =
-      let key = place_of (sends (committed_of w (sender m))) m (In_contains (sends (committed_of w (sender m))) m sent.1) in
+      let key = index_of (sends (committed_of w (sender m))) m (In_contains (sends (committed_of w (sender m))) m sent.1) in
       let p : Posted = record { node = sender m; key = key.0; message = m } in
-      let index = place_of w.bag p (In_contains w.bag p (all.posted (sender m) key.0 m key.1)) in
+      let index = index_of w.bag p (In_contains w.bag p (all.posted (sender m) key.0 m key.1)) in
       let r = node_records n (Received m moment) xs node says in (
         Deliver index.0 moment,
         (p, index.1, sent.0, refl),

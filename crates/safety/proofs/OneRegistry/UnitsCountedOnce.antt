@@ -35,10 +35,10 @@ use Rattle.wire.specs.declared.message.Message.TheVariants as message
 use Rattle.scheme.specs.declared.registries.Scheme.{Scheme}
 use Rattle.protocol.specs.Pieces.{Piece, pieces}
 use Rattle.protocol.specs.Registries.{allotted}
-use Rattle.protocol.specs.History.{Transition, Entry, transitions_of, newest, stands_at, is_status, has_serial, carries, gives, credits, is_with, at_start, holds, reserved, place, is_acknowledged, proposals}
+use Rattle.protocol.specs.History.{Transition, Entry, transitions_of, newest, stands_at, is_status, has_serial, carries, gives, credits, is_with, at_start, holds, reserved, position, is_acknowledged, proposals}
 use Rattle.protocol.specs.Checks.{Causes, propose_refusals}
 use Rattle.protocol.specs.Deciding.{Verdict, IsRecorded, IsRepeat, IsRefused, refuse, recorded_if_room, known, content_in, by_row, ack_refusals}
-use Rattle.protocol.specs.AtRegistry.{holding, is_place, content_of, new_transfer_verdict, in_role, unless_held, holds_some, request_refusals, request_column, registry_refusals, registry_answer, open_refusals, close_refusals, registry_verdict}
+use Rattle.protocol.specs.AtRegistry.{holding, is_position, content_of, new_transfer_verdict, in_role, unless_held, holds_some, request_refusals, request_column, registry_refusals, registry_answer, open_refusals, close_refusals, registry_verdict}
 use Rattle.protocol.specs.Claims.{CountedOnce}
 use Rattle.protocol.specs.Verdict.{verdict, transitions_made as made_of}
 use Rattle.safety.proofs.MovesAndHistories.TransitionForms.{proposed, asking, arrived, arrived_status, concluded_messages, bare, moved}
@@ -334,10 +334,10 @@ module _ (scheme : Scheme) (c : Code) (s : Serial) where
       asked (proposed c t (content_of o)) xs refl refl
       (λ h.
       let p = canonical_piece o.units none.1.0 s h in
-      let held = not-false (holds scheme c xs p.0.unit && is_place (place scheme c xs p.0.unit) o.account p.0)
-      (list_any_none (λ (q : Piece). not (holds scheme c xs q.unit && is_place (place scheme c xs q.unit) o.account q)) (pieces o.units) p.0 none.1.1.1.1.0 p.1) in
+      let held = not-false (holds scheme c xs p.0.unit && is_position (position scheme c xs p.0.unit) o.account p.0)
+      (list_any_none (λ (q : Piece). not (holds scheme c xs q.unit && is_position (position scheme c xs q.unit) o.account q)) (pieces o.units) p.0 none.1.1.1.1.0 p.1) in
       let free = list_any_none (λ (q : Piece). reserved c xs q.unit) (pieces o.units) p.0 none.1.1.1.1.1.0 p.1 in (
-        subst (λ z. holds scheme c xs z ≡ true) p.2 (and_parts (holds scheme c xs p.0.unit) (is_place (place scheme c xs p.0.unit) o.account p.0) held).0,
+        subst (λ z. holds scheme c xs z ≡ true) p.2 (and_parts (holds scheme c xs p.0.unit) (is_position (position scheme c xs p.0.unit) o.account p.0) held).0,
         subst (λ z. reserved c xs z ≡ false) p.2 free,
       ))
       l

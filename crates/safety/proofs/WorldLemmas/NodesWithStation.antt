@@ -57,49 +57,49 @@ restart_node s = cond_node s.node s.runs (rests s NotPossible) _ refl refl
 -- ---- a step takes no station away and brings none
 
 -- the nodes that have a station are the same
-abbrev pub SamePlaces : World → World → Type 0
-SamePlaces w v = (n : Node) → is_some (station v n) ≡ is_some (station w n)
+abbrev pub SameStations : World → World → Type 0
+SameStations w v = (n : Node) → is_some (station v n) ≡ is_some (station w n)
 
-put_places : (w : World) (n : Node) (s t : Station) → station w n ≡ Some s → t.node ≡ s.node → SamePlaces w (put w t)
-put_places w n s t is node m =
+put_stations : (w : World) (n : Node) (s t : Station) → station w n ≡ Some s → t.node ≡ s.node → SameStations w (put w t)
+put_stations w n s t is node m =
     let own = node ∙ found_at_node n w.stations s is in
     elim (cases_Bool (same_node n m)) [
       | inl y ↦ subst (λ z. is_some (station (put w t) z) ≡ is_some (station w z)) (node_of_same n m y) (ap is_some (at_put n w.stations s t is own) ∙ sym (ap is_some is))
       | inr d ↦ ap is_some (at_elsewhere n m w.stations t own d)
     ]
 
-turn_places : (w : World) (n : Node) (o : Option Station) (f : Station → Turn) → station w n ≡ o → ((s : Station) → (f s).station.node ≡ s.node) → SamePlaces w (at_node w o f).world
-turn_places w n None f is node m = refl
-turn_places w n (Some s) f is node m = put_places w n s (f s).station is (node s) m
+turn_stations : (w : World) (n : Node) (o : Option Station) (f : Station → Turn) → station w n ≡ o → ((s : Station) → (f s).station.node ≡ s.node) → SameStations w (at_node w o f).world
+turn_stations w n None f is node m = refl
+turn_stations w n (Some s) f is node m = put_stations w n s (f s).station is (node s) m
 
-posted_places : (w : World) (n : Node) (key : ℕ) (o : Option Message) → SamePlaces w (posted w n key o).world
-posted_places w n key None m = refl
-posted_places w n key (Some x) m = refl
+posted_stations : (w : World) (n : Node) (key : ℕ) (o : Option Message) → SameStations w (posted w n key o).world
+posted_stations w n key None m = refl
+posted_stations w n key (Some x) m = refl
 
-cond_places : (w : World) (b : Bool) (x y : Stepped) → SamePlaces w x.world → SamePlaces w y.world → SamePlaces w (cond b x y).world
-cond_places w true x y h i = h
-cond_places w false x y h i = i
+cond_stations : (w : World) (b : Bool) (x y : Stepped) → SameStations w x.world → SameStations w y.world → SameStations w (cond b x y).world
+cond_stations w true x y h i = h
+cond_stations w false x y h i = i
 
-deliver_places : (w : World) (moment : Moment) (o : Option Posted) → SamePlaces w (deliver w moment o).world
-deliver_places w moment None m = refl
-deliver_places w moment (Some p) m = turn_places w (receiver p.message) (station w (receiver p.message)) (take_input w.scheme (Received p.message moment)) refl (take_node w.scheme (Received p.message moment)) m
+deliver_stations : (w : World) (moment : Moment) (o : Option Posted) → SameStations w (deliver w moment o).world
+deliver_stations w moment None m = refl
+deliver_stations w moment (Some p) m = turn_stations w (receiver p.message) (station w (receiver p.message)) (take_input w.scheme (Received p.message moment)) refl (take_node w.scheme (Received p.message moment)) m
 
-step_places : (w : World) (e : WorldEvent) → SamePlaces w (step w e).world
+step_stations : (w : World) (e : WorldEvent) → SameStations w (step w e).world
 unfolding step
-step_places w (Take n i) m =
-    cond_places w (is_order w n i) (at_node w (station w n) (take_input w.scheme i)) (stays w NotPossible) (turn_places w n (station w n) (take_input w.scheme i) refl (take_node w.scheme i)) (λ z. refl) m
-step_places w (Commit n count) m = turn_places w n (station w n) (commit count) refl (commit_node count) m
-step_places w (Post n key) m = posted_places w n key (option_and_then (sent w.scheme key) (station w n)) m
-step_places w (Deliver index moment) m = deliver_places w moment (slice_get w.bag index) m
-step_places w (Crash n kept) m = turn_places w n (station w n) (crash kept) refl (crash_node kept) m
-step_places w (Restart n) m = turn_places w n (station w n) restart refl restart_node m
+step_stations w (Take n i) m =
+    cond_stations w (is_order w n i) (at_node w (station w n) (take_input w.scheme i)) (stays w NotPossible) (turn_stations w n (station w n) (take_input w.scheme i) refl (take_node w.scheme i)) (λ z. refl) m
+step_stations w (Commit n count) m = turn_stations w n (station w n) (commit count) refl (commit_node count) m
+step_stations w (Post n key) m = posted_stations w n key (option_and_then (sent w.scheme key) (station w n)) m
+step_stations w (Deliver index moment) m = deliver_stations w moment (slice_get w.bag index) m
+step_stations w (Crash n kept) m = turn_stations w n (station w n) (crash kept) refl (crash_node kept) m
+step_stations w (Restart n) m = turn_stations w n (station w n) restart refl restart_node m
 
 -- the nodes are those that have a station
 abbrev pub AllPlaced : World → Type 0
 AllPlaced w = (n : Node) → is_some (station w n) ≡ is_node w.scheme n
 
 pub step_placed : (w : World) (e : WorldEvent) → AllPlaced w → AllPlaced (step w e).world
-step_placed w e all n = step_places w e n ∙ all n ∙ ap (λ (z : Scheme). is_node z n) (sym (step_scheme w e))
+step_placed w e all n = step_stations w e n ∙ all n ∙ ap (λ (z : Scheme). is_node z n) (sym (step_scheme w e))
 
 pub run_placed : (w : World) (events : List WorldEvent) → AllPlaced w → AllPlaced (run w events)
 run_placed w [] all = all

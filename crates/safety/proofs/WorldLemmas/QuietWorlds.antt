@@ -30,7 +30,7 @@ use Rattle.protocol.specs.declared.event.WorldEvent.TheVariants.{Take, Commit, P
 use Rattle.units.proofs.Lists.Membership.{In, In_find, In_map}
 use Rattle.units.proofs.Lists.OneValue.{one_some}
 use Rattle.safety.proofs.WorldLemmas.NodesWithStation.{AllPlaced, run_placed, opening_placed, some_there}
-use Rattle.units.proofs.Lists.Positions.{place_of, last_at}
+use Rattle.units.proofs.Lists.Positions.{index_of, last_at}
 use Rattle.safety.proofs.WorldLemmas.SoundWorlds.{Sound, run_sound, opening_sound}
 use Rattle.safety.proofs.WorldLemmas.StationsAfterPut.{found_at_node, at_put, at_elsewhere}
 
@@ -160,7 +160,7 @@ pub delivers : (w : World) → Quiet w → (m : Message) (moment : Moment) (xs :
 delivers w quiet m moment xs node sent says =
     let n = receiver m in
     let from = sending w (sender m) m sent in
-    let key = place_of (sends (committed_of w (sender m))) m sent in
+    let key = index_of (sends (committed_of w (sender m))) m sent in
     let to = there w quiet n node in
     let p : Posted = record { node = sender m; key = key.0; message = m } in (
       key.0,

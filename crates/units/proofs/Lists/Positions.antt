@@ -12,13 +12,13 @@ In_get_or (x ∷ xs) (suc k) d h = inr (In_get_or xs k d (omega arith))
 pub In_contains : {X : Type 0} (xs : List X) (x : X) → Contains xs x → In x xs
 In_contains xs x i = subst (λ z. In z xs) i.2 (In_get_or xs i.0 x i.1)
 
-pub place_of : {X : Type 0} (xs : List X) (x : X) → In x xs → (k : ℕ) × (slice_get xs k ≡ Some x)
-place_of [] x i = absurd i
-place_of (y ∷ ys) x (inl e) = (0, ap Some e)
-place_of (y ∷ ys) x (inr i) = let r = place_of ys x i in (suc r.0, r.1)
+pub index_of : {X : Type 0} (xs : List X) (x : X) → In x xs → (k : ℕ) × (slice_get xs k ≡ Some x)
+index_of [] x i = absurd i
+index_of (y ∷ ys) x (inl e) = (0, ap Some e)
+index_of (y ∷ ys) x (inr i) = let r = index_of ys x i in (suc r.0, r.1)
 
 pub contains_in : {X : Type 0} (xs : List X) (x : X) → In x xs → Contains xs x
-contains_in xs x i = let k = place_of xs x i in (k.0, slice_get_within xs k.0 x k.1, get_or_from_slice_get xs k.0 x x k.1)
+contains_in xs x i = let k = index_of xs x i in (k.0, slice_get_within xs k.0 x k.1, get_or_from_slice_get xs k.0 x x k.1)
 
 pub some_at : {X : Type 0} (xs : List X) (k : ℕ) → k < length xs → (x : X) × (slice_get xs k ≡ Some x)
 some_at [] k h = absurd (omega arith)

@@ -2,7 +2,7 @@ use Rattle.std.proofs.Common.{sym, subst, ◌∙◌}
 use Rattle.std.specs.BTreeSet.{IsKeyRangeOf}
 use Rattle.std.specs.declared.ops.Bound.TheVariants.{Included, Unbounded}
 use Rattle.acquirer.specs.Awaiting.{awaited_cmp}
-use Rattle.acquirer.proofs.PlacesInOrder.{none_of}
+use Rattle.acquirer.proofs.EntriesInOrder.{none_of}
 use Rattle.acquirer.proofs.awaited.first_awaited.Goals as goal
 
 pub returns-else-found-account-clause-none : goal.returns-else-found-account-clause-none

@@ -4,7 +4,7 @@ use Rattle.std.specs.BTreeSet.{contains}
 use Rattle.std.specs.FinMap as finite
 use Rattle.status.specs.Id.{id_cmp}
 use Rattle.log_core.specs.Kept.{waiting_cmp}
-use Rattle.log_core.proofs.CancelledTransactions.{changed_after, labels_after, none_labelled_yet, places_after}
+use Rattle.log_core.proofs.CancelledTransactions.{changed_after, labels_after, none_labelled_yet, entries_after}
 use Rattle.log_core.proofs.moving.cancel.Goals as goal
 
 pub loop-id-init : goal.loop-id-init
@@ -25,7 +25,7 @@ loop-id-preserved c =
     record {
       transfers = λ t. c.finish.ensures.transfers t ∙ changed_after ids i id c.loop-id-test.true c.id-item.is t c.args.moment (tree.get id_cmp c.args.transfers.now t) (tree.get id_cmp c.loop-id.transfers t) (c.loop-id.invariant.transfers t);
       units = λ s. c.finish.ensures.units s ∙ labels_after ids i id c.loop-id-test.true c.id-item.is (finite.get c.args.under_way.now s) (finite.get c.loop-id.under_way s) (c.loop-id.invariant.units s);
-      waits = λ w. c.finish.ensures.waits w ∙ places_after ids i id c.loop-id-test.true c.id-item.is w.id (contains waiting_cmp c.args.checked.now w) (contains waiting_cmp c.loop-id.checked w) (c.loop-id.invariant.waits w);
+      waits = λ w. c.finish.ensures.waits w ∙ entries_after ids i id c.loop-id-test.true c.id-item.is w.id (contains waiting_cmp c.args.checked.now w) (contains waiting_cmp c.loop-id.checked w) (c.loop-id.invariant.waits w);
       waiting = c.finish.ensures.waiting;
       labelled = c.finish.ensures.labelled;
     }

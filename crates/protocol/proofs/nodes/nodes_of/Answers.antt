@@ -1,5 +1,5 @@
 use Rattle.std.proofs.Common.{◌∙◌}
-use Rattle.protocol.proofs.NodePlaces.{nodes_more}
+use Rattle.protocol.proofs.NodeIndices.{nodes_more}
 use Rattle.protocol.proofs.nodes.nodes_of.Goals as goal
 
 pub loop-member-preserved : goal.loop-member-preserved

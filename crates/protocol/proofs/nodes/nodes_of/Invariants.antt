@@ -1,5 +1,5 @@
 use Rattle.std.proofs.Common.{◌≡◌, take}
-use Rattle.protocol.proofs.NodePlaces.{all_nodes}
+use Rattle.protocol.proofs.NodeIndices.{all_nodes}
 use Rattle.protocol.proofs.nodes.nodes_of.Given as goal
 
 abbrev pub invariant-loop-member : goal.invariant-loop-member

@@ -9,10 +9,10 @@ returns-then-not-are_same_nodes-clause-none c =
     other_delivery (without_tails c.args.world.now) c.args.node c.args.message.now c.args.moment
     (λ to. clash c.are_same_nodes.result (c.are_same_nodes.ensures.1 (c.receiver.ensures ∙ to)) c.if-not-are_same_nodes.true)
 
-pub returns-in_err-place-clause-none : goal.returns-in_err-place-clause-none
-returns-in_err-place-clause-none c = rw c.from_residual.ensures (no_delivery (without_tails c.args.world.now) c.args.node c.args.message.now c.args.moment c.in_err-place.ensures.none)
+pub returns-in_err-number-clause-none : goal.returns-in_err-number-clause-none
+returns-in_err-number-clause-none c = rw c.from_residual.ensures (no_delivery (without_tails c.args.world.now) c.args.node c.args.message.now c.args.moment c.in_err-number.ensures.none)
 
 pub returns-clause-some : goal.returns-clause-some
 returns-clause-some c =
-    fits_delivery c.args.world.now c.args.node c.args.message.now c.args.moment c.in_ok-place.place c.in_ok-place.ensures.some
+    fits_delivery c.args.world.now c.args.node c.args.message.now c.args.moment c.in_ok-number.number c.in_ok-number.ensures.some
     (sym c.receiver.ensures ∙ c.are_same_nodes.ensures.0 c.if-not-are_same_nodes.false)

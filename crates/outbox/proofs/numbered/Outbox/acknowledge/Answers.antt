@@ -1,8 +1,8 @@
 use Rattle.std.proofs.Common.{◌<◌, ◌++◌, ◌∷◌, [], false, cond, List, Some, length, ap, sym, subst, ◌∙◌, is_eq, arith}
 use Rattle.std.specs.BTreeSet.{contains}
-use Rattle.outbox.specs.Places.{place_cmp, place_of}
+use Rattle.outbox.specs.Awaiting.{unacknowledged_cmp, unacknowledged_of}
 use Rattle.outbox.specs.Sending.{messages, Sent, Acknowledges}
-use Rattle.outbox.specs.declared.place.Place.{Place}
+use Rattle.outbox.specs.declared.unacknowledged.Unacknowledged.{Unacknowledged}
 use Rattle.outbox.specs.declared.record.Record.{Record}
 use Rattle.units.specs.declared.code.Node.{Node}
 use Rattle.outbox.proofs.KeptTables.{next_acknowledges, some_at, Next}
@@ -20,12 +20,12 @@ next : (c : goal.After-push_reserved) → Next c.push_reserved.new.self.items c.
 next c =
     let here : c.args.key < length c.self.inside.messages.items =
     subst (λ l. c.args.key < length l) (ap messages (sym c.self.view_is) ∙ all_messages c.self.inside.records.items c.self.inside.messages.items c.self.invariant.counted) c.requires in
-    next_acknowledges c.self.inside.records.items c.push_reserved.new.self.items c.len.result c.args.key c.self.inside.messages.items c.index.result.now c.self.inside.places c.remove.new.self c.self.invariant
+    next_acknowledges c.self.inside.records.items c.push_reserved.new.self.items c.len.result c.args.key c.self.inside.messages.items c.index.result.now c.self.inside.unacknowledged c.remove.new.self c.self.invariant
     (c.push_reserved.ensures.items ∙ ap (λ (l : List Record). l ++ record { sends = c.len.result; acknowledges = Some c.args.key } ∷ []) c.reserve.ensures.items)
     (c.len.ensures ∙ c.self.inside.messages.ok.0)
     (some_at c.self.inside.messages.items c.args.key c.index.result.now here c.index.ensures)
     (λ q. c.remove.ensures.updates.0 q
-    ∙ ap (λ (p : Place). cond (is_eq (place_cmp p q)) false (contains place_cmp c.self.inside.places q)) (c.place.ensures ∙ ap (λ (n : Node). place_of n c.args.key) c.receiver-peer.ensures))
+    ∙ ap (λ (p : Unacknowledged). cond (is_eq (unacknowledged_cmp p q)) false (contains unacknowledged_cmp c.self.inside.unacknowledged q)) (c.unacknowledged_of.ensures ∙ ap (λ (n : Node). unacknowledged_of n c.args.key) c.receiver-peer.ensures))
 
 pub invariant_of-self-2 : goal.invariant_of-self-2
 invariant_of-self-2 c = (next c).kept

@@ -2,16 +2,16 @@ use Rattle.std.proofs.Common.{ℕ, List, length, sym, ap, subst, ◌∙◌, arit
 use Rattle.std.specs.Prelude.{IfNone, IfSome}
 use Rattle.weave.specs.Steps.{IsNextBy, Waits, whole_at, without_tails}
 use Rattle.weave.specs.declared.following.Following.{Following}
-use Rattle.protocol.proofs.NodePlaces.{place_within}
+use Rattle.protocol.proofs.NodeIndices.{index_within}
 use Rattle.weave.proofs.Rounds.{rests, rests_nowhere, takes_fewer, takes_posting, takes_whole, whole_stations}
 use Rattle.weave.proofs.following.Following.record_next.Goals as goal
 
 pub returns-in_default-clause-follows : goal.returns-in_default-clause-follows
 returns-in_default-clause-follows c =
-    rests_nowhere c.args.scheme.now c.args.self.now c.args.node c.requires.follows c.requires.quiet (sym c.place_of.ensures ∙ c.in_default.is)
+    rests_nowhere c.args.scheme.now c.args.self.now c.args.node c.requires.follows c.requires.quiet (sym c.index_of.ensures ∙ c.in_default.is)
 
 pub next_event-requires : goal.next_event-requires
-next_event-requires c = c.requires.follows.follows.placed
+next_event-requires c = c.requires.follows.follows.numbered
 
 pub returns-in_default-2-clause-follows : goal.returns-in_default-2-clause-follows
 returns-in_default-2-clause-follows c =
@@ -20,7 +20,7 @@ returns-in_default-2-clause-follows c =
 
 pub post_all-requires : goal.post_all-requires
 post_all-requires c =
-    let below = place_within c.args.scheme.now c.args.node c.in-Some.at (sym c.in-Some.ensures) in
+    let below = index_within c.args.scheme.now c.args.node c.in-Some.at (sym c.in-Some.ensures) in
     omega (arith, below, c.requires.follows.follows.counted, ap (λ (ks : List ℕ). length ks) c.in_ok-take.ensures.posted)
 
 pub returns-clause-follows : goal.returns-clause-follows

@@ -16,7 +16,7 @@ returns c =
           ∙ ap (λ (xs : List WorldEvent). xs ++ c.in-Ok.commit ∷ []) (c.push_reserved.ensures.items ∙ ap (λ (xs : List WorldEvent). xs ++ c.args.event ∷ []) same.0)
           ∙ ap (λ (e : WorldEvent). (f.events.items ++ c.args.event ∷ []) ++ e ∷ []) c.in-Ok.ensures.event
           ∙ append_assoc f.events.items (c.args.event ∷ []) (Commit c.args.node 1 ∷ []);
-      places = λ t. rw same.2;
+      numbers = λ t. rw same.2;
       posted = rw same.3;
       pending = c.push_reserved-3.ensures.items ∙ ap (λ (ns : List Node). ns ++ c.args.node ∷ []) same.1;
     }

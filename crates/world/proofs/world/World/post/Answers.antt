@@ -6,16 +6,16 @@ use Rattle.protocol.specs.declared.event.Posted.{Posted}
 use Rattle.world.specs.Cores.{node_of, scheme_of}
 use Rattle.world.specs.Kept.{AreKept, world_of}
 use Rattle.world.proofs.KeptWorlds.{found, kept_post, kept_turn, posts, posts_none, posts_nowhere}
-use Rattle.world.proofs.Places.{place_within}
+use Rattle.world.proofs.Indices.{index_within}
 use Rattle.world.proofs.Worlds.{after, still}
 use Rattle.world.proofs.world.World.post.Goals as goal
 
 pub returns-in_default-clause-ok : goal.returns-in_default-clause-ok
 unfolding step
-returns-in_default-clause-ok c = rw (← c.self.view_is) (posts_nowhere c.self.inside.scheme c.self.inside.stations.items c.self.inside.bag.items c.args.node c.args.key c.self.invariant (sym c.in_default.is ∙ c.place_of.ensures))
+returns-in_default-clause-ok c = rw (← c.self.view_is) (posts_nowhere c.self.inside.scheme c.self.inside.stations.items c.self.inside.bag.items c.args.node c.args.key c.self.invariant (sym c.in_default.is ∙ c.index_of.ensures))
 
 pub index-requires : goal.index-requires
-index-requires c = omega (arith, place_within _ _ _ (found c.self.inside.scheme c.self.inside.stations.items c.self.inside.bag.items c.args.node c.in-Some.at c.self.invariant c.in-Some.ensures), c.self.inside.stations.ok.0)
+index-requires c = omega (arith, index_within _ _ _ (found c.self.inside.scheme c.self.inside.stations.items c.self.inside.bag.items c.args.node c.in-Some.at c.self.invariant c.in-Some.ensures), c.self.inside.stations.ok.0)
 
 pub returns-in_default-2-clause-ok : goal.returns-in_default-2-clause-ok
 unfolding step
@@ -24,7 +24,7 @@ returns-in_default-2-clause-ok c =
     (posts_none c.self.inside.scheme c.self.inside.stations.items c.self.inside.bag.items c.args.node c.in-Some.at c.args.key c.index.result.now c.self.invariant c.in-Some.ensures c.index.ensures (sym c.in_default-2.is ∙ c.in_ok-message.ensures ∙ c.sent.ensures))
 
 pub index_mut-requires : goal.index_mut-requires
-index_mut-requires c = omega (arith, place_within _ _ _ (found c.self.inside.scheme c.self.inside.stations.items c.self.inside.bag.items c.args.node c.in-Some.at c.self.invariant c.in-Some.ensures), c.self.inside.stations.ok.0)
+index_mut-requires c = omega (arith, index_within _ _ _ (found c.self.inside.scheme c.self.inside.stations.items c.self.inside.bag.items c.args.node c.in-Some.at c.self.invariant c.in-Some.ensures), c.self.inside.stations.ok.0)
 
 pub invariant_of-self-in-Err : goal.invariant_of-self-in-Err
 invariant_of-self-in-Err c =

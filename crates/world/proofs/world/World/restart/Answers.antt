@@ -2,12 +2,12 @@ use Rattle.std.proofs.Common.{arith, ap}
 use Rattle.protocol.specs.World.{restart, step}
 use Rattle.world.specs.Cores.{node_of}
 use Rattle.world.proofs.KeptWorlds.{found, kept_turn, missing, stays_core}
-use Rattle.world.proofs.Places.{place_within}
+use Rattle.world.proofs.Indices.{index_within}
 use Rattle.world.proofs.Worlds.{absent, turned}
 use Rattle.world.proofs.world.World.restart.Goals as goal
 
 pub index_mut-requires : goal.index_mut-requires
-index_mut-requires c = omega (arith, place_within _ _ _ (found c.self.inside.scheme c.self.inside.stations.items c.self.inside.bag.items c.args.node c.in-Some.at c.self.invariant c.in-Some.ensures), c.self.inside.stations.ok.0)
+index_mut-requires c = omega (arith, index_within _ _ _ (found c.self.inside.scheme c.self.inside.stations.items c.self.inside.bag.items c.args.node c.in-Some.at c.self.invariant c.in-Some.ensures), c.self.inside.stations.ok.0)
 
 pub invariant_of-self : goal.invariant_of-self
 invariant_of-self c =

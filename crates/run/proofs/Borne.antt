@@ -6,7 +6,7 @@ use Rattle.protocol.specs.Input.{Input}
 use Rattle.protocol.specs.Scheme.{Scheme}
 use Rattle.protocol.specs.declared.node_core.Stepped.TheVariants.{Recorded, Repeat, Late}
 use Rattle.desk.specs.Covering.{Fits}
-use Rattle.desk.specs.Due.{due}
+use Rattle.desk.specs.Expected.{expected}
 use Rattle.desk.specs.Settling.{Bears, IsSettled}
 use Rattle.desk.specs.Views.{StateView, SeatView, committed_records}
 use Rattle.desk.specs.declared.notes.Asked.{Asked}
@@ -54,7 +54,7 @@ module _ (scheme : Scheme) (n : Node) (held : StateView) (heard : List SeatView)
       let bears : Bears scheme n held.journal note = all_of (Bears scheme n held.journal) seat.notes note all h.1 in
       let low : h.0 ≤ held.committed = omega (arith, h.2, within settled is) in
       let front : take h.0 (committed_records held) ≡ take h.0 held.journal = front_of_front held.committed h.0 held.journal low in
-      (h.0, (front_long held.committed h.0 held.journal low bears.0, ap (λ (j : List Input). due scheme n j asked) front ∙ bears.1))
+      (h.0, (front_long held.committed h.0 held.journal low bears.0, ap (λ (j : List Input). expected scheme n j asked) front ∙ bears.1))
 
   recorded : IsSettled scheme n held heard → Contains heard seat → (place : ℕ) (input : Input) → Contains seat.tickets (record { place = place; input = input }) → place < seat.confirmed
       → slice_get (committed_records held) place ≡ Some input

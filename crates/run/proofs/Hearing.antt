@@ -13,7 +13,7 @@ use Rattle.protocol.specs.declared.node_core.Stepped.TheVariants.{Recorded, Repe
 use Rattle.status.specs.declared.status.Status.{Status as AStatus}
 use Rattle.desk.specs.Calls.{Takes}
 use Rattle.desk.specs.Desks.{IsQueryOf, IsTakeOf}
-use Rattle.desk.specs.Due.{stopped, told_of}
+use Rattle.desk.specs.Expected.{stopped, told_of}
 use Rattle.desk.specs.Telling.{is_unjudged, kept, notes_after, tickets_after}
 use Rattle.desk.specs.Views.{StateView, SeatView}
 use Rattle.desk.specs.declared.notes.Asked.{Asked}

@@ -5,7 +5,7 @@ use Rattle.std.proofs.lemmas.List.Elements.{All-nil, All-push}
 use Rattle.status.specs.declared.id.TransactionId.{TransactionId}
 use Rattle.status.specs.declared.status.Status.{Status as AStatus}
 use Rattle.protocol.specs.declared.node_core.Stepped.TheVariants.{Recorded, Repeat, Late}
-use Rattle.desk.specs.Due.{stopped}
+use Rattle.desk.specs.Expected.{stopped}
 use Rattle.desk.specs.Telling.{is_unjudged, kept, notes_after}
 use Rattle.desk.specs.Views.{SeatView}
 use Rattle.desk.specs.declared.notes.Asked.{Asked}

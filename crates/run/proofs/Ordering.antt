@@ -12,12 +12,12 @@ use Rattle.status.specs.declared.id.TransactionId.{TransactionId}
 use Rattle.protocol.specs.Input.{Input}
 use Rattle.protocol.specs.Input.TheVariants as inputs
 use Rattle.protocol.specs.Scheme.{Scheme}
-use Rattle.protocol.specs.Registries.{is_node, place_of}
+use Rattle.protocol.specs.Registries.{is_node, index_of}
 use Rattle.protocol.specs.World.{is_order, opening}
-use Rattle.protocol.proofs.NodePlaces.{node_of_place}
+use Rattle.protocol.proofs.NodeIndices.{node_of_index}
 use Rattle.protocol.specs.declared.node_core.Stepped.TheVariants.{Recorded, Repeat, Late}
 use Rattle.desk.specs.Desks.{IsTakeOf}
-use Rattle.desk.specs.Due.{stopped}
+use Rattle.desk.specs.Expected.{stopped}
 use Rattle.desk.specs.Telling.{kept, tickets_after}
 use Rattle.desk.specs.Views.{SeatView}
 use Rattle.desk.specs.declared.notes.Asked.{Asked}
@@ -274,13 +274,13 @@ module _ (scheme : Scheme) (ls : List ScriptLine) (answers : List ScriptAnswer) 
       }
 
   -- a line that was asked at its node
-  module _ (told : Told) (at : ℕ) (old new : SeatView) (was : slice_get seats at ≡ Some old) (place : place_of scheme (node_of l) ≡ Some at) (possible : is_possible scheme l ≡ true) (a : Adds (asked_by l) old new told) (b : Notes (IsNotedOf l) old new told) where
-    at_node : {T : Type 0} (Of : ScriptLine → Told → List T → Type 0) (n : Node) (left : List T) → place_of scheme n ≡ Some at → Of l told left → IsOfLine Of n l (Answered told) left
+  module _ (told : Told) (at : ℕ) (old new : SeatView) (was : slice_get seats at ≡ Some old) (place : index_of scheme (node_of l) ≡ Some at) (possible : is_possible scheme l ≡ true) (a : Adds (asked_by l) old new told) (b : Notes (IsNotedOf l) old new told) where
+    at_node : {T : Type 0} (Of : ScriptLine → Told → List T → Type 0) (n : Node) (left : List T) → index_of scheme n ≡ Some at → Of l told left → IsOfLine Of n l (Answered told) left
     at_node Of n left place_n is =
-        let same : node_of l ≡ n = one_some (node_of l) n (sym (node_of_place scheme (node_of l) at place) ∙ node_of_place scheme n at place_n) in
+        let same : node_of l ≡ n = one_some (node_of l) n (sym (node_of_index scheme (node_of l) at place) ∙ node_of_index scheme n at place_n) in
         ((λ its. is), (λ others. absurd (others same)))
 
-    here : (n : Node) (seat : SeatView) → place_of scheme n ≡ Some at → seat ≡ new → HasOrders n (ls ++ l ∷ []) (answers ++ Answered told ∷ []) seat
+    here : (n : Node) (seat : SeatView) → index_of scheme n ≡ Some at → seat ≡ new → HasOrders n (ls ++ l ∷ []) (answers ++ Answered told ∷ []) seat
     here n seat place_n is =
         let h = have n at old place_n was in
         subst (HasOrders n (ls ++ l ∷ []) (answers ++ Answered told ∷ [])) (sym is)
@@ -291,10 +291,10 @@ module _ (scheme : Scheme) (ls : List ScriptLine) (answers : List ScriptAnswer) 
           turns = turns_more (asked_by l) old new told h.turns a;
         })
 
-    elsewhere : (n : Node) (k : ℕ) (seat : SeatView) → place_of scheme n ≡ Some k → slice_get seats k ≡ Some seat → k ≢ at → HasOrders n (ls ++ l ∷ []) (answers ++ Answered told ∷ []) seat
+    elsewhere : (n : Node) (k : ℕ) (seat : SeatView) → index_of scheme n ≡ Some k → slice_get seats k ≡ Some seat → k ≢ at → HasOrders n (ls ++ l ∷ []) (answers ++ Answered told ∷ []) seat
     elsewhere n k seat place_n is other =
         let h = have n k seat place_n is in
-        let differs : node_of l ≢ n = λ same. other (one_some k at (sym place_n ∙ (ap (place_of scheme) (sym same) ∙ place))) in
+        let differs : node_of l ≢ n = λ same. other (one_some k at (sym place_n ∙ (ap (index_of scheme) (sym same) ∙ place))) in
         record {
           orders = no_more IsRecordOfLine n ls answers seat.tickets l (Answered told) len h.orders ((λ same. absurd (differs same)), (λ others. refl));
           notes = no_more IsNotedOf n ls answers seat.notes l (Answered told) len h.notes ((λ same. absurd (differs same)), (λ others. refl));

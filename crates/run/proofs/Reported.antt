@@ -8,7 +8,7 @@ use Rattle.protocol.specs.Input.{Input}
 use Rattle.protocol.specs.Scheme.{Scheme}
 use Rattle.units.proofs.Lists.OneValue.{one_some}
 use Rattle.units.proofs.Lists.Positions.{some_at}
-use Rattle.protocol.specs.Registries.{nodes, place_of}
+use Rattle.protocol.specs.Registries.{nodes, index_of}
 use Rattle.protocol.specs.declared.node_core.Stepped.TheVariants.{Recorded}
 use Rattle.desk.specs.Settling.{IsSettled, Stood}
 use Rattle.desk.specs.Views.{StateView, SeatView, committed_records}
@@ -17,8 +17,8 @@ use Rattle.desk.specs.declared.notes.Ticket.{Ticket}
 use Rattle.desk.specs.declared.notes.Told.TheVariants.{Step}
 use Rattle.sessions.specs.Orders.{HasNoOrder, HasOnly, was_ordered}
 use Rattle.weave.specs.Following.{journal_of}
-use Rattle.protocol.proofs.NodePlaces.{node_of_place, place_within}
-use Rattle.weave.proofs.NodePlaces.{journal_is}
+use Rattle.protocol.proofs.NodeIndices.{node_of_index, index_within}
+use Rattle.weave.proofs.NodeIndices.{journal_is}
 use Rattle.input_lines.specs.declared.script_line.ScriptLine.{ScriptLine}
 use Rattle.run.specs.Answers.{IsAnswer, IsBorne, IsRecordAt, answer_lines, asked_by, node_of}
 use Rattle.run.specs.Gathered.{AreGathered, IsGathered}
@@ -43,7 +43,7 @@ short (suc count) (x ∷ xs) = let rest = short count xs in omega (arith, rest)
 
 module _ (scheme : Scheme) (helds : List StateView) (own : List SeatView) (seats : List (List SeatView)) (table : List ℕ)
     (all : length helds ≡ length (nodes scheme)) (Takes : Input → Type 0) (unordered : (input : Input) → Takes input → was_ordered input ≡ false) (gathered : AreGathered Takes own seats) (each : length own ≡ length (nodes scheme)) (r : IsReported scheme helds seats table) where
-  journal_at : (n : Node) (at : ℕ) (held : StateView) → place_of scheme n ≡ Some at → slice_get helds at ≡ Some held → journal_of scheme (committed_by_all helds) n ≡ committed_records held
+  journal_at : (n : Node) (at : ℕ) (held : StateView) → index_of scheme n ≡ Some at → slice_get helds at ≡ Some held → journal_of scheme (committed_by_all helds) n ≡ committed_records held
   journal_at n at held place is = journal_is scheme n at place (committed_by_all helds) ∙ image_or committed_records helds at held [] is
 
   -- the seat of the script at a settled node, among those of the node
@@ -52,13 +52,13 @@ module _ (scheme : Scheme) (helds : List StateView) (own : List SeatView) (seats
     settled : IsSettled scheme n held heard
     gathers : IsGathered Takes heard seat
 
-  seated : (n : Node) (at : ℕ) (held : StateView) (seat : SeatView) → place_of scheme n ≡ Some at → slice_get helds at ≡ Some held → slice_get own at ≡ Some seat → IsSeated n held seat
+  seated : (n : Node) (at : ℕ) (held : StateView) (seat : SeatView) → index_of scheme n ≡ Some at → slice_get helds at ≡ Some held → slice_get own at ≡ Some seat → IsSeated n held seat
   seated n at held seat place is at_own =
-      let low : at < length (nodes scheme) = place_within scheme n at place in
+      let low : at < length (nodes scheme) = index_within scheme n at place in
       let heard = some_at seats at (omega (arith, low, gathered.count, each)) in
       record {
         heard = heard.0;
-        settled = r.settled at n held heard.0 (omega (arith, low, all)) (node_of_place scheme n at place) is heard.1;
+        settled = r.settled at n held heard.0 (omega (arith, low, all)) (node_of_index scheme n at place) is heard.1;
         gathers = gathered.each at seat heard.0 (omega (arith, low, each)) at_own heard.1;
       }
 
@@ -69,7 +69,7 @@ module _ (scheme : Scheme) (helds : List StateView) (own : List SeatView) (seats
   is_answer l NotPossible h = h
   is_answer l (Answered told) h =
       let x = h.1 in
-      let low : x.at < length (nodes scheme) = place_within scheme (node_of l) x.at x.place in
+      let low : x.at < length (nodes scheme) = index_within scheme (node_of l) x.at x.place in
       let held = some_at helds x.at (omega (arith, low, all)) in
       let s = seated (node_of l) x.at held.0 x.seat x.place held.1 x.is in
       let journal = journal_at (node_of l) x.at held.0 x.place held.1 in
@@ -91,7 +91,7 @@ module _ (scheme : Scheme) (helds : List StateView) (own : List SeatView) (seats
   -- the records of each node that were not ordered are those of its threads
   pub other_records : (lines : List ScriptLine) (answers : List ScriptAnswer) → IsPlayed scheme lines answers own → HaveOthers Takes scheme helds
   other_records lines answers played n at held place is =
-      let low : at < length (nodes scheme) = place_within scheme n at place in
+      let low : at < length (nodes scheme) = index_within scheme n at place in
       let seat = some_at own at (omega (arith, low, each)) in
       let s = seated n at held seat.0 place is seat.1 in
       others_taken held s.heard s.gathers.0 seat.0 s.settled.covers s.gathers.1 Takes s.gathers.2 (played.orders n at seat.0 place seat.1).ordered
@@ -102,7 +102,7 @@ module _ (scheme : Scheme) (helds : List StateView) (own : List SeatView) (seats
     table = table;
     borne = record { count = played.heard.count; each = borne_each };
     orders = λ n at held place is.
-        let low : at < length (nodes scheme) = place_within scheme n at place in
+        let low : at < length (nodes scheme) = index_within scheme n at place in
         let seat = some_at own at (omega (arith, low, each)) in
         let s = seated n at held seat.0 place is seat.1 in
         committed_orders n held s.heard s.gathers.0 seat.0 lines answers s.settled.covers

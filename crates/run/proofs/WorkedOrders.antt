@@ -24,7 +24,7 @@ abbrev close : Input
 close = input.CloseAccount (number 2 (lit< tt))
 
 abbrev transfer : Input
-transfer = input.Propose (record { account = 1; to_registry = jp; to_account = 7; units = block 1 1 ∷ [] })
+transfer = input.Propose (record { account = 1; acquirer = jp; to_account = 7; units = block 1 1 ∷ [] })
 
 abbrev acknowledgement : Input
 acknowledgement = input.Ack (number 0 (lit< tt))

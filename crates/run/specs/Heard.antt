@@ -1,9 +1,9 @@
 -- What a script was told at the desks, by its seats.
 use Rattle.std.specs.Prelude.{◌≡◌, ◌⊎◌, ◌<◌, ◌≤◌, ℕ, true, false, List, Contains, slice_get, Some}
 use Rattle.protocol.specs.Scheme.{Scheme}
-use Rattle.protocol.specs.Registries.{place_of}
+use Rattle.protocol.specs.Registries.{index_of}
 use Rattle.protocol.specs.declared.node_core.Stepped.TheVariants.{Recorded, Repeat, Late}
-use Rattle.desk.specs.Due.{stopped}
+use Rattle.desk.specs.Expected.{stopped}
 use Rattle.desk.specs.Telling.{is_unjudged}
 use Rattle.desk.specs.Views.{SeatView}
 use Rattle.desk.specs.declared.notes.Asked.{Asked}
@@ -38,7 +38,7 @@ HasHeard seat asked (Refused refusal) = is_unjudged refusal.code ≡ false → H
 pub record IsHeardAt (scheme : Scheme) (seats : List SeatView) (l : ScriptLine) (told : Told) : Type 0 where
   pub at : ℕ
   pub seat : SeatView
-  pub place : place_of scheme (node_of l) ≡ Some at
+  pub place : index_of scheme (node_of l) ≡ Some at
   pub is : slice_get seats at ≡ Some seat
   pub heard : HasHeard seat (asked_by l) told
 

@@ -4,7 +4,7 @@ use Rattle.units.specs.declared.code.Node.{Node}
 use Rattle.status.specs.declared.id.TransactionId.{TransactionId}
 use Rattle.status.specs.declared.status.Status.{Status as AStatus}
 use Rattle.protocol.specs.declared.node_core.Stepped.TheVariants.{Recorded}
-use Rattle.desk.specs.Due.{stopped}
+use Rattle.desk.specs.Expected.{stopped}
 use Rattle.desk.specs.Telling.{is_unjudged}
 use Rattle.desk.specs.declared.notes.Asked.{Asked}
 use Rattle.desk.specs.declared.notes.Asked.TheVariants.{Take, Query}

@@ -2,9 +2,9 @@
 use Rattle.std.specs.Prelude.{◌≡◌, ◌⊎◌, ◌≤◌, ◌<◌, ◌+◌, ℕ, true, All, List, [], ◌∷◌, ◌++◌, Some, slice_get}
 use Rattle.units.specs.declared.code.Node.{Node}
 use Rattle.protocol.specs.Scheme.{Scheme}
-use Rattle.protocol.specs.Registries.{place_of}
+use Rattle.protocol.specs.Registries.{index_of}
 use Rattle.protocol.specs.declared.node_core.Stepped.TheVariants.{Recorded}
-use Rattle.desk.specs.Due.{stopped}
+use Rattle.desk.specs.Expected.{stopped}
 use Rattle.desk.specs.Views.{SeatView}
 use Rattle.desk.specs.declared.notes.Asked.{Asked}
 use Rattle.desk.specs.declared.notes.Asked.TheVariants.{Take}
@@ -50,7 +50,7 @@ pub record HasOrders (n : Node) (lines : List ScriptLine) (answers : List Script
 
 -- the same of the seat at each node
 abbrev pub HaveOrders : Scheme → List ScriptLine → List ScriptAnswer → List SeatView → Type 0
-HaveOrders scheme lines answers seats = (n : Node) (at : ℕ) (seat : SeatView) → place_of scheme n ≡ Some at → slice_get seats at ≡ Some seat → HasOrders n lines answers seat
+HaveOrders scheme lines answers seats = (n : Node) (at : ℕ) (seat : SeatView) → index_of scheme n ≡ Some at → slice_get seats at ≡ Some seat → HasOrders n lines answers seat
 
 -- each line has its answer as these seats heard it, and their records are its orders
 pub record IsPlayed (scheme : Scheme) (lines : List ScriptLine) (answers : List ScriptAnswer) (seats : List SeatView) : Type 0 where

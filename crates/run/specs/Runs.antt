@@ -4,7 +4,7 @@ use Rattle.std.specs.Io.KnownBytes.{Appends, Keeps}
 use Rattle.units.specs.declared.code.Node.{Node}
 use Rattle.protocol.specs.Input.{Input}
 use Rattle.protocol.specs.Scheme.{Scheme}
-use Rattle.protocol.specs.Registries.{nodes, place_of}
+use Rattle.protocol.specs.Registries.{nodes, index_of}
 use Rattle.desk.specs.StoreFault.{StoreFault}
 use Rattle.desk.specs.NodeStore.{Ghosts}
 use Rattle.desk.specs.Keeping.{IsAtDesk, IsKept, StoredView}
@@ -123,7 +123,7 @@ orders_of held = ordered_from held.opening (since held)
 
 -- the others are, at each node, such as its threads have recorded
 abbrev pub HaveOthers : (Input → Type 0) → Scheme → List StateView → Type 0
-HaveOthers Takes scheme helds = (n : Node) (at : ℕ) (held : StateView) → place_of scheme n ≡ Some at → slice_get helds at ≡ Some held → All (λ input. was_ordered input ≡ false → Takes input) (since held)
+HaveOthers Takes scheme helds = (n : Node) (at : ℕ) (held : StateView) → index_of scheme n ≡ Some at → slice_get helds at ≡ Some held → All (λ input. was_ordered input ≡ false → Takes input) (since held)
 
 -- the answers to the script's lines, and then the table of the world that a run leads to, whose committed journals are
 -- those of these nodes; they bear the answers, and since the opening they have the script's orders and no others
@@ -131,7 +131,7 @@ pub record IsRunReport (scheme : Scheme) (lines : List ScriptLine) (helds : List
   pub answers : List ScriptAnswer
   pub table : List ℕ
   pub borne : AreAnswers (IsAnswer scheme (journal_of scheme (committed_by_all helds))) lines answers
-  pub orders : (n : Node) (at : ℕ) (held : StateView) → place_of scheme n ≡ Some at → slice_get helds at ≡ Some held → AreOrders n lines answers (orders_of held)
+  pub orders : (n : Node) (at : ℕ) (held : StateView) → index_of scheme n ≡ Some at → slice_get helds at ≡ Some held → AreOrders n lines answers (orders_of held)
   pub is_table : IsAuditTable scheme (committed_by_all helds) table
   pub spelled : text ≡ answer_lines 1 answers ++ table
 

@@ -1,7 +1,7 @@
 //! The lines of a script, one after another, at the desks of all nodes.
 ghost use Rattle.std.specs.Prelude.{◌≡◌, ◌<◌, ◌++◌, ◌∷◌, [], true, false, All, List, length, IfNone, IfOk, IfSome, OnOk, Some};
 ghost use Rattle.protocol.specs.Scheme.{Scheme as AScheme};
-ghost use Rattle.protocol.specs.Registries.{nodes, place_of};
+ghost use Rattle.protocol.specs.Registries.{nodes, index_of};
 ghost use Rattle.protocol.specs.World.{is_order, opening};
 ghost use Rattle.run.specs.Answers.{is_possible, node_of};
 ghost use Rattle.run.specs.Heard.{AllGrow, IsHeard};
@@ -17,7 +17,7 @@ use desk::{Bell, Desk, Opening, Seat};
 use input_lines::ScriptLine;
 use protocol::scheme::Scheme;
 use protocol::wire::Input;
-use protocol::{NodeCore, place_of};
+use protocol::{NodeCore, index_of};
 use std::alloc::Global;
 use std::rt::Clock as SystemClock;
 use std::sync::Wait;
@@ -37,20 +37,20 @@ fn takes(node: Node, input: &Input) -> bool
 
 /// The place of the line's node, where the line is possible.
 fn place_for(scheme: &Scheme, line: &ScriptLine) -> Option<usize>
-    ensures some { IfSome result (λ at. (place_of scheme.now (node_of line.now) ≡ Some at)
+    ensures some { IfSome result (λ at. (index_of scheme.now (node_of line.now) ≡ Some at)
         × (at < length (nodes scheme.now)) × (is_possible scheme.now line.now ≡ true)) }
     ensures none { IfNone result (is_possible scheme.now line.now ≡ false) }
 {
     match line {
         ScriptLine::Order { node, input } => {
             if takes(*node, input) {
-                place_of(scheme, *node)
+                index_of(scheme, *node)
             } else {
                 None
             }
         }
-        ScriptLine::Status { node, .. } => place_of(scheme, *node),
-        ScriptLine::Until { node, .. } => place_of(scheme, *node),
+        ScriptLine::Status { node, .. } => index_of(scheme, *node),
+        ScriptLine::Until { node, .. } => index_of(scheme, *node),
     }
 }
 

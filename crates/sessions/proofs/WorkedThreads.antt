@@ -39,7 +39,7 @@ module _ {R W S : Type 0} (remaining : R → Option (List ℕ)) (contents : W �
   pub not_unless_received : alone (input.Ack (number 0 (lit< tt))) → ⊥
   not_unless_received is = is.received.led
 
-  pub no_transfer : alone (input.Propose (record { account = 1; to_registry = jp; to_account = 7; units = block 1 1 ∷ [] })) → ⊥
+  pub no_transfer : alone (input.Propose (record { account = 1; acquirer = jp; to_account = 7; units = block 1 1 ∷ [] })) → ⊥
   no_transfer is = is
 
   pub no_request : alone (input.Request nz1) → ⊥

@@ -1,7 +1,7 @@
--- What a clean-up takes. A test for one transaction is carried from the outside of `expired` to its inside: through what
--- the table says of each, through the sort, and through the age, down to the newest transition of each transaction, of
--- which one at most passes. Order is carried the other way: the newest ones are of different transactions, the sort puts
--- such in ascending order, and what the table says of each is of the same transaction.
+-- What a clean-up takes. A test for one transaction is carried from the outside of `expired` to its inside: through
+-- what the table says of each, through the sort, and through the age, down to the newest transition of each
+-- transaction, of which one at most passes. Order is carried the other way: the newest ones are of different
+-- transactions, the sort puts such in ascending order, and what the table says of each is of the same transaction.
 use Rattle.std.proofs.Common.{◌≡◌, ℕ, List, [], ◌∷◌, ◌++◌, Bool, true, false, Option, Some, None, Ordering, cond, inl, inr, not, refl, sym, ap, subst, ◌∙◌}
 use Rattle.std.specs.List.{AllByRecursion}
 use Rattle.std.specs.Option.{option_map_or}

@@ -1,4 +1,4 @@
--- The opening world, with the journals of cores as tails: nothing is followed yet, and each node of the scheme is pending.
+-- The opening world, with the journals of cores as tails: nothing is followed yet, and each node is pending.
 use Rattle.std.proofs.Common.{◌≡◌, ℕ, zero, suc, ◌+◌, List, [], ◌∷◌, ◌++◌, Bool, true, false, cond, Vec, Global, Some, None, inl, inr, refl, sym, ap, subst, ◌∙◌, length, map, replicate, arith, get_or, append_assoc, length-append}
 use Rattle.std.specs.BTreeMap as tree
 use Rattle.std.specs.BTreeMap.{BTreeMap}

@@ -47,7 +47,7 @@ pub record IsStuckAt (scheme : Scheme) (journals : Node → List Input) (n : Nod
   pub stuck : IsStuck (run (opening scheme) events) journals
   pub first : IsFirstLeft (run (opening scheme) events) journals n place
 
--- the events lead to the journals and to the world, in which no tonne is in two numbers and none is lost, and from which
+-- the events lead to the journals and to the world, in which no tonne is in two places and none is lost, and from which
 -- there is a way out
 pub record IsWoven (scheme : Scheme) (journals : Node → List Input) (events : List WorldEvent) (w : World) : Type 0 where
   pub projects : Projects scheme events journals

@@ -23,7 +23,7 @@ numbers_of f t = option_map_or (λ v. v.items) (tree.get id_cmp f.numbers t) []
 
 -- ---- what is kept
 
--- the committed journals are followed so far, where these nodes are pending: the nodes' whole journals are to be reached
+-- the committed journals are followed so far, where these nodes are pending: whole journals are to be reached
 pub record IsFollowingWith (scheme : Scheme) (f : Following) (pending : List Node) : Type 0 where
   pub follows : Follows scheme (whole_at f.world) (without_tails f.world) f.events.items (numbers_of f) f.posted.items pending
   pub nodes_are : map (λ s. s.node) f.world.stations ≡ nodes scheme

@@ -1,4 +1,16 @@
 //! Settling: whether what the seats were told is what one thread alone would have been told.
+//!
+//! Threads call a desk at the same time, and each notes in a seat of its own what it was told: a ticket for each
+//! record, and for anything else a note, with the length that the journal had then. In which order the calls came is
+//! known to nobody afterwards. The journal and all seats together tell whether one thread could have made the same
+//! calls, one after another, along the journal:
+//!
+//! - each record since the opening has just one ticket, with its place and its input, in one of the seats;
+//! - each note is what the node replies after the first records of the journal, as many as the note's length says;
+//! - the lengths that a seat was told never fell, so that the calls of each seat come in their own order;
+//! - what was confirmed to a seat is committed.
+//!
+//! The notes are sorted by their lengths first, so that one core goes along the journal once and meets each of them.
 ghost use Rattle.std.specs.Prelude.{◌≡◌, ◌↔◌, ◌<◌, ◌≤◌, ℕ, [], length, All, Any, IfErr, IfOk, IsTrue, MatchBool, MatchResult};
 ghost use Rattle.desk.specs.Covering.{AllFit, Covers, Fits, NoneMissing, NoneTwice, SomeDiffers};
 ghost use Rattle.desk.specs.Settling.{IsBeyond, IsUncovered, IsWithin, Settles, Stood, life_of};

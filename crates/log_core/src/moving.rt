@@ -1,4 +1,16 @@
 //! Transactions that come to a status, in all tables that say so.
+//!
+//! Where a transaction stands is said in four tables, and no call may leave two of them at odds, also not where memory
+//! runs out between two of its changes:
+//!
+//! - `transfers` has each transaction with its status, its content, and the moment of that status;
+//! - `checked` has just those that stand Checked, the oldest first, so that a clean-up finds them without a walk;
+//! - `under_way` has for a unit the transaction that it is in, which stands Checked or Accepted; a unit is in one at
+//!   most, since a proposal of a unit under way is refused;
+//! - `book` has the owner of each unit, which changes where a transaction comes to Completed, and nowhere else.
+//!
+//! Each call first makes the changes that may need memory (an entry of `checked`, spans of `under_way` or of `book`),
+//! undoes them where the next one finds none, and ends with the changes that take none.
 ghost use Rattle.std.specs.BTreeMap as tree;
 ghost use Rattle.std.specs.BTreeSet.{contains};
 ghost use Rattle.std.specs.FinMap as map;

@@ -1,4 +1,18 @@
 //! Journals followed into one world, as far as posted messages allow.
+//!
+//! All records are in the world from the beginning. Those that the journals have been followed to are committed, and
+//! the others are the tails, so that a step commits one record more: an order or an acknowledgement at any time, and a
+//! message where the bag has it. After each step these hold:
+//!
+//! - the noted events lead from the opening world to this one without its tails;
+//! - the committed records of a node and its tail are its whole journal, at every time the same one;
+//! - each message that a committed record sends is in the bag, `numbers` has its number there, and `posted` counts it;
+//! - a node that isn't pending rests: it has no record left, or no event of the world leads to its next one.
+//!
+//! A step makes the node pending that recorded, and the receiver of each message that it sent. No other node has become
+//! able to go on by it, since a node waits for messages to itself alone. Where none is pending, all rest, and the
+//! journals can't be followed further. The bag only grows, so that no step stops another node: the order of the visits
+//! decides nothing.
 ghost use Rattle.std.specs.Prelude.{◌≡◌, ◌<◌, ◌≤◌, ◌+◌, ◌++◌, ◌∷◌, [], All, IfOk, OnOk, Some, length, map, slice_index, vec_capacity, vec_len};
 ghost use Rattle.units.specs.declared.code.Node.{Node};
 ghost use Rattle.scheme.specs.declared.registries.Scheme.{Scheme};
